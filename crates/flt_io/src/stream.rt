@@ -1,0 +1,49 @@
+ghost use Rattle.std.specs.Prelude.{ℕ, ◌<◌, List, Option, length, OnOk, OnErr};
+ghost use Rattle.std.specs.Io.{ReadsAtMost};
+ghost use Rattle.std.specs.Io.KnownBytes.{Appends, ReadConsumes};
+ghost use Rattle.flt_io.specs.Fault.{HasCause};
+ghost use Rattle.flt_io.specs.Sink.{AppendsFront};
+
+/// A source or a sink could not do what it was asked, and its count of faults rose.
+#[derive(Clone, Copy, Debug, PartialEq, Eq)]
+pub struct Failed;
+
+/// Where bytes come from.
+pub trait Source {
+    /// The bytes that are left, where the source tells them.
+    ghost left: { Self → Option (List ℕ) };
+
+    /// How often the source has failed. The count stands still at 2^64 - 1.
+    ghost faults: { Self → ℕ };
+
+    /// Moves the next bytes, 1 to `out.len()` of them, to the front of `out`, and answers how many. It answers 0 only at
+    /// the end.
+    ///
+    /// # Errors
+    ///
+    /// `Failed` only where the count of faults rose. Nothing was taken.
+    fn pull(&mut self, out: &mut [u8]) -> Result<usize, Failed>
+        requires { 0 < length out.old }
+        ensures bound { ReadsAtMost result out.new }
+        ensures bytes { ReadConsumes (left self.old) (left self.new) result out.new }
+        ensures cause { HasCause (faults self.old) (faults self.new) result };
+}
+
+/// Where bytes go.
+pub trait Sink {
+    /// The bytes that the sink holds, where it tells them.
+    ghost held: { Self → Option (List ℕ) };
+
+    /// How often the sink has failed. The count stands still at 2^64 - 1.
+    ghost faults: { Self → ℕ };
+
+    /// Takes the whole piece.
+    ///
+    /// # Errors
+    ///
+    /// `Failed` only where the count of faults rose. A front of the piece may have been taken.
+    fn push(&mut self, piece: &[u8]) -> Result<(), Failed>
+        ensures ok { OnOk result (Appends (held self.old) (held self.new) piece.now) }
+        ensures err { OnErr result (AppendsFront (held self.old) (held self.new) piece.now) }
+        ensures cause { HasCause (faults self.old) (faults self.new) result };
+}

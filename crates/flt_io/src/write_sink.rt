@@ -1,0 +1,68 @@
+ghost use Rattle.std.specs.Prelude.{◌≡◌, ◌<◌, length, IfOk};
+ghost use Rattle.std.specs.Io.{WritesAtMost};
+ghost use Rattle.std.specs.Io.KnownBytes.{WriteAppends};
+ghost use Rattle.flt_io.specs.Fault.{HasCause};
+
+use crate::TRIES;
+use crate::stream::{Failed, Sink};
+use std::io::{ErrorKind, Write};
+
+/// A sink over any writer. It tells what it holds where the writer does.
+///
+/// A write that was interrupted is made again, up to 16 times. Every other error, the last interruption and a write of no
+/// byte are faults.
+#[derive(Debug, Drop)]
+pub struct WriteSink<W> {
+    inner: W,
+    faults: u64,
+}
+
+impl<W> WriteSink<W> {
+    /// A sink over this writer, without a fault so far.
+    #[must_use]
+    pub fn new(inner: W) -> WriteSink<W> {
+        WriteSink { inner, faults: 0 }
+    }
+
+    /// The writer, as the pushes left it.
+    #[must_use]
+    pub fn into_inner(self) -> W {
+        self.inner
+    }
+}
+
+impl<W: Write> WriteSink<W> {
+    /// Writes a front of a piece that is not empty, at least one byte, and answers how many.
+    fn write_front(&mut self, piece: &[u8]) -> Result<usize, Failed>
+        requires { 0 < length piece.now }
+        ensures some { IfOk result (λ n. 0 < n) }
+        ensures bound { WritesAtMost result piece.now }
+        ensures bytes { WriteAppends (W.contents self.old.inner) (W.contents self.new.inner) result piece.now }
+        ensures cause { HasCause self.old.faults self.new.faults result }
+    {
+        for _ in 0..TRIES {
+            match self.inner.write(piece) {
+                Ok(0) => break,
+                Ok(count) => return Ok(count),
+                Err(error) if error.kind() == ErrorKind::Interrupted => {}
+                Err(_) => break,
+            }
+        }
+        self.faults = self.faults.saturating_add(1);
+        Err(Failed)
+    }
+}
+
+impl<W: Write> Sink for WriteSink<W> {
+    ghost held = { λ s. W.contents s.inner };
+
+    ghost faults = { λ s. s.faults };
+
+    fn push(&mut self, piece: &[u8]) -> Result<(), Failed> {
+        let mut sent = 0;
+        while sent < piece.len() {
+            sent += self.write_front(&piece[sent..])?;
+        }
+        Ok(())
+    }
+}

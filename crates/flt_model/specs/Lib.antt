@@ -1,0 +1,4 @@
+pub mod Mark
+pub mod Status
+pub mod Call
+pub mod Answer
