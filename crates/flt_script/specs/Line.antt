@@ -1,5 +1,5 @@
 -- A line by itself: what its words say, with the numbers as they are written, or why it is refused.
-use Rattle.std.specs.Prelude.{ℕ, List, [], ◌∷◌, length, map, Option, Some, None, Result, Ok, Err, option_map, nat_lt, not, codes, if◌then◌else◌}
+use Rattle.std.specs.Prelude.{ℕ, List, [], ◌∷◌, length, map, Option, Some, None, Result, Err, option_map, nat_lt, not, codes, if◌then◌else◌}
 use Rattle.std.specs.Str.{bytes_eq}
 use Rattle.std.specs.Option.{ok_or}
 use denote.Ref.{Bor}
