@@ -14,9 +14,14 @@ pub struct ReadSource<R> {
 }
 
 impl<R> ReadSource<R> {
+    ghost use Rattle.flt_io.specs.Stream.{reader_of, read_faults};
+
     /// A source over this reader, without a fault so far.
     #[must_use]
-    pub fn new(inner: R) -> ReadSource<R> {
+    pub fn new(inner: R) -> ReadSource<R>
+        ensures reader { reader_of result ≡ inner }
+        ensures sound { read_faults result ≡ 0 }
+    {
         ReadSource { inner, faults: 0 }
     }
 }

@@ -45,11 +45,11 @@ impl Stuttering {
 
 impl Read for Stuttering {
     fn read(&mut self, buf: &mut [u8]) -> io::Result<usize> {
-        let taken = self.taken.min(self.bytes.len());
-        let left = self.bytes.len() - taken;
-        let count = self.turn(buf.len().min(left))?.min(buf.len()).min(left);
-        buf[..count].copy_from_slice(&self.bytes[taken..taken + count]);
-        self.taken = taken + count;
+        let most = self.turn(buf.len())?;
+        let rest = &self.bytes[self.taken.min(self.bytes.len())..];
+        let count = most.min(rest.len()).min(buf.len());
+        buf[..count].copy_from_slice(&rest[..count]);
+        self.taken = self.taken.saturating_add(count);
         Ok(count)
     }
 }

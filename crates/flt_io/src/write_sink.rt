@@ -18,15 +18,22 @@ pub struct WriteSink<W> {
 }
 
 impl<W> WriteSink<W> {
+    ghost use Rattle.flt_io.specs.Stream.{writer_of, write_faults};
+
     /// A sink over this writer, without a fault so far.
     #[must_use]
-    pub fn new(inner: W) -> WriteSink<W> {
+    pub fn new(inner: W) -> WriteSink<W>
+        ensures writer { writer_of result ≡ inner }
+        ensures sound { write_faults result ≡ 0 }
+    {
         WriteSink { inner, faults: 0 }
     }
 
     /// The writer, as the pushes left it.
     #[must_use]
-    pub fn into_inner(self) -> W {
+    pub fn into_inner(self) -> W
+        ensures { result ≡ writer_of self }
+    {
         self.inner
     }
 }

@@ -1,0 +1,7 @@
+pub mod Journal
+pub mod Order
+pub mod Plays
+pub mod Seats
+pub mod Sums
+pub mod Vaults
+pub mod Views

@@ -1,0 +1,23 @@
+//! A ticket lock over a machine. Calls are served in the order of their tickets, and each stands at its own place of one journal.
+//!
+//! It stands on `atomic_table` alone: two words, the next ticket and the ticket that is served, and one slot, in which the machine
+//! and its journal lie. The layer above uses the contract of `Turn::call`: the reply is the machine's answer after the operations
+//! that stand in the journal before the call's place. `Turn::close` gives the whole journal back with the machine.
+//! Read `specs/Seats.antt` first, which says what a seat knows of its lock, and then `docs/LOCK.md`.
+#![tactic(auto)]
+
+mod answer;
+mod machine;
+mod rule;
+mod seat;
+#[cfg(test)]
+mod tests;
+mod turn;
+mod vault;
+mod view;
+
+pub use answer::{Answer, HistoryFull, MachineBack};
+pub use machine::{Machine, Step};
+pub use seat::Seat;
+pub use turn::Turn;
+pub use vault::{Entry, Vault};

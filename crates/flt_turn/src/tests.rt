@@ -1,0 +1,158 @@
+// A machine that adds, under the lock.
+ghost use Rattle.std.specs.Prelude.{◌≡◌, ◌+◌, ◌*◌, ◌%◌, ◌^◌, ◌<◌, ◌≤◌, ◌++◌, ◌∷◌, [], sum};
+ghost use Rattle.std.specs.Thread.{IsSync};
+ghost use Rattle.flt_turn.specs.Seats.{IsSeatOf};
+
+use crate::{Machine, Seat, Step, Turn};
+use std::sync::Wait;
+use std::test::*;
+use std::thread::{Threads, join};
+
+// It adds each number to the number that it began with, and answers the sum.
+#[derive(Drop)]
+struct Adder {
+    first: u64,
+    sum: u64,
+}
+
+impl Machine for Adder {
+    type Start = u64;
+
+    type Op = u32;
+
+    type Reply = u64;
+
+    type Out = ();
+
+    ghost some_start = { 0 };
+
+    ghost start = { λ adder. adder.first };
+
+    ghost admits = { λ _ op. op ≤ 10000 };
+
+    ghost stands_for = { λ adder first ops. adder.sum ≡ (first + sum ops) % 2 ^ 64 };
+
+    ghost answer = { λ first ops op. (first + sum (ops ++ op ∷ [])) % 2 ^ 64 };
+
+    ghost written = { λ _ _ _ out. out };
+}
+
+impl Step for Adder {
+    type Context = ();
+
+    ghost serves = { λ _ _. Unit {0} };
+
+    fn step(&mut self, _context: &(), op: &u32, _out: &mut ()) -> u64 {
+        self.sum = self.sum.wrapping_add(u64::from(*op));
+        self.sum
+    }
+}
+
+// Calls on a split seat, and then on the main seat.
+#[test]
+fn places_and_answers(rt: HostRuntime) -> Result<(), Fail> {
+    let adder = Adder { first: 0, sum: 0 };
+    let Ok((turn, mut main)) = Turn::make(rt.alloc(), adder, 3) else {
+        return Err(Fail::from("memory"));
+    };
+    let mut lane = turn.split(&mut main, 2);
+    assert_eq!(rt; (main.left(), main.children(), main.waiting()), (1, 1, 1));
+    assert_eq!(rt; (lane.number(), lane.left()), (1, 2));
+    let Ok(first) = turn.call(&rt, &mut lane, &(), 5, &mut ()) else {
+        unreachable!()
+    };
+    assert_eq!(rt; (first.place, first.reply), (0, 5));
+    let Ok(second) = turn.call(&rt, &mut lane, &(), 6, &mut ()) else {
+        unreachable!()
+    };
+    assert_eq!(rt; (second.place, second.reply), (1, 11));
+    let Err(full) = turn.call(&rt, &mut lane, &(), 9, &mut ()) else {
+        unreachable!()
+    };
+    assert_eq!(rt; full.op, 9);
+    turn.join(&mut main, lane);
+    assert_eq!(rt; main.waiting(), 0);
+    let Ok(third) = turn.call(&rt, &mut main, &(), 7, &mut ()) else {
+        unreachable!()
+    };
+    assert_eq!(rt; (third.place, third.reply), (2, 18));
+    let vault = turn.close(main);
+    assert_eq!(rt; vault.journal.len(), 3);
+    assert_eq!(rt; (vault.journal[0].lane, vault.journal[0].op), (1, 5));
+    assert_eq!(rt; (vault.journal[1].lane, vault.journal[1].op), (1, 6));
+    assert_eq!(rt; (vault.journal[2].lane, vault.journal[2].op), (0, 7));
+    assert_eq!(rt; vault.machine.sum, 18);
+    Ok(())
+}
+
+// Makes all calls that are left to the seat, with the numbers from that count down to 1.
+fn run_lane<R: Wait>(rt: &R, turn: &Turn<Adder>, mut seat: Seat<Adder>) -> Seat<Adder>
+    requires lock { IsSeatOf turn.now seat }
+    requires small { seat.left ≤ 10000 }
+    ensures { IsSeatOf turn.now result }
+{
+    while seat.left() > 0 {
+        let left = seat.left();
+        let Ok(_) = turn.call(rt, &mut seat, &(), left, &mut ()) else {
+            unreachable!()
+        };
+    }
+    seat
+}
+
+// Runs this many lanes of so many calls, each in a thread of its own.
+fn run_lanes<R: Threads + Wait + Sync>(
+    rt: &R,
+    turn: &Turn<Adder>,
+    mut main: Seat<Adder>,
+    lanes: u32,
+    calls: u32,
+) -> Seat<Adder>
+    requires lock { IsSeatOf turn.now main }
+    requires main { (main.number ≡ 0) × (main.children + lanes < 2 ^ 32) }
+    requires calls { (lanes * calls ≤ main.left) × (calls ≤ 10000) }
+    ensures { IsSeatOf turn.now result × (result.number ≡ 0) }
+{
+    if lanes == 0 {
+        return main;
+    }
+    let lane = turn.split(&mut main, calls);
+    let others = lanes - 1;
+    let (lane, mut main) = join(
+        rt,
+        move || -> Seat<Adder>
+            requires { IsSeatOf turn.now lane × (lane.left ≤ 10000) }
+            ensures { IsSeatOf turn.entry.now result }
+        { run_lane(rt, turn, lane) },
+        move || -> Seat<Adder>
+            requires { IsSync R.row × IsSeatOf turn.now main × (main.number ≡ 0) × (main.children + others < 2 ^ 32) × (others * calls ≤ main.left) × (calls ≤ 10000) }
+            ensures { IsSeatOf turn.entry.now result × (result.number ≡ 0) }
+        { run_lanes(rt, turn, main, others, calls) },
+    );
+    turn.join(&mut main, lane);
+    main
+}
+
+// Eight lanes at once. The journal has the calls of each in its order, however they interleave.
+#[test]
+fn lanes_share_one_journal(rt: HostRuntime) -> Result<(), Fail> {
+    let adder = Adder { first: 0, sum: 0 };
+    let Ok((turn, main)) = Turn::make(rt.alloc(), adder, 40_000) else {
+        return Err(Fail::from("memory"));
+    };
+    let main = run_lanes(&rt, &turn, main, 8, 5_000);
+    assert_eq!(rt; main.waiting(), 0);
+    let vault = turn.close(main);
+    assert_eq!(rt; vault.journal.len(), 40_000);
+    assert_eq!(rt; vault.machine.sum, 8 * 5_000 * 5_001 / 2);
+    let mut left = [5_000u32; 8];
+    for entry in vault.journal.iter() {
+        let Some(count) = left.get_mut(entry.lane.wrapping_sub(1) as usize) else {
+            return Err(Fail::from("a lane that was not run"));
+        };
+        assert_eq!(rt; entry.op, *count);
+        *count = count.saturating_sub(1);
+    }
+    assert_eq!(rt; left, [0; 8]);
+    Ok(())
+}

@@ -1,0 +1,48 @@
+//! What lies under the lock: the machine, beside the journal of its operations.
+ghost use Rattle.std.specs.Prelude.{◌≡◌, ◌++◌, ◌∷◌, [], ◌<◌, List, length};
+ghost use Rattle.std.specs.Vec.{vec_capacity};
+ghost use Rattle.flt_turn.specs.Journal.{entry, ops_of};
+
+use crate::machine::{Machine, Step};
+
+/// An operation, and the number of the seat that asked for it.
+#[derive(Drop)]
+pub struct Entry<O> {
+    pub lane: u32,
+    pub op: O,
+}
+
+/// The machine stands for its start and the operations of the journal, at every moment.
+#[derive(Drop)]
+pub struct Vault<M: Machine> {
+    /// The operations in the order in which the machine took them.
+    pub journal: Vec<Entry<M::Op>>,
+    pub machine: M,
+    ghost stands: { ∥ M.stands_for machine (M.start machine) (ops_of journal.items) ∥₁ },
+}
+
+impl<M: Machine> Vault<M> {
+    // Makes the machine's step, and writes it down in room that the journal has.
+    pub(crate) fn apply(
+        &mut self,
+        context: &M::Context,
+        lane: u32,
+        op: M::Op,
+        out: &mut M::Out,
+    ) -> M::Reply
+    where
+        M: Step,
+        requires serves { M.Step.serves context.now (M.start self.old.machine) }
+        requires admitted { M.admits (M.start self.old.machine) op }
+        requires room { length self.old.journal.items < vec_capacity self.old.journal }
+        ensures journal { self.new.journal.items ≡ self.old.journal.items ++ entry lane op ∷ [] }
+        ensures room { vec_capacity self.new.journal ≡ vec_capacity self.old.journal }
+        ensures start { M.start self.new.machine ≡ M.start self.old.machine }
+        ensures answer { result ≡ M.answer (M.start self.old.machine) (ops_of self.old.journal.items) op }
+        ensures written { out.new ≡ M.written (M.start self.old.machine) (ops_of self.old.journal.items) op out.old }
+    {
+        let reply = self.machine.step(context, &op, out);
+        self.journal.push_reserved(Entry { lane, op });
+        reply
+    }
+}

@@ -1,0 +1,35 @@
+//! What a seat knows of its lock, as the lock's rule sees it. No value of it is made.
+use crate::vault::Entry;
+use std::collections::LinkedList;
+
+pub enum Stage {
+    /// It has no ticket.
+    Idle,
+    /// It has this ticket, and waits for its turn.
+    Waiting(u64),
+    /// Its ticket is served: the vault is out with it.
+    Serving(u64),
+    /// It was joined into the main seat.
+    Spent,
+}
+
+/// S is the start of the machine, and O its operations.
+pub struct View<S, O> {
+    pub number: u32,
+    pub start: S,
+    /// How many calls the lock has room for.
+    pub room: u32,
+    pub stage: Stage,
+    /// How many calls are left.
+    pub left: u64,
+    /// How many seats were split from it.
+    pub children: u32,
+    /// The beginning of the journal that it knows.
+    pub seen: LinkedList<Entry<O>>,
+    /// Its own operations.
+    pub mine: LinkedList<O>,
+    /// Beginnings of the journal that joined seats knew.
+    pub olds: LinkedList<LinkedList<Entry<O>>>,
+    /// The number and the operations of each joined seat.
+    pub ended: LinkedList<(u32, LinkedList<O>)>,
+}
