@@ -1,0 +1,16 @@
+//! The complement code of a sector's pages, the words that they hold, and the law of tearing.
+//!
+//! It stands on `flt_flash`, whose tearing the law speaks of. The layer above uses `seal`, `unseal`, `put_word` and
+//! `get_word`, each exact, and `tearing`: between a blank page and a code word no tearing is another code word. Read
+//! `specs/Seal.antt` first, then `specs/Word.antt`.
+#![tactic(auto)]
+
+mod code;
+mod law;
+mod spoiled;
+mod words;
+
+pub use code::{seal, unseal};
+pub use law::tearing;
+pub use spoiled::is_spoiled;
+pub use words::{Word, get_word, put_word};

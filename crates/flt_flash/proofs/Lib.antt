@@ -1,0 +1,7 @@
+pub mod OddBits
+pub mod TornPages
+pub mod TornParts
+pub mod TornBy
+pub mod Following
+pub mod PageSizes
+pub mod CallsInARow

@@ -1,0 +1,20 @@
+-- What the saved boots of a flash in memory are.
+use Rattle.std.specs.Prelude.{◌≡◌, ◌<◌, ℕ, List, [], ◌∷◌, length, slice_index_or}
+use Rattle.flt_flash.specs.State.{Boot}
+use Rattle.flt_flash.specs.declared.boot.SavedBoot.{SavedBoot}
+
+-- the boot that was saved
+abbrev pub boot_of : SavedBoot → Boot
+boot_of saved = record { faults = saved.faults; image = saved.first.items ∷ saved.second.items ∷ [] }
+
+-- no boot: no fault, and an image of no sectors
+abbrev pub no_boot : Boot
+no_boot = record { faults = 0; image = [] }
+
+-- the boot of this number in a list of boots, from 0
+abbrev pub boot_at : List Boot → ℕ → Boot
+boot_at boots number = slice_index_or boots number no_boot
+
+-- each saved boot has room for two sectors of this many pages
+abbrev pub HaveRoom : ℕ → List SavedBoot → Type 0
+HaveRoom pages saved = (k : ℕ) (d : SavedBoot) → k < length saved → (length (slice_index_or saved k d).first.items ≡ pages) × (length (slice_index_or saved k d).second.items ≡ pages)

@@ -1,0 +1,11 @@
+pub mod Image
+pub mod Tearing
+pub mod State
+pub mod Arms
+pub mod Boots
+pub mod Power
+pub mod Memory
+pub mod Shape
+pub mod Content
+pub mod Blocks
+pub mod Calls

@@ -1,0 +1,20 @@
+-- The image of a flash in memory is two sectors of its pages.
+use Rattle.std.proofs.Common.{ℕ, zero, suc, ◌<◌, ◌≡◌, length, refl, arith}
+use Rattle.flt_flash.specs.Image.{sector_at, ArePages}
+use Rattle.flt_flash.specs.State.{HasShape}
+use Rattle.flt_flash.specs.Memory.{state_of}
+use Rattle.flt_flash.specs.declared.memory.FlashMem.{FlashMem}
+
+-- the shape of the image is kept by the fields of the flash
+pub shape_of : (flash : FlashMem) → HasShape (state_of flash)
+shape_of flash = record { most = flash.most; sectors = refl; pages = sizes; bytes = bytes; wear = refl }
+  where
+    sizes : (sector : ℕ) → sector < 2 → length (sector_at (state_of flash).image sector) ≡ flash.pages
+    sizes zero lt = flash.first_size
+    sizes (suc zero) lt = flash.second_size
+    sizes (suc (suc sector)) lt = absurd (omega arith)
+
+    bytes : (sector : ℕ) → sector < 2 → ArePages (sector_at (state_of flash).image sector)
+    bytes zero lt = flash.first_bytes
+    bytes (suc zero) lt = flash.second_bytes
+    bytes (suc (suc sector)) lt = absurd (omega arith)

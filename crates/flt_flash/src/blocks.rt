@@ -1,0 +1,123 @@
+// Blocks that outlive the power, as the layers above a driver see them.
+ghost use Rattle.std.specs.Prelude.{◌≡◌, ◌<◌, ◌≤◌, length, Contains, IfOk, OnOk, OnErr, None, IsTrue, IsFalse, ℕ};
+ghost use Rattle.flt_flash.specs.Content.{invalid, bytes as holding};
+ghost use Rattle.flt_flash.specs.State.{CanArm};
+ghost use Rattle.flt_flash.specs.Blocks.{BlocksState};
+ghost use Rattle.flt_flash.specs.Calls.{Follows, Calls, NeverFull, Changes, Costs, SameValues, Settles, Finds, ArmsDriver, PowersUpDriver};
+
+use crate::Arm;
+
+/// A driver could not be made, for want of memory; the device comes back.
+#[derive(Drop)]
+pub struct Refused<F> {
+    pub device: F,
+}
+
+/// What a read of a block found.
+#[derive(Clone, Copy, Debug, PartialEq, Eq)]
+pub enum Found {
+    /// So many bytes, 1 to 128.
+    Bytes(usize),
+    /// The block was never written.
+    Missing,
+    /// The block was made invalid.
+    Invalid,
+}
+
+/// Why a call of a driver did not succeed.
+#[derive(Clone, Copy, Debug, PartialEq, Eq)]
+pub enum BlockFault {
+    /// An operation of the device failed: the count of faults rose. A write or invalidate left its block as it was or as
+    /// asked, and no call left another block changed.
+    Flash,
+    /// The pages of the current records, `live`, and those of the new one, `needed`, are more than the room. Every block
+    /// holds what it held.
+    Full { live: u16, needed: u16 },
+    /// The record has no sequence number left. Every block holds what it held.
+    SequenceSpent,
+    /// The first place of the device that holds what no driver writes: a sector and a page. The device stays as it is.
+    Damaged { sector: u8, page: u16 },
+}
+
+/// Blocks of 1 to 128 bytes under the numbers with which the driver was made, over a device that loses power and fails.
+///
+/// A driver is stale when it was just made, after a write, invalidate or mount that answered `Flash` or `Damaged`, and
+/// after `power_up`. The next call of a stale driver mounts first, and may answer the fault of that mount.
+pub trait Blocks {
+    /// The blocks, and what the device tells. Room, operations and erases are told or not, as the driver has them.
+    ghost state: { Self → BlocksState };
+
+    /// Looks at the device as a power-up left it. It answers `Ok` only where the image has no fault.
+    fn mount(&mut self) -> Result<(), BlockFault>
+        ensures values { SameValues (state self.old) (state self.new) }
+        ensures calls { Calls (state self.old) (state self.new) result }
+        ensures never_full { NeverFull result }
+        ensures stale { Settles result (state self.new) };
+
+    /// Gives a block these bytes.
+    fn write(&mut self, block: u16, bytes: &[u8]) -> Result<(), BlockFault>
+        requires number { Contains (state self.old).numbers block }
+        requires least { 1 ≤ length bytes.now }
+        requires most { length bytes.now ≤ 128 }
+        ensures changes { Changes (state self.old) (state self.new) block (holding bytes.now) (length bytes.now) result }
+        ensures calls { Calls (state self.old) (state self.new) result }
+        ensures stale { Settles result (state self.new) }
+        ensures costs { Costs (state self.old) (state self.new) (length bytes.now) };
+
+    /// Reads a block to the start of `out`. What lies past its bytes, and all of `out` after an error, stays.
+    fn read(&mut self, block: u16, out: &mut [u8; 128]) -> Result<Found, BlockFault>
+        requires { Contains (state self.old).numbers block }
+        ensures found { IfOk result (λ found. Finds ((state self.old).value block) found out.old out.new) }
+        ensures nothing { OnErr result (out.new ≡ out.old) }
+        ensures values { SameValues (state self.old) (state self.new) }
+        ensures calls { Calls (state self.old) (state self.new) result }
+        ensures never_full { NeverFull result }
+
+        // A read that fails leaves a driver that was not stale as it was.
+        ensures settled { OnOk result (IsFalse (state self.new).is_stale) }
+        ensures stale { IsFalse (state self.old).is_stale → IsFalse (state self.new).is_stale };
+
+    /// Makes a block invalid.
+    fn invalidate(&mut self, block: u16) -> Result<(), BlockFault>
+        requires { Contains (state self.old).numbers block }
+        ensures changes { Changes (state self.old) (state self.new) block invalid 0 result }
+        ensures calls { Calls (state self.old) (state self.new) result }
+        ensures stale { Settles result (state self.new) }
+        ensures costs { Costs (state self.old) (state self.new) 0 };
+
+    /// Whether the last sequence number is in use, so that some record can't be written any more.
+    fn spent(&self) -> bool
+        requires { IsFalse (state self.now).is_stale }
+        ensures { result ≡ (state self.now).is_spent };
+
+    /// How often the power may still come back.
+    fn boots_left(&self) -> u16
+        ensures { result ≡ (state self.now).device.bench.boots_left };
+
+    /// How many arms stand, 64 at most.
+    fn armed(&self) -> u8
+        ensures { result ≡ (state self.now).device.bench.armed };
+
+    /// Makes an arm of the device.
+    fn arm(&mut self, arm: Arm)
+        requires room { (state self.old).device.bench.armed < 64 }
+        requires number { CanArm arm }
+        ensures { ArmsDriver arm (state self.old) (state self.new) };
+
+    /// Turns the device on again, which adds to its list of boots.
+    fn power_up(&mut self)
+        requires { 0 < (state self.old).device.bench.boots_left }
+        ensures { PowersUpDriver (state self.old) (state self.new) };
+
+    ghost stuck_is_spent: { (driver : Self) (block size : ℕ) → IsTrue ((state driver).is_stuck block size) → IsTrue (state driver).is_spent };
+
+    ghost settled_has_mounted: { (driver : Self) → IsFalse (state driver).is_stale → IsTrue (state driver).has_mounted };
+
+    ghost mounted_is_sound: { (driver : Self) → IsTrue (state driver).has_mounted → (state driver).damage ≡ None };
+}
+
+/// Any number of mounts, reads, writes and invalidates in a row is one relation: it holds of none, and of some and then more.
+pub fn calls_follow()
+    ensures none { (state : BlocksState) → Follows state state }
+    ensures more { (first second third : BlocksState) → Follows first second → Follows second third → Follows first third }
+{}

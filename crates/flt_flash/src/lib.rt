@@ -1,0 +1,22 @@
+//! A flash of two sectors that loses power and fails, the same flash in memory, and the contract between
+//! the drivers of blocks and the layers above them.
+//!
+//! It stands on no other crate of this repository. Drivers over a flash use `Flash` and `Bench`, with the state
+//! of `specs/State.antt`, which is to be read first; all layers above a driver use `Blocks`, with `specs/Blocks.antt`
+//! and `specs/Calls.antt`. `FlashMem` keeps `Flash` and `Bench`, and says exactly where it fails (`specs/Power.antt`).
+#![tactic(auto)]
+
+mod arm;
+mod blocks;
+mod boot;
+mod flash;
+mod memory;
+mod power;
+mod standing;
+mod torn;
+
+pub use arm::{Arm, ArmMade, Pattern};
+pub use blocks::{BlockFault, Blocks, Found, Refused, calls_follow};
+pub use flash::{Bench, Flash, FlashFailed};
+pub use memory::FlashMem;
+pub use torn::BLANK_PAGE;

@@ -1,0 +1,342 @@
+// A flash in memory, and the bench that cuts its power and makes its operations fail.
+ghost use Rattle.std.specs.Prelude.{◌≡◌, false, ℕ, ◌+◌, ◌-◌, ◌/◌, ◌%◌, ◌<◌, ◌≤◌, take, drop, [], ◌∷◌, ◌++◌, length, replicate, Some, IfNone, IfSome, OnSome, is_err, is_some, OnOk, OnErr, IfOk, slice_index, slice_set};
+ghost use Rattle.flt_flash.specs.declared.arm.Pattern.TheVariants.{Nothing};
+ghost use Rattle.flt_flash.specs.State.{first_state, Operates, counted, CanArm, Arms, PowersUp};
+ghost use Rattle.flt_flash.specs.Tearing.{IsTornSector, IsTorn};
+ghost use Rattle.flt_flash.specs.Image.{page_at, sector_at, programmed, erased, blank_page, ArePages};
+ghost use Rattle.flt_flash.specs.Arms.{IsProgrammedBy, IsErasedBy, told_with};
+ghost use Rattle.flt_flash.specs.Power.{first_power};
+ghost use Rattle.flt_flash.specs.Boots.{HaveRoom, boot_at};
+
+use crate::boot::SavedBoot;
+use crate::power::Power;
+use crate::torn::{BLANK_PAGE, clear_sector, tear_page, tear_sector};
+use crate::{Arm, ArmMade, Bench, Flash, FlashFailed, Pattern};
+use arrayvec::ArrayVec;
+use std::alloc::{AllocError, Global};
+
+/// A flash in memory that tells everything, its arms while at most 64 were made. It takes its memory when it is made.
+#[derive(Drop)]
+pub struct FlashMem {
+    pages: u16,
+    first: Vec<[u8; 32]>,
+    second: Vec<[u8; 32]>,
+    power: Power,
+    first_wear: u64,
+    second_wear: u64,
+    made: ArrayVec<ArmMade, 64>,
+    tells_arms: bool,
+    boots: Vec<SavedBoot>,
+    boots_used: u16,
+    ghost most: { pages < 65536 },
+    ghost first_size: { length first.items ≡ pages },
+    ghost second_size: { length second.items ≡ pages },
+    ghost first_bytes: { ArePages first.items },
+    ghost second_bytes: { ArePages second.items },
+    ghost boots_fit: { boots_used ≤ length boots.items },
+    ghost boots_number: { length boots.items < 65536 },
+    ghost boots_room: { HaveRoom pages boots.items },
+}
+
+impl FlashMem {
+    ghost use Rattle.flt_flash.specs.Memory.{state_of, power_of};
+
+    /// A blank flash of two sectors of 2 to 1,024 pages, whose power may come back `boots` times. The error is want of memory.
+    pub fn blank(alloc: Global, pages: u16, boots: u16) -> Result<FlashMem, AllocError>
+        requires least { 2 ≤ pages }
+        requires most { pages ≤ 1024 }
+        ensures state { IfOk result (λ flash. state_of flash ≡ first_state pages (replicate pages blank_page) (replicate pages blank_page) boots) }
+        ensures power { IfOk result (λ flash. power_of flash ≡ first_power) }
+    {
+        let first = blank_pages(alloc, pages as usize)?;
+        let second = blank_pages(alloc, pages as usize)?;
+        Self::made(alloc, pages, first, second, boots)
+    }
+
+    /// A flash with this image of 4 to 2,048 pages, an even number, sector 0's pages first, whose power may come back
+    /// `boots` times. The error is want of memory.
+    pub fn of(alloc: Global, image: Vec<[u8; 32]>, boots: u16) -> Result<FlashMem, AllocError>
+        requires even { length image.items % 2 ≡ 0 }
+        requires least { 4 ≤ length image.items }
+        requires most { length image.items ≤ 2048 }
+        ensures state { IfOk result (λ flash. let pages = length image.items / 2 in
+            state_of flash ≡ first_state pages (take pages image.items) (drop pages image.items) boots) }
+        ensures power { IfOk result (λ flash. power_of flash ≡ first_power) }
+    {
+        let pages = image.len() / 2;
+        let first = sector_of(alloc, &image[..pages])?;
+        let second = sector_of(alloc, &image[pages..])?;
+        Self::made(alloc, pages as u16, first, second, boots)
+    }
+
+    fn made(
+        alloc: Global,
+        pages: u16,
+        first: Vec<[u8; 32]>,
+        second: Vec<[u8; 32]>,
+        boots: u16,
+    ) -> Result<FlashMem, AllocError>
+        requires first { length first.items ≡ pages }
+        requires second { length second.items ≡ pages }
+        requires first_bytes { ArePages first.items }
+        requires second_bytes { ArePages second.items }
+        ensures state { IfOk result (λ flash. state_of flash ≡ first_state pages first.items second.items boots) }
+        ensures power { IfOk result (λ flash. power_of flash ≡ first_power) }
+    {
+        let boots = blank_boots(alloc, pages as usize, boots)?;
+        Ok(FlashMem {
+            pages,
+            first,
+            second,
+            power: Power {
+                is_off: false,
+                faults: 0,
+                operations: 0,
+                standing: ArrayVec::new(),
+            },
+            first_wear: 0,
+            second_wear: 0,
+            made: ArrayVec::new(),
+            tells_arms: true,
+            boots,
+            boots_used: 0,
+        })
+    }
+
+    /// A page as it is; it counts for no operation.
+    pub fn page(&self, sector: u8, page: u16) -> &[u8; 32]
+        requires sector { sector < 2 }
+        requires page { page < (state_of self.now).pages }
+        ensures { result.now ≡ page_at (state_of self.now).image sector page }
+    {
+        if sector == 0 {
+            &self.first[page as usize]
+        } else {
+            &self.second[page as usize]
+        }
+    }
+
+    /// A page as it was at a power-up, the first one being number 0.
+    pub fn boot_page(&self, boot: u16, sector: u8, page: u16) -> &[u8; 32]
+        requires boot { boot < length (state_of self.now).bench.boots }
+        requires sector { sector < 2 }
+        requires page { page < (state_of self.now).pages }
+        ensures { result.now ≡ page_at (boot_at (state_of self.now).bench.boots boot).image sector page }
+    {
+        self.boots[boot as usize].page(sector, page)
+    }
+}
+
+impl Flash for FlashMem {
+    ghost use Rattle.flt_flash.specs.Memory.{state_of, power_of};
+    ghost use Rattle.flt_flash.specs.Shape.{shape_of};
+    ghost use Rattle.flt_flash.specs.Power.{read_fails, failing_by, power_after_write, power_after_read};
+
+    ghost state = { state_of };
+
+    ghost shape = { shape_of };
+
+    fn pages(&self) -> u16 {
+        self.pages
+    }
+
+    fn read_page(&mut self, sector: u8, page: u16, out: &mut [u8; 32]) -> Result<(), FlashFailed>
+        requires sector { sector < 2 }
+        requires page { page < (state_of self.old).pages }
+        ensures read { OnOk result (out.new ≡ page_at (state_of self.old).image sector page) }
+        ensures image { (state_of self.new).image ≡ (state_of self.old).image }
+        ensures wear { (state_of self.new).wear ≡ (state_of self.old).wear }
+        ensures operation { Operates (state_of self.old) (state_of self.new) result }
+
+        // It fails exactly where the power is off or an arm mutes the page, and uses up the arms that mute it.
+        ensures fails { is_err result ≡ read_fails sector page (power_of self.old) }
+        ensures power { power_of self.new ≡ power_after_read sector page (power_of self.old) }
+    {
+        if self.power.count_read(sector, page) {
+            return Err(FlashFailed);
+        }
+        *out = *self.page(sector, page);
+        Ok(())
+    }
+
+    fn program(&mut self, sector: u8, page: u16, bytes: &[u8; 32]) -> Result<(), FlashFailed>
+        requires sector { sector < 2 }
+        requires page { page < (state_of self.old).pages }
+        requires blank { page_at (state_of self.old).image sector page ≡ blank_page }
+        ensures programmed { OnOk result ((state_of self.new).image ≡ programmed (state_of self.old).image sector page bytes.now) }
+        ensures torn { OnErr result (IsTorn (state_of self.old).image (programmed (state_of self.old).image sector page bytes.now) (state_of self.new).image) }
+        ensures wear { (state_of self.new).wear ≡ (state_of self.old).wear }
+        ensures operation { Operates (state_of self.old) (state_of self.new) result }
+
+        // It fails exactly where the power is off or an arm stands at it, and is torn by the pattern.
+        ensures fails { is_err result ≡ is_some (failing_by (power_of self.old)) }
+        ensures power { power_of self.new ≡ power_after_write (power_of self.old) }
+        ensures by_pattern { IfSome (failing_by (power_of self.old)) (λ pattern.
+            IsProgrammedBy pattern (sector_at (state_of self.old).image sector) page bytes.now (sector_at (state_of self.new).image sector)) }
+    {
+        let failing = self.power.count_write();
+        if sector == 0 {
+            write_page(&mut self.first, page as usize, bytes, failing);
+        } else {
+            write_page(&mut self.second, page as usize, bytes, failing);
+        }
+        outcome(failing)
+    }
+
+    fn erase(&mut self, sector: u8) -> Result<(), FlashFailed>
+        requires { sector < 2 }
+        ensures erased { OnOk result ((state_of self.new).image ≡ erased (state_of self.old).image sector) }
+        ensures torn { OnErr result (IsTorn (state_of self.old).image (erased (state_of self.old).image sector) (state_of self.new).image) }
+        ensures wear { (state_of self.new).wear ≡ slice_set (state_of self.old).wear sector (counted (slice_index (state_of self.old).wear sector)) }
+        ensures operation { Operates (state_of self.old) (state_of self.new) result }
+
+        // It fails exactly where the power is off or an arm stands at it, and is torn by the pattern.
+        ensures fails { is_err result ≡ is_some (failing_by (power_of self.old)) }
+        ensures power { power_of self.new ≡ power_after_write (power_of self.old) }
+        ensures by_pattern { IfSome (failing_by (power_of self.old)) (λ pattern.
+            IsErasedBy pattern (sector_at (state_of self.old).image sector) (sector_at (state_of self.new).image sector)) }
+    {
+        let failing = self.power.count_write();
+        if sector == 0 {
+            self.first_wear = self.first_wear.saturating_add(1);
+            clear_pages(&mut self.first, failing);
+        } else {
+            self.second_wear = self.second_wear.saturating_add(1);
+            clear_pages(&mut self.second, failing);
+        }
+        outcome(failing)
+    }
+
+    fn operations(&self) -> u64 {
+        self.power.operations
+    }
+
+    fn wear(&self, sector: u8) -> u64 {
+        if sector == 0 {
+            self.first_wear
+        } else {
+            self.second_wear
+        }
+    }
+}
+
+impl Bench for FlashMem {
+    ghost use Rattle.flt_flash.specs.Memory.{state_of, power_of};
+
+    fn boots_left(&self) -> u16 {
+        self.boots.len() as u16 - self.boots_used
+    }
+
+    fn armed(&self) -> u8 {
+        self.power.standing.len() as u8
+    }
+
+    fn arm(&mut self, arm: Arm)
+        requires room { (state_of self.old).bench.armed < 64 }
+        requires number { CanArm arm }
+        ensures arms { Arms arm (state_of self.old) (state_of self.new) }
+
+        // The arm stands behind those that stood, and is told where at most 64 were made.
+        ensures power { power_of self.new ≡ record (power_of self.old) { standing = (power_of self.old).standing ++ arm ∷ [] } }
+        ensures told { (state_of self.new).bench.arms ≡ told_with (state_of self.old).bench.arms
+            (record { arm = arm; boots = length (state_of self.old).bench.boots; faults = (state_of self.old).faults }) }
+    {
+        self.power.standing.push(arm);
+        if self.made.is_full() {
+            self.tells_arms = false;
+        } else {
+            self.made.push(ArmMade {
+                arm,
+                boots: self.boots_used,
+                faults: self.power.faults,
+            });
+        }
+    }
+
+    fn power_up(&mut self)
+        requires { 0 < (state_of self.old).bench.boots_left }
+        ensures powers_up { PowersUp (state_of self.old) (state_of self.new) }
+
+        // The arms that stood stand.
+        ensures power { power_of self.new ≡ record (power_of self.old) { is_off = false } }
+    {
+        let faults = self.power.faults;
+        self.boots[self.boots_used as usize].save(faults, &self.first, &self.second);
+        self.boots_used += 1;
+        self.power.is_off = false;
+    }
+}
+
+fn blank_pages(alloc: Global, pages: usize) -> Result<Vec<[u8; 32]>, AllocError>
+    ensures items { IfOk result (λ made. made.items ≡ replicate pages blank_page) }
+    ensures bytes { IfOk result (λ made. ArePages made.items) }
+{
+    let mut made = Vec::new(alloc);
+    for _page in 0..pages {
+        made.push(BLANK_PAGE)?;
+    }
+    Ok(made)
+}
+
+fn sector_of(alloc: Global, pages: &[[u8; 32]]) -> Result<Vec<[u8; 32]>, AllocError>
+    ensures items { IfOk result (λ sector. sector.items ≡ pages.now) }
+    ensures bytes { IfOk result (λ sector. ArePages sector.items) }
+{
+    let mut sector = Vec::with_capacity(alloc, pages.len())?;
+    for page in pages {
+        sector.push(*page)?;
+    }
+    Ok(sector)
+}
+
+fn blank_boots(alloc: Global, pages: usize, boots: u16) -> Result<Vec<SavedBoot>, AllocError>
+    ensures number { IfOk result (λ made. length made.items ≡ boots) }
+    ensures room { IfOk result (λ made. HaveRoom pages made.items) }
+{
+    let mut made = Vec::new(alloc);
+    for _boot in 0..boots {
+        made.push(SavedBoot {
+            faults: 0,
+            first: blank_pages(alloc, pages)?,
+            second: blank_pages(alloc, pages)?,
+        })?;
+    }
+    Ok(made)
+}
+
+// Programs a page, or tears it.
+fn write_page(pages: &mut Vec<[u8; 32]>, page: usize, bytes: &[u8; 32], failing: Option<Pattern>)
+    requires { page < length pages.old.items }
+    ensures whole { IfNone failing (pages.new.items ≡ slice_set pages.old.items page bytes.now) }
+    ensures torn { OnSome failing (IsTornSector pages.old.items (slice_set pages.old.items page bytes.now) pages.new.items) }
+    ensures by_pattern { IfSome failing (λ pattern. IsProgrammedBy pattern pages.old.items page bytes.now pages.new.items) }
+    ensures untouched { failing ≡ Some Nothing → pages.new.items ≡ pages.old.items }
+{
+    match failing {
+        None => pages[page] = *bytes,
+        Some(pattern) => tear_page(&mut pages[page], bytes, pattern, 16),
+    }
+}
+
+// Erases a sector, or tears it.
+fn clear_pages(pages: &mut Vec<[u8; 32]>, failing: Option<Pattern>)
+    ensures whole { IfNone failing (pages.new.items ≡ replicate (length pages.old.items) blank_page) }
+    ensures torn { OnSome failing (IsTornSector pages.old.items (replicate (length pages.old.items) blank_page) pages.new.items) }
+    ensures bytes { ArePages pages.old.items → ArePages pages.new.items }
+    ensures by_pattern { IfSome failing (λ pattern. IsErasedBy pattern pages.old.items pages.new.items) }
+    ensures untouched { failing ≡ Some Nothing → pages.new.items ≡ pages.old.items }
+{
+    match failing {
+        None => clear_sector(pages),
+        Some(pattern) => tear_sector(pages, pattern),
+    }
+}
+
+fn outcome(failing: Option<Pattern>) -> Result<(), FlashFailed>
+    ensures { is_err result ≡ is_some failing }
+{
+    match failing {
+        None => Ok(()),
+        Some(_) => Err(FlashFailed),
+    }
+}

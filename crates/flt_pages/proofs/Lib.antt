@@ -1,0 +1,4 @@
+pub mod Appended
+pub mod ItemCases
+pub mod BlankPages
+pub mod WordPages

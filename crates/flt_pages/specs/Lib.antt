@@ -1,0 +1,4 @@
+pub mod First
+pub mod Told
+pub mod Append
+pub mod Place

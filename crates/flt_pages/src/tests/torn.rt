@@ -1,0 +1,242 @@
+// Every pattern of a cut and of a fault at each call on a sector.
+ghost use Rattle.std.specs.Prelude.{◌≡◌, ◌<◌};
+ghost use Rattle.flt_flash.specs.Memory.{state_of};
+ghost use Rattle.flt_flash.specs.State.{CanArm};
+
+use super::assert_blank;
+use super::worked::{Image, image, piece, prepared, record, word};
+use crate::{
+    Item, activate, append_gate, append_head, append_piece, begin, blank_from, gates, item,
+};
+use flt_flash::{Arm, BLANK_PAGE, Bench, Flash, FlashFailed, FlashMem, Pattern};
+use std::alloc::Global;
+use std::process::Abort;
+use std::test::Fail;
+
+const PATTERNS: [Pattern; 4] = [Pattern::Nothing, Pattern::All, Pattern::Tail, Pattern::Odd];
+
+#[derive(Clone, Copy, Debug, PartialEq, Eq)]
+enum Call {
+    Gates,
+    Item,
+    BlankFrom,
+    Begin,
+    Head,
+    Piece,
+    Gate,
+    Activate,
+}
+
+const CALLS: [Call; 8] = [
+    Call::Gates,
+    Call::Item,
+    Call::BlankFrom,
+    Call::Begin,
+    Call::Head,
+    Call::Piece,
+    Call::Gate,
+    Call::Activate,
+];
+
+// The image that one operation of a call asks for.
+fn asked(call: Call, start: &Image) -> Image {
+    let mut asked = *start;
+    match call {
+        Call::Gates | Call::Item | Call::BlankFrom => {}
+        Call::Begin => asked[8] = word([0x53, 1, 0, 0, 0, 3, 0, 8]),
+        Call::Head => asked[5] = word([0x48, 1, 0, 8, 0, 1, 0, 5]),
+        Call::Piece => asked[6] = piece(5),
+        Call::Gate => asked[4] = word([0x47, 1, 0, 8, 0, 2, 0, 0]),
+        Call::Activate => asked[9] = word([0x41, 1, 0, 0, 0, 2, 0, 0]),
+    }
+    asked
+}
+
+fn erased(start: &Image) -> Image {
+    let mut erased = *start;
+    for page in 8..16 {
+        erased[page] = BLANK_PAGE;
+    }
+    erased
+}
+
+// What a pattern leaves of a page of which the bytes from `tail` on are its tail.
+fn torn(pattern: Pattern, start: &[u8; 32], asked: &[u8; 32], tail: usize) -> [u8; 32] {
+    let mut page = *start;
+    for byte in 0..32 {
+        page[byte] = match pattern {
+            Pattern::Nothing => start[byte],
+            Pattern::All => asked[byte],
+            Pattern::Tail => {
+                if byte < tail {
+                    start[byte]
+                } else {
+                    asked[byte]
+                }
+            }
+            Pattern::Odd => start[byte] & 0b0101_0101 | asked[byte] & 0b1010_1010,
+        };
+    }
+    page
+}
+
+fn run(rt: &impl Abort, flash: &mut FlashMem, call: Call) -> Result<(), FlashFailed>
+    requires { (state_of flash.old).pages ≡ 8 }
+    ensures pages { (state_of flash.new).pages ≡ 8 }
+    ensures boots { (state_of flash.new).bench.boots_left ≡ (state_of flash.old).bench.boots_left }
+{
+    match call {
+        Call::Gates => {
+            assert!(rt; gates(flash, 0, 8) == Ok(Some(1)));
+            Ok(())
+        }
+        Call::Item => {
+            assert!(rt; item(flash, 0, 8, 2, &[8]) == Ok(record(false)));
+            Ok(())
+        }
+        Call::BlankFrom => {
+            assert!(rt; blank_from(flash, 0, 8, 4).is_ok());
+            Ok(())
+        }
+        Call::Begin => begin(flash, 1, 8, 3),
+        Call::Head => {
+            assert_blank(rt, flash, 0, 5);
+            append_head(flash, 0, 5, 8, 1, true)
+        }
+        Call::Piece => {
+            assert_blank(rt, flash, 0, 6);
+            append_piece(flash, 0, 6, &[5])
+        }
+        Call::Gate => {
+            assert_blank(rt, flash, 0, 4);
+            append_gate(flash, 0, 4, 8, 2)
+        }
+        Call::Activate => {
+            assert_blank(rt, flash, 1, 1);
+            activate(flash, 1, 2)
+        }
+    }
+}
+
+// A cut or a fault at this operation.
+fn arm_at(operation: u32, pattern: Pattern, is_cut: bool) -> Arm
+    requires { 0 < operation }
+    ensures { CanArm result }
+{
+    if is_cut {
+        Arm::Cut {
+            after: operation,
+            pattern,
+        }
+    } else {
+        Arm::Fault {
+            after: operation,
+            pattern,
+        }
+    }
+}
+
+// Each page is what the pattern leaves of an operation, which is an erase of the second sector or a program.
+fn compare(
+    rt: &impl Abort,
+    flash: &FlashMem,
+    start: &Image,
+    asked: &Image,
+    pattern: Pattern,
+    is_erase: bool,
+)
+    requires { (state_of flash.now).pages ≡ 8 }
+{
+    for sector in 0..2 {
+        for page in 0..8 {
+            let place = sector as usize * 8 + page as usize;
+            let tail = match (is_erase, page < 2) {
+                (false, _) => 16,
+                (true, true) => 32,
+                (true, false) => 0,
+            };
+            let left = torn(pattern, &start[place], &asked[place], tail);
+            assert!(rt;
+                *flash.page(sector, page) == left,
+                "{pattern:?} page {page} of sector {sector}"
+            );
+        }
+    }
+}
+
+// One operation of a call is cut, or fails by a fault.
+fn try_case(
+    rt: &impl Abort,
+    alloc: Global,
+    call: Call,
+    operation: u32,
+    pattern: Pattern,
+    is_cut: bool,
+) -> Result<(), Fail>
+    requires { 0 < operation }
+{
+    let mut flash = prepared(alloc, image())?;
+    flash.arm(arm_at(operation, pattern, is_cut));
+    let answer = run(rt, &mut flash, call);
+    let only_reads = matches!(call, Call::Gates | Call::Item | Call::BlankFrom);
+    assert!(rt; answer.is_ok() == only_reads, "{call:?} {pattern:?}");
+    assert!(rt; (flash.armed() == 1) == only_reads, "{call:?} {pattern:?}");
+    let mut out = [0; 32];
+    assert!(rt; flash.read_page(0, 0, &mut out).is_err() == (is_cut && !only_reads));
+    flash.power_up();
+    let start = if operation == 2 {
+        erased(&image())
+    } else {
+        image()
+    };
+    let is_erase = call == Call::Begin && operation == 1;
+    let asked = if is_erase {
+        erased(&start)
+    } else {
+        asked(call, &start)
+    };
+    compare(rt, &flash, &start, &asked, pattern, is_erase);
+    tells(rt, &mut flash, call, pattern);
+    Ok(())
+}
+
+// What a look at the flash tells after a call that failed.
+fn tells(rt: &impl Abort, flash: &mut FlashMem, call: Call, pattern: Pattern)
+    requires { (state_of flash.old).pages ≡ 8 }
+{
+    let all = pattern == Pattern::All;
+    match call {
+        Call::Head => {
+            let head = match pattern {
+                Pattern::Nothing => Item::End,
+                Pattern::All => record(false),
+                _ => Item::Torn,
+            };
+            assert!(rt; item(flash, 0, 8, 5, &[8]) == Ok(head), "{pattern:?}");
+        }
+        Call::Gate => {
+            assert!(rt;
+                item(flash, 0, 8, 2, &[8]) == Ok(record(all)),
+                "{pattern:?}"
+            );
+        }
+        Call::Activate => {
+            let number = if all { Some(2) } else { None };
+            assert!(rt; gates(flash, 1, 8) == Ok(number), "{pattern:?}");
+        }
+        _ => assert!(rt; gates(flash, 1, 8) == Ok(None), "{call:?} {pattern:?}"),
+    }
+}
+
+#[test]
+fn each_operation_is_torn(rt: HostRuntime) -> Result<(), Fail> {
+    for pattern in PATTERNS {
+        for is_cut in [false, true] {
+            for call in CALLS {
+                try_case(&rt, rt.alloc(), call, 1, pattern, is_cut)?;
+            }
+            try_case(&rt, rt.alloc(), Call::Begin, 2, pattern, is_cut)?;
+        }
+    }
+    Ok(())
+}

@@ -1,0 +1,4 @@
+pub mod Page
+pub mod Gates
+pub mod Log
+pub mod Blocks

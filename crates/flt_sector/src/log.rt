@@ -1,0 +1,18 @@
+// The items of a sector's log.
+
+/// What stands at a page of the log.
+#[derive(Clone, Copy, Debug, PartialEq, Eq)]
+pub enum Item {
+    /// The end: nothing was written from here on.
+    End,
+    /// A head that was torn; it takes one page.
+    Torn,
+    /// A record of `length` bytes, 0 to 128, whose head stands here: the head, a page for every 32 bytes or part of them, and
+    /// the gate. It is complete where its gate stands.
+    Kept {
+        block: u16,
+        length: u16,
+        valid: bool,
+        complete: bool,
+    },
+}

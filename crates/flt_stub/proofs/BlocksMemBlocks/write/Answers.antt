@@ -1,0 +1,21 @@
+use Rattle.std.proofs.Common.{length, Vec, Global, ap, ◌∙◌, arith}
+use Rattle.flt_stub.specs.declared.Cell.{Cell}
+use Rattle.flt_stub.proofs.Numbers.{has_cell}
+use Rattle.flt_stub.proofs.Cells.{written, unwritten}
+use Rattle.flt_stub.proofs.BlocksMemBlocks.write.Goals as goal
+
+pub index_mut-requires : goal.index_mut-requires
+index_mut-requires c = rw c.settle.ensures.cells (omega (arith, has_cell (length c.args.self.now.cells.items) c.args.block c.requires.number, c.args.self.now.cells.ok.0))
+
+pub returns-clause-changes : goal.returns-clause-changes
+returns-clause-changes c =
+    let same = ap (λ (cells : Vec Cell Global). cells.items) c.settle.ensures.cells in
+    let within = has_cell (length c.args.self.now.cells.items) c.args.block c.requires.number in
+    record {
+      done = written c.args.self.now.cells.items c.settle.new.self.cells.items same c.args.block within c.of.result ∙ c.of.ensures;
+      failed = λ no. absurd (cc no);
+      others = unwritten c.args.self.now.cells.items c.settle.new.self.cells.items same c.args.block within c.of.result;
+      full = λ live needed no. absurd (cc no);
+      spent = λ no. absurd (cc no);
+      damaged = λ sector page no. absurd (cc no);
+    }
