@@ -1,23 +1,82 @@
--- What the machine answers: a function of the calls before.
-use Rattle.std.specs.Prelude.{List, [], ◌∷◌, if◌then◌else◌}
-use Rattle.flt_model.specs.Status.{status}
-use Rattle.flt_model.specs.Call.{History, is_started, marks_of}
+-- What is answered to a call (this profile; responses as ISO 14229-1).
+use Rattle.std.specs.Prelude.{ℕ, Bool, true, false, if◌then◌else◌, ◌==◌, List, [], ◌∷◌, map, Option, Some, None, option_map, unwrap_or}
+use Rattle.flt_config.specs.declared.persist.Persist.{Persist}
+use Rattle.flt_config.specs.declared.persist.EntryState.{EntryState}
+use Rattle.flt_model.specs.Life.{Life, History, count, event_of}
+use Rattle.flt_model.specs.Mark.{Trace}
+use Rattle.flt_model.specs.Debounce.{debounced, detection_counter}
+use Rattle.flt_model.specs.Happening.{happenings, is_started}
+use Rattle.flt_model.specs.Session.{is_extended, is_setting_off}
+use Rattle.flt_model.specs.Entry.{has_entry, entry_of, overflow}
+use Rattle.flt_model.specs.Trace.{trace}
+use Rattle.flt_model.specs.Durable.{below, state_at, saved}
+use Rattle.flt_model.specs.Response.{EventView, View, response}
 use Rattle.flt_model.specs.declared.call.Op.{Op}
 use Rattle.flt_model.specs.declared.call.Op.TheVariants as ops
+use Rattle.flt_model.specs.declared.call.Shown.{Shown}
 use Rattle.flt_model.specs.declared.call.Reply.{Reply}
-use Rattle.flt_model.specs.declared.call.Reply.TheVariants.{Taken, Ignored, Shown}
+use Rattle.flt_model.specs.declared.call.Reply.TheVariants as replies
+use Rattle.flt_model.specs.declared.call.Cause.TheVariants.{SettingOff, NotStarted}
 
--- The reply to a call behind these calls.
-abbrev pub answer : History → Op → Reply
-answer past (ops.Report event report) = if is_started past then Taken else Ignored
-answer past (ops.Cycle cycle) = Taken
-answer past (ops.Show event) = Shown (status (marks_of event past))
+-- ---- what is seen of the events
 
--- The replies to calls, in their order, behind these calls.
-unfoldable pub replies_behind : History → List Op → List Reply
-replies_behind past [] = []
-replies_behind past (op ∷ ops) = answer past op ∷ replies_behind (op ∷ past) ops
+-- The entry of an event, where it has one.
+abbrev pub entry_where : Life → ℕ → Trace → Bool → Option EntryState
+entry_where life event marks true = Some (entry_of life event marks)
+entry_where life event marks false = None
 
--- The replies to a journal: each is the machine's, at its place.
-abbrev pub replies_to : List Op → List Reply
-replies_to journal = replies_behind [] journal
+-- What a tester may read of an event.
+abbrev pub event_view : Life → History → Trace → ℕ → EventView
+event_view life past marks event = record {
+  dtc = (event_of life event).dtc;
+  dids = (event_of life event).dids.items;
+  state = state_at life marks event;
+  entry = entry_where life event marks (has_entry life event marks);
+  counter = detection_counter (event_of life event).debounce (debounced (event_of life event).debounce (happenings life event past));
+}
+
+-- The noted event that a sub-function reads.
+abbrev pub noted_by : Persist → ℕ → Option ℕ
+noted_by state sub =
+    if sub == 0x0B then state.first_failed
+    else if sub == 0x0C then state.first_confirmed
+    else if sub == 0x0D then state.recent_failed
+    else state.recent_confirmed
+
+-- What a tester may read of all events.
+abbrev pub view : Life → History → Trace → View
+view life past marks = record {
+  events = map (event_view life past marks) (below (count life));
+  noted = noted_by (saved life marks);
+}
+
+-- What is shown of an event.
+abbrev pub shown : EventView → Bool → Shown
+shown event overflow = record {
+  status = event.state.status;
+  fdc = event.counter;
+  failed = event.state.failed;
+  clean = event.state.clean;
+  stored = unwrap_or (option_map (λ entry. entry.occurrence) event.entry) 0;
+  overflow = overflow;
+}
+
+-- ---- the answer
+
+-- A report is ignored while the setting is off, and else while the cycle of its event was not started.
+abbrev pub answer_report : Bool → Bool → Reply
+answer_report true started = replies.Ignored SettingOff
+answer_report false true = replies.Taken
+answer_report false false = replies.Ignored NotStarted
+
+-- The answer to a call, in view of what the life began with and the calls before it.
+abbrev pub answer : Life → History → Op → Reply
+answer life past (ops.Report event report) = answer_report (is_setting_off past) (is_started (event_of life event).cycle past)
+answer life past (ops.Show event) = replies.Shown (shown (event_view life past (trace life past) event) (overflow life (trace life past)))
+answer life past (ops.Request tester bytes) = response (view life past (trace life past)) (is_extended tester past) bytes.items
+answer life past _ = replies.Taken
+
+-- The answers to calls in their order, each in view of those before it.
+abbrev pub answers : Life → History → List Op → List Reply
+answers life past [] = []
+answers life past (op ∷ calls) = answer life past op ∷ answers life (op ∷ past) calls

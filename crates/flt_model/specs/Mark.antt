@@ -1,23 +1,75 @@
--- What happens to one event, and how a flag follows from it.
-use Rattle.std.specs.Prelude.{Bool, List, [], ◌∷◌, Option, unwrap_or}
+-- What happens to one event, as far as its durable state goes, and how flags and counts follow from it (this profile).
+use Rattle.std.specs.Prelude.{ℕ, ◌+◌, ◌==◌, Bool, true, false, if◌then◌else◌, List, [], ◌∷◌, Option, unwrap_or}
 
--- A mark of an event (this profile).
+-- What happens to one event, as far as its durable state goes.
 pub data Mark : Type 0 where
-  -- a test result
+  -- a failed or passed test result
   Failed : Mark
   Passed : Mark
   -- the end of an operation cycle, and the start of the next
   Cycle : Mark
+  -- the tester's clear
+  Clear : Mark
+  -- enough clean cycles since the last failure
+  Aged : Mark
+  -- the event's entry gave way to another event's
+  Displaced : Mark
+  -- the event got an entry
+  Added : Mark
+  -- the event found no room for an entry
+  Refused : Mark
 
 -- The marks of an event, the newest first.
 abbrev pub Past : Type 0
 Past = List Mark
 
--- What a mark, in view of the marks before it, does to a flag: Some sets or clears it, and None leaves it.
+-- What a thing decides, in view of those before it: Some does, and None leaves it as it was.
 abbrev pub Row : Type 0
 Row = Past → Mark → Option Bool
 
--- A flag is as the last mark in its row says, and as at the start where there is none.
-abbrev pub decided : Row → Bool → Past → Bool
-decided row start [] = start
-decided row start (mark ∷ past) = unwrap_or (row past mark) (decided row start past)
+-- Something is as the last that decides it says, and as in the base where none does.
+abbrev pub decided : {X A : Type 0} → (List X → X → Option A) → A → List X → A
+decided row base [] = base
+decided row base (x ∷ past) = unwrap_or (row past x) (decided row base past)
+
+-- Which marks, in view of the marks before them.
+abbrev pub Kind : Type 0
+Kind = Past → Mark → Bool
+
+-- With which number a mark begins a count anew: Some does, and None goes on.
+abbrev pub Restart : Type 0
+Restart = Past → Mark → Option ℕ
+
+-- One more, where it counts.
+abbrev pub one_more : Bool → ℕ → ℕ
+one_more counts n = if counts then n + 1 else n
+
+-- The number of marks of a kind since the count began anew, and on top of the base's number where it never did.
+abbrev pub count_since : Restart → Kind → ℕ → Past → ℕ
+count_since restart counted base [] = base
+count_since restart counted base (mark ∷ past) =
+    unwrap_or (restart past mark) (one_more (counted past mark) (count_since restart counted base past))
+
+-- ---- the marks of all events
+
+-- A mark among those of all events.
+pub data Traced : Type 0 where
+  -- a mark of an event, with the signals at its moment
+  Of : ℕ → Mark → List ℕ → Traced
+  -- all events were cleared at once
+  AllCleared : Traced
+
+-- The marks of all events since power-up, the newest first.
+abbrev pub Trace : Type 0
+Trace = List Traced
+
+-- A mark, where it is of the event that is looked at.
+abbrev pub own : Bool → Mark → Past → Past
+own true mark past = mark ∷ past
+own false mark past = past
+
+-- The marks of one event.
+abbrev pub marks_of : ℕ → Trace → Past
+marks_of event [] = []
+marks_of event (Of other mark signals ∷ trace) = own (other == event) mark (marks_of event trace)
+marks_of event (AllCleared ∷ trace) = marks_of event trace

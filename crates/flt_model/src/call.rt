@@ -1,32 +1,130 @@
 //! The calls of the status machine, and its answers.
+use crate::{REQUEST, RESPONSE};
+use arrayvec::ArrayVec;
 
-/// What a monitor reports of its event.
-#[derive(Clone, Copy, Debug, PartialEq, Eq)]
+/// What a monitor reports of its event (AUTOSAR Dem, in outline).
+#[derive(Clone, Copy, PartialEq, Eq, Debug)]
 pub enum Report {
-    /// The test passed.
+    /// The test passed, with no debouncing.
     Passed,
-    /// The test failed.
+    /// The test failed, with no debouncing.
+    Failed,
+    /// The test tends to pass: debouncing decides.
+    PrePassed,
+    /// The test tends to fail: debouncing decides.
+    PreFailed,
+}
+
+/// A result that debouncing lets through.
+#[derive(Clone, Copy, PartialEq, Eq, Debug)]
+pub enum Qualified {
+    Passed,
     Failed,
 }
 
-/// A call of the status machine.
-#[derive(Clone, Copy, Debug, PartialEq, Eq)]
-pub enum Op {
-    /// The monitor of event `event` (0 to 63) reports a result.
-    Report { event: u16, report: Report },
-    /// Operation cycle `cycle` (0 to 3) ends and begins anew.
-    Cycle { cycle: u8 },
-    /// The status of event `event` (0 to 63) is asked for.
-    Show { event: u16 },
+/// How far the debouncing of an event is. It is volatile, and rests at power-up.
+#[derive(Clone, Copy, PartialEq, Eq, Debug)]
+pub enum DebState {
+    /// The value of a counter, from its passed threshold to its failed threshold.
+    Count(i16),
+    /// A timer that no report started.
+    Idle,
+    /// A timer towards failed, with the ticks of 10 ms since it was started.
+    Failing(u16),
+    /// A timer towards passed, with the ticks of 10 ms since it was started.
+    Passing(u16),
+    /// A timer that came to failed.
+    AtFailed,
+    /// A timer that came to passed.
+    AtPassed,
 }
 
-/// What the status machine answers to a call.
-#[derive(Clone, Copy, Debug, PartialEq, Eq)]
+impl Default for DebState {
+    ghost use Rattle.std.specs.Prelude.{◌≡◌};
+    ghost use Rattle.flt_model.specs.declared.call.DebState.TheVariants.{Idle};
+
+    ghost is_default = { λ state. state ≡ Idle };
+
+    fn default() -> Self {
+        DebState::Idle
+    }
+}
+
+/// A call of the status machine.
+#[derive(Clone, Drop, PartialEq, Eq, Debug)]
+pub enum Op {
+    /// The signal of this index (0 to 7) has a new value.
+    Signal {
+        index: u8,
+        value: u16,
+    },
+    /// The monitor of an event reports.
+    Report {
+        event: u16,
+        report: Report,
+    },
+    /// Time goes on by this many ticks of 10 ms, at least 1.
+    Tick {
+        ticks: u16,
+    },
+    /// This operation cycle (0 to 3) ends where it was started, and starts.
+    Cycle {
+        cycle: u8,
+    },
+    /// The tester of this number (0 to 3) sends a request of 1 to 16 bytes.
+    Request {
+        tester: u8,
+        bytes: ArrayVec<u8, REQUEST>,
+    },
+    /// An event is asked for its state.
+    Show {
+        event: u16,
+    },
+    /// The durable state is taken, to be saved.
+    Snapshot,
+    /// The durable state was saved under this generation number.
+    Saved {
+        generation: u32,
+    },
+}
+
+/// Why a report is ignored. Nothing changed.
+#[derive(Clone, Copy, PartialEq, Eq, Debug)]
+pub enum Cause {
+    /// A tester holds the DTC setting off (ISO 14229-1, service 0x85).
+    SettingOff,
+    /// The setting is on, and the event's operation cycle was not started since power-up.
+    NotStarted,
+}
+
+/// What is shown of an event.
+#[derive(Clone, Copy, PartialEq, Eq, Debug)]
+pub struct Shown {
+    /// The status byte of the DTC (ISO 14229-1).
+    pub status: u8,
+    /// The fault detection counter, -128 (passed) to 127 (failed).
+    pub fdc: i8,
+    /// In how many cycles the event failed since the last clean one, at most 255.
+    pub failed: u8,
+    /// How many clean cycles have ended since the last failure, at most 510.
+    pub clean: u16,
+    /// The occurrences that the event's entry counts, 1 to 255, and 0 without an entry.
+    pub stored: u8,
+    /// Whether an event found the fault memory full since all was cleared.
+    pub overflow: bool,
+}
+
+/// The answer to a call.
+#[derive(Clone, Drop, PartialEq, Eq, Debug)]
 pub enum Reply {
-    /// The call was carried out.
+    /// The call was taken.
     Taken,
-    /// The report changed nothing: the event's operation cycle was not started.
-    Ignored,
-    /// The DTC status byte of the event (ISO 14229-1, status bits).
-    Shown { status: u8 },
+    /// The report was ignored.
+    Ignored(Cause),
+    /// What is shown of the event.
+    Shown(Shown),
+    /// The bytes of a response, positive or negative.
+    Response(ArrayVec<u8, RESPONSE>),
+    /// A positive response that the request suppressed.
+    Silent,
 }

@@ -1,9 +1,28 @@
-//! What the status machine means: the calls that it takes, what it answers, and the definitions that every crate above cites.
+//! What the status machine of a fault memory means: definitions, the types that they speak of, and laws about them.
 //!
-//! It stands on nothing and has no code. Read `specs/Mark.antt` first, then `Status`, `Call` and `Answer`. The crates
-//! above use one word of it, `answer`: the reply to a call is a function of the list of calls before it.
+//! Stands on `flt_config`, whose types and ranges the definitions cite. Every crate of the status machine
+//! proves itself against `specs/Answer` (what is answered to a call after a list of calls) and
+//! `specs/Durable` (what is saved after it); nobody else states a rule of the machine. Read `specs/Life`,
+//! `specs/Mark` and `specs/Status` first; `docs/MODEL.md` tells the machine in plain words.
 #![tactic(auto)]
 
 mod call;
+pub mod laws;
+mod life;
+mod request;
+mod status;
+pub mod worked;
 
-pub use call::{Op, Reply, Report};
+pub use call::{Cause, DebState, Op, Qualified, Reply, Report, Shown};
+pub use life::DemStart;
+pub use request::{Asked, Negative, Request};
+pub use status::{Rank, Status};
+
+/// The most bytes of a request.
+pub const REQUEST: usize = 16;
+
+/// The most bytes of a response.
+pub const RESPONSE: usize = 512;
+
+#[cfg(test)]
+mod tests;

@@ -1,63 +1,94 @@
--- A line by itself: what its words say, with the numbers as they are written, or why it is refused.
-use Rattle.std.specs.Prelude.{ℕ, List, [], ◌∷◌, length, map, Option, Some, None, Result, Err, option_map, nat_lt, not, codes, if◌then◌else◌}
+-- A line by itself: skipped, or what its words say with the numbers as they are written, or why it is refused.
+use Rattle.std.specs.Prelude.{ℕ, List, [], ◌∷◌, length, Bool, false, ◌==◌, not, nat_lt, Option, Some, None, option_map, Result, Ok, Err, codes, if◌then◌else◌}
+use Rattle.std.specs.List.{find}
 use Rattle.std.specs.Str.{bytes_eq}
 use Rattle.std.specs.Option.{ok_or}
-use denote.Ref.{Bor}
+use Rattle.flt_model.specs.declared.call.Report.{Report}
+use Rattle.flt_model.specs.declared.call.Report.TheVariants.{Passed, Failed, PrePassed, PreFailed}
 use Rattle.flt_script.specs.declared.fault.LineCause.{LineCause}
 use Rattle.flt_script.specs.declared.fault.LineCause.TheVariants.{Long, Byte, Word, Form}
-use Rattle.flt_script.specs.declared.fault.LineFault.{LineFault}
-use Rattle.flt_script.specs.declared.fault.LineFault.TheVariants as faults
-use Rattle.flt_model.specs.declared.call.Report.TheVariants.{Passed, Failed}
 use Rattle.flt_script.specs.declared.keyword.Keyword.{Keyword}
 use Rattle.flt_script.specs.declared.keyword.Keyword.TheVariants as keyword
 use Rattle.flt_script.specs.declared.line.Line.{Line}
 use Rattle.flt_script.specs.declared.line.Line.TheVariants as line
+use Rattle.flt_script.specs.declared.line.StepLine.TheVariants as step
+use Rattle.flt_script.specs.Event.{only, event_of}
+use Rattle.flt_script.specs.Gives.{◌⇒◌, ◌>>=◌}
+use Rattle.flt_script.specs.Numeral.{number, hexadecimal}
 use Rattle.flt_script.specs.Text.{words_of, all_plain}
-use Rattle.flt_script.specs.Numeral.{number, hex_of_six}
-use Rattle.flt_script.specs.Keyword.{keyword_of}
-use Rattle.flt_script.specs.Gives.{◌>>=◌}
 
--- words without where they lie in memory
-abbrev pub seen : List (Bor (List ℕ)) → List (List ℕ)
-seen words = map (λ word. word.now) words
+-- The first words of the lines.
+abbrev pub spelling : Keyword → List ℕ
+spelling keyword.Pass = codes "pass"
+spelling keyword.Fail = codes "fail"
+spelling keyword.PrePass = codes "prepass"
+spelling keyword.PreFail = codes "prefail"
+spelling keyword.Show = codes "show"
+spelling keyword.Cycle = codes "cycle"
+spelling keyword.Tick = codes "tick"
+spelling keyword.Signal = codes "sig"
+spelling keyword.Event = codes "event"
+spelling keyword.Did = codes "did"
+spelling keyword.Config = codes "config"
+spelling keyword.Memory = codes "memory"
+spelling keyword.Blocks = codes "blocks"
+spelling keyword.Flash = codes "flash"
 
--- one word
-abbrev pub only : {A : Type 0} → (List ℕ → Option A) → List (List ℕ) → Option A
-only spelled [] = None
-only spelled (word ∷ []) = spelled word
-only spelled (word ∷ next ∷ more) = None
+-- The table of lines.
+abbrev pub keywords : List Keyword
+keywords = keyword.Pass ∷ keyword.Fail ∷ keyword.PrePass ∷ keyword.PreFail ∷ keyword.Show ∷ keyword.Cycle ∷ keyword.Tick
+    ∷ keyword.Signal ∷ keyword.Event ∷ keyword.Did ∷ keyword.Config ∷ keyword.Memory ∷ keyword.Blocks ∷ keyword.Flash ∷ []
 
--- two values, where both are there
-abbrev pub both : {A B C : Type 0} → Option A → Option B → (A → B → C) → Option C
-both (Some a) (Some b) made = Some (made a b)
-both (Some a) None made = None
-both None b made = None
+-- The keyword that a word spells.
+unfoldable pub keyword_of : List ℕ → Option Keyword
+keyword_of word = find (λ keyword. bytes_eq word (spelling keyword)) keywords
 
--- a number, the word dtc, and six hexadecimal digits
-unfoldable pub event_line : List (List ℕ) → Option Line
-event_line (n ∷ name ∷ dtc ∷ []) = if bytes_eq name (codes "dtc") then both (number n) (hex_of_six dtc) line.Event else None
-event_line _ = None
+-- A report on the event that the one word names.
+unfoldable pub report_with : Report → List (List ℕ) → Option Line
+report_with report words = option_map (λ event. line.Step (step.Report event report)) (only number words)
 
--- the words behind the keyword, row by row
-unfoldable pub line_by : Keyword → List (List ℕ) → Option Line
-line_by keyword.Event words = event_line words
-line_by keyword.Cycle words = option_map line.Cycle (only number words)
-line_by keyword.Pass words = option_map (λ event. line.Report event Passed) (only number words)
-line_by keyword.Fail words = option_map (λ event. line.Report event Failed) (only number words)
-line_by keyword.Show words = option_map line.Show (only number words)
+-- Two words, and the numbers that they spell.
+unfoldable pub two_numbers : List (List ℕ) → Option (ℕ × ℕ)
+two_numbers (m ∷ n ∷ []) = number m ⇒ λ first. number n ⇒ λ second. Some (first, second)
+two_numbers _ = None
 
--- a keyword and what belongs behind it
+-- An event, and a data identifier for its frames in four hexadecimal digits.
+unfoldable pub did_with : List (List ℕ) → Option Line
+did_with (e ∷ h ∷ []) = number e ⇒ λ event. hexadecimal 4 h ⇒ λ id. Some (line.Did event id)
+did_with _ = None
+
+-- What the words behind the keyword say, row by row.
+unfoldable pub line_with : Keyword → List (List ℕ) → Option Line
+line_with keyword.Pass words = report_with Passed words
+line_with keyword.Fail words = report_with Failed words
+line_with keyword.PrePass words = report_with PrePassed words
+line_with keyword.PreFail words = report_with PreFailed words
+line_with keyword.Show words = option_map (λ event. line.Step (step.Show event)) (only number words)
+line_with keyword.Cycle words = option_map (λ cycle. line.Step (step.Cycle cycle)) (only number words)
+line_with keyword.Tick words = option_map (λ ticks. line.Step (step.Tick ticks)) (only number words)
+line_with keyword.Signal words = option_map (λ numbers. line.Step (step.Signal numbers.0 numbers.1)) (two_numbers words)
+line_with keyword.Event words = option_map line.Event (event_of words)
+line_with keyword.Did words = did_with words
+line_with keyword.Config words = option_map line.Config (only number words)
+line_with keyword.Memory words = option_map line.Memory (only number words)
+line_with keyword.Blocks words = option_map line.Blocks (only number words)
+line_with keyword.Flash words = option_map (λ numbers. line.Flash numbers.0 numbers.1) (two_numbers words)
+
+-- A word that begins with #.
+abbrev pub is_comment : List ℕ → Bool
+is_comment [] = false
+is_comment (first ∷ more) = first == 35
+
+-- Nothing or a comment, or a keyword and what belongs behind it.
 unfoldable pub by_words : List (List ℕ) → Result Line LineCause
-by_words [] = Err Word
-by_words (word ∷ words) = ok_or (keyword_of word) Word >>= λ keyword. ok_or (line_by keyword words) Form
+by_words [] = Ok line.Skipped
+by_words (word ∷ words) =
+    if is_comment word then Ok line.Skipped
+    else ok_or (keyword_of word) Word >>= λ keyword. ok_or (line_with keyword words) Form
 
+-- A line without what ends it: too long, with a byte that no line may have, or as its words say.
 unfoldable pub line_of : List ℕ → Result Line LineCause
 line_of text =
     if nat_lt 512 (length text) then Err Long
     else if not (all_plain text) then Err Byte
     else by_words (words_of text)
-
--- what a line's fault tells
-abbrev pub cause_of : LineFault → Option LineCause
-cause_of faults.Memory = None
-cause_of (faults.Cause cause) = Some cause

@@ -1,45 +1,114 @@
 ghost use Rattle.std.specs.Prelude.{◌≡◌};
-ghost use Rattle.flt_script.specs.declared.fault.LineFault.TheVariants.{Memory};
+ghost use Rattle.flt_script.specs.declared.fault.LineFault.TheVariants as line;
 ghost use Rattle.flt_script.specs.declared.fault.ParseFault.TheVariants as parse;
 
+use flt_config::CfgFault;
 use std::alloc::{AllocError, AllocFailed};
+use std::error::Error;
+use std::fmt;
 
-/// Why a line is refused.
+/// Why a line is refused. Where several causes hold, the first in this order is told. It displays as it stands in
+/// the line that tells a fault: one word, and for `Config` two numbers where they help.
 #[derive(Clone, Copy, Debug, PartialEq, Eq)]
 pub enum LineCause {
     /// The script has more than 1,048,576 bytes.
     Large,
-    /// The line has more than 512 bytes before its line feed.
+    /// The line has more than 512 bytes, without what ends it.
     Long,
-    /// A byte other than a space and the visible characters of ASCII.
+    /// It has a byte other than a tab, a space and the visible characters of ASCII.
     Byte,
-    /// The first word is no keyword.
+    /// Its first word begins no line.
     Word,
-    /// The words behind the keyword are not those of the line.
+    /// The words behind the first are not as its kind of line has them.
     Form,
-    /// An `event` line behind a step, or an event number that is not the next.
+    /// It configures behind a step, or what is set already, or an event whose number is not the next, or a data
+    /// identifier of an event that is not there yet.
     Order,
-    /// A number out of its range, an event that is not configured, or a DTC a second time.
+    /// A number of a step is out of its range, or one that configures is too large for its type.
     Range,
-    /// The 65th event or the 65,537th step.
+    /// It is the 65th event, the ninth data identifier of an event, or the 65,537th step.
     Many,
+    /// It names a data identifier that the table does not have.
+    Did,
+    /// No line is faulty by itself or by its order, but the configuration that they write is refused. It is told at the
+    /// line that wrote what is at fault, the second's for a DTC that stands twice.
+    Config(CfgFault),
 }
 
-/// The first faulty line, counted from 1, or 0 for the whole script.
+/// The first faulty line and why it is refused. It displays as `script line`, the line and the cause.
 #[derive(Clone, Copy, Debug, PartialEq, Eq)]
 pub struct ScriptFault {
+    /// Counted from 1. It is 0 where the script is too large, or where no line wrote what is at fault.
     pub line: u32,
     pub cause: LineCause,
 }
 
-/// Why a script could not be read.
+/// Why bytes could not be read as a script.
 #[derive(Clone, Copy, Debug, PartialEq, Eq)]
 pub enum ParseFault {
-    /// There was no memory.
+    /// There was not enough memory. It says nothing of the bytes.
     Memory,
-    /// The bytes are no script.
+    /// The bytes are no script; this is the first fault.
     At(ScriptFault),
 }
+
+impl fmt::Display for LineCause {
+    ghost use Rattle.std.specs.Prelude.{Some};
+    ghost use Rattle.flt_script.specs.Fault.{cause_text};
+
+    ghost output = { λ cause. Some (cause_text cause) };
+
+    fn fmt<W: fmt::Write>(&self, f: &mut fmt::Formatter<W>) -> fmt::Result {
+        match *self {
+            LineCause::Large => write!(f, "large"),
+            LineCause::Long => write!(f, "long"),
+            LineCause::Byte => write!(f, "byte"),
+            LineCause::Word => write!(f, "word"),
+            LineCause::Form => write!(f, "form"),
+            LineCause::Order => write!(f, "order"),
+            LineCause::Range | LineCause::Config(CfgFault::Range { .. }) => write!(f, "range"),
+            LineCause::Many => write!(f, "many"),
+            LineCause::Did => write!(f, "did"),
+            LineCause::Config(CfgFault::DtcTwice { first, second }) => {
+                write!(f, "twice {first} {second}")
+            }
+            LineCause::Config(CfgFault::NoRoom { needed, pages }) => {
+                write!(f, "room {needed} {pages}")
+            }
+        }
+    }
+}
+
+impl fmt::Display for ScriptFault {
+    ghost use Rattle.std.specs.Prelude.{Some};
+    ghost use Rattle.flt_script.specs.Fault.{script_fault_text};
+
+    ghost output = { λ fault. Some (script_fault_text fault) };
+
+    fn fmt<W: fmt::Write>(&self, f: &mut fmt::Formatter<W>) -> fmt::Result {
+        let line = self.line;
+        let cause = self.cause;
+        write!(f, "script line {line} {cause}")
+    }
+}
+
+impl Error for ScriptFault {}
+
+impl fmt::Display for ParseFault {
+    ghost use Rattle.std.specs.Prelude.{Some};
+    ghost use Rattle.flt_script.specs.Fault.{parse_fault_text};
+
+    ghost output = { λ fault. Some (parse_fault_text fault) };
+
+    fn fmt<W: fmt::Write>(&self, f: &mut fmt::Formatter<W>) -> fmt::Result {
+        match *self {
+            ParseFault::Memory => write!(f, "out of memory"),
+            ParseFault::At(fault) => write!(f, "{fault}"),
+        }
+    }
+}
+
+impl Error for ParseFault {}
 
 /// Why a line could not be read.
 #[derive(Clone, Copy, Debug, PartialEq, Eq)]
@@ -49,8 +118,8 @@ pub(crate) enum LineFault {
 }
 
 impl LineFault {
-    ghost use Rattle.flt_script.specs.Line.{cause_of};
-    ghost use Rattle.flt_script.specs.Script.{fault_of, fault_at};
+    ghost use Rattle.flt_script.specs.Next.{cause_of, fault_at};
+    ghost use Rattle.flt_script.specs.Script.{fault_of};
 
     /// The fault of the script whose line has this one.
     pub(crate) fn at_line(self, line: u32) -> ParseFault
@@ -63,8 +132,16 @@ impl LineFault {
     }
 }
 
+impl From<LineCause> for LineFault {
+    ghost from_gives = { λ cause fault. fault ≡ line.Cause cause };
+
+    fn from(cause: LineCause) -> LineFault {
+        LineFault::Cause(cause)
+    }
+}
+
 impl From<AllocError> for LineFault {
-    ghost from_gives = { λ _ fault. fault ≡ Memory };
+    ghost from_gives = { λ _ fault. fault ≡ line.Memory };
 
     fn from(_: AllocError) -> LineFault {
         LineFault::Memory
@@ -72,17 +149,17 @@ impl From<AllocError> for LineFault {
 }
 
 impl<T: Drop> From<AllocFailed<T>> for LineFault {
-    ghost from_gives = { λ _ fault. fault ≡ Memory };
+    ghost from_gives = { λ _ fault. fault ≡ line.Memory };
 
     fn from(_: AllocFailed<T>) -> LineFault {
         LineFault::Memory
     }
 }
 
-impl From<AllocError> for ParseFault {
+impl<T: Drop> From<AllocFailed<T>> for ParseFault {
     ghost from_gives = { λ _ fault. fault ≡ parse.Memory };
 
-    fn from(_: AllocError) -> ParseFault {
+    fn from(_: AllocFailed<T>) -> ParseFault {
         ParseFault::Memory
     }
 }

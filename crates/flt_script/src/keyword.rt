@@ -1,27 +1,70 @@
 ghost use Rattle.std.specs.Prelude.{◌≡◌};
-ghost use Rattle.flt_script.specs.Keyword.{keyword_of};
+ghost use Rattle.flt_script.specs.Line.{spelling, keyword_of};
 
 /// The first word of a line.
 #[derive(Clone, Copy, Debug, PartialEq, Eq)]
 pub(crate) enum Keyword {
-    Event,
-    Cycle,
     Pass,
     Fail,
+    PrePass,
+    PreFail,
     Show,
+    Cycle,
+    Tick,
+    Signal,
+    Event,
+    Did,
+    Config,
+    Memory,
+    Blocks,
+    Flash,
+}
+
+const KEYWORDS: [Keyword; 14] = [
+    Keyword::Pass,
+    Keyword::Fail,
+    Keyword::PrePass,
+    Keyword::PreFail,
+    Keyword::Show,
+    Keyword::Cycle,
+    Keyword::Tick,
+    Keyword::Signal,
+    Keyword::Event,
+    Keyword::Did,
+    Keyword::Config,
+    Keyword::Memory,
+    Keyword::Blocks,
+    Keyword::Flash,
+];
+
+fn spelling(keyword: Keyword) -> &'static [u8]
+    ensures { result.now ≡ spelling keyword }
+{
+    match keyword {
+        Keyword::Pass => b"pass",
+        Keyword::Fail => b"fail",
+        Keyword::PrePass => b"prepass",
+        Keyword::PreFail => b"prefail",
+        Keyword::Show => b"show",
+        Keyword::Cycle => b"cycle",
+        Keyword::Tick => b"tick",
+        Keyword::Signal => b"sig",
+        Keyword::Event => b"event",
+        Keyword::Did => b"did",
+        Keyword::Config => b"config",
+        Keyword::Memory => b"memory",
+        Keyword::Blocks => b"blocks",
+        Keyword::Flash => b"flash",
+    }
 }
 
 /// The keyword that a word spells.
-#[tactic(auto, unfolding(crate::specs::Keyword::keyword_of))]
+#[tactic(auto, unfolding(crate::specs::Line::keyword_of))]
 pub(crate) fn read_keyword(word: &[u8]) -> Option<Keyword>
     ensures { result ≡ keyword_of word.now }
 {
-    match word {
-        b"event" => Some(Keyword::Event),
-        b"cycle" => Some(Keyword::Cycle),
-        b"pass" => Some(Keyword::Pass),
-        b"fail" => Some(Keyword::Fail),
-        b"show" => Some(Keyword::Show),
-        _ => None,
-    }
+    KEYWORDS
+        .iter()
+        .copied()
+        .find(|keyword| word == spelling(*keyword))
 }

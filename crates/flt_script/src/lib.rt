@@ -1,16 +1,24 @@
-//! The script: what is configured, and the steps to make.
+//! The script of a run: what is configured, and what is done.
 //!
-//! It stands on `flt_model`, for what a report is. The crate above uses one call, `parse`, which answers exactly the script
-//! that the bytes spell, or the first faulty line and its cause. Read `specs/Script.antt` first, then `Line`, `Order`,
-//! `Text`, `Numeral` and `Keyword`.
+//! Stands on `flt_config`, whose check of a configuration ends the reading, on `flt_did`, whose table has the data
+//! identifiers that events may use, and on `flt_model`, which declares the reports. The layer above calls `parse`: by
+//! its clause `exact` it answers, for all bytes, the script or the first fault that the definition `script_of` gives;
+//! by `served` the table has what the events use; and the type `Script` keeps what the steps have in common. Read
+//! `specs/Text` first, then `specs/Line` (a line by itself), `specs/Refusal` (a line against those before it) and
+//! `specs/Script` (the whole); `docs/SCRIPT.md` tells the language in plain words.
 #![tactic(auto)]
 
+mod did;
 mod draft;
+mod event;
 mod fault;
 mod keyword;
+pub mod laws;
 mod line;
 mod numeral;
+mod pair;
 mod parsing;
+mod places;
 mod script;
 mod step;
 mod text;
@@ -19,4 +27,7 @@ pub use fault::{LineCause, ParseFault, ScriptFault};
 pub use flt_model::Report;
 pub use parsing::parse;
 pub use script::Script;
-pub use step::Step;
+pub use step::{Part, Step};
+
+#[cfg(test)]
+mod tests;

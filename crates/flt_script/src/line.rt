@@ -1,95 +1,195 @@
-ghost use Rattle.std.specs.Prelude.{◌≡◌};
+ghost use Rattle.std.specs.Prelude.{◌≡◌, ◌≤◌, IfOk};
+ghost use Rattle.flt_script.specs.Behind.{step_of};
+ghost use Rattle.flt_script.specs.Event.{only, event_of};
 ghost use Rattle.flt_script.specs.Gives.{Gives};
+ghost use Rattle.flt_script.specs.Line.{report_with, two_numbers, did_with, line_with, line_of, is_comment};
+ghost use Rattle.flt_script.specs.Next.{cause_of};
 ghost use Rattle.flt_script.specs.Numeral.{number};
-ghost use Rattle.flt_script.specs.Line.{seen, only, event_line, line_by, by_words, line_of, cause_of};
 
+use crate::event::{EventLine, event_of};
 use crate::fault::{LineCause, LineFault};
 use crate::keyword::{Keyword, read_keyword};
-use crate::numeral::{read_hex_of_six, read_number};
-use crate::text::{is_plain, words};
+use crate::numeral::{read_hexadecimal, read_number};
+use crate::step::Step;
+use crate::text::{TextLine, Words};
 use flt_model::Report;
-use std::alloc::Global;
+use std::alloc::{AllocError, Global};
+
+/// A step, with its numbers as they are written.
+#[derive(Clone, Copy, Debug, PartialEq, Eq)]
+pub(crate) enum StepLine {
+    Report { event: u64, report: Report },
+    Show { event: u64 },
+    Cycle { cycle: u64 },
+    Tick { ticks: u64 },
+    Signal { index: u64, value: u64 },
+}
 
 /// What a line says, with its numbers as they are written.
 #[derive(Clone, Copy, Debug, PartialEq, Eq)]
 pub(crate) enum Line {
-    Event { number: u64, dtc: u64 },
-    Report { event: u64, report: Report },
-    Cycle { cycle: u64 },
-    Show { event: u64 },
+    Skipped,
+    Config(u64),
+    Memory(u64),
+    Blocks(u64),
+    Flash { sectors: u64, pages: u64 },
+    Event(EventLine),
+    Did { event: u64, id: u16 },
+    Step(StepLine),
 }
 
-/// The most bytes of a line, without its line feed.
+/// The most bytes of a line, without what ends it.
 const LINE_LENGTH: usize = 512;
 
-fn only_number(words: &[&[u8]]) -> Option<u64>
-    ensures { result ≡ only number (seen words.now) }
-{
-    match words {
-        [word] => read_number(word),
-        _ => None,
-    }
-}
+/// The greatest tick count of a step.
+const TICKS: u64 = 65_535;
 
-#[tactic(auto, unfolding(crate::specs::Line::event_line))]
-fn event_line(words: &[&[u8]]) -> Option<Line>
-    ensures { result ≡ event_line (seen words.now) }
-{
-    match words {
-        [number, name, dtc] if *name == b"dtc".as_slice() => {
-            let number = read_number(number)?;
-            let dtc = read_hex_of_six(dtc)?;
-            Some(Line::Event { number, dtc })
+/// The greatest number of a signal.
+const LAST_SIGNAL: u64 = 7;
+
+/// The greatest value of a signal.
+const SIGNAL_VALUE: u64 = 65_535;
+
+impl StepLine {
+    /// The step among so many events, or nothing where a number is out of its range.
+    pub(crate) fn step_among(self, events: usize) -> Option<Step>
+        requires { events ≤ 64 }
+        ensures { result ≡ step_of events self }
+    {
+        match self {
+            StepLine::Report { event, report } if event < events as u64 => Some(Step::Report {
+                event: event as u16,
+                report,
+            }),
+            StepLine::Show { event } if event < events as u64 => Some(Step::Show {
+                event: event as u16,
+            }),
+            StepLine::Cycle { cycle } if cycle <= 3 => Some(Step::Cycle { cycle: cycle as u8 }),
+            StepLine::Tick { ticks } if 1 <= ticks && ticks <= TICKS => Some(Step::Tick {
+                ticks: ticks as u16,
+            }),
+            StepLine::Signal { index, value } if index <= LAST_SIGNAL && value <= SIGNAL_VALUE => {
+                Some(Step::Signal {
+                    index: index as u8,
+                    value: value as u16,
+                })
+            }
+            _ => None,
         }
-        _ => None,
     }
 }
 
-#[tactic(auto, unfolding(crate::specs::Line::line_by))]
-fn line_by(keyword: Keyword, words: &[&[u8]]) -> Option<Line>
-    ensures { result ≡ line_by keyword (seen words.now) }
+/// The number that the one word spells.
+fn only_number(mut words: Words<'_>) -> Option<u64>
+    ensures { result ≡ only number words.entry }
 {
-    match keyword {
-        Keyword::Event => event_line(words),
-        Keyword::Cycle => Some(Line::Cycle {
-            cycle: only_number(words)?,
-        }),
-        Keyword::Pass => Some(Line::Report {
-            event: only_number(words)?,
-            report: Report::Passed,
-        }),
-        Keyword::Fail => Some(Line::Report {
-            event: only_number(words)?,
-            report: Report::Failed,
-        }),
-        Keyword::Show => Some(Line::Show {
-            event: only_number(words)?,
-        }),
+    let word = words.next()?;
+    if words.next().is_some() {
+        return None;
     }
+    read_number(word)
 }
 
-#[tactic(auto, unfolding(crate::specs::Line::by_words))]
-fn by_words(words: &[&[u8]]) -> Result<Line, LineCause>
-    ensures { result ≡ by_words (seen words.now) }
+/// A report on the event that the one word names.
+#[tactic(auto, unfolding(crate::specs::Line::report_with))]
+fn report_with(report: Report, words: Words<'_>) -> Option<Line>
+    ensures { result ≡ report_with report words.entry }
 {
-    let Some((first, others)) = words.split_first() else {
-        return Err(LineCause::Word);
-    };
-    let keyword = read_keyword(first).ok_or(LineCause::Word)?;
-    line_by(keyword, others).ok_or(LineCause::Form)
+    let event = only_number(words)?;
+    Some(Line::Step(StepLine::Report { event, report }))
+}
+
+/// The numbers that the two words spell.
+#[tactic(auto, unfolding(crate::specs::Line::two_numbers))]
+fn two_numbers(mut words: Words<'_>) -> Option<(u64, u64)>
+    ensures { result ≡ two_numbers words.entry }
+{
+    let first = words.next()?;
+    let second = words.next()?;
+    if words.next().is_some() {
+        return None;
+    }
+    Some((read_number(first)?, read_number(second)?))
+}
+
+/// The event that the first word names, and the data identifier that the second one spells.
+#[tactic(auto, unfolding(crate::specs::Line::did_with))]
+fn did_with(mut words: Words<'_>) -> Option<Line>
+    ensures { result ≡ did_with words.entry }
+{
+    let event = words.next()?;
+    let id = words.next()?;
+    if words.next().is_some() {
+        return None;
+    }
+    Some(Line::Did {
+        event: read_number(event)?,
+        id: read_hexadecimal(4, id)? as u16,
+    })
+}
+
+/// What the words behind the word event say.
+fn event_with(alloc: Global, words: Words<'_>) -> Result<Option<EventLine>, AllocError>
+    ensures { IfOk result (λ event. event ≡ event_of words.entry) }
+{
+    let words = words.collect::<Vec<&[u8]>>(alloc)?;
+    Ok(event_of(&words))
+}
+
+/// What the words behind a keyword say.
+#[tactic(auto, unfolding(crate::specs::Line::line_with))]
+fn line_with(alloc: Global, keyword: Keyword, words: Words<'_>) -> Result<Option<Line>, AllocError>
+    ensures { IfOk result (λ line. line ≡ line_with keyword words.entry) }
+{
+    Ok(match keyword {
+        Keyword::Pass => report_with(Report::Passed, words),
+        Keyword::Fail => report_with(Report::Failed, words),
+        Keyword::PrePass => report_with(Report::PrePassed, words),
+        Keyword::PreFail => report_with(Report::PreFailed, words),
+        Keyword::Show => only_number(words).map(|event| Line::Step(StepLine::Show { event })),
+        Keyword::Cycle => only_number(words).map(|cycle| Line::Step(StepLine::Cycle { cycle })),
+        Keyword::Tick => only_number(words).map(|ticks| Line::Step(StepLine::Tick { ticks })),
+        Keyword::Signal => two_numbers(words).map(|(index, value)| Line::Step(StepLine::Signal {
+            index,
+            value,
+        })),
+        Keyword::Event => event_with(alloc, words)?.map(Line::Event),
+        Keyword::Did => did_with(words),
+        Keyword::Config => only_number(words).map(Line::Config),
+        Keyword::Memory => only_number(words).map(Line::Memory),
+        Keyword::Blocks => only_number(words).map(Line::Blocks),
+        Keyword::Flash => two_numbers(words).map(|(sectors, pages)| Line::Flash { sectors, pages }),
+    })
+}
+
+fn is_comment(word: &[u8]) -> bool
+    ensures { result ≡ is_comment word.now }
+{
+    match word {
+        [b'#', ..] => true,
+        _ => false,
+    }
 }
 
 /// Reads a line by itself.
-#[tactic(auto, unfolding(crate::specs::Line::line_of))]
-pub(crate) fn read_line(alloc: Global, text: &[u8]) -> Result<Line, LineFault>
-    ensures { Gives (λ line. line) cause_of result (line_of text.now) }
+#[tactic(auto, unfolding(crate::specs::Line::line_of, crate::specs::Line::by_words))]
+pub(crate) fn read_line(alloc: Global, line: TextLine<'_>) -> Result<Line, LineFault>
+    ensures { Gives (λ line. line) cause_of result (line_of line.entry.text.now) }
 {
-    if LINE_LENGTH < text.len() {
+    if LINE_LENGTH < line.text.len() {
         return Err(LineFault::Cause(LineCause::Long));
     }
-    if !is_plain(text) {
+    if !line.is_plain {
         return Err(LineFault::Cause(LineCause::Byte));
     }
-    let words = words(alloc, text)?;
-    by_words(&words).map_err(LineFault::Cause)
+    let mut words = Words::new(line.text);
+    let Some(first) = words.next() else {
+        return Ok(Line::Skipped);
+    };
+    if is_comment(first) {
+        return Ok(Line::Skipped);
+    }
+    let keyword = read_keyword(first).ok_or(LineCause::Word)?;
+    let line = line_with(alloc, keyword, words)?.ok_or(LineCause::Form)?;
+    Ok(line)
 }

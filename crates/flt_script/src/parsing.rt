@@ -1,28 +1,30 @@
-ghost use Rattle.std.specs.Prelude.{◌≤◌, IsTrue, IfOk, OnOk, length, vec_len};
-ghost use Rattle.flt_script.specs.Step.{all_within};
+ghost use Rattle.std.specs.Prelude.{◌≤◌, IfOk, OnOk, length};
+ghost use Rattle.flt_did.specs.Serves.{Serves};
+ghost use Rattle.flt_did.specs.Table.{dids_of};
 ghost use Rattle.flt_script.specs.Gives.{Gives};
-ghost use Rattle.flt_script.specs.Script.{content, script_of, fault_of};
+ghost use Rattle.flt_script.specs.Script.{script_of, content, fault_of};
 
 use crate::draft::Draft;
 use crate::fault::{LineCause, ParseFault, ScriptFault};
 use crate::script::Script;
-use crate::text::lines;
+use crate::text::Lines;
+use flt_did::{DID_ROWS, DidTable};
 use std::alloc::Global;
 
 /// The most bytes of a script.
 const SCRIPT_LENGTH: usize = 1_048_576;
 
-/// Reads a script: at most 1,048,576 bytes of lines, each ended by a line feed, the last one with or without it.
+/// Reads a script of at most 1,048,576 bytes, in the language of `docs/SCRIPT.md`. Its events may use the data
+/// identifiers of the table, each with its width there.
 ///
-/// # Errors
-///
-/// `At` exactly where the bytes are no script, with the first faulty line and its cause. `Memory` where memory is wanting.
+/// An `At` tells the first faulty line and why it is refused; where no line is faulty, the first fault of the
+/// configuration that the lines write, at the line that wrote what is at fault. `Memory` says nothing of the bytes.
+/// After either nothing is kept of them. The bytes are not copied, and the time is linear in their number.
 #[tactic(auto, unfolding(crate::specs::Script::script_of))]
-pub fn parse(alloc: Global, bytes: &[u8]) -> Result<Script, ParseFault>
-    ensures exact { Gives content fault_of result (script_of bytes.now) }
+pub fn parse(alloc: Global, bytes: &[u8], dids: &DidTable<DID_ROWS>) -> Result<Script, ParseFault>
+    ensures exact { Gives content fault_of result (script_of (dids_of dids.now) bytes.now) }
     ensures short { OnOk result (length bytes.now ≤ 1048576) }
-    ensures few { IfOk result (λ script. vec_len script.dtcs ≤ 64) }
-    ensures within { IfOk result (λ script. IsTrue (all_within (vec_len script.dtcs) script.steps.items)) }
+    ensures served { IfOk result (λ script. Serves (dids_of dids.now) script.config.events.items) }
 {
     if SCRIPT_LENGTH < bytes.len() {
         return Err(ParseFault::At(ScriptFault {
@@ -30,14 +32,13 @@ pub fn parse(alloc: Global, bytes: &[u8]) -> Result<Script, ParseFault>
             cause: LineCause::Large,
         }));
     }
-    let lines = lines(alloc, bytes)?;
     let mut draft = Draft::new(alloc);
     let mut number = 0;
-    for text in &lines {
+    for line in Lines::new(bytes) {
         number += 1;
-        if let Err(fault) = draft.read(alloc, text) {
+        if let Err(fault) = draft.read(alloc, dids, number, line) {
             return Err(fault.at_line(number));
         }
     }
-    Ok(draft.finish())
+    draft.finish(alloc)
 }

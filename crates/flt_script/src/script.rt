@@ -1,10 +1,19 @@
-use crate::step::Step;
+ghost use Rattle.std.specs.Prelude.{◌≤◌, IsTrue, length, sum_by, vec_len};
+ghost use Rattle.std.specs.List.{list_all};
+ghost use Rattle.flt_script.specs.Step.{are_parts_among};
 
-/// What is configured, and the steps to make.
-#[derive(Debug, Drop)]
+use crate::step::Part;
+use flt_config::ValidConfig;
+
+/// What is configured, and what is done: a script that `parse` accepted.
+#[derive(Drop)]
 pub struct Script {
-    /// The DTC of each event in order of event number, 0x000001 to 0xFFFFFE, no two equal; at most 64.
-    pub dtcs: Vec<u32>,
-    /// The steps in their order, at most 65,536. Each names a configured event.
-    pub steps: Vec<Step>,
+    /// The configuration that the lines write, with the defaults for what they leave out.
+    pub config: ValidConfig,
+    /// The lives in their order, each as its parts in their order. There is exactly one.
+    pub lives: Vec<Vec<Part>>,
+    /// Each event is configured, each cycle is below 4, and each tick count is at least 1.
+    pub ghost in_range: { IsTrue (list_all (λ life. are_parts_among (length config.events.items) life.items) lives.items) },
+    /// There are at most 65,536 steps.
+    pub ghost few: { sum_by (λ life. vec_len life) lives.items ≤ 65536 },
 }

@@ -1,20 +1,32 @@
 use flt_model::Report;
 use std::fmt;
 
-/// One step of a script.
+/// A step of a script. It displays as its words, with single spaces and numbers without leading zeros, and is read
+/// again from that text as the same step.
 #[derive(Clone, Copy, Debug, PartialEq, Eq)]
 pub enum Step {
-    /// The monitor of event `event` (0 to 63, configured) reports a result: `pass E`, `fail E`.
+    /// `pass`, `fail`, `prepass` or `prefail`: a monitor's report on the event of this number.
     Report { event: u16, report: Report },
-    /// Operation cycle `cycle` (0 to 3) ends and begins anew: `cycle K`.
-    Cycle { cycle: u8 },
-    /// The status of event `event` (0 to 63, configured) is shown: `show E`.
+    /// `show`: what is known of the event of this number.
     Show { event: u16 },
+    /// `cycle`: the operation cycle of this number, 0 to 3, ends and starts again.
+    Cycle { cycle: u8 },
+    /// `tick`: so much time passes, 1 to 65535 ticks of 10 ms.
+    Tick { ticks: u16 },
+    /// `sig`: the signal of this number, 0 to 7, has this value, 0 to 65535, from now on.
+    Signal { index: u8, value: u16 },
+}
+
+/// A part of a life, which is carried out before the next one.
+#[derive(Clone, Copy, Debug, PartialEq, Eq)]
+pub enum Part {
+    /// A step by itself.
+    One(Step),
 }
 
 impl fmt::Display for Step {
     ghost use Rattle.std.specs.Prelude.{Some};
-    ghost use Rattle.flt_script.specs.Spelling.{step_text};
+    ghost use Rattle.flt_script.specs.Step.{step_text};
 
     ghost output = { λ step. Some (step_text step) };
 
@@ -28,8 +40,18 @@ impl fmt::Display for Step {
                 event,
                 report: Report::Failed,
             } => write!(f, "fail {event}"),
-            Step::Cycle { cycle } => write!(f, "cycle {cycle}"),
+            Step::Report {
+                event,
+                report: Report::PrePassed,
+            } => write!(f, "prepass {event}"),
+            Step::Report {
+                event,
+                report: Report::PreFailed,
+            } => write!(f, "prefail {event}"),
             Step::Show { event } => write!(f, "show {event}"),
+            Step::Cycle { cycle } => write!(f, "cycle {cycle}"),
+            Step::Tick { ticks } => write!(f, "tick {ticks}"),
+            Step::Signal { index, value } => write!(f, "sig {index} {value}"),
         }
     }
 }

@@ -1,0 +1,5 @@
+pub mod RangesLemmas
+pub mod DistinctLemmas
+pub mod InRange
+pub mod WithinRange
+pub mod CheckLaws

@@ -1,0 +1,5 @@
+pub mod Ranges
+pub mod Validity
+pub mod Check
+pub mod Durable
+pub mod Laws

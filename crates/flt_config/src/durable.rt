@@ -1,0 +1,133 @@
+//! The first durable state, and whether one fits a configuration.
+ghost use Rattle.std.specs.Prelude.{◌≡◌, ◌↔◌, ◌<◌, ◌≤◌, length, IsTrue, IfSome, All, AllPairs, position};
+ghost use Rattle.flt_config.specs.Durable.{initial_state, start_state, Fits, IsStateOf, IsEntryOf, IsOfOtherEvent, IsNoted, AreStatesOf, is_of_event};
+ghost use Rattle.flt_config.specs.Ranges.{frame_width};
+
+use crate::{DIDS, DidUse, EntryState, EventCfg, EventState, Persist, ValidConfig};
+use arrayvec::ArrayVec;
+
+/// The status of an event that was not tested since it was cleared.
+const NOT_TESTED: u8 = 0x50;
+
+/// The state of a controller that never saved one: each event as after a clear, no entry, no noted event.
+pub fn initial(config: &ValidConfig) -> Persist
+    ensures value { result ≡ initial_state config.now }
+    ensures fits { Fits config.now result }
+{
+    let mut events = ArrayVec::new();
+    let count = config.config().events.len();
+    for _made in 0..count {
+        events.push(EventState {
+            status: NOT_TESTED,
+            failed: 0,
+            clean: 0,
+            lit: false,
+        });
+    }
+    Persist {
+        events,
+        entries: ArrayVec::new(),
+        overflow: false,
+        first_failed: None,
+        first_confirmed: None,
+        recent_failed: None,
+        recent_confirmed: None,
+    }
+}
+
+fn is_state_of(event: &EventCfg, state: EventState) -> bool
+    ensures { IsTrue result ↔ IsStateOf event.now state }
+{
+    state.clean <= 510
+        && ((state.status & 0x80 != 0) == (state.lit && state.clean < event.heal as u16))
+        && (!state.lit || (state.status & 0x08 != 0 && event.indicator))
+}
+
+fn are_states_of(events: &[EventCfg], states: &[EventState]) -> bool
+    ensures { IsTrue result ↔ AreStatesOf events.now states.now }
+{
+    if events.len() != states.len() {
+        return false;
+    }
+    for (number, state) in states.iter().enumerate() {
+        if !is_state_of(&events[number], *state) {
+            return false;
+        }
+    }
+    true
+}
+
+fn frame_length(dids: &[DidUse]) -> usize
+    requires { length dids.now ≤ DIDS }
+    ensures { result ≡ frame_width dids.now }
+{
+    dids.iter().map(|did| did.width as usize).sum()
+}
+
+fn is_entry_of(events: &[EventCfg], entry: &EntryState) -> bool
+    ensures { IsTrue result ↔ IsEntryOf events.now entry.now }
+{
+    match events.get(entry.event as usize) {
+        None => false,
+        Some(event) => {
+            let width = frame_length(&event.dids);
+            1 <= entry.occurrence && entry.first.len() == width && entry.recent.len() == width
+        }
+    }
+}
+
+fn are_entries_of(events: &[EventCfg], entries: &[EntryState]) -> bool
+    ensures { IsTrue result ↔ All (IsEntryOf events.now) entries.now }
+{
+    for entry in entries {
+        if !is_entry_of(events, entry) {
+            return false;
+        }
+    }
+    true
+}
+
+fn have_distinct_events(entries: &[EntryState]) -> bool
+    ensures { IsTrue result ↔ AllPairs IsOfOtherEvent entries.now }
+{
+    for (place, entry) in entries.iter().enumerate() {
+        if let Some(_earlier) = place_of(&entries[..place], entry.event) {
+            return false;
+        }
+    }
+    true
+}
+
+/// The place of an event's entry among these, if there is one.
+pub fn place_of(entries: &[EntryState], event: u16) -> Option<usize>
+    ensures { result ≡ position (is_of_event event) entries.now }
+{
+    entries.iter().position(|entry| entry.event == event)
+}
+
+fn is_noted(events: &[EventCfg], note: Option<u16>) -> bool
+    ensures { IsTrue result ↔ IsNoted events.now note }
+{
+    match note {
+        None => true,
+        Some(event) => (event as usize) < events.len(),
+    }
+}
+
+/// Whether the state can be that of a controller of this configuration: one state for each event, whose
+/// indicator bit is set exactly while it is lit and not healed, and which is lit only with a confirmed
+/// event that has an indicator; at most `memory` entries of distinct events with frames of their widths;
+/// and noted events that are configured.
+pub fn fits(config: &ValidConfig, state: &Persist) -> bool
+    ensures { IsTrue result ↔ Fits config.now state.now }
+{
+    let config = config.config();
+    are_states_of(&config.events, &state.events)
+        && state.entries.len() <= config.memory as usize
+        && are_entries_of(&config.events, &state.entries)
+        && have_distinct_events(&state.entries)
+        && is_noted(&config.events, state.first_failed)
+        && is_noted(&config.events, state.first_confirmed)
+        && is_noted(&config.events, state.recent_failed)
+        && is_noted(&config.events, state.recent_confirmed)
+}

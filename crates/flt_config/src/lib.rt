@@ -1,0 +1,34 @@
+//! The configuration of a fault memory, and the durable state that it saves.
+//!
+//! Stands on `arrayvec` alone. The layers above take a `ValidConfig` from `check`, whose type keeps
+//! that every number is in its range, that DTCs are distinct, and that the records have room.
+//! Read `specs/Validity` first, then `specs/Check` (what is refused first) and `specs/Durable`.
+#![tactic(auto)]
+
+mod config;
+mod durable;
+pub mod laws;
+mod persist;
+mod ranges;
+mod setting;
+mod valid_config;
+
+pub use config::{CfgFault, Config, Debounce, DidUse, EventCfg, Field};
+pub use durable::{fits, initial, place_of};
+pub use persist::{EntryState, EventState, Frame, Persist};
+pub use valid_config::{ValidConfig, check, needed_pages};
+
+/// The most events of a configuration.
+pub const EVENTS: usize = 64;
+
+/// The most entries of the fault memory.
+pub const ENTRIES: usize = 16;
+
+/// The most data identifiers of one event.
+pub const DIDS: usize = 8;
+
+/// The most bytes of one frame.
+pub const FRAME: usize = 32;
+
+#[cfg(test)]
+mod tests;

@@ -1,0 +1,51 @@
+//! The state that outlives a power cut.
+use crate::{ENTRIES, EVENTS, FRAME};
+use arrayvec::ArrayVec;
+
+/// The bytes of an event's data identifiers at one moment, one value after another, each big-endian.
+pub type Frame = ArrayVec<u8, FRAME>;
+
+/// What is kept of one event.
+#[derive(Clone, Copy, PartialEq, Eq, Debug, Default)]
+pub struct EventState {
+    /// The status byte of the DTC (ISO 14229-1).
+    pub status: u8,
+    /// In how many cycles the event failed since the last clean one, at most 255.
+    pub failed: u8,
+    /// How many clean cycles have ended since the last failure, at most 510.
+    pub clean: u16,
+    /// Whether the event lights the warning indicator until it heals.
+    pub lit: bool,
+}
+
+/// One entry of the fault memory.
+#[derive(Clone, Drop, PartialEq, Eq, Debug, Default)]
+pub struct EntryState {
+    /// The number of its event.
+    pub event: u16,
+    /// How often the event occurred since the entry was added, 1 to 255.
+    pub occurrence: u8,
+    /// The frame of the first occurrence.
+    pub first: Frame,
+    /// The frame of the most recent occurrence.
+    pub recent: Frame,
+}
+
+/// The whole state that is saved.
+#[derive(Clone, Drop, PartialEq, Eq, Debug)]
+pub struct Persist {
+    /// One state for each event, by number.
+    pub events: ArrayVec<EventState, EVENTS>,
+    /// The entries, in the order in which they were added, each of another event.
+    pub entries: ArrayVec<EntryState, ENTRIES>,
+    /// Whether an event found the fault memory full since all was cleared.
+    pub overflow: bool,
+    /// The first event whose test failed.
+    pub first_failed: Option<u16>,
+    /// The first event that was confirmed.
+    pub first_confirmed: Option<u16>,
+    /// The most recent event whose test failed.
+    pub recent_failed: Option<u16>,
+    /// The most recent event that was confirmed.
+    pub recent_confirmed: Option<u16>,
+}

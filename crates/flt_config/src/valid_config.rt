@@ -1,0 +1,99 @@
+//! The configurations that are accepted.
+ghost use Rattle.std.specs.Prelude.{◌≡◌, ◌≤◌, length, position};
+ghost use Rattle.flt_config.specs.Validity.{IsValid, has_dtc};
+ghost use Rattle.flt_config.specs.Validity.{needed_pages as needed_pages_of};
+ghost use Rattle.flt_config.specs.Check.{check_of, distinct_result, room_result};
+
+use crate::ranges::check_all_ranges;
+use crate::{CfgFault, Config, EVENTS, EventCfg};
+use std::marker::Model;
+
+/// A configuration that `check` accepted: its numbers are in range, its DTCs are distinct, and its
+/// records have room. Contracts see it as the configuration itself.
+#[derive(Drop)]
+pub struct ValidConfig {
+    config: Config,
+}
+
+impl Model for ValidConfig {
+    ghost use Rattle.flt_config.specs.declared.config.Config.{Config as Settings};
+    ghost use Rattle.flt_config.specs.Validity.{IsValid};
+
+    ghost Value = { Settings };
+
+    ghost view = { λ v. v.config };
+
+    ghost invariant = { λ v. IsValid v.config };
+}
+
+impl ValidConfig {
+    /// The configuration.
+    pub fn config(&self) -> &Config
+        ensures value { result.now ≡ self.now }
+        ensures valid { IsValid self.now }
+    {
+        &self.config
+    }
+
+    /// Another configuration that equals this one.
+    pub fn twin(&self) -> ValidConfig
+        ensures { result ≡ self.now }
+    {
+        ValidConfig {
+            config: self.config.clone().unwrap(),
+        }
+    }
+}
+
+/// Accepts a configuration, or tells its first fault: first numbers out of range, in the order of
+/// `Field`, those of each event before those of the next; then two events of one DTC; then the room.
+#[tactic(auto, unfolding(crate::specs::Check::check_of))]
+pub fn check(config: Config) -> Result<ValidConfig, CfgFault>
+    ensures { result ≡ check_of config }
+{
+    check_all_ranges(&config)?;
+    check_distinct(&config.events)?;
+    check_room(&config)?;
+    Ok(ValidConfig { config })
+}
+
+fn check_distinct(events: &[EventCfg]) -> Result<(), CfgFault>
+    requires { length events.now ≤ EVENTS }
+    ensures { result ≡ distinct_result events.now }
+{
+    for (second, event) in events.iter().enumerate() {
+        if let Some(first) = first_with_dtc(&events[..second], event.dtc) {
+            return Err(CfgFault::DtcTwice {
+                first: first as u16,
+                second: second as u16,
+            });
+        }
+    }
+    Ok(())
+}
+
+fn first_with_dtc(events: &[EventCfg], dtc: u32) -> Option<usize>
+    ensures { result ≡ position (has_dtc dtc) events.now }
+{
+    events.iter().position(|event| event.dtc == dtc)
+}
+
+/// How many pages of 32 bytes the records of the configuration take in a sector: 22, 8 for each 16
+/// events or part of them, 10 for each entry and 3 for each application block.
+pub fn needed_pages(config: &Config) -> u32
+    ensures { result ≡ needed_pages_of config.now }
+{
+    let state_blocks = config.events.len().div_ceil(16) as u32;
+    22 + 8 * state_blocks + 10 * config.memory as u32 + 3 * config.blocks as u32
+}
+
+fn check_room(config: &Config) -> Result<(), CfgFault>
+    ensures { result ≡ room_result config.now }
+{
+    let needed = needed_pages(config);
+    let pages = config.pages as u32;
+    if pages < needed {
+        return Err(CfgFault::NoRoom { needed, pages });
+    }
+    Ok(())
+}

@@ -1,0 +1,77 @@
+//! Debouncing of one event's reports, by a counter or by time (AUTOSAR Dem in outline). Stands on the
+//! definitions of `flt_model`. The layer above uses `report` and `tick`: where a state is what happened
+//! to its event makes of it, it is so with one happening more, and the answer is what that qualifies.
+//! Read `specs/Debounce` of `flt_model` first, and `specs/Step` for one step of a timer.
+#![tactic(auto)]
+
+mod counter;
+mod detection;
+mod time;
+
+ghost use Rattle.std.specs.Prelude.{◌≡◌, ◌∷◌, []};
+ghost use Rattle.flt_config.specs.Validity.{IsDebounceInRange};
+ghost use Rattle.flt_model.specs.Debounce.{Happenings, Reported, Ticked, Ended, Cleared, debounced, qualified, IsStateOf};
+
+pub use detection::fdc;
+pub use flt_config::Debounce;
+pub use flt_model::{DebState, Qualified, Report};
+
+/// The state at rest: as at power-up, at the end of the event's cycle and after a clear.
+pub fn rest(rules: &Debounce) -> DebState
+    requires { IsDebounceInRange rules.now }
+    ensures kind { IsStateOf rules.now result }
+    ensures started { result ≡ debounced rules.now [] }
+    ensures ended { (past : Happenings) → result ≡ debounced rules.now (Ended ∷ past) }
+    ensures cleared { (past : Happenings) → result ≡ debounced rules.now (Cleared ∷ past) }
+{
+    match rules {
+        Debounce::Counter { .. } => DebState::Count(0),
+        Debounce::Time { .. } => DebState::Idle,
+    }
+}
+
+/// Takes a monitor's report that is not ignored. The answer is the result that it qualifies, and none
+/// where it qualifies nothing.
+pub fn report(rules: &Debounce, state: &mut DebState, report: Report) -> Option<Qualified>
+    requires { IsDebounceInRange rules.now }
+    ensures kind { IsStateOf rules.now state.old → IsStateOf rules.now state.new }
+    ensures debounced { (past : Happenings) → state.old ≡ debounced rules.now past → state.new ≡ debounced rules.now (Reported report ∷ past) }
+    ensures qualified { (past : Happenings) → state.old ≡ debounced rules.now past → result ≡ qualified rules.now past (Reported report) }
+{
+    match *rules {
+        Debounce::Counter {
+            fail_at,
+            pass_at,
+            ..
+        } => {
+            let value = counter::after(rules, counter::value(*state), report);
+            *state = DebState::Count(value);
+            counter::qualified(fail_at, pass_at, value)
+        }
+        Debounce::Time { .. } => {
+            *state = time::after(*state, report);
+            time::definite(report)
+        }
+    }
+}
+
+/// Lets some ticks of 10 ms go by, with the setting on. The answer is the result that they qualify: a
+/// timer qualifies once, at the tick that brings it to its threshold, and a counter never.
+pub fn tick(rules: &Debounce, state: &mut DebState, ticks: u16) -> Option<Qualified>
+    requires { IsDebounceInRange rules.now }
+    ensures kind { IsStateOf rules.now state.old → IsStateOf rules.now state.new }
+    ensures debounced { (past : Happenings) → state.old ≡ debounced rules.now past → state.new ≡ debounced rules.now (Ticked ticks ∷ past) }
+    ensures qualified { (past : Happenings) → state.old ≡ debounced rules.now past → result ≡ qualified rules.now past (Ticked ticks) }
+{
+    match *rules {
+        Debounce::Counter { .. } => None,
+        Debounce::Time { fail, pass } => {
+            let before = *state;
+            *state = time::later(fail, pass, before, ticks);
+            time::reached(fail, pass, before, ticks)
+        }
+    }
+}
+
+#[cfg(test)]
+mod tests;

@@ -1,0 +1,124 @@
+-- How the parts of the events make a call.
+use Rattle.std.proofs.Common.{◌≡◌, ◌∙◌, ◌≢◌, ℕ, suc, ◌+◌, ◌<◌, nat_lt, nat_eq, Bool, true, false, cond, List, ◌∷◌, Option, Some, None, arith, refl, sym, ap, subst, eq-eqb, ⊎_elim, add-one}
+use Rattle.std.proofs.lemmas.Bool.{cases_eq, cases_lt, ne_eqb, lt-ltb, le-ltb}
+use Rattle.flt_model.specs.Life.{Life, History, count, event_of}
+use Rattle.flt_model.specs.Mark.{Trace, AllCleared}
+use Rattle.flt_model.specs.Debounce.{Happening, Happenings, debounced}
+use Rattle.flt_model.specs.Happening.{happening_of, happenings, with_happening, cleared_dtc, all_dtcs}
+use Rattle.flt_model.specs.Trace.{trace, event_part, in_order, with_marks, with_clear}
+use Rattle.flt_model.specs.declared.call.DebState.{DebState}
+use Rattle.flt_model.specs.declared.call.Op.{Op}
+use Rattle.flt_dem.specs.Faults.{FaultsView}
+use Rattle.flt_dem.specs.Standing.{FaultsStand}
+use Rattle.flt_dem.specs.Debounces.{DebouncesStand, and_then}
+use Rattle.flt_dem.specs.Calls.{StandsWith, StandsAfter, StandsPartly, TakesPart, items_partly, marks_partly}
+use Rattle.flt_dem.proofs.OrderLemmas.{in_order-none, in_order-one}
+
+-- the same happenings, said in another way
+pub debounces_same : (life : Life) (items others : ℕ → Happenings) (debounces : List DebState) → ((event : ℕ) → event < count life → items event ≡ others event) →
+    DebouncesStand life items debounces → DebouncesStand life others debounces
+debounces_same life items others debounces same s = record {
+  one_each = s.one_each;
+  each = λ event h. s.each event h ∙ ap (λ own. Some (debounced (event_of life event).debounce own)) (same event h);
+}
+
+-- what an event is after one more happening of an event
+pub and_then-own : (event : ℕ) (happening : Option Happening) (items : ℕ → Happenings) → and_then event happening items event ≡ with_happening happening (items event)
+and_then-own event happening items = ap (λ b. cond b (with_happening happening (items event)) (items event)) (eq-eqb event event refl)
+
+pub and_then-other : (event other : ℕ) (happening : Option Happening) (items : ℕ → Happenings) → event ≢ other → and_then event happening items other ≡ items other
+and_then-other event other happening items ne = ap (λ b. cond b (with_happening happening (items other)) (items other)) (ne_eqb event other ne)
+
+below_other : (event done : ℕ) → event ≢ done → nat_lt event (suc done) ≡ nat_lt event done
+below_other event done ne =
+    ⊎_elim
+    (λ h. lt-ltb event (suc done) (omega arith) ∙ sym (lt-ltb event done h))
+    (λ h. le-ltb event (suc done) (omega arith) ∙ sym (le-ltb event done h))
+    (cases_lt event done)
+
+module _ (life : Life) (past : History) (op : Op) where
+  own_items : (done : ℕ) → items_partly life past op done done ≡ happenings life done past
+  own_items done = ap (λ b. cond b (happenings life done (op ∷ past)) (happenings life done past)) (le-ltb done done (omega arith))
+
+  next_items : (done event : ℕ) → and_then done (happening_of life done past op) (items_partly life past op done) event ≡ items_partly life past op (suc done) event
+  next_items done event =
+      ⊎_elim
+      (λ same. subst (λ x. and_then done (happening_of life done past op) (items_partly life past op done) x ≡ items_partly life past op (suc done) x) same
+      (and_then-own done (happening_of life done past op) (items_partly life past op done)
+      ∙ ap (λ items. with_happening (happening_of life done past op) items) (own_items done)
+      ∙ ap (λ b. cond b (happenings life done (op ∷ past)) (happenings life done past)) (sym (lt-ltb done (suc done) (omega arith)))))
+      (λ ne. and_then-other done event (happening_of life done past op) (items_partly life past op done) ne
+      ∙ ap (λ b. cond b (happenings life event (op ∷ past)) (happenings life event past)) (sym (below_other event done (λ d. ne (sym d)))))
+      (cases_eq done event)
+
+  -- before the first event
+  pub partly_first : (debounces : List DebState) (faults : FaultsView) → StandsAfter life past debounces faults → StandsPartly life past op 0 debounces faults
+  partly_first debounces faults s = record {
+    debounces_stand = debounces_same life (λ event. happenings life event past) (items_partly life past op 0) debounces
+        (λ event h. ap (λ b. cond b (happenings life event (op ∷ past)) (happenings life event past)) (sym (le-ltb event 0 (omega arith)))) s.debounces_stand;
+    faults_stand = s.faults_stand;
+  }
+
+  -- one more event takes its part
+  pub partly_next : (done : ℕ) (debounces new_debounces : List DebState) (faults new_faults : FaultsView) → TakesPart life past op done debounces faults new_debounces new_faults →
+      StandsPartly life past op done debounces faults → StandsPartly life past op (done + 1) new_debounces new_faults
+  partly_next done debounces new_debounces faults new_faults takes s =
+      let taken = takes (items_partly life past op done) (marks_partly life past op done) (own_items done) s in
+      rw add-one (record {
+        debounces_stand = debounces_same life (and_then done (happening_of life done past op) (items_partly life past op done)) (items_partly life past op (suc done)) new_debounces
+            (λ event h. next_items done event) taken.debounces_stand;
+        faults_stand = taken.faults_stand;
+      })
+
+  -- once each has, the call is taken
+  pub partly_last : (debounces : List DebState) (faults : FaultsView) → ((marks : Trace) → with_clear (cleared_dtc op) marks ≡ marks) → StandsPartly life past op (count life) debounces faults → StandsAfter life (op ∷ past) debounces faults
+  partly_last debounces faults clears s = record {
+    debounces_stand = debounces_same life (items_partly life past op (count life)) (λ event. happenings life event (op ∷ past)) debounces
+        (λ event h. ap (λ b. cond b (happenings life event (op ∷ past)) (happenings life event past)) (lt-ltb event (count life) h)) s.debounces_stand;
+    faults_stand = subst (λ m. FaultsStand life m faults) (sym (clears (marks_partly life past op (count life)))) s.faults_stand;
+  }
+
+  no_part : (event : ℕ) (marks : Trace) → happening_of life event past op ≡ None → event_part life past op event marks ≡ marks
+  no_part event marks none = ap (λ h. with_marks life event past h marks) none
+
+  -- a call that reaches one event is its part
+  pub stands_one : (event : ℕ) (debounces new_debounces : List DebState) (faults new_faults : FaultsView) → event < count life → ((marks : Trace) → with_clear (cleared_dtc op) marks ≡ marks) →
+      ((other : ℕ) → other ≢ event → happening_of life other past op ≡ None) → TakesPart life past op event debounces faults new_debounces new_faults →
+      StandsAfter life past debounces faults → StandsAfter life (op ∷ past) new_debounces new_faults
+  stands_one event debounces new_debounces faults new_faults within clears others takes s =
+      let taken = takes (λ e. happenings life e past) (trace life past) refl s in
+      let whole : in_order (event_part life past op) (count life) (trace life past) ≡ event_part life past op event (trace life past) =
+      in_order-one (event_part life past op) event (count life) (trace life past) within (λ other marks ne. no_part other marks (others other ne)) in
+      record {
+        debounces_stand = debounces_same life (and_then event (happening_of life event past op) (λ e. happenings life e past)) (λ e. happenings life e (op ∷ past)) new_debounces
+            (λ other h. ⊎_elim
+            (λ same. subst (λ x. and_then event (happening_of life event past op) (λ e. happenings life e past) x ≡ happenings life x (op ∷ past)) same
+            (and_then-own event (happening_of life event past op) (λ e. happenings life e past)))
+            (λ ne. and_then-other event other (happening_of life event past op) (λ e. happenings life e past) ne
+            ∙ ap (λ happening. with_happening happening (happenings life other past)) (sym (others other (λ d. ne (sym d)))))
+            (cases_eq event other))
+            taken.debounces_stand;
+        faults_stand = subst (λ m. FaultsStand life m new_faults) (sym (clears (in_order (event_part life past op) (count life) (trace life past)) ∙ whole)) taken.faults_stand;
+      }
+
+  -- a call that reaches no event leaves them
+  pub stands_none : (debounces : List DebState) (faults : FaultsView) → ((marks : Trace) → with_clear (cleared_dtc op) marks ≡ marks) →
+      ((event : ℕ) → event < count life → happening_of life event past op ≡ None) →
+      StandsAfter life past debounces faults → StandsAfter life (op ∷ past) debounces faults
+  stands_none debounces faults clears none s =
+      let whole : in_order (event_part life past op) (count life) (trace life past) ≡ trace life past =
+      in_order-none (event_part life past op) (count life) (trace life past) (λ event marks h. no_part event marks (none event h)) in
+      record {
+        debounces_stand = debounces_same life (λ e. happenings life e past) (λ e. happenings life e (op ∷ past)) debounces
+            (λ event h. ap (λ happening. with_happening happening (happenings life event past)) (sym (none event h))) s.debounces_stand;
+        faults_stand = subst (λ m. FaultsStand life m faults) (sym (clears (in_order (event_part life past op) (count life) (trace life past)) ∙ whole)) s.faults_stand;
+      }
+
+  -- once each event is cleared, all are
+  pub partly_cleared : (debounces : List DebState) (faults last : FaultsView) → cleared_dtc op ≡ Some all_dtcs → StandsPartly life past op (count life) debounces faults →
+      FaultsStand life (AllCleared ∷ marks_partly life past op (count life)) last → StandsAfter life (op ∷ past) debounces last
+  partly_cleared debounces faults last clears s stands = record {
+    debounces_stand = debounces_same life (items_partly life past op (count life)) (λ event. happenings life event (op ∷ past)) debounces
+        (λ event h. ap (λ b. cond b (happenings life event (op ∷ past)) (happenings life event past)) (lt-ltb event (count life) h)) s.debounces_stand;
+    faults_stand = subst (λ d. FaultsStand life (with_clear d (marks_partly life past op (count life))) last) (sym clears) stands;
+  }

@@ -1,0 +1,52 @@
+-- What one more happening does to the debouncing of the events.
+use Rattle.std.proofs.Common.{◌≡◌, ◌∙◌, ◌≢◌, ℕ, ◌<◌, cond, List, ◌∷◌, length, get_or, pos, Some, arith, refl, sym, ap, subst, eq-eqb, ⊎_elim}
+use Rattle.std.proofs.Math.ListN.{length-set}
+use Rattle.std.proofs.lemmas.Bool.{cases_eq, ne_eqb}
+use Rattle.std.proofs.lemmas.Option.{get_or_from_slice_get}
+use Rattle.std.specs.Prelude.{slice_get, slice_set}
+use Rattle.flt_config.specs.declared.config.EventCfg.{EventCfg}
+use Rattle.flt_model.specs.Life.{Life, count, event_of}
+use Rattle.flt_model.specs.Debounce.{Happening, Happenings, IsStateOf, debounced}
+use Rattle.flt_model.specs.declared.call.DebState.{DebState}
+use Rattle.flt_model.specs.declared.call.DebState.TheVariants.{Count}
+use Rattle.flt_dem.specs.Debounces.{DebouncesStand, AreOfKind, and_then}
+use Rattle.flt_model.proofs.Common.{slice_get-set_same, slice_get-set_other}
+
+-- what a callee is lent where a slice of debounce states is indexed
+abbrev pub blank : DebState
+blank = Count (pos 0)
+
+-- the debouncing of an event is read
+pub read_debounce : (life : Life) (items : ℕ → Happenings) (event : ℕ) (debounces : List DebState) → event < count life → DebouncesStand life items debounces →
+    get_or debounces event blank ≡ debounced (event_of life event).debounce (items event)
+read_debounce life items event debounces within s =
+    get_or_from_slice_get debounces event (debounced (event_of life event).debounce (items event)) blank (s.each event within)
+
+-- one more happening of one event
+pub debounced_more : (life : Life) (event : ℕ) (happening : Happening) (items : ℕ → Happenings) (debounces : List DebState) (new : DebState) → event < count life →
+    new ≡ debounced (event_of life event).debounce (happening ∷ items event) → DebouncesStand life items debounces →
+    DebouncesStand life (and_then event (Some happening) items) (slice_set debounces event new)
+debounced_more life event happening items debounces new within is s = record {
+  one_each = length-set debounces event new ∙ s.one_each;
+  each = λ other h. ⊎_elim
+      (λ same. subst (λ x. slice_get (slice_set debounces event new) x ≡ Some (debounced (event_of life x).debounce (and_then event (Some happening) items x))) same
+      (slice_get-set_same debounces event new (omega (arith, s.one_each)) ∙ ap Some is
+      ∙ ap (λ b. Some (debounced (event_of life event).debounce (cond b (happening ∷ items event) (items event)))) (sym (eq-eqb event event refl))))
+      (λ ne. slice_get-set_other debounces event other new ne ∙ s.each other h
+      ∙ ap (λ b. Some (debounced (event_of life other).debounce (cond b (happening ∷ items other) (items other)))) (sym (ne_eqb event other ne)))
+      (cases_eq event other);
+}
+
+-- a state of the event's kind in place of its own
+pub kind_kept : (events : List EventCfg) (debounces : List DebState) (event : ℕ) (rules : EventCfg) (new : DebState) → event < length debounces →
+    slice_get events event ≡ Some rules → IsStateOf rules.debounce new → AreOfKind events debounces → AreOfKind events (slice_set debounces event new)
+kind_kept events debounces event rules new within is kind kinds other other_rules state found at =
+    ⊎_elim
+    (λ same.
+    let here : slice_get events event ≡ Some other_rules = ap (λ x. slice_get events x) same ∙ found in
+    let which : rules ≡ other_rules = cc (is, here) in
+    let there : slice_get (slice_set debounces event new) event ≡ Some state = ap (λ x. slice_get (slice_set debounces event new) x) same ∙ at in
+    let now : new ≡ state = cc (slice_get-set_same debounces event new within, there) in
+    subst (λ r. IsStateOf r.debounce state) which (subst (λ x. IsStateOf rules.debounce x) now kind))
+    (λ ne. kinds other other_rules state found (sym (slice_get-set_other debounces event other new ne) ∙ at))
+    (cases_eq event other)

@@ -1,0 +1,16 @@
+pub mod StateLemmas
+pub mod DebounceLemmas
+pub mod RankLemmas
+pub mod StoreLemmas
+pub mod KeptLemmas
+pub mod FailureLemmas
+pub mod NoteLemmas
+pub mod EndLemmas
+pub mod OrderLemmas
+pub mod CallLemmas
+pub mod PartLemmas
+pub mod BaseLemmas
+pub mod SavedLemmas
+pub mod ManagerLemmas
+pub mod ClearLemmas
+pub mod IdleLemmas

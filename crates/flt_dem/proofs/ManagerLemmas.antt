@@ -1,0 +1,156 @@
+-- What a call does to the started cycles, to the signals and to events at rest.
+use Rattle.std.proofs.Common.{◌≡◌, ◌∙◌, ◌≢◌, ℕ, zero, suc, ◌<◌, nat_eq, Bool, true, false, not, ◌&&◌, ◌||◌, cond, List, [], ◌∷◌, map, length, get_or, Option, Some, None, unwrap_or, arith, refl, sym, ap, subst, eq-eqb, ⊎_elim}
+use Rattle.std.proofs.lemmas.Bool.{cases_eq, ne_eqb}
+use Rattle.std.proofs.lemmas.List.{length-map, get_or_default}
+use Rattle.std.proofs.lemmas.Option.{get_or_from_slice_get, slice_get_read, slice_get-get_or, slice_get-map, slice_get_within, unwrap_or-slice_get}
+use Rattle.std.specs.List.{All}
+use Rattle.std.specs.Prelude.{slice_get, slice_set, option_map}
+use Rattle.flt_config.specs.declared.config.Config.{Config}
+use Rattle.flt_config.specs.declared.config.EventCfg.{EventCfg}
+use Rattle.flt_config.specs.Validity.{IsValid, IsDebounceInRange}
+use Rattle.flt_model.specs.Life.{Life, History, count, event_of, no_event}
+use Rattle.flt_model.specs.Debounce.{Happenings, IsStateOf, debounced}
+use Rattle.flt_model.specs.Happening.{is_started, signals, counts_report}
+use Rattle.flt_model.specs.Session.{is_setting_off}
+use Rattle.flt_model.specs.Answer.{answer, answer_report}
+use Rattle.flt_model.specs.declared.call.Cause.{Cause}
+use Rattle.flt_model.specs.declared.call.DebState.{DebState}
+use Rattle.flt_model.specs.declared.call.Op.TheVariants as ops
+use Rattle.flt_model.specs.declared.call.Report.{Report}
+use Rattle.flt_model.proofs.Common.{slice_get-set_same, slice_get-set_other}
+use Rattle.flt_model.proofs.RangeLaws.{debouncing_stays_in_range}
+use Rattle.flt_dem.specs.Debounces.{DebouncesStand, AreOfKind}
+use Rattle.flt_dem.specs.Manager.{Manager, IsOfConfig, StandsFor, is_cycle_started, cause_of, reply_of}
+use Rattle.flt_dem.proofs.CallLemmas.{stands_none}
+use Rattle.flt_dem.proofs.PartLemmas.{ignored_report}
+
+-- ---- started cycles
+
+pub started_more : (started : List Bool) (past : History) (cycle other : ℕ) → cycle < length started → slice_get started other ≡ Some (is_started other past) →
+    slice_get (slice_set started cycle true) other ≡ Some (is_started other (ops.Cycle cycle ∷ past))
+started_more started past cycle other h e =
+    ⊎_elim
+    (λ same. subst (λ x. slice_get (slice_set started cycle true) x ≡ Some (is_started x (ops.Cycle cycle ∷ past))) same
+    (slice_get-set_same started cycle true h
+    ∙ ap (λ b. Some (unwrap_or (cond b (Some true) None) (is_started cycle past))) (sym (eq-eqb cycle cycle refl))))
+    (λ ne. slice_get-set_other started cycle other true ne ∙ e
+    ∙ ap (λ b. Some (unwrap_or (cond b (Some true) None) (is_started other past))) (sym (ne_eqb cycle other ne)))
+    (cases_eq cycle other)
+
+-- ---- signals
+
+pub set_signals : (index value : ℕ) (past : History) → index < 8 → slice_set (signals past) index value ≡ signals (ops.Signal index value ∷ past)
+set_signals zero value past h = refl
+set_signals (suc zero) value past h = refl
+set_signals (suc (suc zero)) value past h = refl
+set_signals (suc (suc (suc zero))) value past h = refl
+set_signals (suc (suc (suc (suc zero)))) value past h = refl
+set_signals (suc (suc (suc (suc (suc zero))))) value past h = refl
+set_signals (suc (suc (suc (suc (suc (suc zero)))))) value past h = refl
+set_signals (suc (suc (suc (suc (suc (suc (suc zero))))))) value past h = refl
+set_signals (suc (suc (suc (suc (suc (suc (suc (suc index)))))))) value past h = absurd (omega arith)
+
+-- ---- at rest
+
+-- the debouncing of each event, at rest
+abbrev pub rest_states : Config → List DebState
+rest_states config = map (λ event. debounced event.debounce []) config.events.items
+
+pub rest_stands : (life : Life) (debounces : List DebState) → debounces ≡ rest_states life.config → DebouncesStand life (λ event. []) debounces
+rest_stands life debounces is =
+    let events = life.config.events.items in
+    let at_rest = λ (event : EventCfg). debounced event.debounce [] in
+    record {
+      one_each = ap length is ∙ length-map events at_rest;
+      each = λ event within.
+          ap (λ xs. slice_get xs event) is ∙ slice_get-map at_rest events event
+          ∙ ap (λ e. option_map at_rest e) (slice_get-get_or events event no_event within)
+          ∙ ap (λ e. Some (at_rest e)) (sym (unwrap_or-slice_get events event no_event));
+    }
+
+rest_kinds : (config : Config) (debounces : List DebState) → IsValid config → debounces ≡ rest_states config → AreOfKind config.events.items debounces
+rest_kinds config debounces valid is event rules state found at =
+    let events = config.events.items in
+    let at_rest = λ (event : EventCfg). debounced event.debounce [] in
+    let read : Some (at_rest rules) ≡ Some state =
+    sym (ap (λ e. option_map at_rest e) found) ∙ sym (slice_get-map at_rest events event) ∙ ap (λ xs. slice_get xs event) (sym is) ∙ at in
+    let here : at_rest rules ≡ state = cc in
+    let within = slice_get_within events event rules found in
+    let in_range = subst (λ (e : EventCfg). IsDebounceInRange e.debounce) (get_or_from_slice_get events event rules no_event found) ((valid.events event no_event within).debounce) in
+    subst (λ s. IsStateOf rules.debounce s) here (debouncing_stays_in_range rules.debounce [] in_range)
+
+pub rest_of_config : (config : Config) (debounces : List DebState) → IsValid config → debounces ≡ rest_states config → IsOfConfig config debounces
+rest_of_config config debounces valid is = record {
+  one_each = ap length is ∙ length-map config.events.items (λ (event : EventCfg). debounced event.debounce []);
+  kinds = rest_kinds config debounces valid is;
+}
+
+pub none_started : (cycle : ℕ) → cycle < 4 → slice_get (false ∷ false ∷ false ∷ false ∷ []) cycle ≡ Some (is_started cycle [])
+none_started zero h = refl
+none_started (suc zero) h = refl
+none_started (suc (suc zero)) h = refl
+none_started (suc (suc (suc zero))) h = refl
+none_started (suc (suc (suc (suc cycle)))) h = absurd (omega arith)
+
+-- ---- the setting
+
+pub off_where : (off : Bool) → not off ≡ false → off ≡ true
+off_where true e = refl
+off_where false e = absurd (cc)
+
+-- ---- a report
+
+-- the cycle of an event is one of the four
+pub cycle_below : (config : Config) (event : ℕ) → IsValid config → event < length config.events.items → (unwrap_or (slice_get config.events.items event) no_event).cycle < 4
+cycle_below config event valid within =
+    let below = (valid.events event no_event within).cycle in
+    rw (unwrap_or-slice_get config.events.items event no_event) (omega (arith, below))
+
+-- whether the cycle of an event was started is read where the event's cycle stands
+pub cycle_read : (manager : Manager) (event : ℕ) (rules : EventCfg) (d : Bool) → event < length manager.faults.config.events.items →
+    rules ≡ get_or manager.faults.config.events.items event rules → rules.cycle < length manager.started →
+    is_cycle_started manager event ≡ get_or manager.started rules.cycle d
+cycle_read manager event rules d within is below =
+    let events = manager.faults.config.events.items in
+    let found = slice_get_read events (length events) event rules refl within is in
+    ap (λ e. unwrap_or (slice_get manager.started (unwrap_or e no_event).cycle) false) found
+    ∙ unwrap_or-slice_get manager.started rules.cycle false
+    ∙ get_or_default manager.started rules.cycle false d below
+
+-- and is what the calls so far say
+pub cycle_stands : (life : Life) (past : History) (manager : Manager) (event : ℕ) → IsValid manager.faults.config → event < length manager.faults.config.events.items →
+    StandsFor life past manager → is_cycle_started manager event ≡ is_started (event_of life event).cycle past
+cycle_stands life past manager event valid within s =
+    let cycle = (unwrap_or (slice_get manager.faults.config.events.items event) no_event).cycle in
+    ap (λ o. unwrap_or o false) (s.started cycle (cycle_below manager.faults.config event valid within))
+    ∙ ap (λ k. is_started (unwrap_or (slice_get k.events.items event) no_event).cycle past) (sym s.events.faults_stand.config)
+
+cause_answers : (off started : Bool) → reply_of (cause_of (not off) started) ≡ answer_report off started
+cause_answers true started = refl
+cause_answers false true = refl
+cause_answers false false = refl
+
+-- why a report is ignored decides what is answered
+pub cause_is_answer : (life : Life) (past : History) (manager : Manager) (event : ℕ) (report : Report) (setting : Bool) (cause : Option Cause) →
+    IsValid manager.faults.config → event < length manager.faults.config.events.items → setting ≡ not (is_setting_off past) → StandsFor life past manager →
+    cause ≡ cause_of setting (is_cycle_started manager event) → reply_of cause ≡ answer life past (ops.Report event report)
+cause_is_answer life past manager event report setting cause valid within setting_is s is =
+    ap (λ c. reply_of c) is
+    ∙ ap (λ b. reply_of (cause_of b (is_cycle_started manager event))) setting_is
+    ∙ ap (λ b. reply_of (cause_of (not (is_setting_off past)) b)) (cycle_stands life past manager event valid within s)
+    ∙ cause_answers (is_setting_off past) (is_started (event_of life event).cycle past)
+
+-- a report counts where neither the setting nor its cycle is in the way
+pub counts_where : (life : Life) (past : History) (event : ℕ) (on started : Bool) → on ≡ not (is_setting_off past) → started ≡ is_started (event_of life event).cycle past →
+    counts_report life event past ≡ (on && started)
+counts_where life past event on started on_is started_is =
+    sym (ap (λ b. b && started) on_is ∙ ap (λ b. not (is_setting_off past) && b) started_is)
+
+-- a report that does not count changes nothing
+pub stands_ignored : (life : Life) (past : History) (manager : Manager) (event : ℕ) (report : Report) → counts_report life event past ≡ false →
+    StandsFor life past manager → StandsFor life (ops.Report event report ∷ past) manager
+stands_ignored life past manager event report ignored s = record {
+  events = stands_none life past (ops.Report event report) manager.debounces manager.faults (λ marks. refl) (λ other within. ignored_report life past event other report ignored) s.events;
+  started = s.started;
+  signals = s.signals;
+}

@@ -1,0 +1,20 @@
+use Rattle.std.proofs.Common.{◌∙◌, sym, subst}
+use Rattle.flt_model.specs.declared.call.Op.TheVariants as ops
+use Rattle.flt_dem.specs.Debounces.{AreOfKind}
+use Rattle.flt_dem.specs.Manager.{IsOfOtherCycle}
+use Rattle.flt_dem.proofs.CallLemmas.{partly_next}
+use Rattle.flt_dem.proofs.parts.end_cycle.Goals as goal
+
+pub loop-event-preserved : goal.loop-event-preserved
+loop-event-preserved c =
+    let inv = c.loop-event.invariant in
+    record {
+      config = c.end_cycle_one.ensures.config ∙ inv.config;
+      kinds = λ kinds. subst (λ k. AreOfKind k.events.items c.end_cycle_one.new.debounces) inv.config
+          (c.end_cycle_one.ensures.kinds (subst (λ k. AreOfKind k.events.items c.loop-event.debounces) (sym inv.config) (inv.kinds kinds)));
+      stands = λ life past s.
+          partly_next life past (ops.Cycle c.args.cycle) c.loop-event.event c.loop-event.debounces c.end_cycle_one.new.debounces c.loop-event.faults c.end_cycle_one.new.faults
+          (c.end_cycle_one.ensures.part life past) (inv.stands life past s);
+      others = λ event apart. c.end_cycle_one.ensures.others event (subst (λ k. IsOfOtherCycle k c.args.cycle event) (sym inv.config) apart) ∙ inv.others event apart;
+      states = λ event apart. c.end_cycle_one.ensures.states event (subst (λ k. IsOfOtherCycle k c.args.cycle event) (sym inv.config) apart) ∙ inv.states event apart;
+    }

@@ -1,0 +1,10 @@
+use Rattle.std.proofs.Common.{◌∙◌}
+use Rattle.flt_model.specs.Trace.{trace}
+use Rattle.flt_dem.proofs.SavedLemmas.{entry_found}
+use Rattle.flt_dem.proofs.state.DemState.entry.Goals as goal
+
+pub returns-clause-stands : goal.returns-clause-stands
+returns-clause-stands c = λ life past s.
+    let inside = rw (← c.self.view_is) at s in
+    c.entry.ensures
+    ∙ entry_found life (trace life past) c.args.event c.self.inside.faults.memory.entries inside.events.faults_stand.memory_stands.entries

@@ -1,0 +1,38 @@
+use Rattle.std.proofs.Common.{rules, ◌≡◌, ◌<◌, ◌∙◌, Some, length, sym, ap, arith}
+use Rattle.std.proofs.lemmas.Int.{to_z-of_z}
+use Rattle.std.specs.Int.{w8}
+use mir.Val.{SFits}
+use Rattle.flt_model.specs.Life.{count}
+use Rattle.flt_model.specs.Debounce.{Happenings}
+use Rattle.flt_model.specs.Durable.{state_at}
+use Rattle.flt_model.specs.Happening.{happenings}
+use Rattle.flt_model.specs.Trace.{trace}
+use Rattle.flt_model.specs.declared.call.Op.TheVariants as ops
+use Rattle.flt_model.specs.declared.call.Reply.TheVariants as replies
+use Rattle.flt_dem.proofs.IdleLemmas.{stands_idle}
+use Rattle.flt_dem.proofs.state.DemState.show.Goals as goal
+
+pub returns-clause-answer : goal.returns-clause-answer
+returns-clause-answer c = λ life past s.
+    let event = c.args.event in
+    let inside = rw (← c.self.view_is) at s in
+    let configured = rw (← c.self.view_is) at c.requires in
+    let faults = inside.events.faults_stand in
+    let within : event < count life = omega (arith, configured, ap (λ k. length k.events.items) faults.config) in
+    let states : Some c.state-state.result ≡ Some (state_at life (trace life past) event) = sym c.state-state.ensures ∙ faults.states_stand.each event within in
+    let state : c.state-state.result ≡ state_at life (trace life past) event = cc in
+    let fits : SFits w8 c.fdc.result = search rules in
+    let counter = c.fdc.ensures life (λ e. happenings life e past) (faults.config ∙ sym c.config.ensures.value) (rw c.deref.ensures.0 inside.events.debounces_stand) in
+    let stored = c.occurrence.ensures life (trace life past) faults in
+    let overflow = c.overflow.ensures ∙ faults.memory_stands.overflow in
+    rw (to_z-of_z w8 c.fdc.result fits) (λ i. replies.Shown (record {
+      status = (state i).status;
+      fdc = counter i;
+      failed = (state i).failed;
+      clean = (state i).clean;
+      stored = stored i;
+      overflow = overflow i;
+    }))
+
+pub returns-clause-stands : goal.returns-clause-stands
+returns-clause-stands c = λ life past s. stands_idle life past c.args.self.now (ops.Show c.args.event) tt s

@@ -1,0 +1,63 @@
+-- What the durable part of the event manager stands for: a base and the marks of all events behind it.
+use Rattle.std.specs.Prelude.{◌≡◌, ◌≢◌, ℕ, ◌<◌, List, ◌∷◌, length, Some, slice_get}
+use Rattle.flt_config.specs.declared.config.Config.{Config}
+use Rattle.flt_config.specs.declared.persist.EventState.{EventState}
+use Rattle.flt_config.specs.Durable.{initial_state}
+use Rattle.flt_model.specs.Life.{Life, count}
+use Rattle.flt_model.specs.Mark.{Trace, Of}
+use Rattle.flt_model.specs.Mark.Mark.{Displaced, Added, Refused}
+use Rattle.flt_model.specs.Durable.{state_at}
+use Rattle.flt_model.specs.Entry.{entries, overflow}
+use Rattle.flt_model.specs.Noted.{is_entering, is_confirming, recent, first}
+use Rattle.flt_memory.specs.Memory.{Memory}
+use Rattle.flt_memory.specs.declared.memory.Stored.{Stored}
+use Rattle.flt_memory.specs.declared.memory.Stored.TheVariants as outcomes
+use Rattle.flt_dem.specs.declared.notes.Notes.{Notes}
+use Rattle.flt_dem.specs.Faults.{FaultsView}
+
+-- each event's state is what the marks make of it
+pub record StatesStand (life : Life) (marks : Trace) (states : List EventState) : Type 0 where
+  pub one_each : length states ≡ count life
+  pub each : (event : ℕ) → event < count life → slice_get states event ≡ Some (state_at life marks event)
+
+-- the entries are what the marks make of them
+pub record MemoryStands (life : Life) (marks : Trace) (memory : Memory) : Type 0 where
+  pub entries : memory.entries ≡ entries life marks
+  pub overflow : memory.overflow ≡ overflow life marks
+
+-- the events that the marks note
+abbrev pub notes_of : Life → Trace → Notes
+notes_of life marks = record {
+  first_failed = first (is_entering life) life.base.first_failed marks;
+  first_confirmed = first (is_confirming life) life.base.first_confirmed marks;
+  recent_failed = recent (is_entering life) life.base.recent_failed marks;
+  recent_confirmed = recent (is_confirming life) life.base.recent_confirmed marks;
+}
+
+-- all of it is what the marks make of it, under the life's configuration
+pub record FaultsStand (life : Life) (marks : Trace) (faults : FaultsView) : Type 0 where
+  pub config : life.config ≡ faults.config
+  pub states_stand : StatesStand life marks faults.states
+  pub memory_stands : MemoryStands life marks faults.memory
+  pub notes : faults.notes ≡ notes_of life marks
+
+-- the marks of what became of an event that was stored
+abbrev pub with_outcome : ℕ → List ℕ → Stored → Trace → Trace
+with_outcome event signals outcomes.Updated trace = trace
+with_outcome event signals outcomes.Added trace = Of event Added signals ∷ trace
+with_outcome event signals (outcomes.Displaced other) trace = Of event Added signals ∷ Of other Displaced signals ∷ trace
+with_outcome event signals outcomes.Refused trace = Of event Refused signals ∷ trace
+
+-- the event that gave way, if one did, is below a number
+abbrev pub IsDisplacedBelow : ℕ → Stored → Type 0
+IsDisplacedBelow count (outcomes.Displaced other) = other < count
+IsDisplacedBelow count _ = Unit {0}
+
+-- a life that begins with nothing saved
+abbrev pub first_life : Config → Life
+first_life config = record { config = config; base = initial_state config }
+
+-- the event that gave way, if one did, is another one
+abbrev pub IsNotDisplaced : ℕ → Stored → Type 0
+IsNotDisplaced event (outcomes.Displaced other) = event ≢ other
+IsNotDisplaced event _ = Unit {0}

@@ -1,0 +1,195 @@
+//! The event manager with its table of data identifiers.
+
+ghost use Rattle.std.specs.Prelude.{◌≡◌, ◌≢◌, ◌<◌, ℕ, [], ◌∷◌, not, length, slice_get, slice_set, find, position, option_copied, Some, None, IfSome, false};
+ghost use Rattle.std.proofs.Props.{props};
+ghost use Rattle.flt_config.specs.Durable.{Fits, is_of_event};
+ghost use Rattle.flt_config.specs.Validity.{has_dtc};
+ghost use Rattle.flt_model.specs.Life.{Life, History, event_of};
+ghost use Rattle.flt_model.specs.Happening.{cleared_dtc, all_dtcs};
+ghost use Rattle.flt_model.specs.Session.{is_setting_off};
+ghost use Rattle.flt_model.specs.Entry.{has_entry};
+ghost use Rattle.flt_model.specs.Trace.{trace};
+ghost use Rattle.flt_model.specs.Durable.{saved_after};
+ghost use Rattle.flt_model.specs.Answer.{answer, entry_where};
+ghost use Rattle.flt_model.specs.declared.call.Op.TheVariants as ops;
+ghost use Rattle.flt_model.specs.declared.call.Reply.TheVariants as replies;
+ghost use Rattle.flt_did.specs.Table.{dids_of};
+ghost use Rattle.flt_did.specs.Serves.{Serves};
+ghost use Rattle.flt_dem.specs.Calls.{RequestBytes};
+ghost use Rattle.flt_dem.specs.Standing.{first_life, notes_of};
+ghost use Rattle.flt_dem.specs.Manager.{StandsFor, IsUntouched, IsOfOtherCycle, is_cycle_started, cause_of, reply_of};
+
+use crate::notes::Which;
+use crate::state::DemState;
+use flt_config::{EntryState, Persist, ValidConfig};
+use flt_did::{DID_ROWS, DidTable};
+use flt_model::{Cause, Report, Shown};
+
+/// The event manager, and the table of data identifiers that its frames are made with: each identifier
+/// that an event uses is in the table, with its width.
+#[derive(Drop)]
+pub struct Dem {
+    state: DemState,
+    dids: DidTable<DID_ROWS>,
+    ghost served: { Serves (dids_of dids) state.faults.config.events.items } by { Prim.hlevel props },
+}
+
+impl Dem {
+    ghost use Rattle.flt_dem.specs.Notes.{noted_by};
+    ghost use Rattle.flt_dem.specs.Dem.{state_of, config_of, table_of};
+
+    /// A manager with nothing saved, to which no call was made: no event was tested, there is no entry,
+    /// every debouncing is at rest, no cycle is started and each signal is 0.
+    pub fn make(config: ValidConfig, dids: DidTable<DID_ROWS>) -> Dem
+        requires { Serves (dids_of dids) config.events.items }
+        ensures config { config_of result ≡ config }
+        ensures stands { StandsFor (first_life config) [] (state_of result) }
+    {
+        Dem {
+            state: DemState::make(config),
+            dids,
+        }
+    }
+
+    /// A manager of its two parts.
+    pub fn from_parts(state: DemState, dids: DidTable<DID_ROWS>) -> Dem
+        requires { Serves (dids_of dids) state.faults.config.events.items }
+        ensures state { state_of result ≡ state }
+        ensures dids { table_of result ≡ dids_of dids }
+    {
+        Dem { state, dids }
+    }
+
+    /// Its two parts: the manager without the functions, and the table.
+    pub fn into_parts(self) -> (DemState, DidTable<DID_ROWS>)
+        ensures state { result.0 ≡ state_of self }
+        ensures dids { dids_of result.1 ≡ table_of self }
+        ensures served { Serves (dids_of result.1) result.0.faults.config.events.items }
+    {
+        let Dem { state, dids } = self;
+        (state, dids)
+    }
+
+    /// Starts again from a saved state that fits the configuration: what is not saved is at rest.
+    pub fn boot(&mut self, base: &Persist)
+        requires fits { Fits (config_of self.old) base.now }
+        ensures config { config_of self.new ≡ config_of self.old }
+        ensures stands { StandsFor (record { config = config_of self.old; base = base.now }) [] (state_of self.new) }
+    {
+        self.state.boot(base);
+    }
+
+    /// Writes the durable state: what is to be saved. That changes nothing.
+    pub fn persist(&self, out: &mut Persist)
+        ensures saved { (life : Life) (past : History) → StandsFor life past (state_of self.now) → out.new ≡ saved_after life past }
+        ensures stands { (life : Life) (past : History) → StandsFor life past (state_of self.now) → StandsFor life (ops.Snapshot ∷ past) (state_of self.now) }
+    {
+        self.state.persist(out);
+    }
+
+    /// The configuration.
+    pub fn config(&self) -> &ValidConfig
+        ensures { result.now ≡ config_of self.now }
+    {
+        self.state.config()
+    }
+
+    /// Sets a signal, of the number 0 to 7.
+    pub fn signal(&mut self, index: u8, value: u16)
+        requires { index < 8 }
+        ensures value { state_of self.new ≡ record (state_of self.old) { signals = slice_set (state_of self.old).signals index value } }
+        ensures stands { (life : Life) (past : History) → StandsFor life past (state_of self.old) → StandsFor life (ops.Signal index value ∷ past) (state_of self.new) }
+    {
+        self.state.signal(index, value);
+    }
+
+    /// Takes a monitor's report of an event, in view of whether the setting is on. The answer tells why
+    /// it is ignored: the setting is off, or else the event's cycle was not started since power-up; then
+    /// nothing changes. A result that it qualifies changes the event's state, the entries and the notes.
+    pub fn report(&mut self, event: u16, report: Report, setting: bool) -> Option<Cause>
+        requires configured { event < length (config_of self.old).events.items }
+        ensures config { config_of self.new ≡ config_of self.old }
+        ensures ignored { result ≡ cause_of setting (is_cycle_started (state_of self.old) event) }
+        ensures unchanged { IfSome result (λ _. state_of self.new ≡ state_of self.old) }
+        ensures debouncing { (other : ℕ) → other ≢ event → slice_get (state_of self.new).debounces other ≡ slice_get (state_of self.old).debounces other }
+        ensures others { (other : ℕ) → other ≢ event → find (is_of_event other) (state_of self.old).faults.memory.entries ≡ None → IsUntouched other (state_of self.old) (state_of self.new) }
+        ensures stands { (life : Life) (past : History) → setting ≡ not (is_setting_off past) → StandsFor life past (state_of self.old) → StandsFor life (ops.Report event report ∷ past) (state_of self.new) }
+        ensures answer { (life : Life) (past : History) → setting ≡ not (is_setting_off past) → StandsFor life past (state_of self.old) → reply_of result ≡ answer life past (ops.Report event report) }
+    {
+        self.state.report(&self.dids, event, report, setting)
+    }
+
+    /// Lets ticks of 10 ms go by, at least 1, in view of whether the setting is on: with the setting off
+    /// nothing changes, and else each event ticks, in order of number.
+    pub fn tick(&mut self, ticks: u16, setting: bool)
+        ensures config { config_of self.new ≡ config_of self.old }
+        ensures unchanged { setting ≡ false → state_of self.new ≡ state_of self.old }
+        ensures stands { (life : Life) (past : History) → setting ≡ not (is_setting_off past) → StandsFor life past (state_of self.old) → StandsFor life (ops.Tick ticks ∷ past) (state_of self.new) }
+    {
+        self.state.tick(&self.dids, ticks, setting);
+    }
+
+    /// Ends an operation cycle, of the number 0 to 3, for each of its events in order of number, and
+    /// starts the next. An event that ages by it gives up its entry.
+    pub fn cycle(&mut self, cycle: u8)
+        requires { cycle < 4 }
+        ensures config { config_of self.new ≡ config_of self.old }
+        ensures stands { (life : Life) (past : History) → StandsFor life past (state_of self.old) → StandsFor life (ops.Cycle cycle ∷ past) (state_of self.new) }
+        ensures others { (event : ℕ) → IsOfOtherCycle (config_of self.old) cycle event → IsUntouched event (state_of self.old) (state_of self.new) }
+    {
+        self.state.cycle(cycle);
+    }
+
+    /// Clears all events, as a tester's request for the group of all DTCs does (ISO 14229-1, service
+    /// 0x14): each is as one that was never tested, there is no entry and no note, and the overflow
+    /// flag is taken back.
+    pub fn clear_all(&mut self)
+        ensures config { config_of self.new ≡ config_of self.old }
+        ensures stands { (life : Life) (past : History) (tester : ℕ) (bytes : RequestBytes) → cleared_dtc (ops.Request tester bytes) ≡ Some all_dtcs → StandsFor life past (state_of self.old) → StandsFor life (ops.Request tester bytes ∷ past) (state_of self.new) }
+    {
+        self.state.clear_all();
+    }
+
+    /// Clears one event, as a tester's request for its DTC does: it is as one that was never tested,
+    /// without an entry, and the notes that name it are none. The overflow flag stays.
+    pub fn clear_one(&mut self, event: u16)
+        requires { event < length (config_of self.old).events.items }
+        ensures config { config_of self.new ≡ config_of self.old }
+        ensures stands { (life : Life) (past : History) (tester : ℕ) (bytes : RequestBytes) → cleared_dtc (ops.Request tester bytes) ≡ Some (event_of life event).dtc → StandsFor life past (state_of self.old) → StandsFor life (ops.Request tester bytes ∷ past) (state_of self.new) }
+        ensures others { (other : ℕ) → other ≢ event → IsUntouched other (state_of self.old) (state_of self.new) }
+    {
+        self.state.clear_one(event);
+    }
+
+    /// The event that has a DTC, where one has.
+    pub fn find(&self, dtc: u32) -> Option<u16>
+        ensures { result ≡ position (has_dtc dtc) (config_of self.now).events.items }
+    {
+        self.state.find(dtc)
+    }
+
+    /// What is shown of an event. To show it changes nothing.
+    pub fn show(&self, event: u16) -> Shown
+        requires { event < length (config_of self.now).events.items }
+        ensures answer { (life : Life) (past : History) → StandsFor life past (state_of self.now) → replies.Shown result ≡ answer life past (ops.Show event) }
+        ensures stands { (life : Life) (past : History) → StandsFor life past (state_of self.now) → StandsFor life (ops.Show event ∷ past) (state_of self.now) }
+    {
+        self.state.show(event)
+    }
+
+    /// The entry of an event, where it has one.
+    pub fn entry(&self, event: u16) -> Option<&EntryState>
+        ensures value { option_copied result ≡ find (is_of_event event) (state_of self.now).faults.memory.entries }
+        ensures stands { (life : Life) (past : History) → StandsFor life past (state_of self.now) → option_copied result ≡ entry_where life event (trace life past) (has_entry life event (trace life past)) }
+    {
+        self.state.entry(event)
+    }
+
+    /// The noted event that is asked for, where there is one.
+    pub fn noted(&self, which: Which) -> Option<u16>
+        ensures value { result ≡ noted_by which (state_of self.now).faults.notes }
+        ensures stands { (life : Life) (past : History) → StandsFor life past (state_of self.now) → result ≡ noted_by which (notes_of life (trace life past)) }
+    {
+        self.state.noted(which)
+    }
+}

@@ -1,0 +1,245 @@
+//! The durable part of the event manager: states, entries and notes, one mark at a time.
+
+ghost use Rattle.std.specs.Prelude.{◌≡◌, ◌≢◌, ◌<◌, ◌≤◌, [], ◌∷◌, ℕ, List, length, slice_get, find, filter, position, not, All, Some, None, option_copied, option_map, unwrap_or};
+ghost use Rattle.flt_config.specs.Validity.{IsValid, has_dtc};
+ghost use Rattle.flt_config.specs.Durable.{Fits, is_of_event};
+ghost use Rattle.flt_model.specs.Life.{Life};
+ghost use Rattle.flt_model.specs.Mark.{Trace, Of, AllCleared};
+ghost use Rattle.flt_model.specs.Mark.Mark.{Passed, Clear};
+ghost use Rattle.flt_model.specs.Trace.{with_failed, with_result, with_cycle};
+ghost use Rattle.flt_model.specs.Durable.{saved};
+ghost use Rattle.flt_model.specs.Entry.{has_entry};
+ghost use Rattle.flt_model.specs.Answer.{entry_where};
+ghost use Rattle.flt_did.specs.Table.{dids_of};
+ghost use Rattle.flt_did.specs.Serves.{Serves};
+ghost use Rattle.flt_dem.specs.Standing.{FaultsStand, first_life};
+
+use crate::notes::{Notes, Which};
+use crate::{copies, states};
+use arrayvec::ArrayVec;
+use flt_config::{Config, EVENTS, EntryState, EventCfg, EventState, Persist, ValidConfig, initial};
+use flt_did::{DID_ROWS, DidTable, Signals};
+use flt_memory::EventMemory;
+use flt_model::Qualified;
+use std::marker::Model;
+
+/// What outlives a power cut, and the configuration that it belongs to.
+#[derive(Drop)]
+pub struct Faults {
+    config: ValidConfig,
+    states: ArrayVec<EventState, EVENTS>,
+    memory: EventMemory,
+    notes: Notes,
+}
+
+impl Model for Faults {
+    ghost use Rattle.flt_dem.specs.Faults.{FaultsView, AreOfConfig};
+
+    ghost Value = { FaultsView };
+
+    ghost view = { λ f. record { config = f.config; states = f.states.items; memory = f.memory; notes = f.notes } };
+
+    ghost invariant = { λ f. AreOfConfig f.config f.states.items f.memory };
+}
+
+/// The place of the event that has a DTC, where one has.
+fn place_of(events: &[EventCfg], dtc: u32) -> Option<usize>
+    ensures { result ≡ position (has_dtc dtc) events.now }
+{
+    events.iter().position(|event| event.dtc == dtc)
+}
+
+impl Faults {
+    ghost use Rattle.flt_dem.specs.Notes.{noted_by};
+
+    /// The durable part of a controller that never saved one.
+    pub fn new(config: ValidConfig) -> Faults
+        ensures config { result.config ≡ config }
+        ensures stands { FaultsStand (first_life config) [] result }
+    {
+        let base = initial(&config);
+        Faults {
+            notes: Notes::of(&base),
+            states: base.events,
+            memory: EventMemory::empty(),
+            config,
+        }
+    }
+
+    /// Takes over a saved state.
+    pub fn restore(&mut self, base: &Persist)
+        requires { Fits self.old.config base.now }
+        ensures config { self.new.config ≡ self.old.config }
+        ensures stands { FaultsStand (record { config = self.old.config; base = base.now }) [] self.new }
+    {
+        self.states = copies::states(&base.events);
+        self.memory.load(&base.entries, base.overflow);
+        self.notes = Notes::of(base);
+    }
+
+    /// Writes the durable state.
+    pub fn persist(&self, out: &mut Persist)
+        ensures { (life : Life) (marks : Trace) → FaultsStand life marks self.now → out.new ≡ saved life marks }
+    {
+        out.events = copies::states(&self.states);
+        out.entries = copies::entries(self.memory.entries());
+        out.overflow = self.memory.overflow();
+        out.first_failed = self.notes.first_failed;
+        out.first_confirmed = self.notes.first_confirmed;
+        out.recent_failed = self.notes.recent_failed;
+        out.recent_confirmed = self.notes.recent_confirmed;
+    }
+
+    /// The configuration.
+    pub fn config(&self) -> &Config
+        ensures value { result.now ≡ self.now.config }
+        ensures valid { IsValid self.now.config }
+    {
+        self.config.config()
+    }
+
+    /// The configuration, with what is known of it.
+    pub fn valid_config(&self) -> &ValidConfig
+        ensures { result.now ≡ self.now.config }
+    {
+        &self.config
+    }
+
+    /// How many events there are.
+    pub fn count(&self) -> u16
+        ensures { result ≡ length self.now.config.events.items }
+    {
+        self.config.config().events.len() as u16
+    }
+
+    /// The event that has a DTC, where one has.
+    pub fn find(&self, dtc: u32) -> Option<u16>
+        ensures { result ≡ position (has_dtc dtc) self.now.config.events.items }
+    {
+        match place_of(&self.config.config().events, dtc) {
+            Some(event) => Some(event as u16),
+            None => None,
+        }
+    }
+
+    /// The state of an event.
+    pub fn state(&self, event: u16) -> EventState
+        requires { event < length self.now.config.events.items }
+        ensures { slice_get self.now.states event ≡ Some result }
+    {
+        self.states[event as usize]
+    }
+
+    /// The entry of an event, where it has one.
+    pub fn entry(&self, event: u16) -> Option<&EntryState>
+        ensures { option_copied result ≡ find (is_of_event event) self.now.memory.entries }
+    {
+        self.memory.find(event)
+    }
+
+    /// How often an event occurred that has an entry, and 0 without an entry.
+    pub fn occurrence(&self, event: u16) -> u8
+        ensures { (life : Life) (marks : Trace) → FaultsStand life marks self.now → result ≡ unwrap_or (option_map (λ entry. entry.occurrence) (entry_where life event marks (has_entry life event marks))) 0 }
+    {
+        match self.memory.find(event) {
+            Some(entry) => entry.occurrence,
+            None => 0,
+        }
+    }
+
+    /// The overflow flag.
+    pub fn overflow(&self) -> bool
+        ensures { result ≡ self.now.memory.overflow }
+    {
+        self.memory.overflow()
+    }
+
+    /// The noted event that is asked for.
+    pub fn noted(&self, which: Which) -> Option<u16>
+        ensures { result ≡ noted_by which self.now.notes }
+    {
+        self.notes.noted(which)
+    }
+
+    /// The test of an event failed, at these signals.
+    fn fail(&mut self, dids: &DidTable<DID_ROWS>, signals: &Signals, event: u16)
+        requires configured { event < length self.old.config.events.items }
+        requires served { Serves (dids_of dids.now) self.old.config.events.items }
+        ensures config { self.new.config ≡ self.old.config }
+        ensures stands { (life : Life) (marks : Trace) → FaultsStand life marks self.old → FaultsStand life (with_failed life signals.now.values event marks) self.new }
+        ensures others { (other : ℕ) → other ≢ event → find (is_of_event other) self.old.memory.entries ≡ None → slice_get self.new.states other ≡ slice_get self.old.states other }
+    {
+        let mark = states::fail(self.config.config(), &mut self.states, event as usize);
+        self.notes = self.notes.after_failure(event, mark);
+        if mark.entered {
+            let frame = dids.frame(&self.config.config().events[event as usize].dids, signals);
+            let outcome = self.memory.store(&self.config, &self.states, event, &frame);
+            states::follow(&mut self.states, outcome);
+        }
+    }
+
+    /// The test of an event passed.
+    fn pass(&mut self, event: u16)
+        requires { event < length self.old.config.events.items }
+        ensures config { self.new.config ≡ self.old.config }
+        ensures stands { (life : Life) (signals : List ℕ) (marks : Trace) → FaultsStand life marks self.old → FaultsStand life (Of event Passed signals ∷ marks) self.new }
+        ensures others { (other : ℕ) → other ≢ event → slice_get self.new.states other ≡ slice_get self.old.states other }
+    {
+        states::pass(&mut self.states, event as usize);
+    }
+
+    /// Takes a result of an event, if there is one, at these signals.
+    pub fn take(
+        &mut self,
+        dids: &DidTable<DID_ROWS>,
+        signals: &Signals,
+        event: u16,
+        outcome: Option<Qualified>,
+    )
+        requires configured { event < length self.old.config.events.items }
+        requires served { Serves (dids_of dids.now) self.old.config.events.items }
+        ensures config { self.new.config ≡ self.old.config }
+        ensures stands { (life : Life) (marks : Trace) → FaultsStand life marks self.old → FaultsStand life (with_result life signals.now.values event outcome marks) self.new }
+        ensures others { (other : ℕ) → other ≢ event → find (is_of_event other) self.old.memory.entries ≡ None → slice_get self.new.states other ≡ slice_get self.old.states other }
+    {
+        match outcome {
+            Some(Qualified::Failed) => self.fail(dids, signals, event),
+            Some(Qualified::Passed) => self.pass(event),
+            None => {}
+        }
+    }
+
+    /// The operation cycle of an event ended: an event that ages by it gives up its entry.
+    pub fn end_cycle(&mut self, event: u16)
+        requires { event < length self.old.config.events.items }
+        ensures config { self.new.config ≡ self.old.config }
+        ensures stands { (life : Life) (signals : List ℕ) (marks : Trace) → FaultsStand life marks self.old → FaultsStand life (with_cycle life signals event marks) self.new }
+        ensures others { (other : ℕ) → other ≢ event → slice_get self.new.states other ≡ slice_get self.old.states other }
+    {
+        if states::end_cycle(self.config.config(), &mut self.states, event as usize) {
+            self.memory.remove(event);
+        }
+    }
+
+    /// A tester cleared an event: it is as one that was never tested, without an entry and in no note.
+    pub fn clear(&mut self, event: u16)
+        requires { event < length self.old.config.events.items }
+        ensures config { self.new.config ≡ self.old.config }
+        ensures stands { (life : Life) (signals : List ℕ) (marks : Trace) → FaultsStand life marks self.old → FaultsStand life (Of event Clear signals ∷ marks) self.new }
+        ensures entries { self.new.memory.entries ≡ filter (λ entry. not (is_of_event event entry)) self.old.memory.entries }
+        ensures others { (other : ℕ) → other ≢ event → slice_get self.new.states other ≡ slice_get self.old.states other }
+    {
+        states::clear(&mut self.states, event as usize);
+        self.memory.remove(event);
+        self.notes = self.notes.after_clear(event);
+    }
+
+    /// A tester cleared all events: with no entry left, the overflow flag is taken back.
+    pub fn end_clear(&mut self)
+        requires { All (λ entry. length self.old.config.events.items ≤ entry.event) self.old.memory.entries }
+        ensures config { self.new.config ≡ self.old.config }
+        ensures stands { (life : Life) (marks : Trace) → FaultsStand life marks self.old → FaultsStand life (AllCleared ∷ marks) self.new }
+    {
+        self.memory.clear();
+    }
+}

@@ -1,0 +1,20 @@
+//! The event manager (AUTOSAR Dem in outline): what reports, ticks and operation cycles make of the
+//! events, of the fault memory and of the noted events. Stands on `flt_debounce`, `flt_status`,
+//! `flt_memory` and `flt_did`. The layer above uses the calls of `DemState`, or of `Dem`, which keeps the
+//! table of data identifiers beside it: where it stands for a base and the calls so far, it stands
+//! for them and one call more, and gives the answer that is written down. Read `specs/Manager` first.
+#![tactic(auto)]
+
+mod copies;
+mod debounces;
+mod dem;
+mod faults;
+pub mod laws;
+mod notes;
+mod parts;
+mod state;
+mod states;
+
+pub use dem::Dem;
+pub use notes::Which;
+pub use state::DemState;

@@ -1,0 +1,236 @@
+//! The event manager without the functions of its table of data identifiers.
+
+ghost use Rattle.std.specs.Prelude.{◌≡◌, ◌≢◌, ◌<◌, ℕ, [], ◌∷◌, not, length, slice_get, slice_set, find, position, option_copied, Some, None, IfSome, false};
+ghost use Rattle.flt_config.specs.Durable.{Fits, is_of_event};
+ghost use Rattle.flt_config.specs.Validity.{has_dtc};
+ghost use Rattle.flt_model.specs.Life.{Life, History, event_of};
+ghost use Rattle.flt_model.specs.Happening.{cleared_dtc, all_dtcs};
+ghost use Rattle.flt_model.specs.Session.{is_setting_off};
+ghost use Rattle.flt_model.specs.Entry.{has_entry};
+ghost use Rattle.flt_model.specs.Trace.{trace};
+ghost use Rattle.flt_model.specs.Durable.{saved_after};
+ghost use Rattle.flt_model.specs.Answer.{answer, entry_where};
+ghost use Rattle.flt_model.specs.declared.call.Op.TheVariants as ops;
+ghost use Rattle.flt_model.specs.declared.call.Reply.TheVariants as replies;
+ghost use Rattle.flt_did.specs.Table.{dids_of};
+ghost use Rattle.flt_did.specs.Serves.{Serves};
+ghost use Rattle.flt_dem.specs.Calls.{RequestBytes};
+ghost use Rattle.flt_dem.specs.Standing.{first_life, notes_of};
+ghost use Rattle.flt_dem.specs.Manager.{StandsFor, IsUntouched, IsOfOtherCycle, is_cycle_started, cause_of, reply_of};
+
+use crate::faults::Faults;
+use crate::notes::Which;
+use crate::{debounces, parts};
+use arrayvec::ArrayVec;
+use flt_config::{EVENTS, EntryState, Persist, ValidConfig};
+use flt_did::{DID_ROWS, DidTable, Signals};
+use flt_model::{Cause, DebState, Report, Shown};
+use std::marker::Model;
+
+/// The operation cycles, which have the numbers 0 to 3.
+const CYCLES: usize = 4;
+
+/// The event manager without its table of data identifiers: the durable part, the debouncing of each
+/// event, which operation cycles are started, and the signals.
+#[derive(Drop)]
+pub struct DemState {
+    faults: Faults,
+    debounces: ArrayVec<DebState, EVENTS>,
+    started: [bool; CYCLES],
+    signals: Signals,
+}
+
+impl Model for DemState {
+    ghost use Rattle.flt_dem.specs.Manager.{Manager, IsOfConfig};
+
+    ghost Value = { Manager };
+
+    ghost view = { λ d. record { faults = d.faults; debounces = d.debounces.items; started = d.started; signals = d.signals.values } };
+
+    ghost invariant = { λ d. IsOfConfig d.faults.config d.debounces.items };
+}
+
+impl DemState {
+    ghost use Rattle.flt_dem.specs.Notes.{noted_by};
+
+    /// A manager with nothing saved, to which no call was made: no event was tested, there is no entry,
+    /// every debouncing is at rest, no cycle is started and each signal is 0.
+    pub fn make(config: ValidConfig) -> DemState
+        ensures config { result.faults.config ≡ config }
+        ensures stands { StandsFor (first_life config) [] result }
+    {
+        let faults = Faults::new(config);
+        DemState {
+            debounces: debounces::at_rest(faults.config()),
+            faults,
+            started: [false; CYCLES],
+            signals: Signals::zero(),
+        }
+    }
+
+    /// Starts again from a saved state that fits the configuration: what is not saved is at rest.
+    pub fn boot(&mut self, base: &Persist)
+        requires fits { Fits self.old.faults.config base.now }
+        ensures config { self.new.faults.config ≡ self.old.faults.config }
+        ensures stands { StandsFor (record { config = self.old.faults.config; base = base.now }) [] self.new }
+    {
+        self.faults.restore(base);
+        self.debounces = debounces::at_rest(self.faults.config());
+        self.started = [false; CYCLES];
+        self.signals = Signals::zero();
+    }
+
+    /// Writes the durable state: what is to be saved. That changes nothing.
+    pub fn persist(&self, out: &mut Persist)
+        ensures saved { (life : Life) (past : History) → StandsFor life past self.now → out.new ≡ saved_after life past }
+        ensures stands { (life : Life) (past : History) → StandsFor life past self.now → StandsFor life (ops.Snapshot ∷ past) self.now }
+    {
+        self.faults.persist(out);
+    }
+
+    /// The configuration.
+    pub fn config(&self) -> &ValidConfig
+        ensures { result.now ≡ self.now.faults.config }
+    {
+        self.faults.valid_config()
+    }
+
+    /// Sets a signal, of the number 0 to 7.
+    pub fn signal(&mut self, index: u8, value: u16)
+        requires { index < 8 }
+        ensures value { self.new ≡ record self.old { signals = slice_set self.old.signals index value } }
+        ensures stands { (life : Life) (past : History) → StandsFor life past self.old → StandsFor life (ops.Signal index value ∷ past) self.new }
+    {
+        self.signals.set(index, value);
+    }
+
+    /// Takes a monitor's report of an event, in view of whether the setting is on. The answer tells why
+    /// it is ignored: the setting is off, or else the event's cycle was not started since power-up; then
+    /// nothing changes. A result that it qualifies changes the event's state, the entries and the notes.
+    pub fn report(
+        &mut self,
+        dids: &DidTable<DID_ROWS>,
+        event: u16,
+        report: Report,
+        setting: bool,
+    ) -> Option<Cause>
+        requires configured { event < length self.old.faults.config.events.items }
+        requires served { Serves (dids_of dids.now) self.old.faults.config.events.items }
+        ensures config { self.new.faults.config ≡ self.old.faults.config }
+        ensures ignored { result ≡ cause_of setting (is_cycle_started self.old event) }
+        ensures unchanged { IfSome result (λ _. self.new ≡ self.old) }
+        ensures debouncing { (other : ℕ) → other ≢ event → slice_get self.new.debounces other ≡ slice_get self.old.debounces other }
+        ensures others { (other : ℕ) → other ≢ event → find (is_of_event other) self.old.faults.memory.entries ≡ None → IsUntouched other self.old self.new }
+        ensures stands { (life : Life) (past : History) → setting ≡ not (is_setting_off past) → StandsFor life past self.old → StandsFor life (ops.Report event report ∷ past) self.new }
+        ensures answer { (life : Life) (past : History) → setting ≡ not (is_setting_off past) → StandsFor life past self.old → reply_of result ≡ answer life past (ops.Report event report) }
+    {
+        if !setting {
+            return Some(Cause::SettingOff);
+        }
+        let cycle = self.faults.config().events[event as usize].cycle;
+        if !self.started[cycle as usize] {
+            return Some(Cause::NotStarted);
+        }
+        parts::report(
+            &mut self.faults,
+            &mut self.debounces,
+            dids,
+            &self.signals,
+            event,
+            report,
+        );
+        None
+    }
+
+    /// Lets ticks of 10 ms go by, at least 1, in view of whether the setting is on: with the setting off
+    /// nothing changes, and else each event ticks, in order of number.
+    pub fn tick(&mut self, dids: &DidTable<DID_ROWS>, ticks: u16, setting: bool)
+        requires served { Serves (dids_of dids.now) self.old.faults.config.events.items }
+        ensures config { self.new.faults.config ≡ self.old.faults.config }
+        ensures unchanged { setting ≡ false → self.new ≡ self.old }
+        ensures stands { (life : Life) (past : History) → setting ≡ not (is_setting_off past) → StandsFor life past self.old → StandsFor life (ops.Tick ticks ∷ past) self.new }
+    {
+        if setting {
+            parts::tick(
+                &mut self.faults,
+                &mut self.debounces,
+                dids,
+                &self.signals,
+                ticks,
+            );
+        }
+    }
+
+    /// Ends an operation cycle, of the number 0 to 3, for each of its events in order of number, and
+    /// starts the next. An event that ages by it gives up its entry.
+    pub fn cycle(&mut self, cycle: u8)
+        requires { cycle < 4 }
+        ensures config { self.new.faults.config ≡ self.old.faults.config }
+        ensures stands { (life : Life) (past : History) → StandsFor life past self.old → StandsFor life (ops.Cycle cycle ∷ past) self.new }
+        ensures others { (event : ℕ) → IsOfOtherCycle self.old.faults.config cycle event → IsUntouched event self.old self.new }
+    {
+        parts::end_cycle(&mut self.faults, &mut self.debounces, cycle);
+        self.started[cycle as usize] = true;
+    }
+
+    /// Clears all events, as a tester's request for the group of all DTCs does (ISO 14229-1, service
+    /// 0x14): each is as one that was never tested, there is no entry and no note, and the overflow
+    /// flag is taken back.
+    pub fn clear_all(&mut self)
+        ensures config { self.new.faults.config ≡ self.old.faults.config }
+        ensures stands { (life : Life) (past : History) (tester : ℕ) (bytes : RequestBytes) → cleared_dtc (ops.Request tester bytes) ≡ Some all_dtcs → StandsFor life past self.old → StandsFor life (ops.Request tester bytes ∷ past) self.new }
+    {
+        parts::clear_all(&mut self.faults, &mut self.debounces);
+    }
+
+    /// Clears one event, as a tester's request for its DTC does: it is as one that was never tested,
+    /// without an entry, and the notes that name it are none. The overflow flag stays.
+    pub fn clear_one(&mut self, event: u16)
+        requires { event < length self.old.faults.config.events.items }
+        ensures config { self.new.faults.config ≡ self.old.faults.config }
+        ensures stands { (life : Life) (past : History) (tester : ℕ) (bytes : RequestBytes) → cleared_dtc (ops.Request tester bytes) ≡ Some (event_of life event).dtc → StandsFor life past self.old → StandsFor life (ops.Request tester bytes ∷ past) self.new }
+        ensures others { (other : ℕ) → other ≢ event → IsUntouched other self.old self.new }
+    {
+        parts::clear_one(&mut self.faults, &mut self.debounces, event);
+    }
+
+    /// The event that has a DTC, where one has.
+    pub fn find(&self, dtc: u32) -> Option<u16>
+        ensures { result ≡ position (has_dtc dtc) self.now.faults.config.events.items }
+    {
+        self.faults.find(dtc)
+    }
+
+    /// What is shown of an event. To show it changes nothing.
+    pub fn show(&self, event: u16) -> Shown
+        requires { event < length self.now.faults.config.events.items }
+        ensures answer { (life : Life) (past : History) → StandsFor life past self.now → replies.Shown result ≡ answer life past (ops.Show event) }
+        ensures stands { (life : Life) (past : History) → StandsFor life past self.now → StandsFor life (ops.Show event ∷ past) self.now }
+    {
+        let state = self.faults.state(event);
+        Shown {
+            status: state.status,
+            fdc: debounces::fdc(self.faults.config(), &self.debounces, event as usize),
+            failed: state.failed,
+            clean: state.clean,
+            stored: self.faults.occurrence(event),
+            overflow: self.faults.overflow(),
+        }
+    }
+
+    /// The entry of an event, where it has one.
+    pub fn entry(&self, event: u16) -> Option<&EntryState>
+        ensures value { option_copied result ≡ find (is_of_event event) self.now.faults.memory.entries }
+        ensures stands { (life : Life) (past : History) → StandsFor life past self.now → option_copied result ≡ entry_where life event (trace life past) (has_entry life event (trace life past)) }
+    {
+        self.faults.entry(event)
+    }
+
+    /// The noted event that is asked for, where there is one.
+    pub fn noted(&self, which: Which) -> Option<u16>
+        ensures value { result ≡ noted_by which self.now.faults.notes }
+        ensures stands { (life : Life) (past : History) → StandsFor life past self.now → result ≡ noted_by which (notes_of life (trace life past)) }
+    {
+        self.faults.noted(which)
+    }
+}

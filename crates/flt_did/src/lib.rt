@@ -1,0 +1,21 @@
+//! Data identifiers (DIDs): stored functions on the eight signals of the vehicle, and the frames that
+//! they give. Stands on the definitions of frames in `flt_model`, `specs/Frame`. The layer above uses
+//! `DidTable::frame`: for any table that was filled through `add`, the frame of a list of uses is the
+//! frame that is written down. Read `specs/Table` first.
+#![tactic(auto)]
+
+mod readers;
+mod row;
+mod signals;
+mod table;
+
+pub use readers::{did_0101, did_0102, did_0103, did_0104, did_0105, did_0106, did_0107};
+pub use row::Reader;
+pub use signals::Signals;
+pub use table::{DidTable, TableFault};
+
+/// The rows of the program's table of data identifiers.
+pub const DID_ROWS: usize = 16;
+
+#[cfg(test)]
+mod tests;

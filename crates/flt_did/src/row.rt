@@ -1,0 +1,23 @@
+//! One row of the table: a stored function beside what is known of it.
+ghost use Rattle.std.specs.Prelude.{◌≡◌, ℕ, ◌<◌, ◌≤◌, ◌^◌, Some};
+ghost use Rattle.std.specs.Borrow.{Bor};
+ghost use Rattle.flt_model.specs.Frame.{did_value};
+ghost use Rattle.flt_did.specs.declared.signals.Signals.{Signals as SignalValues};
+
+use crate::Signals;
+
+/// What a data identifier tells of the signals.
+pub type Reader = fn(&Signals) -> u64;
+
+/// A data identifier with its function, which may be called on all signals, tells the written value
+/// there and fits the width.
+#[derive(Drop)]
+pub struct Row {
+    pub(crate) id: u16,
+    pub(crate) width: u8,
+    pub(crate) read: Reader,
+    ghost width_in_range: { width ≤ 8 },
+    ghost callable: { (s : Bor SignalValues) → Reader.pre read s },
+    ghost value: { (s : Bor SignalValues) (r : ℕ) → Reader.post read s r → did_value id s.now.values ≡ Some r },
+    ghost narrow: { (s : Bor SignalValues) (r : ℕ) → Reader.post read s r → r < 256 ^ width },
+}

@@ -1,0 +1,162 @@
+//! The table of data identifiers.
+ghost use Rattle.std.specs.Prelude.{◌≡◌, ℕ, ◌+◌, ◌<◌, ◌≤◌, ◌^◌, ◌↔◌, [], ◌∷◌, ◌++◌, length, Some, Err, IsTrue, OnOk, OnErr, IsSome, IsNone, IfSome, find, option_map, option_copied};
+ghost use Rattle.std.specs.Borrow.{Bor};
+ghost use Rattle.flt_config.specs.Ranges.{frame_width};
+ghost use Rattle.flt_model.specs.Frame.{did_value, big_endian, did_bytes, frame_bytes};
+ghost use Rattle.flt_did.specs.declared.signals.Signals.{Signals as SignalValues};
+ghost use Rattle.flt_did.specs.Rows.{rows_dids, row_did, is_did};
+ghost use Rattle.flt_did.specs.Serves.{HasAll, Serves};
+
+use crate::Signals;
+use crate::row::{Reader, Row};
+use arrayvec::ArrayVec;
+use flt_config::{DIDS, DidUse, EventCfg, FRAME, Frame};
+
+/// Why a data identifier is not added. The table stays as it was.
+#[derive(Clone, Copy, PartialEq, Eq, Debug)]
+pub enum TableFault {
+    /// The table has the identifier already.
+    DidTwice,
+    /// The table does not have it, and each of its rows is taken.
+    TableFull,
+}
+
+/// The data identifiers that a frame may hold, at most `ROWS`, each with its width in bytes and its
+/// function.
+#[derive(Drop)]
+pub struct DidTable<const ROWS: usize> {
+    rows: ArrayVec<Option<Row>, ROWS>,
+    ghost filled: { length (rows_dids rows.items) ≡ length rows.items },
+}
+
+impl<const ROWS: usize> DidTable<ROWS> {
+    ghost use Rattle.flt_did.specs.Table.{dids_of};
+
+    /// A table without data identifiers.
+    pub fn new() -> Self
+        ensures { dids_of result ≡ [] }
+    {
+        DidTable {
+            rows: ArrayVec::new(),
+        }
+    }
+
+    /// Adds a data identifier of 1 to 8 bytes. Its function may be called on all signals, tells the
+    /// value that is written of the identifier, and fits the width: the table keeps these facts
+    /// beside it.
+    pub fn add(&mut self, id: u16, width: u8, read: Reader) -> Result<(), TableFault>
+        requires width { (1 ≤ width) × (width ≤ 8) }
+        requires callable { (s : Bor SignalValues) → Reader.pre read s }
+        requires value { (s : Bor SignalValues) (r : ℕ) → Reader.post read s r → did_value id s.now.values ≡ Some r }
+        requires narrow { (s : Bor SignalValues) (r : ℕ) → Reader.post read s r → r < 256 ^ width }
+        ensures ok { OnOk result (dids_of self.new ≡ dids_of self.old ++ record { id = id; width = width } ∷ []) }
+        ensures err { OnErr result (dids_of self.new ≡ dids_of self.old) }
+        ensures twice { (result ≡ Err TableFault.DidTwice) ↔ IsSome (find (is_did id) (dids_of self.old)) }
+        ensures full { (result ≡ Err TableFault.TableFull) ↔ (IsNone (find (is_did id) (dids_of self.old)) × (length (dids_of self.old) ≡ ROWS)) }
+    {
+        if self.width(id).is_some() {
+            return Err(TableFault::DidTwice);
+        }
+        if self.rows.is_full() {
+            return Err(TableFault::TableFull);
+        }
+        self.rows.push(Some(Row { id, width, read }));
+        Ok(())
+    }
+
+    /// The width of a data identifier in bytes, where it was added.
+    pub fn width(&self, id: u16) -> Option<u8>
+        ensures { result ≡ option_map (λ did. did.width) (find (is_did id) (dids_of self.now)) }
+    {
+        match find_row(&self.rows, id) {
+            Some(row) => Some(row.width),
+            None => None,
+        }
+    }
+
+    /// Whether the table has the data identifier, with its width.
+    fn has(&self, did: DidUse) -> bool
+        ensures { IsTrue result ↔ (find (is_did did.id) (dids_of self.now) ≡ Some did) }
+    {
+        match self.width(did.id) {
+            Some(width) => width == did.width,
+            None => false,
+        }
+    }
+
+    /// Whether the table has each of these data identifiers, with its width.
+    pub fn has_all(&self, dids: &[DidUse]) -> bool
+        ensures { IsTrue result ↔ HasAll (dids_of self.now) dids.now }
+    {
+        for did in dids {
+            if !self.has(*did) {
+                return false;
+            }
+        }
+        true
+    }
+
+    /// Whether the table has each data identifier of each event, with its width.
+    pub fn serves(&self, events: &[EventCfg]) -> bool
+        ensures { IsTrue result ↔ Serves (dids_of self.now) events.now }
+    {
+        for event in events {
+            if !self.has_all(&event.dids) {
+                return false;
+            }
+        }
+        true
+    }
+
+    /// The values of the data identifiers at these signals, one after another in the order of the
+    /// list, each big-endian in its width.
+    pub fn frame(&self, dids: &ArrayVec<DidUse, DIDS>, signals: &Signals) -> Frame
+        requires present { HasAll (dids_of self.now) dids.now.items }
+        requires fits { frame_width dids.now.items ≤ FRAME }
+        ensures { result.items ≡ frame_bytes dids.now.items signals.now.values }
+    {
+        let mut frame = ArrayVec::new();
+        for did in dids.as_slice() {
+            put_did(&mut frame, &self.rows, *did, signals);
+        }
+        frame
+    }
+}
+
+fn put_did(frame: &mut Frame, rows: &[Option<Row>], did: DidUse, signals: &Signals)
+    requires present { find (is_did did.id) (rows_dids rows.now) ≡ Some did }
+    requires room { length frame.old.items + did.width ≤ FRAME }
+    ensures bytes { frame.new.items ≡ frame.old.items ++ did_bytes signals.now.values did }
+    ensures length { length frame.new.items ≡ length frame.old.items + did.width }
+{
+    match find_row(rows, did.id) {
+        Some(row) => put_value(frame, row.width, (row.read)(signals)),
+        None => unreachable!(),
+    }
+}
+
+fn put_value(frame: &mut Frame, width: u8, value: u64)
+    requires width { width ≤ 8 }
+    requires room { length frame.old.items + width ≤ FRAME }
+    ensures bytes { frame.new.items ≡ frame.old.items ++ big_endian width value }
+    ensures length { length frame.new.items ≡ length frame.old.items + width }
+{
+    let bytes = value.to_be_bytes();
+    for byte in &bytes[8 - width as usize..] {
+        frame.push(*byte);
+    }
+}
+
+fn find_row(rows: &[Option<Row>], id: u16) -> Option<&Row>
+    ensures found { option_map row_did (option_copied result) ≡ find (is_did id) (rows_dids rows.now) }
+    ensures named { IfSome result (λ row. row.now.id ≡ id) }
+{
+    for row in rows {
+        if let Some(row) = row {
+            if row.id == id {
+                return Some(row);
+            }
+        }
+    }
+    None
+}

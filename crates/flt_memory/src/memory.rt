@@ -1,0 +1,163 @@
+//! The fault memory.
+ghost use Rattle.std.specs.Prelude.{◌≡◌, ◌+◌, ◌<◌, ◌≤◌, ◌↔◌, [], false, not, length, IsTrue, IsSome, All, AllPairs, position, find, filter, option_copied, slice_set, slice_index_or};
+ghost use Rattle.flt_config.specs.Durable.{is_of_event as is_event};
+
+use crate::entry::{entry_of, update_at};
+use crate::rank::displaced_place;
+use arrayvec::ArrayVec;
+use flt_config::{Config, ENTRIES, EVENTS, EntryState, EventState, Frame, ValidConfig, place_of};
+use std::marker::Model;
+
+/// What became of an event that was stored.
+#[derive(Clone, Copy, PartialEq, Eq, Debug)]
+pub enum Stored {
+    /// It has an entry, which is updated at its place.
+    Updated,
+    /// It has none, and one is added behind the others.
+    Added,
+    /// It has none, the memory is full, and the entry of the event with this number gives way to one of it.
+    Displaced(u16),
+    /// It has none, the memory is full, and no entry gives way: the entries stay.
+    Refused,
+}
+
+/// The entries of the fault memory, at most 16, each of another event and in the order in which they
+/// were added, and the overflow flag.
+#[derive(Drop)]
+pub struct EventMemory {
+    entries: ArrayVec<EntryState, ENTRIES>,
+    overflow: bool,
+}
+
+impl Model for EventMemory {
+    ghost use Rattle.std.specs.Prelude.{AllPairs};
+    ghost use Rattle.flt_config.specs.Durable.{IsOfOtherEvent};
+    ghost use Rattle.flt_memory.specs.Memory.{Memory as Kept};
+
+    ghost Value = { Kept };
+
+    ghost view = { λ m. record { entries = m.entries.items; overflow = m.overflow } };
+
+    ghost invariant = { λ m. AllPairs IsOfOtherEvent m.entries.items };
+}
+
+impl EventMemory {
+    ghost use Rattle.flt_config.specs.Durable.{IsOfOtherEvent, is_of_event};
+    ghost use Rattle.flt_memory.specs.Store.{StoresAs};
+
+    /// A memory without entries.
+    pub fn empty() -> EventMemory
+        ensures { result ≡ record { entries = []; overflow = false } }
+    {
+        EventMemory {
+            entries: ArrayVec::new(),
+            overflow: false,
+        }
+    }
+
+    /// The entries, in the order in which they were added.
+    pub fn entries(&self) -> &ArrayVec<EntryState, ENTRIES>
+        ensures value { result.now.items ≡ self.now.entries }
+        ensures distinct { AllPairs IsOfOtherEvent self.now.entries }
+    {
+        &self.entries
+    }
+
+    /// The overflow flag: whether an event found the memory full since all was cleared.
+    pub fn overflow(&self) -> bool
+        ensures { result ≡ self.now.overflow }
+    {
+        self.overflow
+    }
+
+    /// Takes over saved entries, each of another event, and the overflow flag.
+    pub fn load(&mut self, entries: &ArrayVec<EntryState, ENTRIES>, overflow: bool)
+        requires { AllPairs IsOfOtherEvent entries.now.items }
+        ensures { self.new ≡ record { entries = entries.now.items; overflow = overflow } }
+    {
+        self.entries = entries.clone().unwrap();
+        self.overflow = overflow;
+    }
+
+    /// Removes all entries, and takes the overflow flag back.
+    pub fn clear(&mut self)
+        ensures { self.new ≡ record { entries = []; overflow = false } }
+    {
+        self.entries.clear();
+        self.overflow = false;
+    }
+
+    /// The event's entry, if there is one.
+    pub fn find(&self, event: u16) -> Option<&EntryState>
+        ensures { option_copied result ≡ find (is_of_event event) self.now.entries }
+    {
+        find_entry(&self.entries, event)
+    }
+
+    /// Removes the event's entry, and answers whether there was one.
+    pub fn remove(&mut self, event: u16) -> bool
+        ensures removed { IsTrue result ↔ IsSome (position (is_of_event event) self.old.entries) }
+        ensures entries { self.new.entries ≡ filter (λ entry. not (is_of_event event entry)) self.old.entries }
+        ensures overflow { self.new.overflow ≡ self.old.overflow }
+    {
+        let removed = place_of(&self.entries, event).is_some();
+        self.entries.retain(|entry| entry.event != event);
+        removed
+    }
+}
+
+/// The event's entry among these.
+fn find_entry(entries: &[EntryState], event: u16) -> Option<&EntryState>
+    ensures { option_copied result ≡ find (is_event event) entries.now }
+{
+    for entry in entries {
+        if entry.event == event {
+            return Some(entry);
+        }
+    }
+    None
+}
+
+impl EventMemory {
+    ghost use Rattle.flt_config.specs.Durable.{IsOfOtherEvent};
+    ghost use Rattle.flt_memory.specs.Store.{StoresAs};
+
+    /// Stores an event with the frame of this moment: in its entry, in a new one, or in place of the worst
+    /// where the memory has its `memory` entries. Of two entries the one with the greater priority number
+    /// is worse; of equal numbers the one whose test did not fail last, its status bit 0 being 0; and of
+    /// those the older. The worst gives way to an event of a smaller number, and to one of the same number
+    /// where its own test did not fail last. A memory that is found full sets the overflow flag.
+    pub fn store(
+        &mut self,
+        config: &ValidConfig,
+        states: &ArrayVec<EventState, EVENTS>,
+        event: u16,
+        frame: &Frame,
+    ) -> Stored
+        requires configured { event < length config.now.events.items }
+        requires entries { All (λ entry. entry.event < length config.now.events.items) self.old.entries }
+        requires states { length states.now.items ≡ length config.now.events.items }
+        requires room { length self.old.entries ≤ config.now.memory }
+        ensures stored { StoresAs config.now states.now.items event frame.now.items self.old self.new result }
+        ensures distinct { AllPairs IsOfOtherEvent self.old.entries }
+    {
+        let config = config.config();
+        if let Some(place) = place_of(&self.entries, event) {
+            update_at(&mut self.entries, place, frame);
+            return Stored::Updated;
+        }
+        if self.entries.len() < config.memory as usize {
+            self.entries.push(entry_of(event, frame));
+            return Stored::Added;
+        }
+        self.overflow = true;
+        match displaced_place(config, states, &self.entries, event) {
+            None => Stored::Refused,
+            Some(place) => {
+                let displaced = self.entries.remove(place);
+                self.entries.push(entry_of(event, frame));
+                Stored::Displaced(displaced.event)
+            }
+        }
+    }
+}

@@ -1,0 +1,213 @@
+-- The order of the negative response codes.
+use Rattle.std.proofs.Common.{◌≡◌, ℕ, ◌+◌, ◌%◌, ◌<◌, nat_eq, nat_le, Bool, true, false, not, ◌&&◌, ◌||◌, cond, List, [], ◌∷◌, length, Option, Some, None, Ok, Err, is_some, refl, sym, subst, arith, inl, inr, eqb-true}
+use Rattle.std.specs.Prelude.{option_map, MatchOption, slice_get, is_none}
+use Rattle.std.specs.List.{find, list_any}
+use Rattle.std.proofs.lemmas.Bool.{cases_Bool, and_parts, ne_eqb}
+use Rattle.flt_model.specs.Happening.{all_dtcs}
+use Rattle.flt_model.specs.NegativeCode.{sub_function_not_supported, incorrect_length, request_out_of_range}
+use Rattle.flt_model.specs.Request.{Form, Plain, Masked, Recorded, Optioned, SubFunction, sub_functions, has_sub_functions, form_of, dtc_of, is_record_number, accepted, asked_in}
+use Rattle.flt_model.specs.Response.{EventView, View, is_of_dtc, positive, responded, response_to, response, negative}
+use Rattle.flt_model.specs.CodeLaws.{Condition, where_, first_code, conditions, lengths_of, names_unknown, IsPositive, CodesComeInOrder}
+use Rattle.flt_model.specs.declared.call.Reply.{Reply}
+use Rattle.flt_model.specs.declared.request.Request.{Request}
+
+-- ---- each row of the table answers for its service
+
+abbrev pub Begins : ℕ → Option (List ℕ) → Type 0
+Begins byte None = ⊥
+Begins byte (Some bytes) = slice_get bytes 0 ≡ Some byte
+
+-- a request of this form is answered, but for an unknown DTC
+abbrev pub IsSound : ℕ → Form → Type 0
+IsSound service (Plain request) = (view : View) → Begins (service + 0x40) (positive view request)
+IsSound service (Masked request) = (view : View) (mask : ℕ) → Begins (service + 0x40) (positive view (request mask))
+IsSound service (Recorded request) = (view : View) (dtc number : ℕ) →
+    MatchOption (find (is_of_dtc dtc) view.events) (positive view (request dtc number) ≡ None) (λ event. Begins (service + 0x40) (positive view (request dtc number)))
+IsSound service (Optioned request) = (view : View) → Begins (service + 0x40) (positive view request)
+
+abbrev pub AllSound : List SubFunction → Type 0
+AllSound [] = Unit {0}
+AllSound (row ∷ rows) = IsSound row.service row.form × AllSound rows
+
+known_or_none : (found : Option EventView) (bytes : EventView → List ℕ) → ((event : EventView) → slice_get (bytes event) 0 ≡ Some 0x59) →
+    MatchOption found (option_map bytes found ≡ None) (λ event. Begins 0x59 (option_map bytes found))
+known_or_none None bytes begins = refl
+known_or_none (Some event) bytes begins = begins event
+
+all_sound : AllSound sub_functions
+all_sound = (
+  λ view. refl,
+  (
+    λ view. refl,
+    (
+      λ view mask. refl,
+      (
+        λ view mask. refl,
+        (
+          λ view. refl,
+          (
+            λ view dtc number. known_or_none (find (is_of_dtc dtc) view.events) _ (λ event. refl),
+            (
+              λ view dtc number. known_or_none (find (is_of_dtc dtc) view.events) _ (λ event. refl),
+              (
+                λ view. refl,
+                (
+                  λ view. refl,
+                  (
+                    λ view. refl,
+                    (
+                      λ view. refl,
+                      (
+                        λ view. refl,
+                        (
+                          λ view. refl,
+                          (
+                            λ view. refl,
+                            (
+                              λ view. refl,
+                              (
+                                λ view. refl,
+                                tt,
+                              ),
+                            ),
+                          ),
+                        ),
+                      ),
+                    ),
+                  ),
+                ),
+              ),
+            ),
+          ),
+        ),
+      ),
+    ),
+  ),
+)
+
+sound_in : (rows : List SubFunction) (service sub : ℕ) (form : Form) → AllSound rows →
+    option_map (λ (r : SubFunction). r.form) (find (λ (r : SubFunction). nat_eq r.service service && nat_eq r.sub sub) rows) ≡ Some form → IsSound service form
+sound_in [] service sub form sound e = absurd (cc)
+sound_in (row ∷ rows) service sub form sound e =
+    elim (cases_Bool (nat_eq row.service service && nat_eq row.sub sub)) [
+      | inl at ↦
+          let parts = and_parts (nat_eq row.service service) (nat_eq row.sub sub) at in
+          let here : Some row.form ≡ Some form = rw at at e in
+          let same : row.form ≡ form = cc in
+          subst (λ f. IsSound service f) same (subst (λ s. IsSound s row.form) (eqb-true row.service service parts.0) sound.0)
+      | inr other ↦ sound_in rows service sub form sound.1 (rw other at e)
+    ]
+
+sound_row : (service sub : ℕ) (form : Form) → form_of service sub ≡ Some form → IsSound service form
+sound_row service sub form e = sound_in sub_functions service sub form all_sound e
+
+-- ---- a positive response
+
+answered : (service : ℕ) (silent : Bool) (bytes : Option (List ℕ)) → Begins (service + 0x40) bytes → IsPositive service (responded service silent bytes)
+answered service silent None begins = absurd begins
+answered service true (Some bytes) begins = tt
+answered service false (Some bytes) begins = begins
+
+-- ---- lengths
+
+shorter : (a b : ℕ) → a < b → nat_eq a b ≡ false
+shorter a b less = ne_eqb a b (λ same. absurd (omega (arith, less, same)))
+
+longer : (a b : ℕ) → a < b → nat_eq b a ≡ false
+longer a b less = ne_eqb b a (λ same. absurd (omega (arith, less, same)))
+
+-- ---- a clear
+
+-- what follows where no earlier condition holds
+abbrev pub Ordered : View → ℕ → List Condition → Reply → Type 0
+Ordered view service rows reply = MatchOption (first_code rows) (IsPositive service reply) (λ code. reply ≡ negative service code)
+
+clear_known : (view : View) (extended all known : Bool) →
+    Ordered view 0x14 (where_ (not all && not known) request_out_of_range ∷ []) (responded 0x14 false (cond (all || known) (Some (0x54 ∷ [])) None))
+clear_known view extended true known = refl
+clear_known view extended false true = refl
+clear_known view extended false false = refl
+
+none_is_not_some : (found : Option EventView) → is_none found ≡ not (is_some found)
+none_is_not_some None = refl
+none_is_not_some (Some event) = refl
+
+clear_case : (view : View) (extended : Bool) (rest : List ℕ) → Ordered view 0x14 (conditions view extended (0x14 ∷ rest)) (response view extended (0x14 ∷ rest))
+clear_case view extended [] = refl
+clear_case view extended (a ∷ []) = refl
+clear_case view extended (a ∷ b ∷ []) = refl
+clear_case view extended (a ∷ b ∷ c ∷ []) =
+    rw (none_is_not_some (find (is_of_dtc (dtc_of a b c)) view.events))
+    (clear_known view extended (nat_eq (dtc_of a b c) all_dtcs) (is_some (find (is_of_dtc (dtc_of a b c)) view.events)))
+clear_case view extended (a ∷ b ∷ c ∷ d ∷ rest) = rw (shorter 4 (length (0x14 ∷ a ∷ b ∷ c ∷ d ∷ rest)) (omega arith)) refl
+
+-- ---- a service with sub-functions
+
+-- a DTC and a record number: both are to be known
+record_case : (view : View) (service : ℕ) (silent : Bool) (request : Request) (is_record : Bool) (found : Option EventView) →
+    MatchOption found (positive view request ≡ None) (λ event. Begins (service + 0x40) (positive view request)) →
+    Ordered view service (where_ (not is_record || is_none found) request_out_of_range ∷ [])
+    (response_to view service (accepted service silent (cond is_record (Ok request) (Err request_out_of_range))))
+record_case view service silent request false found sound = refl
+record_case view service silent request true None sound = rw sound refl
+record_case view service silent request true (Some event) sound = answered service silent (positive view request) sound
+
+-- option bytes
+option_case : (view : View) (service : ℕ) (silent : Bool) (request : Request) (is_known : Bool) → Begins (service + 0x40) (positive view request) →
+    Ordered view service (where_ (not is_known) request_out_of_range ∷ [])
+    (response_to view service (accepted service silent (cond is_known (Ok request) (Err request_out_of_range))))
+option_case view service silent request false sound = refl
+option_case view service silent request true sound = answered service silent (positive view request) sound
+
+-- the conditions on what stands behind the service
+abbrev pub rows_behind : View → List ℕ → Option Form → List ℕ → List Condition
+rows_behind view bytes form rest =
+    where_ (is_none form) sub_function_not_supported
+    ∷ where_ (not (list_any (λ n. nat_eq n (length bytes)) (lengths_of form))) incorrect_length
+    ∷ where_ (names_unknown view form rest) request_out_of_range
+    ∷ []
+
+form_case : (view : View) (service sub : ℕ) (silent : Bool) (form : Option Form) (rest : List ℕ) → ((f : Form) → form ≡ Some f → IsSound service f) →
+    Ordered view service (rows_behind view (service ∷ sub ∷ rest) form rest) (response_to view service (asked_in service silent form rest))
+form_case view service sub silent None rest sound = refl
+form_case view service sub silent (Some (Plain request)) [] sound = answered service silent (positive view request) (sound (Plain request) refl view)
+form_case view service sub silent (Some (Plain request)) (a ∷ rest) sound = rw (shorter 2 (length (service ∷ sub ∷ a ∷ rest)) (omega arith)) refl
+form_case view service sub silent (Some (Masked request)) [] sound = refl
+form_case view service sub silent (Some (Masked request)) (mask ∷ []) sound = answered service silent (positive view (request mask)) (sound (Masked request) refl view mask)
+form_case view service sub silent (Some (Masked request)) (a ∷ b ∷ rest) sound = rw (shorter 3 (length (service ∷ sub ∷ a ∷ b ∷ rest)) (omega arith)) refl
+form_case view service sub silent (Some (Recorded request)) [] sound = refl
+form_case view service sub silent (Some (Recorded request)) (a ∷ []) sound = refl
+form_case view service sub silent (Some (Recorded request)) (a ∷ b ∷ []) sound = refl
+form_case view service sub silent (Some (Recorded request)) (a ∷ b ∷ c ∷ []) sound = refl
+form_case view service sub silent (Some (Recorded request)) (a ∷ b ∷ c ∷ number ∷ []) sound =
+    record_case view service silent (request (dtc_of a b c) number) (is_record_number number) (find (is_of_dtc (dtc_of a b c)) view.events)
+    (sound (Recorded request) refl view (dtc_of a b c) number)
+form_case view service sub silent (Some (Recorded request)) (a ∷ b ∷ c ∷ d ∷ e ∷ rest) sound =
+    rw (shorter 6 (length (service ∷ sub ∷ a ∷ b ∷ c ∷ d ∷ e ∷ rest)) (omega arith)) refl
+form_case view service sub silent (Some (Optioned request)) [] sound = answered service silent (positive view request) (sound (Optioned request) refl view)
+form_case view service sub silent (Some (Optioned request)) (a ∷ []) sound = refl
+form_case view service sub silent (Some (Optioned request)) (a ∷ b ∷ []) sound = refl
+form_case view service sub silent (Some (Optioned request)) (a ∷ b ∷ c ∷ []) sound =
+    option_case view service silent request (nat_eq a 0xFF && nat_eq b 0xFF && nat_eq c 0xFF) (sound (Optioned request) refl view)
+form_case view service sub silent (Some (Optioned request)) (a ∷ b ∷ c ∷ d ∷ rest) sound =
+    let length_of = length (service ∷ sub ∷ a ∷ b ∷ c ∷ d ∷ rest) in
+    rw (shorter 2 length_of (omega arith), shorter 5 length_of (omega arith)) refl
+
+sub_case : (view : View) (extended : Bool) (service : ℕ) (rest : List ℕ) → nat_eq service 0x14 ≡ false → has_sub_functions service ≡ true → (nat_eq service 0x85 && not extended) ≡ false →
+    Ordered view service (conditions view extended (service ∷ rest)) (response view extended (service ∷ rest))
+sub_case view extended service [] other some on = rw (other, some, on) refl
+sub_case view extended service (sub ∷ rest) other some on =
+    rw (other, some, on, longer 1 (length (service ∷ sub ∷ rest)) (omega arith)) (form_case view service sub (nat_le 128 sub) (form_of service (sub % 128)) rest (λ form is. sound_row service (sub % 128) form is))
+
+pub codes_come_in_order : CodesComeInOrder
+codes_come_in_order view extended service rest =
+    elim (cases_Bool (nat_eq service 0x14)) [
+      | inl at ↦ subst (λ s. Ordered view s (conditions view extended (s ∷ rest)) (response view extended (s ∷ rest))) (sym (eqb-true service 0x14 at)) (clear_case view extended rest)
+      | inr other ↦ elim (cases_Bool (has_sub_functions service)) [
+        | inr none ↦ rw (other, none) refl
+        | inl some ↦ elim (cases_Bool (nat_eq service 0x85 && not extended)) [
+          | inl off ↦ rw (other, some, off) refl
+          | inr on ↦ sub_case view extended service rest other some on
+        ]
+      ]
+    ]

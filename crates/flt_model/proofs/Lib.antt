@@ -1,0 +1,13 @@
+pub mod Common
+pub mod StatusLaws
+pub mod CounterLaws
+pub mod CodeLaws
+pub mod NoteLaws
+pub mod EntryLaws
+pub mod RangeLaws
+pub mod RankLemmas
+pub mod WorstLemmas
+pub mod EntryLemmas
+pub mod RoomLaws
+pub mod AloneLaws
+pub mod ClearLaws

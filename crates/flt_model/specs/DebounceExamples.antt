@@ -1,0 +1,87 @@
+-- Worked examples of debouncing.
+use Rattle.std.specs.Prelude.{false, [], ◌∷◌, pos, negsuc, None, Some}
+use Rattle.flt_config.specs.declared.config.Debounce.TheVariants as kinds
+use Rattle.flt_model.specs.Life.{fresh}
+use Rattle.flt_model.specs.declared.call.Op.TheVariants.{Tick, Cycle, Show}
+use Rattle.flt_model.specs.declared.call.Reply.TheVariants.{Taken}
+use Rattle.flt_model.specs.Example.{event, configured, ◌⇒◌, Replays, fail, pass, prefail, prepass, asks, responds, minus, shows, extended}
+
+-- A counter jumps up, clamps at its threshold and steps down.
+abbrev pub CounterWithJump : Type 0
+CounterWithJump =
+    Replays (fresh (configured 16 (record (event 0x000001) { debounce = kinds.Counter (pos 10) (negsuc 9) (pos 3) (pos 2) (Some (pos 0)) None } ∷ [])))
+    (Cycle 0 ⇒ Taken
+    ∷ pass 0 ⇒ Taken
+    ∷ Show 0 ⇒ shows 0x00 (minus 128) 0 0 0 false
+    ∷ prefail 0 ⇒ Taken
+    ∷ Show 0 ⇒ shows 0x00 (pos 38) 0 0 0 false
+    ∷ asks 0 (0x19 ∷ 0x14 ∷ []) ⇒ responds (0x59 ∷ 0x14 ∷ 0x00 ∷ 0x00 ∷ 0x01 ∷ 0x26 ∷ [])
+    ∷ prefail 0 ⇒ Taken
+    ∷ Show 0 ⇒ shows 0x00 (pos 76) 0 0 0 false
+    ∷ prefail 0 ⇒ Taken
+    ∷ Show 0 ⇒ shows 0x00 (pos 114) 0 0 0 false
+    ∷ prefail 0 ⇒ Taken
+    ∷ Show 0 ⇒ shows 0x2F (pos 127) 1 0 1 false
+    ∷ prepass 0 ⇒ Taken
+    ∷ Show 0 ⇒ shows 0x2F (pos 101) 1 0 1 false
+    ∷ [])
+
+-- A counter jumps down before it steps down.
+abbrev pub CounterJumpsDown : Type 0
+CounterJumpsDown =
+    Replays (fresh (configured 16 (record (event 0x000001) { debounce = kinds.Counter (pos 10) (negsuc 9) (pos 3) (pos 2) None (Some (pos 0)) } ∷ [])))
+    (Cycle 0 ⇒ Taken
+    ∷ fail 0 ⇒ Taken
+    ∷ Show 0 ⇒ shows 0x2F (pos 127) 1 0 1 false
+    ∷ prepass 0 ⇒ Taken
+    ∷ Show 0 ⇒ shows 0x2F (minus 25) 1 0 1 false
+    ∷ prefail 0 ⇒ Taken
+    ∷ Show 0 ⇒ shows 0x2F (pos 12) 1 0 1 false
+    ∷ [])
+
+-- A timer qualifies once, and a repeated report does not restart it.
+abbrev pub TimerQualifiesOnce : Type 0
+TimerQualifiesOnce =
+    Replays (fresh (configured 16 (record (event 0x000001) { debounce = kinds.Time 10 5 } ∷ [])))
+    (Cycle 0 ⇒ Taken
+    ∷ prefail 0 ⇒ Taken
+    ∷ Tick 9 ⇒ Taken
+    ∷ Show 0 ⇒ shows 0x50 (pos 114) 0 0 0 false
+    ∷ prefail 0 ⇒ Taken
+    ∷ Tick 1 ⇒ Taken
+    ∷ Show 0 ⇒ shows 0x2F (pos 127) 1 0 1 false
+    ∷ Tick 50 ⇒ Taken
+    ∷ Show 0 ⇒ shows 0x2F (pos 127) 1 0 1 false
+    ∷ [])
+
+-- A report of the other direction starts a timer anew.
+abbrev pub TimerTurnsBack : Type 0
+TimerTurnsBack =
+    Replays (fresh (configured 16 (record (event 0x000001) { debounce = kinds.Time 10 5 } ∷ [])))
+    (Cycle 0 ⇒ Taken
+    ∷ prefail 0 ⇒ Taken
+    ∷ Tick 5 ⇒ Taken
+    ∷ Show 0 ⇒ shows 0x50 (pos 63) 0 0 0 false
+    ∷ prepass 0 ⇒ Taken
+    ∷ Show 0 ⇒ shows 0x50 (pos 0) 0 0 0 false
+    ∷ Tick 4 ⇒ Taken
+    ∷ Show 0 ⇒ shows 0x50 (minus 102) 0 0 0 false
+    ∷ Tick 1 ⇒ Taken
+    ∷ Show 0 ⇒ shows 0x00 (minus 128) 0 0 0 false
+    ∷ [])
+
+-- A timer stands still while the setting is off.
+abbrev pub SettingOffStopsTimers : Type 0
+SettingOffStopsTimers =
+    Replays (fresh (configured 16 (record (event 0x000001) { debounce = kinds.Time 10 5 } ∷ [])))
+    (Cycle 0 ⇒ Taken
+    ∷ prefail 0 ⇒ Taken
+    ∷ Tick 4 ⇒ Taken
+    ∷ asks 0 (0x10 ∷ 0x03 ∷ []) ⇒ extended
+    ∷ asks 0 (0x85 ∷ 0x02 ∷ []) ⇒ responds (0xC5 ∷ 0x02 ∷ [])
+    ∷ Tick 6 ⇒ Taken
+    ∷ Show 0 ⇒ shows 0x50 (pos 50) 0 0 0 false
+    ∷ asks 0 (0x85 ∷ 0x01 ∷ []) ⇒ responds (0xC5 ∷ 0x01 ∷ [])
+    ∷ Tick 6 ⇒ Taken
+    ∷ Show 0 ⇒ shows 0x2F (pos 127) 1 0 1 false
+    ∷ [])

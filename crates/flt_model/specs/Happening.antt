@@ -1,0 +1,112 @@
+-- What the calls mean for each event: started cycles, signals, and what happened to the event (AUTOSAR Dem, in outline).
+use Rattle.std.specs.Prelude.{ℕ, ◌==◌, Bool, true, false, not, ◌&&◌, ◌||◌, if◌then◌else◌, List, [], ◌∷◌, Option, Some, None, Result, Ok, Err}
+use Rattle.flt_model.specs.Life.{Life, History, event_of}
+use Rattle.flt_model.specs.Mark.{decided}
+use Rattle.flt_model.specs.Debounce.{Happening, Happenings, Reported, Ticked, Ended, Cleared}
+use Rattle.flt_model.specs.Request.{asked}
+use Rattle.flt_model.specs.Session.{is_setting_off}
+use Rattle.flt_model.specs.declared.call.Op.{Op}
+use Rattle.flt_model.specs.declared.call.Op.TheVariants as ops
+use Rattle.flt_model.specs.declared.request.Request.{Request}
+use Rattle.flt_model.specs.declared.request.Request.TheVariants.{Clear}
+use Rattle.flt_model.specs.declared.request.Asked.{Asked}
+use Rattle.flt_model.specs.declared.request.Negative.{Negative}
+
+-- ---- started cycles
+
+-- An operation cycle is started by a call on it.
+abbrev pub started_row : ℕ → History → Op → Option Bool
+started_row cycle past (ops.Cycle other) = if other == cycle then Some true else None
+started_row cycle past _ = None
+
+-- The operation cycle was started since power-up.
+abbrev pub is_started : ℕ → History → Bool
+is_started cycle past = decided (started_row cycle) false past
+
+-- ---- signals
+
+-- A signal has the value of the last call on it.
+abbrev pub signal_row : ℕ → History → Op → Option ℕ
+signal_row index past (ops.Signal other value) = if other == index then Some value else None
+signal_row index past _ = None
+
+-- The value of a signal, 0 at power-up.
+abbrev pub signal : ℕ → History → ℕ
+signal index past = decided (signal_row index) 0 past
+
+-- The values of the eight signals.
+abbrev pub signals : History → List ℕ
+signals past =
+    signal 0 past ∷ signal 1 past ∷ signal 2 past ∷ signal 3 past
+    ∷ signal 4 past ∷ signal 5 past ∷ signal 6 past ∷ signal 7 past ∷ []
+
+-- ---- clears
+
+-- The group of all DTCs.
+abbrev pub all_dtcs : ℕ
+all_dtcs = 0xFFFFFF
+
+-- The DTC that a request clears (ISO 14229-1, service 0x14).
+abbrev pub dtc_of_clear : Request → Option ℕ
+dtc_of_clear (Clear dtc) = Some dtc
+dtc_of_clear _ = None
+
+-- The same of what the bytes ask for.
+abbrev pub clear_asked : Result Asked Negative → Option ℕ
+clear_asked (Ok request) = dtc_of_clear request.request
+clear_asked (Err refused) = None
+
+-- The DTC that a call clears.
+abbrev pub cleared_dtc : Op → Option ℕ
+cleared_dtc (ops.Request tester bytes) = clear_asked (asked false bytes.items)
+cleared_dtc _ = None
+
+-- A clear of this DTC reaches an event.
+abbrev pub reaches : Life → ℕ → ℕ → Bool
+reaches life event dtc = (dtc == all_dtcs) || (dtc == (event_of life event).dtc)
+
+-- A clear that reaches the event.
+abbrev pub cleared_where : Bool → Option Happening
+cleared_where true = Some Cleared
+cleared_where false = None
+
+-- What a call that clears this DTC is for an event.
+abbrev pub happening_of_clear : Life → ℕ → Option ℕ → Option Happening
+happening_of_clear life event None = None
+happening_of_clear life event (Some dtc) = cleared_where (reaches life event dtc)
+
+-- ---- what happened to an event
+
+-- A report counts with the setting on, in a started cycle.
+abbrev pub counts_report : Life → ℕ → History → Bool
+counts_report life event past = not (is_setting_off past) && is_started (event_of life event).cycle past
+
+-- A report on the event itself.
+abbrev pub own_report : Life → ℕ → History → Bool → Option Bool
+own_report life event past true = Some (counts_report life event past)
+own_report life event past false = None
+
+-- A report that counts, and none where it is ignored or on another event.
+abbrev pub reported_where : Option Bool → Happening → Option Happening
+reported_where (Some true) report = Some report
+reported_where (Some false) report = None
+reported_where None report = None
+
+-- What a call after a past is for an event.
+abbrev pub happening_of : Life → ℕ → History → Op → Option Happening
+happening_of life event past (ops.Report other report) =
+    reported_where (own_report life event past (other == event)) (Reported report)
+happening_of life event past (ops.Tick ticks) = if is_setting_off past then None else Some (Ticked ticks)
+happening_of life event past (ops.Cycle cycle) = if cycle == (event_of life event).cycle then Some Ended else None
+happening_of life event past (ops.Request tester bytes) = happening_of_clear life event (cleared_dtc (ops.Request tester bytes))
+happening_of life event past _ = None
+
+-- One more happening, where there is one.
+abbrev pub with_happening : Option Happening → Happenings → Happenings
+with_happening None happenings = happenings
+with_happening (Some happening) happenings = happening ∷ happenings
+
+-- What happened to an event in a list of calls, the newest first.
+abbrev pub happenings : Life → ℕ → History → Happenings
+happenings life event [] = []
+happenings life event (op ∷ past) = with_happening (happening_of life event past op) (happenings life event past)

@@ -1,0 +1,64 @@
+-- What holds of entries and noted events after every list of calls.
+use Rattle.std.specs.Prelude.{◌≡◌, ℕ, ◌<◌, ◌⊎◌, slice_index, ◌≤◌, Bool, true, false, List, [], ◌∷◌, length, Option, Some, None}
+use Rattle.flt_config.specs.Durable.{Fits}
+use Rattle.flt_model.specs.Life.{Life, History}
+use Rattle.flt_model.specs.Mark.{Row, decided, Trace, marks_of}
+use Rattle.flt_model.specs.Mark.Mark.{Failed, Clear}
+use Rattle.flt_model.specs.Noted.{Notable, recent, first}
+use Rattle.flt_model.specs.Entry.{has_entry, holders, is_among, worst, IsWorse}
+use Rattle.flt_model.specs.declared.status.Rank.{Rank}
+use Rattle.flt_model.specs.Trace.{trace}
+
+-- A clear, with no failure since.
+abbrev pub cleared_row : Row
+cleared_row past Failed = Some false
+cleared_row past Clear = Some true
+cleared_row past _ = None
+
+-- The event was cleared, and did not fail since.
+abbrev pub is_cleared : ℕ → Trace → Bool
+is_cleared event trace = decided cleared_row false (marks_of event trace)
+
+-- No clear stands behind a noted event.
+abbrev pub NotedIsNotCleared : Type 0
+NotedIsNotCleared = (notable : Notable) (base : Option ℕ) (trace : Trace) (event : ℕ) →
+    recent notable base trace ≡ Some event → is_cleared event trace ≡ false
+
+-- The same of an event that is noted as the first.
+abbrev pub FirstIsNotCleared : Type 0
+FirstIsNotCleared = (notable : Notable) (base : Option ℕ) (trace : Trace) (event : ℕ) →
+    first notable base trace ≡ Some event → is_cleared event trace ≡ false
+
+-- An event is among the holders exactly where it was added, and not removed since.
+abbrev pub HoldersHaveEntries : Type 0
+HoldersHaveEntries = (life : Life) (trace : Trace) (event : ℕ) →
+    is_among event (holders life trace) ≡ has_entry life event trace
+
+-- An entry is worse than another by its rank, or of the same rank and older.
+abbrev pub IsWorseAt : (ℕ → Rank) → List ℕ → ℕ → ℕ → Type 0
+IsWorseAt rank events i j =
+    IsWorse (rank (slice_index events i)) (rank (slice_index events j))
+    ⊎ ((rank (slice_index events i) ≡ rank (slice_index events j)) × (i < j))
+
+-- The worst of the events is the one than which no other is worse.
+abbrev pub WorstIsUnique : Type 0
+WorstIsUnique = (rank : ℕ → Rank) (events : List ℕ) (place : ℕ) → place < length events →
+    ((k : ℕ) → k < length events → ¬ IsWorseAt rank events k place) → worst rank events ≡ Some (slice_index events place)
+
+-- Each event once.
+abbrev pub Distinct : List ℕ → Type 0
+Distinct [] = Unit {0}
+Distinct (event ∷ events) = (is_among event events ≡ false) × Distinct events
+
+-- The entries are of distinct events, and at most as many as the memory has room for.
+pub record HasRoom (life : Life) (marks : Trace) : Type 0 where
+  pub distinct : Distinct (holders life marks)
+  pub room : length (holders life marks) ≤ life.config.memory
+
+-- The entries of a base that fits are so.
+abbrev pub FittingBaseHasRoom : Type 0
+FittingBaseHasRoom = (life : Life) → Fits life.config life.base → HasRoom life []
+
+-- The calls keep the entries so.
+abbrev pub EntriesKeepRoom : Type 0
+EntriesKeepRoom = (life : Life) (past : History) → HasRoom life [] → HasRoom life (trace life past)

@@ -1,0 +1,83 @@
+//! What holds after every list of calls.
+
+ghost use Rattle.flt_model.specs.StatusLaws.{ByteTellsBits, LitIsConfirmed, IndicatorIsLit, TestFailedIsLastResult, PendingIsUnrefutedFailure};
+ghost use Rattle.flt_model.specs.DebounceLaws.{DebouncingStaysInRange, DetectionCounterTellsThresholds};
+ghost use Rattle.flt_model.specs.CodeLaws.{CodesComeInOrder};
+ghost use Rattle.flt_model.specs.CallLaws.{ClearOfAllLeavesFirstState, ReportIsAboutItsEvent, ClearIsAboutItsEvent, OthersAreLeftAlone, DisplacementLeavesOtherBits};
+ghost use Rattle.flt_model.specs.Laws.{NotedIsNotCleared, FirstIsNotCleared, HoldersHaveEntries, WorstIsUnique, FittingBaseHasRoom, EntriesKeepRoom};
+
+/// The bits of a status byte are read as they were put there.
+pub fn byte_tells_bits()
+    ensures { ByteTellsBits }
+{}
+
+/// An event that is lit is confirmed.
+pub fn lit_is_confirmed()
+    ensures { LitIsConfirmed }
+{}
+
+/// The warning indicator is requested exactly while the event is lit and has not healed.
+pub fn indicator_is_lit()
+    ensures { IndicatorIsLit }
+{}
+
+/// testFailed says that the last test since the last clear failed.
+pub fn test_failed_is_last_result()
+    ensures { TestFailedIsLastResult }
+{}
+
+/// pendingDTC says that a test failed, and that no cycle with passed tests alone ended since.
+pub fn pending_is_unrefuted_failure()
+    ensures { PendingIsUnrefutedFailure }
+{}
+
+/// A counter stays between its thresholds, and a timer below its own.
+pub fn debouncing_stays_in_range()
+    ensures { DebouncingStaysInRange }
+{}
+
+/// The fault detection counter is from -128 to 127, and at its ends exactly at the thresholds.
+pub fn detection_counter_tells_thresholds()
+    ensures { DetectionCounterTellsThresholds }
+{}
+
+/// No clear stands behind a noted event.
+pub fn noted_is_not_cleared()
+    ensures recent { NotedIsNotCleared }
+    ensures first { FirstIsNotCleared }
+{}
+
+/// An event has an entry exactly where it was added, and not removed since.
+pub fn holders_have_entries()
+    ensures { HoldersHaveEntries }
+{}
+
+/// The worst of the events is the one than which no other is worse.
+pub fn worst_is_unique()
+    ensures { WorstIsUnique }
+{}
+
+/// The entries stay of distinct events, and at most as many as the memory has room for.
+pub fn entries_keep_room()
+    ensures base { FittingBaseHasRoom }
+    ensures calls { EntriesKeepRoom }
+{}
+
+/// A request is refused with a code exactly where the code's condition holds and no earlier one does.
+pub fn codes_come_in_order()
+    ensures { CodesComeInOrder }
+{}
+
+/// A clear of all leaves the state of a controller that never saved one.
+pub fn clear_of_all_leaves_first_state()
+    ensures { ClearOfAllLeavesFirstState }
+{}
+
+/// A call that is about one event leaves the marks of every other event alone, but for one that is
+/// displaced, whose confirmedDTC and warningIndicatorRequested are taken back.
+pub fn others_are_left_alone()
+    ensures report { ReportIsAboutItsEvent }
+    ensures clear { ClearIsAboutItsEvent }
+    ensures alone { OthersAreLeftAlone }
+    ensures displaced { DisplacementLeavesOtherBits }
+{}

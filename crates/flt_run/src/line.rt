@@ -1,0 +1,194 @@
+ghost use Rattle.std.specs.Prelude.{◌≡◌, ◌≤◌, ◌++◌, IfOk, OnOk, length};
+ghost use Rattle.std.specs.String.{string_bytes};
+ghost use Rattle.flt_config.specs.Validity.{needed_pages};
+ghost use Rattle.flt_script.specs.Script.{content};
+ghost use Rattle.flt_run.specs.Report.{accepted_text, bytes_text, line_text, reply_text, spaced_text};
+ghost use Rattle.flt_run.specs.Steps.{step_count, lists};
+
+use flt_config::needed_pages;
+use flt_model::{Cause, Reply, Shown};
+use flt_script::{Part, Script};
+use std::alloc::{AllocError, Global};
+use std::fmt;
+use std::fmt::Write;
+
+/// A byte, which is printed in two hexadecimal digits.
+#[derive(Clone, Copy)]
+struct Hexadecimal(u8);
+
+impl fmt::Display for Hexadecimal {
+    ghost use Rattle.std.specs.Prelude.{Some};
+    ghost use Rattle.flt_run.specs.Report.{two_digits};
+
+    ghost output = { λ byte. Some (two_digits byte.0) };
+
+    fn fmt<W: fmt::Write>(&self, f: &mut fmt::Formatter<W>) -> fmt::Result {
+        let byte = self.0;
+        write!(f, "{byte:02X}")
+    }
+}
+
+/// The state of an event, as the report prints it.
+#[derive(Clone, Copy)]
+struct State(Shown);
+
+impl fmt::Display for State {
+    ghost use Rattle.std.specs.Prelude.{Some};
+    ghost use Rattle.flt_run.specs.Report.{state_text};
+
+    ghost output = { λ state. Some (state_text state.0) };
+
+    fn fmt<W: fmt::Write>(&self, f: &mut fmt::Formatter<W>) -> fmt::Result {
+        let Shown {
+            status,
+            fdc,
+            failed,
+            clean,
+            ..
+        } = self.0;
+        let status = Hexadecimal(status);
+        write!(f, "status {status} fdc {fdc} failed {failed} clean {clean}")
+    }
+}
+
+/// What the fault memory has of an event, as the report prints it.
+#[derive(Clone, Copy)]
+struct Stored {
+    stored: u8,
+    overflow: bool,
+}
+
+impl fmt::Display for Stored {
+    ghost use Rattle.std.specs.Prelude.{Some};
+    ghost use Rattle.flt_run.specs.Report.{stored_text};
+
+    ghost output = { λ s. Some (stored_text s.stored s.overflow) };
+
+    #[tactic(auto, unfolding(crate::specs::Report::stored_text))]
+    fn fmt<W: fmt::Write>(&self, f: &mut fmt::Formatter<W>) -> fmt::Result {
+        let Stored { stored, overflow } = *self;
+        match overflow {
+            true => write!(f, "stored {stored} overflow 1"),
+            false => write!(f, "stored {stored} overflow 0"),
+        }
+    }
+}
+
+/// Puts a reply behind what `line` holds.
+fn put_reply(line: &mut String, reply: &Reply) -> Result<(), AllocError>
+    ensures { OnOk result (string_bytes line.new ≡ string_bytes line.old ++ reply_text reply.now) }
+{
+    match reply {
+        Reply::Taken => line.push_str("taken"),
+        Reply::Ignored(Cause::SettingOff) => line.push_str("ignored setting"),
+        Reply::Ignored(Cause::NotStarted) => line.push_str("ignored cycle"),
+        Reply::Shown(shown) => {
+            let state = State(*shown);
+            let stored = Stored {
+                stored: shown.stored,
+                overflow: shown.overflow,
+            };
+            write!(line, "{state} {stored}")
+        }
+        Reply::Response(bytes) => put_bytes(line, bytes),
+        Reply::Silent => line.push_str("silent"),
+    }
+}
+
+/// Puts bytes behind what `line` holds, two digits each, with single spaces.
+fn put_bytes(line: &mut String, bytes: &[u8]) -> Result<(), AllocError>
+    ensures { OnOk result (string_bytes line.new ≡ string_bytes line.old ++ bytes_text bytes.now) }
+{
+    let Some((first, others)) = bytes.split_first() else {
+        return Ok(());
+    };
+    let first = Hexadecimal(*first);
+    write!(line, "{first}")?;
+    put_spaced(line, others)
+}
+
+/// Puts bytes behind what `line` holds, each behind a space.
+fn put_spaced(line: &mut String, bytes: &[u8]) -> Result<(), AllocError>
+    ensures { OnOk result (string_bytes line.new ≡ string_bytes line.old ++ spaced_text bytes.now) }
+{
+    for byte in bytes {
+        let byte = Hexadecimal(*byte);
+        write!(line, " {byte}")?;
+    }
+    Ok(())
+}
+
+/// Puts the line of a step and its reply in place of what `line` holds.
+pub(crate) fn put_line(line: &mut String, part: Part, reply: &Reply) -> Result<(), AllocError>
+    ensures { OnOk result (string_bytes line.new ≡ line_text part reply.now) }
+{
+    let Part::One(step) = part;
+    line.clear();
+    write!(line, "{step} -> ")?;
+    put_reply(line, reply)?;
+    line.push_str("\n")
+}
+
+/// How much of a sector a script's records take, and how much is done.
+#[derive(Clone, Copy)]
+struct Extent {
+    needed: u32,
+    pages: u16,
+    steps: usize,
+    lives: usize,
+}
+
+impl fmt::Display for Extent {
+    ghost use Rattle.std.specs.Prelude.{Some};
+    ghost use Rattle.flt_run.specs.Report.{extent_text};
+
+    ghost output = { λ e. Some (extent_text e.needed e.pages e.steps e.lives) };
+
+    fn fmt<W: fmt::Write>(&self, f: &mut fmt::Formatter<W>) -> fmt::Result {
+        let Extent {
+            needed,
+            pages,
+            steps,
+            lives,
+        } = *self;
+        write!(
+            f,
+            "needed {needed} pages {pages} steps {steps} lives {lives}"
+        )
+    }
+}
+
+/// The extent of a script.
+fn extent_of(script: &Script) -> Extent
+    ensures needed { result.needed ≡ needed_pages (content script.now).config }
+    ensures pages { result.pages ≡ (content script.now).config.pages }
+    ensures steps { result.steps ≡ step_count (content script.now).lives }
+    ensures lives { result.lives ≡ length (content script.now).lives }
+{
+    let config = script.config.config();
+    Extent {
+        needed: needed_pages(config),
+        pages: config.pages,
+        steps: step_count(&script.lives),
+        lives: script.lives.len(),
+    }
+}
+
+/// The line that tells what a script has.
+pub(crate) fn accepted_line(alloc: Global, script: &Script) -> Result<String, AllocError>
+    ensures { IfOk result (λ line. string_bytes line ≡ accepted_text (content script.now)) }
+{
+    let config = script.config.config();
+    let events = config.events.len();
+    let entries = config.memory;
+    let extent = extent_of(script);
+    format!(in alloc; "ok events {events} entries {entries} {extent}\n")
+}
+
+/// How many steps these lives have.
+fn step_count(lives: &[Vec<Part>]) -> usize
+    requires { step_count (lists lives.now) ≤ 65536 }
+    ensures { result ≡ step_count (lists lives.now) }
+{
+    lives.iter().map(|life| life.len()).sum()
+}

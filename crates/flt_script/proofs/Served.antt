@@ -1,0 +1,122 @@
+-- Each data identifier that an event uses is in the table, with its width.
+use Rattle.std.proofs.Common.{◌≡◌, ℕ, zero, suc, ◌<◌, List, [], ◌∷◌, ◌++◌, length, get_or, ◌==◌, Option, Some, None, Result, Ok, Err, refl, sym, subst, ◌∙◌, arith, unwrap_or}
+use Rattle.std.specs.Prelude.{IfSome, IfOk, find, slice_get, slice_set, option_to_list, All}
+use Rattle.std.proofs.lemmas.List.Elements.{All-append, All-set}
+use Rattle.flt_config.specs.declared.config.Config.{Config}
+use Rattle.flt_config.specs.declared.config.CfgFault.{CfgFault}
+use Rattle.flt_config.specs.declared.config.Debounce.{Debounce}
+use Rattle.flt_config.specs.declared.config.DidUse.{DidUse}
+use Rattle.flt_config.specs.declared.config.EventCfg.{EventCfg}
+use Rattle.flt_config.specs.Check.{check_of}
+use Rattle.flt_did.specs.Rows.{is_did}
+use Rattle.flt_did.specs.Serves.{HasAll, Serves}
+use Rattle.flt_script.specs.declared.event.EventLine.{EventLine}
+use Rattle.flt_script.specs.declared.fault.ParseFault.{ParseFault}
+use Rattle.flt_script.specs.declared.line.Line.{Line}
+use Rattle.flt_script.specs.declared.line.Line.TheVariants as line
+use Rattle.flt_script.specs.declared.script.Script.{Script}
+use Rattle.flt_script.specs.Behind.{Behind, behind, config_of, with_use, with_use_at}
+use Rattle.flt_script.specs.Event.{event_held, debounce_held}
+use Rattle.flt_script.specs.Gives.{◌⇒◌, Gives}
+use Rattle.flt_script.specs.Numeral.{up_to}
+use Rattle.flt_script.specs.Script.{Content, ended, content, fault_of}
+use Rattle.flt_script.proofs.Checked.{same_config}
+use Rattle.flt_script.proofs.Dids.{found_again}
+
+-- What holds of each element holds of one that is looked up.
+at_place_of : {X : Type 0} (P : X → Type 0) (xs : List X) (i : ℕ) (x : X) → All P xs → slice_get xs i ≡ Some x → P x
+at_place_of P [] i x all e = absurd cc
+at_place_of P (first ∷ xs) zero x all e = let same : first ≡ x = cc in subst P same (all 0 first (omega arith))
+at_place_of P (first ∷ xs) (suc i) x all e = at_place_of P xs i x (λ k d within. all (suc k) d (omega (arith, within))) e
+
+all-nil : {X : Type 0} (P : X → Type 0) → All P []
+all-nil P = λ k d within. absurd (omega (arith, within))
+
+all-one : {X : Type 0} (P : X → Type 0) (x : X) → P x → All P (x ∷ [])
+all-one P x p zero d within = p
+all-one P x p (suc k) d within = absurd (omega (arith, within))
+
+-- The table has a data identifier with its width, and those of an event.
+abbrev IsServed : List DidUse → DidUse → Type 0
+IsServed dids did = find (is_did did.id) dids ≡ Some did
+
+abbrev AreServed : List DidUse → EventCfg → Type 0
+AreServed dids event = HasAll dids event.dids.items
+
+-- One more use of one event.
+module _ (dids : List DidUse) (id : ℕ) where
+  used : (found : Option DidUse) → find (is_did id) dids ≡ found → HasAll dids (option_to_list found)
+  used None e = all-nil (IsServed dids)
+  used (Some did) e = all-one (IsServed dids) did (found_again id dids did e)
+
+  serves-with_use_at : (events : List EventCfg) (number : ℕ) (event : Option EventCfg) → slice_get events number ≡ event → Serves dids events
+      → Serves dids (with_use_at number (find (is_did id) dids) events)
+  serves-with_use_at events number None e all = rw e all
+  serves-with_use_at events number (Some event) e all =
+      let has = at_place_of (AreServed dids) events number event all e in
+      let more = All-append (IsServed dids) event.dids.items (option_to_list (find (is_did id) dids)) has (used (find (is_did id) dids) refl) in
+      rw e (All-set (AreServed dids) events number (with_use (find (is_did id) dids) event) more all)
+
+abbrev UsesNone : EventCfg → Type 0
+UsesNone event = event.dids.items ≡ []
+
+-- An event line uses none.
+made_of : (dtc : ℕ) (p c f h a l : Option ℕ) (d : Option Debounce) → IfSome (
+    p ⇒ λ priority. c ⇒ λ cycle. f ⇒ λ confirm. h ⇒ λ heal. a ⇒ λ age. l ⇒ λ lamp. d ⇒ λ debounce. Some (record {
+      dtc = dtc;
+      priority = priority;
+      cycle = cycle;
+      confirm = confirm;
+      heal = heal;
+      age = age;
+      indicator = lamp == 1;
+      debounce = debounce;
+      dids = record { items = [] };
+    })) UsesNone
+made_of dtc None c f h a l d = tt
+made_of dtc (Some priority) None f h a l d = tt
+made_of dtc (Some priority) (Some cycle) None h a l d = tt
+made_of dtc (Some priority) (Some cycle) (Some confirm) None a l d = tt
+made_of dtc (Some priority) (Some cycle) (Some confirm) (Some heal) None l d = tt
+made_of dtc (Some priority) (Some cycle) (Some confirm) (Some heal) (Some age) None d = tt
+made_of dtc (Some priority) (Some cycle) (Some confirm) (Some heal) (Some age) (Some lamp) None = tt
+made_of dtc (Some priority) (Some cycle) (Some confirm) (Some heal) (Some age) (Some lamp) (Some debounce) = refl
+
+event_uses_none : (event : EventLine) → IfSome (event_held event) UsesNone
+unfolding event_held
+event_uses_none event = made_of event.dtc (up_to 255 event.numbers.priority) (up_to 255 event.numbers.cycle) (up_to 255 event.numbers.confirm)
+    (up_to 255 event.numbers.heal) (up_to 255 event.numbers.age) (up_to 1 event.numbers.lamp) (debounce_held event.debounce)
+
+serves_new : (dids : List DidUse) (held : Option EventCfg) → IfSome held UsesNone → Serves dids (option_to_list held)
+serves_new dids None none = all-nil (AreServed dids)
+serves_new dids (Some event) none = all-one (AreServed dids) event (rw none (all-nil (IsServed dids)))
+
+-- What the lines configure.
+serves : (dids : List DidUse) (past : List Line) → Serves dids (config_of dids past).events.items
+serves dids [] = all-nil (AreServed dids)
+serves dids (line.Skipped ∷ past) = serves dids past
+serves dids (line.Config id ∷ past) = serves dids past
+serves dids (line.Memory entries ∷ past) = serves dids past
+serves dids (line.Blocks blocks ∷ past) = serves dids past
+serves dids (line.Flash sectors pages ∷ past) = serves dids past
+serves dids (line.Event event ∷ past) =
+    All-append (AreServed dids) (config_of dids past).events.items (option_to_list (event_held event)) (serves dids past) (serves_new dids (event_held event) (event_uses_none event))
+serves dids (line.Did event id ∷ past) =
+    serves-with_use_at dids id (config_of dids past).events.items event (slice_get (config_of dids past).events.items event) refl (serves dids past)
+serves dids (line.Step step ∷ past) = serves dids past
+
+-- What is accepted is what the lines configure.
+ended_config : (b : Behind) (checked : Result Config CfgFault) (given : Content) → check_of b.config ≡ checked → ended b ≡ Ok given → given.config ≡ b.config
+unfolding ended
+ended_config b (Ok config) given e is =
+    let known = rw e at is in
+    let same : config ≡ given.config = cc in
+    sym same ∙ same_config b.config config e
+ended_config b (Err fault) given e is = let known = rw e at is in absurd cc
+
+pub served : (dids : List DidUse) (b : Behind) (lines : List Line) (result : Result Script ParseFault) → b ≡ behind dids lines
+    → Gives content fault_of result (ended b) → IfOk result (λ script. Serves dids script.config.events.items)
+unfolding behind
+served dids b lines (Err fault) stands given = tt
+served dids b lines (Ok script) stands given =
+    rw (ended_config b (check_of b.config) (content script) refl given, stands) (serves dids lines)

@@ -1,0 +1,38 @@
+-- What the definitions come to.
+use Rattle.std.specs.Prelude.{◌≡◌, ℕ, ◌≤◌, ◌⊎◌, List, true, Some, Ok, Err}
+use Rattle.flt_config.specs.declared.config.DidUse.{DidUse}
+use Rattle.flt_script.specs.declared.fault.ScriptFault.{ScriptFault}
+use Rattle.flt_script.specs.declared.line.StepLine.{StepLine}
+use Rattle.flt_script.specs.declared.line.Line.TheVariants as line
+use Rattle.flt_script.specs.declared.step.Step.{Step}
+use Rattle.flt_script.specs.Behind.{step_of}
+use Rattle.flt_script.specs.Line.{line_of}
+use Rattle.flt_script.specs.Script.{Content, script_of}
+use Rattle.flt_script.specs.Step.{is_step_among, step_text}
+
+-- These bytes are this script.
+abbrev pub IsScript : List DidUse → List ℕ → Content → Type 0
+IsScript dids bytes content = script_of dids bytes ≡ Ok content
+
+-- These bytes are no script, and this is their first fault.
+abbrev pub IsFaulty : List DidUse → List ℕ → ScriptFault → Type 0
+IsFaulty dids bytes fault = script_of dids bytes ≡ Err fault
+
+-- The bytes are one script or have one fault, and never both.
+pub record HasOneOutcome (dids : List DidUse) (bytes : List ℕ) : Type 0 where
+  pub some : ((content : Content) × IsScript dids bytes content) ⊎ ((fault : ScriptFault) × IsFaulty dids bytes fault)
+  pub one_script : (content other : Content) → IsScript dids bytes content → IsScript dids bytes other → content ≡ other
+  pub one_fault : (fault other : ScriptFault) → IsFaulty dids bytes fault → IsFaulty dids bytes other → fault ≡ other
+  pub never_both : (content : Content) (fault : ScriptFault) → IsScript dids bytes content → IsFaulty dids bytes fault → ⊥
+
+-- All bytes have one outcome.
+abbrev pub EachHasOneOutcome : Type 0
+EachHasOneOutcome = (dids : List DidUse) (bytes : List ℕ) → HasOneOutcome dids bytes
+
+-- The text of a line is read as a step that is this one among so many events.
+abbrev pub IsReadAs : List ℕ → ℕ → Step → Type 0
+IsReadAs text events step = (written : StepLine) × (line_of text ≡ Ok (line.Step written)) × (step_of events written ≡ Some step)
+
+-- What a step prints is read again as that step.
+abbrev pub PrintedStepIsReadAgain : Type 0
+PrintedStepIsReadAgain = (events : ℕ) (step : Step) → events ≤ 64 → is_step_among events step ≡ true → IsReadAs (step_text step) events step

@@ -1,0 +1,71 @@
+-- A line against the lines before it: why it may not stand there.
+use Rattle.std.specs.Prelude.{ℕ, List, [], ◌∷◌, length, find, Bool, ◌==◌, ◌||◌, nat_lt, nat_le, not, is_some, is_none, Option, Some, None, Result, Ok, Err, if◌then◌else◌}
+use Rattle.flt_config.specs.declared.config.DidUse.{DidUse}
+use Rattle.flt_did.specs.Rows.{is_did}
+use Rattle.flt_script.specs.declared.fault.LineCause.{LineCause}
+use Rattle.flt_script.specs.declared.fault.LineCause.TheVariants.{Order, Range, Many, Did}
+use Rattle.flt_script.specs.declared.event.EventLine.{EventLine}
+use Rattle.flt_script.specs.declared.line.StepLine.{StepLine}
+use Rattle.flt_script.specs.declared.line.Line.{Line}
+use Rattle.flt_script.specs.declared.line.Line.TheVariants as line
+use Rattle.flt_script.specs.Behind.{Behind, behind, event_count, has_begun, uses_of, step_of}
+use Rattle.flt_script.specs.Event.{event_held}
+use Rattle.flt_script.specs.Gives.{◌>>=◌}
+use Rattle.flt_script.specs.Line.{line_of}
+
+-- The cause of the first test that holds.
+abbrev pub first_cause : List (Bool × LineCause) → Option LineCause
+first_cause [] = None
+first_cause (row ∷ rows) = if row.0 then Some row.1 else first_cause rows
+
+-- A setting, by the line that set it before and the greatest number that the configuration holds there.
+unfoldable pub setting_refusal : Behind → Option ℕ → ℕ → ℕ → Option LineCause
+setting_refusal b earlier greatest value = first_cause (
+    (has_begun b || is_some earlier, Order) ∷
+    (nat_lt greatest value, Range) ∷ [])
+
+-- The flash, of two sectors.
+unfoldable pub flash_refusal : Behind → ℕ → ℕ → Option LineCause
+flash_refusal b sectors pages = first_cause (
+    (has_begun b || is_some b.places.flash, Order) ∷
+    (not (sectors == 2) || nat_lt 65535 pages, Range) ∷ [])
+
+-- An event, whose number is the next, of at most 64.
+unfoldable pub event_refusal : Behind → EventLine → Option LineCause
+event_refusal b event = first_cause (
+    (has_begun b || not (event.number == event_count b), Order) ∷
+    (is_none (event_held event), Range) ∷
+    (nat_le 64 (event_count b), Many) ∷ [])
+
+-- A data identifier that the table has, of at most 8 for an event that is there.
+unfoldable pub did_refusal : List DidUse → Behind → ℕ → ℕ → Option LineCause
+did_refusal dids b event id = first_cause (
+    (has_begun b || nat_le (event_count b) event, Order) ∷
+    (nat_le 8 (length (uses_of event b.config.events.items)), Many) ∷
+    (is_none (find (is_did id) dids), Did) ∷ [])
+
+-- A step, of at most 65,536.
+unfoldable pub step_refusal : Behind → StepLine → Option LineCause
+step_refusal b step = first_cause (
+    (is_none (step_of (event_count b) step), Range) ∷
+    (nat_le 65536 (length b.parts), Many) ∷ [])
+
+-- Why a line may not stand behind these lines, row by row.
+unfoldable pub refusal : List DidUse → Behind → Line → Option LineCause
+refusal dids b line.Skipped = None
+refusal dids b (line.Config id) = setting_refusal b b.places.config 65535 id
+refusal dids b (line.Memory entries) = setting_refusal b b.places.memory 255 entries
+refusal dids b (line.Blocks blocks) = setting_refusal b b.places.blocks 255 blocks
+refusal dids b (line.Flash sectors pages) = flash_refusal b sectors pages
+refusal dids b (line.Event event) = event_refusal b event
+refusal dids b (line.Did event id) = did_refusal dids b event id
+refusal dids b (line.Step step) = step_refusal b step
+
+-- A value, unless there is a cause to refuse it.
+abbrev pub unless_refused : {A : Type 0} → Option LineCause → A → Result A LineCause
+unless_refused None x = Ok x
+unless_refused (Some cause) x = Err cause
+
+-- What a line says that may stand behind these lines, the newest first.
+unfoldable pub line_behind : List DidUse → List Line → List ℕ → Result Line LineCause
+line_behind dids past text = line_of text >>= λ line. unless_refused (refusal dids (behind dids past) line) line

@@ -1,0 +1,54 @@
+-- A state that fits stands for itself.
+use Rattle.std.proofs.Common.{◌≡◌, ◌∙◌, ℕ, ◌<◌, ◌^◌, ◌*◌, min, nat_eq, nat_lt, Bool, true, false, ◌&&◌, inl, inr, refl, sym, ap, arith, ⊎_elim, eq-eqb, eqb-true}
+use Rattle.std.proofs.lemmas.Bool.{cases_eq, cases_Bool, ne_eqb, lt-ltb, ltb-true, false_from_ne_true}
+use Rattle.std.proofs.lemmas.Nat.{pow_pos}
+use Rattle.std.proofs.lemmas.Nat.Bits.{and_pow}
+use Rattle.std.specs.Int.{bit_at}
+use Rattle.std.specs.Prelude.{IsBitSet}
+use Rattle.flt_config.specs.declared.config.EventCfg.{EventCfg}
+use Rattle.flt_config.specs.declared.persist.EventState.{EventState}
+use Rattle.flt_config.specs.Durable.{IsStateOf}
+use Rattle.flt_model.specs.Byte.{value_of, byte_of, status_of, is_bit_set}
+use Rattle.flt_status.specs.Standing.{FittingStateLaw}
+
+bit_value : (x : ℕ) → x < 2 → value_of (nat_eq x 1) ≡ x
+bit_value x h = ⊎_elim (λ e. rw e refl) (λ ne. rw (ne_eqb x 1 ne) (omega arith)) (cases_eq x 1)
+
+bit_of : (byte k : ℕ) → value_of (is_bit_set byte k) ≡ bit_at byte k
+bit_of byte k = bit_value (bit_at byte k) (omega arith)
+
+byte_again : (byte : ℕ) → byte < 256 → byte_of (status_of byte) ≡ byte
+byte_again byte h =
+    omega (arith, bit_of byte 0, bit_of byte 1, bit_of byte 2, bit_of byte 3, bit_of byte 4, bit_of byte 5, bit_of byte 6, bit_of byte 7)
+
+-- the test of a bit, as a fact
+bit_is_set : (byte k : ℕ) → is_bit_set byte k ≡ true → IsBitSet byte k
+bit_is_set byte k e = rw (and_pow byte k, eqb-true (bit_at byte k) 1 e) (λ zero. omega (arith, pow_pos k, zero))
+
+set_bit_is : (byte k : ℕ) → IsBitSet byte k → is_bit_set byte k ≡ true
+set_bit_is byte k set =
+    ⊎_elim (λ e. eq-eqb (bit_at byte k) 1 e)
+    (λ ne. let zero : bit_at byte k ≡ 0 = omega arith in absurd (set (and_pow byte k ∙ ap (λ b. b * 2 ^ k) zero ∙ omega arith)))
+    (cases_eq (bit_at byte k) 1)
+
+both : (a b : Bool) → (a && b) ≡ true → (a ≡ true) × (b ≡ true)
+both true true e = (refl, refl)
+both true false e = absurd (cc)
+both false b e = absurd (cc)
+
+requested : (rules : EventCfg) (state : EventState) → IsStateOf rules state → is_bit_set state.status 7 ≡ (state.lit && nat_lt state.clean rules.heal)
+requested rules state fits =
+    elim (cases_Bool (is_bit_set state.status 7)) [
+      | inl set ↦ let parts = fits.warning.0 (bit_is_set state.status 7 set) in
+          set ∙ sym (ap (λ b. b && nat_lt state.clean rules.heal) parts.0 ∙ lt-ltb state.clean rules.heal parts.1)
+      | inr clear ↦ clear ∙ sym (false_from_ne_true (state.lit && nat_lt state.clean rules.heal) (λ e.
+          let parts = both state.lit (nat_lt state.clean rules.heal) e in
+          let set = set_bit_is state.status 7 (fits.warning.1 (parts.0, ltb-true state.clean rules.heal parts.1)) in
+          absurd (cc)))
+    ]
+
+pub fitting_state_stands : FittingStateLaw
+fitting_state_stands rules state fits =
+    let failed_is : min 255 state.failed ≡ state.failed = omega (arith, fits.failed) in
+    let clean_is : min 510 state.clean ≡ state.clean = omega (arith, fits.clean) in
+    sym (rw (failed_is, clean_is, ← requested rules state fits, byte_again state.status (omega (arith, fits.status))) refl)

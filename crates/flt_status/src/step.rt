@@ -1,0 +1,165 @@
+//! What each mark changes.
+
+ghost use Rattle.std.specs.Prelude.{◌≡◌, ◌+◌, ◌∷◌, min, if◌then◌else◌};
+ghost use Rattle.flt_model.specs.Mark.{Past};
+ghost use Rattle.flt_model.specs.Mark.Mark.{Failed, Passed, Cycle, Clear, Displaced};
+ghost use Rattle.flt_model.specs.Status.{enters, confirms, ages};
+ghost use Rattle.flt_config.specs.declared.config.EventCfg.{EventCfg};
+ghost use Rattle.flt_config.specs.declared.persist.EventState.{EventState};
+ghost use Rattle.flt_status.specs.Standing.{StandsFor, with_cycle};
+
+use crate::byte::{pack, unpack};
+use flt_config::{EventCfg, EventState};
+use flt_model::Status;
+
+/// What a failure changed besides the state, for the entries and the noted events.
+#[derive(Clone, Copy, PartialEq, Eq, Debug)]
+pub struct FailedMark {
+    /// Whether bit 0, testFailed, went from 0 to 1.
+    pub entered: bool,
+    /// Whether bit 3, confirmedDTC, went from 0 to 1.
+    pub confirmed: bool,
+}
+
+/// The test passed: bits 0, 4 and 6 become 0.
+pub fn passed(state: &mut EventState)
+    ensures { (rules : EventCfg) (base : EventState) (past : Past) → StandsFor rules base past state.old → StandsFor rules base (Passed ∷ past) state.new }
+{
+    let status = unpack(state.status);
+    state.status = pack(Status {
+        test_failed: false,
+        not_completed_since_clear: false,
+        not_completed_this_cycle: false,
+        ..status
+    });
+}
+
+/// A tester cleared the event: it is as one that was never tested.
+pub fn clear(state: &mut EventState)
+    ensures { (rules : EventCfg) (base : EventState) (past : Past) → StandsFor rules base (Clear ∷ past) state.new }
+{
+    *state = EventState {
+        status: 0x50,
+        failed: 0,
+        clean: 0,
+        lit: false,
+    };
+}
+
+/// The event's entry gave way to another's: the event is no longer confirmed, and lights no indicator.
+pub fn displaced(state: &mut EventState)
+    ensures { (rules : EventCfg) (base : EventState) (past : Past) → StandsFor rules base past state.old → StandsFor rules base (Displaced ∷ past) state.new }
+{
+    let status = unpack(state.status);
+    state.lit = false;
+    state.status = pack(Status {
+        confirmed: false,
+        indicator_requested: false,
+        ..status
+    });
+}
+
+/// The failed cycles, with this one where it is counted.
+fn failed_cycles(failed: u8, is_counted: bool) -> u8
+    ensures { result ≡ min 255 (if is_counted then failed + 1 else failed) }
+{
+    if is_counted {
+        failed.saturating_add(1)
+    } else {
+        failed
+    }
+}
+
+/// The failed cycles, after the end of a cycle.
+fn failed_cycles_left(failed: u8, is_clean: bool) -> u8
+    ensures { result ≡ (if is_clean then 0 else failed) }
+{
+    if is_clean { 0 } else { failed }
+}
+
+/// The clean cycles, with this one where it is clean.
+fn clean_cycles(clean: u16, is_clean: bool) -> u16
+    ensures { result ≡ min 510 (if is_clean then clean + 1 else clean) }
+{
+    if is_clean {
+        clean.saturating_add(1).min(510)
+    } else {
+        clean.min(510)
+    }
+}
+
+/// How many clean cycles age the event.
+fn aging_threshold(rules: &EventCfg, lit: bool) -> u16
+    ensures { result ≡ (if lit then rules.now.heal + rules.now.age else rules.now.age) }
+{
+    if lit {
+        rules.heal as u16 + rules.age as u16
+    } else {
+        rules.age as u16
+    }
+}
+
+/// The test failed. The first failure of a cycle raises the failed count, which stops at 255; at
+/// `confirm` failed cycles the event is confirmed, and lights the indicator where it has one. The
+/// clean count begins anew.
+pub fn failed(rules: &EventCfg, state: &mut EventState) -> FailedMark
+    ensures marked { (base : EventState) (past : Past) → StandsFor rules.now base past state.old → StandsFor rules.now base (Failed ∷ past) state.new }
+    ensures entered { (base : EventState) (past : Past) → StandsFor rules.now base past state.old → result.entered ≡ enters base past }
+    ensures confirmed { (base : EventState) (past : Past) → StandsFor rules.now base past state.old → result.confirmed ≡ confirms base rules.now past }
+{
+    let before = unpack(state.status);
+    let count = failed_cycles(state.failed, !before.failed_this_cycle);
+    let confirmed = before.confirmed | (rules.confirm <= count);
+    let lit = rules.indicator & confirmed;
+    let status = pack(Status {
+        test_failed: true,
+        failed_this_cycle: true,
+        pending: true,
+        confirmed,
+        not_completed_since_clear: false,
+        failed_since_clear: true,
+        not_completed_this_cycle: false,
+        indicator_requested: lit & (0 < rules.heal),
+    });
+    *state = EventState {
+        status,
+        failed: count,
+        clean: 0,
+        lit,
+    };
+    FailedMark {
+        entered: !before.test_failed,
+        confirmed: !before.confirmed & confirmed,
+    }
+}
+
+/// The event's operation cycle ended, and the next started. A clean cycle, one that was tested and did
+/// not fail, takes back bit 2 and the failed count, and raises the clean count, which stops at 510.
+/// The answer tells whether the event aged: whether the clean count came to `age`, or to `heal + age`
+/// where the event was lit. Then it is no longer confirmed, and its entry is to be removed.
+pub fn cycle(rules: &EventCfg, state: &mut EventState) -> bool
+    ensures marked { (base : EventState) (past : Past) → StandsFor rules.now base past state.old → StandsFor rules.now base (with_cycle rules.now base past) state.new }
+    ensures aged { (base : EventState) (past : Past) → StandsFor rules.now base past state.old → result ≡ ages base rules.now past }
+{
+    let before = unpack(state.status);
+    let clean = !before.failed_this_cycle & !before.not_completed_this_cycle;
+    let failed = failed_cycles_left(state.failed, clean);
+    let count = clean_cycles(state.clean, clean);
+    let aged = (state.clean < count) & (count == aging_threshold(rules, state.lit));
+    let lit = state.lit & !aged;
+    let status = pack(Status {
+        failed_this_cycle: false,
+        pending: before.pending & !clean,
+        confirmed: before.confirmed & !aged,
+        not_completed_this_cycle: true,
+        indicator_requested: lit & (count < rules.heal as u16),
+        ..before
+    });
+    *state = EventState {
+        status,
+        failed,
+        clean: count,
+        lit,
+    };
+    aged
+}
