@@ -1,20 +1,15 @@
 use super::*;
 
-/// The whole range of a counter, with steps that pass both ends.
-fn widest() -> Debounce {
-    Debounce::Counter {
+#[test]
+fn a_counter_of_the_whole_range_clamps_at_both_ends(rt: HostRuntime) {
+    let rules = Debounce::Counter {
         fail_at: 32767,
         pass_at: -32768,
         up: 32767,
         down: 32767,
         jump_up: None,
         jump_down: None,
-    }
-}
-
-#[test]
-fn a_counter_of_the_whole_range_clamps_at_both_ends(rt: HostRuntime) {
-    let rules = widest();
+    };
     let mut state = rest(&rules);
     assert_eq!(rt; fdc(&rules, &state), 0);
     assert_eq!(rt; report(&rules, &mut state, Report::PrePassed), None);

@@ -1,8 +1,6 @@
 -- What the durable part of the event manager stands for: a base and the marks of all events behind it.
 use Rattle.std.specs.Prelude.{◌≡◌, ◌≢◌, ℕ, ◌<◌, List, ◌∷◌, length, Some, slice_get}
-use Rattle.flt_config.specs.declared.config.Config.{Config}
 use Rattle.flt_config.specs.declared.persist.EventState.{EventState}
-use Rattle.flt_config.specs.Durable.{initial_state}
 use Rattle.flt_model.specs.Life.{Life, count}
 use Rattle.flt_model.specs.Mark.{Trace, Of}
 use Rattle.flt_model.specs.Mark.Mark.{Displaced, Added, Refused}
@@ -52,10 +50,6 @@ with_outcome event signals outcomes.Refused trace = Of event Refused signals ∷
 abbrev pub IsDisplacedBelow : ℕ → Stored → Type 0
 IsDisplacedBelow count (outcomes.Displaced other) = other < count
 IsDisplacedBelow count _ = Unit {0}
-
--- a life that begins with nothing saved
-abbrev pub first_life : Config → Life
-first_life config = record { config = config; base = initial_state config }
 
 -- the event that gave way, if one did, is another one
 abbrev pub IsNotDisplaced : ℕ → Stored → Type 0

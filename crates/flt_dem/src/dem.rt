@@ -4,7 +4,7 @@ ghost use Rattle.std.specs.Prelude.{◌≡◌, ◌≢◌, ◌<◌, ℕ, [], ◌�
 ghost use Rattle.std.proofs.Props.{props};
 ghost use Rattle.flt_config.specs.Durable.{Fits, is_of_event};
 ghost use Rattle.flt_config.specs.Validity.{has_dtc};
-ghost use Rattle.flt_model.specs.Life.{Life, History, event_of};
+ghost use Rattle.flt_model.specs.Life.{Life, History, event_of, fresh};
 ghost use Rattle.flt_model.specs.Happening.{cleared_dtc, all_dtcs};
 ghost use Rattle.flt_model.specs.Session.{is_setting_off};
 ghost use Rattle.flt_model.specs.Entry.{has_entry};
@@ -16,7 +16,7 @@ ghost use Rattle.flt_model.specs.declared.call.Reply.TheVariants as replies;
 ghost use Rattle.flt_did.specs.Table.{dids_of};
 ghost use Rattle.flt_did.specs.Serves.{Serves};
 ghost use Rattle.flt_dem.specs.Calls.{RequestBytes};
-ghost use Rattle.flt_dem.specs.Standing.{first_life, notes_of};
+ghost use Rattle.flt_dem.specs.Standing.{notes_of};
 ghost use Rattle.flt_dem.specs.Manager.{StandsFor, IsUntouched, IsOfOtherCycle, is_cycle_started, cause_of, reply_of};
 
 use crate::notes::Which;
@@ -43,7 +43,7 @@ impl Dem {
     pub fn make(config: ValidConfig, dids: DidTable<DID_ROWS>) -> Dem
         requires { Serves (dids_of dids) config.events.items }
         ensures config { config_of result ≡ config }
-        ensures stands { StandsFor (first_life config) [] (state_of result) }
+        ensures stands { StandsFor (fresh config) [] (state_of result) }
     {
         Dem {
             state: DemState::make(config),

@@ -3,7 +3,7 @@
 ghost use Rattle.std.specs.Prelude.{◌≡◌, ◌≢◌, ◌<◌, ◌≤◌, [], ◌∷◌, ℕ, List, length, slice_get, find, filter, position, not, All, Some, None, option_copied, option_map, unwrap_or};
 ghost use Rattle.flt_config.specs.Validity.{IsValid, has_dtc};
 ghost use Rattle.flt_config.specs.Durable.{Fits, is_of_event};
-ghost use Rattle.flt_model.specs.Life.{Life};
+ghost use Rattle.flt_model.specs.Life.{Life, fresh};
 ghost use Rattle.flt_model.specs.Mark.{Trace, Of, AllCleared};
 ghost use Rattle.flt_model.specs.Mark.Mark.{Passed, Clear};
 ghost use Rattle.flt_model.specs.Trace.{with_failed, with_result, with_cycle};
@@ -12,7 +12,7 @@ ghost use Rattle.flt_model.specs.Entry.{has_entry};
 ghost use Rattle.flt_model.specs.Answer.{entry_where};
 ghost use Rattle.flt_did.specs.Table.{dids_of};
 ghost use Rattle.flt_did.specs.Serves.{Serves};
-ghost use Rattle.flt_dem.specs.Standing.{FaultsStand, first_life};
+ghost use Rattle.flt_dem.specs.Standing.{FaultsStand};
 
 use crate::notes::{Notes, Which};
 use crate::{copies, states};
@@ -55,7 +55,7 @@ impl Faults {
     /// The durable part of a controller that never saved one.
     pub fn new(config: ValidConfig) -> Faults
         ensures config { result.config ≡ config }
-        ensures stands { FaultsStand (first_life config) [] result }
+        ensures stands { FaultsStand (fresh config) [] result }
     {
         let base = initial(&config);
         Faults {

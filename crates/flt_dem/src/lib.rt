@@ -18,3 +18,8 @@ mod states;
 pub use dem::Dem;
 pub use notes::Which;
 pub use state::DemState;
+
+#[cfg(test)]
+mod comparison;
+#[cfg(test)]
+mod tests;

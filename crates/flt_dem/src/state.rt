@@ -3,7 +3,7 @@
 ghost use Rattle.std.specs.Prelude.{◌≡◌, ◌≢◌, ◌<◌, ℕ, [], ◌∷◌, not, length, slice_get, slice_set, find, position, option_copied, Some, None, IfSome, false};
 ghost use Rattle.flt_config.specs.Durable.{Fits, is_of_event};
 ghost use Rattle.flt_config.specs.Validity.{has_dtc};
-ghost use Rattle.flt_model.specs.Life.{Life, History, event_of};
+ghost use Rattle.flt_model.specs.Life.{Life, History, event_of, fresh};
 ghost use Rattle.flt_model.specs.Happening.{cleared_dtc, all_dtcs};
 ghost use Rattle.flt_model.specs.Session.{is_setting_off};
 ghost use Rattle.flt_model.specs.Entry.{has_entry};
@@ -15,7 +15,7 @@ ghost use Rattle.flt_model.specs.declared.call.Reply.TheVariants as replies;
 ghost use Rattle.flt_did.specs.Table.{dids_of};
 ghost use Rattle.flt_did.specs.Serves.{Serves};
 ghost use Rattle.flt_dem.specs.Calls.{RequestBytes};
-ghost use Rattle.flt_dem.specs.Standing.{first_life, notes_of};
+ghost use Rattle.flt_dem.specs.Standing.{notes_of};
 ghost use Rattle.flt_dem.specs.Manager.{StandsFor, IsUntouched, IsOfOtherCycle, is_cycle_started, cause_of, reply_of};
 
 use crate::faults::Faults;
@@ -57,7 +57,7 @@ impl DemState {
     /// every debouncing is at rest, no cycle is started and each signal is 0.
     pub fn make(config: ValidConfig) -> DemState
         ensures config { result.faults.config ≡ config }
-        ensures stands { StandsFor (first_life config) [] result }
+        ensures stands { StandsFor (fresh config) [] result }
     {
         let faults = Faults::new(config);
         DemState {

@@ -1,5 +1,5 @@
 -- The data identifiers of a table: with one more row, and found by their numbers.
-use Rattle.std.proofs.Common.{◌≡◌, ℕ, nat_eq, List, [], ◌∷◌, ◌++◌, Some, Option, inl, inr, eqb-true}
+use Rattle.std.proofs.Common.{◌≡◌, nat_eq, List, [], ◌∷◌, ◌++◌, Some, Option, inl, inr, eqb-true}
 use Rattle.std.proofs.lemmas.Bool.{cases_Bool}
 use Rattle.std.specs.List.{find}
 use Rattle.std.specs.Prelude.{option_map}

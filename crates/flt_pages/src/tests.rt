@@ -90,6 +90,7 @@ fn a_head_is_torn(rt: HostRuntime) -> Result<(), Fail> {
     assert!(rt; flash.boots_left() == 2);
     flash.power_up();
     assert!(rt; (flash.boots_left(), flash.armed(), flash.operations()) == (1, 0, 4));
+    assert!(rt; flash.boot_page(0, 0, 0) == flash.page(0, 0));
     assert!(rt; item(&mut flash, 0, 64, 2, &[8])? == Item::Torn);
     Ok(())
 }

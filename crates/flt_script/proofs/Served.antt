@@ -1,6 +1,6 @@
 -- Each data identifier that an event uses is in the table, with its width.
-use Rattle.std.proofs.Common.{◌≡◌, ℕ, zero, suc, ◌<◌, List, [], ◌∷◌, ◌++◌, length, get_or, ◌==◌, Option, Some, None, Result, Ok, Err, refl, sym, subst, ◌∙◌, arith, unwrap_or}
-use Rattle.std.specs.Prelude.{IfSome, IfOk, find, slice_get, slice_set, option_to_list, All}
+use Rattle.std.proofs.Common.{◌≡◌, ℕ, zero, suc, List, [], ◌∷◌, ◌==◌, Option, Some, None, Result, Ok, Err, refl, sym, subst, ◌∙◌, arith}
+use Rattle.std.specs.Prelude.{IfSome, IfOk, find, slice_get, option_to_list, All}
 use Rattle.std.proofs.lemmas.List.Elements.{All-append, All-set}
 use Rattle.flt_config.specs.declared.config.Config.{Config}
 use Rattle.flt_config.specs.declared.config.CfgFault.{CfgFault}

@@ -1,5 +1,4 @@
 use Rattle.std.proofs.Common.{◌≡◌, ◌++◌, take}
-use Rattle.flt_model.specs.Frame.{big_endian}
 use Rattle.flt_did.proofs.table.put_value.Given as goal
 
 abbrev pub invariant-loop-byte : goal.invariant-loop-byte
