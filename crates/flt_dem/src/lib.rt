@@ -16,6 +16,7 @@ mod state;
 mod states;
 
 pub use dem::Dem;
+pub use flt_model::{Cause, Shown};
 pub use notes::Which;
 pub use state::DemState;
 
