@@ -2,21 +2,21 @@
 use Rattle.std.proofs.Common.{◌≡◌, ℕ, ◌+◌, ◌<◌, ◌≤◌, Bool, true, false, ◌||◌, List, [], ◌∷◌, ◌++◌, length, get_or, drop, map, Some, None, refl, add-one, append_assoc, drop-cons}
 use Rattle.std.specs.Prelude.{unwrap_or, if◌then◌else◌, IsTrue, Vec, ◌&&◌}
 use Rattle.std.specs.List.{list_all}
-use Rattle.std.proofs.lemmas.List.{append-nil}
+use Rattle.std.proofs.lemmas.List.{append-nil, map-append}
 use Rattle.std.proofs.lemmas.List.Recursion.{and_at}
 use Rattle.std.proofs.Math.ListN.{drop_of_length-le}
 use Rattle.flt_model.specs.Life.{Life, History}
 use Rattle.flt_model.specs.Answer.{answer, answers}
 use Rattle.flt_model.specs.Session.{holds_off, is_extended, is_setting_off}
 use Rattle.flt_model.specs.declared.call.Op.TheVariants as ops
-use Rattle.flt_model.specs.declared.call.Reply.{Reply}
+use Rattle.flt_run.specs.declared.reply.Reply.{Reply}
 use Rattle.flt_dem.specs.Manager.{Manager, StandsFor}
 use Rattle.flt_script.specs.Step.{is_part_among, is_step_among, are_parts_among}
 use Rattle.flt_script.specs.declared.step.Part.{Part}
 use Rattle.flt_script.specs.declared.step.Part.TheVariants.{One}
 use Rattle.flt_script.specs.declared.step.Step.{Step}
 use Rattle.flt_script.specs.declared.step.Step.TheVariants as steps
-use Rattle.flt_run.specs.Steps.{lists, op_of, op_of_step, parts_of, step_of}
+use Rattle.flt_run.specs.Steps.{answer_of, lists, op_of, op_of_step, parts_of, step_of}
 
 -- ---- the setting stays on, where no request is made
 
@@ -59,23 +59,23 @@ pub record IsOn (life : Life) (manager : Manager) (replies : List Reply) (parts 
   pub past : History
   pub setting : is_setting_off past ≡ false
   pub stands : StandsFor life past manager
-  pub same : replies ++ answers life past (map op_of (drop index parts)) ≡ answers life [] (map op_of parts)
+  pub same : map answer_of replies ++ answers life past (map op_of (drop index parts)) ≡ answers life [] (map op_of parts)
 
 pub starts : (life : Life) (manager : Manager) (parts : List Part) → StandsFor life [] manager → IsOn life manager [] parts 0
 starts life manager parts stands = record { past = []; setting = refl; stands = stands; same = refl }
 
 module _ (life : Life) (manager : Manager) (replies : List Reply) (parts : List Part) (index : ℕ) (on : IsOn life manager replies parts index) where
   pub goes_on : (d : Part) → index < length parts → (now : Manager) (reply : Reply) → StandsFor life (op_of (get_or parts index d) ∷ on.past) now
-      → reply ≡ answer life on.past (op_of (get_or parts index d)) → IsOn life now (replies ++ reply ∷ []) parts (index + 1)
+      → answer_of reply ≡ answer life on.past (op_of (get_or parts index d)) → IsOn life now (replies ++ reply ∷ []) parts (index + 1)
   goes_on d within now reply stands told =
       let known = rw (drop-cons parts index d within, ← told) at on.same in record {
         past = op_of (get_or parts index d) ∷ on.past;
         setting = setting_on (step_of (get_or parts index d)) on.past on.setting;
         stands = stands;
-        same = rw (append_assoc, add-one) known;
+        same = rw (map-append answer_of replies (reply ∷ []), append_assoc, add-one) known;
       }
 
-  pub ends : length parts ≤ index → replies ≡ answers life [] (map op_of parts)
+  pub ends : length parts ≤ index → map answer_of replies ≡ answers life [] (map op_of parts)
   ends past = rw (drop_of_length-le parts past, append-nil) at on.same
 
 and_first : (a b : Bool) → (a && b) ≡ true → a ≡ true

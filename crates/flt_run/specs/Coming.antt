@@ -8,7 +8,7 @@ use Rattle.flt_run.specs.Ending.{HasCause}
 use Rattle.flt_model.specs.Life.{fresh}
 use Rattle.flt_model.specs.Answer.{answers}
 use Rattle.flt_script.specs.Script.{Content}
-use Rattle.flt_run.specs.Steps.{op_of, parts_of, lists}
+use Rattle.flt_run.specs.Steps.{answer_of, op_of, parts_of, lists}
 
 -- The cause of what a run comes to, on a source before and after, whatever the sink is.
 abbrev pub Comes : List DidUse → Option Command → Option (List ℕ) → Option (List ℕ) → ℕ → ℕ → Ending → Type 0
@@ -34,5 +34,5 @@ abbrev pub IsReplayOf : Content → Ending → Type 0
 IsReplayOf script (Ran lives journal replies) =
     (lists lives.items ≡ script.lives)
     × (journal.items ≡ map op_of (parts_of script.lives))
-    × (replies.items ≡ answers (fresh script.config) [] journal.items)
+    × (map answer_of replies.items ≡ answers (fresh script.config) [] journal.items)
 IsReplayOf script _ = ⊥

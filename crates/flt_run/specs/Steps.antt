@@ -3,6 +3,10 @@ use Rattle.std.specs.Prelude.{ℕ, List, [], ◌∷◌, map, length, Vec}
 use Rattle.std.specs.List.{sum_by}
 use Rattle.flt_model.specs.declared.call.Op.{Op}
 use Rattle.flt_model.specs.declared.call.Op.TheVariants as ops
+use Rattle.flt_model.specs.declared.call.Reply.{Reply as Answer}
+use Rattle.flt_model.specs.declared.call.Reply.TheVariants as answers
+use Rattle.flt_run.specs.declared.reply.Reply.{Reply}
+use Rattle.flt_run.specs.declared.reply.Reply.TheVariants.{Taken, Ignored, Shown}
 use Rattle.flt_script.specs.declared.step.Part.{Part}
 use Rattle.flt_script.specs.declared.step.Part.TheVariants.{One}
 use Rattle.flt_script.specs.declared.step.Step.{Step}
@@ -36,3 +40,9 @@ step_count lives = sum_by length lives
 -- Lives without where they lie in memory.
 abbrev pub lists : {A : Type 0} → List (Vec Part A) → List (List Part)
 lists lives = map (λ life. life.items) lives
+
+-- A reply as the machine's answer.
+abbrev pub answer_of : Reply → Answer
+answer_of Taken = answers.Taken
+answer_of (Ignored cause) = answers.Ignored cause
+answer_of (Shown shown) = answers.Shown shown

@@ -9,12 +9,13 @@ ghost use Rattle.flt_dem.specs.Manager.{StandsFor};
 ghost use Rattle.flt_script.specs.Script.{content};
 ghost use Rattle.flt_script.specs.Step.{is_step_among};
 ghost use Rattle.flt_run.specs.Coming.{IsAnswered, IsReplayOf};
-ghost use Rattle.flt_run.specs.Steps.{lists, op_of_step, parts_of, step_of};
+ghost use Rattle.flt_run.specs.Steps.{answer_of, lists, op_of_step, parts_of, step_of};
 
 use crate::ending::Ending;
+use crate::reply::Reply;
 use flt_dem::Dem;
 use flt_did::{DID_ROWS, DidTable};
-use flt_model::{Op, Reply};
+use flt_model::Op;
 use flt_script::{Part, Script, Step};
 use std::alloc::{AllocError, Global};
 
@@ -60,7 +61,7 @@ fn apply(dem: &mut Dem, step: Step) -> Reply
     ensures stands { (life : Life) (past : History) → is_setting_off past ≡ false → StandsFor life past (state_of dem.old)
         → StandsFor life (op_of_step step ∷ past) (state_of dem.new) }
     ensures reply { (life : Life) (past : History) → is_setting_off past ≡ false → StandsFor life past (state_of dem.old)
-        → result ≡ answer life past (op_of_step step) }
+        → answer_of result ≡ answer life past (op_of_step step) }
 {
     match step {
         Step::Report { event, report } => match dem.report(event, report, SETTING_ON) {

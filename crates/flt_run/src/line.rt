@@ -2,11 +2,12 @@ ghost use Rattle.std.specs.Prelude.{◌≡◌, ◌≤◌, ◌++◌, IfOk, OnOk, 
 ghost use Rattle.std.specs.String.{string_bytes};
 ghost use Rattle.flt_config.specs.Validity.{needed_pages};
 ghost use Rattle.flt_script.specs.Script.{content};
-ghost use Rattle.flt_run.specs.Report.{accepted_text, bytes_text, line_text, reply_text, spaced_text};
+ghost use Rattle.flt_run.specs.Report.{accepted_text, line_text, reply_text};
 ghost use Rattle.flt_run.specs.Steps.{step_count, lists};
 
+use crate::reply::Reply;
 use flt_config::needed_pages;
-use flt_model::{Cause, Reply, Shown};
+use flt_model::{Cause, Shown};
 use flt_script::{Part, Script};
 use std::alloc::{AllocError, Global};
 use std::fmt;
@@ -75,52 +76,27 @@ impl fmt::Display for Stored {
 }
 
 /// Puts a reply behind what `line` holds.
-fn put_reply(line: &mut String, reply: &Reply) -> Result<(), AllocError>
-    ensures { OnOk result (string_bytes line.new ≡ string_bytes line.old ++ reply_text reply.now) }
+fn put_reply(line: &mut String, reply: Reply) -> Result<(), AllocError>
+    ensures { OnOk result (string_bytes line.new ≡ string_bytes line.old ++ reply_text reply) }
 {
     match reply {
         Reply::Taken => line.push_str("taken"),
         Reply::Ignored(Cause::SettingOff) => line.push_str("ignored setting"),
         Reply::Ignored(Cause::NotStarted) => line.push_str("ignored cycle"),
         Reply::Shown(shown) => {
-            let state = State(*shown);
+            let state = State(shown);
             let stored = Stored {
                 stored: shown.stored,
                 overflow: shown.overflow,
             };
             write!(line, "{state} {stored}")
         }
-        Reply::Response(bytes) => put_bytes(line, bytes),
-        Reply::Silent => line.push_str("silent"),
     }
-}
-
-/// Puts bytes behind what `line` holds, two digits each, with single spaces.
-fn put_bytes(line: &mut String, bytes: &[u8]) -> Result<(), AllocError>
-    ensures { OnOk result (string_bytes line.new ≡ string_bytes line.old ++ bytes_text bytes.now) }
-{
-    let Some((first, others)) = bytes.split_first() else {
-        return Ok(());
-    };
-    let first = Hexadecimal(*first);
-    write!(line, "{first}")?;
-    put_spaced(line, others)
-}
-
-/// Puts bytes behind what `line` holds, each behind a space.
-fn put_spaced(line: &mut String, bytes: &[u8]) -> Result<(), AllocError>
-    ensures { OnOk result (string_bytes line.new ≡ string_bytes line.old ++ spaced_text bytes.now) }
-{
-    for byte in bytes {
-        let byte = Hexadecimal(*byte);
-        write!(line, " {byte}")?;
-    }
-    Ok(())
 }
 
 /// Puts the line of a step and its reply in place of what `line` holds.
-pub(crate) fn put_line(line: &mut String, part: Part, reply: &Reply) -> Result<(), AllocError>
-    ensures { OnOk result (string_bytes line.new ≡ line_text part reply.now) }
+pub(crate) fn put_line(line: &mut String, part: Part, reply: Reply) -> Result<(), AllocError>
+    ensures { OnOk result (string_bytes line.new ≡ line_text part reply) }
 {
     let Part::One(step) = part;
     line.clear();
