@@ -14,3 +14,4 @@ pub mod SavedLemmas
 pub mod ManagerLemmas
 pub mod ClearLemmas
 pub mod IdleLemmas
+pub mod ViewLemmas

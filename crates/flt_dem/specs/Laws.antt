@@ -7,7 +7,7 @@ use Rattle.flt_model.specs.Mark.{Trace, Of, marks_of}
 use Rattle.flt_model.specs.Mark.Mark.{Failed}
 use Rattle.flt_model.specs.Status.{enters}
 use Rattle.flt_model.specs.Entry.{frame}
-use Rattle.flt_model.specs.Trace.{with_failed}
+use Rattle.flt_model.specs.Trace.{trace, with_failed}
 use Rattle.flt_model.specs.Happening.{cleared_dtc, all_dtcs}
 use Rattle.flt_model.specs.Session.{is_setting_off}
 use Rattle.flt_model.specs.declared.call.Op.{Op}
@@ -16,7 +16,9 @@ use Rattle.flt_memory.specs.Memory.{Memory}
 use Rattle.flt_memory.specs.Store.{StoresAs}
 use Rattle.flt_memory.specs.declared.memory.Stored.{Stored}
 use Rattle.flt_dem.specs.Standing.{StatesStand, MemoryStands, with_outcome}
+use Rattle.flt_model.specs.Answer.{view}
 use Rattle.flt_dem.specs.Manager.{Manager, StandsFor}
+use Rattle.flt_dem.specs.View.{view_of}
 
 -- an event is stored behind its failure
 pub record Storing (life : Life) (event : ℕ) (signals : List ℕ) (before : Trace) (states : List EventState) (old new : Memory) (outcome : Stored) : Type 0 where
@@ -61,3 +63,7 @@ HasNoRequest (_ ∷ past) = HasNoRequest past
 -- then the setting is on
 abbrev pub SettingIsOnWithoutRequests : Type 0
 SettingIsOnWithoutRequests = (past : History) → HasNoRequest past → is_setting_off past ≡ false
+
+-- what a tester may read is what the calls so far make of it
+abbrev pub ViewIsTold : Type 0
+ViewIsTold = (life : Life) (past : History) (manager : Manager) → StandsFor life past manager → view_of manager ≡ view life past (trace life past)

@@ -4,5 +4,6 @@ pub mod Standing
 pub mod Debounces
 pub mod Calls
 pub mod Manager
+pub mod View
 pub mod Laws
 pub mod Dem

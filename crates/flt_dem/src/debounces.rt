@@ -1,8 +1,9 @@
 //! The debouncing of the events, one happening at a time.
 
-ghost use Rattle.std.specs.Prelude.{◌≡◌, ◌≢◌, ◌<◌, ℕ, [], length, map, slice_get, Some};
+ghost use Rattle.std.specs.Prelude.{◌≡◌, ◌≢◌, ◌<◌, ℕ, [], length, map, slice_get, unwrap_or, Some};
 ghost use Rattle.flt_config.specs.Validity.{IsValid};
-ghost use Rattle.flt_model.specs.Life.{Life, event_of};
+ghost use Rattle.flt_model.specs.Life.{Life, event_of, no_event};
+ghost use Rattle.flt_model.specs.declared.call.DebState.TheVariants.{Idle};
 ghost use Rattle.flt_model.specs.Debounce.{Happenings, Reported, Ticked, Ended, Cleared, debounced, qualified, detection_counter};
 ghost use Rattle.flt_dem.specs.Debounces.{DebouncesStand, AreOfKind, and_then};
 
@@ -28,7 +29,7 @@ pub fn fdc(config: &Config, debounces: &[DebState], event: usize) -> i8
     requires configured { event < length config.now.events.items }
     requires one_each { length debounces.now ≡ length config.now.events.items }
     requires kinds { AreOfKind config.now.events.items debounces.now }
-    ensures { (life : Life) (items : ℕ → Happenings) → life.config ≡ config.now → DebouncesStand life items debounces.now → result ≡ detection_counter (event_of life event).debounce (debounced (event_of life event).debounce (items event)) }
+    ensures { result ≡ detection_counter (unwrap_or (slice_get config.now.events.items event) no_event).debounce (unwrap_or (slice_get debounces.now event) Idle) }
 {
     flt_debounce::fdc(&config.events[event].debounce, &debounces[event])
 }

@@ -16,13 +16,14 @@ ghost use Rattle.flt_did.specs.Table.{dids_of};
 ghost use Rattle.flt_did.specs.Serves.{Serves};
 ghost use Rattle.flt_dem.specs.Calls.{RequestBytes};
 ghost use Rattle.flt_dem.specs.Standing.{notes_of};
+ghost use Rattle.flt_dem.specs.View.{counter_of};
 ghost use Rattle.flt_dem.specs.Manager.{StandsFor, IsUntouched, IsOfOtherCycle, is_cycle_started, cause_of, reply_of};
 
 use crate::faults::Faults;
 use crate::notes::Which;
 use crate::{debounces, parts};
 use arrayvec::ArrayVec;
-use flt_config::{EVENTS, EntryState, Persist, ValidConfig};
+use flt_config::{EVENTS, EntryState, EventState, Persist, ValidConfig};
 use flt_did::{DID_ROWS, DidTable, Signals};
 use flt_model::{Cause, DebState, Report, Shown};
 use std::marker::Model;
@@ -201,6 +202,22 @@ impl DemState {
         self.faults.find(dtc)
     }
 
+    /// The durable state of an event.
+    pub fn state(&self, event: u16) -> EventState
+        requires { event < length self.now.faults.config.events.items }
+        ensures { slice_get self.now.faults.states event ≡ Some result }
+    {
+        self.faults.state(event)
+    }
+
+    /// The fault detection counter of an event, from -128 (passed) to 127 (failed).
+    pub fn detection_counter(&self, event: u16) -> i8
+        requires { event < length self.now.faults.config.events.items }
+        ensures { result ≡ counter_of self.now event }
+    {
+        debounces::fdc(self.faults.config(), &self.debounces, event as usize)
+    }
+
     /// What is shown of an event. To show it changes nothing.
     pub fn show(&self, event: u16) -> Shown
         requires { event < length self.now.faults.config.events.items }
@@ -210,7 +227,7 @@ impl DemState {
         let state = self.faults.state(event);
         Shown {
             status: state.status,
-            fdc: debounces::fdc(self.faults.config(), &self.debounces, event as usize),
+            fdc: self.detection_counter(event),
             failed: state.failed,
             clean: state.clean,
             stored: self.faults.occurrence(event),

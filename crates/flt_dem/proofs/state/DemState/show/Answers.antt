@@ -9,6 +9,7 @@ use Rattle.flt_model.specs.Happening.{happenings}
 use Rattle.flt_model.specs.Trace.{trace}
 use Rattle.flt_model.specs.declared.call.Op.TheVariants as ops
 use Rattle.flt_model.specs.declared.call.Reply.TheVariants as replies
+use Rattle.flt_dem.proofs.ViewLemmas.{counter_told}
 use Rattle.flt_dem.proofs.IdleLemmas.{stands_idle}
 use Rattle.flt_dem.proofs.state.DemState.show.Goals as goal
 
@@ -21,11 +22,11 @@ returns-clause-answer c = λ life past s.
     let within : event < count life = omega (arith, configured, ap (λ k. length k.events.items) faults.config) in
     let states : Some c.state-state.result ≡ Some (state_at life (trace life past) event) = sym c.state-state.ensures ∙ faults.states_stand.each event within in
     let state : c.state-state.result ≡ state_at life (trace life past) event = cc in
-    let fits : SFits w8 c.fdc.result = search rules in
-    let counter = c.fdc.ensures life (λ e. happenings life e past) (faults.config ∙ sym c.config.ensures.value) (rw c.deref.ensures.0 inside.events.debounces_stand) in
+    let fits : SFits w8 c.detection_counter.result = search rules in
+    let counter = c.detection_counter.ensures ∙ counter_told life past c.args.self.now s event within in
     let stored = c.occurrence.ensures life (trace life past) faults in
     let overflow = c.overflow.ensures ∙ faults.memory_stands.overflow in
-    rw (to_z-of_z w8 c.fdc.result fits) (λ i. replies.Shown (record {
+    rw (to_z-of_z w8 c.detection_counter.result fits) (λ i. replies.Shown (record {
       status = (state i).status;
       fdc = counter i;
       failed = (state i).failed;
