@@ -1,0 +1,35 @@
+//! Bytes of a response. A put appends to what stands there, and takes no memory.
+ghost use Rattle.std.specs.Prelude.{◌≡◌, ◌+◌, ◌<◌, ◌≤◌, ◌^◌, ◌∷◌, [], ◌++◌, length};
+ghost use Rattle.flt_model.specs.Response.{dtc_bytes};
+
+use arrayvec::ArrayVec;
+use flt_model::{Negative, RESPONSE};
+
+/// The first byte of a negative response; the service and the code follow.
+pub const NEGATIVE_RESPONSE: u8 = 0x7F;
+
+/// Appends these bytes, which have room.
+pub fn put_bytes(bytes: &[u8], out: &mut ArrayVec<u8, RESPONSE>)
+    requires { length out.old.items + length bytes.now ≤ RESPONSE }
+    ensures { out.new.items ≡ out.old.items ++ bytes.now }
+{
+    out.try_extend_from_slice(bytes).unwrap();
+}
+
+/// Appends a DTC in three bytes, big-endian, which have room.
+pub fn put_dtc(dtc: u32, out: &mut ArrayVec<u8, RESPONSE>)
+    requires three { dtc < 2 ^ 24 }
+    requires room { length out.old.items + 3 ≤ RESPONSE }
+    ensures { out.new.items ≡ out.old.items ++ dtc_bytes dtc }
+{
+    let [_, high, middle, low] = dtc.to_be_bytes();
+    put_bytes(&[high, middle, low], out);
+}
+
+/// Appends a negative response, whose three bytes have room.
+pub fn put_negative(negative: &Negative, out: &mut ArrayVec<u8, RESPONSE>)
+    requires { length out.old.items + 3 ≤ RESPONSE }
+    ensures { out.new.items ≡ out.old.items ++ NEGATIVE_RESPONSE ∷ negative.now.service ∷ negative.now.code ∷ [] }
+{
+    put_bytes(&[NEGATIVE_RESPONSE, negative.service, negative.code], out);
+}
