@@ -100,7 +100,8 @@ impl Faults {
 
     /// The configuration, with what is known of it.
     pub fn valid_config(&self) -> &ValidConfig
-        ensures { result.now ≡ self.now.config }
+        ensures value { result.now ≡ self.now.config }
+        ensures room { length self.now.memory.entries ≤ result.now.memory }
     {
         &self.config
     }

@@ -1,6 +1,6 @@
 //! The event manager without the functions of its table of data identifiers.
 
-ghost use Rattle.std.specs.Prelude.{◌≡◌, ◌≢◌, ◌<◌, ℕ, [], ◌∷◌, not, length, slice_get, slice_set, find, position, option_copied, Some, None, IfSome, false};
+ghost use Rattle.std.specs.Prelude.{◌≡◌, ◌≢◌, ◌<◌, ◌≤◌, ℕ, [], ◌∷◌, not, length, slice_get, slice_set, find, position, option_copied, Some, None, IfSome, false};
 ghost use Rattle.flt_config.specs.Durable.{Fits, is_of_event};
 ghost use Rattle.flt_config.specs.Validity.{has_dtc};
 ghost use Rattle.flt_model.specs.Life.{Life, History, event_of, fresh};
@@ -89,9 +89,10 @@ impl DemState {
         self.faults.persist(out);
     }
 
-    /// The configuration.
+    /// The configuration, whose memory has room for the entries.
     pub fn config(&self) -> &ValidConfig
-        ensures { result.now ≡ self.now.faults.config }
+        ensures value { result.now ≡ self.now.faults.config }
+        ensures room { length self.now.faults.memory.entries ≤ result.now.memory }
     {
         self.faults.valid_config()
     }

@@ -1,0 +1,40 @@
+-- How many bytes the records of a DTC have at most.
+use Rattle.std.proofs.Common.{◌≡◌, ◌∙◌, ℕ, ◌+◌, ◌*◌, ◌<◌, ◌≤◌, Bool, true, false, cond, List, [], ◌∷◌, ◌++◌, length, take, drop, get_or, arith, sym, ap}
+use Rattle.std.proofs.lemmas.List.{length-append, length-take, drop_more}
+use Rattle.std.proofs.lemmas.List.Sums.{sum_by-cons}
+use Rattle.std.specs.List.{sum_by}
+use Rattle.flt_config.specs.declared.config.DidUse.{DidUse}
+use Rattle.flt_config.specs.Ranges.{frame_width}
+use Rattle.flt_model.specs.Response.{selects, where_selected, values_of, snapshot}
+
+values_length : (dids : List DidUse) (frame : List ℕ) → length (values_of dids frame) ≤ 2 * length dids + frame_width dids
+values_length [] frame = omega arith
+values_length (did ∷ dids) frame =
+    let rest = values_length dids (drop did.width frame) in
+    let joined = length-append (take did.width frame) (values_of dids (drop did.width frame)) in
+    let own = length-take did.width frame in
+    let sum = sum_by-cons (λ (d : DidUse). d.width) did dids in
+    omega (arith, rest, joined, own, sum)
+
+where_length : (test : Bool) (bytes : List ℕ) (most : ℕ) → length bytes ≤ most → length (cond test bytes []) ≤ most
+where_length true bytes most h = h
+where_length false bytes most h = omega arith
+
+-- a snapshot record has at most 50 bytes
+pub snapshot_fits : (number which : ℕ) (dids : List DidUse) (frame : List ℕ) → length dids ≤ 8 → frame_width dids ≤ 32 →
+    length (where_selected number which (snapshot dids which frame)) ≤ 50
+snapshot_fits number which dids frame few narrow =
+    let values = values_length dids frame in
+    where_length (selects number which) (snapshot dids which frame) 50 (omega (arith, values, few, narrow))
+
+-- what is left of the data identifiers fits, so the next one does
+pub value_fits : (old out : List ℕ) (dids : List DidUse) (index : ℕ) (d : DidUse) (rest frame : List ℕ) → out ++ values_of (drop index dids) rest ≡ old ++ values_of dids frame →
+    index < length dids → length old + length (values_of dids frame) ≤ 512 → length out + (2 + length (take (get_or dids index d).width rest)) ≤ 512
+value_fits old out dids index d rest frame is within room =
+    let did = get_or dids index d in
+    let next = ap (λ left. out ++ values_of left rest) (sym (drop_more dids index d within)) ∙ is in
+    let all = ap length next in
+    let left = length-append out (values_of (did ∷ drop (index + 1) dids) rest) in
+    let right = length-append old (values_of dids frame) in
+    let own = length-append (take did.width rest) (values_of (drop (index + 1) dids) (drop did.width rest)) in
+    omega (arith, all, left, right, own, room)

@@ -1,0 +1,70 @@
+-- The diagnostic session of a tester, as the code keeps it, and what it stands for.
+use Rattle.std.specs.Prelude.{◌≡◌, ℕ, ◌+◌, nat_lt, Bool, true, false, not, if◌then◌else◌, Result, Ok, Err}
+use Rattle.flt_model.specs.Life.{History}
+use Rattle.flt_model.specs.Session.{is_extended, holds_off, silence, session_timeout}
+use Rattle.flt_model.specs.declared.request.Request.{Request}
+use Rattle.flt_model.specs.declared.request.Request.TheVariants as requests
+use Rattle.flt_model.specs.declared.request.Asked.{Asked}
+use Rattle.flt_model.specs.declared.request.Negative.{Negative}
+use Rattle.flt_dcm.specs.declared.session.Session.{Session}
+use Rattle.flt_dcm.specs.declared.session.Session.TheVariants.{Default, Extended}
+
+-- ---- what a session says
+
+-- The session is the extended one.
+abbrev pub is_extended_one : Session → Bool
+is_extended_one Default = false
+is_extended_one (Extended holds silent) = true
+
+-- In the session the tester holds the DTC setting off.
+abbrev pub has_hold : Session → Bool
+has_hold Default = false
+has_hold (Extended holds silent) = holds
+
+-- The silent time of the session is this one; the default session keeps none.
+abbrev pub IsSilentFor : Session → ℕ → Type 0
+IsSilentFor Default ticks = Unit {0}
+IsSilentFor (Extended holds silent) ticks = ticks ≡ silent
+
+-- ---- what becomes of it
+
+-- The tester is heard.
+abbrev pub heard : Session → Session
+heard Default = Default
+heard (Extended holds silent) = Extended holds 0
+
+-- The tester asks for a session; the extended one keeps its hold.
+abbrev pub entered : Bool → Session → Session
+entered false session = Default
+entered true Default = Extended false 0
+entered true (Extended holds silent) = Extended holds silent
+
+-- The tester switches the setting off or on, in the extended session.
+abbrev pub held : Bool → Session → Session
+held off Default = Default
+held off (Extended holds silent) = Extended off silent
+
+-- A request takes effect.
+abbrev pub after : Session → Request → Session
+after session (requests.Session extended) = entered extended session
+after session (requests.Setting on) = held (not on) session
+after session _ = session
+
+-- A request that was read takes effect, and one that was refused does not.
+abbrev pub after_asked : Session → Result Asked Negative → Session
+after_asked session (Ok request) = after session request.request
+after_asked session (Err refused) = session
+
+-- Ticks go by.
+abbrev pub ticked : ℕ → Session → Session
+ticked ticks Default = Default
+ticked ticks (Extended holds silent) =
+    if nat_lt (silent + ticks) session_timeout then Extended holds (silent + ticks) else Default
+
+-- ---- what it stands for
+
+-- A tester's session, hold and silent time are what the calls so far make of them.
+pub record SessionStands (tester : ℕ) (past : History) (session : Session) : Type 0 where
+  pub extended : is_extended tester past ≡ is_extended_one session
+  pub hold : holds_off tester past ≡ has_hold session
+  pub silent : IsSilentFor session (silence tester past)

@@ -1,0 +1,69 @@
+-- The whole status machine as a contract sees it, what it stands for, and which calls it takes.
+use Rattle.std.specs.Prelude.{◌≡◌, ℕ, ◌<◌, List, length, slice_get, unwrap_or, Some}
+use Rattle.flt_config.specs.declared.config.Config.{Config}
+use Rattle.flt_config.specs.declared.persist.Persist.{Persist}
+use Rattle.flt_config.specs.Durable.{Fits}
+use Rattle.flt_model.specs.Life.{Life, History}
+use Rattle.flt_model.specs.Durable.{saved_after}
+use Rattle.flt_model.specs.declared.call.Op.{Op}
+use Rattle.flt_model.specs.declared.call.Op.TheVariants as ops
+use Rattle.flt_model.specs.declared.call.Reply.{Reply}
+use Rattle.flt_model.specs.declared.call.Reply.TheVariants as replies
+use Rattle.flt_dem.specs.Manager.{Manager, StandsFor}
+use Rattle.flt_dcm.specs.Session.{SessionStands}
+use Rattle.flt_dcm.specs.declared.session.Session.{Session}
+use Rattle.flt_dcm.specs.declared.session.Session.TheVariants.{Default}
+
+-- The event manager, the sessions of the four testers, and the durable state of the last power-up.
+pub record UnitView : Type 0 where
+  pub dem : Manager
+  pub sessions : List Session
+  pub base : Persist
+
+-- There is a session for each of the four testers, and the base fits the configuration.
+pub record IsOfConfig (config : Config) (sessions : List Session) (base : Persist) : Type 0 where
+  pub one_each : length sessions ≡ 4
+  pub fits : Fits config base
+
+-- The session of a tester.
+abbrev pub session_at : List Session → ℕ → Session
+session_at sessions tester = unwrap_or (slice_get sessions tester) Default
+
+-- Each tester's session is what the calls so far make of it.
+abbrev pub SessionsStand : History → List Session → Type 0
+SessionsStand past sessions = (tester : ℕ) → tester < 4 → SessionStands tester past (session_at sessions tester)
+
+-- A unit that is what the base and the calls since power-up make of it.
+pub record Stands (life : Life) (past : History) (unit : UnitView) : Type 0 where
+  pub dem : StandsFor life past unit.dem
+  pub sessions : SessionsStand past unit.sessions
+  pub base : unit.base ≡ life.base
+
+-- A call whose numbers are in their ranges: a signal of the eight, a configured event, one of the four cycles, and a
+-- request of at least one byte from one of the four testers.
+abbrev pub IsAdmitted : Config → Op → Type 0
+IsAdmitted config (ops.Signal index value) = index < 8
+IsAdmitted config (ops.Report event report) = event < length config.events.items
+IsAdmitted config (ops.Tick ticks) = Unit {0}
+IsAdmitted config (ops.Cycle cycle) = cycle < 4
+IsAdmitted config (ops.Request tester bytes) = (tester < 4) × (0 < length bytes.items)
+IsAdmitted config (ops.Show event) = event < length config.events.items
+IsAdmitted config ops.Snapshot = Unit {0}
+IsAdmitted config (ops.Saved generation) = Unit {0}
+
+-- What a call leaves of the state that it may write: a snapshot writes the durable state, and no other call writes.
+abbrev pub written : Life → History → Op → Persist → Persist
+written life past ops.Snapshot out = saved_after life past
+written life past _ out = out
+
+-- A call that changes nothing: a show, a snapshot and a save.
+abbrev pub IsReading : Op → Type 0
+IsReading (ops.Show event) = Unit {0}
+IsReading ops.Snapshot = Unit {0}
+IsReading (ops.Saved generation) = Unit {0}
+IsReading _ = ⊥
+
+-- A negative response.
+abbrev pub IsNegative : Reply → Type 0
+IsNegative (replies.Response bytes) = slice_get bytes.items 0 ≡ Some 0x7F
+IsNegative _ = ⊥

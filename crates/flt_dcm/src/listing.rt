@@ -1,0 +1,133 @@
+//! Lists of DTCs, in order of event number (ISO 14229-1, service 0x19, sub-functions 0x02, 0x03, 0x0A and 0x14).
+ghost use Rattle.std.specs.Prelude.{◌≡◌, ◌<◌, ◌≤◌, ◌+◌, ◌++◌, length, is_some};
+ghost use Rattle.std.specs.List.{flat_map};
+ghost use Rattle.flt_model.specs.Response.{is_masked, is_prefailed, with_status, with_counter, records_of};
+ghost use Rattle.flt_dem.specs.View.{event_seen, rules_of, view_of};
+ghost use Rattle.flt_dcm.specs.Listing.{listed, head_of};
+
+use arrayvec::ArrayVec;
+use flt_dem::DemState;
+use flt_uds::{RESPONSE, put_bytes, put_dtc};
+
+/// The status bits that this server supports: all of them (DTCStatusAvailabilityMask).
+pub(crate) const AVAILABILITY_MASK: u8 = 0xFF;
+
+/// A list of DTCs.
+#[derive(Clone, Copy)]
+pub(crate) enum Listing {
+    /// Those whose status meets the mask, each with its status.
+    ByMask(u8),
+    /// All, each with its status.
+    Supported,
+    /// Those with an entry, each with its two snapshot record numbers.
+    Snapshots,
+    /// Those whose fault detection counter is from 1 to 126, each with it.
+    Counters,
+}
+
+/// How many events are configured, at most 64; there are at most 16 entries.
+pub(crate) fn event_count(dem: &DemState) -> u16
+    ensures count { result ≡ length dem.now.faults.config.events.items }
+    ensures events { result ≤ 64 }
+    ensures entries { length dem.now.faults.memory.entries ≤ 16 }
+{
+    dem.config().config().events.len() as u16
+}
+
+/// The DTC of an event.
+pub(crate) fn dtc_of(dem: &DemState, event: u16) -> u32
+    requires { event < length dem.now.faults.config.events.items }
+    ensures dtc { result ≡ (rules_of dem.now event).dtc }
+    ensures three { result ≤ 0xFFFFFE }
+{
+    dem.config().config().events[event as usize].dtc
+}
+
+/// Whether the status of an event meets a mask.
+pub(crate) fn is_masked(dem: &DemState, event: u16, mask: u8) -> bool
+    requires { event < length dem.now.faults.config.events.items }
+    ensures { result ≡ is_masked mask (event_seen dem.now event) }
+{
+    dem.state(event).status & mask != 0
+}
+
+/// Appends the DTC of an event and its status byte.
+pub(crate) fn put_status(dem: &DemState, event: u16, out: &mut ArrayVec<u8, RESPONSE>)
+    requires event { event < length dem.now.faults.config.events.items }
+    requires room { length out.old.items + 4 ≤ RESPONSE }
+    ensures { out.new.items ≡ out.old.items ++ with_status (event_seen dem.now event) }
+{
+    put_dtc(dtc_of(dem, event), out);
+    out.push(dem.state(event).status);
+}
+
+/// Appends the two snapshot record numbers of an event, where it has an entry.
+fn put_records(dem: &DemState, event: u16, out: &mut ArrayVec<u8, RESPONSE>)
+    requires event { event < length dem.now.faults.config.events.items }
+    requires room { length out.old.items + length (records_of (event_seen dem.now event)) ≤ RESPONSE }
+    ensures { out.new.items ≡ out.old.items ++ records_of (event_seen dem.now event) }
+{
+    if dem.entry(event).is_some() {
+        put_dtc(dtc_of(dem, event), out);
+        out.push(0x01);
+        put_dtc(dtc_of(dem, event), out);
+        out.push(0x02);
+    }
+}
+
+/// Appends the DTC of an event and its fault detection counter, where that is on its way to failed.
+fn put_counter(dem: &DemState, event: u16, out: &mut ArrayVec<u8, RESPONSE>)
+    requires event { event < length dem.now.faults.config.events.items }
+    requires room { length out.old.items + length (listed Listing.Counters (event_seen dem.now event)) ≤ RESPONSE }
+    ensures { out.new.items ≡ out.old.items ++ listed Listing.Counters (event_seen dem.now event) }
+{
+    let counter = dem.detection_counter(event);
+    if 0 < counter && counter < 127 {
+        put_dtc(dtc_of(dem, event), out);
+        out.push(counter.unsigned_abs());
+    }
+}
+
+impl Listing {
+    /// Appends how a response with the list begins.
+    fn put_head(self, out: &mut ArrayVec<u8, RESPONSE>)
+        requires { length out.old.items + length (head_of self) ≤ RESPONSE }
+        ensures { out.new.items ≡ out.old.items ++ head_of self }
+    {
+        match self {
+            Listing::ByMask(_) => put_bytes(&[0x59, 0x02, AVAILABILITY_MASK], out),
+            Listing::Supported => put_bytes(&[0x59, 0x0A, AVAILABILITY_MASK], out),
+            Listing::Snapshots => put_bytes(&[0x59, 0x03], out),
+            Listing::Counters => put_bytes(&[0x59, 0x14], out),
+        }
+    }
+
+    /// Appends what the list has of an event.
+    fn put_event(self, dem: &DemState, event: u16, out: &mut ArrayVec<u8, RESPONSE>)
+        requires event { event < length dem.now.faults.config.events.items }
+        requires room { length out.old.items + length (listed self (event_seen dem.now event)) ≤ RESPONSE }
+        ensures { out.new.items ≡ out.old.items ++ listed self (event_seen dem.now event) }
+    {
+        match self {
+            Listing::ByMask(mask) => {
+                if is_masked(dem, event, mask) {
+                    put_status(dem, event, out);
+                }
+            }
+            Listing::Supported => put_status(dem, event, out),
+            Listing::Snapshots => put_records(dem, event, out),
+            Listing::Counters => put_counter(dem, event, out),
+        }
+    }
+
+    /// Appends how a response with the list begins, and what the list has of each event in turn.
+    pub fn put(self, dem: &DemState, out: &mut ArrayVec<u8, RESPONSE>)
+        requires { length out.old.items ≡ 0 }
+        ensures { out.new.items ≡ head_of self ++ flat_map (listed self) (view_of dem.now).events }
+    {
+        self.put_head(out);
+        for event in 0..event_count(dem) {
+            self.put_event(dem, event, out);
+        }
+    }
+}

@@ -1,0 +1,100 @@
+//! The whole status machine with its table of data identifiers.
+ghost use Rattle.std.specs.Prelude.{◌≡◌, ◌≢◌, ℕ, [], ◌∷◌, slice_set};
+ghost use Rattle.std.proofs.Props.{props};
+ghost use Rattle.flt_config.specs.Durable.{Fits};
+ghost use Rattle.flt_model.specs.Life.{Life, History, fresh};
+ghost use Rattle.flt_model.specs.Answer.{answer};
+ghost use Rattle.flt_model.specs.declared.call.Op.TheVariants as ops;
+ghost use Rattle.flt_did.specs.Table.{dids_of};
+ghost use Rattle.flt_did.specs.Serves.{Serves};
+ghost use Rattle.flt_dem.specs.Calls.{RequestBytes};
+ghost use Rattle.flt_dem.specs.Dem.{config_of as dem_config, table_of as dem_table};
+ghost use Rattle.flt_dcm.specs.Session.{heard};
+ghost use Rattle.flt_dcm.specs.Standard.{SaysStandard};
+ghost use Rattle.flt_dcm.specs.Unit.{Stands, IsAdmitted, IsReading, IsNegative, written, session_at};
+
+use crate::state::UnitState;
+use flt_config::{Persist, ValidConfig};
+use flt_dem::Dem;
+use flt_did::{DID_ROWS, DidTable};
+use flt_model::{Op, Reply};
+
+/// The whole status machine: the event manager with its table of data identifiers, the sessions of the four testers,
+/// and the durable state that it was last started from.
+#[derive(Drop)]
+pub struct Unit {
+    state: UnitState,
+    dids: DidTable<DID_ROWS>,
+    ghost served: { Serves (dids_of dids) state.dem.faults.config.events.items } by { Prim.hlevel props },
+}
+
+impl Unit {
+    ghost use Rattle.flt_dcm.specs.Whole.{state_of, config_of, table_of};
+
+    /// A unit with nothing saved, to which no call was made: the manager that is handed in is put at its beginning,
+    /// and each tester is in the default session.
+    pub fn make(dem: Dem) -> Unit
+        ensures config { config_of result ≡ dem_config dem }
+        ensures dids { table_of result ≡ dem_table dem }
+        ensures stands { Stands (fresh (dem_config dem)) [] (state_of result) }
+    {
+        let (state, dids) = dem.into_parts();
+        Unit {
+            state: UnitState::make(state),
+            dids,
+        }
+    }
+
+    /// A unit of its two parts.
+    pub fn from_parts(state: UnitState, dids: DidTable<DID_ROWS>) -> Unit
+        requires { Serves (dids_of dids) state.dem.faults.config.events.items }
+        ensures state { state_of result ≡ state }
+        ensures dids { table_of result ≡ dids_of dids }
+    {
+        Unit { state, dids }
+    }
+
+    /// Its two parts: the unit without the functions, and the table.
+    pub fn into_parts(self) -> (UnitState, DidTable<DID_ROWS>)
+        ensures state { result.0 ≡ state_of self }
+        ensures dids { dids_of result.1 ≡ table_of self }
+        ensures served { Serves (dids_of result.1) result.0.dem.faults.config.events.items }
+    {
+        let Unit { state, dids } = self;
+        (state, dids)
+    }
+
+    /// Starts again from a saved state that fits the configuration, which is kept as the base: what is not saved is
+    /// at rest, and each tester is in the default session.
+    pub fn boot(&mut self, base: &Persist)
+        requires fits { Fits (config_of self.old) base.now }
+        ensures config { config_of self.new ≡ config_of self.old }
+        ensures stands { Stands (record { config = config_of self.old; base = base.now }) [] (state_of self.new) }
+    {
+        self.state.boot(base);
+    }
+
+    /// The configuration.
+    pub fn config(&self) -> &ValidConfig
+        ensures { result.now ≡ config_of self.now }
+    {
+        self.state.config()
+    }
+
+    /// Carries out a call, and answers it. A snapshot writes the durable state to `out`; nothing else writes it.
+    pub fn apply(&mut self, op: &Op, out: &mut Persist) -> Reply
+        requires admitted { IsAdmitted (config_of self.old) op.now }
+        ensures config { config_of self.new ≡ config_of self.old }
+        ensures base { (state_of self.new).base ≡ (state_of self.old).base }
+        ensures stands { (life : Life) (past : History) → Stands life past (state_of self.old) → Stands life (op.now ∷ past) (state_of self.new) }
+        ensures answer { (life : Life) (past : History) → Stands life past (state_of self.old) → result ≡ answer life past op.now }
+        ensures written { (life : Life) (past : History) → Stands life past (state_of self.old) → out.new ≡ written life past op.now out.old }
+        ensures kept { op.now ≢ ops.Snapshot → out.new ≡ out.old }
+        ensures reading { IsReading op.now → state_of self.new ≡ state_of self.old }
+        ensures negative { (tester : ℕ) (bytes : RequestBytes) → op.now ≡ ops.Request tester bytes → IsNegative result
+            → state_of self.new ≡ record (state_of self.old) { sessions = slice_set (state_of self.old).sessions tester (heard (session_at (state_of self.old).sessions tester)) } }
+        ensures standard { (life : Life) (past : History) → Stands life past (state_of self.old) → SaysStandard life (op.now ∷ past) (state_of self.new).dem }
+    {
+        self.state.apply(&self.dids, op, out)
+    }
+}
