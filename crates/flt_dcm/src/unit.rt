@@ -23,8 +23,10 @@ use flt_model::{Op, Reply};
 /// and the durable state that it was last started from.
 #[derive(Drop)]
 pub struct Unit {
-    state: UnitState,
-    dids: DidTable<DID_ROWS>,
+    /// The unit without the functions of its table.
+    pub state: UnitState,
+    /// The table of data identifiers.
+    pub dids: DidTable<DID_ROWS>,
     ghost served: { Serves (dids_of dids) state.dem.faults.config.events.items } by { Prim.hlevel props },
 }
 
@@ -38,30 +40,11 @@ impl Unit {
         ensures dids { table_of result ≡ dem_table dem }
         ensures stands { Stands (fresh (dem_config dem)) [] (state_of result) }
     {
-        let (state, dids) = dem.into_parts();
+        let Dem { state, dids, .. } = dem;
         Unit {
             state: UnitState::make(state),
             dids,
         }
-    }
-
-    /// A unit of its two parts.
-    pub fn from_parts(state: UnitState, dids: DidTable<DID_ROWS>) -> Unit
-        requires { Serves (dids_of dids) state.dem.faults.config.events.items }
-        ensures state { state_of result ≡ state }
-        ensures dids { table_of result ≡ dids_of dids }
-    {
-        Unit { state, dids }
-    }
-
-    /// Its two parts: the unit without the functions, and the table.
-    pub fn into_parts(self) -> (UnitState, DidTable<DID_ROWS>)
-        ensures state { result.0 ≡ state_of self }
-        ensures dids { dids_of result.1 ≡ table_of self }
-        ensures served { Serves (dids_of result.1) result.0.dem.faults.config.events.items }
-    {
-        let Unit { state, dids } = self;
-        (state, dids)
     }
 
     /// Starts again from a saved state that fits the configuration, which is kept as the base: what is not saved is

@@ -29,8 +29,10 @@ use flt_model::{Cause, Report, Shown};
 /// that an event uses is in the table, with its width.
 #[derive(Drop)]
 pub struct Dem {
-    state: DemState,
-    dids: DidTable<DID_ROWS>,
+    /// The manager without the functions of its table.
+    pub state: DemState,
+    /// The table of data identifiers.
+    pub dids: DidTable<DID_ROWS>,
     ghost served: { Serves (dids_of dids) state.faults.config.events.items } by { Prim.hlevel props },
 }
 
@@ -49,25 +51,6 @@ impl Dem {
             state: DemState::make(config),
             dids,
         }
-    }
-
-    /// A manager of its two parts.
-    pub fn from_parts(state: DemState, dids: DidTable<DID_ROWS>) -> Dem
-        requires { Serves (dids_of dids) state.faults.config.events.items }
-        ensures state { state_of result ≡ state }
-        ensures dids { table_of result ≡ dids_of dids }
-    {
-        Dem { state, dids }
-    }
-
-    /// Its two parts: the manager without the functions, and the table.
-    pub fn into_parts(self) -> (DemState, DidTable<DID_ROWS>)
-        ensures state { result.0 ≡ state_of self }
-        ensures dids { dids_of result.1 ≡ table_of self }
-        ensures served { Serves (dids_of result.1) result.0.faults.config.events.items }
-    {
-        let Dem { state, dids } = self;
-        (state, dids)
     }
 
     /// Starts again from a saved state that fits the configuration: what is not saved is at rest.
