@@ -54,7 +54,7 @@ module _ (life : Life) (past : History) (manager : Manager) (s : StandsFor life 
       let below : event < length events = omega (arith, within, ap (λ k. length k.events.items) config) in
       let not_own : has_dtc dtc (get_or events event no_event) ≡ false = position-None (has_dtc dtc) events event no_event is below in
       let own : (get_or events event no_event).dtc ≡ dtc =
-          ap (λ e. e.dtc) (sym (unwrap_or-slice_get events event no_event)) ∙ ap (λ k. (unwrap_or (slice_get k.events.items event) no_event).dtc) (sym config) ∙ sym same in
+      ap (λ e. e.dtc) (sym (unwrap_or-slice_get events event no_event)) ∙ ap (λ k. (unwrap_or (slice_get k.events.items event) no_event).dtc) (sym config) ∙ sym same in
       let test : has_dtc dtc (get_or events event no_event) ≡ true = eq-eqb (get_or events event no_event).dtc dtc own in
       absurd cc
 

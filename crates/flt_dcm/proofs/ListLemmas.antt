@@ -168,18 +168,22 @@ filtered_more p manager n = ap (λ xs. length (filter p xs)) (seen_more manager 
     one : (test : Bool) (x : EventView) → length (cond test (x ∷ []) []) ≡ cond test 1 0
     one true x = refl
     one false x = refl
+
     kept : (test : Bool) (x : EventView) (xs : List EventView) (more : ℕ) → length (filter p (xs ++ event_seen manager n ∷ [])) ≡ more →
         length (cond test (x ∷ filter p (xs ++ event_seen manager n ∷ [])) (filter p (xs ++ event_seen manager n ∷ []))) ≡ cond test (suc more) more
     kept true x xs more is = ap suc is
     kept false x xs more is = is
+
     shifted : (test own : Bool) (before : ℕ) → cond test (suc (cond own (before + 1) before)) (cond own (before + 1) before) ≡ cond own (cond test (suc before) before + 1) (cond test (suc before) before)
     shifted true true before = omega arith
     shifted true false before = refl
     shifted false true before = refl
     shifted false false before = refl
+
     sized : (test : Bool) (x : EventView) (xs : List EventView) → length (cond test (x ∷ filter p xs) (filter p xs)) ≡ cond test (suc (length (filter p xs))) (length (filter p xs))
     sized true x xs = refl
     sized false x xs = refl
+
     push : (xs : List EventView) → length (filter p (xs ++ event_seen manager n ∷ [])) ≡ cond (p (event_seen manager n)) (length (filter p xs) + 1) (length (filter p xs))
     push [] = one (p (event_seen manager n)) (event_seen manager n)
     push (x ∷ xs) =
@@ -254,11 +258,11 @@ module _ (p : EventView → Bool) where
     first_found (suc n) event h own before =
         ap (find p) (seen_more manager n) ∙ found_push (seen_to manager n) (event_seen manager n)
         ∙ ⊎_elim
-          (λ same. ap (λ o. or_push o (event_seen manager n)) (none_found n (λ k below_n. before k (omega (arith, same, below_n))))
-          ∙ ap (λ k. cond (p (event_seen manager k)) (Some (event_seen manager k)) None) (sym same)
-          ∙ ap (λ b. cond b (Some (event_seen manager event)) None) own)
-          (λ ne. ap (λ o. or_push o (event_seen manager n)) (first_found n event (omega (arith, h, ne)) own before))
-          (cases_eq event n)
+        (λ same. ap (λ o. or_push o (event_seen manager n)) (none_found n (λ k below_n. before k (omega (arith, same, below_n))))
+        ∙ ap (λ k. cond (p (event_seen manager k)) (Some (event_seen manager k)) None) (sym same)
+        ∙ ap (λ b. cond b (Some (event_seen manager event)) None) own)
+        (λ ne. ap (λ o. or_push o (event_seen manager n)) (first_found n event (omega (arith, h, ne)) own before))
+        (cases_eq event n)
 
 -- ---- a list of those that pass a test
 

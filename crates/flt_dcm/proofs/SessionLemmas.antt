@@ -120,9 +120,9 @@ module _ (past : History) (tester : ℕ) (bytes : RequestBytes) where
       let request = asked (is_extended_one session) bytes.items in
       let own = eq-eqb tester tester refl in
       let extended : is_extended tester (ops.Request tester bytes ∷ past) ≡ is_extended_one (after_asked (heard session) request) =
-          ap (λ b. unwrap_or (cond b (session_asked (asked false bytes.items)) None) (is_extended tester past)) own
-          ∙ (λ i. unwrap_or (session_same (is_extended_one session) bytes.items i) (s.extended i))
-          ∙ extended_asked session request in
+      ap (λ b. unwrap_or (cond b (session_asked (asked false bytes.items)) None) (is_extended tester past)) own
+      ∙ (λ i. unwrap_or (session_same (is_extended_one session) bytes.items i) (s.extended i))
+      ∙ extended_asked session request in
       record {
         extended = extended;
         hold =
@@ -184,7 +184,7 @@ module _ (past : History) (tester ticks : ℕ) where
   ticked_default : (late : Bool) → nat_le session_timeout (silence tester past + ticks) ≡ late → SessionStands tester past Default → SessionStands tester (ops.Tick ticks ∷ past) Default
   ticked_default late is_late s =
       let extended : is_extended tester (ops.Tick ticks ∷ past) ≡ false =
-          ap (λ b. unwrap_or (cond b (Some false) None) (is_extended tester past)) is_late ∙ ap (λ b. unwrap_or (cond late (Some false) None) b) s.extended ∙ ended late in
+      ap (λ b. unwrap_or (cond b (Some false) None) (is_extended tester past)) is_late ∙ ap (λ b. unwrap_or (cond late (Some false) None) b) s.extended ∙ ended late in
       record {
         extended = extended;
         hold = ap (λ b. unwrap_or (cond b None (Some false)) (holds_off tester past)) extended;
@@ -198,13 +198,13 @@ module _ (past : History) (tester ticks : ℕ) where
   late_or_early : (x : ℕ) → nat_lt x session_timeout ≡ not (nat_le session_timeout x)
   late_or_early x = ⊎_elim
       (λ late. ⊎_elim
-          (λ early. absurd (omega (arith, late.1, early.1)))
-          (λ not_early. not_early.0 ∙ sym (ap not late.0))
-          (leb_tells (suc x) 500))
+      (λ early. absurd (omega (arith, late.1, early.1)))
+      (λ not_early. not_early.0 ∙ sym (ap not late.0))
+      (leb_tells (suc x) 500))
       (λ not_late. ⊎_elim
-          (λ early. early.0 ∙ sym (ap not not_late.0))
-          (λ not_early. absurd (omega (arith, not_late.1, not_early.1)))
-          (leb_tells (suc x) 500))
+      (λ early. early.0 ∙ sym (ap not not_late.0))
+      (λ not_early. absurd (omega (arith, not_late.1, not_early.1)))
+      (leb_tells (suc x) 500))
       (leb_tells 500 x)
 
   session_ticked : (session : Session) → SessionStands tester past session → SessionStands tester (ops.Tick ticks ∷ past) (ticked ticks session)

@@ -59,12 +59,7 @@ fn put_snapshot(
 }
 
 /// Appends the snapshot records of an entry that the record number asks for.
-fn put_frames(
-    entry: &EntryState,
-    number: u8,
-    dids: &[DidUse],
-    out: &mut ArrayVec<u8, RESPONSE>,
-)
+fn put_frames(entry: &EntryState, number: u8, dids: &[DidUse], out: &mut ArrayVec<u8, RESPONSE>)
     requires few { length dids.now ≤ 8 }
     requires narrow { frame_width dids.now ≤ 32 }
     requires room { length out.old.items ≤ 8 }

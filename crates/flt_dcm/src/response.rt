@@ -160,7 +160,10 @@ pub(crate) fn put_positive(
 {
     match request {
         Request::Session { extended } => {
-            put_bytes(&[0x50, sub_of_session(extended), 0x00, 0x32, 0x01, 0xF4], out);
+            put_bytes(
+                &[0x50, sub_of_session(extended), 0x00, 0x32, 0x01, 0xF4],
+                out,
+            );
             Ok(())
         }
         Request::Present => {

@@ -11,7 +11,7 @@ returns-then-event-event_count c =
     let n = length dem.faults.config.events.items in
     let noted : noted_at dem.faults.notes c.args.sub ≡ Some c.in-Some.event = sym (c.which_of.ensures dem) ∙ sym c.noted.ensures.value ∙ c.in-Some.is in
     let told = ap (noted_bytes (seen_to dem n)) noted
-        ∙ noted_seen dem n c.in-Some.event (omega (arith, c.if-event-event_count.true, c.event_count.ensures.count)) in
+    ∙ noted_seen dem n c.in-Some.event (omega (arith, c.if-event-event_count.true, c.event_count.ensures.count)) in
     let head = ap (λ xs. xs ++ 0x59 ∷ c.args.sub ∷ 0xFF ∷ []) c.requires in
     ap Some (ap (λ xs. 0x59 ∷ c.args.sub ∷ 0xFF ∷ xs) told ∙ sym (c.put_status.ensures ∙ ap (λ xs. xs ++ with_status (event_seen dem c.in-Some.event)) (c.put_bytes.ensures ∙ head)))
 
@@ -21,6 +21,6 @@ returns-else-event-event_count c =
     let n = length dem.faults.config.events.items in
     let noted : noted_at dem.faults.notes c.args.sub ≡ Some c.in-Some.event = sym (c.which_of.ensures dem) ∙ sym c.noted.ensures.value ∙ c.in-Some.is in
     let told = ap (noted_bytes (seen_to dem n)) noted
-        ∙ noted_past dem n c.in-Some.event (omega (arith, c.if-event-event_count.false, c.event_count.ensures.count)) in
+    ∙ noted_past dem n c.in-Some.event (omega (arith, c.if-event-event_count.false, c.event_count.ensures.count)) in
     let head = ap (λ xs. xs ++ 0x59 ∷ c.args.sub ∷ 0xFF ∷ []) c.requires in
     ap Some (ap (λ xs. 0x59 ∷ c.args.sub ∷ 0xFF ∷ xs) told ∙ sym (c.put_bytes.ensures ∙ head))

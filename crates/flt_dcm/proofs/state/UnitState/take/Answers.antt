@@ -55,9 +55,9 @@ returns-in-Request-clause-stands g c = λ life past s.
     let admitted : IsAdmitted c.args.self.now.dem.faults.config (ops.Request tester bytes) = subst (λ op. IsAdmitted c.args.self.now.dem.faults.config op) c.in-Request.is c.requires.admitted in
     let within : tester < length sessions = omega (arith, admitted.0, c.self.invariant.one_each) in
     let new : c.request.new.session ≡ after_asked (heard (session_at sessions tester)) (asked (is_extended_one (session_at sessions tester)) bytes.items) =
-        c.request.ensures.session
-        ∙ ap (λ session. after_asked (heard session) (asked (is_extended_one session) c.deref.result.now)) (read_within sessions tester _ Default within)
-        ∙ ap (λ xs. after_asked (heard (session_at sessions tester)) (asked (is_extended_one (session_at sessions tester)) xs)) c.deref.ensures.0 in
+    c.request.ensures.session
+    ∙ ap (λ session. after_asked (heard session) (asked (is_extended_one session) c.deref.result.now)) (read_within sessions tester _ Default within)
+    ∙ ap (λ xs. after_asked (heard (session_at sessions tester)) (asked (is_extended_one (session_at sessions tester)) xs)) c.deref.ensures.0 in
     subst (λ call. Stands life (call ∷ past) (the_view (record { dem = c.request.new.dem; sessions = slice_set sessions tester c.request.new.session; base = c.self.inside.base }))) (sym c.in-Request.is)
     (record {
       dem = c.request.ensures.stands life past tester bytes (sym c.deref.ensures.0) inside.dem;
