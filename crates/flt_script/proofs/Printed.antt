@@ -1,18 +1,13 @@
 -- What a step prints is read again.
-use Rattle.std.proofs.Common.{◌≡◌, ℕ, ◌<◌, ◌≤◌, ◌^◌, List, [], ◌∷◌, ◌++◌, length, Bool, true, false, ◌&&◌, Some, refl, ap, ◌∙◌, arith, ltb, leb, length-append, lit<, lit≤}
-use Rattle.std.specs.Prelude.{not, filter, codes}
-use Rattle.std.specs.Char.{digit_value}
+use Rattle.std.proofs.Common.{◌≡◌, ℕ, ◌<◌, ◌≤◌, ◌^◌, List, [], ◌∷◌, length, true, false, Some, refl, ap, ◌∙◌, arith, ltb, leb, length-append, lit<, lit≤}
+use Rattle.std.specs.Prelude.{filter, codes}
 use Rattle.std.specs.Fmt.{decimal}
-use Rattle.std.specs.List.{list_all, slice_split, All}
+use Rattle.std.specs.List.{list_all}
 use Rattle.std.specs.Option.{ok_or}
 use Rattle.std.specs.Str.Parse.{AllDigits}
-use Rattle.std.proofs.lemmas.Bool.{lt-ltb, le-ltb, le-leb, ltb-true, leb-true}
-use Rattle.std.proofs.lemmas.Bool.Decides.{nat_tests}
+use Rattle.std.proofs.lemmas.Bool.{lt-ltb, le-leb, ltb-true, leb-true}
 use Rattle.std.proofs.lemmas.Fmt.{decimal_is_IsNumeral, length-decimal-le}
-use Rattle.std.proofs.lemmas.List.Folds.{list_all-append}
-use Rattle.std.proofs.lemmas.List.Splits.{slice_split_at, slice_split_none}
-use Rattle.std.proofs.lemmas.List.Sums.{AllPass-from_list_all}
-use Rattle.std.proofs.lemmas.Str.Parse.{digit_from_value}
+use Rattle.std.proofs.lemmas.List.Splits.{slice_split_none}
 use Rattle.flt_model.specs.declared.call.Report.TheVariants.{Passed, Failed, PrePassed, PreFailed}
 use Rattle.flt_script.specs.declared.fault.LineCause.TheVariants.{Form}
 use Rattle.flt_script.specs.declared.keyword.Keyword.{Keyword}
@@ -20,67 +15,14 @@ use Rattle.flt_script.specs.declared.keyword.Keyword.TheVariants as keyword
 use Rattle.flt_script.specs.declared.line.StepLine.TheVariants as written
 use Rattle.flt_script.specs.declared.step.Step.TheVariants as step
 use Rattle.flt_script.specs.Laws.{PrintedStepIsReadAgain}
-use Rattle.flt_script.specs.Line.{keyword_of, report_with, two_numbers, line_with, is_comment, by_words, line_of}
-use Rattle.flt_script.specs.Numeral.{all_digits, numeral, number}
+use Rattle.flt_script.specs.Line.{keyword_of, report_with, two_numbers, line_with, is_comment, line_of}
+use Rattle.flt_script.specs.Numeral.{numeral, number}
 use Rattle.flt_script.specs.Step.{with_number, with_two_numbers}
-use Rattle.flt_script.specs.Text.{words_of, is_blank, is_word, is_plain, all_plain}
-use Rattle.flt_script.proofs.Bools.{both_true, not_true}
+use Rattle.flt_script.specs.Text.{words_of, is_blank, is_word}
+use Rattle.flt_script.proofs.Bools.{both_true}
+use Rattle.flt_script.proofs.PrintedRequest.{request_is_read}
+use Rattle.flt_script.proofs.Solid.{is_solid, solid_is_plain, none_blank, digits_are_solid, digits_test, words_of_first, plain_first, by_keyword}
 use Rattle.flt_script.proofs.Words.{a_word}
-
--- A byte of a word that is printed.
-abbrev is_solid : ℕ → Bool
-is_solid byte = is_plain byte && not (is_blank byte)
-
-solid_is_plain : (word : List ℕ) → list_all is_solid word ≡ true → all_plain word ≡ true
-solid_is_plain [] e = refl
-solid_is_plain (byte ∷ word) e =
-    let parts = both_true (is_solid byte) (list_all is_solid word) e in
-    let first = both_true (is_plain byte) (not (is_blank byte)) parts.0 in
-    rw (first.0, solid_is_plain word parts.1) refl
-
-solid_is_whole : (word : List ℕ) → list_all is_solid word ≡ true → list_all (λ byte. not (is_blank byte)) word ≡ true
-solid_is_whole [] e = refl
-solid_is_whole (byte ∷ word) e =
-    let parts = both_true (is_solid byte) (list_all is_solid word) e in
-    let first = both_true (is_plain byte) (not (is_blank byte)) parts.0 in
-    rw (first.1, solid_is_whole word parts.1) refl
-
-none_blank : (word : List ℕ) → list_all is_solid word ≡ true → All (λ byte. is_blank byte ≡ false) word
-none_blank word e = λ k d within. not_true _ (AllPass-from_list_all (λ (byte : ℕ). not (is_blank byte)) word (solid_is_whole word e) k d within)
-
--- A digit is visible.
-digit_is_solid : (byte : ℕ) → digit_value byte < 10 → is_solid byte ≡ true
-unfolding is_blank
-digit_is_solid byte small =
-    let range = digit_from_value byte small in
-    let low : 48 ≤ byte = range.0 in
-    let high : byte ≤ 57 = range.1 in
-    grind (arith, nat_tests)
-
-digits_are_solid : (digits : List ℕ) → AllDigits 10 digits → list_all is_solid digits ≡ true
-digits_are_solid [] all = refl
-digits_are_solid (digit ∷ digits) all = rw (digit_is_solid digit all.0, digits_are_solid digits all.1) refl
-
-digits_test : (digits : List ℕ) → AllDigits 10 digits → all_digits 10 digits ≡ true
-digits_test [] all = refl
-digits_test (digit ∷ digits) all = rw (lt-ltb (digit_value digit) 10 all.0, digits_test digits all.1) refl
-
--- A line of words.
-module _ (word rest : List ℕ) (solid : list_all is_solid word ≡ true) (some : 0 < length word) where
-  -- A word stands before a space.
-  words_of_first : words_of (word ++ 32 ∷ rest) ≡ word ∷ words_of rest
-  unfolding words_of is_blank
-  words_of_first =
-      ap (filter is_word) (slice_split_at is_blank word 32 rest (none_blank word solid) refl) ∙ a_word word (slice_split is_blank rest) some
-
-  plain_first : all_plain rest ≡ true → all_plain (word ++ 32 ∷ rest) ≡ true
-  plain_first plain = list_all-append is_plain word (32 ∷ rest) ∙ rw (solid_is_plain word solid, plain) refl
-
-  -- What a line says that begins with a keyword.
-  by_keyword : length (word ++ 32 ∷ rest) ≤ 512 → all_plain rest ≡ true → (keyword : Keyword) → is_comment word ≡ false → keyword_of word ≡ Some keyword
-      → line_of (word ++ 32 ∷ rest) ≡ ok_or (line_with keyword (words_of rest)) Form
-  unfolding line_of by_words
-  by_keyword fit plain keyword no_comment found = rw (le-ltb _ _ fit, plain_first plain, words_of_first, no_comment, found) refl
 
 -- A number as it is printed.
 module _ (n : ℕ) (small : n < 10 ^ 10) where
@@ -139,51 +81,51 @@ few_events events event few among = let below = ltb-true event events among in o
 
 pub printed_step_is_read_again : PrintedStepIsReadAgain
 unfolding keyword_of line_with report_with two_numbers is_blank
-printed_step_is_read_again events (step.Report event Passed) few among =
+printed_step_is_read_again events (step.Report event Passed) few among held =
     let small = few_events events event few among in (
       written.Report event Passed,
       with_one event small (codes "pass") refl (lit< tt) (lit≤ tt) keyword.Pass refl refl ∙ rw number-decimal refl,
       rw among refl,
     )
-printed_step_is_read_again events (step.Report event Failed) few among =
+printed_step_is_read_again events (step.Report event Failed) few among held =
     let small = few_events events event few among in (
       written.Report event Failed,
       with_one event small (codes "fail") refl (lit< tt) (lit≤ tt) keyword.Fail refl refl ∙ rw number-decimal refl,
       rw among refl,
     )
-printed_step_is_read_again events (step.Report event PrePassed) few among =
+printed_step_is_read_again events (step.Report event PrePassed) few among held =
     let small = few_events events event few among in (
       written.Report event PrePassed,
       with_one event small (codes "prepass") refl (lit< tt) (lit≤ tt) keyword.PrePass refl refl ∙ rw number-decimal refl,
       rw among refl,
     )
-printed_step_is_read_again events (step.Report event PreFailed) few among =
+printed_step_is_read_again events (step.Report event PreFailed) few among held =
     let small = few_events events event few among in (
       written.Report event PreFailed,
       with_one event small (codes "prefail") refl (lit< tt) (lit≤ tt) keyword.PreFail refl refl ∙ rw number-decimal refl,
       rw among refl,
     )
-printed_step_is_read_again events (step.Show event) few among =
+printed_step_is_read_again events (step.Show event) few among held =
     let small = few_events events event few among in (
       written.Show event,
       with_one event small (codes "show") refl (lit< tt) (lit≤ tt) keyword.Show refl refl ∙ rw number-decimal refl,
       rw among refl,
     )
-printed_step_is_read_again events (step.Cycle cycle) few among =
+printed_step_is_read_again events (step.Cycle cycle) few among held =
     let among_four = leb-true cycle 3 among in
     let small : cycle < 10 ^ 10 = omega arith in (
       written.Cycle cycle,
       with_one cycle small (codes "cycle") refl (lit< tt) (lit≤ tt) keyword.Cycle refl refl ∙ rw number-decimal refl,
       rw among refl,
     )
-printed_step_is_read_again events (step.Tick ticks) few among =
+printed_step_is_read_again events (step.Tick ticks) few among held =
     let held = leb-true ticks 65535 (both_true (leb 1 ticks) (leb ticks 65535) among).1 in
     let small : ticks < 10 ^ 10 = omega arith in (
       written.Tick ticks,
       with_one ticks small (codes "tick") refl (lit< tt) (lit≤ tt) keyword.Tick refl refl ∙ rw number-decimal refl,
       rw among refl,
     )
-printed_step_is_read_again events (step.Signal index value) few among =
+printed_step_is_read_again events (step.Signal index value) few among held =
     let parts = both_true (leb index 7) (leb value 65535) among in
     let low = leb-true index 7 parts.0 in
     let high = leb-true value 65535 parts.1 in
@@ -192,5 +134,15 @@ printed_step_is_read_again events (step.Signal index value) few among =
       written.Signal index value,
       with_two index value small_index small_value (codes "sig") refl (lit< tt) (lit≤ tt) keyword.Signal refl refl
           ∙ rw (number-decimal index small_index, number-decimal value small_value) refl,
+      rw (parts.0, parts.1) refl,
+    )
+printed_step_is_read_again events (step.Request tester bytes) few among held =
+    let parts = both_true (leb tester 3) (ltb 0 (length bytes.items)) among in
+    let last = leb-true tester 3 parts.0 in
+    let some = ltb-true 0 (length bytes.items) parts.1 in
+    let sizes = both_true (leb (length bytes.items) 16) (list_all (λ (byte : ℕ). ltb byte 256) bytes.items) held in
+    let most = leb-true (length bytes.items) 16 sizes.0 in (
+      written.Request tester bytes,
+      request_is_read tester bytes.items last some most sizes.1,
       rw (parts.0, parts.1) refl,
     )

@@ -1,12 +1,12 @@
 -- What the lines before a line gave. These lists of lines stand with the newest first, so that each word here says
 -- what one more line changes. None of the lines was refused.
-use Rattle.std.specs.Prelude.{ℕ, ◌+◌, List, [], ◌∷◌, ◌++◌, length, Bool, Option, Some, None, option_map, option_to_list, nat_lt, find, slice_get, slice_set}
+use Rattle.std.specs.Prelude.{ℕ, ◌+◌, List, [], ◌∷◌, ◌++◌, length, Bool, Option, Some, None, option_map, option_to_list, nat_lt, nat_le, ◌&&◌, if◌then◌else◌, find, slice_get, slice_set}
 use Rattle.flt_config.specs.declared.config.Config.{Config}
 use Rattle.flt_config.specs.declared.config.DidUse.{DidUse}
 use Rattle.flt_config.specs.declared.config.EventCfg.{EventCfg}
 use Rattle.flt_did.specs.Rows.{is_did}
 use Rattle.flt_script.specs.declared.line.StepLine.{StepLine}
-use Rattle.flt_script.specs.declared.line.StepLine.TheVariants.{Report, Show, Cycle, Tick, Signal}
+use Rattle.flt_script.specs.declared.line.StepLine.TheVariants.{Report, Show, Cycle, Tick, Signal, Request}
 use Rattle.flt_script.specs.declared.line.Line.{Line}
 use Rattle.flt_script.specs.declared.line.Line.TheVariants as line
 use Rattle.flt_script.specs.declared.places.Places.{Places}
@@ -69,6 +69,7 @@ step_of events (Show event) = option_map step.Show (below events event)
 step_of events (Cycle cycle) = option_map step.Cycle (up_to 3 cycle)
 step_of events (Tick ticks) = option_map step.Tick (from_to 1 65535 ticks)
 step_of events (Signal index value) = up_to 7 index ⇒ λ index. up_to 65535 value ⇒ λ value. Some (step.Signal index value)
+step_of events (Request tester bytes) = if nat_le tester 3 && nat_lt 0 (length bytes.items) then Some (step.Request tester bytes) else None
 
 -- The parts of the life that the lines write.
 abbrev pub parts_of : List DidUse → List Line → List Part

@@ -1,10 +1,12 @@
 -- What the definitions come to.
-use Rattle.std.specs.Prelude.{◌≡◌, ℕ, ◌≤◌, ◌⊎◌, List, true, Some, Ok, Err}
+use Rattle.std.specs.Prelude.{◌≡◌, ℕ, ◌≤◌, ◌⊎◌, List, length, Bool, true, ◌&&◌, nat_le, nat_lt, Some, Ok, Err}
+use Rattle.std.specs.List.{list_all}
 use Rattle.flt_config.specs.declared.config.DidUse.{DidUse}
 use Rattle.flt_script.specs.declared.fault.ScriptFault.{ScriptFault}
 use Rattle.flt_script.specs.declared.line.StepLine.{StepLine}
 use Rattle.flt_script.specs.declared.line.Line.TheVariants as line
 use Rattle.flt_script.specs.declared.step.Step.{Step}
+use Rattle.flt_script.specs.declared.step.Step.TheVariants as step
 use Rattle.flt_script.specs.Behind.{step_of}
 use Rattle.flt_script.specs.Line.{line_of}
 use Rattle.flt_script.specs.Script.{Content, script_of}
@@ -33,6 +35,13 @@ EachHasOneOutcome = (dids : List DidUse) (bytes : List ℕ) → HasOneOutcome di
 abbrev pub IsReadAs : List ℕ → ℕ → Step → Type 0
 IsReadAs text events step = (written : StepLine) × (line_of text ≡ Ok (line.Step written)) × (step_of events written ≡ Some step)
 
+-- A step is one that its type holds: a request has at most 16 bytes, and each is below 256.
+abbrev pub is_held : Step → Bool
+is_held (step.Request tester bytes) = nat_le (length bytes.items) 16 && list_all (λ byte. nat_lt byte 256) bytes.items
+is_held _ = true
+
 -- What a step prints is read again as that step.
 abbrev pub PrintedStepIsReadAgain : Type 0
-PrintedStepIsReadAgain = (events : ℕ) (step : Step) → events ≤ 64 → is_step_among events step ≡ true → IsReadAs (step_text step) events step
+PrintedStepIsReadAgain =
+    (events : ℕ) (step : Step) → events ≤ 64 → is_step_among events step ≡ true → is_held step ≡ true
+    → IsReadAs (step_text step) events step

@@ -12,6 +12,7 @@ use Rattle.flt_script.specs.declared.keyword.Keyword.TheVariants as keyword
 use Rattle.flt_script.specs.declared.line.Line.{Line}
 use Rattle.flt_script.specs.declared.line.Line.TheVariants as line
 use Rattle.flt_script.specs.declared.line.StepLine.TheVariants as step
+use Rattle.flt_script.specs.Bytes.{tester_of, bytes_of}
 use Rattle.flt_script.specs.Event.{only, event_of}
 use Rattle.flt_script.specs.Gives.{◌⇒◌, ◌>>=◌}
 use Rattle.flt_script.specs.Numeral.{number, hexadecimal}
@@ -27,6 +28,7 @@ spelling keyword.Show = codes "show"
 spelling keyword.Cycle = codes "cycle"
 spelling keyword.Tick = codes "tick"
 spelling keyword.Signal = codes "sig"
+spelling keyword.Request = codes "t"
 spelling keyword.Event = codes "event"
 spelling keyword.Did = codes "did"
 spelling keyword.Config = codes "config"
@@ -37,7 +39,7 @@ spelling keyword.Flash = codes "flash"
 -- The table of lines.
 abbrev pub keywords : List Keyword
 keywords = keyword.Pass ∷ keyword.Fail ∷ keyword.PrePass ∷ keyword.PreFail ∷ keyword.Show ∷ keyword.Cycle ∷ keyword.Tick
-    ∷ keyword.Signal ∷ keyword.Event ∷ keyword.Did ∷ keyword.Config ∷ keyword.Memory ∷ keyword.Blocks ∷ keyword.Flash ∷ []
+    ∷ keyword.Signal ∷ keyword.Request ∷ keyword.Event ∷ keyword.Did ∷ keyword.Config ∷ keyword.Memory ∷ keyword.Blocks ∷ keyword.Flash ∷ []
 
 -- The keyword that a word spells.
 unfoldable pub keyword_of : List ℕ → Option Keyword
@@ -57,6 +59,12 @@ unfoldable pub did_with : List (List ℕ) → Option Line
 did_with (e ∷ h ∷ []) = number e ⇒ λ event. hexadecimal 4 h ⇒ λ id. Some (line.Did event id)
 did_with _ = None
 
+-- A tester, and a request of 1 to 16 bytes.
+unfoldable pub request_with : List (List ℕ) → Option Line
+request_with [] = None
+request_with (letter ∷ words) =
+    tester_of letter ⇒ λ tester. bytes_of 16 words ⇒ λ bytes. Some (line.Step (step.Request tester (record { items = bytes })))
+
 -- What the words behind the keyword say, row by row.
 unfoldable pub line_with : Keyword → List (List ℕ) → Option Line
 line_with keyword.Pass words = report_with Passed words
@@ -67,6 +75,7 @@ line_with keyword.Show words = option_map (λ event. line.Step (step.Show event)
 line_with keyword.Cycle words = option_map (λ cycle. line.Step (step.Cycle cycle)) (only number words)
 line_with keyword.Tick words = option_map (λ ticks. line.Step (step.Tick ticks)) (only number words)
 line_with keyword.Signal words = option_map (λ numbers. line.Step (step.Signal numbers.0 numbers.1)) (two_numbers words)
+line_with keyword.Request words = request_with words
 line_with keyword.Event words = option_map line.Event (event_of words)
 line_with keyword.Did words = did_with words
 line_with keyword.Config words = option_map line.Config (only number words)

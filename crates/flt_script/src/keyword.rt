@@ -12,6 +12,7 @@ pub(crate) enum Keyword {
     Cycle,
     Tick,
     Signal,
+    Request,
     Event,
     Did,
     Config,
@@ -20,7 +21,7 @@ pub(crate) enum Keyword {
     Flash,
 }
 
-const KEYWORDS: [Keyword; 14] = [
+const KEYWORDS: [Keyword; 15] = [
     Keyword::Pass,
     Keyword::Fail,
     Keyword::PrePass,
@@ -29,6 +30,7 @@ const KEYWORDS: [Keyword; 14] = [
     Keyword::Cycle,
     Keyword::Tick,
     Keyword::Signal,
+    Keyword::Request,
     Keyword::Event,
     Keyword::Did,
     Keyword::Config,
@@ -49,6 +51,7 @@ fn spelling(keyword: Keyword) -> &'static [u8]
         Keyword::Cycle => b"cycle",
         Keyword::Tick => b"tick",
         Keyword::Signal => b"sig",
+        Keyword::Request => b"t",
         Keyword::Event => b"event",
         Keyword::Did => b"did",
         Keyword::Config => b"config",

@@ -8,6 +8,7 @@
 //! `specs/Script` (the whole); `docs/SCRIPT.md` tells the language in plain words.
 #![tactic(auto)]
 
+mod bytes;
 mod did;
 mod draft;
 mod event;
@@ -23,6 +24,7 @@ mod script;
 mod step;
 mod text;
 
+pub use bytes::{HexByte, HexBytes};
 pub use fault::{LineCause, ParseFault, ScriptFault};
 pub use flt_model::Report;
 pub use parsing::parse;

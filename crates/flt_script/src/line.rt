@@ -1,32 +1,51 @@
 ghost use Rattle.std.specs.Prelude.{◌≡◌, ◌≤◌, IfOk};
 ghost use Rattle.flt_script.specs.Behind.{step_of};
+ghost use Rattle.flt_script.specs.Bytes.{tester_of};
 ghost use Rattle.flt_script.specs.Event.{only, event_of};
 ghost use Rattle.flt_script.specs.Gives.{Gives};
-ghost use Rattle.flt_script.specs.Line.{report_with, two_numbers, did_with, line_with, line_of, is_comment};
+ghost use Rattle.flt_script.specs.Line.{report_with, two_numbers, did_with, request_with, line_with, line_of, is_comment};
 ghost use Rattle.flt_script.specs.Next.{cause_of};
 ghost use Rattle.flt_script.specs.Numeral.{number};
 
+use crate::bytes::read_bytes;
 use crate::event::{EventLine, event_of};
 use crate::fault::{LineCause, LineFault};
 use crate::keyword::{Keyword, read_keyword};
 use crate::numeral::{read_hexadecimal, read_number};
-use crate::step::Step;
+use crate::step::{LAST_TESTER, Step};
 use crate::text::{TextLine, Words};
-use flt_model::Report;
+use arrayvec::ArrayVec;
+use flt_model::{REQUEST, Report};
 use std::alloc::{AllocError, Global};
 
 /// A step, with its numbers as they are written.
-#[derive(Clone, Copy, Debug, PartialEq, Eq)]
+#[derive(Clone, Drop, Debug, PartialEq, Eq)]
 pub(crate) enum StepLine {
-    Report { event: u64, report: Report },
-    Show { event: u64 },
-    Cycle { cycle: u64 },
-    Tick { ticks: u64 },
-    Signal { index: u64, value: u64 },
+    Report {
+        event: u64,
+        report: Report,
+    },
+    Show {
+        event: u64,
+    },
+    Cycle {
+        cycle: u64,
+    },
+    Tick {
+        ticks: u64,
+    },
+    Signal {
+        index: u64,
+        value: u64,
+    },
+    Request {
+        tester: u8,
+        bytes: ArrayVec<u8, REQUEST>,
+    },
 }
 
 /// What a line says, with its numbers as they are written.
-#[derive(Clone, Copy, Debug, PartialEq, Eq)]
+#[derive(Clone, Drop, Debug, PartialEq, Eq)]
 pub(crate) enum Line {
     Skipped,
     Config(u64),
@@ -73,6 +92,9 @@ impl StepLine {
                     index: index as u8,
                     value: value as u16,
                 })
+            }
+            StepLine::Request { tester, bytes } if tester <= LAST_TESTER && !bytes.is_empty() => {
+                Some(Step::Request { tester, bytes })
             }
             _ => None,
         }
@@ -128,6 +150,26 @@ fn did_with(mut words: Words<'_>) -> Option<Line>
     })
 }
 
+/// The tester that a letter from A to D names, by its number.
+fn read_tester(word: &[u8]) -> Option<u8>
+    ensures { result ≡ tester_of word.now }
+{
+    match word {
+        [letter @ b'A'..=b'D'] => Some(*letter - b'A'),
+        _ => None,
+    }
+}
+
+/// The tester that the first word names, and the bytes of its request, which the other words spell.
+#[tactic(auto, unfolding(crate::specs::Line::request_with))]
+fn request_with(mut words: Words<'_>) -> Option<Line>
+    ensures { result ≡ request_with words.entry }
+{
+    let tester = read_tester(words.next()?)?;
+    let bytes = read_bytes(words)?;
+    Some(Line::Step(StepLine::Request { tester, bytes }))
+}
+
 /// What the words behind the word event say.
 fn event_with(alloc: Global, words: Words<'_>) -> Result<Option<EventLine>, AllocError>
     ensures { IfOk result (λ event. event ≡ event_of words.entry) }
@@ -153,6 +195,7 @@ fn line_with(alloc: Global, keyword: Keyword, words: Words<'_>) -> Result<Option
             index,
             value,
         })),
+        Keyword::Request => request_with(words),
         Keyword::Event => event_with(alloc, words)?.map(Line::Event),
         Keyword::Did => did_with(words),
         Keyword::Config => only_number(words).map(Line::Config),

@@ -1,27 +1,59 @@
-use flt_model::Report;
+ghost use Rattle.std.specs.Prelude.{◌≡◌};
+ghost use Rattle.flt_script.specs.Bytes.{letter_of};
+
+use crate::bytes::HexBytes;
+use arrayvec::ArrayVec;
+use flt_model::{REQUEST, Report};
 use std::fmt;
 
 /// A step of a script. It displays as its words, with single spaces and numbers without leading zeros, and is read
 /// again from that text as the same step.
-#[derive(Clone, Copy, Debug, PartialEq, Eq)]
+#[derive(Clone, Drop, Debug, PartialEq, Eq)]
 pub enum Step {
     /// `pass`, `fail`, `prepass` or `prefail`: a monitor's report on the event of this number.
-    Report { event: u16, report: Report },
+    Report {
+        event: u16,
+        report: Report,
+    },
     /// `show`: what is known of the event of this number.
-    Show { event: u16 },
+    Show {
+        event: u16,
+    },
     /// `cycle`: the operation cycle of this number, 0 to 3, ends and starts again.
-    Cycle { cycle: u8 },
+    Cycle {
+        cycle: u8,
+    },
     /// `tick`: so much time passes, 1 to 65535 ticks of 10 ms.
-    Tick { ticks: u16 },
+    Tick {
+        ticks: u16,
+    },
     /// `sig`: the signal of this number, 0 to 7, has this value, 0 to 65535, from now on.
-    Signal { index: u8, value: u16 },
+    Signal {
+        index: u8,
+        value: u16,
+    },
+    /// `t`: the tester of this number, 0 to 3 for A to D, sends a request of these bytes, 1 to 16.
+    Request {
+        tester: u8,
+        bytes: ArrayVec<u8, REQUEST>,
+    },
 }
 
 /// A part of a life, which is carried out before the next one.
-#[derive(Clone, Copy, Debug, PartialEq, Eq)]
+#[derive(Clone, Drop, Debug, PartialEq, Eq)]
 pub enum Part {
     /// A step by itself.
     One(Step),
+}
+
+/// The number of the last tester, D.
+pub(crate) const LAST_TESTER: u8 = 3;
+
+/// The letter of a tester, A to D.
+fn letter_of(tester: u8) -> char
+    ensures { result ≡ letter_of tester }
+{
+    char::from(b'A' + tester.min(LAST_TESTER))
 }
 
 impl fmt::Display for Step {
@@ -52,6 +84,11 @@ impl fmt::Display for Step {
             Step::Cycle { cycle } => write!(f, "cycle {cycle}"),
             Step::Tick { ticks } => write!(f, "tick {ticks}"),
             Step::Signal { index, value } => write!(f, "sig {index} {value}"),
+            Step::Request { tester, ref bytes } => {
+                let letter = letter_of(tester);
+                let bytes = HexBytes(bytes);
+                write!(f, "t {letter} {bytes}")
+            }
         }
     }
 }

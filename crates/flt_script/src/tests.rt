@@ -30,7 +30,7 @@ fn outcome(alloc: Global, bytes: &[u8]) -> Result<String, AllocError> {
 }
 
 /// Scripts, and what is told of each.
-static CASES: [(&str, &str); 117] = [
+static CASES: [(&str, &str); 131] = [
     ("", ""),
     ("event 0 dtc 123456\r\ncycle 0", "cycle 0."),
     (
@@ -53,7 +53,6 @@ static CASES: [(&str, &str); 117] = [
     ("nothing", "script line 1 word"),
     ("Cycle 0", "script line 1 word"),
     ("cycle0", "script line 1 word"),
-    ("t A 3E 00", "script line 1 word"),
     ("save", "script line 1 word"),
     ("par", "script line 1 word"),
     ("cycle", "script line 1 form"),
@@ -77,6 +76,30 @@ static CASES: [(&str, &str); 117] = [
     ("sig 0", "script line 1 form"),
     ("sig 0 0 0", "script line 1 form"),
     ("sig 0 -1", "script line 1 form"),
+    (
+        "t A 3E 00\nt D 19 82 fF\n\tt \t C  0a",
+        "t A 3E 00.t D 19 82 FF.t C 0A.",
+    ),
+    (
+        "t B 00 11 22 33 44 55 66 77 88 99 AA BB CC DD EE FF",
+        "t B 00 11 22 33 44 55 66 77 88 99 AA BB CC DD EE FF.",
+    ),
+    (
+        "t B 00 11 22 33 44 55 66 77 88 99 AA BB CC DD EE FF 00",
+        "script line 1 form",
+    ),
+    ("t", "script line 1 form"),
+    ("t A", "script line 1 form"),
+    ("t E 3E 00", "script line 1 form"),
+    ("t @ 3E 00", "script line 1 form"),
+    ("t a 3E 00", "script line 1 form"),
+    ("t AA 3E 00", "script line 1 form"),
+    ("t A 3", "script line 1 form"),
+    ("t A 3E0", "script line 1 form"),
+    ("t A 0x3E", "script line 1 form"),
+    ("t A 3E 0G", "script line 1 form"),
+    ("t 3E 00", "script line 1 form"),
+    ("T A 3E 00", "script line 1 word"),
     ("did 0 0101", "script line 1 order"),
     ("event 0 dtc 000001\ndid 1 0101", "script line 2 order"),
     (

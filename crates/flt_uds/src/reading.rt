@@ -1,8 +1,10 @@
 //! What the bytes of a request ask for.
-ghost use Rattle.std.specs.Prelude.{◌≡◌, ◌<◌, if◌then◌else◌, length};
+ghost use Rattle.std.specs.Prelude.{◌≡◌, ◌<◌, ◌∷◌, IfOk, if◌then◌else◌, length};
 ghost use Rattle.flt_model.specs.NegativeCode.{request_out_of_range};
 ghost use Rattle.flt_model.specs.Request.{asked, asked_clear, asked_with_sub, contents, dtc_of, is_record_number, refused};
+ghost use Rattle.flt_model.specs.declared.request.Asked.{Asked as AskedRequest};
 ghost use Rattle.flt_uds.specs.Form.{meant};
+ghost use Rattle.flt_uds.specs.Spelling.{IsRequest};
 
 use crate::code::{
     INCORRECT_LENGTH, REQUEST_OUT_OF_RANGE, SERVICE_NOT_SUPPORTED,
@@ -96,21 +98,10 @@ fn asked_with_sub(service: u8, rest: &[u8]) -> Result<Asked, Negative>
     }
 }
 
-/// Reads a request of a tester whose session is the extended one, or the default one.
-///
-/// The bytes begin with the service, and with its sub-function where it has one, whose bit 7 suppresses a positive
-/// response. Where the request is refused, the error has its service and the first of these codes that holds:
-/// the service is none of this profile (0x11), it is not to be had in the session (0x7F), its sub-function is missing
-/// (0x13) or unknown (0x12), the length is wrong (0x13), a record number or option byte is unknown (0x31). Whether
-/// its DTC is known is for the layer above to look at.
-pub fn read(bytes: &[u8], extended: bool) -> Result<Asked, Negative>
-    requires { 0 < length bytes.now }
-    ensures { result ≡ asked extended bytes.now }
+/// What is asked by a service and the bytes behind it.
+fn asked_of(service: u8, rest: &[u8], extended: bool) -> Result<Asked, Negative>
+    ensures { result ≡ asked extended (service ∷ rest.now) }
 {
-    let [service, rest @ ..] = bytes else {
-        unreachable!()
-    };
-    let service = *service;
     if service == CLEAR {
         asked_clear(rest)
     } else if !has_sub_functions(service) {
@@ -120,4 +111,23 @@ pub fn read(bytes: &[u8], extended: bool) -> Result<Asked, Negative>
     } else {
         asked_with_sub(service, rest)
     }
+}
+
+/// Reads a request of a tester whose session is the extended one, or the default one.
+///
+/// The bytes begin with the service, and with its sub-function where it has one, whose bit 7 suppresses a positive
+/// response. Where the request is refused, the error has its service and the first of these codes that holds:
+/// the service is none of this profile (0x11), it is not to be had in the session (0x7F), its sub-function is missing
+/// (0x13) or unknown (0x12), the length is wrong (0x13), a record number or option byte is unknown (0x31). Whether
+/// its DTC is known is for the layer above to look at.
+pub fn read(bytes: &[u8], extended: bool) -> Result<Asked, Negative>
+    requires { 0 < length bytes.now }
+    ensures exact { result ≡ asked extended bytes.now }
+    ensures spelled { IfOk result (λ asked. IsRequest extended bytes.now asked) }
+    ensures every { (asked : AskedRequest) → IsRequest extended bytes.now asked → result ≡ Ok asked }
+{
+    let [service, rest @ ..] = bytes else {
+        unreachable!()
+    };
+    asked_of(*service, rest, extended)
 }
