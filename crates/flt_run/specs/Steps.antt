@@ -6,7 +6,7 @@ use Rattle.flt_model.specs.declared.call.Op.TheVariants as ops
 use Rattle.flt_model.specs.declared.call.Reply.{Reply as Answer}
 use Rattle.flt_model.specs.declared.call.Reply.TheVariants as answers
 use Rattle.flt_run.specs.declared.reply.Reply.{Reply}
-use Rattle.flt_run.specs.declared.reply.Reply.TheVariants.{Taken, Ignored, Shown}
+use Rattle.flt_run.specs.declared.reply.Reply.TheVariants.{Taken, Ignored, Shown, Response, Silent}
 use Rattle.flt_script.specs.declared.step.Part.{Part}
 use Rattle.flt_script.specs.declared.step.Part.TheVariants.{One}
 use Rattle.flt_script.specs.declared.step.Step.{Step}
@@ -19,6 +19,7 @@ op_of_step (steps.Show event) = ops.Show event
 op_of_step (steps.Cycle cycle) = ops.Cycle cycle
 op_of_step (steps.Tick ticks) = ops.Tick ticks
 op_of_step (steps.Signal index value) = ops.Signal index value
+op_of_step (steps.Request tester bytes) = ops.Request tester bytes
 
 -- The step of a part.
 abbrev pub step_of : Part → Step
@@ -46,3 +47,5 @@ abbrev pub answer_of : Reply → Answer
 answer_of Taken = answers.Taken
 answer_of (Ignored cause) = answers.Ignored cause
 answer_of (Shown shown) = answers.Shown shown
+answer_of (Response bytes) = answers.Response (record { items = bytes.items })
+answer_of Silent = answers.Silent

@@ -8,26 +8,10 @@ ghost use Rattle.flt_run.specs.Steps.{step_count, lists};
 use crate::reply::Reply;
 use flt_config::needed_pages;
 use flt_model::{Cause, Shown};
-use flt_script::{Part, Script};
+use flt_script::{HexByte, HexBytes, Part, Script};
 use std::alloc::{AllocError, Global};
 use std::fmt;
 use std::fmt::Write;
-
-/// A byte, which is printed in two hexadecimal digits.
-#[derive(Clone, Copy)]
-struct Hexadecimal(u8);
-
-impl fmt::Display for Hexadecimal {
-    ghost use Rattle.std.specs.Prelude.{Some};
-    ghost use Rattle.flt_run.specs.Report.{two_digits};
-
-    ghost output = { λ byte. Some (two_digits byte.0) };
-
-    fn fmt<W: fmt::Write>(&self, f: &mut fmt::Formatter<W>) -> fmt::Result {
-        let byte = self.0;
-        write!(f, "{byte:02X}")
-    }
-}
 
 /// The state of an event, as the report prints it.
 #[derive(Clone, Copy)]
@@ -47,7 +31,7 @@ impl fmt::Display for State {
             clean,
             ..
         } = self.0;
-        let status = Hexadecimal(status);
+        let status = HexByte(status);
         write!(f, "status {status} fdc {fdc} failed {failed} clean {clean}")
     }
 }
@@ -76,27 +60,32 @@ impl fmt::Display for Stored {
 }
 
 /// Puts a reply behind what `line` holds.
-fn put_reply(line: &mut String, reply: Reply) -> Result<(), AllocError>
-    ensures { OnOk result (string_bytes line.new ≡ string_bytes line.old ++ reply_text reply) }
+fn put_reply(line: &mut String, reply: &Reply) -> Result<(), AllocError>
+    ensures { OnOk result (string_bytes line.new ≡ string_bytes line.old ++ reply_text reply.now) }
 {
     match reply {
         Reply::Taken => line.push_str("taken"),
         Reply::Ignored(Cause::SettingOff) => line.push_str("ignored setting"),
         Reply::Ignored(Cause::NotStarted) => line.push_str("ignored cycle"),
         Reply::Shown(shown) => {
-            let state = State(shown);
+            let state = State(*shown);
             let stored = Stored {
                 stored: shown.stored,
                 overflow: shown.overflow,
             };
             write!(line, "{state} {stored}")
         }
+        Reply::Response(bytes) => {
+            let bytes = HexBytes(bytes);
+            write!(line, "{bytes}")
+        }
+        Reply::Silent => line.push_str("silent"),
     }
 }
 
 /// Puts the line of a step and its reply in place of what `line` holds.
-pub(crate) fn put_line(line: &mut String, part: Part, reply: Reply) -> Result<(), AllocError>
-    ensures { OnOk result (string_bytes line.new ≡ line_text part reply) }
+pub(crate) fn put_line(line: &mut String, part: &Part, reply: &Reply) -> Result<(), AllocError>
+    ensures { OnOk result (string_bytes line.new ≡ line_text part.now reply.now) }
 {
     let Part::One(step) = part;
     line.clear();

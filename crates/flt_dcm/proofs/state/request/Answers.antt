@@ -12,7 +12,7 @@ use Rattle.flt_dcm.proofs.state.request.Goals as goal
 
 pub returns-in-Ok-clause-stands : goal.returns-in-Ok-clause-stands
 returns-in-Ok-clause-stands c = λ life past tester sent same s.
-    let told = sym c.read.ensures ∙ c.in-Ok.is in
+    let told = sym c.read.ensures.exact ∙ c.in-Ok.is in
     c.respond.ensures.stands life past tester sent
     (clear_same c.is_extended.result sent.items ∙ ap (λ xs. clear_asked (asked c.is_extended.result xs)) same ∙ ap clear_asked told) s
 
@@ -21,13 +21,13 @@ returns-in-Ok-clause-answer c =
     let bytes = c.args.bytes.now in
     let view = view_of c.args.dem.now in
     let extended = c.is_extended.ensures ∙ ap is_extended_one c.heard.ensures ∙ heard_extended c.args.session.now in
-    let told : asked (is_extended_one c.args.session.now) bytes ≡ Ok c.in-Ok.asked = ap (λ e. asked e bytes) (sym extended) ∙ sym c.read.ensures ∙ c.in-Ok.is in
+    let told : asked (is_extended_one c.args.session.now) bytes ≡ Ok c.in-Ok.asked = ap (λ e. asked e bytes) (sym extended) ∙ sym c.read.ensures.exact ∙ c.in-Ok.is in
     c.respond.ensures.answer
     ∙ ap (λ service. responded service c.in-Ok.asked.silent (positive view c.in-Ok.asked.request)) (first_is_service bytes _ c.requires)
     ∙ sym (ap (response_to view (service_of bytes)) told)
 
 pub returns-in-Err-clause-stands : goal.returns-in-Err-clause-stands
 returns-in-Err-clause-stands c = λ life past tester sent same s.
-    let told = sym c.read.ensures ∙ c.in-Err.is in
+    let told = sym c.read.ensures.exact ∙ c.in-Err.is in
     stands_uncleared life past c.args.dem.now s tester sent None
     (clear_same c.is_extended.result sent.items ∙ ap (λ xs. clear_asked (asked c.is_extended.result xs)) same ∙ ap clear_asked told) tt

@@ -1,26 +1,40 @@
-use Rattle.std.proofs.Common.{◌∙◌, length, arith}
+use Rattle.std.proofs.Common.{◌≡◌, ◌∙◌, ◌++◌, [], ◌∷◌, length, get_or, arith, sym, ap}
 use Rattle.std.specs.Prelude.{IsTrue}
-use Rattle.std.proofs.lemmas.List.{map_push}
-use Rattle.std.proofs.lemmas.Grind.{common_steps}
+use Rattle.std.proofs.lemmas.List.{map_more}
+use Rattle.flt_model.specs.Life.{fresh}
+use Rattle.flt_dcm.specs.Whole.{state_of}
 use Rattle.flt_script.specs.Step.{are_parts_among}
-use Rattle.flt_run.proofs.Replaying.{goes_on, parts_among, step_at}
+use Rattle.flt_run.specs.Steps.{op_of, op_of_step, step_of}
+use Rattle.flt_run.proofs.Replaying.{admitted, goes_on, parts_among, step_at}
 use Rattle.flt_run.proofs.engine.replay.Goals as goal
 
-pub apply-requires : goal.apply-requires
-apply-requires g c =
+pub apply-answer-requires : goal.apply-answer-requires
+apply-answer-requires g c =
     let parts = c.parts_of-parts.result.now in
+    let index = c.loop-part.part-index in
     let all : IsTrue (are_parts_among (length c.args.script.config.events.items) parts) =
     rw (c.parts_of-parts.ensures, c.deref.ensures.value) (parts_among _ c.args.script.lives.items c.args.script.in_range) in
-    rw (c.step_of-step.ensures, c.loop-part.invariant.config) (step_at _ parts c.loop-part.part-index _ all c.loop-part-test.true)
+    let part = get_or parts index c.part-item.result in
+    let call : c.op_of-op.result ≡ op_of part = c.op_of-op.ensures ∙ ap op_of_step (c.step_of.ensures ∙ ap step_of c.part-item.is) in
+    rw (call, c.loop-part.invariant.config) (record {
+      admitted = admitted c.args.script.config (step_of part) (step_at (length c.args.script.config.events.items) parts index c.part-item.result all c.loop-part-test.true);
+    })
 
 pub loop-part-preserved : goal.loop-part-preserved
 loop-part-preserved g c =
+    let parts = c.parts_of-parts.result.now in
+    let index = c.loop-part.part-index in
+    let part = get_or parts index c.part-item.result in
+    let call : c.op_of-op.result ≡ op_of part = c.op_of-op.ensures ∙ ap op_of_step (c.step_of.ensures ∙ ap step_of c.part-item.is) in
+    let life = fresh c.args.script.config in
     let on = c.loop-part.invariant.is_on in
-    let stands = rw c.step_of-step.ensures at (c.apply.ensures.stands _ on.past on.setting on.stands) in
-    let told = rw c.step_of-step.ensures at (c.apply.ensures.reply _ on.past on.setting on.stands) in
+    let stands = rw call at (c.apply-answer.ensures.stands life on.past on.stands) in
+    let told = rw call at (c.apply-answer.ensures.answer life on.past on.stands) in
     record {
-      config = c.apply.ensures.config ∙ c.loop-part.invariant.config;
+      config = c.apply-answer.ensures.config ∙ c.loop-part.invariant.config;
       answered = omega (arith, c.in_ok-push-2.ensures.len, c.loop-part.invariant.answered);
-      journal = grind (arith, common_steps, map_push, c.op_of.ensures, c.step_of-step.ensures);
-      is_on = rw c.in_ok-push-2.ensures.items (goes_on _ _ _ c.parts_of-parts.result.now c.loop-part.part-index on _ c.loop-part-test.true _ _ stands told);
+      journal = c.in_ok-push.ensures.items ∙ (λ k. c.loop-part.invariant.journal k ++ call k ∷ []) ∙ sym (map_more op_of parts index c.part-item.result c.loop-part-test.true);
+      is_on = rw c.in_ok-push-2.ensures.items
+          (goes_on life (state_of c.loop-part.unit) c.loop-part.replies.items parts index on c.part-item.result c.loop-part-test.true (state_of c.apply-answer.new.self) c.in_ok-reply_of.field-0 stands
+          (c.in_ok-reply_of.ensures ∙ told));
     }
