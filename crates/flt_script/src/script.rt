@@ -12,7 +12,8 @@ pub struct Script {
     pub config: ValidConfig,
     /// The lives in their order, each as its parts in their order. There is exactly one.
     pub lives: Vec<Vec<Part>>,
-    /// Each event is configured, each cycle is below 4, and each tick count is at least 1.
+    /// Each event is configured, each cycle and each tester is below 4, each tick count is at least 1, each signal is below
+    /// 8, and each request has a byte.
     pub ghost in_range: { IsTrue (list_all (λ life. are_parts_among (length config.events.items) life.items) lives.items) },
     /// There are at most 65,536 steps.
     pub ghost few: { sum_by (λ life. vec_len life) lives.items ≤ 65536 },
