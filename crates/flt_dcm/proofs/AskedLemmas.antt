@@ -3,9 +3,9 @@ use Rattle.std.proofs.Common.{◌≡◌, ◌∙◌, ℕ, Bool, true, false, not,
 use Rattle.std.specs.Prelude.{option_map, unwrap_or, slice_get, ◌%◌}
 use Rattle.flt_model.specs.Happening.{clear_asked, dtc_of_clear}
 use Rattle.flt_model.specs.Session.{session_asked}
-use Rattle.flt_model.specs.Request.{Form, Optioned, SubFunction, row, has_sub_functions, contents, refused, accepted, asked_in, asked_with_sub, asked_clear, asked, form_of}
+use Rattle.flt_model.specs.Request.{Optioned, SubFunction, row, has_sub_functions, contents, refused, accepted, asked_in, asked_with_sub, asked_clear, asked}
 use Rattle.flt_model.specs.NegativeCode.{service_not_supported, service_not_supported_in_session}
-use Rattle.flt_model.specs.Response.{EventView, View, is_of_dtc, positive, unless_silent}
+use Rattle.flt_model.specs.Response.{EventView, View, positive, unless_silent}
 use Rattle.flt_model.specs.declared.request.Asked.{Asked}
 use Rattle.flt_model.specs.declared.request.Negative.{Negative}
 use Rattle.flt_model.specs.declared.request.Request.{Request}

@@ -1,5 +1,5 @@
 -- The event of a DTC, where one has it, and requests that clear nothing.
-use Rattle.std.proofs.Common.{◌≡◌, ◌≢◌, ◌∙◌, ℕ, ◌<◌, true, false, Bool, List, [], ◌∷◌, length, get_or, position, Option, Some, None, arith, refl, sym, ap, subst, eqb-true, eq-eqb}
+use Rattle.std.proofs.Common.{◌≡◌, ◌≢◌, ◌∙◌, ℕ, ◌<◌, true, false, ◌∷◌, length, get_or, position, Option, Some, None, arith, sym, ap, subst, eqb-true, eq-eqb}
 use Rattle.std.proofs.lemmas.List.Quantifiers.{position-Some}
 use Rattle.std.proofs.lemmas.Option.{unwrap_or-slice_get}
 use Rattle.std.specs.List.{find}
@@ -7,8 +7,8 @@ use Rattle.std.specs.Prelude.{slice_get, unwrap_or}
 use Rattle.flt_config.specs.Validity.{has_dtc}
 use Rattle.flt_config.proofs.DistinctLemmas.{position-None}
 use Rattle.flt_model.specs.Life.{Life, History, count, event_of, no_event}
-use Rattle.flt_model.specs.Happening.{cleared_dtc, all_dtcs, dtc_of_clear}
-use Rattle.flt_model.specs.Response.{EventView, is_of_dtc}
+use Rattle.flt_model.specs.Happening.{cleared_dtc, dtc_of_clear}
+use Rattle.flt_model.specs.Response.{is_of_dtc}
 use Rattle.flt_model.specs.declared.call.Op.TheVariants as ops
 use Rattle.flt_model.specs.declared.request.Request.{Request}
 use Rattle.flt_model.specs.declared.request.Request.TheVariants as requests
@@ -18,7 +18,7 @@ use Rattle.flt_dem.specs.Manager.{Manager, StandsFor}
 use Rattle.flt_dem.specs.View.{rules_of, event_seen, view_of}
 use Rattle.flt_dem.proofs.IdleLemmas.{stands_idle}
 use Rattle.flt_dcm.specs.Unknown.{ClearsNone}
-use Rattle.flt_dcm.proofs.ListLemmas.{seen_to, first_found, unknown_dtc}
+use Rattle.flt_dcm.proofs.ListLemmas.{first_found, unknown_dtc}
 
 module _ (manager : Manager) (dtc : ℕ) where
   -- the test of an event's DTC, as it is seen

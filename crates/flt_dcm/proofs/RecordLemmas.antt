@@ -2,7 +2,6 @@
 use Rattle.std.proofs.Common.{◌≡◌, ◌∙◌, ℕ, ◌+◌, ◌*◌, ◌<◌, ◌≤◌, Bool, true, false, cond, List, [], ◌∷◌, ◌++◌, length, take, drop, get_or, arith, sym, ap}
 use Rattle.std.proofs.lemmas.List.{length-append, length-take, drop_more}
 use Rattle.std.proofs.lemmas.List.Sums.{sum_by-cons}
-use Rattle.std.specs.List.{sum_by}
 use Rattle.flt_config.specs.declared.config.DidUse.{DidUse}
 use Rattle.flt_config.specs.Ranges.{frame_width}
 use Rattle.flt_model.specs.Response.{selects, where_selected, values_of, snapshot}

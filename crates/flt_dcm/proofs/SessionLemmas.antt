@@ -1,9 +1,8 @@
 -- What calls make of the testers' sessions.
-use Rattle.std.proofs.Common.{◌≡◌, ◌≢◌, ◌∙◌, ℕ, zero, suc, ◌+◌, ◌<◌, ◌≤◌, Bool, true, false, not, ◌||◌, nat_eq, nat_le, nat_lt, cond, List, [], ◌∷◌, length, map, Option, Some, None, Result, Ok, Err, arith, refl, sym, ap, subst, inl, inr, ⊎_elim, eq-eqb}
+use Rattle.std.proofs.Common.{◌≡◌, ◌≢◌, ◌∙◌, ℕ, zero, suc, ◌+◌, ◌<◌, Bool, true, false, not, ◌||◌, nat_le, nat_lt, cond, List, [], ◌∷◌, length, map, Some, None, Result, Ok, Err, arith, refl, sym, ap, subst, ⊎_elim, eq-eqb}
 use Rattle.std.proofs.lemmas.Bool.{cases_eq, ne_eqb}
 use Rattle.std.proofs.lemmas.Bool.Decides.{leb_tells}
-use Rattle.std.proofs.lemmas.Option.{slice_get-map}
-use Rattle.std.specs.Prelude.{slice_get, slice_set, unwrap_or, option_map}
+use Rattle.std.specs.Prelude.{slice_set, unwrap_or}
 use Rattle.std.specs.List.{list_any}
 use Rattle.flt_model.specs.Life.{History}
 use Rattle.flt_model.specs.Session.{silence, session_timeout, session_of, session_asked, off_of, off_asked, is_extended, holds_off, is_setting_off}

@@ -1,17 +1,15 @@
 -- Six status bits say what the standard says of the marks since the last clear.
-use Rattle.std.proofs.Common.{◌≡◌, ◌∙◌, ℕ, ◌<◌, Bool, true, false, not, ◌&&◌, ◌||◌, List, [], ◌∷◌, Option, Some, None, cond, refl, sym, ap, subst, ⊎_elim}
+use Rattle.std.proofs.Common.{◌≡◌, ◌∙◌, Bool, true, false, not, ◌&&◌, ◌||◌, [], ◌∷◌, Some, None, cond, refl, sym, ap, subst}
 use Rattle.std.specs.Prelude.{unwrap_or}
 use Rattle.flt_config.specs.declared.config.EventCfg.{EventCfg}
 use Rattle.flt_config.specs.declared.persist.EventState.{EventState}
 use Rattle.flt_config.specs.Durable.{start_state}
 use Rattle.flt_model.specs.declared.status.Status.{Status}
 use Rattle.flt_model.specs.Byte.{is_bit_set}
-use Rattle.flt_model.specs.Life.{Life, History, count, base_of, event_of}
-use Rattle.flt_model.specs.Mark.{Mark, Past, Row, decided, marks_of}
+use Rattle.flt_model.specs.Mark.{Past, Row, decided}
 use Rattle.flt_model.specs.Mark.Mark.{Failed, Passed, Cycle, Clear, Aged, Displaced, Added, Refused}
-use Rattle.flt_model.specs.Status.{status, durable, test_failed, failed_this_cycle, pending, not_completed_since_clear, failed_since_clear, not_completed_this_cycle, ends_clean, pending_row, test_failed_row, failed_this_cycle_row, not_completed_since_clear_row, failed_since_clear_row, not_completed_this_cycle_row}
-use Rattle.flt_model.specs.StatusLaws.{since_clear, this_cycle, has_failed, has_passed, last_failed, passed_cycle_since_failure}
-use Rattle.flt_model.specs.Trace.{trace}
+use Rattle.flt_model.specs.Status.{status, durable, test_failed, failed_this_cycle, pending, not_completed_since_clear, failed_since_clear, not_completed_this_cycle, ends_clean, test_failed_row, failed_this_cycle_row, not_completed_since_clear_row, failed_since_clear_row, not_completed_this_cycle_row}
+use Rattle.flt_model.specs.StatusLaws.{since_clear, this_cycle, has_failed}
 use Rattle.flt_model.proofs.StatusLaws.{byte_tells_bits, test_failed_is_last_result, pending_is_unrefuted_failure}
 use Rattle.flt_dcm.specs.Standard.{StandardBits, has_test, has_cleared}
 

@@ -1,5 +1,5 @@
 -- The lists of DTCs that a response may have.
-use Rattle.std.specs.Prelude.{ℕ, Bool, if◌then◌else◌, List, [], ◌∷◌}
+use Rattle.std.specs.Prelude.{ℕ, if◌then◌else◌, List, [], ◌∷◌}
 use Rattle.flt_model.specs.Response.{EventView, is_masked, is_prefailed, with_status, with_counter, records_of}
 use Rattle.flt_dcm.specs.declared.listing.Listing.{Listing}
 use Rattle.flt_dcm.specs.declared.listing.Listing.TheVariants.{ByMask, Supported, Snapshots, Counters}

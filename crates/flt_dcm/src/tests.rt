@@ -1,7 +1,6 @@
 //! The worked examples with testers, and the answers to every service and sub-function at every length against a table
 //! written from the standard's request forms.
-ghost use Rattle.std.specs.Prelude.{◌<◌, IsTrue, length};
-ghost use Rattle.flt_dcm.specs.Unit.{IsAdmitted};
+ghost use Rattle.std.specs.Prelude.{◌<◌, ◌↔◌, IsTrue, length};
 ghost use Rattle.flt_dcm.specs.Whole.{config_of};
 
 use super::*;
@@ -57,22 +56,6 @@ fn one(event: EventCfg) -> Config {
     configured(16, events)
 }
 
-/// Whether a unit takes the call.
-fn admits(events: usize, op: &Op) -> bool
-    ensures { (config : Config) → length config.events.items ≡ events → IsTrue result → IsAdmitted config op.now }
-{
-    match op {
-        Op::Signal { index, .. } => *index < 8,
-        Op::Report { event, .. } => (*event as usize) < events,
-        Op::Tick { .. } => true,
-        Op::Cycle { cycle } => *cycle < 4,
-        Op::Request { tester, bytes } => *tester < 4 && 0 < bytes.len(),
-        Op::Show { event } => (*event as usize) < events,
-        Op::Snapshot => true,
-        Op::Saved { .. } => true,
-    }
-}
-
 /// A unit, and room for a snapshot.
 #[derive(Drop)]
 struct Server {
@@ -96,21 +79,22 @@ fn served(config: Config, dids: DidTable<DID_ROWS>) -> Option<Server> {
     }
 }
 
+fn has_event(unit: &Unit, event: u16) -> bool
+    ensures { IsTrue result ↔ (event < length (config_of unit.now).events.items) }
+{
+    (event as usize) < unit.config().config().events.len()
+}
+
 impl Server {
-    fn call(&mut self, op: Op) -> Option<Reply> {
-        if admits(self.unit.config().config().events.len(), &op) {
+    /// The reply to a request, where it has 1 to 16 bytes and is of one of the four testers.
+    fn ask(&mut self, tester: u8, request: &[u8]) -> Option<Reply> {
+        let mut bytes: ArrayVec<u8, REQUEST> = ArrayVec::new();
+        let fits = bytes.try_extend_from_slice(request).is_ok();
+        if fits && tester < 4 && 0 < bytes.len() {
+            let op = Op::Request { tester, bytes };
             Some(self.unit.apply(&op, &mut self.saved))
         } else {
             None
-        }
-    }
-
-    /// The reply to a request, where it has 1 to 16 bytes.
-    fn ask(&mut self, tester: u8, request: &[u8]) -> Option<Reply> {
-        let mut bytes: ArrayVec<u8, REQUEST> = ArrayVec::new();
-        match bytes.try_extend_from_slice(request) {
-            Ok(()) => self.call(Op::Request { tester, bytes }),
-            Err(_) => None,
         }
     }
 
@@ -123,29 +107,57 @@ impl Server {
         }
     }
 
-    fn report(&mut self, event: u16, report: Report) -> Option<Reply> {
-        self.call(Op::Report { event, report })
+    /// Whether a report of a configured event has this reply.
+    fn reports(&mut self, event: u16, report: Report, wanted: Reply) -> bool {
+        if has_event(&self.unit, event) {
+            let op = Op::Report { event, report };
+            self.unit.apply(&op, &mut self.saved) == wanted
+        } else {
+            false
+        }
     }
 
+    fn shows(&mut self, event: u16, status: u8) -> bool {
+        if has_event(&self.unit, event) {
+            match self.unit.apply(&Op::Show { event }, &mut self.saved) {
+                Reply::Shown(shown) => shown.status == status,
+                _ => false,
+            }
+        } else {
+            false
+        }
+    }
+
+    /// Makes a step. The answer tells whether the reply is the one that is to come.
     fn agrees(&mut self, step: Step) -> bool {
         match step {
             Step::Signal(index, value) => {
-                self.call(Op::Signal { index, value }) == Some(Reply::Taken)
+                if index < 8 {
+                    let op = Op::Signal { index, value };
+                    self.unit.apply(&op, &mut self.saved) == Reply::Taken
+                } else {
+                    false
+                }
             }
-            Step::Fail(event) => self.report(event, Report::Failed) == Some(Reply::Taken),
-            Step::Pass(event) => self.report(event, Report::Passed) == Some(Reply::Taken),
-            Step::PreFail(event) => self.report(event, Report::PreFailed) == Some(Reply::Taken),
+            Step::Fail(event) => self.reports(event, Report::Failed, Reply::Taken),
+            Step::Pass(event) => self.reports(event, Report::Passed, Reply::Taken),
+            Step::PreFail(event) => self.reports(event, Report::PreFailed, Reply::Taken),
             Step::Ignored(event) => {
-                let ignored = Some(Reply::Ignored(Cause::SettingOff));
-                self.report(event, Report::Failed) == ignored
+                let ignored = Reply::Ignored(Cause::SettingOff);
+                self.reports(event, Report::Failed, ignored)
             }
-            Step::Tick(ticks) => self.call(Op::Tick { ticks }) == Some(Reply::Taken),
-            Step::Cycle(cycle) => self.call(Op::Cycle { cycle }) == Some(Reply::Taken),
+            Step::Tick(ticks) => {
+                self.unit.apply(&Op::Tick { ticks }, &mut self.saved) == Reply::Taken
+            }
+            Step::Cycle(cycle) => {
+                if cycle < 4 {
+                    self.unit.apply(&Op::Cycle { cycle }, &mut self.saved) == Reply::Taken
+                } else {
+                    false
+                }
+            }
             Step::Ask(tester, request, wanted) => self.answers(tester, request, wanted),
-            Step::Status(event, status) => match self.call(Op::Show { event }) {
-                Some(Reply::Shown(shown)) => shown.status == status,
-                _ => false,
-            },
+            Step::Status(event, status) => self.shows(event, status),
         }
     }
 }
@@ -395,16 +407,24 @@ fn by_table(service: u8, second: u8, length: usize, extended: bool) -> (u8, u8) 
     if has_sub && length == 1 {
         return (0x7F, 0x13);
     }
-    let row = REQUESTS
+    match REQUESTS
         .iter()
-        .find(|row| row.0 == service && (!has_sub || row.1 == Some(sub)));
-    match row {
+        .find(|row| row.0 == service && (!has_sub || row.1 == Some(sub)))
+    {
         None => (0x7F, 0x12),
-        Some((_, _, lengths)) if lengths[0] != length && lengths[1] != length => (0x7F, 0x13),
-        Some((0x19, Some(0x04 | 0x06), _)) => (0x7F, 0x31),
-        Some((0x14, _, _)) if second != 0xFF => (0x7F, 0x31),
-        Some(_) if has_sub && 128 <= second => (0, 0),
-        Some((service, _, _)) => (service.wrapping_add(0x40), 0),
+        Some(row) => {
+            if row.2[0] != length && row.2[1] != length {
+                return (0x7F, 0x13);
+            }
+            let names_a_dtc = service == 0x19 && (sub == 0x04 || sub == 0x06);
+            if names_a_dtc || service == 0x14 && second != 0xFF {
+                return (0x7F, 0x31);
+            }
+            if has_sub && 128 <= second {
+                return (0, 0);
+            }
+            (service.wrapping_add(0x40), 0)
+        }
     }
 }
 

@@ -1,17 +1,13 @@
 -- A saved state that fits stands for itself and no mark.
-use Rattle.std.proofs.Common.{◌≡◌, ◌∙◌, ◌≢◌, ℕ, zero, suc, ◌<◌, ◌≤◌, min, nat_eq, List, [], ◌∷◌, map, length, get_or, replicate, Some, unwrap_or, arith, refl, sym, ap, eq-eqb}
+use Rattle.std.proofs.Common.{◌≡◌, ◌∙◌, ◌≢◌, ℕ, zero, suc, ◌<◌, ◌≤◌, min, List, [], ◌∷◌, map, length, get_or, Some, arith, refl, sym, ap, eq-eqb}
 use Rattle.std.proofs.lemmas.Bool.{ne_eqb}
 use Rattle.std.proofs.lemmas.Option.{slice_get-get_or, unwrap_or-slice_get}
-use Rattle.std.specs.List.{AllPairs, All, find}
-use Rattle.std.specs.Prelude.{slice_get, option_map}
-use Rattle.flt_config.specs.declared.config.Config.{Config}
+use Rattle.std.specs.List.{AllPairs, find}
 use Rattle.flt_config.specs.declared.persist.EntryState.{EntryState}
-use Rattle.flt_config.specs.declared.persist.EventState.{EventState}
-use Rattle.flt_config.specs.Durable.{Fits, IsEntryOf, IsOfOtherEvent, is_of_event, start_state, initial_state}
-use Rattle.flt_model.specs.Life.{Life, count, event_of, base_of, no_event}
+use Rattle.flt_config.specs.Durable.{Fits, IsOfOtherEvent, is_of_event, start_state}
+use Rattle.flt_model.specs.Life.{Life, event_of, base_of, no_event}
 use Rattle.flt_model.specs.Status.{durable}
-use Rattle.flt_model.specs.Durable.{state_at}
-use Rattle.flt_model.specs.Entry.{entry_of, entries}
+use Rattle.flt_model.specs.Entry.{entry_of}
 use Rattle.flt_status.proofs.Fitting.{fitting_state_stands}
 use Rattle.flt_dem.specs.Standing.{StatesStand, MemoryStands}
 

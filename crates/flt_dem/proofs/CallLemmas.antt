@@ -1,5 +1,5 @@
 -- How the parts of the events make a call.
-use Rattle.std.proofs.Common.{◌≡◌, ◌∙◌, ◌≢◌, ℕ, suc, ◌+◌, ◌<◌, nat_lt, nat_eq, Bool, true, false, cond, List, ◌∷◌, Option, Some, None, arith, refl, sym, ap, subst, eq-eqb, ⊎_elim, add-one}
+use Rattle.std.proofs.Common.{◌≡◌, ◌∙◌, ◌≢◌, ℕ, suc, ◌+◌, ◌<◌, nat_lt, cond, List, ◌∷◌, Option, Some, None, arith, refl, sym, ap, subst, eq-eqb, ⊎_elim, add-one}
 use Rattle.std.proofs.lemmas.Bool.{cases_eq, cases_lt, ne_eqb, lt-ltb, le-ltb}
 use Rattle.flt_model.specs.Life.{Life, History, count, event_of}
 use Rattle.flt_model.specs.Mark.{Trace, AllCleared}
@@ -11,7 +11,7 @@ use Rattle.flt_model.specs.declared.call.Op.{Op}
 use Rattle.flt_dem.specs.Faults.{FaultsView}
 use Rattle.flt_dem.specs.Standing.{FaultsStand}
 use Rattle.flt_dem.specs.Debounces.{DebouncesStand, and_then}
-use Rattle.flt_dem.specs.Calls.{StandsWith, StandsAfter, StandsPartly, TakesPart, items_partly, marks_partly}
+use Rattle.flt_dem.specs.Calls.{StandsAfter, StandsPartly, TakesPart, items_partly, marks_partly}
 use Rattle.flt_dem.proofs.OrderLemmas.{in_order-none, in_order-one}
 
 -- the same happenings, said in another way

@@ -1,5 +1,5 @@
 -- What one more happening does to the debouncing of the events.
-use Rattle.std.proofs.Common.{◌≡◌, ◌∙◌, ◌≢◌, ℕ, ◌<◌, cond, List, ◌∷◌, length, get_or, pos, Some, arith, refl, sym, ap, subst, eq-eqb, ⊎_elim}
+use Rattle.std.proofs.Common.{◌≡◌, ◌∙◌, ℕ, ◌<◌, cond, List, ◌∷◌, length, get_or, pos, Some, arith, refl, sym, ap, subst, eq-eqb, ⊎_elim}
 use Rattle.std.proofs.Math.ListN.{length-set}
 use Rattle.std.proofs.lemmas.Bool.{cases_eq, ne_eqb}
 use Rattle.std.proofs.lemmas.Option.{get_or_from_slice_get}

@@ -16,7 +16,7 @@ use Rattle.flt_memory.specs.Memory.{Memory}
 use Rattle.flt_memory.specs.Store.{StoresAs}
 use Rattle.flt_memory.specs.declared.memory.Stored.{Stored}
 use Rattle.flt_memory.specs.declared.memory.Stored.TheVariants as outcomes
-use Rattle.flt_dem.specs.Standing.{StatesStand, MemoryStands, with_outcome, IsDisplacedBelow, IsNotDisplaced}
+use Rattle.flt_dem.specs.Standing.{MemoryStands, IsDisplacedBelow, IsNotDisplaced}
 
 blank_entry : EntryState
 blank_entry = record { event = 0; occurrence = 0; first = record { items = [] }; recent = record { items = [] } }

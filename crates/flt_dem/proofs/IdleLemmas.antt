@@ -1,11 +1,10 @@
 -- Calls in which the event manager takes no part, and histories without a request.
-use Rattle.std.proofs.Common.{◌≡◌, ◌≢◌, ◌∙◌, ℕ, ◌<◌, nat_eq, Bool, true, false, ◌||◌, cond, List, [], ◌∷◌, Option, Some, None, unwrap_or, refl, ap}
+use Rattle.std.proofs.Common.{◌≡◌, ◌∙◌, ℕ, ◌<◌, nat_eq, Bool, true, false, ◌||◌, cond, [], ◌∷◌, Option, Some, None, unwrap_or, refl, ap}
 use Rattle.std.proofs.lemmas.Bool.{ne_eqb}
-use Rattle.arrayvec.specs.ArrayVec.{ArrayVec}
 use Rattle.flt_model.specs.Life.{Life, History, count, event_of}
 use Rattle.flt_model.specs.Mark.{Trace, AllCleared}
-use Rattle.flt_model.specs.Happening.{happening_of, happening_of_clear, cleared_where, cleared_dtc, all_dtcs}
-use Rattle.flt_model.specs.Session.{holds_off, is_extended, hold_row, is_setting_off}
+use Rattle.flt_model.specs.Happening.{happening_of_clear, cleared_where, cleared_dtc, all_dtcs}
+use Rattle.flt_model.specs.Session.{holds_off, is_extended, is_setting_off}
 use Rattle.flt_model.specs.Trace.{with_clear}
 use Rattle.flt_model.specs.declared.call.Op.{Op}
 use Rattle.flt_model.specs.declared.call.Op.TheVariants as ops

@@ -1,15 +1,14 @@
 -- What a call does to the started cycles, to the signals and to events at rest.
-use Rattle.std.proofs.Common.{◌≡◌, ◌∙◌, ◌≢◌, ℕ, zero, suc, ◌<◌, nat_eq, Bool, true, false, not, ◌&&◌, ◌||◌, cond, List, [], ◌∷◌, map, length, get_or, Option, Some, None, unwrap_or, arith, refl, sym, ap, subst, eq-eqb, ⊎_elim}
+use Rattle.std.proofs.Common.{◌≡◌, ◌∙◌, ℕ, zero, suc, ◌<◌, Bool, true, false, not, ◌&&◌, cond, List, [], ◌∷◌, map, length, get_or, Option, Some, None, unwrap_or, arith, refl, sym, ap, subst, eq-eqb, ⊎_elim}
 use Rattle.std.proofs.lemmas.Bool.{cases_eq, ne_eqb}
 use Rattle.std.proofs.lemmas.List.{length-map, get_or_default}
 use Rattle.std.proofs.lemmas.Option.{get_or_from_slice_get, slice_get_read, slice_get-get_or, slice_get-map, slice_get_within, unwrap_or-slice_get}
-use Rattle.std.specs.List.{All}
 use Rattle.std.specs.Prelude.{slice_get, slice_set, option_map}
 use Rattle.flt_config.specs.declared.config.Config.{Config}
 use Rattle.flt_config.specs.declared.config.EventCfg.{EventCfg}
 use Rattle.flt_config.specs.Validity.{IsValid, IsDebounceInRange}
-use Rattle.flt_model.specs.Life.{Life, History, count, event_of, no_event}
-use Rattle.flt_model.specs.Debounce.{Happenings, IsStateOf, debounced}
+use Rattle.flt_model.specs.Life.{Life, History, event_of, no_event}
+use Rattle.flt_model.specs.Debounce.{IsStateOf, debounced}
 use Rattle.flt_model.specs.Happening.{is_started, signals, counts_report}
 use Rattle.flt_model.specs.Session.{is_setting_off}
 use Rattle.flt_model.specs.Answer.{answer, answer_report}

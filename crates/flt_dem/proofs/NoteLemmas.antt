@@ -1,10 +1,10 @@
 -- What a failure does to the noted events, whatever becomes of the entries.
 use Rattle.std.proofs.Common.{◌≡◌, ◌∙◌, ℕ, Bool, true, false, List, ◌∷◌, Option, Some, None, refl, sym, ap}
-use Rattle.flt_model.specs.Life.{Life, count, base_of, event_of}
+use Rattle.flt_model.specs.Life.{Life, base_of}
 use Rattle.flt_model.specs.Mark.{Trace, Of, marks_of}
 use Rattle.flt_model.specs.Mark.Mark.{Failed}
 use Rattle.flt_model.specs.Status.{enters}
-use Rattle.flt_model.specs.Entry.{holders, has_entry, worst, rank_of, gives_way}
+use Rattle.flt_model.specs.Entry.{holders, has_entry, worst, rank_of}
 use Rattle.flt_model.specs.Trace.{with_failed, stored_where, stored, added, added_in_full, added_for}
 use Rattle.flt_model.specs.Noted.{is_entering, is_confirming, first_after, recent_after}
 use Rattle.flt_dem.specs.declared.notes.Notes.{Notes}

@@ -1,5 +1,5 @@
 -- The part that one event takes of a report, of ticks and of the end of a cycle.
-use Rattle.std.proofs.Common.{◌≡◌, ◌≢◌, ◌∙◌, ℕ, ◌<◌, length, get_or, Bool, true, false, cond, nat_eq, List, ◌∷◌, Option, Some, None, refl, sym, ap, subst, eq-eqb, inl, inr, ⊎_elim}
+use Rattle.std.proofs.Common.{◌≡◌, ◌≢◌, ◌∙◌, ℕ, ◌<◌, length, get_or, true, false, cond, List, ◌∷◌, Option, Some, None, refl, sym, ap, subst, eq-eqb, ⊎_elim}
 use Rattle.std.proofs.lemmas.Bool.{cases_eq, ne_eqb}
 use Rattle.std.proofs.lemmas.Option.{slice_get_read}
 use Rattle.arrayvec.specs.ArrayVec.{ArrayVec}
@@ -9,7 +9,7 @@ use Rattle.flt_model.specs.Life.{Life, History, event_of}
 use Rattle.flt_model.specs.Mark.{Trace, Of}
 use Rattle.flt_model.specs.Mark.Mark.{Clear}
 use Rattle.flt_model.specs.Debounce.{Happening, Happenings, Reported, Ticked, Ended, Cleared, qualified}
-use Rattle.flt_model.specs.Happening.{happening_of, happenings, signals as signals_after, own_report, reported_where, counts_report, with_happening, cleared_dtc, happening_of_clear, cleared_where, reaches}
+use Rattle.flt_model.specs.Happening.{happening_of, happenings, signals as signals_after, own_report, reported_where, counts_report, cleared_dtc, happening_of_clear, cleared_where, reaches}
 use Rattle.flt_model.specs.Session.{is_setting_off}
 use Rattle.flt_model.specs.Trace.{event_part, with_marks, with_result, with_cycle}
 use Rattle.flt_model.specs.declared.call.DebState.{DebState}

@@ -1,5 +1,5 @@
 -- What one more mark does to the states.
-use Rattle.std.proofs.Common.{◌≡◌, ◌∙◌, ◌≢◌, ℕ, ◌<◌, nat_eq, Bool, true, false, cond, List, ◌∷◌, length, get_or, Some, unwrap_or, arith, refl, sym, ap, subst, eq-eqb, ⊎_elim, inl, inr}
+use Rattle.std.proofs.Common.{◌≡◌, ◌∙◌, ◌≢◌, ℕ, ◌<◌, nat_eq, Bool, true, false, cond, List, ◌∷◌, get_or, Some, unwrap_or, arith, refl, sym, ap, subst, eq-eqb, ⊎_elim, inl, inr}
 use Rattle.std.proofs.Math.ListN.{length-set}
 use Rattle.std.proofs.lemmas.Bool.{cases_Bool, cases_eq, ne_eqb}
 use Rattle.std.proofs.lemmas.Option.{slice_get_read, get_or_from_slice_get}

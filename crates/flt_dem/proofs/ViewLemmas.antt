@@ -54,7 +54,7 @@ module _ (life : Life) (past : History) (manager : Manager) (s : StandsFor life 
   view_told =
       let faults = s.events.faults_stand in
       let events = ap (λ k. map (event_seen manager) (below (length k.events.items))) (sym faults.config)
-          ∙ map_below (event_seen manager) (event_view life past (trace life past)) (count life) seen in
+      ∙ map_below (event_seen manager) (event_view life past (trace life past)) (count life) seen in
       λ i. record {
         events = events i;
         noted = λ sub. noted_at (faults.notes i) sub;

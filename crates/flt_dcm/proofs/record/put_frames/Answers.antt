@@ -1,4 +1,4 @@
-use Rattle.std.proofs.Common.{◌≡◌, ◌∙◌, ◌+◌, length, arith, ap}
+use Rattle.std.proofs.Common.{◌∙◌, length, arith, ap}
 use Rattle.std.proofs.lemmas.List.{length-append}
 use Rattle.flt_model.specs.Response.{where_selected, snapshot}
 use Rattle.flt_dcm.proofs.RecordLemmas.{snapshot_fits}

@@ -1,7 +1,5 @@
 use Rattle.std.proofs.Common.{◌≡◌, ◌∙◌, ◌++◌, Some, sym, ap}
 use Rattle.std.specs.Prelude.{option_copied}
-use Rattle.std.specs.List.{find}
-use Rattle.flt_config.specs.Durable.{is_of_event}
 use Rattle.flt_model.specs.Response.{snapshots}
 use Rattle.flt_dem.specs.View.{event_seen}
 use Rattle.flt_dcm.proofs.record.put_snapshots.Goals as goal

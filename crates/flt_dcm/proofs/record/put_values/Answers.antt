@@ -1,4 +1,4 @@
-use Rattle.std.proofs.Common.{◌≡◌, ◌∙◌, ◌+◌, length, min, take, get_or, arith, ap}
+use Rattle.std.proofs.Common.{◌≡◌, ◌∙◌, length, take, get_or, arith, ap}
 use Rattle.std.proofs.lemmas.List.{length-append, take_min}
 use Rattle.flt_dcm.proofs.RecordLemmas.{value_fits}
 use Rattle.flt_dcm.proofs.record.put_values.Goals as goal

@@ -1,5 +1,4 @@
 use Rattle.std.proofs.Common.{◌≡◌, ◌∙◌, ◌++◌, Some, [], ◌∷◌, length, arith, sym, ap}
-use Rattle.std.proofs.lemmas.List.{append-nil}
 use Rattle.flt_model.specs.Response.{noted_bytes, with_status}
 use Rattle.flt_dem.specs.View.{event_seen, noted_at}
 use Rattle.flt_dcm.proofs.ListLemmas.{seen_to, noted_seen, noted_past}

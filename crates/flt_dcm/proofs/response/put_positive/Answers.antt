@@ -1,4 +1,4 @@
-use Rattle.std.proofs.Common.{◌≡◌, ◌∙◌, ◌++◌, Some, [], ◌∷◌, sym, ap}
+use Rattle.std.proofs.Common.{◌∙◌, Some, ◌∷◌, sym, ap}
 use Rattle.flt_model.specs.Response.{is_masked, is_prefailed, with_status, with_counter, positive}
 use Rattle.flt_dem.specs.View.{view_of}
 use Rattle.flt_dcm.proofs.ListLemmas.{flat_map_of_filtered}

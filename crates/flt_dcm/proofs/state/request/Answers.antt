@@ -1,4 +1,4 @@
-use Rattle.std.proofs.Common.{◌≡◌, ◌∙◌, Ok, Err, None, sym, ap}
+use Rattle.std.proofs.Common.{◌≡◌, ◌∙◌, Ok, None, sym, ap}
 use Rattle.flt_model.specs.Happening.{clear_asked}
 use Rattle.flt_model.specs.Request.{asked}
 use Rattle.flt_model.specs.Response.{positive, responded, response_to, service_of}

@@ -1,4 +1,4 @@
-use Rattle.std.proofs.Common.{◌≡◌, ◌<◌, ◌∙◌, ◌∷◌, sym, ap, arith, get_or}
+use Rattle.std.proofs.Common.{◌≡◌, ◌<◌, ◌∙◌, sym, ap, arith, get_or}
 use Rattle.flt_model.specs.Life.{count, base_of, event_of}
 use Rattle.flt_model.specs.Mark.{marks_of}
 use Rattle.flt_model.specs.Status.{ages, durable}

@@ -1,10 +1,8 @@
 use Rattle.std.proofs.Common.{◌≡◌, ◌∙◌, ◌<◌, ◌∷◌, not, length, arith, sym, ap, subst}
 use Rattle.std.specs.Prelude.{slice_set}
-use Rattle.flt_model.specs.Answer.{answer, view}
+use Rattle.flt_model.specs.Answer.{answer}
 use Rattle.flt_model.specs.Request.{asked}
 use Rattle.flt_model.specs.Response.{response}
-use Rattle.flt_model.specs.Session.{is_extended}
-use Rattle.flt_model.specs.Trace.{trace}
 use Rattle.flt_model.specs.declared.call.Op.TheVariants as ops
 use Rattle.flt_dem.proofs.IdleLemmas.{stands_idle}
 use Rattle.flt_dem.proofs.ViewLemmas.{read_within, view_told}

@@ -1,4 +1,4 @@
-use Rattle.std.proofs.Common.{◌∙◌, refl, sym, ap}
+use Rattle.std.proofs.Common.{◌∙◌, sym, ap}
 use Rattle.flt_dem.proofs.ClearLemmas.{none_left}
 use Rattle.flt_dem.proofs.faults.Faults.end_clear.Goals as goal
 

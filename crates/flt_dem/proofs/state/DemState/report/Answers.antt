@@ -3,7 +3,7 @@ use Rattle.std.specs.Prelude.{slice_get}
 use Rattle.flt_config.specs.Validity.{IsValid}
 use Rattle.flt_model.specs.Life.{event_of}
 use Rattle.flt_model.specs.Happening.{is_started, counts_report}
-use Rattle.flt_model.specs.declared.call.Cause.TheVariants.{SettingOff, NotStarted}
+use Rattle.flt_model.specs.declared.call.Cause.TheVariants.{NotStarted}
 use Rattle.flt_model.proofs.Common.{refill-whole}
 use Rattle.flt_dem.specs.contracts.state.DemState.{the_view}
 use Rattle.flt_dem.specs.Calls.{StandsAfter}

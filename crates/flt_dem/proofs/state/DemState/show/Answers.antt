@@ -3,9 +3,7 @@ use Rattle.std.proofs.lemmas.Int.{to_z-of_z}
 use Rattle.std.specs.Int.{w8}
 use mir.Val.{SFits}
 use Rattle.flt_model.specs.Life.{count}
-use Rattle.flt_model.specs.Debounce.{Happenings}
 use Rattle.flt_model.specs.Durable.{state_at}
-use Rattle.flt_model.specs.Happening.{happenings}
 use Rattle.flt_model.specs.Trace.{trace}
 use Rattle.flt_model.specs.declared.call.Op.TheVariants as ops
 use Rattle.flt_model.specs.declared.call.Reply.TheVariants as replies
