@@ -58,9 +58,12 @@ abbrev pub IsBytesOfMark : Mark → List ℕ → Type 0
 IsBytesOfMark mark held = held ≡ mark_bytes mark
 
 -- a noted event, or FFFF for none
+abbrev pub note_word : Option ℕ → ℕ
+note_word None = 0xFFFF
+note_word (Some event) = event
+
 abbrev pub note_bytes : Option ℕ → List ℕ
-note_bytes None = be16 0xFFFF
-note_bytes (Some event) = be16 event
+note_bytes note = be16 (note_word note)
 
 -- 01 for true, 00 for false
 abbrev pub flag : Bool → ℕ
