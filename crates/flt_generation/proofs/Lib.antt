@@ -5,3 +5,9 @@ pub mod Fitting
 pub mod States
 pub mod Sizes
 pub mod Parts
+pub mod Decoding
+pub mod Steps
+pub mod Sofar
+pub mod Whole
+pub mod Bridge
+pub mod ImageLaws

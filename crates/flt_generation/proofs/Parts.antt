@@ -90,10 +90,10 @@ all_of_one P x is zero d below = is
 all_of_one P x is (suc k) d below = absurd (omega (arith, below))
 
 -- the first state with one entry fits where the entry is one of a configured event
-pub entry_alone : (c : Config) (init : Persist) (entry : EntryState) → IsValid c → Fits c init → IsEntryOf c.events.items entry → Fits c (record init { entries = record { items = entry ∷ [] } })
-entry_alone c init entry valid fit is = record {
+pub entry_alone : (c : Config) (init : Persist) (entry : EntryState) → 1 ≤ c.memory → Fits c init → IsEntryOf c.events.items entry → Fits c (record init { entries = record { items = entry ∷ [] } })
+entry_alone c init entry some fit is = record {
   states = fit.states;
-  room = valid.memory.0;
+  room = some;
   entries = all_of_one (IsEntryOf c.events.items) entry is;
   distinct = λ i j d order within. absurd (omega (arith, order, within));
   first_failed = fit.first_failed;
@@ -101,3 +101,14 @@ entry_alone c init entry valid fit is = record {
   recent_failed = fit.recent_failed;
   recent_confirmed = fit.recent_confirmed;
 }
+
+-- the clean counts of states that fit leave room for the bit beside them
+pub states_short : (events : List EventCfg) (states : List EventState) → AreStatesOf events states → (k : ℕ) → (slice_index_or states k start_state).clean < 0x8000
+states_short events states are k = elim (cases_lt k (length events)) [
+  | inl within ↦ inside events are k within
+  | inr past ↦ subst (λ (s : EventState). s.clean < 0x8000) (sym (get_or_past states k start_state (omega (arith, are.one_each, past)))) (omega arith)
+]
+  where
+    inside : (given : List EventCfg) → AreStatesOf given states → (k : ℕ) → k < length given → (slice_index_or states k start_state).clean < 0x8000
+    inside [] given k within = absurd (omega (arith, within))
+    inside (event ∷ rest) given k within = omega (arith, (given.fitting k event start_state within).clean)

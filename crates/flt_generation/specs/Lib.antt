@@ -5,3 +5,4 @@ pub mod Reading
 pub mod Excess
 pub mod Holding
 pub mod Successor
+pub mod Laws
