@@ -1,6 +1,4 @@
 // Blocks of each kind over the driver in memory.
-ghost use Rattle.std.specs.Prelude.{◌≡◌};
-
 use super::*;
 use flt_flash::Blocks;
 use flt_stub::BlocksMem;
@@ -51,7 +49,6 @@ fn blocks_are_kept_by_their_kind(rt: HostRuntime) -> Result<(), Fail> {
     assert!(rt; nvm.read_copy(2, 2, &mut out)? == found(1, 2));
     nvm.invalidate(2, 0)?;
     assert!(rt; nvm.read(2, 0, &mut out)? == Got::Invalid);
-    let mut driver = nvm.retire();
-    assert!(rt; driver.read(16, &mut out)? == flt_flash::Found::Invalid);
+    assert!(rt; nvm.retire().boots_left() == 0);
     Ok(())
 }

@@ -1,0 +1,17 @@
+//! What the blocks of an image say of saved generations: definitions alone, over any map from a driver's numbers to contents.
+//!
+//! It stands on `flt_config`, whose durable state a generation is, and on `flt_flash`, whose `Content` a block holds. The
+//! byte forms of `flt_image` and the generations of `flt_store` state their contracts by these definitions. Read
+//! `specs/Layout` first (which block holds what), then `specs/Form` (its bytes), `specs/Reading` (what bytes are taken) and
+//! `specs/Holding` (which generation an image holds, and where it is damaged); `specs/Successor` has what a save writes.
+#![tactic(auto)]
+
+mod commit;
+mod mark;
+mod part;
+mod place;
+
+pub use commit::{Commit, INDICES};
+pub use mark::Mark;
+pub use part::Part;
+pub use place::Place;
