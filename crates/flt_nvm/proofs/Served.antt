@@ -1,7 +1,7 @@
 -- The driver was made with the numbers of each block of a table that it serves.
-use Rattle.std.proofs.Common.{◌≡◌, ℕ, ◌+◌, ◌*◌, ◌<◌, ◌≤◌, ◌==◌, ◌&&◌, nat_lt, Bool, true, false, if◌then◌else◌, List, [], ◌∷◌, length, get_or, Option, Some, None, refl, sym, ◌∙◌, ap, subst, arith, eqb-true}
+use Rattle.std.proofs.Common.{◌≡◌, ℕ, ◌<◌, ◌≤◌, ◌==◌, ◌&&◌, nat_lt, Bool, true, false, if◌then◌else◌, List, [], ◌∷◌, length, get_or, Option, Some, None, refl, subst, arith, eqb-true}
 use Rattle.std.specs.Prelude.{Contains, IsSomeAnd}
-use Rattle.std.specs.List.{list_all, list_any, range_with_len}
+use Rattle.std.specs.List.{list_all, range_with_len}
 use Rattle.std.proofs.lemmas.Bool.{ltb-true}
 use Rattle.std.proofs.lemmas.List.FromFn.{get_or-range_with_len, length-range_with_len}
 use Rattle.std.proofs.lemmas.List.Sums.{AllPass-from_list_all}
@@ -9,7 +9,7 @@ use Rattle.std.proofs.lemmas.Map.Views.{Contains-from_any}
 use Rattle.flt_nvm.specs.declared.table.Kind.{Kind}
 use Rattle.flt_nvm.specs.declared.table.Kind.TheVariants.{Native, Redundant, Dataset}
 use Rattle.flt_nvm.specs.declared.table.BlockCfg.{BlockCfg}
-use Rattle.flt_nvm.specs.Table.{number_of, block_in, indices_of, numbers_taken, has_number, is_kind, is_served, serves, HasIndex, HasPlace, Holds, IsRedundant}
+use Rattle.flt_nvm.specs.Table.{number_of, block_in, numbers_taken, has_number, is_kind, is_served, serves, HasPlace, Holds}
 
 both_true : (a b : Bool) → (a && b) ≡ true → (a ≡ true) × (b ≡ true)
 both_true true b is = (refl, is)

@@ -1,5 +1,5 @@
 -- A job on one block of a driver: one call, tried again where the flash failed.
-use Rattle.std.specs.Prelude.{◌⊎◌, ℕ, zero, suc, Result, Ok, Err, IsErrOf, IsFalse, OnOk}
+use Rattle.std.specs.Prelude.{◌⊎◌, ℕ, zero, suc, Result, Err, IsErrOf, IsFalse, OnOk}
 use Rattle.flt_flash.specs.Content.{Content}
 use Rattle.flt_flash.specs.Blocks.{BlocksState}
 use Rattle.flt_flash.specs.Calls.{Calls, Changes, Costs, NeverFull, SameValues, Settles}

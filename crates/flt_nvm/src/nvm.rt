@@ -126,11 +126,9 @@ impl<B: Blocks + Drop> Nvm<B> {
     {
         let first = self.number(id, 0);
         let second = self.number(id, 1);
-        let answer = self.write_number(first, bytes);
-        if answer.is_ok() {
-            self.write_number(second, bytes)
-        } else {
-            answer
+        match self.write_number(first, bytes) {
+            Ok(()) => self.write_number(second, bytes),
+            Err(unwritten) => Err(unwritten),
         }
     }
 
@@ -170,11 +168,9 @@ impl<B: Blocks + Drop> Nvm<B> {
     {
         let first = self.number(id, 0);
         let second = self.number(id, 1);
-        let answer = self.invalidate_number(first);
-        if answer.is_ok() {
-            self.invalidate_number(second)
-        } else {
-            answer
+        match self.invalidate_number(first) {
+            Ok(()) => self.invalidate_number(second),
+            Err(unmarked) => Err(unmarked),
         }
     }
 

@@ -1,6 +1,4 @@
-use Rattle.std.proofs.Common.{◌≡◌, ℕ, List, true, sym, ◌∙◌, subst}
-use Rattle.std.specs.Prelude.{◌↔◌, IsTrue}
-use Rattle.flt_flash.specs.Content.{Content, bytes as holding}
+use Rattle.std.proofs.Common.{subst}
 use Rattle.flt_nvm.specs.declared.got.Got.{Got}
 use Rattle.flt_nvm.specs.Leaves.{GotOf}
 use Rattle.flt_nvm.proofs.Found.{is_held}

@@ -1,11 +1,10 @@
-use Rattle.std.proofs.Common.{sym, ◌∙◌}
+use Rattle.std.proofs.Common.{refl}
 use Rattle.flt_nvm.proofs.Jobs.{first_job_alone, both_jobs}
 use Rattle.flt_nvm.proofs.nvm.Nvm.invalidate_both.Goals as goal
 
-pub returns-then-is_ok-clause-jobs : goal.returns-then-is_ok-clause-jobs
-returns-then-is_ok-clause-jobs g c =
-    both_jobs _ _ _ _ c.number-first.ensures.number _ c.number-second.ensures.number _ _ _ _ _ (sym c.is_ok.ensures.value ∙ c.if-is_ok.true) c.invalidate_number-answer.ensures.job c.invalidate_number.ensures.job
+pub returns-in-Ok-clause-jobs : goal.returns-in-Ok-clause-jobs
+returns-in-Ok-clause-jobs g c =
+    both_jobs _ _ _ _ c.number-first.ensures.number _ c.number-second.ensures.number _ _ _ _ _ refl c.in-Ok.ensures.job c.invalidate_number-in-Ok.ensures.job
 
-pub returns-else-is_ok-clause-jobs : goal.returns-else-is_ok-clause-jobs
-returns-else-is_ok-clause-jobs g c =
-    first_job_alone _ _ _ _ c.number-first.ensures.number _ _ _ (sym c.is_ok.ensures.value ∙ c.if-is_ok.false) c.invalidate_number-answer.ensures.job
+pub returns-in-Err-clause-jobs : goal.returns-in-Err-clause-jobs
+returns-in-Err-clause-jobs g c = first_job_alone _ _ _ _ c.number-first.ensures.number _ _ _ refl c.in-Err.ensures.job
