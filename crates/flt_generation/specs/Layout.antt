@@ -79,11 +79,3 @@ used_ids c = filter (is_used c) (range_with_len first_part parts)
 -- the index at which a commit names a block
 abbrev pub index_in : Commit → ℕ → ℕ
 index_in commit id = slice_index commit.index (id - first_part)
-
--- a driver has the number of the mark, of both copies of the commit, of both indices of each part and of each application block
-pub record HasNumbers (given : List ℕ) : Type 0 where
-  pub mark : Contains given mark_number
-  pub first : Contains given first_commit
-  pub second : Contains given second_commit
-  pub indices : (id index : ℕ) → first_part ≤ id → id < end_part → index ≤ 1 → Contains given (number_of id index)
-  pub blocks : (block : ℕ) → block < applications → Contains given (application_number block)

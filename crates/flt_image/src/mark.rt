@@ -2,15 +2,17 @@
 ghost use Rattle.std.specs.Prelude.{◌≡◌, length};
 ghost use Rattle.flt_generation.specs.Form.{mark_of, mark_bytes, IsMark};
 ghost use Rattle.flt_generation.specs.Reading.{mark_from, mark_in};
+ghost use Rattle.flt_generation.specs.Laws.{IsGiven};
 
 use crate::pushing::word_at;
 use flt_config::ValidConfig;
 use flt_generation::Mark;
 
-/// The mark of a configuration.
+/// The mark of a configuration, whose numbers are those of its type.
 pub fn mark_of(config: &ValidConfig) -> Mark
     ensures value { result ≡ mark_of config.now }
     ensures fields { IsMark result }
+    ensures given { IsGiven config.now }
 {
     let config = config.config();
     mark_with(config.id, config.events.len() as u16, config.memory)
