@@ -12,11 +12,10 @@ use Rattle.flt_generation.specs.declared.commit.Commit.{Commit}
 use Rattle.flt_generation.specs.Layout.{number_of, is_used, index_in, first_commit, second_commit}
 use Rattle.flt_generation.specs.Form.{IsMark, mark_of, block_bytes}
 use Rattle.flt_generation.specs.Holding.{Fault, parts_read, BlocksHold, either_copy, only_bytes}
-use Rattle.flt_generation.specs.Laws.{IsGiven, MarksAreRead, CommitsAreRead, TakenPartIsHeld, BlocksDetermineState, HeldStands, SpareStands}
-use Rattle.flt_generation.specs.Reading.{with_part}
+use Rattle.flt_generation.specs.Laws.{IsGiven, MarksAreRead, CommitsAreRead, PartsAreTaken, BlocksDetermineState, HeldStands, SpareStands}
 use Rattle.flt_generation.proofs.Marks.{read_mark, mark_read}
 use Rattle.flt_generation.proofs.Commits.{read_commit, commit_read}
-use Rattle.flt_generation.proofs.Sizes.{taken_holds}
+use Rattle.flt_generation.proofs.Exactly.{taken_as, as_taken}
 use Rattle.flt_generation.proofs.Whole.{HasSizes, whole_read}
 use Rattle.flt_generation.proofs.Bridge.{held_holds, holds_held}
 
@@ -25,9 +24,6 @@ marks_are_read held mark = (read_mark held mark, λ both. mark_read held mark bo
 
 pub commits_are_read : CommitsAreRead
 commits_are_read c held commit = (read_commit c held commit, λ both. commit_read c held commit both.0 both.1)
-
-pub taken_part_is_held : TakenPartIsHeld
-taken_part_is_held c part held before after is = let t = taken_holds c part held (with_part part held before) after is in (t.1, t.2)
 
 sizes_of : (c : Config) → IsGiven c → HasSizes c
 sizes_of c given = record {
@@ -42,6 +38,9 @@ own_mark c given = record {
   events = omega (arith, given.events);
   entries = omega (arith, given.valid.memory.1);
 }
+
+pub parts_are_taken : PartsAreTaken
+parts_are_taken c given part held before after one_each = (taken_as c part held before after, as_taken c (sizes_of c given) before after one_each part held)
 
 -- ---- an image made of the blocks of a state
 zeros : Commit

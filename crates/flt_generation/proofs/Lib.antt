@@ -10,4 +10,6 @@ pub mod Steps
 pub mod Sofar
 pub mod Whole
 pub mod Bridge
+pub mod Exactly
+pub mod Pages
 pub mod ImageLaws

@@ -41,11 +41,11 @@ pub record Sofar (c : Config) (value : ℕ → Content) (commit : Commit) (count
   pub distinct : (i j : ℕ) (d : EntryState) → i < j → j + 5 < count → j < length p.entries.items → IsOfOtherEvent (slice_index_or p.entries.items i d) (slice_index_or p.entries.items j d)
 
 -- the entries of a state whose summary fits have room
-room_of : (c : Config) (p : Persist) → summary_fits c p ≡ true → length p.entries.items ≤ c.memory
+pub room_of : (c : Config) (p : Persist) → summary_fits c p ≡ true → length p.entries.items ≤ c.memory
 room_of c p fits = leb-true _ c.memory (and_parts _ _ (and_parts _ _ (and_parts _ _ (and_parts _ _ fits).0).0).0).0
 
 -- its noted events are configured
-notes_of : (c : Config) (p : Persist) → summary_fits c p ≡ true
+pub notes_of : (c : Config) (p : Persist) → summary_fits c p ≡ true
     → (note_fits c.events.items p.first_failed ≡ true) × (note_fits c.events.items p.first_confirmed ≡ true) × (note_fits c.events.items p.recent_failed ≡ true) × (note_fits c.events.items p.recent_confirmed ≡ true)
 notes_of c p fits =
     let a = and_parts _ _ fits in

@@ -54,18 +54,27 @@ pub record Agrees (count : ℕ) (q p : Persist) : Type 0 where
   pub entries_same : (k : ℕ) (d : EntryState) → k + 5 < count → k < length p.entries.items → slice_index_or q.entries.items k d ≡ slice_index_or p.entries.items k d
   pub untaken : (k : ℕ) (d : EntryState) → 0 < count → count ≤ k + 5 → k < length p.entries.items → slice_index_or q.entries.items k d ≡ untaken_entry
 
+-- a noted event is within two bytes
+pub noted_short_of : (c : Config) → HasSizes c → (note : Option ℕ) → IsNoted c.events.items note → IfSome note (λ event. event < 65535)
+noted_short_of c sizes None is = tt
+noted_short_of c sizes (Some event) is = omega (arith, is, sizes.events)
+
+-- the frames of an entry of a configured event are of one length, and within 32 bytes
+pub entry_sizes : (c : Config) → HasSizes c → (entry : EntryState) → IsEntryOf c.events.items entry → (length entry.first.items ≤ 32) × (length entry.recent.items ≡ length entry.first.items)
+entry_sizes c sizes entry is = elim (slice_get_cases c.events.items entry.event).1 [
+  | inl found ↦ (omega (arith, is.first found.0, sizes.frames entry.event found.0 found.1), is.recent found.0 ∙ sym (is.first found.0))
+  | inr past ↦ absurd (omega (arith, is.event, past.0))
+]
+
 module _ (c : Config) (sizes : HasSizes c) (p : Persist) (fits : Fits c p) where
-  noted_short : (note : Option ℕ) → IsNoted c.events.items note → IfSome note (λ event. event < 65535)
-  noted_short None is = tt
-  noted_short (Some event) is = omega (arith, is, sizes.events)
 
   short : HasShortSummary p
   short = record {
     entries = omega (arith, fits.room, sizes.memory);
-    first_failed = noted_short p.first_failed fits.first_failed;
-    first_confirmed = noted_short p.first_confirmed fits.first_confirmed;
-    recent_failed = noted_short p.recent_failed fits.recent_failed;
-    recent_confirmed = noted_short p.recent_confirmed fits.recent_confirmed;
+    first_failed = noted_short_of c sizes p.first_failed fits.first_failed;
+    first_confirmed = noted_short_of c sizes p.first_confirmed fits.first_confirmed;
+    recent_failed = noted_short_of c sizes p.recent_failed fits.recent_failed;
+    recent_confirmed = noted_short_of c sizes p.recent_confirmed fits.recent_confirmed;
   }
 
   few_states : length p.events.items ≤ 64
@@ -145,12 +154,6 @@ module _ (c : Config) (sizes : HasSizes c) (p : Persist) (fits : Fits c p) where
     }
 
   -- ---- an entry
-  event_of : (entry : EntryState) → IsEntryOf c.events.items entry → (length entry.first.items ≤ 32) × (length entry.recent.items ≡ length entry.first.items)
-  event_of entry is = elim (slice_get_cases c.events.items entry.event).1 [
-    | inl found ↦ (omega (arith, is.first found.0, sizes.frames entry.event found.0 found.1), is.recent found.0 ∙ sym (is.first found.0))
-    | inr past ↦ absurd (omega (arith, is.event, past.0))
-  ]
-
   module _ (q : Persist) (count place : ℕ) (at : place + 5 ≡ count) (agrees : Agrees count q p) where
     same_count : length q.entries.items ≡ length p.entries.items
     same_count = agrees.entries_count (omega (arith, at))
@@ -159,7 +162,7 @@ module _ (c : Config) (sizes : HasSizes c) (p : Persist) (fits : Fits c p) where
       is : IsEntryOf c.events.items entry
       is = subst (IsEntryOf c.events.items) here (fits.entries place entry within)
       read : entry_from (entry_bytes entry) ≡ entry
-      read = let sized = event_of entry is in entry_read entry (omega (arith, is.event, sizes.events)) sized.0 sized.1
+      read = let sized = entry_sizes c sizes entry is in entry_read entry (omega (arith, is.event, sizes.events)) sized.0 sized.1
       abbrev after_entry : List EntryState
       after_entry = set q.entries.items place (entry_from (entry_bytes entry))
 

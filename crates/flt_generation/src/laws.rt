@@ -1,5 +1,5 @@
 //! What the definitions of a stored generation come to.
-ghost use Rattle.flt_generation.specs.Laws.{MarksAreRead, CommitsAreRead, TakenPartIsHeld, BlocksDetermineState, HeldStands, SpareStands};
+ghost use Rattle.flt_generation.specs.Laws.{MarksAreRead, CommitsAreRead, PartsAreTaken, BlocksDetermineState, HeldStands, SpareStands, BorneHasRoom};
 
 /// Exactly the bytes of a mark are read, and as that mark.
 pub fn marks_are_read()
@@ -11,9 +11,9 @@ pub fn commits_are_read()
     ensures { CommitsAreRead }
 {}
 
-/// A part that is taken from its bytes has these bytes in the state that it gives, and fits there.
-pub fn taken_part_is_held()
-    ensures { TakenPartIsHeld }
+/// A part is taken exactly where its bytes are those of a state that fits in that part, beside the rest, and differs in it alone.
+pub fn parts_are_taken()
+    ensures { PartsAreTaken }
 {}
 
 /// Two states that fit and have the same bytes in each used block are one.
@@ -26,4 +26,9 @@ pub fn blocks_determine_state()
 pub fn held_is_what_stands()
     ensures held { HeldStands }
     ensures spare { SpareStands }
+{}
+
+/// The records of an image whose excess is borne leave room for one record more, as long as any that the configuration writes.
+pub fn borne_excess_leaves_room()
+    ensures { BorneHasRoom }
 {}

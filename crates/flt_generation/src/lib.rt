@@ -1,7 +1,7 @@
-//! What the blocks of an image say of saved generations: definitions alone, over any map from a driver's numbers to contents.
+//! What the blocks of an image say of saved generations: definitions, over any map from a driver's numbers to contents.
 //!
 //! It stands on `flt_config`, whose durable state a generation is, and on `flt_flash`, whose `Content` a block holds. The
-//! byte forms of `flt_image` and the generations of `flt_store` state their contracts by these definitions. Read
+//! byte forms of `flt_image` and the generations of the store state their contracts by these definitions. Read
 //! `specs/Layout` first (which block holds what), then `specs/Form` (its bytes), `specs/Reading` (what bytes are taken) and
 //! `specs/Holding` (which generation an image holds, and where it is damaged); `specs/Successor` has what a save writes. That
 //! what is read is what stands is a law (`laws`).
