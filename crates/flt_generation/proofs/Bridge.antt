@@ -1,17 +1,17 @@
 -- What an image holds by its bytes is what stands where.
-use Rattle.std.proofs.Common.{◌≡◌, ◌⊎◌, ℕ, zero, suc, ◌+◌, ◌-◌, ◌<◌, ◌≤◌, ◌==◌, ◌&&◌, Bool, true, false, not, List, length, refl, sym, ◌∙◌, ap, subst, arith, inl, inr}
-use Rattle.std.specs.Prelude.{nat_le, find, Option, Some, None, Result, Ok, Err, IsTrue}
+use Rattle.std.proofs.Common.{◌≡◌, ℕ, zero, suc, ◌+◌, ◌-◌, ◌<◌, ◌≤◌, Bool, true, false, not, List, refl, sym, ◌∙◌, ap, subst, arith, inl, inr}
+use Rattle.std.specs.Prelude.{nat_le, find, Option, Some, None, Result, Ok, Err}
 use Rattle.std.specs.List.{range_with_len}
 use Rattle.std.proofs.lemmas.Bool.{cases_Bool, cases_eq, and_parts, and_from, leb-true, le-leb, eqb-true, eq-eqb, not-false, not_from_true}
 use Rattle.flt_flash.specs.Content.{Content, missing, invalid, bytes}
 use Rattle.flt_config.specs.declared.config.Config.{Config}
 use Rattle.flt_config.specs.declared.persist.Persist.{Persist}
-use Rattle.flt_config.specs.Durable.{Fits, initial_state}
+use Rattle.flt_config.specs.Durable.{Fits}
 use Rattle.flt_config.specs.Validity.{needed_pages}
 use Rattle.flt_generation.specs.declared.mark.Mark.{Mark}
 use Rattle.flt_generation.specs.declared.commit.Commit.{Commit}
 use Rattle.flt_generation.specs.Layout.{mark_number, application_number}
-use Rattle.flt_generation.specs.Form.{mark_of, mark_bytes, commit_bytes, IsMark, IsCommit}
+use Rattle.flt_generation.specs.Form.{mark_of, commit_bytes, IsMark}
 use Rattle.flt_generation.specs.Reading.{mark_in, commit_in}
 use Rattle.flt_generation.specs.Excess.{excess, IsBorne}
 use Rattle.flt_generation.specs.Holding.{Generation, first_generation, Fault, ◌>>=◌, is_same_mark, judged_mark, marked, parts_read, generation_of, named, is_application, application_fault, applications_judged, excess_judged, held_by, MarkAllows, BlocksHold, CommitNames, Names, Holds}
@@ -71,13 +71,16 @@ named_by c value held g (Some commit) memory is gives =
     let found = read_commit c held commit is in
     let steps = both_ok (parts_read c value commit 21) (λ state. Ok (record { number = commit.generation; state = state })) g gives in
     let known = sofar c value commit 21 steps.0 (omega arith) steps.1 in
-    let same : record { number = commit.generation; state = steps.0 } ≡ g = cc in
-    (commit, found.1, record {
-      form = found.0;
-      number = ap (λ (x : Generation). x.number) same;
-      blocks = subst (BlocksHold c value commit) (ap (λ (x : Generation). x.state) same) (read_blocks c value commit steps.0 known);
-      fits = subst (Fits c) (ap (λ (x : Generation). x.state) same) (read_fits c value commit steps.0 memory known);
-    })
+    let same : record { number = commit.generation; state = steps.0 } ≡ g = cc in (
+      commit,
+      found.1,
+      record {
+        form = found.0;
+        number = ap (λ (x : Generation). x.number) same;
+        blocks = subst (BlocksHold c value commit) (ap (λ (x : Generation). x.state) same) (read_blocks c value commit steps.0 known);
+        fits = subst (Fits c) (ap (λ (x : Generation). x.state) same) (read_fits c value commit steps.0 memory known);
+      },
+    )
 
 named_names : (c : Config) (value : ℕ → Content) (content : Content) (g : Generation) → c.memory ≤ 16 → named c value content ≡ Ok g → Names c value content g
 unfolding named
@@ -120,8 +123,8 @@ find_no_fault test first (suc count) fails =
     let start : first + 0 ≡ first = omega arith in
     not_chosen (test first) (Some first) (find test (range_with_len (first + 1) count)) (subst (λ (n : ℕ). test n ≡ false) start (fails 0 (omega arith)))
     ∙ find_no_fault test (first + 1) count (λ k below.
-      let here : first + (k + 1) ≡ first + 1 + k = omega arith in
-      subst (λ (n : ℕ). test n ≡ false) here (fails (k + 1) (omega (arith, below))))
+    let here : first + (k + 1) ≡ first + 1 + k = omega arith in
+    subst (λ (n : ℕ). test n ≡ false) here (fails (k + 1) (omega (arith, below))))
 
 no_fault : (o : Option ℕ) → application_fault o ≡ Ok tt → o ≡ None
 no_fault None is = refl
@@ -139,8 +142,8 @@ unfolding applications_judged
 fine_applications value fine =
     let test : ℕ → Bool = λ b. not (is_application (value (application_number b))) in
     ap application_fault (find_no_fault test 0 40 (λ k below.
-      let here : k ≡ 0 + k = omega arith in
-      subst (λ (n : ℕ). test n ≡ false) here (not_from_true _ (fine k below))))
+    let here : k ≡ 0 + k = omega arith in
+    subst (λ (n : ℕ). test n ≡ false) here (not_from_true _ (fine k below))))
 
 borne : (c : Config) (value : ℕ → Content) → excess_judged c value ≡ Ok tt → IsBorne c value
 unfolding excess_judged

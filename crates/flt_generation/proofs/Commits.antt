@@ -1,7 +1,6 @@
 -- The bytes of a commit are read as that commit, and no others are read.
-use Rattle.std.proofs.Common.{inl, inr, ◌≡◌, ℕ, ◌+◌, ◌-◌, ◌<◌, ◌≤◌, ◌^◌, List, length, refl, sym, ◌∙◌, ap, subst, Some, None, arith, true, false, Bool}
-use Rattle.std.specs.Prelude.{bytes_eq, nat_le, ◌==◌, ◌&&◌, IsTrue, IsFalse, if◌then◌else◌}
-use Rattle.std.specs.List.{list_all, range_with_len}
+use Rattle.std.proofs.Common.{inl, inr, ◌≡◌, ℕ, ◌+◌, ◌-◌, ◌<◌, ◌^◌, List, length, refl, sym, ◌∙◌, ap, subst, Some, None, arith, true, false, Bool}
+use Rattle.std.specs.Prelude.{bytes_eq, nat_le, ◌==◌}
 use Rattle.std.specs.Int.{from_be_bytes, to_be_bytes, w32}
 use Rattle.std.proofs.lemmas.Nat.{from_be_bytes-to_be_bytes_4}
 use Rattle.std.proofs.lemmas.Bool.{cases_Bool, and_parts, and_from, and_left, and_right, leb-true, le-leb, eqb-true, eq-eqb, false_from_ne_true}
@@ -61,7 +60,7 @@ tested_commit c commit most is =
       most = omega (arith, most);
       size = eqb-true (length commit.index) 21 second.1;
       indices = λ id low high. subst (λ (n : ℕ). IsIndex c n (index_in commit n)) (omega (arith, low))
-      (index_is c (3 + (id - 3)) (index_in commit (3 + (id - 3))) (all_at (λ n. is_index c n (index_in commit n)) 3 21 first.1 (id - 3) (omega (arith, low, high))));
+          (index_is c (3 + (id - 3)) (index_in commit (3 + (id - 3))) (all_at (λ n. is_index c n (index_in commit n)) 3 21 first.1 (id - 3) (omega (arith, low, high))));
     }
 
 pub commit_test : (c : Config) (commit : Commit) → IsCommit c commit → is_commit c commit ≡ true

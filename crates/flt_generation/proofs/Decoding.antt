@@ -1,7 +1,7 @@
 -- What stands in the bytes of a part is read as it was.
-use Rattle.std.proofs.Common.{◌≡◌, ℕ, zero, suc, ◌+◌, ◌-◌, ◌*◌, ◌%◌, ◌<◌, ◌≤◌, ◌++◌, ◌==◌, [], ◌∷◌, Bool, true, false, List, length, refl, sym, ◌∙◌, ap, subst, arith, inl, inr, min, take, drop, replicate, get_or}
-use Rattle.std.specs.Prelude.{slice_index_or, slice_index, nat_le, Option, Some, None, IfSome, if◌then◌else◌}
-use Rattle.std.specs.Int.{from_be_bytes, to_be_bytes, w16}
+use Rattle.std.proofs.Common.{◌≡◌, ℕ, zero, suc, ◌+◌, ◌-◌, ◌*◌, ◌%◌, ◌<◌, ◌≤◌, ◌++◌, ◌==◌, [], ◌∷◌, Bool, true, false, List, length, refl, sym, ◌∙◌, ap, subst, arith, inl, inr, min, take, drop, replicate}
+use Rattle.std.specs.Prelude.{slice_index_or, slice_index, nat_le, Option, Some, None, IfSome}
+use Rattle.std.specs.Int.{from_be_bytes, w16}
 use Rattle.std.proofs.lemmas.Nat.{from_be_bytes-to_be_bytes_2}
 use Rattle.std.proofs.lemmas.Bool.{cases_lt, eq-eqb, ne_eqb, le-leb, lt-leb}
 use Rattle.std.proofs.lemmas.List.{get_or_append_left, get_or-append_right, take_at, drop_at, take-append-le}
@@ -10,10 +10,10 @@ use Rattle.flt_config.specs.declared.persist.EventState.{EventState}
 use Rattle.flt_config.specs.declared.persist.EntryState.{EntryState}
 use Rattle.flt_config.specs.Durable.{start_state}
 use Rattle.flt_generation.specs.Form.{be16, note_word, flag, summary_bytes, state_bytes, first_states, padded, entry_bytes}
-use Rattle.flt_generation.specs.Reading.{word_at, note_at, untaken_entry, with_summary, state_from, frame_at, entry_from}
+use Rattle.flt_generation.specs.Reading.{word_at, note_at, untaken_entry, with_summary, state_from, entry_from}
 use Rattle.flt_generation.proofs.Choices.{chosen, not_chosen}
 use Rattle.flt_generation.proofs.States.{first_states_more}
-use Rattle.flt_generation.proofs.Sizes.{state_size, states_size, padded_size}
+use Rattle.flt_generation.proofs.Sizes.{states_size, padded_size}
 
 -- two bytes that are those of a number hold it
 pub word_of : (n : ℕ) (held : List ℕ) (at : ℕ) → n < 65536 → slice_index held at ≡ slice_index (be16 n) 0 → slice_index held (at + 1) ≡ slice_index (be16 n) 1 → word_at held at ≡ n
@@ -94,7 +94,7 @@ byte_of_state states first (suc count) place j at below small is =
     let front = first_states states first count in
     let last = state_bytes (slice_index_or states (first + count) start_state) in
     let more : first_states states first (suc count) ≡ front ++ last =
-        subst (λ (n : ℕ). first_states states first n ≡ front ++ last) (omega arith) (first_states_more states first count) in
+    subst (λ (n : ℕ). first_states states first n ≡ front ++ last) (omega arith) (first_states_more states first count) in
     ap (λ (bytes : List ℕ). slice_index bytes at) more
     ∙ elim (cases_lt place count) [
       | inl before ↦
@@ -133,13 +133,13 @@ entry_read entry event short same =
     let count : min (length first) 32 ≡ length first = omega (arith, short) in
     let size : length (padded first) ≡ 32 = padded_size first short in
     let one : take (min (length first) 32) (padded first ++ padded recent) ≡ first =
-        ap (λ (n : ℕ). take n (padded first ++ padded recent)) count
-        ∙ take-append-le (length first) (padded first) (padded recent) (omega (arith, size, short))
-        ∙ take_at first (replicate (32 - length first) 0) (length first) refl in
+    ap (λ (n : ℕ). take n (padded first ++ padded recent)) count
+    ∙ take-append-le (length first) (padded first) (padded recent) (omega (arith, size, short))
+    ∙ take_at first (replicate (32 - length first) 0) (length first) refl in
     let two : take (min (length first) 32) (drop 32 (padded first ++ padded recent)) ≡ recent =
-        ap (take (min (length first) 32)) (drop_at (padded first) (padded recent) 32 size)
-        ∙ ap (λ (n : ℕ). take n (padded recent)) (count ∙ sym same)
-        ∙ take_at recent (replicate (32 - length recent) 0) (length recent) refl in
+    ap (take (min (length first) 32)) (drop_at (padded first) (padded recent) 32 size)
+    ∙ ap (λ (n : ℕ). take n (padded recent)) (count ∙ sym same)
+    ∙ take_at recent (replicate (32 - length recent) 0) (length recent) refl in
     λ i. record {
       event = from_be_bytes-to_be_bytes_2 entry.event (omega (arith, event)) i;
       occurrence = entry.occurrence;

@@ -1,15 +1,15 @@
 -- The tests of a part, and what they say.
-use Rattle.std.proofs.Common.{inl, inr, ◌≡◌, ℕ, ◌+◌, ◌^◌, ◌<◌, ◌≤◌, ◌==◌, Bool, true, false, not, ◌&&◌, List, length, refl, sym, ◌∙◌, ap, subst, Option, Some, None, arith}
-use Rattle.std.specs.Prelude.{IsTrue, IsFalse, IsBitSet, bit_and, nat_le, nat_lt, if◌then◌else◌, slice_get, slice_index_or, IfSome, ◌↔◌}
-use Rattle.std.proofs.lemmas.Bool.{and_parts, and_from, leb-true, le-leb, ltb-true, lt-ltb, le-ltb, eqb-true, eqb-false, eq-eqb, ne_eqb, not-true, not-false, not_from_false, false_from_ne_true, cases_lt}
+use Rattle.std.proofs.Common.{inl, inr, ◌≡◌, ℕ, ◌^◌, ◌<◌, Bool, true, false, not, ◌&&◌, List, length, refl, sym, ◌∙◌, ap, subst, Option, Some, None, arith}
+use Rattle.std.specs.Prelude.{IsTrue, IsBitSet, bit_and, nat_lt, if◌then◌else◌, slice_get, slice_index_or, ◌↔◌}
+use Rattle.std.proofs.lemmas.Bool.{and_parts, and_from, leb-true, le-leb, ltb-true, lt-ltb, eqb-true, eqb-false, eq-eqb, ne_eqb, not-true, not-false, not_from_false, false_from_ne_true}
 use Rattle.flt_config.specs.declared.config.EventCfg.{EventCfg}
 use Rattle.flt_config.specs.declared.persist.EventState.{EventState}
 use Rattle.flt_config.specs.declared.persist.EntryState.{EntryState}
 use Rattle.flt_config.specs.Ranges.{frame_width}
-use Rattle.flt_config.specs.Durable.{IsStateOf, IsEntryOf, IsNoted, start_state}
+use Rattle.flt_config.specs.Durable.{IsStateOf, IsEntryOf, IsNoted}
 use Rattle.std.proofs.lemmas.Option.{slice_get_cases, get_or_from_slice_get}
 use Rattle.flt_generation.specs.Fit.{has_bit, state_fits, note_fits, entry_fits_at}
-use Rattle.flt_generation.proofs.Choices.{chosen, not_chosen}
+use Rattle.flt_generation.proofs.Choices.{chosen}
 
 bit_is : (status k worth : ℕ) → worth ≡ 2 ^ k → has_bit status worth ≡ true → IsBitSet status k
 bit_is status k worth is set = λ none. eqb-false (bit_and status worth) 0 (not-true _ set) (ap (bit_and status) is ∙ none)
@@ -42,6 +42,7 @@ state_by_test event state fits =
   where
     bit : ℕ → Bool
     bit worth = has_bit state.status worth
+
     warns : (lit short : Bool) → state.lit ≡ lit → nat_lt state.clean event.heal ≡ short
         → (if lit && short then has_bit state.status 128 else not (has_bit state.status 128)) ≡ true
         → IsBitSet state.status 7 ↔ (IsTrue state.lit × (state.clean < event.heal))
@@ -69,6 +70,7 @@ test_of_state event state is =
     warning true true lit short = bit_set state.status 7 128 refl (is.warning.1 (lit, ltb-true state.clean event.heal short))
     warning true false lit short = bit_clear state.status 7 128 refl (λ set. let yes = lt-ltb state.clean event.heal (is.warning.0 set).1 in absurd (cc))
     warning false short lit _ = bit_clear state.status 7 128 refl (λ set. let yes = (is.warning.0 set).0 in absurd (cc))
+
     lights : (lit : Bool) → state.lit ≡ lit → (if lit then has_bit state.status 8 && event.indicator else true) ≡ true
     lights true lit = and_from (has_bit state.status 8) event.indicator (bit_set state.status 3 8 refl (is.lit lit).0) (is.lit lit).1
     lights false lit = refl

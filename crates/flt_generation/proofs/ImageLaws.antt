@@ -1,17 +1,15 @@
 -- The laws of stored generations.
-use Rattle.std.proofs.Common.{◌≡◌, ℕ, ◌+◌, ◌-◌, ◌*◌, ◌/◌, ◌<◌, ◌≤◌, List, length, refl, sym, ◌∙◌, ap, subst, arith, replicate, get_or}
-use Rattle.std.specs.Prelude.{Option, Some, Result, Ok, IsTrue, slice_index}
+use Rattle.std.proofs.Common.{◌≡◌, ℕ, ◌+◌, ◌-◌, ◌*◌, ◌/◌, ◌<◌, ◌≤◌, refl, sym, ◌∙◌, ap, arith, replicate}
+use Rattle.std.specs.Prelude.{Ok, IsTrue, slice_index}
 use Rattle.std.proofs.lemmas.Bool.{and_parts, leb-true, ltb-true}
 use Rattle.std.proofs.lemmas.List.{get_or-replicate}
 use Rattle.flt_flash.specs.Content.{Content, bytes}
 use Rattle.flt_config.specs.declared.config.Config.{Config}
-use Rattle.flt_config.specs.declared.config.EventCfg.{EventCfg}
 use Rattle.flt_config.specs.declared.persist.Persist.{Persist}
-use Rattle.flt_config.specs.Durable.{Fits}
 use Rattle.flt_generation.specs.declared.commit.Commit.{Commit}
-use Rattle.flt_generation.specs.Layout.{number_of, is_used, index_in, first_commit, second_commit}
+use Rattle.flt_generation.specs.Layout.{is_used, first_commit, second_commit}
 use Rattle.flt_generation.specs.Form.{IsMark, mark_of, block_bytes}
-use Rattle.flt_generation.specs.Holding.{Fault, parts_read, BlocksHold, either_copy, only_bytes}
+use Rattle.flt_generation.specs.Holding.{parts_read, BlocksHold, either_copy, only_bytes}
 use Rattle.flt_generation.specs.Laws.{IsGiven, MarksAreRead, CommitsAreRead, PartsAreTaken, BlocksDetermineState, HeldStands, SpareStands}
 use Rattle.flt_generation.proofs.Marks.{read_mark, mark_read}
 use Rattle.flt_generation.proofs.Commits.{read_commit, commit_read}
@@ -67,11 +65,13 @@ blocks_determine_state c given first second fits_first fits_second same =
     cc
 
 pub held_stands : HeldStands
-held_stands c given value g =
-    (held_holds c value (either_copy (value first_commit) (value second_commit)) g given.valid.memory.1,
-    holds_held c value (either_copy (value first_commit) (value second_commit)) g (sizes_of c given) (own_mark c given))
+held_stands c given value g = (
+  held_holds c value (either_copy (value first_commit) (value second_commit)) g given.valid.memory.1,
+  holds_held c value (either_copy (value first_commit) (value second_commit)) g (sizes_of c given) (own_mark c given),
+)
 
 pub spare_stands : SpareStands
-spare_stands c given value g =
-    (held_holds c value (only_bytes (value second_commit)) g given.valid.memory.1,
-    holds_held c value (only_bytes (value second_commit)) g (sizes_of c given) (own_mark c given))
+spare_stands c given value g = (
+  held_holds c value (only_bytes (value second_commit)) g given.valid.memory.1,
+  holds_held c value (only_bytes (value second_commit)) g (sizes_of c given) (own_mark c given),
+)

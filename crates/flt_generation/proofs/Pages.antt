@@ -2,20 +2,20 @@
 use Rattle.std.proofs.Common.{◌≡◌, ℕ, zero, suc, ◌+◌, ◌-◌, ◌*◌, ◌/◌, ◌%◌, ◌<◌, ◌≤◌, ◌==◌, ◌&&◌, ◌++◌, [], ◌∷◌, Bool, true, false, List, length, refl, sym, ◌∙◌, ap, subst, arith, inl, inr, min, zero-add}
 use Rattle.std.specs.Prelude.{◌||◌, max, nat_lt, nat_le, if◌then◌else◌, map, flat_map, sum_by}
 use Rattle.std.specs.List.{range_with_len}
-use Rattle.std.proofs.lemmas.Bool.{cases_lt, cases_Bool, and_right, and_left, or_from, eq-eqb, ne_eqb, le-leb, lt-leb, lt-ltb, le-ltb}
+use Rattle.std.proofs.lemmas.Bool.{cases_lt, and_right, and_left, or_from, eq-eqb, ne_eqb, le-leb, lt-leb, lt-ltb, le-ltb}
 use Rattle.std.proofs.lemmas.List.Sums.{sum_by-append}
 use Rattle.flt_flash.specs.Content.{Content}
 use Rattle.flt_flash.specs.Blocks.{pages_of, record_pages}
 use Rattle.flt_config.specs.declared.config.Config.{Config}
 use Rattle.flt_config.specs.Validity.{state_blocks, needed_pages}
 use Rattle.flt_generation.specs.declared.part.Part.{Part}
-use Rattle.flt_generation.specs.declared.part.Part.TheVariants.{Summary, States, Entry}
+use Rattle.flt_generation.specs.declared.part.Part.TheVariants.{States, Entry}
 use Rattle.flt_generation.specs.Layout.{numbers, number_of, both_indices, application_number, part_of, has_part, is_used}
 use Rattle.flt_generation.specs.Form.{part_length}
-use Rattle.flt_generation.specs.Excess.{is_own_part, is_own_application, own_pages, excess, IsBorne}
+use Rattle.flt_generation.specs.Excess.{is_own_part, is_own_application, own_pages, IsBorne}
 use Rattle.flt_generation.specs.Laws.{IsGiven}
 use Rattle.flt_generation.proofs.Choices.{chosen, not_chosen}
-use Rattle.flt_generation.proofs.Steps.{Kind, is_summary, are_states, is_entry, kind_of}
+use Rattle.flt_generation.proofs.Steps.{is_summary, are_states, is_entry, kind_of}
 
 -- the sum of one more in front
 sum_more : {X : Type 0} (f : X → ℕ) (x : X) (xs : List X) → sum_by f (x ∷ xs) ≡ f x + sum_by f xs
@@ -35,6 +35,7 @@ below_sum f weight times nothing zero first (suc count) each =
   where
     start : f first ≡ (if nat_lt 0 0 then weight else 0)
     start = let at : first + 0 ≡ first = omega arith in subst (λ (n : ℕ). f n ≡ (if nat_lt 0 0 then weight else 0)) at (each 0 (omega arith))
+
     shifted : (k : ℕ) → k < count → f (first + 1 + k) ≡ (if nat_lt k 0 then weight else 0)
     shifted k below =
         let at : first + (k + 1) ≡ first + 1 + k = omega arith in
@@ -49,6 +50,7 @@ below_sum f weight times nothing (suc bound) first (suc count) each =
   where
     start : f first ≡ (if nat_lt 0 (suc bound) then weight else 0)
     start = let at : first + 0 ≡ first = omega arith in subst (λ (n : ℕ). f n ≡ (if nat_lt 0 (suc bound) then weight else 0)) at (each 0 (omega arith))
+
     shifted : (k : ℕ) → k < count → f (first + 1 + k) ≡ (if nat_lt k bound then weight else 0)
     shifted k below =
         let at : first + (k + 1) ≡ first + 1 + k = omega arith in
@@ -97,6 +99,7 @@ add_up whole left right mark pairs three rest states entries s m b a1 a2 a3 a4 a
 module _ (c : Config) where
   abbrev for_application : ℕ → ℕ
   for_application number = if is_own_application c number then record_pages 32 else 0
+
   abbrev for_part : ℕ → ℕ
   for_part number = if is_own_part c number then record_pages (part_length (part_of (number / 8))) else for_application number
 
@@ -121,11 +124,11 @@ module _ (c : Config) where
       let number = number_of id index in
       let at : number / 8 ≡ id = omega (arith, small) in
       let own : is_own_part c number ≡ has_part c (part_of id) =
-          ap (λ (n : ℕ). is_used c n && nat_le (number % 8) 1) at ∙ ap (λ (b : Bool). is_used c id && b) (le-leb (number % 8) 1 (omega (arith, small)))
-          ∙ and_true (is_used c id) ∙ used_is id low high in
+      ap (λ (n : ℕ). is_used c n && nat_le (number % 8) 1) at ∙ ap (λ (b : Bool). is_used c id && b) (le-leb (number % 8) 1 (omega (arith, small)))
+      ∙ and_true (is_used c id) ∙ used_is id low high in
       let no_application : is_own_application c number ≡ false =
-          and_left ((number % 8 == 0) && nat_le 64 (number / 8)) (nat_lt (number / 8) (64 + c.blocks))
-          (and_right (number % 8 == 0) (nat_le 64 (number / 8)) (lt-leb 64 (number / 8) (omega (arith, at, high)))) in
+      and_left ((number % 8 == 0) && nat_le 64 (number / 8)) (nat_lt (number / 8) (64 + c.blocks))
+      (and_right (number % 8 == 0) (nat_le 64 (number / 8)) (lt-leb 64 (number / 8) (omega (arith, at, high)))) in
       of_other number (omega (arith, low))
       ∙ ap (λ (b : Bool). if b then record_pages (part_length (part_of (number / 8))) else for_application number) own
       ∙ ap (λ (n : ℕ). if has_part c (part_of id) then record_pages (part_length (part_of n)) else for_application number) at
@@ -175,16 +178,16 @@ module _ (c : Config) where
       let number = application_number (0 + k) in
       let at : number / 8 ≡ 64 + k = omega arith in
       let no_part : is_own_part c number ≡ false =
-          and_left (is_used c (number / 8)) (nat_le (number % 8) 1)
-          (and_left (nat_le 3 (number / 8) && nat_lt (number / 8) 24) (has_part c (part_of (number / 8)))
-          (and_right (nat_le 3 (number / 8)) (nat_lt (number / 8) 24) (le-ltb (number / 8) 24 (omega (arith, at))))) in
+      and_left (is_used c (number / 8)) (nat_le (number % 8) 1)
+      (and_left (nat_le 3 (number / 8) && nat_lt (number / 8) 24) (has_part c (part_of (number / 8)))
+      (and_right (nat_le 3 (number / 8)) (nat_lt (number / 8) 24) (le-ltb (number / 8) 24 (omega (arith, at))))) in
       let own : is_own_application c number ≡ nat_lt k c.blocks =
-          ap (λ (b : Bool). b && nat_le 64 (number / 8) && nat_lt (number / 8) (64 + c.blocks)) (eq-eqb (number % 8) 0 (omega arith))
-          ∙ ap (λ (b : Bool). true && b && nat_lt (number / 8) (64 + c.blocks)) (le-leb 64 (number / 8) (omega (arith, at)))
-          ∙ elim (cases_lt k c.blocks) [
-            | inl within ↦ lt-ltb (number / 8) (64 + c.blocks) (omega (arith, at, within)) ∙ sym (lt-ltb k c.blocks within)
-            | inr past ↦ le-ltb (number / 8) (64 + c.blocks) (omega (arith, at, past)) ∙ sym (le-ltb k c.blocks past)
-          ] in
+      ap (λ (b : Bool). b && nat_le 64 (number / 8) && nat_lt (number / 8) (64 + c.blocks)) (eq-eqb (number % 8) 0 (omega arith))
+      ∙ ap (λ (b : Bool). true && b && nat_lt (number / 8) (64 + c.blocks)) (le-leb 64 (number / 8) (omega (arith, at)))
+      ∙ elim (cases_lt k c.blocks) [
+        | inl within ↦ lt-ltb (number / 8) (64 + c.blocks) (omega (arith, at, within)) ∙ sym (lt-ltb k c.blocks within)
+        | inr past ↦ le-ltb (number / 8) (64 + c.blocks) (omega (arith, at, past)) ∙ sym (le-ltb k c.blocks past)
+      ] in
       of_other number (omega arith)
       ∙ not_chosen (is_own_part c number) (record_pages (part_length (part_of (number / 8)))) (for_application number) no_part
       ∙ ap (λ (b : Bool). if b then 3 else 0) own

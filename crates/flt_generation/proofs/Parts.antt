@@ -1,23 +1,20 @@
 -- Which parts fit, by their tests: beside the rest of any state with one state for each event.
-use Rattle.std.proofs.Common.{◌≡◌, ◌≢◌, ◌⊎◌, ℕ, zero, suc, ◌+◌, ◌-◌, ◌*◌, ◌<◌, ◌≤◌, ◌++◌, ◌==◌, [], ◌∷◌, Bool, true, false, not, ◌&&◌, List, length, refl, sym, ◌∙◌, ap, subst, arith, inl, inr, take, drop, set, get_or, position, eqb}
-use Rattle.std.specs.Prelude.{slice_index_or, slice_get, Option, Some, None, IsTrue, nat_le, is_none, All, AllPairs}
-use Rattle.std.proofs.lemmas.Bool.{cases_lt, and_parts, and_from, leb-true, le-leb, eqb-true, eqb-false, ne_eqb}
-use Rattle.std.proofs.lemmas.List.{get_or_default, get_or_past, take-set, drop-set-lt, get_or-take, get_or-drop}
-use Rattle.std.proofs.lemmas.Option.{slice_get-get_or, slice_get_past, slice_get_cases, get_or_from_slice_get}
+use Rattle.std.proofs.Common.{◌≡◌, ◌⊎◌, ℕ, zero, suc, ◌+◌, ◌-◌, ◌<◌, ◌≤◌, [], ◌∷◌, true, List, length, refl, sym, ◌∙◌, subst, arith, inl, inr}
+use Rattle.std.specs.Prelude.{slice_index_or, slice_get, Option, All}
+use Rattle.std.proofs.lemmas.Bool.{cases_lt}
+use Rattle.std.proofs.lemmas.List.{get_or_default, get_or_past}
+use Rattle.std.proofs.lemmas.Option.{slice_get-get_or, slice_get_cases, get_or_from_slice_get}
 use Rattle.flt_config.specs.declared.config.Config.{Config}
 use Rattle.flt_config.specs.declared.config.EventCfg.{EventCfg}
 use Rattle.flt_config.specs.declared.persist.Persist.{Persist}
 use Rattle.flt_config.specs.declared.persist.EventState.{EventState}
 use Rattle.flt_config.specs.declared.persist.EntryState.{EntryState}
-use Rattle.flt_config.specs.Durable.{Fits, AreStatesOf, IsStateOf, IsEntryOf, IsNoted, IsOfOtherEvent, start_state, initial_state, is_of_event}
-use Rattle.flt_config.specs.Validity.{IsValid}
-use Rattle.flt_config.proofs.DistinctLemmas.{position-None}
-use Rattle.flt_generation.specs.Form.{first_states, states_bytes}
-use Rattle.flt_generation.specs.Fit.{state_fits, state_fits_at, states_fit, entry_fits_at, is_alone, place_fits, note_fits, summary_fits}
-use Rattle.flt_generation.specs.Reading.{with_states, untaken_entry}
+use Rattle.flt_config.specs.Durable.{Fits, AreStatesOf, IsStateOf, IsEntryOf, start_state}
+use Rattle.flt_generation.specs.Fit.{state_fits_at, states_fit}
+use Rattle.flt_generation.specs.Reading.{with_states}
 use Rattle.flt_generation.proofs.Choices.{all_at, all_from}
-use Rattle.flt_generation.proofs.Fitting.{state_by_test, test_of_state, noted_by_test, test_of_noted, entry_by_test, test_of_entry}
-use Rattle.flt_generation.proofs.States.{state_set, state_kept, length-with_states, same_block, same_states, pass_together}
+use Rattle.flt_generation.proofs.Fitting.{state_by_test, test_of_state}
+use Rattle.flt_generation.proofs.States.{state_kept, length-with_states}
 
 -- states that fit pass, in each block
 pub states_pass : (events : List EventCfg) (states : List EventState) (first count : ℕ) → AreStatesOf events states → states_fit events states first count ≡ true
@@ -42,8 +39,8 @@ pub state_passes : (events : List EventCfg) (states : List EventState) (first co
 unfolding states_fit
 state_passes events states first count fits place below event within =
     let passes : state_fits_at (slice_get events (first + place)) (slice_index_or states (first + place) start_state) ≡ true =
-        subst (λ (n : ℕ). state_fits_at (slice_get events (first + n)) (slice_index_or states (first + n) start_state) ≡ true) (omega arith)
-        (all_at (λ k. state_fits_at (slice_get events (first + k)) (slice_index_or states (first + k) start_state)) 0 count fits place below) in
+    subst (λ (n : ℕ). state_fits_at (slice_get events (first + n)) (slice_index_or states (first + n) start_state) ≡ true) (omega arith)
+    (all_at (λ k. state_fits_at (slice_get events (first + k)) (slice_index_or states (first + k) start_state)) 0 count fits place below) in
     state_by_test (slice_index_or events (first + place) event) (slice_index_or states (first + place) start_state)
     (subst (λ (o : Option EventCfg). state_fits_at o (slice_index_or states (first + place) start_state) ≡ true) (slice_get-get_or events (first + place) event within) passes)
 
@@ -54,8 +51,10 @@ set_states_fit events held first states are fits = record { one_each = length-wi
   where
     after : List EventState
     after = with_states held first 16 states
+
     outside : (k : ℕ) (event : EventCfg) (state : EventState) → k < length events → (k < first) ⊎ (first + 16 ≤ k) → IsStateOf (slice_index_or events k event) (slice_index_or after k state)
     outside k event state below out = subst (λ (s : EventState). IsStateOf (slice_index_or events k event) s) (sym (state_kept held first states 16 k state out)) (are.fitting k event state below)
+
     inside : (k : ℕ) (event : EventCfg) (state : EventState) → k < length events → first ≤ k → k < first + 16 → IsStateOf (slice_index_or events k event) (slice_index_or after k state)
     inside k event state below low high =
         let same : first + (k - first) ≡ k = omega (arith, low) in
@@ -63,6 +62,7 @@ set_states_fit events held first states are fits = record { one_each = length-wi
         subst (λ (s : EventState). IsStateOf (slice_index_or events k event) s) (get_or_default after k start_state state size)
         (subst (λ (n : ℕ). IsStateOf (slice_index_or events n event) (slice_index_or after n start_state)) same
         (state_passes events after first 16 fits (k - first) (omega (arith, low, high)) event (omega (arith, same, below))))
+
     fitting : (k : ℕ) (event : EventCfg) (state : EventState) → k < length events → IsStateOf (slice_index_or events k event) (slice_index_or after k state)
     fitting k event state below = elim (cases_lt k first) [
       | inl low ↦ outside k event state below (inl low)

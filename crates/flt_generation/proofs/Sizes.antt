@@ -1,8 +1,8 @@
 -- How many bytes each part has.
-use Rattle.std.proofs.Common.{◌≡◌, ℕ, zero, suc, ◌+◌, ◌*◌, ◌-◌, ◌<◌, ◌≤◌, ◌++◌, [], ◌∷◌, List, length, refl, sym, ◌∙◌, ap, subst, arith, inl, inr, length-append, replicate, min, take, drop, set}
+use Rattle.std.proofs.Common.{◌≡◌, ℕ, zero, suc, ◌+◌, ◌*◌, ◌-◌, ◌<◌, ◌≤◌, ◌++◌, List, length, refl, ◌∙◌, ap, subst, arith, inl, inr, length-append, replicate, min, drop, set}
 use Rattle.std.specs.Prelude.{slice_index_or, slice_index, slice_get, Option, Some, None, bytes_eq, true, false}
 use Rattle.std.proofs.lemmas.Bool.{cases_lt, false_from_ne_true, and_left, and_right, and_from, and_parts}
-use Rattle.std.proofs.lemmas.List.{length-replicate, length-take, set_past, get_or-set_same, length-set}
+use Rattle.std.proofs.lemmas.List.{length-replicate, length-take, get_or-set_same, length-set}
 use Rattle.std.proofs.lemmas.Option.{slice_get-get_or, slice_get_past}
 use Rattle.std.proofs.lemmas.Slice.Eq.{bytes_eq-Decides}
 use Rattle.flt_config.specs.declared.config.Config.{Config}
@@ -32,7 +32,7 @@ states_size states first (suc count) =
     let more : count + 1 ≡ suc count = omega arith in
     let here = slice_index_or states (first + count) start_state in
     let size : length (first_states states first (count + 1)) ≡ length (first_states states first count) + length (state_bytes here) =
-        ap length (first_states_more states first count) ∙ length-append (first_states states first count) (state_bytes here) in
+    ap length (first_states_more states first count) ∙ length-append (first_states states first count) (state_bytes here) in
     subst (λ (n : ℕ). length (first_states states first n) ≡ 4 * n) more (omega (arith, size, state_size here, states_size states first count))
 
 pub padded_size : (frame : List ℕ) → length frame ≤ 32 → length (padded frame) ≡ 32
@@ -45,7 +45,7 @@ pub entry_size : (entry : EntryState) → length entry.first.items ≤ 32 → le
 unfolding entry_bytes
 entry_size entry first recent =
     let parts : length (padded entry.first.items ++ padded entry.recent.items) ≡ 64 =
-        length-append (padded entry.first.items) (padded entry.recent.items) ∙ omega (arith, padded_size entry.first.items first, padded_size entry.recent.items recent) in
+    length-append (padded entry.first.items) (padded entry.recent.items) ∙ omega (arith, padded_size entry.first.items first, padded_size entry.recent.items recent) in
     omega (arith, parts)
 
 pub no_entry_size : length no_entry_bytes ≡ 68

@@ -1,28 +1,27 @@
 -- What the blocks that were read so far say of the state that they gave.
-use Rattle.std.proofs.Common.{◌≡◌, ◌≢◌, ◌⊎◌, ℕ, zero, suc, ◌+◌, ◌-◌, ◌*◌, ◌<◌, ◌≤◌, ◌==◌, ◌&&◌, [], ◌∷◌, Bool, true, false, List, length, refl, sym, ◌∙◌, ap, subst, arith, inl, inr, set, get_or, take, drop, position, length-set, length-take, eqb}
-use Rattle.std.specs.Prelude.{slice_index_or, slice_get, nat_lt, nat_le, is_none, Option, Some, None, Result, Ok, Err, IsTrue, IsFalse, All, AllPairs}
-use Rattle.std.proofs.lemmas.Bool.{cases_lt, cases_eq, cases_Bool, and_parts, and_from, leb-true, le-leb, lt-ltb, ltb-true, eqb-false, eq-eqb}
-use Rattle.std.proofs.lemmas.List.{get_or-set_same, get_or-set_other, get_or_default, get_or-take, length-replicate, get_or-replicate}
+use Rattle.std.proofs.Common.{◌≡◌, ℕ, zero, suc, ◌+◌, ◌-◌, ◌*◌, ◌<◌, ◌≤◌, ◌==◌, ◌&&◌, true, false, List, length, refl, sym, ◌∙◌, ap, subst, arith, inl, inr, set, take, drop, position, length-set, length-take}
+use Rattle.std.specs.Prelude.{slice_index_or, slice_get, nat_lt, nat_le, is_none, Option, Some, None, Ok, IsTrue}
+use Rattle.std.proofs.lemmas.Bool.{cases_lt, cases_eq, cases_Bool, and_parts, and_from, leb-true, le-leb, lt-ltb, ltb-true, eqb-false}
+use Rattle.std.proofs.lemmas.List.{get_or-set_same, get_or-set_other, get_or-take, length-replicate, get_or-replicate}
 use Rattle.flt_flash.specs.Content.{Content, bytes}
 use Rattle.flt_config.specs.declared.config.Config.{Config}
 use Rattle.flt_config.specs.declared.config.EventCfg.{EventCfg}
 use Rattle.flt_config.specs.declared.persist.Persist.{Persist}
 use Rattle.flt_config.specs.declared.persist.EntryState.{EntryState}
 use Rattle.flt_config.specs.Durable.{Fits, AreStatesOf, IsStateOf, IsEntryOf, IsOfOtherEvent, initial_state, is_of_event, start_state}
-use Rattle.flt_config.specs.Validity.{IsValid}
 use Rattle.flt_config.proofs.DistinctLemmas.{position-None}
 use Rattle.flt_generation.specs.declared.commit.Commit.{Commit}
 use Rattle.flt_generation.specs.declared.part.Part.{Part}
 use Rattle.flt_generation.specs.declared.part.Part.TheVariants.{Summary, States, Entry}
 use Rattle.flt_generation.specs.Layout.{number_of, part_of, has_part, is_used, index_in}
-use Rattle.flt_generation.specs.Form.{part_bytes, block_bytes}
+use Rattle.flt_generation.specs.Form.{part_bytes}
 use Rattle.flt_generation.specs.Fit.{states_fit, entry_fits_at, is_alone, place_fits, note_fits, summary_fits, part_fits}
-use Rattle.flt_generation.specs.Reading.{with_part, with_summary, entry_from, with_states, taken, if_holds}
-use Rattle.flt_generation.specs.Holding.{Fault, ◌>>=◌, with_named, parts_read, BlocksHold}
+use Rattle.flt_generation.specs.Reading.{with_part, with_summary, entry_from, with_states, taken}
+use Rattle.flt_generation.specs.Holding.{with_named, parts_read, BlocksHold}
 use Rattle.flt_generation.proofs.Fitting.{entry_by_test, noted_by_test}
 use Rattle.flt_generation.proofs.Parts.{set_states_fit}
 use Rattle.flt_generation.proofs.Sizes.{taken_holds, set_here}
-use Rattle.flt_generation.proofs.Steps.{Gave, gave, both_ok, Kind, is_summary, are_states, is_entry, kind_of, bytes_kept}
+use Rattle.flt_generation.proofs.Steps.{gave, both_ok, is_summary, are_states, is_entry, kind_of, bytes_kept}
 
 -- a used block, by its part
 pub used_from : (c : Config) (id : ℕ) → 3 ≤ id → id < 24 → has_part c (part_of id) ≡ true → IsTrue (is_used c id)
@@ -122,23 +121,28 @@ module _ (c : Config) (value : ℕ → Content) (commit : Commit) (count : ℕ) 
     where
       e : EntryState
       e = entry_from held
+
       after : List EntryState
       after = set p.entries.items place e
+
       passes : place < length p.entries.items → (entry_fits_at (slice_get c.events.items e.event) e && is_alone after place e.event) ≡ true
       passes within = subst (λ (o : Option EntryState). place_fits c.events.items after place o ≡ true) (set_here p.entries.items place e within) fits
+
       here : (d : EntryState) → place < length p.entries.items → IsEntryOf c.events.items (slice_index_or after place d)
       here d within = subst (IsEntryOf c.events.items) (sym (get_or-set_same p.entries.items place e d within)) (entry_by_test c.events.items e (and_parts (entry_fits_at (slice_get c.events.items e.event) e) (is_alone after place e.event) (passes within)).0)
+
       none_before : place < length p.entries.items → position (is_of_event e.event) (take place after) ≡ None
       none_before within =
           let one : is_alone after place e.event ≡ true = (and_parts (entry_fits_at (slice_get c.events.items e.event) e) (is_alone after place e.event) (passes within)).1 in
           none_from (position (is_of_event e.event) (take place after))
           (and_parts (is_none (position (is_of_event e.event) (take place after))) (is_none (position (is_of_event e.event) (drop (place + 1) after))) one).0
+
       apart : (i : ℕ) (d : EntryState) → i < place → place < length p.entries.items → (slice_index_or p.entries.items i d).event ≡ e.event → ⊥
       apart i d before within equal =
           let size : i < length (take place after) = omega (arith, length-take place after, length-set p.entries.items place e, before, within) in
           let fails = position-None (is_of_event e.event) (take place after) i d (none_before within) size in
           let at_i : slice_index_or (take place after) i d ≡ slice_index_or p.entries.items i d =
-              get_or-take place after i d before ∙ get_or-set_other p.entries.items place i e d (λ x. omega (arith, x, before)) in
+          get_or-take place after i d before ∙ get_or-set_other p.entries.items place i e d (λ x. omega (arith, x, before)) in
           eqb-false _ _ (sym (ap (λ (x : EntryState). x.event == e.event) at_i) ∙ fails) equal
 
 -- ---- one block more
@@ -147,13 +151,13 @@ module _ (c : Config) (value : ℕ → Content) (commit : Commit) (count : ℕ) 
   finish : (part : Part) → part_of (3 + count) ≡ part → (held : List ℕ) → with_part (part_of (3 + count)) held p ≡ q → held ≡ part_bytes q (part_of (3 + count)) → part_fits c q (part_of (3 + count)) ≡ true
       → value (number_of (3 + count) (index_in commit (3 + count))) ≡ bytes held
       → (part_fits c (with_part part held p) part ≡ true
-        → ((id : ℕ) → 3 ≤ id → id < 3 + (count + 1) → IsTrue (is_used c id) → value (number_of id (index_in commit id)) ≡ bytes (part_bytes (with_part part held p) (part_of id)))
-        → Sofar c value commit (count + 1) (with_part part held p))
+      → ((id : ℕ) → 3 ≤ id → id < 3 + (count + 1) → IsTrue (is_used c id) → value (number_of id (index_in commit id)) ≡ bytes (part_bytes (with_part part held p) (part_of id)))
+      → Sofar c value commit (count + 1) (with_part part held p))
       → Sofar c value commit (count + 1) q
   finish part is held gives same fits content make =
       let gives_part : with_part part held p ≡ q = subst (λ (x : Part). with_part x held p ≡ q) is gives in
       let fits_part : part_fits c (with_part part held p) part ≡ true =
-          subst (λ (r : Persist). part_fits c r part ≡ true) (sym gives_part) (subst (λ (x : Part). part_fits c q x ≡ true) is fits) in
+      subst (λ (r : Persist). part_fits c r part ≡ true) (sym gives_part) (subst (λ (x : Part). part_fits c q x ≡ true) is fits) in
       let all = contents_more c value commit count p known held q gives same content in
       let Contents : Persist → Type 0 = λ r. (id : ℕ) → 3 ≤ id → id < 3 + (count + 1) → IsTrue (is_used c id) → value (number_of id (index_in commit id)) ≡ bytes (part_bytes r (part_of id)) in
       subst (Sofar c value commit (count + 1)) gives_part (make fits_part (subst Contents (sym gives_part) all))
@@ -173,6 +177,7 @@ module _ (c : Config) (value : ℕ → Content) (commit : Commit) (count : ℕ) 
       states_test : (held : List ℕ) → part_fits c (with_part (States (16 * (3 + count - 4))) held p) (States (16 * (3 + count - 4))) ≡ true
           → states_fit c.events.items (with_states held (16 * (3 + count - 4)) 16 p.events.items) (16 * (3 + count - 4)) 16 ≡ true
       states_test held fits = fits
+
       entry_test : (held : List ℕ) → part_fits c (with_part (Entry (3 + count - 8)) held p) (Entry (3 + count - 8)) ≡ true
           → place_fits c.events.items (set p.entries.items (3 + count - 8) (entry_from held)) (3 + count - 8) (slice_get (set p.entries.items (3 + count - 8) (entry_from held)) (3 + count - 8)) ≡ true
       entry_test held fits = fits
@@ -195,6 +200,7 @@ module _ (c : Config) (value : ℕ → Content) (commit : Commit) (count : ℕ) 
         | inl none ↦ absurd (let no = subst (λ (n : ℕ). is_used c (3 + n) ≡ false) none unused in cc)
         | inr other ↦ omega (arith, other)
       ]
+
       earlier : (k : ℕ) → k + 5 < count + 1 → k < length p.entries.items → k + 5 < count
       earlier k before within = elim (cases_eq (k + 5) count) [
         | inr other ↦ omega (arith, other, before)
@@ -205,7 +211,7 @@ module _ (c : Config) (value : ℕ → Content) (commit : Commit) (count : ℕ) 
               let room : k < c.memory = omega (arith, within, room_of c p (known.summary_is some)) in
               let place : 3 + count - 8 ≡ k = omega (arith, here) in
               let has : has_part c (part_of (3 + count)) ≡ true =
-                  subst (λ (x : Part). has_part c x ≡ true) (sym of) (subst (λ (n : ℕ). nat_lt n c.memory ≡ true) (sym place) (lt-ltb k c.memory room)) in
+              subst (λ (x : Part). has_part c x ≡ true) (sym of) (subst (λ (n : ℕ). nat_lt n c.memory ≡ true) (sym place) (lt-ltb k c.memory room)) in
               let yes = used_from c (3 + count) (omega arith) (omega (arith, below)) has in cc)
         ]
       ]

@@ -1,9 +1,9 @@
 -- The states of a block: set in a list of states, and put into bytes.
-use Rattle.std.proofs.Common.{◌≡◌, ◌⊎◌, ℕ, zero, suc, ◌+◌, ◌*◌, ◌<◌, ◌≤◌, ◌++◌, [], ◌∷◌, Bool, true, map, List, length, refl, sym, ◌∙◌, ap, subst, arith, inl, inr, get_or, set, length-set}
-use Rattle.std.specs.Prelude.{slice_index_or, slice_get, Option, Some, None}
-use Rattle.std.specs.List.{concat, range_with_len, list_all}
+use Rattle.std.proofs.Common.{◌≡◌, ◌⊎◌, ℕ, zero, suc, ◌+◌, ◌<◌, ◌≤◌, ◌++◌, [], ◌∷◌, true, map, List, length, refl, sym, ◌∙◌, ap, subst, arith, inl, inr, set, length-set}
+use Rattle.std.specs.Prelude.{slice_index_or, slice_get}
+use Rattle.std.specs.List.{concat, range_with_len}
 use Rattle.std.proofs.lemmas.Bool.{cases_lt, cases_eq}
-use Rattle.std.proofs.lemmas.List.{append-nil, get_or_past, get_or-set_same, get_or-set_other, set_past}
+use Rattle.std.proofs.lemmas.List.{append-nil, get_or_past, get_or-set_same, get_or-set_other}
 use Rattle.std.proofs.lemmas.List.FromFn.{map-range_with_len_more}
 use Rattle.std.proofs.lemmas.List.Folds.{concat-append}
 use Rattle.flt_config.specs.declared.persist.EventState.{EventState}

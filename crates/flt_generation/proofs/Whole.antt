@@ -1,27 +1,27 @@
 -- The blocks of a state that fits are read as that state.
-use Rattle.std.proofs.Common.{◌≡◌, ◌≢◌, ◌⊎◌, ℕ, zero, suc, ◌+◌, ◌-◌, ◌*◌, ◌<◌, ◌≤◌, ◌==◌, ◌&&◌, [], ◌∷◌, Bool, true, false, List, length, refl, sym, ◌∙◌, ap, subst, arith, inl, inr, set, get_or, take, drop, position, replicate, length-set, length-take, length-drop, min}
-use Rattle.std.specs.Prelude.{slice_index_or, slice_get, bytes_eq, nat_lt, nat_le, is_none, Option, Some, None, Result, Ok, Err, IsTrue, IsFalse, IfSome, All, AllPairs}
+use Rattle.std.proofs.Common.{◌≡◌, ℕ, zero, suc, ◌+◌, ◌-◌, ◌*◌, ◌<◌, ◌≤◌, [], ◌∷◌, Bool, true, false, List, length, refl, sym, ◌∙◌, ap, subst, arith, inl, inr, set, take, drop, position, replicate, length-set, length-take, length-drop}
+use Rattle.std.specs.Prelude.{slice_index_or, slice_get, nat_lt, is_none, Option, Some, None, Result, Ok, IfSome}
 use Rattle.std.specs.List.{position_or_len}
-use Rattle.std.proofs.lemmas.Bool.{cases_lt, cases_eq, cases_Bool, and_parts, and_from, leb-true, le-leb, lt-ltb, ltb-true, le-ltb, ne_eqb}
-use Rattle.std.proofs.lemmas.List.{get_or-set_same, get_or-set_other, get_or_default, get_or_past, get_or-take, get_or-drop, set_past, length-replicate, get_or-replicate, take-set, drop-set-lt, same_lists}
+use Rattle.std.proofs.lemmas.Bool.{cases_lt, cases_eq, cases_Bool, and_from, le-leb, lt-ltb, le-ltb, ne_eqb}
+use Rattle.std.proofs.lemmas.List.{get_or-set_same, get_or-set_other, get_or_default, get_or_past, get_or-take, get_or-drop, set_past, length-replicate, get_or-replicate, same_lists}
 use Rattle.std.proofs.lemmas.List.Sums.{position_or_len_is}
-use Rattle.std.proofs.lemmas.Option.{slice_get-get_or, slice_get_past, slice_get_cases}
+use Rattle.std.proofs.lemmas.Option.{slice_get_cases}
 use Rattle.std.proofs.lemmas.Slice.Eq.{bytes_eq-Decides}
-use Rattle.flt_flash.specs.Content.{Content, bytes}
+use Rattle.flt_flash.specs.Content.{Content}
 use Rattle.flt_config.specs.declared.config.Config.{Config}
 use Rattle.flt_config.specs.declared.config.EventCfg.{EventCfg}
 use Rattle.flt_config.specs.declared.persist.Persist.{Persist}
 use Rattle.flt_config.specs.declared.persist.EventState.{EventState}
 use Rattle.flt_config.specs.declared.persist.EntryState.{EntryState}
-use Rattle.flt_config.specs.Durable.{Fits, AreStatesOf, IsStateOf, IsEntryOf, IsNoted, initial_state, is_of_event, start_state}
+use Rattle.flt_config.specs.Durable.{Fits, IsEntryOf, IsNoted, initial_state, is_of_event, start_state}
 use Rattle.flt_config.specs.Ranges.{frame_width}
 use Rattle.flt_generation.specs.declared.commit.Commit.{Commit}
 use Rattle.flt_generation.specs.declared.part.Part.{Part}
 use Rattle.flt_generation.specs.declared.part.Part.TheVariants.{Summary, States, Entry}
 use Rattle.flt_generation.specs.Layout.{number_of, part_of, has_part, is_used, index_in}
-use Rattle.flt_generation.specs.Form.{summary_bytes, states_bytes, entry_bytes, place_bytes, part_bytes, block_bytes}
-use Rattle.flt_generation.specs.Fit.{states_fit, entry_fits_at, is_alone, place_fits, note_fits, summary_fits, part_fits}
-use Rattle.flt_generation.specs.Reading.{with_part, with_summary, entry_from, with_states, state_from, untaken_entry, taken, if_holds}
+use Rattle.flt_generation.specs.Form.{summary_bytes, states_bytes, entry_bytes, place_bytes, part_bytes}
+use Rattle.flt_generation.specs.Fit.{is_alone, place_fits, summary_fits}
+use Rattle.flt_generation.specs.Reading.{with_part, with_summary, entry_from, with_states, untaken_entry, taken, if_holds}
 use Rattle.flt_generation.specs.Holding.{Fault, ◌>>=◌, or_damaged, with_content, with_named, parts_read, BlocksHold}
 use Rattle.flt_generation.proofs.Choices.{chosen, not_chosen}
 use Rattle.flt_generation.proofs.Fitting.{test_of_entry, test_of_noted}
@@ -29,7 +29,7 @@ use Rattle.flt_generation.proofs.States.{state_set, state_kept, length-with_stat
 use Rattle.flt_generation.proofs.Sizes.{accepted, set_here, none_here}
 use Rattle.flt_generation.proofs.Parts.{states_pass, states_short}
 use Rattle.flt_generation.proofs.Decoding.{HasShortSummary, summary_of, summary_read, state_read, entry_read}
-use Rattle.flt_generation.proofs.Steps.{Kind, is_summary, are_states, is_entry, kind_of}
+use Rattle.flt_generation.proofs.Steps.{is_summary, are_states, is_entry, kind_of}
 use Rattle.flt_generation.proofs.Sofar.{used_from}
 
 -- what the calls on a configuration keep of its sizes
@@ -67,7 +67,6 @@ entry_sizes c sizes entry is = elim (slice_get_cases c.events.items entry.event)
 ]
 
 module _ (c : Config) (sizes : HasSizes c) (p : Persist) (fits : Fits c p) where
-
   short : HasShortSummary p
   short = record {
     entries = omega (arith, fits.room, sizes.memory);
@@ -94,8 +93,10 @@ module _ (c : Config) (sizes : HasSizes c) (p : Persist) (fits : Fits c p) where
     where
       count : length (replicate (length p.entries.items) untaken_entry) ≡ length p.entries.items
       count = length-replicate (length p.entries.items) untaken_entry
+
       same : summary_bytes p ≡ summary_bytes (summary_of p q)
       same = sym (bytes_of_summary_of q)
+
       passes : summary_fits c (summary_of p q) ≡ true
       passes =
           and_from _ _ (and_from _ _ (and_from _ _ (and_from _ _ (le-leb _ c.memory (omega (arith, count, fits.room))) (test_of_noted c.events.items p.first_failed fits.first_failed))
@@ -115,6 +116,7 @@ module _ (c : Config) (sizes : HasSizes c) (p : Persist) (fits : Fits c p) where
   module _ (q : Persist) (first : ℕ) (size : length q.events.items ≡ length p.events.items) where
     abbrev own : List ℕ
     own = states_bytes p.events.items first
+
     abbrev after : List EventState
     after = with_states (states_bytes p.events.items first) first 16 q.events.items
 
@@ -161,8 +163,10 @@ module _ (c : Config) (sizes : HasSizes c) (p : Persist) (fits : Fits c p) where
     module _ (entry : EntryState) (within : place < length p.entries.items) (here : slice_index_or p.entries.items place entry ≡ entry) where
       is : IsEntryOf c.events.items entry
       is = subst (IsEntryOf c.events.items) here (fits.entries place entry within)
+
       read : entry_from (entry_bytes entry) ≡ entry
       read = let sized = entry_sizes c sizes entry is in entry_read entry (omega (arith, is.event, sizes.events)) sized.0 sized.1
+
       abbrev after_entry : List EntryState
       after_entry = set q.entries.items place (entry_from (entry_bytes entry))
 
@@ -173,8 +177,8 @@ module _ (c : Config) (sizes : HasSizes c) (p : Persist) (fits : Fits c p) where
       front k d below =
           let size : k < place = omega (arith, below, length-take place after_entry) in
           let known : slice_index_or (take place after_entry) k d ≡ slice_index_or p.entries.items k d =
-              get_or-take place after_entry k d size ∙ get_or-set_other q.entries.items place k (entry_from (entry_bytes entry)) d (λ e. omega (arith, e, size))
-              ∙ agrees.entries_same k d (omega (arith, size, at)) (omega (arith, size, within)) in
+          get_or-take place after_entry k d size ∙ get_or-set_other q.entries.items place k (entry_from (entry_bytes entry)) d (λ e. omega (arith, e, size))
+          ∙ agrees.entries_same k d (omega (arith, size, at)) (omega (arith, size, within)) in
           let other = fits.distinct k place d size within in
           let same_place : slice_index_or p.entries.items place d ≡ entry = get_or_default p.entries.items place d entry within ∙ here in
           ap (is_of_event entry.event) known
@@ -184,8 +188,8 @@ module _ (c : Config) (sizes : HasSizes c) (p : Persist) (fits : Fits c p) where
       back k d below =
           let size : place + 1 + k < length p.entries.items = omega (arith, below, length-drop (place + 1) after_entry, length-set q.entries.items place (entry_from (entry_bytes entry)), same_count) in
           let known : slice_index_or (drop (place + 1) after_entry) k d ≡ untaken_entry =
-              get_or-drop (place + 1) after_entry k d ∙ get_or-set_other q.entries.items place (place + 1 + k) (entry_from (entry_bytes entry)) d (λ e. omega (arith, e))
-              ∙ agrees.untaken (place + 1 + k) d (omega (arith, at)) (omega (arith, at)) size in
+          get_or-drop (place + 1) after_entry k d ∙ get_or-set_other q.entries.items place (place + 1 + k) (entry_from (entry_bytes entry)) d (λ e. omega (arith, e))
+          ∙ agrees.untaken (place + 1 + k) d (omega (arith, at)) (omega (arith, at)) size in
           ap (is_of_event entry.event) known ∙ ne_eqb _ _ (λ equal. omega (arith, equal, is.event, sizes.events))
 
       alone : is_alone after_entry place entry.event ≡ true
@@ -283,26 +287,34 @@ module _ (c : Config) (sizes : HasSizes c) (p : Persist) (fits : Fits c p) where
       → (r : Persist) × (taken c (part_of (3 + count)) (part_bytes p (part_of (3 + count))) q ≡ Some r) × Agrees (count + 1) r p
   block_given count q below agrees = elim (kind_of (3 + count) (omega arith)) [
     | is_summary at of ↦
-        let here : count ≡ 0 = omega (arith, at) in
-        (summary_of p q, of_part Summary (summary_of p q) of (summary_given q),
-        subst (λ (n : ℕ). Agrees (n + 1) (summary_of p q) p) (sym here) (summary_agrees q (subst (λ (n : ℕ). Agrees n q p) here agrees)))
+        let here : count ≡ 0 = omega (arith, at) in (
+          summary_of p q,
+          of_part Summary (summary_of p q) of (summary_given q),
+          subst (λ (n : ℕ). Agrees (n + 1) (summary_of p q) p) (sym here) (summary_agrees q (subst (λ (n : ℕ). Agrees n q p) here agrees)),
+        )
     | are_states low high of ↦
         let first = 16 * (3 + count - 4) in
-        let r = record q { events = record { items = with_states (states_bytes p.events.items first) first 16 q.events.items } } in
-        (r, of_part (States first) r of (states_given q first agrees.states_count),
-        states_agree q first agrees.states_count count (omega (arith, low)) (omega (arith, low)) (omega (arith, high)) agrees)
+        let r = record q { events = record { items = with_states (states_bytes p.events.items first) first 16 q.events.items } } in (
+          r,
+          of_part (States first) r of (states_given q first agrees.states_count),
+          states_agree q first agrees.states_count count (omega (arith, low)) (omega (arith, low)) (omega (arith, high)) agrees,
+        )
     | is_entry low of ↦
         let place = 3 + count - 8 in
         let at : place + 5 ≡ count = omega (arith, low) in
         elim (slice_get_cases p.entries.items place).1 [
           | inl found ↦
-              let r = record q { entries = record { items = set q.entries.items place (entry_from (entry_bytes found.0)) } } in
-              (r, of_part (Entry place) r of
-              (subst (λ (o : Option EntryState). taken c (Entry place) (place_bytes o) q ≡ Some r) (sym found.2) (entry_given q count place at agrees found.0 found.1 found.3)),
-              entry_agrees q count place at agrees found.0 found.1 found.3)
-          | inr past ↦
-              (q, of_part (Entry place) q of (none_given q count place at agrees past.0 (place_bytes (slice_get p.entries.items place)) (ap place_bytes past.1)),
-              none_agrees q count place at agrees past.0)
+              let r = record q { entries = record { items = set q.entries.items place (entry_from (entry_bytes found.0)) } } in (
+                r,
+                of_part (Entry place) r of
+                    (subst (λ (o : Option EntryState). taken c (Entry place) (place_bytes o) q ≡ Some r) (sym found.2) (entry_given q count place at agrees found.0 found.1 found.3)),
+                entry_agrees q count place at agrees found.0 found.1 found.3,
+              )
+          | inr past ↦ (
+            q,
+            of_part (Entry place) q of (none_given q count place at agrees past.0 (place_bytes (slice_get p.entries.items place)) (ap place_bytes past.1)),
+            none_agrees q count place at agrees past.0,
+          )
         ]
   ]
     where
@@ -314,14 +326,18 @@ module _ (c : Config) (sizes : HasSizes c) (p : Persist) (fits : Fits c p) where
     one_given count q below agrees = elim (cases_Bool (is_used c (3 + count))) [
       | inl used ↦
           let given = block_given count q below agrees in
-          let id = 3 + count in
-          (given.0,
-          chosen (is_used c id) (with_content c id (value (number_of id (index_in commit id))) q) (Ok q) used
-          ∙ ap (λ (content : Content). with_content c id content q) (blocks id used)
-          ∙ ap (or_damaged id) given.1, given.2)
-      | inr unused ↦
-          (q, not_chosen (is_used c (3 + count)) (with_content c (3 + count) (value (number_of (3 + count) (index_in commit (3 + count)))) q) (Ok q) unused,
-          unused_agrees count q below unused agrees)
+          let id = 3 + count in (
+            given.0,
+            chosen (is_used c id) (with_content c id (value (number_of id (index_in commit id))) q) (Ok q) used
+                ∙ ap (λ (content : Content). with_content c id content q) (blocks id used)
+                ∙ ap (or_damaged id) given.1,
+            given.2,
+          )
+      | inr unused ↦ (
+        q,
+        not_chosen (is_used c (3 + count)) (with_content c (3 + count) (value (number_of (3 + count) (index_in commit (3 + count)))) q) (Ok q) unused,
+        unused_agrees count q below unused agrees,
+      )
     ]
 
     start_agrees : Agrees 0 (initial_state c) p
@@ -347,10 +363,10 @@ module _ (c : Config) (sizes : HasSizes c) (p : Persist) (fits : Fits c p) where
     all_agree q agrees =
         let s = agrees.summary_same (omega arith) in
         let events = same_lists q.events.items p.events.items agrees.states_count (λ k d below.
-            agrees.states_same k d (omega (arith, below, agrees.states_count, few_states)) (omega (arith, below, agrees.states_count))) in
+        agrees.states_same k d (omega (arith, below, agrees.states_count, few_states)) (omega (arith, below, agrees.states_count))) in
         let count = agrees.entries_count (omega arith) in
         let entries = same_lists q.entries.items p.entries.items count (λ k d below.
-            agrees.entries_same k d (omega (arith, below, count, fits.room, sizes.memory)) (omega (arith, below, count))) in
+        agrees.entries_same k d (omega (arith, below, count, fits.room, sizes.memory)) (omega (arith, below, count))) in
         λ i. record {
           events = record { items = events i };
           entries = record { items = entries i };

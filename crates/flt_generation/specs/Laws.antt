@@ -1,5 +1,5 @@
 -- What the definitions of a stored generation come to.
-use Rattle.std.specs.Prelude.{max, sum_by, ◌≡◌, ◌≢◌, ◌↔◌, ◌⊎◌, ℕ, ◌+◌, ◌≤◌, ◌<◌, ◌^◌, List, length, replicate, slice_index_or, Option, Some, Result, Ok, IsTrue, true}
+use Rattle.std.specs.Prelude.{max, sum_by, ◌≡◌, ◌≢◌, ◌↔◌, ◌⊎◌, ℕ, ◌+◌, ◌≤◌, ◌<◌, ◌^◌, List, length, replicate, slice_index_or, Some, Ok, IsTrue, true}
 use Rattle.flt_flash.specs.Content.{Content}
 use Rattle.flt_flash.specs.Blocks.{pages_of}
 use Rattle.flt_config.specs.declared.config.Config.{Config}
@@ -17,7 +17,7 @@ use Rattle.flt_generation.specs.Form.{IsMark, IsCommit, IsBytesOfMark, IsBytesOf
 use Rattle.flt_generation.specs.Fit.{part_fits}
 use Rattle.flt_generation.specs.Reading.{mark_in, commit_in, untaken_entry, taken}
 use Rattle.flt_generation.specs.Excess.{own_pages, IsBorne}
-use Rattle.flt_generation.specs.Holding.{Generation, Fault, held, spare, IsHeld, IsSpare}
+use Rattle.flt_generation.specs.Holding.{Generation, held, spare, IsHeld, IsSpare}
 
 -- a valid configuration whose numbers are those of its type
 pub record IsGiven (c : Config) : Type 0 where

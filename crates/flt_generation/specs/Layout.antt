@@ -1,5 +1,5 @@
 -- Which blocks an image has, under which numbers of the driver, and which part of a generation each of them holds.
-use Rattle.std.specs.Prelude.{ℕ, ◌+◌, ◌-◌, ◌*◌, ◌≤◌, ◌<◌, Bool, true, ◌==◌, ◌&&◌, nat_lt, nat_le, if◌then◌else◌, List, [], ◌∷◌, ◌++◌, length, map, filter, flat_map, slice_index, Contains}
+use Rattle.std.specs.Prelude.{ℕ, ◌+◌, ◌-◌, ◌*◌, Bool, true, ◌==◌, ◌&&◌, nat_lt, nat_le, if◌then◌else◌, List, [], ◌∷◌, ◌++◌, length, map, filter, flat_map, slice_index}
 use Rattle.std.specs.List.{range_with_len}
 use Rattle.flt_config.specs.declared.config.Config.{Config}
 use Rattle.flt_generation.specs.declared.commit.Commit.{Commit}
