@@ -1,0 +1,77 @@
+-- The laws of stored generations.
+use Rattle.std.proofs.Common.{◌≡◌, ℕ, ◌+◌, ◌-◌, ◌*◌, ◌/◌, ◌<◌, ◌≤◌, refl, sym, ◌∙◌, ap, arith, replicate}
+use Rattle.std.specs.Prelude.{Ok, IsTrue, slice_index}
+use Rattle.std.proofs.lemmas.Bool.{and_parts, leb-true, ltb-true}
+use Rattle.std.proofs.lemmas.List.{get_or-replicate}
+use Rattle.flt_flash.specs.Content.{Content, bytes}
+use Rattle.flt_config.specs.declared.config.Config.{Config}
+use Rattle.flt_config.specs.declared.persist.Persist.{Persist}
+use Rattle.flt_generation.specs.declared.commit.Commit.{Commit}
+use Rattle.flt_generation.specs.Layout.{is_used, first_commit, second_commit}
+use Rattle.flt_generation.specs.Form.{IsMark, mark_of, block_bytes}
+use Rattle.flt_generation.specs.Holding.{parts_read, BlocksHold, either_copy, only_bytes}
+use Rattle.flt_generation.specs.Laws.{IsGiven, MarksAreRead, CommitsAreRead, PartsAreTaken, BlocksDetermineState, HeldStands, SpareStands}
+use Rattle.flt_generation.proofs.Marks.{read_mark, mark_read}
+use Rattle.flt_generation.proofs.Commits.{read_commit, commit_read}
+use Rattle.flt_generation.proofs.Exactly.{taken_as, as_taken}
+use Rattle.flt_generation.proofs.Whole.{HasSizes, whole_read}
+use Rattle.flt_generation.proofs.Bridge.{held_holds, holds_held}
+
+pub marks_are_read : MarksAreRead
+marks_are_read held mark = (read_mark held mark, λ both. mark_read held mark both.0 both.1)
+
+pub commits_are_read : CommitsAreRead
+commits_are_read c held commit = (read_commit c held commit, λ both. commit_read c held commit both.0 both.1)
+
+sizes_of : (c : Config) → IsGiven c → HasSizes c
+sizes_of c given = record {
+  memory = given.valid.memory.1;
+  events = given.events;
+  frames = λ k event below. (given.valid.events k event below).frame;
+}
+
+own_mark : (c : Config) → IsGiven c → IsMark (mark_of c)
+own_mark c given = record {
+  id = given.id;
+  events = omega (arith, given.events);
+  entries = omega (arith, given.valid.memory.1);
+}
+
+pub parts_are_taken : PartsAreTaken
+parts_are_taken c given part held before after one_each = (taken_as c part held before after, as_taken c (sizes_of c given) before after one_each part held)
+
+-- ---- an image made of the blocks of a state
+zeros : Commit
+zeros = record { generation = 1; index = replicate 21 0 }
+
+blocks_of : Persist → ℕ → Content
+blocks_of p number = bytes (block_bytes p (number / 8))
+
+stands : (c : Config) (p q : Persist) → ((id : ℕ) → IsTrue (is_used c id) → block_bytes p id ≡ block_bytes q id) → BlocksHold c (blocks_of p) zeros q
+unfolding zeros blocks_of
+stands c p q same = λ id used.
+    let range = and_parts _ _ (and_parts _ _ used).0 in
+    let low : 3 ≤ id = leb-true 3 id range.0 in
+    let high : id < 24 = ltb-true id 24 range.1 in
+    let index : slice_index (replicate 21 0) (id - 3) ≡ 0 = get_or-replicate 21 (id - 3) 0 0 (omega (arith, low, high)) in
+    let back : (id * 8 + 0) / 8 ≡ id = omega arith in
+    ap (λ (n : ℕ). bytes (block_bytes p ((id * 8 + n) / 8))) index ∙ ap (λ (n : ℕ). bytes (block_bytes p n)) back ∙ ap bytes (same id used)
+
+pub blocks_determine_state : BlocksDetermineState
+blocks_determine_state c given first second fits_first fits_second same =
+    let one : parts_read c (blocks_of first) zeros 21 ≡ Ok first = whole_read c (sizes_of c given) (blocks_of first) zeros first fits_first (stands c first first (λ id used. refl)) in
+    let two : parts_read c (blocks_of first) zeros 21 ≡ Ok second = whole_read c (sizes_of c given) (blocks_of first) zeros second fits_second (stands c first second same) in
+    let both : Ok first ≡ Ok second = sym one ∙ two in
+    cc
+
+pub held_stands : HeldStands
+held_stands c given value g = (
+  held_holds c value (either_copy (value first_commit) (value second_commit)) g given.valid.memory.1,
+  holds_held c value (either_copy (value first_commit) (value second_commit)) g (sizes_of c given) (own_mark c given),
+)
+
+pub spare_stands : SpareStands
+spare_stands c given value g = (
+  held_holds c value (only_bytes (value second_commit)) g given.valid.memory.1,
+  holds_held c value (only_bytes (value second_commit)) g (sizes_of c given) (own_mark c given),
+)

@@ -1,0 +1,15 @@
+pub mod Choices
+pub mod Marks
+pub mod Commits
+pub mod Fitting
+pub mod States
+pub mod Sizes
+pub mod Parts
+pub mod Decoding
+pub mod Steps
+pub mod Sofar
+pub mod Whole
+pub mod Bridge
+pub mod Exactly
+pub mod Pages
+pub mod ImageLaws

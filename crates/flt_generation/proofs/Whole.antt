@@ -1,0 +1,385 @@
+-- The blocks of a state that fits are read as that state.
+use Rattle.std.proofs.Common.{◌≡◌, ℕ, zero, suc, ◌+◌, ◌-◌, ◌*◌, ◌<◌, ◌≤◌, [], ◌∷◌, Bool, true, false, List, length, refl, sym, ◌∙◌, ap, subst, arith, inl, inr, set, take, drop, position, replicate, length-set, length-take, length-drop}
+use Rattle.std.specs.Prelude.{slice_index_or, slice_get, nat_lt, is_none, Option, Some, None, Result, Ok, IfSome}
+use Rattle.std.specs.List.{position_or_len}
+use Rattle.std.proofs.lemmas.Bool.{cases_lt, cases_eq, cases_Bool, and_from, le-leb, lt-ltb, le-ltb, ne_eqb}
+use Rattle.std.proofs.lemmas.List.{get_or-set_same, get_or-set_other, get_or_default, get_or_past, get_or-take, get_or-drop, set_past, length-replicate, get_or-replicate, same_lists}
+use Rattle.std.proofs.lemmas.List.Sums.{position_or_len_is}
+use Rattle.std.proofs.lemmas.Option.{slice_get_cases}
+use Rattle.std.proofs.lemmas.Slice.Eq.{bytes_eq-Decides}
+use Rattle.flt_flash.specs.Content.{Content}
+use Rattle.flt_config.specs.declared.config.Config.{Config}
+use Rattle.flt_config.specs.declared.config.EventCfg.{EventCfg}
+use Rattle.flt_config.specs.declared.persist.Persist.{Persist}
+use Rattle.flt_config.specs.declared.persist.EventState.{EventState}
+use Rattle.flt_config.specs.declared.persist.EntryState.{EntryState}
+use Rattle.flt_config.specs.Durable.{Fits, IsEntryOf, IsNoted, initial_state, is_of_event, start_state}
+use Rattle.flt_config.specs.Ranges.{frame_width}
+use Rattle.flt_generation.specs.declared.commit.Commit.{Commit}
+use Rattle.flt_generation.specs.declared.part.Part.{Part}
+use Rattle.flt_generation.specs.declared.part.Part.TheVariants.{Summary, States, Entry}
+use Rattle.flt_generation.specs.Layout.{number_of, part_of, has_part, is_used, index_in}
+use Rattle.flt_generation.specs.Form.{summary_bytes, states_bytes, entry_bytes, place_bytes, part_bytes}
+use Rattle.flt_generation.specs.Fit.{is_alone, place_fits, summary_fits}
+use Rattle.flt_generation.specs.Reading.{with_part, with_summary, entry_from, with_states, untaken_entry, taken, if_holds}
+use Rattle.flt_generation.specs.Holding.{Fault, ◌>>=◌, or_damaged, with_content, with_named, parts_read, BlocksHold}
+use Rattle.flt_generation.proofs.Choices.{chosen, not_chosen}
+use Rattle.flt_generation.proofs.Fitting.{test_of_entry, test_of_noted}
+use Rattle.flt_generation.proofs.States.{state_set, state_kept, length-with_states, same_states, pass_together}
+use Rattle.flt_generation.proofs.Sizes.{accepted, set_here, none_here}
+use Rattle.flt_generation.proofs.Parts.{states_pass, states_short}
+use Rattle.flt_generation.proofs.Decoding.{HasShortSummary, summary_of, summary_read, state_read, entry_read}
+use Rattle.flt_generation.proofs.Steps.{is_summary, are_states, is_entry, kind_of}
+use Rattle.flt_generation.proofs.Sofar.{used_from}
+
+-- what the calls on a configuration keep of its sizes
+pub record HasSizes (c : Config) : Type 0 where
+  pub memory : c.memory ≤ 16
+  pub events : length c.events.items ≤ 64
+  pub frames : (k : ℕ) (event : EventCfg) → k < length c.events.items → frame_width (slice_index_or c.events.items k event).dids.items ≤ 32
+
+-- no element passes
+none_passes : {X : Type 0} (test : X → Bool) (xs : List X) → ((k : ℕ) (d : X) → k < length xs → test (slice_index_or xs k d) ≡ false) → position test xs ≡ None
+none_passes test [] fails = refl
+none_passes test (x ∷ xs) fails =
+    let end = position_or_len_is test (x ∷ xs) (length (x ∷ xs)) x (omega arith) (λ k below. fails k x below) (λ past. absurd (omega (arith, past))) in
+    not_chosen (nat_lt (position_or_len test (x ∷ xs)) (length (x ∷ xs))) (Some (position_or_len test (x ∷ xs))) None (le-ltb (position_or_len test (x ∷ xs)) (length (x ∷ xs)) (omega (arith, end)))
+
+-- the parts that were read so far are those of a state, and the others are still those of none
+pub record Agrees (count : ℕ) (q p : Persist) : Type 0 where
+  pub summary_same : 0 < count → (q.overflow ≡ p.overflow) × (q.first_failed ≡ p.first_failed) × (q.first_confirmed ≡ p.first_confirmed) × (q.recent_failed ≡ p.recent_failed) × (q.recent_confirmed ≡ p.recent_confirmed)
+  pub entries_count : 0 < count → length q.entries.items ≡ length p.entries.items
+  pub states_count : length q.events.items ≡ length p.events.items
+  pub states_same : (k : ℕ) (d : EventState) → k < 16 * (count - 1) → k < length p.events.items → slice_index_or q.events.items k d ≡ slice_index_or p.events.items k d
+  pub entries_same : (k : ℕ) (d : EntryState) → k + 5 < count → k < length p.entries.items → slice_index_or q.entries.items k d ≡ slice_index_or p.entries.items k d
+  pub untaken : (k : ℕ) (d : EntryState) → 0 < count → count ≤ k + 5 → k < length p.entries.items → slice_index_or q.entries.items k d ≡ untaken_entry
+
+-- a noted event is within two bytes
+pub noted_short_of : (c : Config) → HasSizes c → (note : Option ℕ) → IsNoted c.events.items note → IfSome note (λ event. event < 65535)
+noted_short_of c sizes None is = tt
+noted_short_of c sizes (Some event) is = omega (arith, is, sizes.events)
+
+-- the frames of an entry of a configured event are of one length, and within 32 bytes
+pub entry_sizes : (c : Config) → HasSizes c → (entry : EntryState) → IsEntryOf c.events.items entry → (length entry.first.items ≤ 32) × (length entry.recent.items ≡ length entry.first.items)
+entry_sizes c sizes entry is = elim (slice_get_cases c.events.items entry.event).1 [
+  | inl found ↦ (omega (arith, is.first found.0, sizes.frames entry.event found.0 found.1), is.recent found.0 ∙ sym (is.first found.0))
+  | inr past ↦ absurd (omega (arith, is.event, past.0))
+]
+
+module _ (c : Config) (sizes : HasSizes c) (p : Persist) (fits : Fits c p) where
+  short : HasShortSummary p
+  short = record {
+    entries = omega (arith, fits.room, sizes.memory);
+    first_failed = noted_short_of c sizes p.first_failed fits.first_failed;
+    first_confirmed = noted_short_of c sizes p.first_confirmed fits.first_confirmed;
+    recent_failed = noted_short_of c sizes p.recent_failed fits.recent_failed;
+    recent_confirmed = noted_short_of c sizes p.recent_confirmed fits.recent_confirmed;
+  }
+
+  few_states : length p.events.items ≤ 64
+  few_states = omega (arith, fits.states.one_each, sizes.events)
+
+  -- ---- the summary
+  bytes_of_summary_of : (q : Persist) → summary_bytes (summary_of p q) ≡ summary_bytes p
+  unfolding summary_bytes
+  bytes_of_summary_of q = ap (set (summary_bytes p) 2) (length-replicate (length p.entries.items) untaken_entry)
+
+  summary_given : (q : Persist) → taken c Summary (summary_bytes p) q ≡ Some (summary_of p q)
+  unfolding with_part
+  summary_given q =
+      let read : with_summary (summary_bytes p) q ≡ summary_of p q = summary_read p q short in
+      subst (λ (r : Persist). if_holds c Summary (summary_bytes p) r ≡ Some (summary_of p q)) (sym read)
+      (accepted c Summary (summary_bytes p) (summary_of p q) ((bytes_eq-Decides (summary_bytes p) (summary_bytes (summary_of p q))).1 same) passes)
+    where
+      count : length (replicate (length p.entries.items) untaken_entry) ≡ length p.entries.items
+      count = length-replicate (length p.entries.items) untaken_entry
+
+      same : summary_bytes p ≡ summary_bytes (summary_of p q)
+      same = sym (bytes_of_summary_of q)
+
+      passes : summary_fits c (summary_of p q) ≡ true
+      passes =
+          and_from _ _ (and_from _ _ (and_from _ _ (and_from _ _ (le-leb _ c.memory (omega (arith, count, fits.room))) (test_of_noted c.events.items p.first_failed fits.first_failed))
+          (test_of_noted c.events.items p.first_confirmed fits.first_confirmed)) (test_of_noted c.events.items p.recent_failed fits.recent_failed)) (test_of_noted c.events.items p.recent_confirmed fits.recent_confirmed)
+
+  summary_agrees : (q : Persist) → Agrees 0 q p → Agrees 1 (summary_of p q) p
+  summary_agrees q agrees = record {
+    summary_same = λ _. (refl, refl, refl, refl, refl);
+    entries_count = λ _. length-replicate (length p.entries.items) untaken_entry;
+    states_count = agrees.states_count;
+    states_same = λ k d low within. absurd (omega (arith, low));
+    entries_same = λ k d low within. absurd (omega (arith, low));
+    untaken = λ k d some high within. get_or-replicate (length p.entries.items) k untaken_entry d within;
+  }
+
+  -- ---- the states of sixteen events
+  module _ (q : Persist) (first : ℕ) (size : length q.events.items ≡ length p.events.items) where
+    abbrev own : List ℕ
+    own = states_bytes p.events.items first
+
+    abbrev after : List EventState
+    after = with_states (states_bytes p.events.items first) first 16 q.events.items
+
+    block_same : (place : ℕ) → place < 16 → slice_index_or after (first + place) start_state ≡ slice_index_or p.events.items (first + place) start_state
+    block_same place below = elim (cases_lt (first + place) (length p.events.items)) [
+      | inl within ↦
+          state_set own first q.events.items 16 place start_state below (omega (arith, size, within))
+          ∙ state_read p.events.items first 16 place below (states_short c.events.items p.events.items fits.states (first + place))
+      | inr past ↦
+          get_or_past after (first + place) start_state (omega (arith, length-with_states own first q.events.items 16, size, past))
+          ∙ sym (get_or_past p.events.items (first + place) start_state past)
+    ]
+
+    pub states_given : taken c (States first) own q ≡ Some (record q { events = record { items = after } })
+    unfolding with_part
+    states_given =
+        accepted c (States first) own (with_part (States first) own q)
+        ((bytes_eq-Decides own (states_bytes after first)).1 (same_states p.events.items after first 16 (λ place below. sym (block_same place below))))
+        (pass_together c.events.items p.events.items after first 16 (λ place below. sym (block_same place below)) (states_pass c.events.items p.events.items first 16 fits.states))
+
+    pub states_agree : (count : ℕ) → first ≡ 16 * (count - 1) → 0 < count → count < 5 → Agrees count q p → Agrees (count + 1) (record q { events = record { items = after } }) p
+    states_agree count at some few agrees = record {
+      summary_same = λ _. agrees.summary_same some;
+      entries_count = λ _. agrees.entries_count some;
+      states_count = length-with_states own first q.events.items 16 ∙ size;
+      states_same = λ k d low within. elim (cases_lt k first) [
+        | inl before ↦ state_kept own first q.events.items 16 k d (inl before) ∙ agrees.states_same k d (omega (arith, before, at)) within
+        | inr from ↦
+            let place : first + (k - first) ≡ k = omega (arith, from) in
+            let in_after : k < length after = omega (arith, length-with_states own first q.events.items 16, size, within) in
+            get_or_default after k d start_state in_after
+            ∙ subst (λ (n : ℕ). slice_index_or after n start_state ≡ slice_index_or p.events.items n start_state) place (block_same (k - first) (omega (arith, low, at, from, some)))
+            ∙ get_or_default p.events.items k start_state d within
+      ];
+      entries_same = λ k d low within. absurd (omega (arith, low, few));
+      untaken = λ k d _ from within. agrees.untaken k d some (omega (arith, from)) within;
+    }
+
+  -- ---- an entry
+  module _ (q : Persist) (count place : ℕ) (at : place + 5 ≡ count) (agrees : Agrees count q p) where
+    same_count : length q.entries.items ≡ length p.entries.items
+    same_count = agrees.entries_count (omega (arith, at))
+
+    module _ (entry : EntryState) (within : place < length p.entries.items) (here : slice_index_or p.entries.items place entry ≡ entry) where
+      is : IsEntryOf c.events.items entry
+      is = subst (IsEntryOf c.events.items) here (fits.entries place entry within)
+
+      read : entry_from (entry_bytes entry) ≡ entry
+      read = let sized = entry_sizes c sizes entry is in entry_read entry (omega (arith, is.event, sizes.events)) sized.0 sized.1
+
+      abbrev after_entry : List EntryState
+      after_entry = set q.entries.items place (entry_from (entry_bytes entry))
+
+      found : slice_get after_entry place ≡ Some entry
+      found = set_here q.entries.items place (entry_from (entry_bytes entry)) (omega (arith, same_count, within)) ∙ ap Some read
+
+      front : (k : ℕ) (d : EntryState) → k < length (take place after_entry) → is_of_event entry.event (slice_index_or (take place after_entry) k d) ≡ false
+      front k d below =
+          let size : k < place = omega (arith, below, length-take place after_entry) in
+          let known : slice_index_or (take place after_entry) k d ≡ slice_index_or p.entries.items k d =
+          get_or-take place after_entry k d size ∙ get_or-set_other q.entries.items place k (entry_from (entry_bytes entry)) d (λ e. omega (arith, e, size))
+          ∙ agrees.entries_same k d (omega (arith, size, at)) (omega (arith, size, within)) in
+          let other = fits.distinct k place d size within in
+          let same_place : slice_index_or p.entries.items place d ≡ entry = get_or_default p.entries.items place d entry within ∙ here in
+          ap (is_of_event entry.event) known
+          ∙ ne_eqb _ _ (λ equal. other (equal ∙ sym (ap (λ (x : EntryState). x.event) same_place)))
+
+      back : (k : ℕ) (d : EntryState) → k < length (drop (place + 1) after_entry) → is_of_event entry.event (slice_index_or (drop (place + 1) after_entry) k d) ≡ false
+      back k d below =
+          let size : place + 1 + k < length p.entries.items = omega (arith, below, length-drop (place + 1) after_entry, length-set q.entries.items place (entry_from (entry_bytes entry)), same_count) in
+          let known : slice_index_or (drop (place + 1) after_entry) k d ≡ untaken_entry =
+          get_or-drop (place + 1) after_entry k d ∙ get_or-set_other q.entries.items place (place + 1 + k) (entry_from (entry_bytes entry)) d (λ e. omega (arith, e))
+          ∙ agrees.untaken (place + 1 + k) d (omega (arith, at)) (omega (arith, at)) size in
+          ap (is_of_event entry.event) known ∙ ne_eqb _ _ (λ equal. omega (arith, equal, is.event, sizes.events))
+
+      alone : is_alone after_entry place entry.event ≡ true
+      alone =
+          and_from _ _ (ap is_none (none_passes (is_of_event entry.event) (take place after_entry) front))
+          (ap is_none (none_passes (is_of_event entry.event) (drop (place + 1) after_entry) back))
+
+      pub entry_given : taken c (Entry place) (entry_bytes entry) q ≡ Some (record q { entries = record { items = after_entry } })
+      unfolding with_part
+      entry_given =
+          accepted c (Entry place) (entry_bytes entry) (with_part (Entry place) (entry_bytes entry) q)
+          ((bytes_eq-Decides (entry_bytes entry) (place_bytes (slice_get after_entry place))).1 (sym (ap place_bytes found)))
+          (subst (λ (o : Option EntryState). place_fits c.events.items after_entry place o ≡ true) (sym found)
+          (and_from _ _ (test_of_entry c.events.items entry is) alone))
+
+      pub entry_agrees : Agrees (count + 1) (record q { entries = record { items = after_entry } }) p
+      entry_agrees = record {
+        summary_same = λ _. agrees.summary_same (omega (arith, at));
+        entries_count = λ _. length-set q.entries.items place (entry_from (entry_bytes entry)) ∙ same_count;
+        states_count = agrees.states_count;
+        states_same = λ k d low inside. agrees.states_same k d (omega (arith, inside, few_states, at)) inside;
+        entries_same = λ k d low inside. elim (cases_eq k place) [
+          | inl same ↦
+              ap (λ (n : ℕ). slice_index_or after_entry n d) same
+              ∙ get_or-set_same q.entries.items place (entry_from (entry_bytes entry)) d (omega (arith, same_count, within))
+              ∙ read ∙ sym here ∙ get_or_default p.entries.items place entry d within ∙ ap (λ (n : ℕ). slice_index_or p.entries.items n d) (sym same)
+          | inr other ↦ get_or-set_other q.entries.items place k (entry_from (entry_bytes entry)) d other ∙ agrees.entries_same k d (omega (arith, low, other, at)) inside
+        ];
+        untaken = λ k d some from inside. get_or-set_other q.entries.items place k (entry_from (entry_bytes entry)) d (λ e. omega (arith, e, from, at)) ∙ agrees.untaken k d (omega (arith, at)) (omega (arith, from)) inside;
+      }
+
+    -- no entry stands at the place
+    module _ (past : length p.entries.items ≤ place) where
+      past_q : length q.entries.items ≤ place
+      past_q = omega (arith, same_count, past)
+
+      pub none_given : (held : List ℕ) → held ≡ place_bytes None → taken c (Entry place) held q ≡ Some q
+      unfolding with_part
+      none_given held is =
+          let stays = set_past q.entries.items place (entry_from held) past_q in
+          let none : slice_get (set q.entries.items place (entry_from held)) place ≡ None = none_here q.entries.items place (entry_from held) past_q in
+          accepted c (Entry place) held (with_part (Entry place) held q)
+          ((bytes_eq-Decides held (place_bytes (slice_get (set q.entries.items place (entry_from held)) place))).1 (is ∙ sym (ap place_bytes none)))
+          (ap (λ (o : Option EntryState). place_fits c.events.items (set q.entries.items place (entry_from held)) place o) none)
+          ∙ ap (λ (es : List EntryState). Some (record q { entries = record { items = es } })) stays
+
+      pub none_agrees : Agrees (count + 1) q p
+      none_agrees = record {
+        summary_same = λ _. agrees.summary_same (omega (arith, at));
+        entries_count = λ _. same_count;
+        states_count = agrees.states_count;
+        states_same = λ k d low inside. agrees.states_same k d (omega (arith, inside, few_states, at)) inside;
+        entries_same = λ k d low inside. agrees.entries_same k d (omega (arith, inside, past, at)) inside;
+        untaken = λ k d some from inside. absurd (omega (arith, inside, past, from, at));
+      }
+
+  -- ---- a block that is not used
+  pub unused_agrees : (count : ℕ) (q : Persist) → count < 21 → is_used c (3 + count) ≡ false → Agrees count q p → Agrees (count + 1) q p
+  unused_agrees count q below unused agrees = elim (kind_of (3 + count) (omega arith)) [
+    | is_summary at of ↦ absurd (let here : count ≡ 0 = omega (arith, at) in let no = subst (λ (n : ℕ). is_used c (3 + n) ≡ false) here unused in cc)
+    | are_states low high of ↦
+        let last : length c.events.items ≤ 16 * (3 + count - 4) = elim (cases_lt (16 * (3 + count - 4)) (length c.events.items)) [
+          | inl within ↦ absurd (
+              let has : has_part c (part_of (3 + count)) ≡ true = subst (λ (x : Part). has_part c x ≡ true) (sym of) (lt-ltb (16 * (3 + count - 4)) (length c.events.items) within) in
+              let yes = used_from c (3 + count) (omega arith) (omega (arith, below)) has in cc)
+          | inr past ↦ past
+        ] in
+        record {
+          summary_same = λ _. agrees.summary_same (omega (arith, low));
+          entries_count = λ _. agrees.entries_count (omega (arith, low));
+          states_count = agrees.states_count;
+          states_same = λ k d _ inside. agrees.states_same k d (omega (arith, inside, fits.states.one_each, last, low)) inside;
+          entries_same = λ k d before inside. absurd (omega (arith, before, high));
+          untaken = λ k d some from inside. agrees.untaken k d (omega (arith, low)) (omega (arith, from)) inside;
+        }
+    | is_entry low of ↦
+        let last : c.memory ≤ 3 + count - 8 = elim (cases_lt (3 + count - 8) c.memory) [
+          | inl within ↦ absurd (
+              let has : has_part c (part_of (3 + count)) ≡ true = subst (λ (x : Part). has_part c x ≡ true) (sym of) (lt-ltb (3 + count - 8) c.memory within) in
+              let yes = used_from c (3 + count) (omega arith) (omega (arith, below)) has in cc)
+          | inr past ↦ past
+        ] in
+        record {
+          summary_same = λ _. agrees.summary_same (omega (arith, low));
+          entries_count = λ _. agrees.entries_count (omega (arith, low));
+          states_count = agrees.states_count;
+          states_same = λ k d _ inside. agrees.states_same k d (omega (arith, inside, few_states, low)) inside;
+          entries_same = λ k d before inside. agrees.entries_same k d (omega (arith, inside, fits.room, last, low)) inside;
+          untaken = λ k d some from inside. agrees.untaken k d (omega (arith, low)) (omega (arith, from)) inside;
+        }
+  ]
+
+  -- ---- a block that holds its bytes of the state
+  pub block_given : (count : ℕ) (q : Persist) → count < 21 → Agrees count q p
+      → (r : Persist) × (taken c (part_of (3 + count)) (part_bytes p (part_of (3 + count))) q ≡ Some r) × Agrees (count + 1) r p
+  block_given count q below agrees = elim (kind_of (3 + count) (omega arith)) [
+    | is_summary at of ↦
+        let here : count ≡ 0 = omega (arith, at) in (
+          summary_of p q,
+          of_part Summary (summary_of p q) of (summary_given q),
+          subst (λ (n : ℕ). Agrees (n + 1) (summary_of p q) p) (sym here) (summary_agrees q (subst (λ (n : ℕ). Agrees n q p) here agrees)),
+        )
+    | are_states low high of ↦
+        let first = 16 * (3 + count - 4) in
+        let r = record q { events = record { items = with_states (states_bytes p.events.items first) first 16 q.events.items } } in (
+          r,
+          of_part (States first) r of (states_given q first agrees.states_count),
+          states_agree q first agrees.states_count count (omega (arith, low)) (omega (arith, low)) (omega (arith, high)) agrees,
+        )
+    | is_entry low of ↦
+        let place = 3 + count - 8 in
+        let at : place + 5 ≡ count = omega (arith, low) in
+        elim (slice_get_cases p.entries.items place).1 [
+          | inl found ↦
+              let r = record q { entries = record { items = set q.entries.items place (entry_from (entry_bytes found.0)) } } in (
+                r,
+                of_part (Entry place) r of
+                    (subst (λ (o : Option EntryState). taken c (Entry place) (place_bytes o) q ≡ Some r) (sym found.2) (entry_given q count place at agrees found.0 found.1 found.3)),
+                entry_agrees q count place at agrees found.0 found.1 found.3,
+              )
+          | inr past ↦ (
+            q,
+            of_part (Entry place) q of (none_given q count place at agrees past.0 (place_bytes (slice_get p.entries.items place)) (ap place_bytes past.1)),
+            none_agrees q count place at agrees past.0,
+          )
+        ]
+  ]
+    where
+      of_part : (part : Part) (r : Persist) → part_of (3 + count) ≡ part → taken c part (part_bytes p part) q ≡ Some r → taken c (part_of (3 + count)) (part_bytes p (part_of (3 + count))) q ≡ Some r
+      of_part part r of is = subst (λ (x : Part). taken c x (part_bytes p x) q ≡ Some r) (sym of) is
+
+  module _ (value : ℕ → Content) (commit : Commit) (blocks : BlocksHold c value commit p) where
+    one_given : (count : ℕ) (q : Persist) → count < 21 → Agrees count q p → (r : Persist) × (with_named c value commit (3 + count) q ≡ Ok r) × Agrees (count + 1) r p
+    one_given count q below agrees = elim (cases_Bool (is_used c (3 + count))) [
+      | inl used ↦
+          let given = block_given count q below agrees in
+          let id = 3 + count in (
+            given.0,
+            chosen (is_used c id) (with_content c id (value (number_of id (index_in commit id))) q) (Ok q) used
+                ∙ ap (λ (content : Content). with_content c id content q) (blocks id used)
+                ∙ ap (or_damaged id) given.1,
+            given.2,
+          )
+      | inr unused ↦ (
+        q,
+        not_chosen (is_used c (3 + count)) (with_content c (3 + count) (value (number_of (3 + count) (index_in commit (3 + count)))) q) (Ok q) unused,
+        unused_agrees count q below unused agrees,
+      )
+    ]
+
+    start_agrees : Agrees 0 (initial_state c) p
+    start_agrees = record {
+      summary_same = λ some. absurd (omega (arith, some));
+      entries_count = λ some. absurd (omega (arith, some));
+      states_count = length-replicate (length c.events.items) start_state ∙ sym fits.states.one_each;
+      states_same = λ k d low within. absurd (omega (arith, low));
+      entries_same = λ k d low within. absurd (omega (arith, low));
+      untaken = λ k d some from within. absurd (omega (arith, some));
+    }
+
+    blocks_read : (count : ℕ) → count ≤ 21 → (q : Persist) × (parts_read c value commit count ≡ Ok q) × Agrees count q p
+    unfolding parts_read
+    blocks_read zero most = (initial_state c, refl, start_agrees)
+    blocks_read (suc count) most =
+        let before = blocks_read count (omega (arith, most)) in
+        let given = one_given count before.0 (omega (arith, most)) before.2 in
+        let more : count + 1 ≡ suc count = omega arith in
+        (given.0, ap (λ (r : Result Persist Fault). r >>= with_named c value commit (3 + count)) before.1 ∙ given.1, subst (λ (n : ℕ). Agrees n given.0 p) more given.2)
+
+    all_agree : (q : Persist) → Agrees 21 q p → q ≡ p
+    all_agree q agrees =
+        let s = agrees.summary_same (omega arith) in
+        let events = same_lists q.events.items p.events.items agrees.states_count (λ k d below.
+        agrees.states_same k d (omega (arith, below, agrees.states_count, few_states)) (omega (arith, below, agrees.states_count))) in
+        let count = agrees.entries_count (omega arith) in
+        let entries = same_lists q.entries.items p.entries.items count (λ k d below.
+        agrees.entries_same k d (omega (arith, below, count, fits.room, sizes.memory)) (omega (arith, below, count))) in
+        λ i. record {
+          events = record { items = events i };
+          entries = record { items = entries i };
+          overflow = s.0 i;
+          first_failed = s.1 i;
+          first_confirmed = s.2 i;
+          recent_failed = s.3 i;
+          recent_confirmed = s.4 i;
+        }
+
+    pub all_read : parts_read c value commit 21 ≡ Ok p
+    all_read = let whole = blocks_read 21 (omega arith) in whole.1 ∙ ap Ok (all_agree whole.0 whole.2)
+
+-- the blocks of a state that fits are read as that state
+pub whole_read : (c : Config) → HasSizes c → (value : ℕ → Content) (commit : Commit) (p : Persist) → Fits c p → BlocksHold c value commit p → parts_read c value commit 21 ≡ Ok p
+whole_read c sizes value commit p fits blocks = all_read c sizes p fits value commit blocks

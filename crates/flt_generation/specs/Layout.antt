@@ -1,0 +1,81 @@
+-- Which blocks an image has, under which numbers of the driver, and which part of a generation each of them holds.
+use Rattle.std.specs.Prelude.{ℕ, ◌+◌, ◌-◌, ◌*◌, Bool, true, ◌==◌, ◌&&◌, nat_lt, nat_le, if◌then◌else◌, List, [], ◌∷◌, ◌++◌, length, map, filter, flat_map, slice_index}
+use Rattle.std.specs.List.{range_with_len}
+use Rattle.flt_config.specs.declared.config.Config.{Config}
+use Rattle.flt_generation.specs.declared.commit.Commit.{Commit}
+use Rattle.flt_generation.specs.declared.part.Part.{Part}
+use Rattle.flt_generation.specs.declared.part.Part.TheVariants.{Summary, States, Entry}
+
+-- the identifiers: the mark, the commit, then the parts of a generation from the first up to the end, and the application blocks
+abbrev pub mark_id : ℕ
+mark_id = 1
+
+abbrev pub commit_id : ℕ
+commit_id = 2
+
+abbrev pub first_part : ℕ
+first_part = 3
+
+abbrev pub parts : ℕ
+parts = 21
+
+abbrev pub end_part : ℕ
+end_part = first_part + parts
+
+abbrev pub first_application : ℕ
+first_application = 64
+
+abbrev pub applications : ℕ
+applications = 40
+
+-- the driver's number of a block's copy or index
+abbrev pub number_of : ℕ → ℕ → ℕ
+number_of id index = id * 8 + index
+
+abbrev pub mark_number : ℕ
+mark_number = number_of mark_id 0
+
+abbrev pub first_commit : ℕ
+first_commit = number_of commit_id 0
+
+abbrev pub second_commit : ℕ
+second_commit = number_of commit_id 1
+
+abbrev pub application_number : ℕ → ℕ
+application_number block = number_of (first_application + block) 0
+
+-- the two indices of a part
+abbrev pub both_indices : ℕ → List ℕ
+both_indices id = number_of id 0 ∷ number_of id 1 ∷ []
+
+-- all numbers of the driver, in ascending order
+unfoldable pub numbers : List ℕ
+numbers =
+    (mark_number ∷ first_commit ∷ second_commit ∷ [])
+    ++ flat_map both_indices (range_with_len first_part parts)
+    ++ map application_number (range_with_len 0 applications)
+
+-- the part that a block holds: the summary, the states of sixteen events, an entry
+abbrev pub part_of : ℕ → Part
+part_of id =
+    if id == 3 then Summary
+    else if nat_lt id 8 then States (16 * (id - 4))
+    else Entry (id - 8)
+
+-- a part that each generation of this configuration has
+abbrev pub has_part : Config → Part → Bool
+has_part c Summary = true
+has_part c (States first) = nat_lt first (length c.events.items)
+has_part c (Entry place) = nat_lt place c.memory
+
+-- a block that each generation of this configuration has
+abbrev pub is_used : Config → ℕ → Bool
+is_used c id = nat_le first_part id && nat_lt id end_part && has_part c (part_of id)
+
+-- those blocks, in ascending order
+unfoldable pub used_ids : Config → List ℕ
+used_ids c = filter (is_used c) (range_with_len first_part parts)
+
+-- the index at which a commit names a block
+abbrev pub index_in : Commit → ℕ → ℕ
+index_in commit id = slice_index commit.index (id - first_part)

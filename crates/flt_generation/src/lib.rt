@@ -1,0 +1,19 @@
+//! What the blocks of an image say of saved generations: definitions, over any map from a driver's numbers to contents.
+//!
+//! It stands on `flt_config`, whose durable state a generation is, and on `flt_flash`, whose `Content` a block holds. The
+//! byte forms of `flt_image` and the generations of the store state their contracts by these definitions. Read
+//! `specs/Layout` first (which block holds what), then `specs/Form` (its bytes), `specs/Reading` (what bytes are taken) and
+//! `specs/Holding` (which generation an image holds, and where it is damaged); `specs/Successor` has what a save writes. That
+//! what is read is what stands is a law (`laws`).
+#![tactic(auto)]
+
+mod commit;
+pub mod laws;
+mod mark;
+mod part;
+mod place;
+
+pub use commit::{Commit, INDICES};
+pub use mark::Mark;
+pub use part::Part;
+pub use place::Place;

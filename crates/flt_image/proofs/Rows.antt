@@ -1,0 +1,29 @@
+-- Rows of the table of blocks.
+use Rattle.std.proofs.Common.{◌≡◌, ℕ, ◌+◌, ◌++◌, [], ◌∷◌, List, true, refl, sym, ◌∙◌, ap}
+use Rattle.std.specs.Prelude.{map}
+use Rattle.std.specs.List.{range_with_len}
+use Rattle.std.proofs.lemmas.List.{append-nil, append_assoc}
+use Rattle.std.proofs.lemmas.List.FromFn.{map-range_with_len_more}
+use Rattle.flt_nvm.specs.declared.table.Kind.{Kind}
+use Rattle.flt_nvm.specs.declared.table.BlockCfg.{BlockCfg}
+use Rattle.flt_nvm.specs.Table.{serves}
+use Rattle.flt_generation.specs.Layout.{numbers}
+use Rattle.flt_image.specs.Table.{row, rows, block_table}
+
+-- no row, and one row more
+pub no_rows : (before : List BlockCfg) (kind : Kind) (length first : ℕ) → before ≡ before ++ rows kind length first 0
+unfolding rows
+no_rows before kind length first = sym (append-nil before)
+
+pub rows_more : (before made : List BlockCfg) (kind : Kind) (length first count : ℕ) → made ≡ before ++ rows kind length first count
+    → made ++ row kind length (first + count) ∷ [] ≡ before ++ rows kind length first (count + 1)
+unfolding rows
+rows_more before made kind length first count is =
+    ap (λ (all : List BlockCfg). all ++ row kind length (first + count) ∷ []) is
+    ∙ append_assoc before (map (row kind length) (range_with_len first count)) (row kind length (first + count) ∷ [])
+    ∙ ap (λ (all : List BlockCfg). before ++ all) (sym (map-range_with_len_more (row kind length) first count (first + count) refl))
+
+-- the table is one that a driver with these numbers serves
+pub table_serves : serves numbers block_table ≡ true
+unfolding numbers block_table rows
+table_serves = refl

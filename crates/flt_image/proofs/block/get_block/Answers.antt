@@ -1,0 +1,22 @@
+use Rattle.std.proofs.Common.{◌≡◌, ◌∙◌, sym, ap}
+use Rattle.flt_generation.specs.declared.part.Part.TheVariants.{Summary, States, Entry}
+use Rattle.flt_generation.specs.Form.{part_length}
+use Rattle.flt_generation.specs.Layout.{part_of}
+use Rattle.flt_generation.proofs.Sizes.{refused_by_size}
+use Rattle.flt_image.proofs.Takings.{refuses, states_kept}
+use Rattle.flt_image.proofs.block.get_block.Goals as goal
+
+pub returns-then-bytes-part_length-clause-taken : goal.returns-then-bytes-part_length-clause-taken
+returns-then-bytes-part_length-clause-taken c =
+    refuses c.args.into.now
+    (refused_by_size c.args.config.now (part_of c.args.id) c.args.bytes.now c.args.into.now
+    (λ is. c.if-bytes-part_length.true (is ∙ sym (c.part_length.ensures ∙ ap part_length c.part_of-part.ensures))))
+
+pub returns-in-Summary-clause-states : goal.returns-in-Summary-clause-states
+returns-in-Summary-clause-states c = states_kept c.args.config.now Summary c.args.bytes.now c.args.into.now c.take_summary.new.into c.take_summary.result c.take_summary.ensures
+
+pub returns-in-States-clause-states : goal.returns-in-States-clause-states
+returns-in-States-clause-states c = states_kept c.args.config.now (States c.in-States.first) c.args.bytes.now c.args.into.now c.take_states.new.into c.take_states.result c.take_states.ensures
+
+pub returns-in-Entry-clause-states : goal.returns-in-Entry-clause-states
+returns-in-Entry-clause-states c = states_kept c.args.config.now (Entry c.in-Entry.place) c.args.bytes.now c.args.into.now c.take_entry.new.into c.take_entry.result c.take_entry.ensures

@@ -1,0 +1,120 @@
+// The record that names the blocks of a generation.
+ghost use Rattle.std.specs.Prelude.{◌≡◌, ℕ, ◌<◌, ◌≤◌, ◌+◌, IfSome, Some, length};
+ghost use Rattle.std.specs.List.{list_all, range_with_len};
+ghost use Rattle.flt_generation.specs.Form.{commit_bytes};
+ghost use Rattle.flt_generation.specs.Layout.{index_in};
+ghost use Rattle.flt_generation.specs.Reading.{commit_from, commit_in, is_index, is_commit};
+ghost use Rattle.flt_generation.specs.Successor.{IsNext, IsNextIndex, number_in};
+
+use crate::layout::{END_ID, FIRST_ID, is_used};
+use flt_config::ValidConfig;
+use flt_generation::{Commit, INDICES};
+
+/// What a commit has for a block that is not used.
+const UNUSED: u8 = 0xFF;
+
+/// The bytes of a commit: 01, the number of the generation in four bytes, big-endian, and the index of each block.
+#[tactic(auto, unfolding(flt_generation::specs::Form::commit_bytes))]
+pub fn put_commit(commit: &Commit) -> [u8; 26]
+    ensures { result ≡ commit_bytes commit.now }
+{
+    let mut bytes = [0; 26];
+    bytes[0] = 1;
+    bytes[1..5].copy_from_slice(&commit.generation.to_be_bytes());
+    bytes[5..].copy_from_slice(&commit.index);
+    bytes
+}
+
+/// The commit after this one, or the first: the next number, and each used block at the other index, or 0 where there was none.
+pub fn next_commit(config: &ValidConfig, current: &Option<Commit>) -> Commit
+    requires { number_in current.now + 1 < 4294967296 }
+    ensures { IsNext config.now current.now result }
+{
+    let generation = match current {
+        None => 1,
+        Some(commit) => commit.generation + 1,
+    };
+    let mut index = [UNUSED; INDICES];
+    for id in FIRST_ID..END_ID {
+        index[(id - FIRST_ID) as usize] = next_index(config, current, id);
+    }
+    Commit { generation, index }
+}
+
+// The index at which the next commit names a block.
+fn next_index(config: &ValidConfig, current: &Option<Commit>, id: u16) -> u8
+    requires first { 3 ≤ id }
+    requires end { id < 24 }
+    ensures { IsNextIndex config.now current.now id result }
+{
+    if !is_used(config, id) {
+        return UNUSED;
+    }
+    match current {
+        Some(commit) if commit.index[(id - FIRST_ID) as usize] == 0 => 1,
+        _ => 0,
+    }
+}
+
+fn is_index(config: &ValidConfig, id: u16, index: u8) -> bool
+    ensures { result ≡ is_index config.now id index }
+{
+    if is_used(config, id) {
+        index <= 1
+    } else {
+        index == UNUSED
+    }
+}
+
+fn has_indices(config: &ValidConfig, commit: &Commit) -> bool
+    ensures { result ≡ list_all (λ id. is_index config.now id (index_in commit.now id)) (range_with_len 3 21) }
+{
+    for id in FIRST_ID..END_ID {
+        if !is_index(config, id, commit.index[(id - FIRST_ID) as usize]) {
+            return false;
+        }
+    }
+    true
+}
+
+#[tactic(auto, unfolding(flt_generation::specs::Reading::is_commit))]
+fn is_commit(config: &ValidConfig, commit: &Commit) -> bool
+    ensures { result ≡ is_commit config.now commit.now }
+{
+    1 <= commit.generation && has_indices(config, commit)
+}
+
+// The commit whose numbers stand in these bytes.
+#[tactic(auto, unfolding(flt_generation::specs::Reading::commit_from))]
+fn commit_from(bytes: &[u8]) -> Commit
+    requires { length bytes.now ≡ 26 }
+    ensures { result ≡ commit_from bytes.now }
+{
+    let mut generation = [0; 4];
+    generation.copy_from_slice(&bytes[1..5]);
+    let mut index = [0; INDICES];
+    index.copy_from_slice(&bytes[5..]);
+    Commit {
+        generation: u32::from_be_bytes(generation),
+        index,
+    }
+}
+
+/// The commit of which these are the bytes, and none exactly where they are those of no commit of this configuration: its
+/// number is at least 1, and each used block has the index 0 or 1, each other one 0xFF.
+pub fn get_commit(config: &ValidConfig, bytes: &[u8]) -> Option<Commit>
+    ensures { result ≡ commit_in config.now bytes.now }
+{
+    if bytes.len() != 26 {
+        return None;
+    }
+    let commit = commit_from(bytes);
+    if !is_commit(config, &commit) {
+        return None;
+    }
+    if bytes == &put_commit(&commit)[..] {
+        Some(commit)
+    } else {
+        None
+    }
+}

@@ -1,0 +1,131 @@
+// The entry at a place.
+ghost use Rattle.std.specs.Prelude.{◌≡◌, ◌+◌, ◌<◌, ◌≤◌, ◌++◌, length, slice_get, slice_set, bytes_eq};
+ghost use Rattle.flt_generation.specs.declared.part.Part.TheVariants.{Entry};
+ghost use Rattle.flt_generation.specs.Fit.{is_alone};
+ghost use Rattle.flt_generation.specs.Form.{padded, entry_bytes, no_entry_bytes, place_bytes};
+ghost use Rattle.flt_generation.specs.Reading.{frame_at, entry_from, taken};
+ghost use Rattle.flt_image.specs.Taking.{Takes};
+
+use crate::pushing::{BlockBytes, push_all, push_zeros, word_at};
+use arrayvec::ArrayVec;
+use flt_config::{ENTRIES, EntryState, FRAME, Frame, Persist, ValidConfig, fits, initial, place_of};
+
+fn put_frame(frame: &Frame, out: &mut BlockBytes)
+    requires { length out.old.items + 32 ≤ 128 }
+    ensures items { out.new.items ≡ out.old.items ++ padded frame.now.items }
+    ensures size { length out.new.items ≡ length out.old.items + 32 }
+{
+    let bytes = frame.as_slice();
+    push_all(out, bytes);
+    push_zeros(out, FRAME - bytes.len());
+}
+
+#[tactic(auto, unfolding(flt_generation::specs::Form::entry_bytes))]
+fn put_entry(entry: &EntryState, out: &mut BlockBytes)
+    requires { length out.old.items ≡ 0 }
+    ensures items { out.new.items ≡ entry_bytes entry.now }
+    ensures size { length out.new.items ≡ 68 }
+{
+    let [high, low] = entry.event.to_be_bytes();
+    push_all(out, &[high, low, entry.occurrence, entry.first.len() as u8]);
+    put_frame(&entry.first, out);
+    put_frame(&entry.recent, out);
+}
+
+#[tactic(auto, unfolding(flt_generation::specs::Form::no_entry_bytes))]
+fn put_no_entry(out: &mut BlockBytes)
+    requires { length out.old.items ≡ 0 }
+    ensures items { out.new.items ≡ no_entry_bytes }
+    ensures size { length out.new.items ≡ 68 }
+{
+    push_all(out, &[0xFF, 0xFF]);
+    push_zeros(out, 66);
+}
+
+/// Puts the entry at a place, or what stands for none.
+pub(crate) fn put_place(entries: &[EntryState], place: u16, out: &mut BlockBytes)
+    requires { length out.old.items ≡ 0 }
+    ensures items { out.new.items ≡ place_bytes (slice_get entries.now place) }
+    ensures size { length out.new.items ≡ 68 }
+{
+    match entries.get(place as usize) {
+        Some(entry) => put_entry(entry, out),
+        None => put_no_entry(out),
+    }
+}
+
+fn are_bytes_of(entries: &[EntryState], place: u16, bytes: &[u8]) -> bool
+    ensures { result ≡ bytes_eq bytes.now (place_bytes (slice_get entries.now place)) }
+{
+    let mut written = BlockBytes::new();
+    put_place(entries, place, &mut written);
+    bytes == &written[..]
+}
+
+fn frame_at(bytes: &[u8], at: usize) -> Frame
+    requires size { length bytes.now ≡ 68 }
+    requires at { at ≤ 36 }
+    ensures { result.items ≡ frame_at bytes.now at }
+{
+    let count = (bytes[3] as usize).min(FRAME);
+    let mut frame = Frame::new();
+    for byte in &bytes[at..at + count] {
+        frame.push(*byte);
+    }
+    frame
+}
+
+#[tactic(auto, unfolding(flt_generation::specs::Reading::entry_from))]
+fn entry_from(bytes: &[u8]) -> EntryState
+    requires { length bytes.now ≡ 68 }
+    ensures { result ≡ entry_from bytes.now }
+{
+    EntryState {
+        event: word_at(bytes, 0),
+        occurrence: bytes[2],
+        first: frame_at(bytes, 4),
+        recent: frame_at(bytes, 36),
+    }
+}
+
+// Whether no entry at another place is of this event.
+fn is_alone(entries: &[EntryState], place: usize, event: u16) -> bool
+    requires { place < length entries.now }
+    ensures { result ≡ is_alone entries.now place event }
+{
+    place_of(&entries[..place], event).is_none() && place_of(&entries[place + 1..], event).is_none()
+}
+
+fn set_entry(entries: &mut ArrayVec<EntryState, ENTRIES>, place: u16, entry: EntryState)
+    requires { place < length entries.old.items }
+    ensures { entries.new.items ≡ slice_set entries.old.items place entry }
+{
+    entries[place as usize] = entry;
+}
+
+/// Takes the entry at a place from its bytes; a place past the entries has none. Where they are none that fit, nothing changes.
+pub(crate) fn take_entry(config: &ValidConfig, place: u16, bytes: &[u8], into: &mut Persist) -> bool
+    requires size { length bytes.now ≡ 68 }
+    requires place { place < config.now.memory }
+    ensures { Takes (taken config.now (Entry place) bytes.now into.old) result into.old into.new }
+{
+    let at = place as usize;
+    if at >= into.entries.len() {
+        return are_bytes_of(&into.entries, place, bytes);
+    }
+    let entry = entry_from(bytes);
+    let event = entry.event;
+    let mut alone = initial(config);
+    alone.entries.push(entry);
+    if !fits(config, &alone) {
+        return false;
+    }
+    if !are_bytes_of(&alone.entries, 0, bytes) {
+        return false;
+    }
+    if !is_alone(&into.entries, at, event) {
+        return false;
+    }
+    set_entry(&mut into.entries, place, entry_from(bytes));
+    true
+}

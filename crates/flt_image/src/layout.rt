@@ -1,0 +1,75 @@
+// Which blocks a configuration has, and which part of a generation each of them holds.
+ghost use Rattle.std.specs.Prelude.{◌≡◌, ◌<◌, ◌≤◌, ◌+◌, ◌++◌, [], ◌∷◌, if◌then◌else◌, length};
+ghost use Rattle.flt_generation.specs.Layout.{part_of, has_part, is_used, used_ids};
+
+use arrayvec::ArrayVec;
+use flt_config::ValidConfig;
+use flt_generation::{INDICES, Part};
+
+/// The identifiers of the blocks of a generation: the first one, and the one past the last.
+pub(crate) const FIRST_ID: u16 = 3;
+
+pub(crate) const END_ID: u16 = 24;
+
+/// The part of a generation that a block holds.
+pub(crate) fn part_of(id: u16) -> Part
+    requires { 3 ≤ id }
+    ensures { result ≡ part_of id }
+{
+    if id == 3 {
+        Part::Summary
+    } else if id < 8 {
+        Part::States {
+            first: 16 * (id - 4),
+        }
+    } else {
+        Part::Entry {
+            place: id - 8,
+        }
+    }
+}
+
+fn has_part(config: &ValidConfig, part: Part) -> bool
+    ensures { result ≡ has_part config.now part }
+{
+    let config = config.config();
+    match part {
+        Part::Summary => true,
+        Part::States {
+            first,
+        } => (first as usize) < config.events.len(),
+        Part::Entry {
+            place,
+        } => place < config.memory as u16,
+    }
+}
+
+/// Whether each generation of this configuration has the block.
+pub fn is_used(config: &ValidConfig, id: u16) -> bool
+    ensures { result ≡ is_used config.now id }
+{
+    FIRST_ID <= id && id < END_ID && has_part(config, part_of(id))
+}
+
+/// The blocks that each generation of this configuration has, in ascending order: the summary (3), a block of states for each
+/// 16 events or part of them (from 4 on), and one for each entry that the memory has room for (from 8 on).
+pub fn used_ids(config: &ValidConfig) -> ArrayVec<u16, INDICES>
+    ensures { result.items ≡ used_ids config.now }
+{
+    let mut ids = ArrayVec::new();
+    for id in FIRST_ID..END_ID {
+        push_used(config, id, &mut ids);
+    }
+    ids
+}
+
+// Puts a block behind the others, if it is used.
+fn push_used(config: &ValidConfig, id: u16, ids: &mut ArrayVec<u16, INDICES>)
+    requires room { length ids.old.items < 21 }
+    ensures items { ids.new.items ≡ ids.old.items ++ (if is_used config.now id then id ∷ [] else []) }
+    ensures size { length ids.new.items ≤ length ids.old.items + 1 }
+{
+    if is_used(config, id) {
+        ids.push(id);
+    }
+}

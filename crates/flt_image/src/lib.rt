@@ -1,0 +1,30 @@
+//! The bytes of the blocks of a generation: written from a durable state, and read again with every form and fit told apart.
+//!
+//! It stands on `flt_config`, on the definitions of `flt_generation`, and for the table of blocks on `flt_nvm`. The store
+//! above writes with the `put` calls and reads with the `get` calls, which answer as `specs/Reading` of `flt_generation`
+//! says. Read there `specs/Layout` and `specs/Form` first; here `specs/Taking` says what a block that is read leaves.
+#![tactic(auto)]
+
+mod block;
+mod commit;
+mod entry;
+pub mod laws;
+mod layout;
+mod mark;
+mod numbers;
+mod pushing;
+mod states;
+mod summary;
+mod table;
+
+pub use block::{get_block, put_block};
+pub use commit::{get_commit, next_commit, put_commit};
+pub use flt_generation::{Commit, Mark};
+pub use layout::{is_used, used_ids};
+pub use mark::{get_mark, mark_of, put_mark};
+pub use numbers::fee_numbers;
+pub use pushing::BlockBytes;
+pub use table::block_table;
+
+#[cfg(test)]
+mod tests;

@@ -1,0 +1,66 @@
+// The mark of a configuration.
+ghost use Rattle.std.specs.Prelude.{◌≡◌, length};
+ghost use Rattle.flt_generation.specs.Form.{mark_of, mark_bytes, IsMark};
+ghost use Rattle.flt_generation.specs.Reading.{mark_from, mark_in};
+ghost use Rattle.flt_generation.specs.Laws.{IsGiven};
+
+use crate::pushing::word_at;
+use flt_config::ValidConfig;
+use flt_generation::Mark;
+
+/// The mark of a configuration, whose numbers are those of its type.
+pub fn mark_of(config: &ValidConfig) -> Mark
+    ensures value { result ≡ mark_of config.now }
+    ensures fields { IsMark result }
+    ensures given { IsGiven config.now }
+{
+    let config = config.config();
+    mark_with(config.id, config.events.len() as u16, config.memory)
+}
+
+fn mark_with(id: u16, events: u16, entries: u8) -> Mark
+    ensures value { result ≡ record { id = id; events = events; entries = entries } }
+    ensures fields { IsMark result }
+{
+    Mark {
+        id,
+        events,
+        entries,
+    }
+}
+
+/// The bytes of a mark: 01, the configuration, its events, its entries, 00 00; numbers of two bytes are big-endian.
+#[tactic(auto, unfolding(flt_generation::specs::Form::mark_bytes))]
+pub fn put_mark(mark: &Mark) -> [u8; 8]
+    ensures { result ≡ mark_bytes mark.now }
+{
+    let [a, b] = mark.id.to_be_bytes();
+    let [c, d] = mark.events.to_be_bytes();
+    [1, a, b, c, d, mark.entries, 0, 0]
+}
+
+// The mark whose numbers stand in these bytes.
+#[tactic(auto, unfolding(flt_generation::specs::Reading::mark_from))]
+fn mark_from(bytes: &[u8]) -> Mark
+    requires { length bytes.now ≡ 8 }
+    ensures value { result ≡ mark_from bytes.now }
+    ensures fields { IsMark result }
+{
+    mark_with(word_at(bytes, 1), word_at(bytes, 3), bytes[5])
+}
+
+/// The mark of which these are the bytes, and none exactly where they are the bytes of no mark.
+pub fn get_mark(bytes: &[u8]) -> Option<Mark>
+    ensures { result ≡ mark_in bytes.now }
+{
+    if bytes.len() != 8 {
+        return None;
+    }
+    let mark = mark_from(bytes);
+    let written = put_mark(&mark);
+    if bytes == &written[..] {
+        Some(mark)
+    } else {
+        None
+    }
+}

@@ -1,0 +1,34 @@
+// Bytes that are put one behind the other, and read at their place.
+ghost use Rattle.std.specs.Prelude.{◌≡◌, ◌≤◌, ◌<◌, ◌+◌, ◌++◌, length, replicate};
+ghost use Rattle.flt_generation.specs.Reading.{word_at};
+
+use arrayvec::ArrayVec;
+
+/// The bytes of one block, at most 128.
+pub type BlockBytes = ArrayVec<u8, 128>;
+
+pub(crate) fn push_all(out: &mut BlockBytes, bytes: &[u8])
+    requires { length out.old.items + length bytes.now ≤ 128 }
+    ensures { out.new.items ≡ out.old.items ++ bytes.now }
+{
+    for byte in bytes {
+        out.push(*byte);
+    }
+}
+
+pub(crate) fn push_zeros(out: &mut BlockBytes, count: usize)
+    requires { length out.old.items + count ≤ 128 }
+    ensures { out.new.items ≡ out.old.items ++ replicate count 0 }
+{
+    for _place in 0..count {
+        out.push(0);
+    }
+}
+
+/// The number in two bytes, big-endian.
+pub(crate) fn word_at(bytes: &[u8], at: usize) -> u16
+    requires { at + 1 < length bytes.now }
+    ensures { result ≡ word_at bytes.now at }
+{
+    u16::from_be_bytes([bytes[at], bytes[at + 1]])
+}

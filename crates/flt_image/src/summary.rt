@@ -1,0 +1,118 @@
+// The summary of a generation: its overflow flag, its number of entries and its noted events.
+ghost use Rattle.std.specs.Prelude.{◌≡◌, ◌+◌, ◌<◌, ◌≤◌, length, replicate, min};
+ghost use Rattle.flt_generation.specs.declared.part.Part.TheVariants.{Summary};
+ghost use Rattle.flt_generation.specs.Form.{note_word, note_bytes, summary_bytes};
+ghost use Rattle.flt_generation.specs.Reading.{note_at, untaken_entry, with_summary, taken};
+ghost use Rattle.flt_image.specs.Taking.{with_notes, Takes};
+
+use crate::pushing::word_at;
+use arrayvec::ArrayVec;
+use flt_config::{ENTRIES, EntryState, Persist, ValidConfig, fits, initial};
+
+/// What stands for no event.
+const NO_EVENT: u16 = 0xFFFF;
+
+fn note_bytes(note: Option<u16>) -> [u8; 2]
+    ensures { result ≡ note_bytes note }
+{
+    note_word(note).to_be_bytes()
+}
+
+fn note_word(note: Option<u16>) -> u16
+    ensures { result ≡ note_word note }
+{
+    match note {
+        None => NO_EVENT,
+        Some(event) => event,
+    }
+}
+
+/// The bytes of the summary of a state.
+#[tactic(auto, unfolding(flt_generation::specs::Form::summary_bytes))]
+pub(crate) fn summary_bytes(state: &Persist) -> [u8; 32]
+    ensures { result ≡ summary_bytes state.now }
+{
+    let [a, b] = note_bytes(state.first_failed);
+    let [c, d] = note_bytes(state.first_confirmed);
+    let [e, f] = note_bytes(state.recent_failed);
+    let [g, h] = note_bytes(state.recent_confirmed);
+    let overflow = state.overflow as u8;
+    let entries = state.entries.len() as u8;
+    [
+        1, overflow, entries, 0, a, b, c, d, e, f, g, h, 0, 0, 0, 0, 0, 0, 0, 0, 0, 0, 0, 0, 0, 0,
+        0, 0, 0, 0, 0, 0,
+    ]
+}
+
+fn note_at(bytes: &[u8], at: usize) -> Option<u16>
+    requires { at + 1 < length bytes.now }
+    ensures { result ≡ note_at bytes.now at }
+{
+    let event = word_at(bytes, at);
+    if event == NO_EVENT { None } else { Some(event) }
+}
+
+// Notes the events of a summary.
+fn set_notes(bytes: &[u8], state: &mut Persist)
+    requires { length bytes.now ≡ 32 }
+    ensures { state.new ≡ with_notes bytes.now state.old }
+{
+    state.first_failed = note_at(bytes, 4);
+    state.first_confirmed = note_at(bytes, 6);
+    state.recent_failed = note_at(bytes, 8);
+    state.recent_confirmed = note_at(bytes, 10);
+}
+
+fn untaken_entry() -> EntryState
+    ensures { result ≡ untaken_entry }
+{
+    EntryState {
+        event: NO_EVENT,
+        occurrence: 0,
+        first: ArrayVec::new(),
+        recent: ArrayVec::new(),
+    }
+}
+
+fn untaken_entries(count: u8) -> ArrayVec<EntryState, ENTRIES>
+    ensures { result.items ≡ replicate (min count 16) untaken_entry }
+{
+    let mut entries = ArrayVec::new();
+    let places = (count as usize).min(ENTRIES);
+    for _place in 0..places {
+        entries.push(untaken_entry());
+    }
+    entries
+}
+
+// Gives a state the summary in these bytes.
+#[tactic(auto, unfolding(flt_generation::specs::Reading::with_summary))]
+fn set_summary(bytes: &[u8], state: &mut Persist)
+    requires { length bytes.now ≡ 32 }
+    ensures { state.new ≡ with_summary bytes.now state.old }
+{
+    state.overflow = bytes[1] == 1;
+    state.entries = untaken_entries(bytes[2]);
+    set_notes(bytes, state);
+}
+
+/// Takes the summary from its bytes. Where they are none that fits, nothing changes.
+pub(crate) fn take_summary(config: &ValidConfig, bytes: &[u8], into: &mut Persist) -> bool
+    requires { length bytes.now ≡ 32 }
+    ensures { Takes (taken config.now Summary bytes.now into.old) result into.old into.new }
+{
+    let mut alone = initial(config);
+    set_notes(bytes, &mut alone);
+    if !fits(config, &alone) {
+        return false;
+    }
+    set_summary(bytes, &mut alone);
+    if alone.entries.len() > config.config().memory as usize {
+        return false;
+    }
+    if bytes != &summary_bytes(&alone)[..] {
+        return false;
+    }
+    set_summary(bytes, into);
+    true
+}

@@ -1,0 +1,55 @@
+-- What a job leaves follows from what each of its tries leaves.
+use Rattle.std.proofs.Common.{◌≡◌, ◌⊎◌, inl, inr, ⊎_elim, ℕ, zero, suc, true, false, Result, Ok, Err, is_ok, refl, ◌∙◌, subst}
+use Rattle.flt_flash.specs.Content.{Content}
+use Rattle.flt_flash.specs.declared.blocks.BlockFault.{BlockFault}
+use Rattle.flt_flash.specs.declared.blocks.BlockFault.TheVariants.{Flash, Full, SequenceSpent, Damaged}
+use Rattle.flt_flash.specs.Blocks.{BlocksState}
+use Rattle.flt_flash.specs.Calls.{Changes}
+use Rattle.flt_nvm.specs.Table.{number_of}
+use Rattle.flt_nvm.specs.Tries.{Tries, Changing}
+use Rattle.flt_nvm.specs.Leaves.{Gives, GivesInAJob, GivesInTwoJobs}
+
+module _ (block : ℕ) (asked : Content) (size : ℕ) where
+  -- one try
+  gives_at_once : (before after : BlocksState) (result : Result (Unit {0}) BlockFault) → Changes before after block asked size result → Gives before after block asked size result
+  gives_at_once before after (Ok x) does = record { done = does.done; either = inr does.done; others = does.others; full = λ live needed told. (does.full live needed told).0; spent = λ told. (does.spent told).0 }
+  gives_at_once before after (Err fault) does =
+      record { done = tt; either = by_fault fault does; others = does.others; full = λ live needed told. (does.full live needed told).0; spent = λ told. (does.spent told).0 }
+    where
+      by_fault : (fault : BlockFault) → Changes before after block asked size (Err fault) → (after.value block ≡ before.value block) ⊎ (after.value block ≡ asked)
+      by_fault Flash does = does.failed refl
+      by_fault (Full live needed) does = inl ((does.full live needed refl).1 block)
+      by_fault SequenceSpent does = inl ((does.spent refl).1 block)
+      by_fault (Damaged sector page) does = inl (does.damaged sector page refl block)
+
+  -- a try that failed, and then more
+  gives_again : (first second third : BlocksState) (failed result : Result (Unit {0}) BlockFault) → Gives first second block asked size failed → Gives second third block asked size result → Gives first third block asked size result
+  gives_again first second third failed result one two = record {
+    done = two.done;
+    either = ⊎_elim (λ kept. ⊎_elim (λ stood. inl (kept ∙ stood)) (λ changed. inr (kept ∙ changed)) one.either) (λ changed. inr changed) two.either;
+    others = λ other apart. two.others other apart ∙ one.others other apart;
+    full = two.full;
+    spent = two.spent;
+  }
+
+  pub gives_in_a_job : (most : ℕ) (before after : BlocksState) (result : Result (Unit {0}) BlockFault) → Tries most (Changing block asked size) before after result → Gives before after block asked size result
+  unfolding Tries
+  gives_in_a_job zero before after result tries = absurd tries
+  gives_in_a_job (suc zero) before after result tries = gives_at_once before after result tries.changes
+  gives_in_a_job (suc (suc more)) before after result (inl ends) = gives_at_once before after result ends.0.changes
+  gives_in_a_job (suc (suc more)) before after result (inr (between, failed, rest)) =
+      gives_again before between after (Err Flash) result (gives_at_once before between (Err Flash) failed.changes) (gives_in_a_job (suc more) between after result rest)
+
+module _ (id : ℕ) (asked : Content) (size first : ℕ) (first_is : first ≡ number_of id 0) where
+  -- the job on the first copy failed
+  pub first_job_alone : (before after : BlocksState) (result : Result (Unit {0}) BlockFault) → is_ok result ≡ false
+      → GivesInAJob first asked size before after result → GivesInTwoJobs id asked size before after result
+  first_job_alone before after (Ok value) failed job = absurd (cc failed)
+  first_job_alone before after (Err fault) failed job = inl (subst (λ (n : ℕ). GivesInAJob n asked size before after (Err fault)) first_is job, refl)
+
+  -- the job on the second copy followed
+  pub both_jobs : (second : ℕ) → second ≡ number_of id 1 → (before between after : BlocksState) (answer result : Result (Unit {0}) BlockFault) → is_ok answer ≡ true
+      → GivesInAJob first asked size before between answer → GivesInAJob second asked size between after result → GivesInTwoJobs id asked size before after result
+  both_jobs second second_is before between after (Err fault) result answered job next = absurd (cc answered)
+  both_jobs second second_is before between after (Ok value) result answered job next =
+      inr (between, subst (λ (n : ℕ). GivesInAJob n asked size before between (Ok tt)) first_is job, subst (λ (n : ℕ). GivesInAJob n asked size between after result) second_is next)

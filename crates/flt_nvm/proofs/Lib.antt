@@ -1,0 +1,4 @@
+pub mod Jobs
+pub mod Served
+pub mod Kept
+pub mod Found

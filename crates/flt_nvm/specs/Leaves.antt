@@ -1,0 +1,83 @@
+-- What a call leaves of the blocks, and what it finds.
+use Rattle.std.specs.Prelude.{◌≡◌, ◌≢◌, ◌⊎◌, ℕ, List, Option, Some, Result, Ok, IsTrue, IsErr, OnOk, IsErrOf}
+use Rattle.flt_flash.specs.Content.{Content, missing, invalid, bytes}
+use Rattle.flt_flash.specs.State.{HasRisenBy}
+use Rattle.flt_flash.specs.Blocks.{BlocksState, IsFull}
+use Rattle.flt_flash.specs.Calls.{Finds, OthersKept}
+use Rattle.flt_flash.specs.declared.blocks.Found.TheVariants.{Bytes as FoundBytes, Missing as FoundMissing, Invalid as FoundInvalid}
+use Rattle.flt_flash.specs.declared.blocks.BlockFault.{BlockFault}
+use Rattle.flt_flash.specs.declared.blocks.BlockFault.TheVariants.{Flash, Full, SequenceSpent}
+use Rattle.flt_nvm.specs.declared.got.Got.{Got}
+use Rattle.flt_nvm.specs.declared.got.Got.TheVariants.{Bytes, Missing, Invalid}
+use Rattle.flt_nvm.specs.Table.{number_of}
+use Rattle.flt_nvm.specs.Tries.{Tries, Changing}
+
+-- a number holds what it held, or what was asked
+abbrev pub IsEither : BlocksState → BlocksState → ℕ → Content → Type 0
+IsEither before after number asked = (after.value number ≡ before.value number) ⊎ (after.value number ≡ asked)
+
+-- a fault of the flash comes only where the count of faults rose by three
+abbrev pub FailsThrice : {T : Type 0} → BlocksState → BlocksState → Result T BlockFault → Type 0
+FailsThrice before after result = IsErrOf result Flash → HasRisenBy 3 before.device.faults after.device.faults
+
+-- one number holds what was asked after Ok, what it held or what was asked after a fault, and every other what it held
+pub record Gives (before after : BlocksState) (number : ℕ) (asked : Content) (size : ℕ) (result : Result (Unit {0}) BlockFault) : Type 0 where
+  pub done : OnOk result (after.value number ≡ asked)
+  pub either : IsEither before after number asked
+  pub others : OthersKept number before after
+  pub full : (live needed : ℕ) → IsErrOf result (Full live needed) → IsFull after size live needed
+  pub spent : IsErrOf result SequenceSpent → IsTrue (after.is_stuck number size)
+
+-- both copies hold what was asked after Ok; after a fault each holds what it held or what was asked, and the second has changed
+-- only where the first holds what was asked; every other number holds what it held
+pub record GivesBoth (before after : BlocksState) (id : ℕ) (asked : Content) (size : ℕ) (result : Result (Unit {0}) BlockFault) : Type 0 where
+  pub first : OnOk result (after.value (number_of id 0) ≡ asked)
+  pub second : OnOk result (after.value (number_of id 1) ≡ asked)
+  pub either : (IsEither before after (number_of id 0) asked × (after.value (number_of id 1) ≡ before.value (number_of id 1)))
+      ⊎ ((after.value (number_of id 0) ≡ asked) × IsEither before after (number_of id 1) asked)
+  pub others : (other : ℕ) → other ≢ number_of id 0 → other ≢ number_of id 1 → after.value other ≡ before.value other
+  pub full : (live needed : ℕ) → IsErrOf result (Full live needed) → IsFull after size live needed
+  pub spent : IsErrOf result SequenceSpent → IsTrue (after.is_stuck (number_of id 0) size) ⊎ IsTrue (after.is_stuck (number_of id 1) size)
+
+-- one job of at most three tries
+abbrev pub GivesInAJob : ℕ → Content → ℕ → BlocksState → BlocksState → Result (Unit {0}) BlockFault → Type 0
+GivesInAJob number asked size before after result = Tries 3 (Changing number asked size) before after result
+
+-- a job on the first copy, and one on the second only where the first answered Ok
+abbrev pub GivesInTwoJobs : ℕ → Content → ℕ → BlocksState → BlocksState → Result (Unit {0}) BlockFault → Type 0
+GivesInTwoJobs id asked size before after result =
+    (GivesInAJob (number_of id 0) asked size before after result × IsErr result)
+    ⊎ ((between : BlocksState) × GivesInAJob (number_of id 0) asked size before between (Ok tt) × GivesInAJob (number_of id 1) asked size between after result)
+
+-- missing or invalid
+abbrev pub HasNoBytes : Content → Type 0
+HasNoBytes missing = Unit {0}
+HasNoBytes invalid = Unit {0}
+HasNoBytes (bytes held) = ⊥
+
+-- a read gave bytes
+abbrev pub HasBytes : Got → Type 0
+HasBytes (Bytes length copy) = Unit {0}
+HasBytes Missing = ⊥
+HasBytes Invalid = ⊥
+
+-- what a read of this copy alone answers, with the bytes at the start of out and the rest of out as it was
+abbrev pub GotOf : ℕ → Content → Got → List ℕ → List ℕ → Type 0
+GotOf copy content (Bytes length from) before after = (from ≡ copy) × Finds content (FoundBytes length) before after
+GotOf copy content Missing before after = Finds content FoundMissing before after
+GotOf copy content Invalid before after = Finds content FoundInvalid before after
+
+-- the first copy's bytes; the second's, where the first has none or could not be read in three tries; or, where neither has
+-- bytes, what the first is
+abbrev pub GotOfBoth : BlocksState → BlocksState → ℕ → Got → List ℕ → List ℕ → Type 0
+GotOfBoth before after id (Bytes length from) out_before out_after =
+    GotOf 1 (before.value (number_of id 0)) (Bytes length from) out_before out_after
+    ⊎ (GotOf 2 (before.value (number_of id 1)) (Bytes length from) out_before out_after
+    × (HasNoBytes (before.value (number_of id 0)) ⊎ HasRisenBy 3 before.device.faults after.device.faults))
+GotOfBoth before after id Missing out_before out_after = GotOf 1 (before.value (number_of id 0)) Missing out_before out_after × HasNoBytes (before.value (number_of id 1))
+GotOfBoth before after id Invalid out_before out_after = GotOf 1 (before.value (number_of id 0)) Invalid out_before out_after × HasNoBytes (before.value (number_of id 1))
+
+-- the second copy's bytes, or, where it has none, what the first gave
+abbrev pub GotOfSecond : Content → Option Got → Got → List ℕ → List ℕ → Type 0
+GotOfSecond content first got before after =
+    (GotOf 2 content got before after × HasBytes got) ⊎ ((first ≡ Some got) × HasNoBytes content × (after ≡ before))

@@ -1,0 +1,4 @@
+pub mod Table
+pub mod Tries
+pub mod Leaves
+pub mod Driver

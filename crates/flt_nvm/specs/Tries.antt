@@ -1,0 +1,38 @@
+-- A job on one block of a driver: one call, tried again where the flash failed.
+use Rattle.std.specs.Prelude.{◌⊎◌, ℕ, zero, suc, Result, Err, IsErrOf, IsFalse, OnOk}
+use Rattle.flt_flash.specs.Content.{Content}
+use Rattle.flt_flash.specs.Blocks.{BlocksState}
+use Rattle.flt_flash.specs.Calls.{Calls, Changes, Costs, NeverFull, SameValues, Settles}
+use Rattle.flt_flash.specs.declared.blocks.Found.{Found}
+use Rattle.flt_flash.specs.declared.blocks.BlockFault.{BlockFault}
+use Rattle.flt_flash.specs.declared.blocks.BlockFault.TheVariants.{Flash}
+
+-- a job of at most so many tries: the last one, or one that the flash did not fail, or one that it failed and then a job of one try less
+unfoldable pub Tries : {T : Type 0} → ℕ → (BlocksState → BlocksState → Result T BlockFault → Type 0) → BlocksState → BlocksState → Result T BlockFault → Type 0
+Tries zero try before after result = ⊥
+Tries (suc zero) try before after result = try before after result
+Tries (suc (suc more)) try before after result =
+    (try before after result × (IsErrOf result Flash → ⊥))
+    ⊎ ((between : BlocksState) × try before between (Err Flash) × Tries (suc more) try between after result)
+
+-- one mount
+pub record Mounts (before after : BlocksState) (result : Result (Unit {0}) BlockFault) : Type 0 where
+  pub values : SameValues before after
+  pub calls : Calls before after result
+  pub never_full : NeverFull result
+  pub stale : Settles result after
+
+-- one write or invalidate, which gives a block this content by a record of this length
+pub record Changing (block : ℕ) (asked : Content) (size : ℕ) (before after : BlocksState) (result : Result (Unit {0}) BlockFault) : Type 0 where
+  pub changes : Changes before after block asked size result
+  pub calls : Calls before after result
+  pub stale : Settles result after
+  pub costs : Costs before after size
+
+-- one read
+pub record Looks (before after : BlocksState) (result : Result Found BlockFault) : Type 0 where
+  pub values : SameValues before after
+  pub calls : Calls before after result
+  pub never_full : NeverFull result
+  pub settled : OnOk result (IsFalse after.is_stale)
+  pub stale : IsFalse before.is_stale → IsFalse after.is_stale

@@ -1,0 +1,36 @@
+//! The table of blocks.
+ghost use Rattle.std.specs.Prelude.{◌≡◌};
+ghost use Rattle.flt_nvm.specs.Table.{block_in};
+
+/// How a block is kept (AUTOSAR NvM: the block management types).
+#[derive(Clone, Copy, Debug, PartialEq, Eq)]
+pub enum Kind {
+    /// One copy.
+    Native,
+    /// Two copies of the same bytes, 1 and 2.
+    Redundant,
+    /// So many blocks of one length, 1 to 8, each under an index of its own.
+    Dataset(u8),
+}
+
+/// A block of the table.
+#[derive(Clone, Copy, Debug, PartialEq, Eq)]
+pub struct BlockCfg {
+    /// Its identifier, 1 to 8191. 0 is the identifier of a call on all blocks, and no block has it.
+    pub id: u16,
+    pub kind: Kind,
+    /// The most bytes that it holds, 1 to 128.
+    pub length: u8,
+}
+
+/// The block of this identifier: the first of the table, where it has several.
+pub fn find_block(table: &[BlockCfg], id: u16) -> Option<BlockCfg>
+    ensures { result ≡ block_in table.now id }
+{
+    for block in table {
+        if block.id == id {
+            return Some(*block);
+        }
+    }
+    None
+}
