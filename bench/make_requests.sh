@@ -9,10 +9,10 @@ awk -v requests="$requests" 'BEGIN {
         printf "did %d 0101\ndid %d 0107\n", event, event
     print "cycle 0"
     for (event = 0; event < 64; event++) printf "%s %d\n", event < 32 ? "fail" : "prefail", event
-    forms = split("10 03|10 01|19 01 FF|19 02 08|19 02 FF|19 03|19 04 D FF|19 06 D FF|19 0A|19 0B|19 0C|19 0D|19 0E|19 14|3E 00|3E 80|10 03|85 02|85 01|14 00 00 FE", form, "|")
+    forms = split("10 03|10 01|19 01 FF|19 02 08|19 02 FF|19 03|19 04 N FF|19 06 N FF|19 0A|19 0B|19 0C|19 0D|19 0E|19 14|3E 00|3E 80|10 03|85 02|85 01|14 00 00 FE", form, "|")
     for (request = 0; request < requests - 66; request++) {
         line = form[request % forms + 1]
-        sub(/D/, sprintf("00 00 %02X", request % 64 + 1), line)
+        sub(/N/, sprintf("00 00 %02X", request % 64 + 1), line)
         printf "t %s %s\n", substr("ABCD", int(request / forms) % 4 + 1, 1), line
     }
 }'

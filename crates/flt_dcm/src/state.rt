@@ -6,12 +6,13 @@ ghost use Rattle.flt_model.specs.Life.{Life, History, fresh};
 ghost use Rattle.flt_model.specs.Answer.{answer};
 ghost use Rattle.flt_model.specs.Happening.{cleared_dtc, dtc_of_clear};
 ghost use Rattle.flt_model.specs.Request.{asked};
-ghost use Rattle.flt_model.specs.Response.{negative, positive, responded, response, unless_silent};
+ghost use Rattle.flt_model.specs.Response.{negative, positive, reply_of, responded, response, unless_silent};
 ghost use Rattle.flt_model.specs.declared.call.Op.TheVariants as ops;
+ghost use Rattle.flt_model.specs.declared.call.Reply.TheVariants as replies;
 ghost use Rattle.flt_did.specs.Table.{dids_of};
 ghost use Rattle.flt_did.specs.Serves.{Serves};
 ghost use Rattle.flt_dem.specs.Calls.{RequestBytes};
-ghost use Rattle.flt_dem.specs.Manager.{StandsFor, reply_of};
+ghost use Rattle.flt_dem.specs.Manager.{StandsFor, reply_of as cause_reply};
 ghost use Rattle.flt_dem.specs.View.{view_of};
 ghost use Rattle.flt_dcm.specs.Session.{is_extended_one, has_hold, heard, after, after_asked, ticked};
 ghost use Rattle.flt_dcm.specs.Standard.{SaysStandard};
@@ -23,7 +24,7 @@ use arrayvec::ArrayVec;
 use flt_config::{Persist, ValidConfig, initial};
 use flt_dem::DemState;
 use flt_did::{DID_ROWS, DidTable};
-use flt_model::{Cause, Op, Reply};
+use flt_model::{Cause, Op, REQUEST, Reply, Report, Shown};
 use flt_uds::{Asked, Negative, REQUEST_OUT_OF_RANGE, RESPONSE, Request, put_negative, read};
 use std::marker::Model;
 
@@ -56,13 +57,12 @@ fn copy_of(base: &Persist) -> Persist
     base.clone().unwrap()
 }
 
-/// A negative response.
-fn refuse(service: u8, code: u8) -> Reply
-    ensures { result ≡ negative service code }
+/// Writes a negative response in place of what `out` holds.
+fn refuse(service: u8, code: u8, out: &mut ArrayVec<u8, RESPONSE>)
+    ensures { reply_of out.new.items ≡ negative service code }
 {
-    let mut out = ArrayVec::new();
-    put_negative(&Negative { service, code }, &mut out);
-    Reply::Response(out)
+    out.clear();
+    put_negative(&Negative { service, code }, out);
 }
 
 /// Clears a DTC, or all of them. A DTC that no event has clears nothing.
@@ -93,48 +93,57 @@ fn carry_out(dem: &mut DemState, session: &mut Session, request: Request)
     }
 }
 
-/// A positive response, where it is not suppressed.
-fn unless_silent(silent: bool, bytes: ArrayVec<u8, RESPONSE>) -> Reply
-    ensures { result ≡ unless_silent silent bytes.items }
-{
-    if silent {
-        Reply::Silent
-    } else {
-        Reply::Response(bytes)
-    }
-}
-
-/// Answers a request that was read, of this service, and carries it out where its DTC is known.
-fn respond(dem: &mut DemState, session: &mut Session, service: u8, asked: Asked) -> Reply
+/// Answers a request that was read, of this service, and carries it out where its DTC is known. The answer tells
+/// whether the response is suppressed.
+fn respond(
+    dem: &mut DemState,
+    session: &mut Session,
+    service: u8,
+    asked: Asked,
+    out: &mut ArrayVec<u8, RESPONSE>,
+) -> bool
+    requires { out.old.items ≡ [] }
     ensures config { dem.new.faults.config ≡ dem.old.faults.config }
     ensures session { session.new ≡ after session.old asked.request }
     ensures stands { (life : Life) (past : History) (tester : ℕ) (sent : RequestBytes) → cleared_dtc (ops.Request tester sent) ≡ dtc_of_clear asked.request → StandsFor life past dem.old → StandsFor life (ops.Request tester sent ∷ past) dem.new }
-    ensures answer { result ≡ responded service asked.silent (positive (view_of dem.old) asked.request) }
-    ensures negative { IsNegative result → (dem.new ≡ dem.old) × (session.new ≡ session.old) }
+    ensures answer { unless_silent result out.new.items ≡ responded service asked.silent (positive (view_of dem.old) asked.request) }
+    ensures negative { IsNegative (unless_silent result out.new.items) → (dem.new ≡ dem.old) × (session.new ≡ session.old) }
 {
-    let mut bytes = ArrayVec::new();
-    match put_positive(dem, asked.request, &mut bytes) {
+    match put_positive(dem, asked.request, out) {
         Ok(()) => {
             carry_out(dem, session, asked.request);
-            unless_silent(asked.silent, bytes)
+            asked.silent
         }
-        Err(UnknownDtc) => refuse(service, REQUEST_OUT_OF_RANGE),
+        Err(UnknownDtc) => {
+            refuse(service, REQUEST_OUT_OF_RANGE, out);
+            false
+        }
     }
 }
 
 /// Answers a tester's request: the silent time begins anew, and what is asked is carried out where it is not refused.
-fn request(dem: &mut DemState, session: &mut Session, bytes: &[u8]) -> Reply
+/// The answer tells whether the response is suppressed.
+fn request(
+    dem: &mut DemState,
+    session: &mut Session,
+    bytes: &[u8],
+    out: &mut ArrayVec<u8, RESPONSE>,
+) -> bool
     requires { 0 < length bytes.now }
     ensures config { dem.new.faults.config ≡ dem.old.faults.config }
     ensures session { session.new ≡ after_asked (heard session.old) (asked (is_extended_one session.old) bytes.now) }
     ensures stands { (life : Life) (past : History) (tester : ℕ) (sent : RequestBytes) → sent.items ≡ bytes.now → StandsFor life past dem.old → StandsFor life (ops.Request tester sent ∷ past) dem.new }
-    ensures answer { result ≡ response (view_of dem.old) (is_extended_one session.old) bytes.now }
-    ensures negative { IsNegative result → (dem.new ≡ dem.old) × (session.new ≡ heard session.old) }
+    ensures answer { unless_silent result out.new.items ≡ response (view_of dem.old) (is_extended_one session.old) bytes.now }
+    ensures negative { IsNegative (unless_silent result out.new.items) → (dem.new ≡ dem.old) × (session.new ≡ heard session.old) }
 {
+    out.clear();
     *session = session.heard();
     match read(bytes, session.is_extended()) {
-        Ok(asked) => respond(dem, session, bytes[0], asked),
-        Err(Negative { service, code }) => refuse(service, code),
+        Ok(asked) => respond(dem, session, bytes[0], asked, out),
+        Err(Negative { service, code }) => {
+            refuse(service, code, out);
+            false
+        }
     }
 }
 
@@ -152,9 +161,20 @@ fn ticked_sessions(sessions: [Session; TESTERS], ticks: u16) -> [Session; TESTER
     sessions.map(|session| session.tick(ticks))
 }
 
+/// A response, which may be suppressed.
+fn sent_unless(silent: bool, bytes: ArrayVec<u8, RESPONSE>) -> Reply
+    ensures { result ≡ unless_silent silent bytes.items }
+{
+    if silent {
+        Reply::Silent
+    } else {
+        Reply::Response(bytes)
+    }
+}
+
 /// The answer to a report, which may have been ignored.
 fn taken_unless(cause: Option<Cause>) -> Reply
-    ensures { result ≡ reply_of cause }
+    ensures { result ≡ cause_reply cause }
 {
     match cause {
         Some(cause) => Reply::Ignored(cause),
@@ -198,6 +218,85 @@ impl UnitState {
         self.dem.config()
     }
 
+    /// Sets a signal, of the number 0 to 7.
+    pub fn signal(&mut self, index: u8, value: u16)
+        requires { index < 8 }
+        ensures config { self.new.dem.faults.config ≡ self.old.dem.faults.config }
+        ensures base { self.new.base ≡ self.old.base }
+        ensures stands { (life : Life) (past : History) → Stands life past self.old → Stands life (ops.Signal index value ∷ past) self.new }
+    {
+        self.dem.signal(index, value);
+    }
+
+    /// Takes a monitor's report of an event. The answer tells why it is ignored, where it is: a tester holds the DTC setting off, or
+    /// else the event's operation cycle was not started since power-up.
+    pub fn report(&mut self, dids: &DidTable<DID_ROWS>, event: u16, report: Report) -> Option<Cause>
+        requires served { Serves (dids_of dids.now) self.old.dem.faults.config.events.items }
+        requires configured { event < length self.old.dem.faults.config.events.items }
+        ensures config { self.new.dem.faults.config ≡ self.old.dem.faults.config }
+        ensures base { self.new.base ≡ self.old.base }
+        ensures stands { (life : Life) (past : History) → Stands life past self.old → Stands life (ops.Report event report ∷ past) self.new }
+        ensures answer { (life : Life) (past : History) → Stands life past self.old → cause_reply result ≡ answer life past (ops.Report event report) }
+    {
+        let setting = !is_setting_off(&self.sessions);
+        self.dem.report(dids, event, report, setting)
+    }
+
+    /// Lets ticks of 10 ms go by, for the events where no tester holds the DTC setting off, and then for the testers.
+    pub fn tick(&mut self, dids: &DidTable<DID_ROWS>, ticks: u16)
+        requires served { Serves (dids_of dids.now) self.old.dem.faults.config.events.items }
+        ensures config { self.new.dem.faults.config ≡ self.old.dem.faults.config }
+        ensures base { self.new.base ≡ self.old.base }
+        ensures stands { (life : Life) (past : History) → Stands life past self.old → Stands life (ops.Tick ticks ∷ past) self.new }
+    {
+        let setting = !is_setting_off(&self.sessions);
+        self.dem.tick(dids, ticks, setting);
+        self.sessions = ticked_sessions(self.sessions, ticks);
+    }
+
+    /// Ends an operation cycle, of the number 0 to 3, and starts the next.
+    pub fn cycle(&mut self, cycle: u8)
+        requires { cycle < 4 }
+        ensures config { self.new.dem.faults.config ≡ self.old.dem.faults.config }
+        ensures base { self.new.base ≡ self.old.base }
+        ensures stands { (life : Life) (past : History) → Stands life past self.old → Stands life (ops.Cycle cycle ∷ past) self.new }
+    {
+        self.dem.cycle(cycle);
+    }
+
+    /// Takes the request of a tester, of the number 0 to 3, and writes the response in place of what `out` holds. The answer tells
+    /// whether the response is suppressed.
+    pub fn request(
+        &mut self,
+        tester: u8,
+        bytes: &ArrayVec<u8, REQUEST>,
+        out: &mut ArrayVec<u8, RESPONSE>,
+    ) -> bool
+        requires tester { tester < 4 }
+        requires some { 0 < length bytes.now.items }
+        ensures config { self.new.dem.faults.config ≡ self.old.dem.faults.config }
+        ensures base { self.new.base ≡ self.old.base }
+        ensures stands { (life : Life) (past : History) → Stands life past self.old → Stands life (ops.Request tester bytes.now ∷ past) self.new }
+        ensures answer { (life : Life) (past : History) → Stands life past self.old → unless_silent result out.new.items ≡ answer life past (ops.Request tester bytes.now) }
+        ensures negative { IsNegative (unless_silent result out.new.items) → self.new ≡ record self.old { sessions = slice_set self.old.sessions tester (heard (session_at self.old.sessions tester)) } }
+    {
+        request(
+            &mut self.dem,
+            &mut self.sessions[tester as usize],
+            bytes,
+            out,
+        )
+    }
+
+    /// What is shown of an event. To show it changes nothing.
+    pub fn show(&self, event: u16) -> Shown
+        requires { event < length self.now.dem.faults.config.events.items }
+        ensures answer { (life : Life) (past : History) → Stands life past self.now → replies.Shown result ≡ answer life past (ops.Show event) }
+        ensures stands { (life : Life) (past : History) → Stands life past self.now → Stands life (ops.Show event ∷ past) self.now }
+    {
+        self.dem.show(event)
+    }
+
     /// Carries out a call, and answers it.
     fn take(&mut self, dids: &DidTable<DID_ROWS>, op: &Op, out: &mut Persist) -> Reply
         requires served { Serves (dids_of dids.now) self.old.dem.faults.config.events.items }
@@ -212,28 +311,26 @@ impl UnitState {
         ensures negative { (tester : ℕ) (bytes : RequestBytes) → op.now ≡ ops.Request tester bytes → IsNegative result
             → self.new ≡ record self.old { sessions = slice_set self.old.sessions tester (heard (session_at self.old.sessions tester)) } }
     {
-        let setting = !is_setting_off(&self.sessions);
         match op {
             Op::Signal { index, value } => {
-                self.dem.signal(*index, *value);
+                self.signal(*index, *value);
                 Reply::Taken
             }
-            Op::Report { event, report } => {
-                taken_unless(self.dem.report(dids, *event, *report, setting))
-            }
+            Op::Report { event, report } => taken_unless(self.report(dids, *event, *report)),
             Op::Tick { ticks } => {
-                self.dem.tick(dids, *ticks, setting);
-                self.sessions = ticked_sessions(self.sessions, *ticks);
+                self.tick(dids, *ticks);
                 Reply::Taken
             }
             Op::Cycle { cycle } => {
-                self.dem.cycle(*cycle);
+                self.cycle(*cycle);
                 Reply::Taken
             }
             Op::Request { tester, bytes } => {
-                request(&mut self.dem, &mut self.sessions[*tester as usize], bytes)
+                let mut out = ArrayVec::new();
+                let silent = self.request(*tester, bytes, &mut out);
+                sent_unless(silent, out)
             }
-            Op::Show { event } => Reply::Shown(self.dem.show(*event)),
+            Op::Show { event } => Reply::Shown(self.show(*event)),
             Op::Snapshot => {
                 self.dem.persist(out);
                 Reply::Taken

@@ -1,44 +1,19 @@
 -- Steps that are made one after the other.
-use Rattle.std.proofs.Common.{◌≡◌, ℕ, ◌+◌, ◌<◌, ◌≤◌, Bool, true, false, List, [], ◌∷◌, ◌++◌, length, get_or, drop, map, arith, refl, add-one, append_assoc, drop-cons}
-use Rattle.std.specs.Prelude.{IsTrue, Vec, ◌&&◌, nat_le, nat_lt}
+use Rattle.std.proofs.Common.{◌≡◌, ℕ, ◌+◌, ◌<◌, ◌≤◌, Bool, true, false, List, [], ◌∷◌, ◌++◌, length, get_or, drop, map, refl, add-one, append_assoc, drop-cons}
+use Rattle.std.specs.Prelude.{IsTrue, Vec, ◌&&◌}
 use Rattle.std.specs.List.{list_all}
 use Rattle.std.proofs.lemmas.List.{append-nil, map-append}
-use Rattle.std.proofs.lemmas.Bool.{leb-true, ltb-true}
 use Rattle.std.proofs.lemmas.List.Recursion.{and_at}
 use Rattle.std.proofs.Math.ListN.{drop_of_length-le}
 use Rattle.flt_model.specs.Life.{Life, History}
 use Rattle.flt_model.specs.Answer.{answer, answers}
 use Rattle.flt_run.specs.declared.reply.Reply.{Reply}
-use Rattle.flt_config.specs.declared.config.Config.{Config}
-use Rattle.flt_dcm.specs.Unit.{UnitView, Stands, IsAdmitted}
+use Rattle.flt_dcm.specs.Unit.{UnitView, Stands}
 use Rattle.flt_script.specs.Step.{is_part_among, is_step_among, are_parts_among}
 use Rattle.flt_script.specs.declared.step.Part.{Part}
 use Rattle.flt_script.specs.declared.step.Part.TheVariants.{One}
 use Rattle.flt_script.specs.declared.step.Step.{Step}
-use Rattle.flt_script.specs.declared.step.Step.TheVariants as steps
 use Rattle.flt_run.specs.Steps.{answer_of, lists, op_of, op_of_step, parts_of, step_of}
-
--- ---- the ranges of a step
-
-and_first : (a b : Bool) → (a && b) ≡ true → a ≡ true
-and_first true b both = refl
-and_first false b both = both
-
-and_second : (a b : Bool) → (a && b) ≡ true → b ≡ true
-and_second true b both = both
-and_second false b both = absurd cc
-
--- A step whose numbers are in their ranges makes a call that is admitted.
-pub admitted : (config : Config) (step : Step) → is_step_among (length config.events.items) step ≡ true → IsAdmitted config (op_of_step step)
-admitted config (steps.Report event report) among = ltb-true event (length config.events.items) among
-admitted config (steps.Show event) among = ltb-true event (length config.events.items) among
-admitted config (steps.Cycle cycle) among = let most = leb-true cycle 3 among in omega (arith, most)
-admitted config (steps.Tick ticks) among = tt
-admitted config (steps.Signal index value) among = let most = leb-true index 7 (and_first (nat_le index 7) (nat_le value 65535) among) in omega (arith, most)
-admitted config (steps.Request tester bytes) among =
-    let most = leb-true tester 3 (and_first (nat_le tester 3) (nat_lt 0 (length bytes.items)) among) in
-    let some = ltb-true 0 (length bytes.items) (and_second (nat_le tester 3) (nat_lt 0 (length bytes.items)) among) in
-    (omega (arith, most), some)
 
 -- ---- the loop over the parts
 
@@ -63,6 +38,10 @@ module _ (life : Life) (unit : UnitView) (replies : List Reply) (parts : List Pa
 
   pub ends : length parts ≤ index → map answer_of replies ≡ answers life [] (map op_of parts)
   ends past = rw (drop_of_length-le parts past, append-nil) at on.same
+
+and_first : (a b : Bool) → (a && b) ≡ true → a ≡ true
+and_first true b both = refl
+and_first false b both = both
 
 -- The parts of the one life are among those of all lives.
 pub parts_among : {A : Type 0} (events : ℕ) (lives : List (Vec Part A)) → IsTrue (list_all (λ life. are_parts_among events life.items) lives)

@@ -1,18 +1,23 @@
-ghost use Rattle.std.specs.Prelude.{◌≡◌, IfOk};
+ghost use Rattle.std.specs.Prelude.{◌≡◌, ◌<◌, ◌∷◌, IfOk, IsTrue, length};
+ghost use Rattle.flt_model.specs.Life.{Life, History};
+ghost use Rattle.flt_model.specs.Answer.{answer};
+ghost use Rattle.flt_model.specs.declared.call.Op.TheVariants as ops;
 ghost use Rattle.flt_did.specs.Serves.{Serves};
 ghost use Rattle.flt_did.specs.Table.{dids_of};
+ghost use Rattle.flt_dcm.specs.Unit.{Stands};
+ghost use Rattle.flt_dcm.specs.Whole.{config_of, state_of};
 ghost use Rattle.flt_script.specs.Script.{content};
+ghost use Rattle.flt_script.specs.Step.{is_step_among};
 ghost use Rattle.flt_run.specs.Coming.{IsAnswered, IsReplayOf};
-ghost use Rattle.flt_run.specs.Steps.{lists, op_of_step, parts_of, step_of};
+ghost use Rattle.flt_run.specs.Steps.{answer_of, lists, op_of_step, parts_of, step_of};
 
 use crate::ending::Ending;
-use crate::reply::reply_of;
+use crate::reply::Reply;
 use arrayvec::ArrayVec;
-use flt_config::initial;
 use flt_dcm::Unit;
 use flt_dem::Dem;
 use flt_did::{DID_ROWS, DidTable};
-use flt_model::{Op, REQUEST};
+use flt_model::{Op, REQUEST, RESPONSE};
 use flt_script::{Part, Script, Step};
 use std::alloc::{AllocError, Global};
 
@@ -65,6 +70,61 @@ fn op_of(step: &Step) -> Op
     }
 }
 
+/// Sends a tester's request. The reply takes as many bytes as the response has.
+fn send(
+    alloc: Global,
+    unit: &mut Unit,
+    tester: u8,
+    bytes: &ArrayVec<u8, REQUEST>,
+    response: &mut ArrayVec<u8, RESPONSE>,
+) -> Result<Reply, AllocError>
+    requires tester { tester < 4 }
+    requires some { 0 < length bytes.now.items }
+    ensures config { config_of unit.new ≡ config_of unit.old }
+    ensures stands { (life : Life) (past : History) → Stands life past (state_of unit.old) → Stands life (ops.Request tester bytes.now ∷ past) (state_of unit.new) }
+    ensures reply { (life : Life) (past : History) → Stands life past (state_of unit.old) → IfOk result (λ reply. answer_of reply ≡ answer life past (ops.Request tester bytes.now)) }
+{
+    if unit.request(tester, bytes, response) {
+        return Ok(Reply::Silent);
+    }
+    let bytes = Vec::from_slice(alloc, response)?;
+    Ok(Reply::Response(bytes))
+}
+
+/// Makes the call of a step.
+fn apply(
+    alloc: Global,
+    unit: &mut Unit,
+    step: &Step,
+    response: &mut ArrayVec<u8, RESPONSE>,
+) -> Result<Reply, AllocError>
+    requires { IsTrue (is_step_among (length (config_of unit.old).events.items) step.now) }
+    ensures config { config_of unit.new ≡ config_of unit.old }
+    ensures stands { (life : Life) (past : History) → Stands life past (state_of unit.old) → Stands life (op_of_step step.now ∷ past) (state_of unit.new) }
+    ensures reply { (life : Life) (past : History) → Stands life past (state_of unit.old) → IfOk result (λ reply. answer_of reply ≡ answer life past (op_of_step step.now)) }
+{
+    match step {
+        Step::Report { event, report } => match unit.report(*event, *report) {
+            Some(cause) => Ok(Reply::Ignored(cause)),
+            None => Ok(Reply::Taken),
+        },
+        Step::Show { event } => Ok(Reply::Shown(unit.show(*event))),
+        Step::Cycle { cycle } => {
+            unit.cycle(*cycle);
+            Ok(Reply::Taken)
+        }
+        Step::Tick { ticks } => {
+            unit.tick(*ticks);
+            Ok(Reply::Taken)
+        }
+        Step::Signal { index, value } => {
+            unit.signal(*index, *value);
+            Ok(Reply::Taken)
+        }
+        Step::Request { tester, bytes } => send(alloc, unit, *tester, bytes, response),
+    }
+}
+
 /// Makes the call of each step in turn. The journal has the calls, and the replies are the machine's at their places.
 pub(crate) fn replay(
     alloc: Global,
@@ -76,16 +136,15 @@ pub(crate) fn replay(
     ensures answered { IfOk result IsAnswered }
 {
     let Script { config, lives, .. } = script;
-    let mut snapshot = initial(&config);
+    let mut response = ArrayVec::new();
     let mut unit = Unit::make(Dem::make(config, dids));
     let parts = parts_of(&lives);
     let mut journal = Vec::with_capacity(alloc, parts.len())?;
     let mut replies = Vec::with_capacity(alloc, parts.len())?;
     for part in parts {
-        let op = op_of(step_of(part));
-        let answer = unit.apply(&op, &mut snapshot);
-        journal.push(op)?;
-        replies.push(reply_of(alloc, &answer)?)?;
+        let step = step_of(part);
+        journal.push(op_of(step))?;
+        replies.push(apply(alloc, &mut unit, step, &mut response)?)?;
     }
     Ok(Ending::Ran {
         lives,
