@@ -1,4 +1,4 @@
-ghost use Rattle.std.specs.Prelude.{◌≡◌, ◌≤◌, ◌++◌, IfOk, OnOk, length};
+ghost use Rattle.std.specs.Prelude.{◌≡◌, ◌≤◌, ◌++◌, [], ◌∷◌, IfOk, OnOk, length};
 ghost use Rattle.std.specs.String.{string_bytes};
 ghost use Rattle.flt_config.specs.Validity.{needed_pages};
 ghost use Rattle.flt_script.specs.Script.{content};
@@ -59,27 +59,39 @@ impl fmt::Display for Stored {
     }
 }
 
-/// Puts a reply behind what `line` holds.
+/// Puts that a report was ignored, and the end of its line, behind what `line` holds.
+fn put_ignored(line: &mut String, cause: Cause) -> Result<(), AllocError>
+    ensures { OnOk result (string_bytes line.new ≡ string_bytes line.old ++ reply_text (Reply.Ignored cause) ++ 10 ∷ []) }
+{
+    match cause {
+        Cause::SettingOff => {
+            line.push_str("ignored setting")?;
+            line.push_str("\n")
+        }
+        Cause::NotStarted => line.push_str("ignored cycle\n"),
+    }
+}
+
+/// Puts a reply and the end of its line behind what `line` holds.
 fn put_reply(line: &mut String, reply: &Reply) -> Result<(), AllocError>
-    ensures { OnOk result (string_bytes line.new ≡ string_bytes line.old ++ reply_text reply.now) }
+    ensures { OnOk result (string_bytes line.new ≡ string_bytes line.old ++ reply_text reply.now ++ 10 ∷ []) }
 {
     match reply {
-        Reply::Taken => line.push_str("taken"),
-        Reply::Ignored(Cause::SettingOff) => line.push_str("ignored setting"),
-        Reply::Ignored(Cause::NotStarted) => line.push_str("ignored cycle"),
+        Reply::Taken => line.push_str("taken\n"),
+        Reply::Ignored(cause) => put_ignored(line, *cause),
         Reply::Shown(shown) => {
             let state = State(*shown);
             let stored = Stored {
                 stored: shown.stored,
                 overflow: shown.overflow,
             };
-            write!(line, "{state} {stored}")
+            write!(line, "{state} {stored}\n")
         }
         Reply::Response(bytes) => {
             let bytes = HexBytes(bytes);
-            write!(line, "{bytes}")
+            write!(line, "{bytes}\n")
         }
-        Reply::Silent => line.push_str("silent"),
+        Reply::Silent => line.push_str("silent\n"),
     }
 }
 
@@ -90,8 +102,7 @@ pub(crate) fn put_line(line: &mut String, part: &Part, reply: &Reply) -> Result<
     let Part::One(step) = part;
     line.clear();
     write!(line, "{step} -> ")?;
-    put_reply(line, reply)?;
-    line.push_str("\n")
+    put_reply(line, reply)
 }
 
 /// How much of a sector a script's records take, and how much is done.
