@@ -59,8 +59,8 @@ module _ (c : Config) (first : ℕ) (held : List ℕ) (into : Persist) (size : l
   alone_fits passes =
       let here : states_fit c.events.items states first 16 ≡ true = pass_together c.events.items after states first 16 (λ place below. sym (together place below)) passes in
       let set_fits : AreStatesOf c.events.items states =
-          subst (AreStatesOf c.events.items) (sym set_in)
-          (set_states_fit c.events.items held first init.events.items fit.states (subst (λ (xs : List EventState). states_fit c.events.items xs first 16 ≡ true) set_in here)) in
+      subst (AreStatesOf c.events.items) (sym set_in)
+      (set_states_fit c.events.items held first init.events.items fit.states (subst (λ (xs : List EventState). states_fit c.events.items xs first 16 ≡ true) set_in here)) in
       states_alone c init states fit set_fits
 
   pub states_unfit : (Fits c (record init { events = record { items = states } }) → ⊥) → taken c (States first) held into ≡ None

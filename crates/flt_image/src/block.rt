@@ -25,12 +25,8 @@ pub fn put_block(config: &ValidConfig, state: &Persist, id: u16, out: &mut Block
     out.clear();
     match part_of(id) {
         Part::Summary => push_all(out, &summary_bytes(state)),
-        Part::States {
-            first,
-        } => put_states(&state.events, first, out),
-        Part::Entry {
-            place,
-        } => put_place(&state.entries, place, out),
+        Part::States { first } => put_states(&state.events, first, out),
+        Part::Entry { place } => put_place(&state.entries, place, out),
     }
 }
 
@@ -39,12 +35,8 @@ fn part_length(part: Part) -> usize
 {
     match part {
         Part::Summary => 32,
-        Part::States {
-            ..
-        } => 64,
-        Part::Entry {
-            ..
-        } => 68,
+        Part::States { .. } => 64,
+        Part::Entry { .. } => 68,
     }
 }
 
@@ -66,11 +58,7 @@ pub fn get_block(config: &ValidConfig, id: u16, bytes: &[u8], into: &mut Persist
     }
     match part {
         Part::Summary => take_summary(config, bytes, into),
-        Part::States {
-            first,
-        } => take_states(config, first, bytes, into),
-        Part::Entry {
-            place,
-        } => take_entry(config, place, bytes, into),
+        Part::States { first } => take_states(config, first, bytes, into),
+        Part::Entry { place } => take_entry(config, place, bytes, into),
     }
 }

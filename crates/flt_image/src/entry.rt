@@ -8,7 +8,9 @@ ghost use Rattle.flt_image.specs.Taking.{Takes};
 
 use crate::pushing::{BlockBytes, push_all, push_zeros, word_at};
 use arrayvec::ArrayVec;
-use flt_config::{ENTRIES, EntryState, FRAME, Frame, Persist, ValidConfig, fits, initial, place_of};
+use flt_config::{
+    ENTRIES, EntryState, FRAME, Frame, Persist, ValidConfig, fits, initial, place_of,
+};
 
 fn put_frame(frame: &Frame, out: &mut BlockBytes)
     requires { length out.old.items + 32 ≤ 128 }

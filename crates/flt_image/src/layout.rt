@@ -23,9 +23,7 @@ pub(crate) fn part_of(id: u16) -> Part
             first: 16 * (id - 4),
         }
     } else {
-        Part::Entry {
-            place: id - 8,
-        }
+        Part::Entry { place: id - 8 }
     }
 }
 
@@ -35,12 +33,8 @@ fn has_part(config: &ValidConfig, part: Part) -> bool
     let config = config.config();
     match part {
         Part::Summary => true,
-        Part::States {
-            first,
-        } => (first as usize) < config.events.len(),
-        Part::Entry {
-            place,
-        } => place < config.memory as u16,
+        Part::States { first } => (first as usize) < config.events.len(),
+        Part::Entry { place } => place < config.memory as u16,
     }
 }
 

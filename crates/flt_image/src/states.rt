@@ -103,7 +103,12 @@ fn are_bytes_of(states: &[EventState], first: u16, bytes: &[u8]) -> bool
 }
 
 /// Takes the states of sixteen events from their bytes. Where they are none that fit, nothing changes.
-pub(crate) fn take_states(config: &ValidConfig, first: u16, bytes: &[u8], into: &mut Persist) -> bool
+pub(crate) fn take_states(
+    config: &ValidConfig,
+    first: u16,
+    bytes: &[u8],
+    into: &mut Persist,
+) -> bool
     requires size { length bytes.now ≡ 64 }
     requires first { first < length config.now.events.items }
     requires states { length into.old.events.items ≡ length config.now.events.items }

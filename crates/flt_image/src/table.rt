@@ -6,7 +6,13 @@ use flt_nvm::{BlockCfg, Kind};
 use std::alloc::{AllocError, Global};
 
 /// Puts so many blocks of one kind and length behind the others, with one identifier after another.
-fn push_rows(table: &mut Vec<BlockCfg>, kind: Kind, length: u8, first: u16, count: u16) -> Result<(), AllocError>
+fn push_rows(
+    table: &mut Vec<BlockCfg>,
+    kind: Kind,
+    length: u8,
+    first: u16,
+    count: u16,
+) -> Result<(), AllocError>
     requires { first + count < 1000 }
     ensures { OnOk result (table.new.items ≡ table.old.items ++ rows kind length first count) }
 {

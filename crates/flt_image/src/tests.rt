@@ -1,36 +1,41 @@
 //! The bytes of each block written out by hand, what is read back of them, and what is refused.
 use crate::{
-    BlockBytes, Commit, fee_numbers, get_block, get_commit, get_mark, is_used, mark_of, next_commit, put_block, put_commit,
-    put_mark, used_ids,
+    BlockBytes, Commit, block_table, fee_numbers, get_block, get_commit, get_mark, is_used,
+    mark_of, next_commit, put_block, put_commit, put_mark, used_ids,
 };
 use arrayvec::ArrayVec;
 use flt_config::{
-    Config, DIDS, DidUse, EntryState, EventCfg, EventState, Frame, Persist, ValidConfig, check, fits, initial,
+    Config, DIDS, DidUse, EntryState, EventCfg, EventState, Frame, Persist, ValidConfig, check,
+    fits, initial,
 };
+use flt_nvm::{BlockCfg, Kind};
 
 const SUMMARY: [u8; 32] = [
-    1, 1, 1, 0, 0, 0, 0xFF, 0xFF, 0, 1, 0xFF, 0xFF, 0, 0, 0, 0, 0, 0, 0, 0, 0, 0, 0, 0, 0, 0, 0, 0, 0, 0, 0, 0,
+    1, 1, 1, 0, 0, 0, 0xFF, 0xFF, 0, 1, 0xFF, 0xFF, 0, 0, 0, 0, 0, 0, 0, 0, 0, 0, 0, 0, 0, 0, 0, 0,
+    0, 0, 0, 0,
 ];
 
 const STATES: [u8; 64] = [
-    0x2F, 3, 0, 1, 0xAC, 1, 0x80, 2, 0x50, 0, 0, 0, 0x50, 0, 0, 0, 0x50, 0, 0, 0, 0x50, 0, 0, 0, 0x50, 0, 0, 0, 0x50, 0, 0,
-    0, 0x50, 0, 0, 0, 0x50, 0, 0, 0, 0x50, 0, 0, 0, 0x50, 0, 0, 0, 0x50, 0, 0, 0, 0x50, 0, 0, 0, 0x50, 0, 0, 0, 0x50, 0, 0,
-    0,
+    0x2F, 3, 0, 1, 0xAC, 1, 0x80, 2, 0x50, 0, 0, 0, 0x50, 0, 0, 0, 0x50, 0, 0, 0, 0x50, 0, 0, 0,
+    0x50, 0, 0, 0, 0x50, 0, 0, 0, 0x50, 0, 0, 0, 0x50, 0, 0, 0, 0x50, 0, 0, 0, 0x50, 0, 0, 0, 0x50,
+    0, 0, 0, 0x50, 0, 0, 0, 0x50, 0, 0, 0, 0x50, 0, 0, 0,
 ];
 
 const ENTRY: [u8; 68] = [
-    0, 0, 5, 3, 1, 2, 3, 0, 0, 0, 0, 0, 0, 0, 0, 0, 0, 0, 0, 0, 0, 0, 0, 0, 0, 0, 0, 0, 0, 0, 0, 0, 0, 0, 0, 0, 4, 5, 6, 0,
-    0, 0, 0, 0, 0, 0, 0, 0, 0, 0, 0, 0, 0, 0, 0, 0, 0, 0, 0, 0, 0, 0, 0, 0, 0, 0, 0, 0,
+    0, 0, 5, 3, 1, 2, 3, 0, 0, 0, 0, 0, 0, 0, 0, 0, 0, 0, 0, 0, 0, 0, 0, 0, 0, 0, 0, 0, 0, 0, 0, 0,
+    0, 0, 0, 0, 4, 5, 6, 0, 0, 0, 0, 0, 0, 0, 0, 0, 0, 0, 0, 0, 0, 0, 0, 0, 0, 0, 0, 0, 0, 0, 0, 0,
+    0, 0, 0, 0,
 ];
 
 const NO_ENTRY: [u8; 68] = [
-    0xFF, 0xFF, 0, 0, 0, 0, 0, 0, 0, 0, 0, 0, 0, 0, 0, 0, 0, 0, 0, 0, 0, 0, 0, 0, 0, 0, 0, 0, 0, 0, 0, 0, 0, 0, 0, 0, 0, 0,
-    0, 0, 0, 0, 0, 0, 0, 0, 0, 0, 0, 0, 0, 0, 0, 0, 0, 0, 0, 0, 0, 0, 0, 0, 0, 0, 0, 0, 0, 0,
+    0xFF, 0xFF, 0, 0, 0, 0, 0, 0, 0, 0, 0, 0, 0, 0, 0, 0, 0, 0, 0, 0, 0, 0, 0, 0, 0, 0, 0, 0, 0, 0,
+    0, 0, 0, 0, 0, 0, 0, 0, 0, 0, 0, 0, 0, 0, 0, 0, 0, 0, 0, 0, 0, 0, 0, 0, 0, 0, 0, 0, 0, 0, 0, 0,
+    0, 0, 0, 0, 0, 0,
 ];
 
 const COMMIT: [u8; 26] = [
-    1, 1, 2, 3, 4, 0, 1, 0xFF, 0xFF, 0xFF, 1, 0, 0xFF, 0xFF, 0xFF, 0xFF, 0xFF, 0xFF, 0xFF, 0xFF, 0xFF, 0xFF, 0xFF, 0xFF,
-    0xFF, 0xFF,
+    1, 1, 2, 3, 4, 0, 1, 0xFF, 0xFF, 0xFF, 1, 0, 0xFF, 0xFF, 0xFF, 0xFF, 0xFF, 0xFF, 0xFF, 0xFF,
+    0xFF, 0xFF, 0xFF, 0xFF, 0xFF, 0xFF,
 ];
 
 const MARK: [u8; 8] = [1, 1, 2, 0, 2, 2, 0, 0];
@@ -171,7 +176,9 @@ fn blocks_taken_in_order_give_the_state(rt: HostRuntime) {
         Ok(valid) => {
             let mut into = initial(&valid);
             assert!(&rt; get(&valid, 3, &SUMMARY, &mut into));
-            assert!(&rt; into.entries.len() == 1 && into.entries.iter().all(|entry| entry.event == 0xFFFF));
+            assert!(&rt;
+                into.entries.len() == 1 && into.entries.iter().all(|entry| entry.event == 0xFFFF)
+            );
             assert!(&rt; get(&valid, 4, &STATES, &mut into));
             assert!(&rt; get(&valid, 8, &ENTRY, &mut into));
             assert!(&rt; get(&valid, 9, &NO_ENTRY, &mut into));
@@ -187,27 +194,27 @@ fn bytes_of_no_block_that_fits_are_refused(rt: HostRuntime) {
         Ok(valid) => {
             let into = state(None);
             for (id, at, value) in [
-                (3, 0, 2),       // another version
-                (3, 1, 2),       // an overflow flag that is none
-                (3, 2, 3),       // more entries than the memory has room for
-                (3, 3, 1),       // a byte that is not 00
-                (3, 5, 2),       // a noted event that is not configured
-                (3, 6, 0),       // half of a note
-                (3, 31, 1),      // a byte that is not 00
-                (4, 2, 0x80),    // lit without a warning indicator
-                (4, 6, 0),       // the warning bit without being lit
-                (4, 4, 0x2C),    // lit without the warning bit
-                (4, 8, 0x51),    // a state past the last event
-                (4, 63, 1),      // a state past the last event
-                (8, 1, 2),       // an event that is not configured
-                (8, 2, 0),       // an entry that never occurred
-                (8, 3, 4),       // frames of another length
-                (8, 3, 33),      // frames longer than any
-                (8, 7, 1),       // the first frame filled up with another byte
-                (8, 39, 1),      // the recent frame filled up with another byte
-                (8, 67, 1),      // the recent frame filled up with another byte
-                (9, 0, 0),       // an event past the number of entries
-                (9, 67, 1),      // a byte that is not 00
+                (3, 0, 2), // another version
+                (3, 1, 2), // an overflow flag that is none
+                (3, 2, 3), // more entries than the memory has room for
+                (3, 3, 1), // a byte that is not 00
+                (3, 5, 2), // a noted event that is not configured
+                (3, 6, 0), // half of a note
+                (3, 31, 1), // a byte that is not 00
+                (4, 2, 0x80), // lit without a warning indicator
+                (4, 6, 0), // the warning bit without being lit
+                (4, 4, 0x2C), // lit without the warning bit
+                (4, 8, 0x51), // a state past the last event
+                (4, 63, 1), // a state past the last event
+                (8, 1, 2), // an event that is not configured
+                (8, 2, 0), // an entry that never occurred
+                (8, 3, 4), // frames of another length
+                (8, 3, 33), // frames longer than any
+                (8, 7, 1), // the first frame filled up with another byte
+                (8, 39, 1), // the recent frame filled up with another byte
+                (8, 67, 1), // the recent frame filled up with another byte
+                (9, 0, 0), // an event past the number of entries
+                (9, 67, 1), // a byte that is not 00
             ] {
                 let bytes = changed(&put(&valid, &into, id), at, value);
                 let mut after = state(None);
@@ -259,12 +266,23 @@ fn commits_are_read_of_their_own_configuration(rt: HostRuntime) {
                     if commit.generation < 0xFFFF_FFFF {
                         let next = next_commit(&valid, &Some(commit));
                         let bytes = put_commit(&next);
-                        assert!(&rt; bytes[4] == 5 && bytes[5] == 1 && bytes[6] == 0 && bytes[7] == 0xFF);
+                        assert!(&rt;
+                            bytes[4] == 5 && bytes[5] == 1 && bytes[6] == 0 && bytes[7] == 0xFF
+                        );
                     }
                 }
                 None => panic!(&rt; "refused"),
             }
-            for (at, value) in [(0, 2), (5, 2), (5, 0xFF), (6, 3), (7, 0), (8, 1), (10, 0xFF), (25, 0)] {
+            for (at, value) in [
+                (0, 2),
+                (5, 2),
+                (5, 0xFF),
+                (6, 3),
+                (7, 0),
+                (8, 1),
+                (10, 0xFF),
+                (25, 0),
+            ] {
                 assert!(&rt; get_commit(&valid, &changed(&COMMIT, at, value)).is_none());
             }
             let first = Commit {
@@ -272,7 +290,11 @@ fn commits_are_read_of_their_own_configuration(rt: HostRuntime) {
                 index: [0; 21],
             };
             assert!(&rt; get_commit(&valid, &put_commit(&first)).is_none());
-            let none = changed(&changed(&changed(&changed(&COMMIT, 1, 0), 2, 0), 3, 0), 4, 0);
+            let none = changed(
+                &changed(&changed(&changed(&COMMIT, 1, 0), 2, 0), 3, 0),
+                4,
+                0,
+            );
             assert!(&rt; get_commit(&valid, &none).is_none());
             assert!(&rt; get_commit(&valid, &COMMIT[..25]).is_none());
             let mut longer = changed(&COMMIT, 0, 1);
@@ -309,8 +331,39 @@ fn drivers_have_eighty_five_numbers(rt: HostRuntime) {
     match fee_numbers(rt.alloc()) {
         Ok(numbers) => {
             assert!(&rt; numbers.len() == 85);
-            assert!(&rt; numbers.iter().zip([8, 16, 17, 24, 25, 32]).all(|(have, want)| *have == want));
+            assert!(&rt;
+                numbers
+                    .iter()
+                    .zip([8, 16, 17, 24, 25, 32])
+                    .all(|(have, want)| *have == want)
+            );
             assert!(&rt; numbers.last().copied() == Some(824));
+        }
+        Err(_) => panic!(&rt; "no memory"),
+    }
+}
+
+#[test]
+fn the_table_has_sixty_three_blocks(rt: HostRuntime) {
+    match block_table(rt.alloc()) {
+        Ok(table) => {
+            assert!(&rt; table.len() == 63);
+            assert!(&rt;
+                table.first().copied()
+                    == Some(BlockCfg {
+                        id: 1,
+                        kind: Kind::Native,
+                        length: 8,
+                    })
+            );
+            assert!(&rt;
+                table.last().copied()
+                    == Some(BlockCfg {
+                        id: 103,
+                        kind: Kind::Native,
+                        length: 32,
+                    })
+            );
         }
         Err(_) => panic!(&rt; "no memory"),
     }

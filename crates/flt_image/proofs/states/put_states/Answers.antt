@@ -15,7 +15,7 @@ loop-place-init c = record {
 pub loop-place-preserved : goal.loop-place-preserved
 loop-place-preserved c =
     let count : length c.put_state.new.out.items ≡ length c.loop-place.out.items + length (state_bytes c.state_at.result) =
-        ap length c.put_state.ensures ∙ length-append c.loop-place.out.items (state_bytes c.state_at.result) in
+    ap length c.put_state.ensures ∙ length-append c.loop-place.out.items (state_bytes c.state_at.result) in
     record {
       size = omega (arith, count, state_size c.state_at.result, c.loop-place.invariant.size);
       items = c.put_state.ensures
