@@ -22,9 +22,9 @@ returns-clause-stands c = λ life past s.
     let sessions = c.self.inside.sessions in
     let within : tester < length sessions = omega (arith, c.requires.tester, c.self.invariant.one_each) in
     let new : c.request.new.session ≡ after_asked (heard (session_at sessions tester)) (asked (is_extended_one (session_at sessions tester)) bytes.items) =
-        c.request.ensures.session
-        ∙ ap (λ session. after_asked (heard session) (asked (is_extended_one session) c.deref.result.now)) (read_within sessions tester _ Default within)
-        ∙ ap (λ xs. after_asked (heard (session_at sessions tester)) (asked (is_extended_one (session_at sessions tester)) xs)) c.deref.ensures.0 in
+    c.request.ensures.session
+    ∙ ap (λ session. after_asked (heard session) (asked (is_extended_one session) c.deref.result.now)) (read_within sessions tester _ Default within)
+    ∙ ap (λ xs. after_asked (heard (session_at sessions tester)) (asked (is_extended_one (session_at sessions tester)) xs)) c.deref.ensures.0 in
     record {
       dem = c.request.ensures.stands life past tester bytes (sym c.deref.ensures.0) inside.dem;
       sessions = subst (λ session. SessionsStand (ops.Request tester bytes ∷ past) (slice_set sessions tester session)) (sym new) (sessions_asked past tester bytes sessions within inside.sessions);
