@@ -1,0 +1,4 @@
+pub mod Fee
+pub mod Mounted
+pub mod Place
+pub mod SetUp

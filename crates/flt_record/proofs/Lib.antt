@@ -1,0 +1,15 @@
+pub mod Items
+pub mod BlankPages
+pub mod LogOn
+pub mod AtEnd
+pub mod Values
+pub mod Appending
+pub mod Steps
+pub mod Filling
+pub mod TornGates
+pub mod Begun
+pub mod Recording
+pub mod FillStep
+pub mod Scanning
+pub mod Proper
+pub mod Counting

@@ -1,0 +1,5 @@
+pub mod Blank
+pub mod Holds
+pub mod Record
+pub mod Recorded
+pub mod Scan
