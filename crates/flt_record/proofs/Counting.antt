@@ -1,15 +1,19 @@
 -- The pages of the records of a log, and of the current ones among them.
-use Rattle.std.proofs.Common.{◌≡◌, ◌≢◌, ◌+◌, ◌-◌, ◌<◌, ◌≤◌, ℕ, zero, suc, Bool, true, false, List, [], ◌∷◌, get_or, length, Option, Some, None, Result, Ok, Err, refl, sym, ◌∙◌, ap, subst, arith}
-use Rattle.std.specs.Prelude.{if◌then◌else◌, ◌==◌, ◌&&◌, sum_by}
-use Rattle.std.specs.List.{list_any, AllPairs}
+use Rattle.std.proofs.Common.{◌≡◌, ◌≢◌, ◌+◌, ◌-◌, ◌<◌, ◌≤◌, ℕ, zero, suc, Bool, true, false, List, [], ◌∷◌, get_or, take, length, length-take, Option, Some, None, Result, Ok, Err, refl, sym, ◌∙◌, ap, subst, arith}
+use Rattle.std.specs.Prelude.{if◌then◌else◌, ◌==◌, ◌&&◌, sum_by, slice_range}
+use Rattle.std.specs.List.{list_any, AllPairs, flat_map}
 use Rattle.std.proofs.lemmas.Bool.{eqb-true}
-use Rattle.std.proofs.lemmas.List.Sums.{sum_by-cons}
-use Rattle.flt_flash.specs.Blocks.{byte_pages, record_pages}
+use Rattle.std.proofs.lemmas.List.Sums.{sum_by-cons, sum_by_push, sum_by-take-le}
+use Rattle.std.proofs.lemmas.List.{take_more}
+use Rattle.flt_flash.specs.Content.{Content, missing, invalid, bytes}
+use Rattle.flt_flash.specs.Blocks.{byte_pages, record_pages, pages_of}
 use Rattle.flt_sector.specs.Log.{Entry, LogFrom, item_at, log_after, log_from, log}
-use Rattle.flt_sector.specs.Blocks.{or_earlier, last_complete}
+use Rattle.flt_sector.specs.Blocks.{or_earlier, last_complete, bytes_behind, content_of}
 use Rattle.flt_sector.specs.declared.log.Item.{Item}
 use Rattle.flt_sector.specs.declared.log.Item.TheVariants.{End, Torn, Kept}
 use Rattle.flt_record.proofs.Items.{item_within}
+use Rattle.flt_record.specs.Live.{held_in, current_pages}
+use Rattle.flt_record.proofs.LogOn.{end_most}
 use Rattle.flt_record.proofs.Proper.{proper_item}
 
 -- the pages of a record
@@ -135,3 +139,37 @@ pub current_at_most : (used : ℕ) (numbers : List ℕ) (pages : List (List ℕ)
     → 2 + sum_by (λ number. cost (last_complete number (log used numbers pages).entries)) numbers ≤ (log used numbers pages).end
 current_at_most used numbers pages least distinct fine =
     omega (arith, costs numbers distinct (log used numbers pages).entries, (counted used numbers pages (used + 1) 2 (omega arith) least fine).total)
+
+sum_less : (f g : ℕ → ℕ) → ((x : ℕ) → f x ≤ g x) → (xs : List ℕ) → sum_by f xs ≤ sum_by g xs
+sum_less f g less [] = omega arith
+sum_less f g less (x ∷ xs) = omega (arith, sum_by-cons f x xs, sum_by-cons g x xs, less x, sum_less f g less xs)
+
+-- what a record holds takes no more pages than the record
+content_cost : (pages : List (List ℕ)) (found : Option Entry) → pages_of (content_of pages found) ≤ cost found
+content_cost pages None = omega arith
+content_cost pages (Some entry) = by_valid entry.valid
+  where
+    by_valid : (valid : Bool) → pages_of (if valid then bytes (bytes_behind pages entry) else invalid) ≤ entry_pages entry
+    by_valid true =
+        omega (arith, length-take entry.length (flat_map (λ (page : List ℕ). page) (slice_range pages (entry.page + 1) (entry.page + 1 + byte_pages entry.length))))
+    by_valid false = omega arith
+
+module _ (used : ℕ) (numbers : List ℕ) (pages : List (List ℕ)) (least : 2 ≤ used) (fine : (log used numbers pages).fault ≡ None) where
+  pub log_within : (log used numbers pages).end ≤ used
+  log_within = end_most used numbers pages pages (log used numbers pages).entries (log used numbers pages).end least
+      (λ i. record { entries = (log used numbers pages).entries; end = (log used numbers pages).end; fault = fine i }) (λ k low lt. refl)
+
+  -- what the blocks hold lies within the log
+  pub live_within : AllPairs (λ a b. a ≢ b) numbers → 2 + current_pages used numbers pages ≤ (log used numbers pages).end
+  live_within distinct =
+      let records = current_at_most used numbers pages least distinct fine in
+      let less = sum_less (λ number. pages_of (held_in used numbers pages number)) (λ number. cost (last_complete number (log used numbers pages).entries))
+      (λ number. content_cost pages (last_complete number (log used numbers pages).entries)) numbers in
+      omega (arith, records, less)
+
+-- one number more
+pub sum_on : (f : ℕ → ℕ) (numbers : List ℕ) (index : ℕ) → index < length numbers → sum_by f (take (index + 1) numbers) ≡ sum_by f (take index numbers) + f (get_or numbers index 0)
+sum_on f numbers index within = ap (sum_by f) (take_more numbers index 0 within) ∙ sum_by_push f (take index numbers) (get_or numbers index 0)
+
+pub sum_front : (f : ℕ → ℕ) (numbers : List ℕ) (index : ℕ) → sum_by f (take index numbers) ≤ sum_by f numbers
+sum_front f numbers index = sum_by-take-le f numbers index

@@ -42,7 +42,7 @@ module _ (pages : List (List ℕ)) (first : ℕ) (bytes : List ℕ) (index : ℕ
       ∙ take_more (drop first after) index [] room
       ∙ ap (λ n. take n (drop first after) ++ get_or (drop first after) index [] ∷ []) so_far
       ∙ ap (λ (l : List (List ℕ)). l ++ get_or (drop first after) index [] ∷ [])
-      (same_range pages after (first + index) (length-set pages (first + index) (slice_range bytes (32 * index) end ++ fill)) (λ k lt. get_or-set_other pages (first + index) k (slice_range bytes (32 * index) end ++ fill) [] (omega arith)) first (first + index) (omega arith))
+      (same_range pages after 0 (first + index) (length-set pages (first + index) (slice_range bytes (32 * index) end ++ fill)) (λ k low lt. get_or-set_other pages (first + index) k (slice_range bytes (32 * index) end ++ fill) [] (omega arith)) first (first + index) (omega arith) (omega arith))
       ∙ ap (λ (p : List ℕ). slice_range pages first (first + index) ++ p ∷ [])
       (get_or-drop first after index [] ∙ get_or-set_same pages (first + index) (slice_range bytes (32 * index) end ++ fill) [] within)
 

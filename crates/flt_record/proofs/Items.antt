@@ -25,10 +25,10 @@ entry_of page End = []
 entry_of page Torn = []
 entry_of page (Kept block length valid complete) = record { page = page; block = block; length = length; valid = valid; complete = complete } ∷ []
 
--- each record ends below a page
+-- each record stands in the log and ends below a page
 abbrev pub AllBelow : ℕ → List Entry → Type 0
 AllBelow bound [] = Unit {0}
-AllBelow bound (entry ∷ rest) = (entry.page + 2 + byte_pages entry.length ≤ bound) × AllBelow bound rest
+AllBelow bound (entry ∷ rest) = (2 ≤ entry.page) × (entry.page + 2 + byte_pages entry.length ≤ bound) × AllBelow bound rest
 
 -- an item of a record takes the record's pages
 gated_pages : (block length : ℕ) (valid : Bool) (head gate : ℕ) (code : Option (List ℕ)) (item : Item) → item_by_gate block length valid head gate code ≡ Ok item → item_pages item ≡ 2 + byte_pages length
@@ -47,7 +47,7 @@ gated_pages block length valid head gate (Some code) item is = by_test (is_gate_
     by_test true told = sym (ap pages told)
     by_test false told = absurd (cc told)
 
-module _ (used : ℕ) (numbers : List ℕ) (pages after : List (List ℕ)) (page bound : ℕ) (agree : (k : ℕ) → k < bound → get_or after k [] ≡ get_or pages k []) (item : Item) where
+module _ (used : ℕ) (numbers : List ℕ) (pages after : List (List ℕ)) (page bound : ℕ) (agree : (k : ℕ) → page ≤ k → k < bound → get_or after k [] ≡ get_or pages k []) (item : Item) where
   headed_same : (word : Option Word) → page + item_pages item ≤ bound → item_by_head used numbers pages page word ≡ Ok item → item_by_head used numbers after page word ≡ Ok item
   headed_same None within is = absurd (cc is)
   headed_same (Some (Start sequence own)) within is = absurd (cc is)
@@ -64,7 +64,7 @@ module _ (used : ℕ) (numbers : List ℕ) (pages after : List (List ℕ)) (page
       by_test false told = told
       by_test true told =
           let takes = gated_pages block length valid page (page + 1 + byte_pages length) (unsealed (get_or pages (page + 1 + byte_pages length) [])) item told in
-          ap (λ (l : List ℕ). item_by_gate block length valid page (page + 1 + byte_pages length) (unsealed l)) (agree (page + 1 + byte_pages length) (omega (arith, takes, within))) ∙ told
+          ap (λ (l : List ℕ). item_by_gate block length valid page (page + 1 + byte_pages length) (unsealed l)) (agree (page + 1 + byte_pages length) (omega arith) (omega (arith, takes, within))) ∙ told
 
   coded_same : (code : Option (List ℕ)) → page + item_pages item ≤ bound → item_by_code used numbers pages page code ≡ Ok item → item_by_code used numbers after page code ≡ Ok item
   coded_same None within is = is
@@ -72,7 +72,7 @@ module _ (used : ℕ) (numbers : List ℕ) (pages after : List (List ℕ)) (page
 
   pub same_item : page < bound → page + item_pages item ≤ bound → item_at used numbers pages page ≡ Ok item → item_at used numbers after page ≡ Ok item
   same_item here within is =
-      ap (λ (l : List ℕ). if page == used then Ok End else if is_blank l then Ok End else item_by_code used numbers after page (unsealed l)) (agree page here)
+      ap (λ (l : List ℕ). if page == used then Ok End else if is_blank l then Ok End else item_by_code used numbers after page (unsealed l)) (agree page (omega arith) here)
       ∙ by_tests (page == used) (is_blank (get_or pages page [])) is
     where
       by_tests : (at_end blank : Bool) → (if at_end then Ok End else if blank then Ok End else item_by_code used numbers pages page (unsealed (get_or pages page []))) ≡ Ok item

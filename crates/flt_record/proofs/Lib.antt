@@ -13,3 +13,8 @@ pub mod FillStep
 pub mod Scanning
 pub mod Proper
 pub mod Counting
+pub mod PageBytes
+pub mod Finding
+pub mod Reading
+pub mod Summing
+pub mod Copying

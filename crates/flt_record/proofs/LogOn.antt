@@ -19,7 +19,7 @@ sound entries end = record { entries = entries; end = end; fault = None }
 abbrev pub with_entries : List Entry → LogFrom → LogFrom
 with_entries entries rest = record { entries = entries ++ rest.entries; end = rest.end; fault = rest.fault }
 
--- the log of other pages that agree below its end goes on from there
+-- the log of other pages that agree from page 2 to its end goes on from there
 record Resumes (used : ℕ) (numbers : List ℕ) (pages after : List (List ℕ)) (page left : ℕ) (entries : List Entry) (end : ℕ) : Type 0 where
   pub rest : ℕ
   pub enough : used < end + rest
@@ -31,19 +31,19 @@ record Resumes (used : ℕ) (numbers : List ℕ) (pages after : List (List ℕ))
 
 module _ (used : ℕ) (numbers : List ℕ) (pages after : List (List ℕ)) where
   -- behind an item that is not the end
-  behind : (left page : ℕ) (entries : List Entry) (end : ℕ) (item : Item) → page < end → page + item_pages item ≤ end → ((k : ℕ) → k < end → get_or after k [] ≡ get_or pages k [])
+  behind : (left page : ℕ) (entries : List Entry) (end : ℕ) (item : Item) → page < end → page + item_pages item ≤ end → ((k : ℕ) → page ≤ k → k < end → get_or after k [] ≡ get_or pages k [])
       → item_at used numbers pages page ≡ Ok item → log_from used numbers after page (suc left) ≡ log_after used after page (λ next. log_from used numbers after next left) (Ok item)
   unfolding log_from
   behind left page entries end item here within agree is = ap (log_after used after page (λ next. log_from used numbers after next left)) (same_item used numbers pages after page end agree item here within is)
 
-  resumes : (left page : ℕ) (entries : List Entry) (end : ℕ) → used < page + left → page ≤ used → ((k : ℕ) → k < end → get_or after k [] ≡ get_or pages k [])
+  resumes : (left page : ℕ) (entries : List Entry) (end : ℕ) → used < page + left → page ≤ used → 2 ≤ page → ((k : ℕ) → 2 ≤ k → k < end → get_or after k [] ≡ get_or pages k [])
       → log_from used numbers pages page left ≡ sound entries end → Resumes used numbers pages after page left entries end
   unfolding log_from
-  resumes zero page entries end enough below agree is = absurd (omega arith)
-  resumes (suc left) page entries end enough below agree is =
-      by_item (λ next more enough below is. resumes left next more end enough below agree is) (item_at used numbers pages page) refl is
+  resumes zero page entries end enough below in_log agree is = absurd (omega arith)
+  resumes (suc left) page entries end enough below in_log agree is =
+      by_item (λ next more later enough below is. resumes left next more end enough below (omega arith) agree is) (item_at used numbers pages page) refl is
     where
-      by_item : ((next : ℕ) (more : List Entry) → used < next + left → next ≤ used → log_from used numbers pages next left ≡ sound more end → Resumes used numbers pages after next left more end)
+      by_item : ((next : ℕ) (more : List Entry) → page ≤ next → used < next + left → next ≤ used → log_from used numbers pages next left ≡ sound more end → Resumes used numbers pages after next left more end)
           → (item : Result Item ℕ) → item ≡ item_at used numbers pages page → log_after used pages page (λ next. log_from used numbers pages next left) item ≡ sound entries end
           → Resumes used numbers pages after page (suc left) entries end
       by_item onward (Err fault) here told = absurd (cc (ap (λ (l : LogFrom). l.fault) told))
@@ -62,11 +62,11 @@ module _ (used : ℕ) (numbers : List ℕ) (pages after : List (List ℕ)) where
           }
       by_item onward (Ok Torn) here told =
           let fits = item_within used numbers pages page Torn (λ e. cc e) below (sym here) in
-          let on = onward (page + 1) entries (omega arith) (omega (arith, fits)) told in
+          let on = onward (page + 1) entries (omega arith) (omega arith) (omega (arith, fits)) told in
           record {
             rest = on.rest;
             enough = on.enough;
-            is = behind left page entries end Torn (omega (arith, on.least)) (omega (arith, on.least)) agree (sym here) ∙ on.is;
+            is = behind left page entries end Torn (omega (arith, on.least)) (omega (arith, on.least)) (λ k low lt. agree k (omega arith) lt) (sym here) ∙ on.is;
             least = omega (arith, on.least);
             most = on.most;
             blank = on.blank;
@@ -77,18 +77,18 @@ module _ (used : ℕ) (numbers : List ℕ) (pages after : List (List ℕ)) where
           let fits = item_within used numbers pages page (Kept block length valid complete) (λ e. cc e) below (sym here) in
           let rest : LogFrom = log_from used numbers pages next left in
           let same : rest ≡ sound rest.entries end = λ i. record { entries = rest.entries; end = ap (λ (l : LogFrom). l.end) told i; fault = ap (λ (l : LogFrom). l.fault) told i } in
-          let on = onward next rest.entries (omega arith) (omega (arith, fits)) same in
+          let on = onward next rest.entries (omega arith) (omega arith) (omega (arith, fits)) same in
           let entry : Entry = record { page = page; block = block; length = length; valid = valid; complete = complete } in
           record {
             rest = on.rest;
             enough = on.enough;
-            is = behind left page entries end (Kept block length valid complete) (omega (arith, on.least)) (omega (arith, on.least)) agree (sym here)
+            is = behind left page entries end (Kept block length valid complete) (omega (arith, on.least)) (omega (arith, on.least)) (λ k low lt. agree k (omega arith) lt) (sym here)
                 ∙ ap (with_entry entry) on.is
                 ∙ ap (λ (es : List Entry). with_entries es (log_from used numbers after end on.rest)) (ap (λ (l : LogFrom). l.entries) told);
             least = omega (arith, on.least);
             most = on.most;
             blank = on.blank;
-            below = subst (AllBelow end) (ap (λ (l : LogFrom). l.entries) told) (omega (arith, on.least), on.below);
+            below = subst (AllBelow end) (ap (λ (l : LogFrom). l.entries) told) (in_log, omega (arith, on.least), on.below);
           }
 
 -- a log that ends at a page
@@ -110,9 +110,9 @@ module _ (used : ℕ) (numbers : List ℕ) (after : List (List ℕ)) where
 
 -- one item more
 module _ (used : ℕ) (numbers : List ℕ) (pages after : List (List ℕ)) (entries : List Entry) (end : ℕ) (begins : 2 ≤ used) (is : log used numbers pages ≡ sound entries end)
-    (agree : (k : ℕ) → k < end → get_or after k [] ≡ get_or pages k []) where
+    (agree : (k : ℕ) → 2 ≤ k → k < end → get_or after k [] ≡ get_or pages k []) where
   whole : Resumes used numbers pages after 2 (used + 1) entries end
-  whole = resumes used numbers pages after (used + 1) 2 entries end (omega arith) begins agree is
+  whole = resumes used numbers pages after (used + 1) 2 entries end (omega arith) begins (omega arith) agree is
 
   pub end_least : 2 ≤ end
   end_least = whole.least

@@ -70,7 +70,7 @@ module _ (pages : List (List ℕ)) (page block : ℕ) (held : List ℕ) (valid :
       gate = at_gate ∙ gate;
       holds =
           ap (λ (l : List (List ℕ)). take (length held) (flat_map (λ p. p) l))
-          (same_range opened (set opened (page + 1 + byte_pages (length held)) last) (page + 1 + byte_pages (length held)) (length-set opened (page + 1 + byte_pages (length held)) last)
-          (λ k lt. get_or-set_other opened (page + 1 + byte_pages (length held)) k last [] (omega arith)) (page + 1) (page + 1 + byte_pages (length held)) (omega arith))
+          (same_range opened (set opened (page + 1 + byte_pages (length held)) last) 0 (page + 1 + byte_pages (length held)) (length-set opened (page + 1 + byte_pages (length held)) last)
+          (λ k low lt. get_or-set_other opened (page + 1 + byte_pages (length held)) k last [] (omega arith)) (page + 1) (page + 1 + byte_pages (length held)) (omega arith) (omega arith))
           ∙ holds;
     }

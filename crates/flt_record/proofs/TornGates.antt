@@ -64,7 +64,7 @@ torn_gates used pages torn number size is tears =
 abbrev pub chosen : ℕ → ℕ → Bool → Bool → Result (Option Current) (ℕ × ℕ)
 chosen n m same less = if same then Err (1, 0) else if less then Ok (Some record { sector = 1; sequence = m }) else Ok (Some record { sector = 0; sequence = n })
 
-abbrev the_sector : Result (Option Current) (ℕ × ℕ) → ℕ
+abbrev pub the_sector : Result (Option Current) (ℕ × ℕ) → ℕ
 the_sector (Ok (Some at)) = at.sector
 the_sector (Ok None) = 2
 the_sector (Err place) = 3

@@ -5,8 +5,14 @@
 //! failure, one of the forms that no reader takes for a record. Read `specs/Record.antt` first: it says which forms these are.
 #![tactic(auto)]
 
+mod bytes;
+mod live;
+mod place;
 mod record;
 mod scan;
 
+pub use bytes::{copy_record, read_record};
+pub use live::live_pages;
+pub use place::{Place, last_record};
 pub use record::{append_record, byte_pages};
 pub use scan::log_end;

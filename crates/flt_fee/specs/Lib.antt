@@ -1,4 +1,0 @@
-pub mod Fee
-pub mod Mounted
-pub mod Place
-pub mod SetUp
