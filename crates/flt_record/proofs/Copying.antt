@@ -70,7 +70,7 @@ module _ (before middle now : FlashState) (shape : HasShape before) (shape_now :
 
   ends : (32 * index + min 32 (place.length - 32 * index) ≡ 32 * index + 32)
       ⊎ ((32 * index + min 32 (place.length - 32 * index) ≡ length (bytes_at (sector_at before.image sector) place)) × (length (bytes_at (sector_at before.image sector) place) < 32 * index + 32))
-  ends = elim (cases_lt (place.length - 32 * index) 32) [ | inl short ↦ inr (omega (arith, long), omega (arith, long)) | inr full ↦ inl (omega arith) ]
+  ends = elim (cases_lt (place.length - 32 * index) 32) [ inl short ↦ inr (omega (arith, long), omega (arith, long)) | inr full ↦ inl (omega arith) ]
 
   -- the page that was read is the piece
   piece : slice_range (bytes_at (sector_at before.image sector) place) (32 * index) (32 * index + min 32 (place.length - 32 * index)) ≡ take (min 32 (place.length - 32 * index)) (page_at before.image sector (place.page + 1 + index))

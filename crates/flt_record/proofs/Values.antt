@@ -29,7 +29,6 @@ module _ (pages after : List (List ℕ)) (first bound : ℕ) (size : length afte
       get_or-take (to - from) (drop from after) k [] within_range ∙ get_or-drop from after k [] ∙ agree (from + k) (omega arith) (omega arith)
       ∙ sym (get_or-drop from pages k []) ∙ sym (get_or-take (to - from) (drop from pages) k [] within_range))
 
-
 -- pages that agree from page 2 on, below a bound
 module _ (pages after : List (List ℕ)) (bound : ℕ) (size : length after ≡ length pages) (agree : (k : ℕ) → 2 ≤ k → k < bound → get_or after k [] ≡ get_or pages k []) where
   same_bytes : (entry : Entry) → 2 ≤ entry.page → entry.page + 2 + byte_pages entry.length ≤ bound → bytes_behind after entry ≡ bytes_behind pages entry

@@ -8,8 +8,8 @@ ghost use Rattle.flt_sector.specs.Log.{log};
 ghost use Rattle.flt_record.specs.Live.{current_pages};
 ghost use Rattle.flt_record.specs.Place.{pages_found};
 
-use crate::place::{Place, last_record};
 use crate::byte_pages;
+use crate::place::{Place, last_record};
 use flt_flash::{Flash, FlashFailed};
 
 // The pages of the record that was found.

@@ -10,11 +10,14 @@ use crate::byte_pages;
 use flt_flash::{Flash, FlashFailed};
 use flt_pages::{Item, item};
 
-/// Where a complete record stands: the page of its head, and the length and kind that the head says.
+/// Where a complete record stands, and what its head says of it.
 #[derive(Clone, Copy, Debug, PartialEq, Eq)]
 pub struct Place {
+    /// The page of the head.
     pub page: u16,
+    /// The bytes that it holds, 1 to 128, or 0 where it makes its block invalid.
     pub length: u16,
+    /// Whether it holds bytes, and does not make its block invalid.
     pub valid: bool,
 }
 

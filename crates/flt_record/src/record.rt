@@ -9,7 +9,7 @@ ghost use Rattle.flt_record.specs.Recorded.{Fills, Records};
 use flt_flash::{Flash, FlashFailed};
 use flt_pages::{append_gate, append_head, append_piece};
 
-/// The pages of plain bytes of a record.
+/// The pages of plain bytes of a record of so many bytes, 128 at most: one for every 32 bytes or part of them.
 pub fn byte_pages(length: u16) -> u16
     requires { length ≤ 128 }
     ensures { result ≡ byte_pages length }
@@ -22,7 +22,6 @@ fn fill<F: Flash>(flash: &mut F, sector: u8, first: u16, bytes: &[u8]) -> Result
     requires sector { sector < 2 }
     requires most { length bytes.now ≤ 128 }
     requires room { first + byte_pages (length bytes.now) ≤ (F.state flash.old).pages }
-    requires last { first + byte_pages (length bytes.now) < 65536 }
     requires blank { AreBlank (sector_at (F.state flash.old).image sector) first (first + byte_pages (length bytes.now)) }
     ensures fills { Fills (F.state flash.old) (F.state flash.new) sector first bytes.now result }
 {
@@ -38,7 +37,10 @@ fn fill<F: Flash>(flash: &mut F, sector: u8, first: u16, bytes: &[u8]) -> Result
     Ok(())
 }
 
-/// Appends a record at a page: its head, its bytes and its gate.
+/// Appends a record at a page, from where on the sector is blank: its head, its bytes, 1 to 128 for a valid record and none
+/// for an invalid one, and its gate.
+///
+/// After a failure the record is whole, or stands without its gate, or its head is no code word; nothing else changed.
 pub fn append_record<F: Flash>(
     flash: &mut F,
     sector: u8,
@@ -51,7 +53,6 @@ pub fn append_record<F: Flash>(
     requires most { length bytes.now ≤ 128 }
     requires length { is_length valid (length bytes.now) ≡ true }
     requires room { page + 2 + byte_pages (length bytes.now) ≤ (F.state flash.old).pages }
-    requires last { page + 2 + byte_pages (length bytes.now) < 65536 }
     requires blank { AreBlank (sector_at (F.state flash.old).image sector) page (page + 2 + byte_pages (length bytes.now)) }
     ensures records { Records (F.state flash.old) (F.state flash.new) sector page block bytes.now valid result }
 {

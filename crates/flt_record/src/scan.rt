@@ -9,7 +9,10 @@ ghost use Rattle.flt_record.specs.Scan.{told_end};
 use flt_flash::Flash;
 use flt_pages::{Item, PageFault, blank_from, item};
 
-/// The page at which the log of a sector ends, or its first fault.
+/// The page at which the log of a sector with `used` pages ends, for these block numbers; `Damaged` is its first fault, of an
+/// item or of the pages behind the end.
+///
+/// It reads heads, gates and the pages behind the end, and changes nothing.
 pub fn log_end<F: Flash>(
     flash: &mut F,
     sector: u8,
