@@ -1,0 +1,49 @@
+-- What a driver means while its image holds nothing.
+use Rattle.std.proofs.Common.{◌≡◌, ◌⊎◌, ⊎_elim, inl, inr, ◌≤◌, ℕ, Bool, true, false, List, Option, Some, None, Result, Ok, Err, refl, sym, ◌∙◌, ap}
+use Rattle.std.specs.Prelude.{OnOk, IsTrue, IsFalse, IsErrOf}
+use Rattle.flt_flash.specs.Image.{sector_at}
+use Rattle.flt_flash.specs.Content.{Content, missing}
+use Rattle.flt_flash.specs.State.{FlashState, Runs, HasRisenBy}
+use Rattle.flt_flash.specs.Blocks.{BlocksState}
+use Rattle.flt_flash.specs.Calls.{Follows, Calls, SameValues}
+use Rattle.flt_flash.specs.declared.blocks.BlockFault.{BlockFault}
+use Rattle.flt_flash.specs.declared.blocks.BlockFault.TheVariants.{Flash, Full, SequenceSpent, Damaged}
+use Rattle.flt_sector.specs.Blocks.{Current, current, first_fault, fault_by, value_by, block_value}
+use Rattle.flt_record.proofs.Begun.{holds_nothing}
+use Rattle.flt_fee.specs.Fee.{is_last, state_by}
+use Rattle.flt_fee.specs.Mounted.{Stands, IsMounted}
+use Rattle.flt_fee.proofs.Composed.{follows_by}
+use Rattle.flt_fee.specs.SetUp.{IsFresh, HoldsNothing}
+use Rattle.flt_fee.proofs.Standing.{stands_value, stands_sound, stands_mounted}
+
+module _ (used : ℕ) (numbers : List ℕ) (least : 2 ≤ used) where
+  fresh_stands : (image : List (List (List ℕ))) → IsFresh used image → Stands used numbers image 0 1 2 (λ block. missing)
+  fresh_stands image is = record { current = is.current; holds = holds_nothing used numbers (sector_at image 0) least is.blank }
+
+  pub fresh_mounted : (image : List (List (List ℕ))) → IsFresh used image → IsMounted false true used numbers image 0 1 2
+  fresh_mounted image is = stands_mounted true refl used numbers image 0 1 2 (λ block. missing) (fresh_stands image is)
+
+  nothing_held : (image : List (List (List ℕ))) → HoldsNothing used image → (block : ℕ) → block_value used numbers image block ≡ missing
+  nothing_held image is block = ⊎_elim (λ none. ap (value_by used numbers image block) none) (λ fresh. stands_value used numbers image 0 1 2 (λ b. missing) (fresh_stands image fresh) block) is
+
+  pub nothing_wrong : (image : List (List (List ℕ))) → HoldsNothing used image → first_fault used numbers image ≡ None
+  nothing_wrong image is = ⊎_elim (λ none. ap (fault_by used numbers image) none) (λ fresh. stands_sound used numbers image 0 1 2 (λ b. missing) (fresh_stands image fresh)) is
+
+  module _ (before after : FlashState) (none : current used before.image ≡ Ok None) (left : HoldsNothing used after.image) where
+    pub nothing_changes : (was_stale had_mounted is_stale has_mounted : Bool) → SameValues (state_by used numbers was_stale had_mounted before) (state_by used numbers is_stale has_mounted after)
+    nothing_changes was_stale had_mounted is_stale has_mounted block = nothing_held after.image left block ∙ sym (nothing_held before.image (inl none) block)
+
+    pub formatting_calls : {T : Type 0} (runs : Runs before after) (was_stale had_mounted is_stale has_mounted : Bool) (result : Result T BlockFault) → (had_mounted ≡ true → has_mounted ≡ true)
+        → (IsErrOf result Flash → HasRisenBy 1 before.faults after.faults) → ((sector page : ℕ) → IsErrOf result (Damaged sector page) → ⊥)
+        → Calls (state_by used numbers was_stale had_mounted before) (state_by used numbers is_stale has_mounted after) result
+    formatting_calls {T} runs was_stale had_mounted is_stale has_mounted result once cause undamaged = record {
+      follows = follows_by used numbers before after runs was_stale had_mounted is_stale has_mounted once (λ yes. absurd (cc (ap is_last none, yes)))
+          (λ sound. nothing_wrong after.image left) (λ place is. absurd (cc (nothing_wrong before.image (inl none), is)));
+      flash = cause;
+      damaged = λ sector page told. absurd (undamaged sector page told);
+      refuses_damage = no_damage result;
+    }
+      where
+        no_damage : (result : Result T BlockFault) → OnOk result (first_fault used numbers before.image ≡ None)
+        no_damage (Ok x) = nothing_wrong before.image (inl none)
+        no_damage (Err e) = tt

@@ -1,0 +1,14 @@
+pub mod Composed
+pub mod Standing
+pub mod Appended
+pub mod Placing
+pub mod Mounting
+pub mod Beginning
+pub mod SettingUp
+pub mod Formatting
+pub mod Nearest
+pub mod CopyingBlock
+pub mod CopyingBlocks
+pub mod Switching
+pub mod Refusing
+pub mod Putting

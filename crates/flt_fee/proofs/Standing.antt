@@ -1,0 +1,124 @@
+-- What an image means whose current sector is known.
+use Rattle.std.proofs.Common.{◌≡◌, ◌≢◌, ◌⊎◌, ⊎_elim, inl, inr, ◌+◌, ◌-◌, ◌^◌, ◌<◌, ◌≤◌, ℕ, Bool, true, false, List, [], get_or, set, length, get_or-set_same, get_or-set_other, Option, Some, None, Result, Ok, Err, refl, sym, ◌∙◌, ap, subst, arith}
+use Rattle.std.specs.Prelude.{◌==◌, if◌then◌else◌, Contains}
+use Rattle.std.specs.List.{list_any}
+use Rattle.std.proofs.lemmas.Bool.{cases_eq, eq-eqb, ne_eqb}
+use Rattle.flt_flash.specs.Image.{sector_at}
+use Rattle.flt_flash.specs.Content.{Content, missing, invalid, bytes}
+use Rattle.flt_sector.specs.Log.{LogFrom, log}
+use Rattle.flt_sector.specs.Gates.{gate_by, started_by, activated_by, both_gates, gates_of}
+use Rattle.flt_sector.specs.Blocks.{Current, current, current_by, first_fault, fault_by, place_in, block_value, value_by, content_of, last_complete}
+use Rattle.flt_record.specs.Record.{KeptApart}
+use Rattle.flt_fee.specs.Mounted.{Stands, IsMounted}
+use Rattle.flt_fee.specs.Fee.{state_by}
+use Rattle.flt_record.specs.Recorded.{OnSector, Records}
+use Rattle.flt_record.proofs.Recording.{pages_on}
+use Rattle.flt_record.proofs.Appending.{left_record, whole_record}
+use Rattle.flt_record.proofs.LogOn.{end_least}
+use Rattle.flt_flash.specs.Blocks.{byte_pages}
+use Rattle.flt_record.specs.Record.{IsWhole, RecordLeft}
+use Rattle.flt_record.specs.Holds.{Holds, asked_of, given}
+use Rattle.flt_flash.specs.State.{FlashState, HasShape, HasRisenBy}
+use Rattle.flt_flash.specs.Blocks.{BlocksState}
+use Rattle.flt_flash.specs.Calls.{Follows, Calls, Changes, SameValues}
+use Rattle.flt_flash.specs.declared.flash.FlashFailed.{FlashFailed}
+use Rattle.flt_flash.specs.declared.blocks.BlockFault.{BlockFault}
+use Rattle.flt_flash.specs.declared.blocks.BlockFault.TheVariants.{Flash, Full, SequenceSpent, Damaged}
+use Rattle.flt_code.specs.Word.{IsWord, is_length}
+use Rattle.flt_code.specs.declared.words.Word.TheVariants.{Head, Gate}
+use Rattle.std.proofs.lemmas.List.Folds.{list_any_at}
+use Rattle.std.specs.Prelude.{OnOk, OnErr, IsTrue, IsFalse, IsErrOf}
+
+module _ (used : ℕ) (numbers : List ℕ) (image : List (List (List ℕ))) (sector sequence end : ℕ) (value : ℕ → Content) (stands : Stands used numbers image sector sequence end value) where
+  pub stands_value : (block : ℕ) → block_value used numbers image block ≡ value block
+  stands_value block =
+      ap (value_by used numbers image block) stands.current
+      ∙ ap (λ (l : LogFrom). content_of (sector_at image sector) (last_complete block l.entries)) stands.holds.is
+      ∙ stands.holds.gives block
+
+  pub stands_sound : first_fault used numbers image ≡ None
+  stands_sound = ap (fault_by used numbers image) stands.current ∙ ap (λ (l : LogFrom). place_in sector l.fault) stands.holds.is
+
+-- the gates stand in the first two pages
+pub same_gates : (used : ℕ) (pages after : List (List ℕ)) → get_or after 0 [] ≡ get_or pages 0 [] → get_or after 1 [] ≡ get_or pages 1 [] → gates_of used after ≡ gates_of used pages
+same_gates used pages after start active = λ i. both_gates (gate_by (started_by used) 0 (start i)) (gate_by activated_by 1 (active i))
+
+pub same_current : (used : ℕ) (image : List (List (List ℕ))) (sector : ℕ) (pages : List (List ℕ)) (from to : ℕ) → sector < length image → 2 ≤ from → KeptApart (sector_at image sector) pages from to
+    → current used (set image sector pages) ≡ current used image
+same_current used image sector pages from to within behind apart = λ i. current_by (gates 0 i) (gates 1 i)
+  where
+    page : (s k : ℕ) → k < 2 → get_or (get_or (set image sector pages) s []) k [] ≡ get_or (get_or image s []) k []
+    page s k lt = elim (cases_eq s sector) [
+      | inl same ↦ rw same (ap (λ (l : List (List ℕ)). get_or l k []) (get_or-set_same image sector pages [] within) ∙ apart.before k (omega arith))
+      | inr other ↦ ap (λ (l : List (List ℕ)). get_or l k []) (get_or-set_other image sector s pages [] other)
+    ]
+
+    gates : (s : ℕ) → gates_of used (get_or (set image sector pages) s []) ≡ gates_of used (get_or image s [])
+    gates s = same_gates used (get_or image s []) (get_or (set image sector pages) s []) (page s 0 (omega arith)) (page s 1 (omega arith))
+
+-- a driver that is not stale stands
+pub mounted_stands : (is_stale has_mounted : Bool) → is_stale ≡ false → (used : ℕ) (numbers : List ℕ) (image : List (List (List ℕ))) (sector sequence end : ℕ) → IsMounted is_stale has_mounted used numbers image sector sequence end
+    → Stands used numbers image sector sequence end (block_value used numbers image)
+mounted_stands is_stale has_mounted fresh used numbers image sector sequence end is = record {
+  current = is.current fresh;
+  holds = record {
+    entries = (log used numbers (sector_at image sector)).entries;
+    is = λ i. record { entries = (log used numbers (sector_at image sector)).entries; end = is.ends fresh i; fault = is.sound fresh i };
+    gives = λ block. sym (ap (value_by used numbers image block) (is.current fresh));
+  };
+}
+
+pub stands_mounted : (has_mounted : Bool) → has_mounted ≡ true → (used : ℕ) (numbers : List ℕ) (image : List (List (List ℕ))) (sector sequence end : ℕ) (value : ℕ → Content) → Stands used numbers image sector sequence end value
+    → IsMounted false has_mounted used numbers image sector sequence end
+stands_mounted has_mounted is_mounted used numbers image sector sequence end value stands = record {
+  mounted = λ fresh. is_mounted;
+  current = λ fresh. stands.current;
+  sound = λ fresh. ap (λ (l : LogFrom). l.fault) stands.holds.is;
+  undamaged = λ yes. stands_sound used numbers image sector sequence end value stands;
+  ends = λ fresh. ap (λ (l : LogFrom). l.end) stands.holds.is;
+}
+
+-- a stale driver, of which only this is known
+pub stale_mounted : (has_mounted : Bool) (used : ℕ) (numbers : List ℕ) (image : List (List (List ℕ))) (sector sequence end : ℕ) → (has_mounted ≡ true → first_fault used numbers image ≡ None)
+    → IsMounted true has_mounted used numbers image sector sequence end
+stale_mounted has_mounted used numbers image sector sequence end undamaged = record {
+  mounted = λ fresh. absurd (cc fresh);
+  current = λ fresh. absurd (cc fresh);
+  sound = λ fresh. absurd (cc fresh);
+  undamaged = undamaged;
+  ends = λ fresh. absurd (cc fresh);
+}
+
+pub is_among : (numbers : List ℕ) (block : ℕ) → Contains numbers block → list_any (λ number. number == block) numbers ≡ true
+is_among numbers block found = list_any_at (λ number. number == block) numbers found.0 block found.1 (eq-eqb (get_or numbers found.0 block) block found.2)
+
+-- a record that was appended behind the log of an image that stands
+module _ (used : ℕ) (numbers : List ℕ) (before after : FlashState) (shape : HasShape before) (sector sequence page block : ℕ) (held : List ℕ) (valid : Bool) (value : ℕ → Content)
+    (within : sector < 2) (begins : 2 ≤ used) (stands : Stands used numbers before.image sector sequence page value)
+    (proper : IsWord (Head block (length held) valid page)) (among : list_any (λ number. number == block) numbers ≡ true) (room : page + 2 + byte_pages (length held) ≤ used) where
+  module _ {result : Result (Unit {0}) FlashFailed} (is : Records before after sector page block held valid result) where
+    same_pages : sector_at after.image sector ≡ is.pages
+    same_pages = pages_on before after sector is.pages shape within is.on
+
+    pub apart_by : RecordLeft (sector_at before.image sector) is.pages page block held valid → (to : ℕ) × KeptApart (sector_at before.image sector) is.pages page to
+    apart_by (inl torn) = (page + 1, torn.apart)
+    apart_by (inr (inl stood)) = (page + 2 + byte_pages (length held), stood.apart)
+    apart_by (inr (inr whole)) = (page + 2 + byte_pages (length held), whole.apart)
+
+    pub current_stays : current used after.image ≡ current used before.image
+    current_stays =
+        let apart = apart_by is.left in
+        ap (current used) is.on.image ∙ same_current used before.image sector is.pages page apart.0 (omega (arith, shape.sectors))
+        (end_least used numbers (sector_at before.image sector) is.pages stands.holds.entries page begins stands.holds.is (λ k low lt. apart.1.before k lt)) apart.1
+
+    stands_by : (last : ℕ) (values : ℕ → Content) → Holds used numbers is.pages last values → Stands used numbers after.image sector sequence last values
+    stands_by last values holds = record { current = current_stays ∙ stands.current; holds = subst (λ (p : List (List ℕ)). Holds used numbers p last values) (sym same_pages) holds }
+
+    pub left_standing : ((last : ℕ) × Stands used numbers after.image sector sequence last value) ⊎ ((last : ℕ) × Stands used numbers after.image sector sequence last (given block (asked_of valid held) value))
+    left_standing = ⊎_elim (λ old. inl (old.0, stands_by old.0 value old.1)) (λ new. inr (new.0, stands_by new.0 (given block (asked_of valid held) value) new.1))
+        (left_record used numbers (sector_at before.image sector) is.pages page value begins stands.holds block held valid proper (proper.0, proper.2) among room is.left)
+
+    pub done_standing : (result ≡ Ok tt) → Stands used numbers after.image sector sequence (page + (2 + byte_pages (length held))) (given block (asked_of valid held) value)
+    done_standing ok = stands_by (page + (2 + byte_pages (length held))) (given block (asked_of valid held) value)
+        (whole_record used numbers (sector_at before.image sector) is.pages page value begins stands.holds block held valid proper (proper.0, proper.2) among room
+        (subst (λ (r : Result (Unit {0}) FlashFailed). OnOk r (IsWhole (sector_at before.image sector) is.pages page block held valid)) ok is.done))

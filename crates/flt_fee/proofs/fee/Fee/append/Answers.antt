@@ -1,0 +1,87 @@
+use Rattle.std.proofs.Common.{◌≡◌, ◌+◌, ◌<◌, ◌≤◌, ◌^◌, ℕ, true, List, length, subst, arith}
+use Rattle.std.specs.Prelude.{◌==◌}
+use Rattle.std.specs.List.{list_any}
+use Rattle.flt_flash.specs.Content.{Content}
+use Rattle.flt_code.specs.Word.{IsWord}
+use Rattle.flt_code.specs.declared.words.Word.TheVariants.{Head}
+use Rattle.flt_flash.specs.Blocks.{byte_pages}
+use Rattle.flt_sector.specs.Blocks.{block_value}
+use Rattle.flt_record.specs.Holds.{asked_of, given}
+use Rattle.flt_fee.specs.Mounted.{Stands}
+use Rattle.flt_fee.proofs.Standing.{mounted_stands, stale_mounted, stands_mounted, is_among}
+use Rattle.flt_fee.proofs.Appended.{blank_at_end, left_sound, failed_changes, failed_calls, done_changes, now_stands}
+use Rattle.flt_fee.proofs.fee.Fee.append.Goals as goal
+
+pub append_record-requires-clause-blank : goal.append_record-requires-clause-blank
+append_record-requires-clause-blank g c =
+    let self = c.args.self.now in
+    let image = (g.F.Flash.state self.flash).image in
+    let stands = mounted_stands self.is_stale self.has_mounted c.requires.settled self.used self.numbers.items image self.sector self.sequence self.end self.mounted in
+    λ k low high. blank_at_end self.used self.numbers.items image self.sector self.sequence self.end _ (omega (arith, self.least)) stands k low (omega (arith, c.requires.room))
+
+pub returns-in-Err-clause-changes : goal.returns-in-Err-clause-changes
+returns-in-Err-clause-changes g c =
+    let self = c.args.self.now in
+    let image = (g.F.Flash.state self.flash).image in
+    let stands = mounted_stands self.is_stale self.has_mounted c.requires.settled self.used self.numbers.items image self.sector self.sequence self.end self.mounted in
+    let proper : IsWord (Head c.args.block (length c.args.bytes.now) c.args.valid self.end) = (omega arith, omega arith, omega arith, c.requires.length) in
+    failed_changes self.used self.numbers.items (g.F.Flash.state self.flash) (g.F.Flash.state c.append_record.new.flash) (g.met.F.Flash.shape self.flash) self.sector self.sequence self.end c.args.block c.args.bytes.now c.args.valid
+    self.sectors (omega (arith, self.least)) stands proper (is_among self.numbers.items c.args.block c.requires.number) c.requires.room
+    self.is_stale self.has_mounted (self.mounted.mounted c.requires.settled) c.in-Err.field-0 c.in-Err.ensures.records
+
+pub returns-in-Err-clause-calls : goal.returns-in-Err-clause-calls
+returns-in-Err-clause-calls g c =
+    let self = c.args.self.now in
+    let image = (g.F.Flash.state self.flash).image in
+    let stands = mounted_stands self.is_stale self.has_mounted c.requires.settled self.used self.numbers.items image self.sector self.sequence self.end self.mounted in
+    let proper : IsWord (Head c.args.block (length c.args.bytes.now) c.args.valid self.end) = (omega arith, omega arith, omega arith, c.requires.length) in
+    failed_calls self.used self.numbers.items (g.F.Flash.state self.flash) (g.F.Flash.state c.append_record.new.flash) (g.met.F.Flash.shape self.flash) self.sector self.sequence self.end c.args.block c.args.bytes.now c.args.valid
+    self.sectors (omega (arith, self.least)) stands proper (is_among self.numbers.items c.args.block c.requires.number) c.requires.room
+    self.is_stale self.has_mounted (self.mounted.mounted c.requires.settled) c.in-Err.field-0 c.in-Err.ensures.records
+
+pub invariant_of-self-in-Ok : goal.invariant_of-self-in-Ok
+invariant_of-self-in-Ok g c =
+    let self = c.args.self.now in
+    let image = (g.F.Flash.state self.flash).image in
+    let after = (g.F.Flash.state c.append_record.new.flash).image in
+    let stands = mounted_stands self.is_stale self.has_mounted c.requires.settled self.used self.numbers.items image self.sector self.sequence self.end self.mounted in
+    let proper : IsWord (Head c.args.block (length c.args.bytes.now) c.args.valid self.end) = (omega arith, omega arith, omega arith, c.requires.length) in
+    let value : ℕ → Content = given c.args.block (asked_of c.args.valid c.args.bytes.now) (block_value self.used self.numbers.items image) in
+    let now = now_stands self.used self.numbers.items (g.F.Flash.state self.flash) (g.F.Flash.state c.append_record.new.flash) (g.met.F.Flash.shape self.flash) self.sector self.sequence self.end c.args.block c.args.bytes.now c.args.valid
+    self.sectors (omega (arith, self.least)) stands proper (is_among self.numbers.items c.args.block c.requires.number) c.requires.room
+    self.is_stale self.has_mounted (self.mounted.mounted c.requires.settled) c.in-Ok.ensures.records in
+    let last : self.end + (2 + byte_pages (length c.args.bytes.now)) ≡ self.end + 2 + c.byte_pages.result = omega (arith, c.byte_pages.ensures) in
+    record {
+      within = omega (arith, self.within, c.in-Ok.ensures.records.on.runs.pages);
+      least = self.least;
+      sectors = self.sectors;
+      distinct = self.distinct;
+      mounted = stands_mounted self.has_mounted (self.mounted.mounted c.requires.settled) self.used self.numbers.items after self.sector self.sequence (self.end + 2 + c.byte_pages.result) value
+          (subst (λ n. Stands self.used self.numbers.items after self.sector self.sequence n value) last now);
+    }
+
+pub returns-in-Ok-clause-changes : goal.returns-in-Ok-clause-changes
+returns-in-Ok-clause-changes g c =
+    let self = c.args.self.now in
+    let image = (g.F.Flash.state self.flash).image in
+    let stands = mounted_stands self.is_stale self.has_mounted c.requires.settled self.used self.numbers.items image self.sector self.sequence self.end self.mounted in
+    let proper : IsWord (Head c.args.block (length c.args.bytes.now) c.args.valid self.end) = (omega arith, omega arith, omega arith, c.requires.length) in
+    done_changes self.used self.numbers.items (g.F.Flash.state self.flash) (g.F.Flash.state c.append_record.new.flash) (g.met.F.Flash.shape self.flash) self.sector self.sequence self.end c.args.block c.args.bytes.now c.args.valid
+    self.sectors (omega (arith, self.least)) stands proper (is_among self.numbers.items c.args.block c.requires.number) c.requires.room
+    self.is_stale self.has_mounted (self.mounted.mounted c.requires.settled) c.in-Ok.ensures.records
+
+pub invariant_of-self : goal.invariant_of-self
+invariant_of-self g c =
+    let self = c.args.self.now in
+    let image = (g.F.Flash.state self.flash).image in
+    let stands = mounted_stands self.is_stale self.has_mounted c.requires.settled self.used self.numbers.items image self.sector self.sequence self.end self.mounted in
+    let proper : IsWord (Head c.args.block (length c.args.bytes.now) c.args.valid self.end) = (omega arith, omega arith, omega arith, c.requires.length) in
+    let sound = left_sound self.used self.numbers.items (g.F.Flash.state self.flash) (g.F.Flash.state c.append_record.new.flash) (g.met.F.Flash.shape self.flash) self.sector self.sequence self.end c.args.block c.args.bytes.now c.args.valid
+    self.sectors (omega (arith, self.least)) stands proper (is_among self.numbers.items c.args.block c.requires.number) c.requires.room {result = c.append_record.result} c.append_record.ensures.records in
+    record {
+      within = omega (arith, self.within, c.append_record.ensures.records.on.runs.pages);
+      least = self.least;
+      sectors = self.sectors;
+      distinct = self.distinct;
+      mounted = stale_mounted self.has_mounted self.used self.numbers.items _ self.sector self.sequence self.end (λ yes. sound);
+    }

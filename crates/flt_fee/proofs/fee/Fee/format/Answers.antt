@@ -1,0 +1,46 @@
+use Rattle.std.proofs.Common.{◌≤◌, true, false, refl, Ok, Err, arith}
+use Rattle.flt_flash.specs.declared.blocks.BlockFault.TheVariants.{Flash}
+use Rattle.flt_fee.proofs.Standing.{stale_mounted}
+use Rattle.flt_fee.proofs.Formatting.{fresh_mounted, nothing_wrong, nothing_changes, formatting_calls}
+use Rattle.flt_fee.proofs.fee.Fee.format.Goals as goal
+
+pub invariant_of-self : goal.invariant_of-self
+invariant_of-self g c =
+    let self = c.args.self.now in
+    record {
+      within = omega (arith, self.within, c.set_up_flash.ensures.runs.pages);
+      least = self.least;
+      sectors = self.sectors;
+      distinct = self.distinct;
+      mounted = stale_mounted self.has_mounted self.used self.numbers.items _ self.sector self.sequence self.end
+          (λ yes. nothing_wrong self.used self.numbers.items (omega (arith, self.least)) (g.F.Flash.state c.set_up_flash.new.flash).image c.set_up_flash.ensures.left);
+    }
+
+pub invariant_of-self-in-Ok : goal.invariant_of-self-in-Ok
+invariant_of-self-in-Ok g c =
+    let self = c.args.self.now in
+    record {
+      within = omega (arith, self.within, c.in-Ok.ensures.runs.pages);
+      least = self.least;
+      sectors = omega arith;
+      distinct = self.distinct;
+      mounted = fresh_mounted self.used self.numbers.items (omega (arith, self.least)) (g.F.Flash.state c.set_up_flash.new.flash).image c.in-Ok.ensures.fresh;
+    }
+
+pub returns-in-Err-clause-values : goal.returns-in-Err-clause-values
+returns-in-Err-clause-values g c =
+    let self = c.args.self.now in
+    nothing_changes self.used self.numbers.items (omega (arith, self.least)) (g.F.Flash.state self.flash) (g.F.Flash.state c.set_up_flash.new.flash) c.requires c.in-Err.ensures.left
+    self.is_stale self.has_mounted true self.has_mounted
+
+pub returns-in-Err-clause-calls : goal.returns-in-Err-clause-calls
+returns-in-Err-clause-calls g c =
+    let self = c.args.self.now in
+    formatting_calls self.used self.numbers.items (omega (arith, self.least)) (g.F.Flash.state self.flash) (g.F.Flash.state c.set_up_flash.new.flash) c.requires c.in-Err.ensures.left
+    {T = Unit {0}} c.in-Err.ensures.runs self.is_stale self.has_mounted true self.has_mounted (Err Flash) (λ yes. yes) (λ told. c.in-Err.ensures.cause) (λ s p told. cc told)
+
+pub returns-in-Ok-clause-values : goal.returns-in-Ok-clause-values
+returns-in-Ok-clause-values g c =
+    let self = c.args.self.now in
+    nothing_changes self.used self.numbers.items (omega (arith, self.least)) (g.F.Flash.state self.flash) (g.F.Flash.state c.set_up_flash.new.flash) c.requires c.in-Ok.ensures.left
+    self.is_stale self.has_mounted false true

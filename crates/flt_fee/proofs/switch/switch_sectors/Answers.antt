@@ -1,0 +1,66 @@
+use Rattle.std.proofs.Common.{◌≡◌, ◌+◌, ◌<◌, ◌≤◌, ◌^◌, ℕ, List, Ok, ap, subst, arith}
+use Rattle.flt_flash.proofs.Following.{runs_on, one_run}
+use Rattle.flt_record.specs.Holds.{Holds}
+use Rattle.flt_record.specs.Live.{held_in}
+use Rattle.flt_fee.proofs.Switching.{switch_unbegun, begun_blank, source_stays, keeps_inactive, active_blank, goes_over, activation_left}
+use Rattle.flt_fee.proofs.switch.switch_sectors.Goals as goal
+
+pub returns-in_err-begin-clause-left : goal.returns-in_err-begin-clause-left
+returns-in_err-begin-clause-left g c =
+    switch_unbegun c.args.used c.args.numbers.now (g.F.Flash.state c.args.flash.now) (g.met.F.Flash.shape c.args.flash.now) c.args.sector c.args.sequence c.requires.sector c.requires.least (omega arith) c.requires.most
+    c.requires.current c.requires.sound c.requires.next (g.F.Flash.state c.begin.new.flash) c.in_err-begin.ensures.begins.torn
+
+pub copy_blocks-requires-clause-blank : goal.copy_blocks-requires-clause-blank
+copy_blocks-requires-clause-blank g c =
+    begun_blank c.args.used c.args.numbers.now (g.F.Flash.state c.args.flash.now) (g.met.F.Flash.shape c.args.flash.now) c.args.sector c.args.sequence c.requires.sector c.requires.least (omega arith) c.requires.most
+    c.requires.current c.requires.sound c.requires.next (g.F.Flash.state c.begin.new.flash) (g.met.F.Flash.shape c.begin.new.flash) c.in_ok-begin.ensures.begins.done
+
+pub returns-in_err-end-clause-left : goal.returns-in_err-end-clause-left
+returns-in_err-end-clause-left g c =
+    let copies = c.in_err-end.ensures.copies in
+    keeps_inactive c.args.used c.args.numbers.now (g.F.Flash.state c.args.flash.now) (g.met.F.Flash.shape c.args.flash.now) c.args.sector c.args.sequence c.requires.sector c.requires.least (omega arith) c.requires.most
+    c.requires.current c.requires.sound c.requires.next (g.F.Flash.state c.begin.new.flash) (g.met.F.Flash.shape c.begin.new.flash) c.in_ok-begin.ensures.begins.done
+    (g.F.Flash.state c.copy_blocks.new.flash) copies.pages copies.on copies.gates
+
+pub activate-requires-clause-blank : goal.activate-requires-clause-blank
+activate-requires-clause-blank g c =
+    let copies = c.in_ok-end.ensures.copies in
+    active_blank c.args.used c.args.numbers.now (g.F.Flash.state c.args.flash.now) (g.met.F.Flash.shape c.args.flash.now) c.args.sector c.args.sequence c.requires.sector c.requires.least (omega arith) c.requires.most
+    c.requires.current c.requires.sound c.requires.next (g.F.Flash.state c.begin.new.flash) (g.met.F.Flash.shape c.begin.new.flash) c.in_ok-begin.ensures.begins.done
+    (g.F.Flash.state c.copy_blocks.new.flash) copies.pages copies.on copies.gates
+
+pub returns-in_err-activate-clause-left : goal.returns-in_err-activate-clause-left
+returns-in_err-activate-clause-left g c =
+    let copies = c.in_ok-end.ensures.copies in
+    let source = source_stays c.args.used c.args.numbers.now (g.F.Flash.state c.args.flash.now) (g.met.F.Flash.shape c.args.flash.now) c.args.sector c.args.sequence c.requires.sector c.requires.least (omega arith) c.requires.most
+    c.requires.current c.requires.sound c.requires.next (g.F.Flash.state c.begin.new.flash) (g.met.F.Flash.shape c.begin.new.flash) c.in_ok-begin.ensures.begins.done in
+    activation_left c.args.used c.args.numbers.now (g.F.Flash.state c.args.flash.now) (g.met.F.Flash.shape c.args.flash.now) c.args.sector c.args.sequence c.requires.sector c.requires.least (omega arith) c.requires.most
+    c.requires.current c.requires.sound c.requires.next (g.F.Flash.state c.begin.new.flash) (g.met.F.Flash.shape c.begin.new.flash) c.in_ok-begin.ensures.begins.done
+    (g.F.Flash.state c.copy_blocks.new.flash) copies.pages copies.on copies.gates c.in_ok-end.end
+    (subst (λ (p : List (List ℕ)). Holds c.args.used c.args.numbers.now copies.pages c.in_ok-end.end (held_in c.args.used c.args.numbers.now p)) source copies.done)
+    (g.F.Flash.state c.activate.new.flash) c.activate.result c.activate.ensures.appends
+
+pub returns-clause-switched : goal.returns-clause-switched
+returns-clause-switched g c =
+    let copies = c.in_ok-end.ensures.copies in
+    let source = source_stays c.args.used c.args.numbers.now (g.F.Flash.state c.args.flash.now) (g.met.F.Flash.shape c.args.flash.now) c.args.sector c.args.sequence c.requires.sector c.requires.least (omega arith) c.requires.most
+    c.requires.current c.requires.sound c.requires.next (g.F.Flash.state c.begin.new.flash) (g.met.F.Flash.shape c.begin.new.flash) c.in_ok-begin.ensures.begins.done in
+    goes_over c.args.used c.args.numbers.now (g.F.Flash.state c.args.flash.now) (g.met.F.Flash.shape c.args.flash.now) c.args.sector c.args.sequence c.requires.sector c.requires.least (omega arith) c.requires.most
+    c.requires.current c.requires.sound c.requires.next (g.F.Flash.state c.begin.new.flash) (g.met.F.Flash.shape c.begin.new.flash) c.in_ok-begin.ensures.begins.done
+    (g.F.Flash.state c.copy_blocks.new.flash) copies.pages copies.on copies.gates c.in_ok-end.end
+    (subst (λ (p : List (List ℕ)). Holds c.args.used c.args.numbers.now copies.pages c.in_ok-end.end (held_in c.args.used c.args.numbers.now p)) source copies.done)
+    (g.F.Flash.state c.activate.new.flash) c.in_ok-activate.ensures.appends.done
+
+pub returns-clause-left : goal.returns-clause-left
+returns-clause-left g c =
+    let copies = c.in_ok-end.ensures.copies in
+    let source = source_stays c.args.used c.args.numbers.now (g.F.Flash.state c.args.flash.now) (g.met.F.Flash.shape c.args.flash.now) c.args.sector c.args.sequence c.requires.sector c.requires.least (omega arith) c.requires.most
+    c.requires.current c.requires.sound c.requires.next (g.F.Flash.state c.begin.new.flash) (g.met.F.Flash.shape c.begin.new.flash) c.in_ok-begin.ensures.begins.done in
+    activation_left c.args.used c.args.numbers.now (g.F.Flash.state c.args.flash.now) (g.met.F.Flash.shape c.args.flash.now) c.args.sector c.args.sequence c.requires.sector c.requires.least (omega arith) c.requires.most
+    c.requires.current c.requires.sound c.requires.next (g.F.Flash.state c.begin.new.flash) (g.met.F.Flash.shape c.begin.new.flash) c.in_ok-begin.ensures.begins.done
+    (g.F.Flash.state c.copy_blocks.new.flash) copies.pages copies.on copies.gates c.in_ok-end.end
+    (subst (λ (p : List (List ℕ)). Holds c.args.used c.args.numbers.now copies.pages c.in_ok-end.end (held_in c.args.used c.args.numbers.now p)) source copies.done)
+    (g.F.Flash.state c.activate.new.flash) c.activate.result c.activate.ensures.appends
+
+pub returns-clause-runs : goal.returns-clause-runs
+returns-clause-runs g c = runs_on c.in_ok-begin.ensures.begins.runs (runs_on c.in_ok-end.ensures.copies.on.runs (one_run c.in_ok-activate.ensures.appends.operation))

@@ -1,0 +1,42 @@
+-- What a driver over a flash means, by what the flash means.
+use Rattle.std.specs.Prelude.{◌≡◌, ◌+◌, ◌-◌, ◌^◌, ◌==◌, ◌&&◌, ℕ, Bool, false, not, nat_le, List, Option, Some, None, Result, Ok, Err}
+use Rattle.flt_flash.specs.Image.{sector_at}
+use Rattle.flt_flash.specs.State.{FlashState}
+use Rattle.flt_flash.specs.Blocks.{DeviceState, BlocksState, record_pages}
+use Rattle.flt_sector.specs.Blocks.{Current, current, first_fault, block_value}
+use Rattle.flt_sector.specs.Log.{log}
+use Rattle.flt_fee.specs.declared.fee.Fee.{Fee}
+
+-- the sequence number of the current sector is the last one
+abbrev pub is_last : Result (Option Current) (ℕ × ℕ) → Bool
+is_last (Ok (Some at)) = at.sequence == 2 ^ 32 - 1
+is_last (Ok None) = false
+is_last (Err place) = false
+
+-- a record of this length does not fit behind the log of the current sector
+abbrev pub is_past : ℕ → List ℕ → List (List (List ℕ)) → ℕ → Result (Option Current) (ℕ × ℕ) → Bool
+is_past used numbers image size (Ok (Some at)) = not (nat_le ((log used numbers (sector_at image at.sector)).end + record_pages size) used)
+is_past used numbers image size (Ok None) = false
+is_past used numbers image size (Err place) = false
+
+-- the device that a flash is
+abbrev pub device_of : FlashState → DeviceState
+device_of flash = record { faults = flash.faults; image = flash.image; operations = None; erases = None; bench = flash.bench }
+
+-- the driver as the layers above see it, by what it keeps and by its flash
+abbrev pub state_by : ℕ → List ℕ → Bool → Bool → FlashState → BlocksState
+state_by used numbers is_stale has_mounted flash = record {
+  numbers = numbers;
+  is_stale = is_stale;
+  has_mounted = has_mounted;
+  value = block_value used numbers flash.image;
+  damage = first_fault used numbers flash.image;
+  room = Some (used - 2);
+  is_spent = is_last (current used flash.image);
+  is_stuck = λ block size. is_last (current used flash.image) && is_past used numbers flash.image size (current used flash.image);
+  device = device_of flash;
+}
+
+-- the driver as the layers above see it
+abbrev pub state_of : {F : Type 0} {g : _} → (F → FlashState) → Fee F g → BlocksState
+state_of state fee = state_by fee.used fee.numbers.items fee.is_stale fee.has_mounted (state fee.flash)

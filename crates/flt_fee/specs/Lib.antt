@@ -1,0 +1,6 @@
+pub mod Fee
+pub mod Mounted
+pub mod Place
+pub mod SetUp
+pub mod Switch
+pub mod Refusal

@@ -1,0 +1,55 @@
+-- What a switch of the sectors leaves.
+use Rattle.std.specs.Prelude.{◌≡◌, ◌+◌, ◌-◌, ◌<◌, ◌≤◌, ℕ, List, [], length, nat_lt, nat_le, if◌then◌else◌, Option, Some, None, IfSome, IfNone, Contains, Result, IfOk, OnErr, min, slice_index}
+use Rattle.flt_flash.specs.Image.{sector_at}
+use Rattle.flt_flash.specs.Content.{Content, missing}
+use Rattle.flt_flash.specs.Blocks.{pages_of}
+use Rattle.flt_flash.specs.State.{FlashState, HasRisenBy}
+use Rattle.flt_flash.specs.declared.flash.FlashFailed.{FlashFailed}
+use Rattle.flt_record.specs.Holds.{Holds, given}
+use Rattle.flt_record.specs.Live.{held_in, current_pages}
+use Rattle.flt_record.specs.Record.{KeptApart}
+use Rattle.flt_record.specs.Recorded.{OnSector}
+use Rattle.flt_fee.specs.Mounted.{Stands}
+
+-- the least of the numbers from one on, if there is one
+pub record IsNext (from : ℕ) (numbers : List ℕ) (next : Option ℕ) : Type 0 where
+  pub found : IfSome next (λ number. Contains numbers number × (from ≤ number) × ((k : ℕ) → k < length numbers → from ≤ slice_index numbers k → number ≤ slice_index numbers k))
+  pub none : IfNone next ((k : ℕ) → k < length numbers → slice_index numbers k < from)
+
+-- the blocks of numbers below one hold what they hold, and the others nothing yet
+abbrev pub below : ℕ → (ℕ → Content) → ℕ → Content
+below from value block = if nat_lt block from then value block else missing
+
+-- pages from 2 on are written, and no others
+abbrev pub KeepsGates : List (List ℕ) → List (List ℕ) → Type 0
+KeepsGates pages after = KeptApart pages after 2 (length pages)
+
+-- the current record of a block is copied behind the log of the other sector; the answer is where that log ends then
+pub record CopiesBlock (before after : FlashState) (other used : ℕ) (numbers : List ℕ) (number end : ℕ) (content : Content) (result : Result ℕ FlashFailed) : Type 0 where
+  pub pages : List (List ℕ)
+  pub on : OnSector before after other pages
+  pub gates : KeepsGates (sector_at before.image other) pages
+  pub place : IfOk result (λ last. last ≡ end + pages_of content)
+  pub done : IfOk result (λ last. (value : ℕ → Content) → value number ≡ missing → Holds used numbers (sector_at before.image other) end value → Holds used numbers pages last (given number content value))
+  pub cause : OnErr result (HasRisenBy 1 before.faults after.faults)
+
+-- the current records of all blocks are copied behind the gates of the other sector; the answer is where its log ends then
+pub record CopiesBlocks (before after : FlashState) (sector other used : ℕ) (numbers : List ℕ) (result : Result ℕ FlashFailed) : Type 0 where
+  pub pages : List (List ℕ)
+  pub on : OnSector before after other pages
+  pub gates : KeepsGates (sector_at before.image other) pages
+  pub room : IfOk result (λ end. end ≤ 2 + current_pages used numbers (sector_at before.image sector))
+  pub done : IfOk result (λ end. Holds used numbers pages end (held_in used numbers (sector_at before.image sector)))
+  pub cause : OnErr result (HasRisenBy 1 before.faults after.faults)
+
+-- the image has no fault and gives each block this value, whichever of its sectors is the current one
+pub record Keeps (used : ℕ) (numbers : List ℕ) (image : List (List (List ℕ))) (value : ℕ → Content) : Type 0 where
+  pub sector : ℕ
+  pub sequence : ℕ
+  pub end : ℕ
+  pub stands : Stands used numbers image sector sequence end value
+
+-- the lesser of a number and one found earlier, where it is not below `from`
+abbrev pub nearest : ℕ → Option ℕ → ℕ → Option ℕ
+nearest from None number = if nat_le from number then Some number else None
+nearest from (Some least) number = if nat_le from number then Some (min least number) else Some least

@@ -1,0 +1,394 @@
+// The driver over two sectors.
+ghost use Rattle.std.specs.Prelude.{◌≡◌, ◌≢◌, ◌+◌, ◌^◌, ◌<◌, ◌≤◌, ℕ, length, true, false, Contains, IsFalse, IsTrue, IfOk, IfErr, OnOk, OnErr, IsErrOf, Ok, Some, None};
+ghost use Rattle.std.specs.List.{AllPairs};
+ghost use Rattle.flt_flash.specs.Content.{invalid, bytes as holding};
+ghost use Rattle.flt_flash.specs.Image.{sector_at};
+ghost use Rattle.flt_flash.specs.Blocks.{byte_pages, record_pages, live_pages, IsFull};
+ghost use Rattle.flt_flash.specs.Calls.{Calls, Changes, Costs, Finds, NeverFull, SameValues, Settles};
+ghost use Rattle.flt_flash.specs.declared.blocks.BlockFault.TheVariants.{Full, SequenceSpent};
+ghost use Rattle.flt_code.specs.Word.{is_length};
+ghost use Rattle.flt_sector.specs.Blocks.{current};
+ghost use Rattle.flt_record.specs.Holds.{asked_of};
+ghost use Rattle.flt_record.specs.Place.{IsWithin, bytes_at};
+ghost use Rattle.flt_fee.specs.Mounted.{IsMounted};
+ghost use Rattle.flt_fee.specs.Place.{place_of};
+ghost use Rattle.flt_fee.specs.Refusal.{refusal, AnswersBy, KeepsStuck};
+
+use crate::place::{CurrentSector, current_sector};
+use crate::set_up::set_up_flash;
+use crate::switch::switch_sectors;
+use flt_flash::{Arm, Bench, BlockFault, Blocks, Flash, FlashFailed, Found, Refused};
+use flt_pages::PageFault;
+use flt_record::{Place, append_record, byte_pages, last_record, live_pages, log_end, read_record};
+
+/// Blocks of 1 to 128 bytes in the records of two sectors, of which it uses the first `used` pages each.
+///
+/// It keeps the current sector, its sequence number, and the page where its log ends, and looks at the log with each call.
+/// Its room is `used - 2` pages. It is spent where the sequence number is 2^32 - 1, and a record is stuck where it is spent
+/// and the record does not fit behind the log.
+#[derive(Drop)]
+pub struct Fee<F: Flash> {
+    flash: F,
+    used: u16,
+    numbers: Vec<u16>,
+    is_stale: bool,
+    has_mounted: bool,
+    sector: u8,
+    sequence: u32,
+    end: u16,
+    ghost within: { used ≤ (F.state flash).pages },
+    ghost least: { 4 ≤ used },
+    ghost sectors: { sector < 2 },
+    ghost distinct: { AllPairs (λ a b. a ≢ b) numbers.items },
+    ghost mounted: { IsMounted is_stale has_mounted used numbers.items (F.state flash).image sector sequence end },
+}
+
+impl<F: Flash> Fee<F> {
+    ghost use Rattle.flt_fee.specs.Fee.{device_of, state_by, state_of};
+
+    // Appends a record behind the log, where it fits.
+    fn append(&mut self, block: u16, bytes: &[u8], valid: bool) -> Result<(), BlockFault>
+        requires settled { IsFalse (state_of F.state self.old).is_stale }
+        requires number { Contains (state_of F.state self.old).numbers block }
+        requires most { length bytes.now ≤ 128 }
+        requires length { is_length valid (length bytes.now) ≡ true }
+        requires room { self.old.end + 2 + byte_pages (length bytes.now) ≤ self.old.used }
+        ensures changes { Changes (state_of F.state self.old) (state_of F.state self.new) block (asked_of valid bytes.now) (length bytes.now) result }
+        ensures calls { Calls (state_of F.state self.old) (state_of F.state self.new) result }
+        ensures never_full { NeverFull result }
+        ensures stale { Settles result (state_of F.state self.new) }
+    {
+        let page = self.end;
+        self.is_stale = true;
+        match append_record(&mut self.flash, self.sector, page, block, bytes, valid) {
+            Err(FlashFailed) => Err(BlockFault::Flash),
+            Ok(()) => {
+                self.end = page + 2 + byte_pages(bytes.len() as u16);
+                self.is_stale = false;
+                Ok(())
+            }
+        }
+    }
+
+    // Goes on with the current sector as it stands: the mount of a flash with a valid sector.
+    fn resume(&mut self, at: CurrentSector) -> Result<(), BlockFault>
+        requires sector { at.sector < 2 }
+        requires found { current self.old.used (F.state self.old.flash).image ≡ Ok (Some (place_of at)) }
+        ensures values { SameValues (state_of F.state self.old) (state_of F.state self.new) }
+        ensures calls { Calls (state_of F.state self.old) (state_of F.state self.new) result }
+        ensures never_full { NeverFull result }
+        ensures stale { Settles result (state_of F.state self.new) }
+        ensures stuck { KeepsStuck (state_of F.state self.old) (state_of F.state self.new) result }
+    {
+        self.is_stale = true;
+        match log_end(&mut self.flash, at.sector, self.used, &self.numbers) {
+            Err(PageFault::Flash) => Err(BlockFault::Flash),
+            Err(PageFault::Damaged { sector, page }) => Err(BlockFault::Damaged { sector, page }),
+            Ok(end) => {
+                self.sector = at.sector;
+                self.sequence = at.sequence;
+                self.end = end;
+                self.has_mounted = true;
+                self.is_stale = false;
+                Ok(())
+            }
+        }
+    }
+
+    // Begins the first sector: the mount of a flash of which no sector is valid.
+    fn format(&mut self) -> Result<(), BlockFault>
+        requires { current self.old.used (F.state self.old.flash).image ≡ Ok None }
+        ensures values { SameValues (state_of F.state self.old) (state_of F.state self.new) }
+        ensures calls { Calls (state_of F.state self.old) (state_of F.state self.new) result }
+        ensures never_full { NeverFull result }
+        ensures stale { Settles result (state_of F.state self.new) }
+        ensures stuck { KeepsStuck (state_of F.state self.old) (state_of F.state self.new) result }
+    {
+        self.is_stale = true;
+        match set_up_flash(&mut self.flash, self.used) {
+            Err(FlashFailed) => Err(BlockFault::Flash),
+            Ok(()) => {
+                self.sector = 0;
+                self.sequence = 1;
+                self.end = 2;
+                self.has_mounted = true;
+                self.is_stale = false;
+                Ok(())
+            }
+        }
+    }
+
+    // Looks at the flash as a power-up left it.
+    fn look(&mut self) -> Result<(), BlockFault>
+        ensures values { SameValues (state_of F.state self.old) (state_of F.state self.new) }
+        ensures calls { Calls (state_of F.state self.old) (state_of F.state self.new) result }
+        ensures never_full { NeverFull result }
+        ensures stale { Settles result (state_of F.state self.new) }
+        ensures stuck { KeepsStuck (state_of F.state self.old) (state_of F.state self.new) result }
+    {
+        self.is_stale = true;
+        match current_sector(&mut self.flash, self.used) {
+            Err(PageFault::Flash) => Err(BlockFault::Flash),
+            Err(PageFault::Damaged { sector, page }) => Err(BlockFault::Damaged { sector, page }),
+            Ok(None) => self.format(),
+            Ok(Some(at)) => self.resume(at),
+        }
+    }
+
+    // Mounts a stale driver.
+    fn settle(&mut self) -> Result<(), BlockFault>
+        ensures values { SameValues (state_of F.state self.old) (state_of F.state self.new) }
+        ensures calls { Calls (state_of F.state self.old) (state_of F.state self.new) result }
+        ensures never_full { NeverFull result }
+        ensures stale { Settles result (state_of F.state self.new) }
+        ensures stuck { KeepsStuck (state_of F.state self.old) (state_of F.state self.new) result }
+        ensures kept { IsFalse (state_of F.state self.old).is_stale → IsFalse (state_of F.state self.new).is_stale }
+    {
+        if self.is_stale { self.look() } else { Ok(()) }
+    }
+
+    // The pages of the current records of all blocks.
+    fn live(&mut self) -> Result<u16, BlockFault>
+        requires settled { IsFalse (state_of F.state self.old).is_stale }
+        ensures live { IfOk result (λ live. live ≡ live_pages (state_of F.state self.old)) }
+        ensures values { SameValues (state_of F.state self.old) (state_of F.state self.new) }
+        ensures calls { Calls (state_of F.state self.old) (state_of F.state self.new) result }
+        ensures never_full { NeverFull result }
+        ensures stale { Settles result (state_of F.state self.new) }
+        ensures stays { (F.state self.new.flash).image ≡ (F.state self.old.flash).image }
+        ensures sequence { self.new.sequence ≡ self.old.sequence }
+        ensures used { self.new.used ≡ self.old.used }
+    {
+        match live_pages(&mut self.flash, self.sector, self.used, &self.numbers) {
+            Err(FlashFailed) => {
+                self.is_stale = true;
+                Err(BlockFault::Flash)
+            }
+            Ok(live) => Ok(live),
+        }
+    }
+
+    // Makes the other sector the current one, with a copy of all that the blocks hold.
+    fn switch(&mut self) -> Result<(), BlockFault>
+        requires settled { IsFalse (state_of F.state self.old).is_stale }
+        requires next { self.old.sequence + 1 < 2 ^ 32 }
+        requires room { 2 + live_pages (state_of F.state self.old) ≤ self.old.used }
+        ensures room { OnOk result (self.new.end ≤ 2 + live_pages (state_of F.state self.old)) }
+        ensures values { SameValues (state_of F.state self.old) (state_of F.state self.new) }
+        ensures calls { Calls (state_of F.state self.old) (state_of F.state self.new) result }
+        ensures never_full { NeverFull result }
+        ensures stale { Settles result (state_of F.state self.new) }
+    {
+        self.is_stale = true;
+        match switch_sectors(
+            &mut self.flash,
+            self.used,
+            &self.numbers,
+            self.sector,
+            self.sequence,
+        ) {
+            Err(FlashFailed) => Err(BlockFault::Flash),
+            Ok(end) => {
+                self.sector = 1 - self.sector;
+                self.sequence += 1;
+                self.end = end;
+                self.is_stale = false;
+                Ok(())
+            }
+        }
+    }
+
+    // Makes room behind the log for a record of this length, by a switch where it does not fit.
+    fn make_room(&mut self, block: u16, size: u16) -> Result<(), BlockFault>
+        requires settled { IsFalse (state_of F.state self.old).is_stale }
+        requires most { size ≤ 128 }
+        ensures answers { AnswersBy (refusal (state_of F.state self.old) block size) result }
+        ensures room { OnOk result (self.new.end + record_pages size ≤ self.new.used) }
+        ensures full { (live needed : ℕ) → IsErrOf result (Full live needed) → IsFull (state_of F.state self.new) size live needed }
+        ensures spent { IsErrOf result SequenceSpent → IsTrue ((state_of F.state self.new).is_stuck block size) }
+        ensures values { SameValues (state_of F.state self.old) (state_of F.state self.new) }
+        ensures calls { Calls (state_of F.state self.old) (state_of F.state self.new) result }
+        ensures stale { Settles result (state_of F.state self.new) }
+    {
+        let needed = 2 + byte_pages(size);
+        if needed <= self.used - self.end {
+            return Ok(());
+        }
+        match self.live() {
+            Err(fault) => Err(fault),
+            Ok(live) => {
+                if needed > self.used - 2 - live {
+                    Err(BlockFault::Full { live, needed })
+                } else if self.sequence == u32::MAX {
+                    Err(BlockFault::SequenceSpent)
+                } else {
+                    self.switch()
+                }
+            }
+        }
+    }
+
+    // Gives a block these bytes, or makes it invalid.
+    fn put(&mut self, block: u16, bytes: &[u8], valid: bool) -> Result<(), BlockFault>
+        requires number { Contains (state_of F.state self.old).numbers block }
+        requires most { length bytes.now ≤ 128 }
+        requires length { is_length valid (length bytes.now) ≡ true }
+        ensures changes { Changes (state_of F.state self.old) (state_of F.state self.new) block (asked_of valid bytes.now) (length bytes.now) result }
+        ensures calls { Calls (state_of F.state self.old) (state_of F.state self.new) result }
+        ensures stale { Settles result (state_of F.state self.new) }
+        ensures answers { AnswersBy (refusal (state_of F.state self.old) block (length bytes.now)) result }
+    {
+        match self.settle() {
+            Err(fault) => Err(fault),
+            Ok(()) => match self.make_room(block, bytes.len() as u16) {
+                Err(fault) => Err(fault),
+                Ok(()) => self.append(block, bytes, valid),
+            },
+        }
+    }
+
+    // Reads a block of a driver that is not stale.
+    fn find(&mut self, block: u16, out: &mut [u8; 128]) -> Result<Found, BlockFault>
+        requires settled { IsFalse (state_of F.state self.old).is_stale }
+        ensures found { IfOk result (λ found. Finds ((state_of F.state self.old).value block) found out.old out.new) }
+        ensures nothing { OnErr result (out.new ≡ out.old) }
+        ensures values { SameValues (state_of F.state self.old) (state_of F.state self.new) }
+        ensures calls { Calls (state_of F.state self.old) (state_of F.state self.new) result }
+        ensures never_full { NeverFull result }
+        ensures stale { IsFalse (state_of F.state self.new).is_stale }
+    {
+        match last_record(
+            &mut self.flash,
+            self.sector,
+            self.used,
+            &self.numbers,
+            block,
+        ) {
+            Err(FlashFailed) => Err(BlockFault::Flash),
+            Ok(None) => Ok(Found::Missing),
+            Ok(Some(place)) => self.take(place, out),
+        }
+    }
+
+    // Reads the record at a place.
+    fn take(&mut self, place: Place, out: &mut [u8; 128]) -> Result<Found, BlockFault>
+        requires settled { IsFalse (state_of F.state self.old).is_stale }
+        requires within { IsWithin self.old.used place }
+        ensures found { IfOk result (λ found. Finds (asked_of place.valid (bytes_at (sector_at (F.state self.old.flash).image self.old.sector) place)) found out.old out.new) }
+        ensures nothing { OnErr result (out.new ≡ out.old) }
+        ensures values { SameValues (state_of F.state self.old) (state_of F.state self.new) }
+        ensures calls { Calls (state_of F.state self.old) (state_of F.state self.new) result }
+        ensures never_full { NeverFull result }
+        ensures stale { IsFalse (state_of F.state self.new).is_stale }
+    {
+        if !place.valid {
+            return Ok(Found::Invalid);
+        }
+        match read_record(&mut self.flash, self.sector, place, out) {
+            Err(FlashFailed) => Err(BlockFault::Flash),
+            Ok(()) => Ok(Found::Bytes(place.length as usize)),
+        }
+    }
+
+    /// A driver over this flash of `used` pages in each sector, for these block numbers. It is stale, and has not mounted.
+    /// The error, for want of memory, hands the flash back; this driver takes none and never gives it.
+    pub fn make(flash: F, used: u16, numbers: Vec<u16>) -> Result<Fee<F>, Refused<F>>
+        requires least { 4 ≤ used }
+        requires most { used ≤ (F.state flash).pages }
+        requires distinct { AllPairs (λ a b. a ≢ b) numbers.items }
+        ensures made { IfOk result (λ fee. state_of F.state fee ≡ state_by used numbers.items true false (F.state flash)) }
+        ensures numbers { IfOk result (λ fee. (state_of F.state fee).numbers ≡ numbers.items) }
+        ensures refused { IfErr result (λ refused. refused.device ≡ flash) }
+    {
+        Ok(Fee {
+            flash,
+            used,
+            numbers,
+            is_stale: true,
+            has_mounted: false,
+            sector: 0,
+            sequence: 0,
+            end: 0,
+        })
+    }
+
+    /// The flash, as the driver left it.
+    pub fn retire(self) -> F
+        ensures { device_of (F.state result) ≡ (state_of F.state self).device }
+    {
+        self.flash
+    }
+}
+
+impl<F: Bench> Blocks for Fee<F> {
+    ghost use Rattle.flt_fee.specs.Fee.{state_of};
+    ghost use Rattle.flt_fee.specs.Refusal.{first_holds};
+
+    ghost state = { state_of F.state };
+
+    ghost stuck_is_spent = { λ driver block size. first_holds _ _ };
+
+    ghost settled_has_mounted = { λ driver. driver.mounted.mounted };
+
+    ghost mounted_is_sound = { λ driver. driver.mounted.undamaged };
+
+    fn mount(&mut self) -> Result<(), BlockFault> {
+        self.look()
+    }
+
+    fn write(&mut self, block: u16, bytes: &[u8]) -> Result<(), BlockFault>
+        requires number { Contains (state_of F.state self.old).numbers block }
+        requires least { 1 ≤ length bytes.now }
+        requires most { length bytes.now ≤ 128 }
+        ensures changes { Changes (state_of F.state self.old) (state_of F.state self.new) block (holding bytes.now) (length bytes.now) result }
+        ensures calls { Calls (state_of F.state self.old) (state_of F.state self.new) result }
+        ensures stale { Settles result (state_of F.state self.new) }
+        ensures costs { Costs (state_of F.state self.old) (state_of F.state self.new) (length bytes.now) }
+
+        // It is refused exactly where there is no room for it, or else no sequence number for a switch.
+        ensures answers { AnswersBy (refusal (state_of F.state self.old) block (length bytes.now)) result }
+    {
+        self.put(block, bytes, true)
+    }
+
+    fn read(&mut self, block: u16, out: &mut [u8; 128]) -> Result<Found, BlockFault> {
+        match self.settle() {
+            Err(fault) => Err(fault),
+            Ok(()) => self.find(block, out),
+        }
+    }
+
+    fn invalidate(&mut self, block: u16) -> Result<(), BlockFault>
+        requires { Contains (state_of F.state self.old).numbers block }
+        ensures changes { Changes (state_of F.state self.old) (state_of F.state self.new) block invalid 0 result }
+        ensures calls { Calls (state_of F.state self.old) (state_of F.state self.new) result }
+        ensures stale { Settles result (state_of F.state self.new) }
+        ensures costs { Costs (state_of F.state self.old) (state_of F.state self.new) 0 }
+
+        // It is refused exactly where there is no room for it, or else no sequence number for a switch.
+        ensures answers { AnswersBy (refusal (state_of F.state self.old) block 0) result }
+    {
+        self.put(block, &[], false)
+    }
+
+    fn spent(&self) -> bool {
+        self.sequence == u32::MAX
+    }
+
+    fn boots_left(&self) -> u16 {
+        self.flash.boots_left()
+    }
+
+    fn armed(&self) -> u8 {
+        self.flash.armed()
+    }
+
+    fn arm(&mut self, arm: Arm) {
+        self.flash.arm(arm);
+    }
+
+    fn power_up(&mut self) {
+        self.is_stale = true;
+        self.flash.power_up();
+    }
+}

@@ -1,0 +1,14 @@
+use Rattle.std.proofs.Common.{◌≡◌, ◌+◌, ℕ}
+use Rattle.flt_flash.specs.Image.{sector_at}
+use Rattle.flt_record.specs.Record.{KeptApart}
+use Rattle.flt_record.specs.Place.{bytes_at}
+use Rattle.flt_record.specs.Recorded.{OnSector}
+use Rattle.flt_record.proofs.Filling.{Filled}
+use Rattle.flt_record.proofs.bytes.copy_bytes.Given as goal
+
+abbrev pub invariant-loop-index : goal.invariant-loop-index
+invariant-loop-index g l = record {
+  on : OnSector (g.F.Flash.state l.initial.flash) (g.F.Flash.state l.flash) l.other (sector_at (g.F.Flash.state l.flash).image l.other);
+  apart : KeptApart (sector_at (g.F.Flash.state l.initial.flash).image l.other) (sector_at (g.F.Flash.state l.flash).image l.other) l.first (l.first + l.index);
+  filled : Filled (sector_at (g.F.Flash.state l.flash).image l.other) l.first (bytes_at (sector_at (g.F.Flash.state l.initial.flash).image l.sector) l.place) l.index;
+}
