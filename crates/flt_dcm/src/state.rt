@@ -37,6 +37,7 @@ pub const TESTERS: usize = 4;
 pub struct UnitState {
     dem: DemState,
     sessions: [Session; TESTERS],
+    is_setting_off: bool,
     base: Persist,
 }
 
@@ -47,7 +48,7 @@ impl Model for UnitState {
 
     ghost view = { λ u. record { dem = u.dem; sessions = u.sessions; base = u.base } };
 
-    ghost invariant = { λ u. IsOfConfig u.dem.faults.config u.sessions u.base };
+    ghost invariant = { λ u. IsOfConfig u.dem.faults.config u.sessions u.is_setting_off u.base };
 }
 
 /// A copy of a durable state, which takes no memory.
@@ -195,6 +196,7 @@ impl UnitState {
         UnitState {
             dem,
             sessions: [Session::Default; TESTERS],
+            is_setting_off: false,
             base,
         }
     }
@@ -208,6 +210,7 @@ impl UnitState {
     {
         self.dem.boot(base);
         self.sessions = [Session::Default; TESTERS];
+        self.is_setting_off = false;
         self.base = copy_of(base);
     }
 
@@ -238,7 +241,7 @@ impl UnitState {
         ensures stands { (life : Life) (past : History) → Stands life past self.old → Stands life (ops.Report event report ∷ past) self.new }
         ensures answer { (life : Life) (past : History) → Stands life past self.old → cause_reply result ≡ answer life past (ops.Report event report) }
     {
-        let setting = !is_setting_off(&self.sessions);
+        let setting = !self.is_setting_off;
         self.dem.report(dids, event, report, setting)
     }
 
@@ -249,9 +252,10 @@ impl UnitState {
         ensures base { self.new.base ≡ self.old.base }
         ensures stands { (life : Life) (past : History) → Stands life past self.old → Stands life (ops.Tick ticks ∷ past) self.new }
     {
-        let setting = !is_setting_off(&self.sessions);
+        let setting = !self.is_setting_off;
         self.dem.tick(dids, ticks, setting);
         self.sessions = ticked_sessions(self.sessions, ticks);
+        self.is_setting_off = is_setting_off(&self.sessions);
     }
 
     /// Ends an operation cycle, of the number 0 to 3, and starts the next.
@@ -280,12 +284,14 @@ impl UnitState {
         ensures answer { (life : Life) (past : History) → Stands life past self.old → unless_silent result out.new.items ≡ answer life past (ops.Request tester bytes.now) }
         ensures negative { IsNegative (unless_silent result out.new.items) → self.new ≡ record self.old { sessions = slice_set self.old.sessions tester (heard (session_at self.old.sessions tester)) } }
     {
-        request(
+        let silent = request(
             &mut self.dem,
             &mut self.sessions[tester as usize],
             bytes,
             out,
-        )
+        );
+        self.is_setting_off = is_setting_off(&self.sessions);
+        silent
     }
 
     /// What is shown of an event. To show it changes nothing.
