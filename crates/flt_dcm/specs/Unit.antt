@@ -1,6 +1,5 @@
 -- The whole status machine as a contract sees it, what it stands for, and which calls it takes.
-use Rattle.std.specs.List.{list_any}
-use Rattle.std.specs.Prelude.{◌≡◌, ℕ, Bool, ◌<◌, List, length, slice_get, unwrap_or, Some}
+use Rattle.std.specs.Prelude.{◌≡◌, ℕ, ◌<◌, List, length, slice_get, unwrap_or, Some}
 use Rattle.flt_config.specs.declared.config.Config.{Config}
 use Rattle.flt_config.specs.declared.persist.Persist.{Persist}
 use Rattle.flt_config.specs.Durable.{Fits}
@@ -11,7 +10,7 @@ use Rattle.flt_model.specs.declared.call.Op.TheVariants as ops
 use Rattle.flt_model.specs.declared.call.Reply.{Reply}
 use Rattle.flt_model.specs.declared.call.Reply.TheVariants as replies
 use Rattle.flt_dem.specs.Manager.{Manager, StandsFor}
-use Rattle.flt_dcm.specs.Session.{SessionStands, has_hold}
+use Rattle.flt_dcm.specs.Session.{SessionStands}
 use Rattle.flt_dcm.specs.declared.session.Session.{Session}
 use Rattle.flt_dcm.specs.declared.session.Session.TheVariants.{Default}
 
@@ -21,11 +20,9 @@ pub record UnitView : Type 0 where
   pub sessions : List Session
   pub base : Persist
 
--- There is a session for each of the four testers, whether one of them holds the setting off is known, and the base
--- fits the configuration.
-pub record IsOfConfig (config : Config) (sessions : List Session) (is_off : Bool) (base : Persist) : Type 0 where
+-- There is a session for each of the four testers, and the base fits the configuration.
+pub record IsOfConfig (config : Config) (sessions : List Session) (base : Persist) : Type 0 where
   pub one_each : length sessions ≡ 4
-  pub off : is_off ≡ list_any has_hold sessions
   pub fits : Fits config base
 
 -- The session of a tester.

@@ -37,7 +37,6 @@ pub const TESTERS: usize = 4;
 pub struct UnitState {
     dem: DemState,
     sessions: [Session; TESTERS],
-    is_setting_off: bool,
     base: Persist,
 }
 
@@ -48,7 +47,7 @@ impl Model for UnitState {
 
     ghost view = { λ u. record { dem = u.dem; sessions = u.sessions; base = u.base } };
 
-    ghost invariant = { λ u. IsOfConfig u.dem.faults.config u.sessions u.is_setting_off u.base };
+    ghost invariant = { λ u. IsOfConfig u.dem.faults.config u.sessions u.base };
 }
 
 /// A copy of a durable state, which takes no memory.
@@ -196,7 +195,6 @@ impl UnitState {
         UnitState {
             dem,
             sessions: [Session::Default; TESTERS],
-            is_setting_off: false,
             base,
         }
     }
@@ -210,7 +208,6 @@ impl UnitState {
     {
         self.dem.boot(base);
         self.sessions = [Session::Default; TESTERS];
-        self.is_setting_off = false;
         self.base = copy_of(base);
     }
 
@@ -241,7 +238,7 @@ impl UnitState {
         ensures stands { (life : Life) (past : History) → Stands life past self.old → Stands life (ops.Report event report ∷ past) self.new }
         ensures answer { (life : Life) (past : History) → Stands life past self.old → cause_reply result ≡ answer life past (ops.Report event report) }
     {
-        let setting = !self.is_setting_off;
+        let setting = !is_setting_off(&self.sessions);
         self.dem.report(dids, event, report, setting)
     }
 
@@ -252,10 +249,9 @@ impl UnitState {
         ensures base { self.new.base ≡ self.old.base }
         ensures stands { (life : Life) (past : History) → Stands life past self.old → Stands life (ops.Tick ticks ∷ past) self.new }
     {
-        let setting = !self.is_setting_off;
+        let setting = !is_setting_off(&self.sessions);
         self.dem.tick(dids, ticks, setting);
         self.sessions = ticked_sessions(self.sessions, ticks);
-        self.is_setting_off = is_setting_off(&self.sessions);
     }
 
     /// Ends an operation cycle, of the number 0 to 3, and starts the next.
@@ -284,14 +280,12 @@ impl UnitState {
         ensures answer { (life : Life) (past : History) → Stands life past self.old → unless_silent result out.new.items ≡ answer life past (ops.Request tester bytes.now) }
         ensures negative { IsNegative (unless_silent result out.new.items) → self.new ≡ record self.old { sessions = slice_set self.old.sessions tester (heard (session_at self.old.sessions tester)) } }
     {
-        let silent = request(
+        request(
             &mut self.dem,
             &mut self.sessions[tester as usize],
             bytes,
             out,
-        );
-        self.is_setting_off = is_setting_off(&self.sessions);
-        silent
+        )
     }
 
     /// What is shown of an event. To show it changes nothing.

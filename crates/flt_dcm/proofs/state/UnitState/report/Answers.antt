@@ -17,7 +17,7 @@ use Rattle.flt_dcm.proofs.state.UnitState.report.Goals as goal
 pub returns-clause-stands : goal.returns-clause-stands
 returns-clause-stands g c = λ life past s.
     let inside = rw (← c.self.view_is) at s in
-    let setting = ap not (c.self.invariant.off ∙ off_told past c.self.inside.sessions c.self.invariant.one_each inside.sessions) in
+    let setting = ap not (c.is_setting_off-setting.ensures ∙ off_told past c.self.inside.sessions c.self.invariant.one_each inside.sessions) in
     record {
       dem = c.report.ensures.stands life past setting inside.dem;
       sessions = sessions_kept past (ops.Report c.args.event c.args.report) c.self.inside.sessions tt inside.sessions;
@@ -27,5 +27,5 @@ returns-clause-stands g c = λ life past s.
 pub returns-clause-answer : goal.returns-clause-answer
 returns-clause-answer g c = λ life past s.
     let inside = rw (← c.self.view_is) at s in
-    let setting = ap not (c.self.invariant.off ∙ off_told past c.self.inside.sessions c.self.invariant.one_each inside.sessions) in
+    let setting = ap not (c.is_setting_off-setting.ensures ∙ off_told past c.self.inside.sessions c.self.invariant.one_each inside.sessions) in
     c.report.ensures.answer life past setting inside.dem

@@ -18,7 +18,7 @@ pub returns-clause-stands : goal.returns-clause-stands
 returns-clause-stands g c = λ life past s.
     let inside = rw (← c.self.view_is) at s in
     let ticks = c.args.ticks in
-    let setting = ap not (c.self.invariant.off ∙ off_told past c.self.inside.sessions c.self.invariant.one_each inside.sessions) in
+    let setting = ap not (c.is_setting_off-setting.ensures ∙ off_told past c.self.inside.sessions c.self.invariant.one_each inside.sessions) in
     record {
       dem = c.tick.ensures.stands life past setting inside.dem;
       sessions = subst (λ sessions. SessionsStand (ops.Tick ticks ∷ past) sessions) (sym c.ticked_sessions-self-inside.ensures) (sessions_ticked past ticks c.self.inside.sessions inside.sessions);
