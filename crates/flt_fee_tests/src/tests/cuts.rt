@@ -1,0 +1,265 @@
+// A fixed job, each of whose programs and erases is cut or fails by each pattern: what stands then is what the definition says.
+ghost use Rattle.std.specs.Prelude.{◌≡◌, Contains};
+ghost use Rattle.flt_flash.specs.State.{CanArm};
+
+use super::*;
+
+// The pages of each sector.
+const PAGES: u16 = 14;
+
+// What a block holds, told by its first byte.
+#[derive(Clone, Copy, Debug, PartialEq, Eq)]
+enum Held {
+    Missing,
+    Invalid,
+    Bytes(u8),
+}
+
+// The job: which block is changed, 9 rather than 8, and to what. It switches the sectors twice.
+const JOB: [(bool, Held); 7] = [
+    (false, Held::Bytes(1)),
+    (true, Held::Bytes(2)),
+    (false, Held::Bytes(3)),
+    (true, Held::Invalid),
+    (false, Held::Bytes(4)),
+    (true, Held::Bytes(5)),
+    (false, Held::Bytes(6)),
+];
+
+// How many programs and erases the job makes: 3 of the first mount, 22 of the seven records, and 8 and 10 of the switches.
+const OPERATIONS: u32 = 43;
+
+// Gives block 8 one byte, or block 9 forty of them, or makes it invalid.
+fn put<B: Blocks>(driver: &mut B, second: bool, asked: Held) -> Result<(), BlockFault>
+    requires first { Contains (B.state driver.old).numbers 8 }
+    requires second { Contains (B.state driver.old).numbers 9 }
+    ensures { (B.state driver.new).numbers ≡ (B.state driver.old).numbers }
+{
+    match (second, asked) {
+        (false, Held::Bytes(byte)) => driver.write(8, &[byte]),
+        (true, Held::Bytes(byte)) => driver.write(9, &[byte; 40]),
+        (false, _) => driver.invalidate(8),
+        (true, _) => driver.invalidate(9),
+    }
+}
+
+fn held_by(found: Found, first: u8) -> Held {
+    match found {
+        Found::Missing => Held::Missing,
+        Found::Invalid => Held::Invalid,
+        Found::Bytes(_) => Held::Bytes(first),
+    }
+}
+
+// What the driver reads of both blocks.
+fn read_both<B: Blocks>(driver: &mut B) -> Result<(Held, Held), BlockFault>
+    requires first { Contains (B.state driver.old).numbers 8 }
+    requires second { Contains (B.state driver.old).numbers 9 }
+    ensures { (B.state driver.new).numbers ≡ (B.state driver.old).numbers }
+{
+    let mut out = [0; 128];
+    let first = driver.read(8, &mut out)?;
+    let first = held_by(first, out[0]);
+    let second = driver.read(9, &mut out)?;
+    Ok((first, held_by(second, out[0])))
+}
+
+// The word of a page, or none.
+fn word_at(flash: &FlashMem, sector: u8, page: u16) -> Option<Word> {
+    if sector > 1 || page >= flash.pages() {
+        return None;
+    }
+    get_word(&unseal(flash.page(sector, page))?)
+}
+
+// The first byte of a page, or 0 where there is no such page.
+fn first_byte(flash: &FlashMem, sector: u8, page: u16) -> u8 {
+    if sector > 1 || page >= flash.pages() {
+        return 0;
+    }
+    flash.page(sector, page)[0]
+}
+
+// The number of a valid sector, by the definition.
+fn number(flash: &FlashMem, sector: u8) -> Option<u32> {
+    match (word_at(flash, sector, 0)?, word_at(flash, sector, 1)?) {
+        (Word::Start { sequence, pages }, Word::Active { sequence: active }) => {
+            if sequence == active && pages == PAGES {
+                Some(sequence)
+            } else {
+                None
+            }
+        }
+        _ => None,
+    }
+}
+
+// What a block holds by the log of a sector, by the definition: its last record with a gate.
+fn held_in(flash: &FlashMem, sector: u8, block: u16) -> Held {
+    let mut held = Held::Missing;
+    let mut page: u16 = 2;
+    for _item in 2..PAGES {
+        let head = word_at(flash, sector, page);
+        let mut next = page.saturating_add(1);
+        if let Some(
+            Word::Head {
+                block: of,
+                length,
+                valid,
+                ..
+            },
+        ) = head
+        {
+            let gate = next.saturating_add(length.saturating_add(31) / 32);
+            if of == block && word_at(flash, sector, gate) == Some(Word::Gate { block, page }) {
+                held = if valid {
+                    Held::Bytes(first_byte(flash, sector, next))
+                } else {
+                    Held::Invalid
+                };
+            }
+            next = gate.saturating_add(1);
+        }
+        page = next;
+    }
+    held
+}
+
+// What the image says of a block, by the definition.
+fn told(flash: &FlashMem, block: u16) -> Held {
+    match (number(flash, 0), number(flash, 1)) {
+        (None, None) => Held::Missing,
+        (Some(_), None) => held_in(flash, 0, block),
+        (None, Some(_)) => held_in(flash, 1, block),
+        (Some(first), Some(second)) => held_in(flash, u8::from(second > first), block),
+    }
+}
+
+// How far the job came: what the blocks hold, and the change that failed, if one did.
+#[derive(Drop)]
+struct Progress {
+    first: Held,
+    second: Held,
+    failed: Option<(bool, Held)>,
+}
+
+impl Progress {
+    // Takes a change that was made.
+    fn take(&mut self, second: bool, asked: Held) {
+        if second {
+            self.second = asked;
+        } else {
+            self.first = asked;
+        }
+    }
+
+    // Whether these are the blocks, the one of the change that failed being as before or as asked.
+    fn allows(&self, first: Held, second: Held) -> bool {
+        match self.failed {
+            None => first == self.first && second == self.second,
+            Some((false, asked)) => {
+                (first == self.first || first == asked) && second == self.second
+            }
+            Some((true, asked)) => {
+                first == self.first && (second == self.second || second == asked)
+            }
+        }
+    }
+}
+
+// Makes the changes of the job until one fails.
+fn run_job<B: Blocks>(driver: &mut B) -> Progress
+    requires first { Contains (B.state driver.old).numbers 8 }
+    requires second { Contains (B.state driver.old).numbers 9 }
+    ensures { (B.state driver.new).numbers ≡ (B.state driver.old).numbers }
+{
+    let mut progress = Progress {
+        first: Held::Missing,
+        second: Held::Missing,
+        failed: None,
+    };
+    for change in &JOB {
+        let (second, asked) = *change;
+        if put(driver, second, asked).is_err() {
+            progress.failed = Some((second, asked));
+            return progress;
+        }
+        progress.take(second, asked);
+    }
+    progress
+}
+
+// Turns the power on again.
+fn restart<B: Blocks>(driver: &mut B)
+    ensures { (B.state driver.new).numbers ≡ (B.state driver.old).numbers }
+{
+    if driver.boots_left() > 0 {
+        driver.power_up();
+    }
+}
+
+// What the driver reads of both blocks, at the second try where the first one fails.
+fn read_again<B: Blocks>(driver: &mut B) -> Result<(Held, Held), BlockFault>
+    requires first { Contains (B.state driver.old).numbers 8 }
+    requires second { Contains (B.state driver.old).numbers 9 }
+{
+    match read_both(driver) {
+        Ok(both) => Ok(both),
+        Err(_) => read_both(driver),
+    }
+}
+
+// Runs the job over a blank flash with this arm, and reads the blocks with the power on again, a second time where the arm
+// made that fail. It tells whether all of the job was made.
+fn run_case(rt: &impl Abort, alloc: Global, arm: Arm) -> Result<bool, Fail>
+    requires { CanArm arm }
+{
+    let mut flash = FlashMem::blank(alloc, PAGES, 1)?;
+    flash.arm(arm);
+    let mut fee = two_blocks(alloc, flash, PAGES)?;
+    let progress = run_job(&mut fee);
+    restart(&mut fee);
+    let (first, second) = read_again(&mut fee)?;
+    assert!(rt; progress.allows(first, second), "{arm:?}");
+    let flash = fee.retire();
+    assert!(rt;
+        (first, second) == (told(&flash, 8), told(&flash, 9)),
+        "{arm:?}"
+    );
+    Ok(progress.failed.is_none())
+}
+
+#[test]
+fn each_operation_is_cut_and_fails(rt: HostRuntime) -> Result<(), Fail> {
+    for pattern in &[Pattern::Nothing, Pattern::All, Pattern::Tail, Pattern::Odd] {
+        let pattern = *pattern;
+        for after in 1..60 {
+            let cut = run_case(&rt, rt.alloc(), Arm::Cut { after, pattern })?;
+            let fault = run_case(&rt, rt.alloc(), Arm::Fault { after, pattern })?;
+            assert!(rt;
+                cut == (after > OPERATIONS) && fault == cut,
+                "{after} {pattern:?}"
+            );
+        }
+    }
+    Ok(())
+}
+
+#[test]
+fn each_page_is_muted(rt: HostRuntime) -> Result<(), Fail> {
+    for sector in 0..2 {
+        for page in 0..PAGES {
+            let times = 1;
+            run_case(
+                &rt,
+                rt.alloc(),
+                Arm::Mute {
+                    sector,
+                    page,
+                    times,
+                },
+            )?;
+        }
+    }
+    Ok(())
+}

@@ -1,0 +1,134 @@
+// Worked rows of the driver.
+ghost use Rattle.std.specs.Prelude.{◌≡◌, ◌+◌, ◌*◌, OnOk, IfOk, Contains, vec_len};
+ghost use Rattle.flt_code.specs.Word.{IsWord};
+ghost use Rattle.flt_fee_tests.specs.Few.{HasFive};
+
+use super::*;
+
+// What any driver answers of block 8, which was never written.
+fn drive<B: Blocks>(rt: &impl Abort, driver: &mut B) -> Result<(), Fail>
+    requires { Contains (B.state driver.old).numbers 8 }
+{
+    driver.mount()?;
+    let mut out = [0xee; 128];
+    assert!(rt; driver.read(8, &mut out)? == Found::Missing);
+    driver.write(8, &[1])?;
+    assert!(rt; driver.read(8, &mut out)? == Found::Bytes(1));
+    assert!(rt; out[..2] == [1, 0xee]);
+    driver.invalidate(8)?;
+    assert!(rt; driver.read(8, &mut out)? == Found::Invalid);
+    assert!(rt; !driver.spent());
+    assert!(rt; (driver.boots_left(), driver.armed()) == (2, 0));
+    Ok(())
+}
+
+// Writes one byte to block 8, so many times.
+fn fill<B: Blocks>(driver: &mut B, times: u8) -> Result<(), BlockFault>
+    requires { Contains (B.state driver.old).numbers 8 }
+    ensures { (B.state driver.new).numbers ≡ (B.state driver.old).numbers }
+{
+    for value in 0..times {
+        driver.write(8, &[value])?;
+    }
+    Ok(())
+}
+
+#[test]
+fn an_invalid_block_is_told(rt: HostRuntime) -> Result<(), Fail> {
+    let flash = FlashMem::blank(rt.alloc(), 64, 2)?;
+    let mut fee = two_blocks(rt.alloc(), flash, 64)?;
+    drive(&rt, &mut fee)?;
+    let flash = fee.retire();
+    assert!(rt; (flash.wear(0), flash.wear(1)) == (1, 0));
+    Ok(())
+}
+
+#[test]
+fn the_record_after_the_last_page_switches(rt: HostRuntime) -> Result<(), Fail> {
+    let flash = FlashMem::blank(rt.alloc(), 64, 2)?;
+    let mut fee = two_blocks(rt.alloc(), flash, 64)?;
+    fill(&mut fee, 21)?;
+    let mut out = [0; 128];
+    assert!(rt; fee.read(8, &mut out)? == Found::Bytes(1));
+    assert!(rt; out[0] == 20);
+    let flash = fee.retire();
+    assert!(rt; (flash.wear(0), flash.wear(1)) == (1, 1));
+    Ok(())
+}
+
+// Fills 14 pages with blocks of 32 bytes, behind which one byte more finds no room.
+fn overfill<B: Blocks>(rt: &impl Abort, driver: &mut B) -> Result<(), Fail>
+    requires { HasFive (B.state driver.old).numbers }
+{
+    driver.write(1, &[7; 32])?;
+    driver.write(2, &[7; 32])?;
+    driver.write(3, &[7; 32])?;
+    driver.write(4, &[7; 32])?;
+    let full = BlockFault::Full {
+        live: 12,
+        needed: 3,
+    };
+    assert!(rt; driver.write(5, &[7]) == Err(full));
+    let mut out = [0; 128];
+    assert!(rt; driver.read(4, &mut out)? == Found::Bytes(32));
+    assert!(rt; driver.read(5, &mut out)? == Found::Missing);
+    Ok(())
+}
+
+#[test]
+fn a_record_without_room_is_refused(rt: HostRuntime) -> Result<(), Fail> {
+    let flash = FlashMem::blank(rt.alloc(), 14, 2)?;
+    let mut fee = five_blocks(rt.alloc(), flash, 14)?;
+    overfill(&rt, &mut fee)
+}
+
+// The page of a word.
+fn page_of(word: Word) -> [u8; 32]
+    requires { IsWord word }
+{
+    seal(&put_word(&word))
+}
+
+// Two sectors of 64 pages: sector 0 is valid under the last number, and its log is full of records that make block 8 invalid.
+fn spent_image(alloc: Global) -> Result<Vec<[u8; 32]>, AllocError>
+    ensures { IfOk result (λ image. vec_len image ≡ 128) }
+{
+    let mut image = vec![in alloc; BLANK_PAGE; 128]?;
+    image[0] = page_of(Word::Start {
+        sequence: u32::MAX,
+        pages: 64,
+    });
+    image[1] = page_of(Word::Active { sequence: u32::MAX });
+    for record in 0..31_u16 {
+        let page = 2 + 2 * record;
+        image[page as usize] = page_of(Word::Head {
+            block: 8,
+            length: 0,
+            valid: false,
+            page,
+        });
+        image[page as usize + 1] = page_of(Word::Gate { block: 8, page });
+    }
+    Ok(image)
+}
+
+// Asks for more than the last sequence number allows.
+fn overspend<B: Blocks>(rt: &impl Abort, driver: &mut B) -> Result<(), Fail>
+    requires first { Contains (B.state driver.old).numbers 8 }
+    requires second { Contains (B.state driver.old).numbers 9 }
+{
+    let mut out = [0; 128];
+    assert!(rt; driver.read(8, &mut out)? == Found::Invalid);
+    assert!(rt; driver.write(9, &[1]) == Err(BlockFault::SequenceSpent));
+    assert!(rt; driver.invalidate(8) == Err(BlockFault::SequenceSpent));
+    assert!(rt; driver.read(9, &mut out)? == Found::Missing);
+    assert!(rt; driver.spent());
+    Ok(())
+}
+
+#[test]
+fn a_full_log_under_the_last_number_is_spent(rt: HostRuntime) -> Result<(), Fail> {
+    let flash = FlashMem::of(rt.alloc(), spent_image(rt.alloc())?, 2)?;
+    let mut fee = two_blocks(rt.alloc(), flash, 64)?;
+    overspend(&rt, &mut fee)
+}
