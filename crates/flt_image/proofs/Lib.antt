@@ -1,3 +1,4 @@
 pub mod Ranges
 pub mod Takings
 pub mod Rows
+pub mod TableRows
