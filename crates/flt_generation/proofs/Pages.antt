@@ -110,7 +110,7 @@ module _ (c : Config) where
       not_chosen (number == 8) (record_pages 8) _ (ne_eqb number 8 (λ e. omega (arith, e, high)))
       ∙ not_chosen ((number == 16) || (number == 17)) (record_pages 26) _ (or_from (number == 16) (number == 17) (ne_eqb number 16 (λ e. omega (arith, e, high))) (ne_eqb number 17 (λ e. omega (arith, e, high))))
 
-  used_is : (id : ℕ) → 3 ≤ id → id < 24 → is_used c id ≡ has_part c (part_of id)
+  pub used_is : (id : ℕ) → 3 ≤ id → id < 24 → is_used c id ≡ has_part c (part_of id)
   used_is id low high =
       ap (λ (b : Bool). b && nat_lt id 24 && has_part c (part_of id)) (le-leb 3 id low) ∙ ap (λ (b : Bool). true && b && has_part c (part_of id)) (lt-ltb id 24 high)
 
@@ -119,7 +119,7 @@ module _ (c : Config) where
   and_true false = refl
 
   -- the pages of an index of a part
-  of_part : (id index : ℕ) → 3 ≤ id → id < 24 → index ≤ 1 → own_pages c (number_of id index) ≡ (if has_part c (part_of id) then record_pages (part_length (part_of id)) else 0)
+  pub of_part : (id index : ℕ) → 3 ≤ id → id < 24 → index ≤ 1 → own_pages c (number_of id index) ≡ (if has_part c (part_of id) then record_pages (part_length (part_of id)) else 0)
   of_part id index low high small =
       let number = number_of id index in
       let at : number / 8 ≡ id = omega (arith, small) in
@@ -173,7 +173,7 @@ module _ (c : Config) where
         ∙ ap (λ (n : ℕ). if nat_lt n c.memory then 10 else 0) place
   ]
 
-  applications_of : (k : ℕ) → k < 40 → own_pages c (application_number (0 + k)) ≡ (if nat_lt k c.blocks then 3 else 0)
+  pub applications_of : (k : ℕ) → k < 40 → own_pages c (application_number (0 + k)) ≡ (if nat_lt k c.blocks then 3 else 0)
   applications_of k below =
       let number = application_number (0 + k) in
       let at : number / 8 ≡ 64 + k = omega arith in

@@ -1,0 +1,123 @@
+-- One application block was written, or read.
+use Rattle.std.proofs.Common.{◌≡◌, ◌≢◌, ◌⊎◌, inl, inr, ⊎_elim, ℕ, ◌+◌, ◌*◌, ◌/◌, ◌<◌, ◌≤◌, ◌++◌, Bool, true, false, List, [], length, take, drop, Option, Some, None, Result, Ok, Err, refl, sym, ◌∙◌, ap, subst, arith}
+use Rattle.std.proofs.Math.Seq.{take-append_seam}
+use Rattle.std.specs.Prelude.{IsTrue, nat_lt, nat_le, if◌then◌else◌}
+use Rattle.std.proofs.lemmas.Bool.{cases_eq, le-leb, leb-true, lt-ltb}
+use Rattle.flt_flash.specs.Content.{Content, missing, invalid, bytes}
+use Rattle.flt_flash.specs.Blocks.{pages_of, record_pages}
+use Rattle.flt_config.specs.declared.config.Config.{Config}
+use Rattle.flt_nvm.specs.declared.got.Got.{Got}
+use Rattle.flt_nvm.specs.declared.got.Got.TheVariants.{Bytes, Missing, Invalid}
+use Rattle.flt_nvm.specs.Leaves.{GotOf}
+use Rattle.flt_generation.specs.declared.commit.Commit.{Commit}
+use Rattle.flt_generation.specs.Layout.{number_of, mark_number, first_commit, second_commit, application_number, applications, is_used}
+use Rattle.flt_generation.specs.Excess.{own_pages, IsBorne}
+use Rattle.flt_generation.specs.Holding.{Generation, Holds, IsSound, either_copy, only_bytes, is_application}
+use Rattle.flt_generation.specs.Successor.{IsContentOf}
+use Rattle.flt_generation.proofs.Pages.{applications_of}
+use Rattle.flt_generation.proofs.Choices.{chosen}
+use Rattle.flt_store.specs.Cause.{IsWithinOwn}
+use Rattle.flt_store.specs.Started.{HasMark, NamesOf, IsStarted}
+use Rattle.flt_store.specs.Store.{Gets}
+use Rattle.flt_store.proofs.TableUse.{used_range}
+use Rattle.flt_store.proofs.Causes.{borne_stays}
+use Rattle.flt_store.proofs.Started.{AreApplications, names_on, mark_on, holds_on}
+
+module _ (c : Config) (block : ℕ) (own : block < c.blocks) (within : block < applications) (before after : ℕ → Content) (raw : List ℕ) (short : length raw ≤ 32)
+    (either : (after (application_number block) ≡ before (application_number block)) ⊎ (after (application_number block) ≡ bytes raw))
+    (others : (other : ℕ) → other ≢ application_number block → after other ≡ before other) where
+  low : (number : ℕ) → number < 512 → after number ≡ before number
+  low number below = others number (λ same. omega (arith, below, same))
+
+  mark_same : after mark_number ≡ before mark_number
+  mark_same = low mark_number (omega arith)
+
+  above : (id index : ℕ) → IsTrue (is_used c id) → index ≤ 1 → after (number_of id index) ≡ before (number_of id index)
+  above id index used small = let range = used_range c id used in low (number_of id index) (omega (arith, range.1, small))
+
+  first_same : after first_commit ≡ before first_commit
+  first_same = low first_commit (omega arith)
+
+  second_same : after second_commit ≡ before second_commit
+  second_same = low second_commit (omega arith)
+
+  own_three : own_pages c (application_number block) ≡ 3
+  own_three =
+      let at : application_number (0 + block) ≡ application_number block = omega arith in
+      ap (own_pages c) (sym at) ∙ applications_of c block within ∙ chosen (nat_lt block c.blocks) 3 0 (lt-ltb block c.blocks own)
+
+  within_own : IsWithinOwn c before after
+  within_own other = elim (cases_eq other (application_number block)) [
+    | inl same ↦
+        subst (λ (n : ℕ). (after n ≡ before n) ⊎ (pages_of (after n) ≤ own_pages c n)) (sym same)
+        (⊎_elim
+        (λ kept. inl kept)
+        (λ is. (let pages : pages_of (after (application_number block)) ≡ record_pages (length raw) = ap pages_of is in
+          let most : (length raw + 31) / 32 ≤ 1 = omega (arith, short) in inr (omega (arith, pages, own_three, most))))
+        either)
+    | inr apart ↦ inl (others other apart)
+  ]
+
+  pub borne_on : IsBorne c before → IsBorne c after
+  borne_on = borne_stays c before after within_own
+
+  good : AreApplications before → AreApplications after
+  good are other below = elim (cases_eq other block) [
+    | inl same ↦
+        subst (λ (n : ℕ). IsTrue (is_application (after (application_number n)))) (sym same)
+        (⊎_elim
+        (λ kept. subst (λ (content : Content). IsTrue (is_application content)) (sym kept) (are block within))
+        (λ is. subst (λ (content : Content). IsTrue (is_application content)) (sym is) (le-leb (length raw) 32 short))
+        either)
+    | inr apart ↦ subst (λ (content : Content). IsTrue (is_application content)) (sym (others (application_number other) (λ same. apart (omega (arith, same))))) (are other below)
+  ]
+
+  pub mark_put : HasMark c before → HasMark c after
+  mark_put = mark_on c before after mark_same above
+
+  holds_put : (content : Content) (g : Generation) → Holds c before content g → Holds c after content g
+  holds_put content g is = holds_on c before after mark_same above content g (good is.applications) (borne_on is.excess) is
+
+  -- no generation changes
+  pub sound_put : (h s : Generation) → IsSound c before h s → IsSound c after h s
+  sound_put h s sound = record {
+    holds = subst (λ (content : Content). Holds c after content h) (ap (λ (d : Content). either_copy d (before second_commit)) (sym first_same) ∙ ap (either_copy (after first_commit)) (sym second_same))
+        (holds_put (either_copy (before first_commit) (before second_commit)) h sound.holds);
+    spares = subst (λ (content : Content). Holds c after content s) (ap only_bytes (sym second_same)) (holds_put (only_bytes (before second_commit)) s sound.spares);
+    order = sound.order;
+    step = sound.step;
+    same = sound.same;
+  }
+
+  pub started_put : (commit : Option Commit) (g : Generation) → IsStarted c before commit g → IsStarted c after commit g
+  started_put commit g started = record {
+    mark = mark_put started.mark;
+    first = subst (IsContentOf commit) (sym first_same) started.first;
+    second = subst (λ (content : Content). IsContentOf commit (only_bytes content)) (sym second_same) started.second;
+    names = names_on c before after mark_same above commit g started.names;
+    applications = good started.applications;
+    excess = borne_on started.excess;
+  }
+
+pub gets_nothing : (content : Content) (before after out : List ℕ) → GotOf 1 content Missing before after → out ≡ [] → Gets content false out
+gets_nothing missing before after out got empty = (refl, empty)
+gets_nothing invalid before after out got empty = absurd got
+gets_nothing (bytes held) before after out got empty = absurd got
+
+pub gets_bytes : (content : Content) (n copy : ℕ) (before after out : List ℕ) → GotOf 1 content (Bytes n copy) before after → out ≡ take n after → Gets content true out
+gets_bytes missing n copy before after out got is = absurd got.1
+gets_bytes invalid n copy before after out got is = absurd got.1
+gets_bytes (bytes held) n copy before after out got is =
+    let found = got.1 in
+    (refl, is ∙ ap (λ (m : ℕ). take m after) found.0 ∙ ap (take (length held)) found.1 ∙ take-append_seam held (drop n before))
+
+-- what is read of an application block is none invalid, and has at most 32 bytes
+pub not_invalid_application : (content : Content) (before after : List ℕ) → IsTrue (is_application content) → GotOf 1 content Invalid before after → ⊥
+not_invalid_application missing before after is got = got
+not_invalid_application invalid before after is got = cc is
+not_invalid_application (bytes held) before after is got = got
+
+pub short_application : (content : Content) (n copy : ℕ) (before after : List ℕ) → IsTrue (is_application content) → GotOf 1 content (Bytes n copy) before after → n ≤ 32
+short_application missing n copy before after is got = absurd got.1
+short_application invalid n copy before after is got = absurd got.1
+short_application (bytes held) n copy before after is got = let found = got.1 in let size = leb-true (length held) 32 is in omega (arith, size, found.0)

@@ -1,0 +1,9 @@
+pub mod TableUse
+pub mod Causes
+pub mod Started
+pub mod Saving
+pub mod Writing
+pub mod Repairing
+pub mod Copies
+pub mod Running
+pub mod Applying

@@ -1,0 +1,53 @@
+-- What keeps a store running.
+use Rattle.std.proofs.Common.{◌≡◌, ◌⊎◌, inl, inr, ⊎_elim, ℕ, ◌+◌, ◌≤◌, Option, Result, Ok, Err, refl, sym, ◌∙◌, ap, subst, arith}
+use Rattle.std.specs.Prelude.{IfOk, OnErr}
+use Rattle.flt_flash.specs.Blocks.{BlocksState}
+use Rattle.flt_flash.specs.Calls.{Follows}
+use Rattle.flt_config.specs.declared.config.Config.{Config}
+use Rattle.flt_generation.specs.Holding.{Generation, IsOneOf, OldOrNew}
+use Rattle.flt_flash.specs.Content.{Content}
+use Rattle.flt_store.specs.Cause.{FailsThrice, HasRoom}
+use Rattle.flt_store.specs.Store.{IsServed}
+
+pub served_on : (c : Config) (before after : BlocksState) → Follows before after → IsServed c before → IsServed c after
+served_on c before after follows served = record { given = served.given; room = subst (HasRoom c) (sym follows.room) served.room; mounted = follows.once_mounted served.mounted }
+
+pub ok_map : {T E : Type 0} {P Q : T → Type 0} (result : Result T E) → ((x : T) → P x → Q x) → IfOk result P → IfOk result Q
+ok_map (Ok x) to p = to x p
+ok_map (Err e) to p = tt
+
+pub err_map : {T E : Type 0} {P Q : Type 0} (result : Result T E) → (P → Q) → OnErr result P → OnErr result Q
+err_map (Ok x) to p = tt
+err_map (Err e) to p = to p
+
+module _ (h s new : Generation) where
+  -- a save that went on from the held generation
+  pub one_by_held : (g : Generation) → IsOneOf g h h new → IsOneOf g h s new
+  one_by_held g = ⊎_elim (λ e. inl e) (λ more. ⊎_elim (λ e. inl e) (λ e. inr (inr e)) more)
+
+  -- a save that went on from the spare one
+  pub one_by_spare : (g : Generation) → IsOneOf g s s new → IsOneOf g h s new
+  one_by_spare g = ⊎_elim (λ e. inr (inl e)) (λ more. ⊎_elim (λ e. inr (inl e)) (λ e. inr (inr e)) more)
+
+-- later calls leave the choice
+pub chosen_on : {P Q R : Type 0} (first second third : BlocksState) → Follows second third → P ⊎ (Q × R × FailsThrice first second) → P ⊎ (Q × R × FailsThrice first third)
+chosen_on first second third follows = ⊎_elim (λ p. inl p) (λ more. inr (more.0, more.1, (let rose = more.2 in let counts = follows.counts in omega (arith, rose, counts))))
+
+-- each old generation, by the one from which a save went on
+pub one_of_chosen : {Q R : Type 0} (h s chosen new g : Generation) → (chosen ≡ h) ⊎ ((chosen ≡ s) × Q × R) → IsOneOf g chosen chosen new → IsOneOf g h s new
+one_of_chosen h s chosen new g is one =
+    ⊎_elim
+    (λ by_held. one_by_held h s new g (subst (λ (d : Generation). IsOneOf g d d new) by_held one))
+    (λ by_spare. one_by_spare h s new g (subst (λ (d : Generation). IsOneOf g d d new) by_spare.0 one))
+    is
+
+pub rises_from : {Q R : Type 0} (h s chosen : Generation) (number : ℕ) → (chosen ≡ h) ⊎ ((chosen ≡ s) × Q × R) → s.number ≤ h.number → chosen.number ≤ number → s.number ≤ number
+rises_from h s chosen number is order rises =
+    ⊎_elim
+    (λ by_held. (let same = ap (λ (d : Generation). d.number) by_held in omega (arith, same, order, rises)))
+    (λ by_spare. (let same = ap (λ (d : Generation). d.number) by_spare.0 in omega (arith, same, rises)))
+    is
+
+pub err_both : {T E : Type 0} {P Q R : Type 0} (result : Result T E) → (P → Q → R) → OnErr result P → OnErr result Q → OnErr result R
+err_both (Ok x) to p q = tt
+err_both (Err e) to p q = to p q

@@ -1,0 +1,143 @@
+-- What the writes of a save leave of a started image.
+use Rattle.std.proofs.Common.{◌≡◌, ◌⊎◌, inl, inr, ⊎_elim, ℕ, ◌+◌, ◌*◌, ◌<◌, ◌≤◌, ◌^◌, List, length, Option, Some, None, Result, Ok, Err, refl, sym, ◌∙◌, ap, subst, arith}
+use Rattle.std.specs.Prelude.{IsTrue, ◌≢◌, OnOk}
+use Rattle.flt_flash.specs.Content.{Content, missing, invalid, bytes}
+use Rattle.flt_flash.specs.Blocks.{BlocksState}
+use Rattle.flt_flash.specs.declared.blocks.BlockFault.{BlockFault}
+use Rattle.flt_config.specs.declared.config.Config.{Config}
+use Rattle.flt_config.specs.declared.persist.Persist.{Persist}
+use Rattle.flt_config.specs.Durable.{Fits}
+use Rattle.flt_nvm.specs.Leaves.{GivesBoth}
+use Rattle.flt_generation.specs.declared.commit.Commit.{Commit}
+use Rattle.flt_generation.specs.Layout.{commit_id, number_of, mark_number, first_commit, second_commit, application_number, is_used, index_in}
+use Rattle.flt_generation.specs.Form.{commit_bytes, block_bytes, IsCommit}
+use Rattle.flt_generation.specs.Excess.{IsBorne}
+use Rattle.flt_generation.specs.Holding.{Generation, BlocksHold, either_copy, only_bytes, is_application, IsSound, OldOrNew}
+use Rattle.flt_generation.specs.Successor.{IsContentOf, number_in, IsNext, IsMoved, OnlyNewBlocks}
+use Rattle.flt_store.specs.Cause.{IsWithinOwn}
+use Rattle.flt_store.specs.Started.{NamesOf, IsStarted, AgreeButForCommit, next_generation}
+use Rattle.flt_store.proofs.TableUse.{used_range}
+use Rattle.flt_store.proofs.Causes.{borne_stays, own_first, own_second}
+use Rattle.flt_store.proofs.Started.{holds_of, sound_started, numbered, either_content, names_kept, mark_kept, applications_kept}
+
+module _ (c : Config) where
+  -- the next commit is of the form
+  pub next_form : (current : Option Commit) (next : Commit) → IsNext c current next → number_in current + 1 < 2 ^ 32 → IsCommit c next
+  next_form current next follows most = record {
+    least = omega (arith, follows.number);
+    most = omega (arith, follows.number, most);
+    size = follows.size;
+    indices = λ id low high. record { used = (follows.blocks id low high).used; unused = (follows.blocks id low high).unused };
+  }
+
+  small_index : (commit : Commit) → IsCommit c commit → (id : ℕ) → IsTrue (is_used c id) → index_in commit id ≤ 1
+  small_index commit form id used = let range = used_range c id used in (form.indices id range.0 range.1).used used
+
+  module _ (next : Commit) (state : Persist) (before after : ℕ → Content) (only : OnlyNewBlocks c next state before after) where
+    -- a number that is none of the next commit's places holds what it held
+    kept : (number : ℕ) → ((id : ℕ) → IsTrue (is_used c id) → number ≢ number_of id (index_in next id)) → after number ≡ before number
+    kept number apart = ⊎_elim (λ same. same) (λ block. absurd (apart block.0 block.1.used block.1.place)) (only number)
+
+    pub kept_low : (number : ℕ) → number < 24 → after number ≡ before number
+    kept_low number low = kept number (λ id used same. let range = used_range c id used in omega (arith, range.0, same))
+
+    pub kept_application : IsCommit c next → (block : ℕ) → after (application_number block) ≡ before (application_number block)
+    kept_application form block = kept (application_number block) (λ id used same. let range = used_range c id used in let index = small_index next form id used in omega (arith, range.1, index, same))
+
+    kept_named : IsCommit c next → (commit : Commit) → IsCommit c commit → ((id : ℕ) → IsTrue (is_used c id) → index_in commit id ≢ index_in next id) → (id : ℕ) → IsTrue (is_used c id)
+        → after (number_of id (index_in commit id)) ≡ before (number_of id (index_in commit id))
+    kept_named form commit named moved id used = kept (number_of id (index_in commit id)) (λ other is_used same.
+        let old = small_index commit named id used in
+        let new = small_index next form other is_used in
+        let same_id : other ≡ id = omega (arith, old, new, same) in
+        moved id used (let index : index_in commit id ≡ index_in next other = omega (arith, same, same_id) in index ∙ ap (index_in next) same_id))
+
+    -- the generation before still stands
+    pub settled : (current : Option Commit) (g : Generation) → IsNext c current next → IsCommit c next → IsWithinOwn c before after → IsStarted c before current g → IsStarted c after current g
+    settled current g follows form within started = record {
+      mark = (started.mark.0, kept_low mark_number (omega arith) ∙ started.mark.1, started.mark.2);
+      first = subst (IsContentOf current) (sym (kept_low first_commit (omega arith))) started.first;
+      second = subst (λ (content : Content). IsContentOf current (only_bytes content)) (sym (kept_low second_commit (omega arith))) started.second;
+      names = names current (λ id used. (let range = used_range c id used in (follows.blocks id range.0 range.1).moved used)) started.names;
+      applications = λ block below. subst (λ (content : Content). IsTrue (is_application content)) (sym (kept_application form block)) (started.applications block below);
+      excess = borne_stays c before after within started.excess;
+    }
+      where
+        names : (current : Option Commit) → ((id : ℕ) → IsTrue (is_used c id) → IsMoved current id (index_in next id)) → NamesOf c before current g → NamesOf c after current g
+        names None moved is = is
+        names (Some commit) moved is = record { form = is.form; number = is.number; blocks = λ id used. kept_named form commit is.form moved id used ∙ is.blocks id used; fits = is.fits }
+
+  -- where nothing that is named was changed, both are the old one
+  pub still_old : (value : ℕ → Content) (current : Option Commit) (g new : Generation) → IsStarted c value current g → OldOrNew c value g g new
+  still_old value current g new started = record { held = g; spare = g; sound = sound_started c value current g started; held_is = inl refl; spare_is = inl refl; rises = omega arith }
+
+  module _ (before after : ℕ → Content) (agree : AgreeButForCommit before after) (excess : IsBorne c after) where
+    -- a started image whose copies of the commit were both given another commit
+    restarted : (current commit : Option Commit) (g h : Generation) → IsStarted c before current g → NamesOf c before commit h
+        → IsContentOf commit (after first_commit) → IsContentOf commit (only_bytes (after second_commit)) → IsStarted c after commit h
+    restarted current commit g h started names first second = record {
+      mark = mark_kept c before after agree started.mark;
+      first = first;
+      second = second;
+      names = names_kept c before after agree commit h names;
+      applications = applications_kept c before after agree started.applications;
+      excess = excess;
+    }
+
+    -- only the first copy was given the next commit
+    half_way : (current : Option Commit) (next : Commit) (g new : Generation) → IsStarted c before current g → IsNext c current next → new.number ≡ number_in current + 1 → NamesOf c before (Some next) new
+        → IsContentOf (Some next) (after first_commit) → after second_commit ≡ before second_commit → IsSound c after new g
+    half_way current next g new started follows number names first second =
+        let old = numbered c before current g started.names in
+        let mark = mark_kept c before after agree started.mark in
+        let blocks = applications_kept c before after agree started.applications in
+        record {
+          holds = holds_of c after (either_copy (after first_commit) (after second_commit)) (Some next) new (first.0, ap (λ (content : Content). either_copy content (after second_commit)) first.1, first.2)
+              mark (names_kept c before after agree (Some next) new names) blocks excess;
+          spares = holds_of c after (only_bytes (after second_commit)) current g (subst (λ (content : Content). IsContentOf current (only_bytes content)) (sym second) started.second)
+              mark (names_kept c before after agree current g started.names) blocks excess;
+          order = omega (arith, old, number);
+          step = omega (arith, old, number);
+          same = λ equal. absurd (omega (arith, old, number, equal));
+        }
+
+    module _ (current : Option Commit) (next : Commit) (g new : Generation) (started : IsStarted c before current g) (follows : IsNext c current next)
+        (number : new.number ≡ number_in current + 1) (names : NamesOf c before (Some next) new) where
+      abbrev IsTried : ℕ → Type 0
+      IsTried copy = (after copy ≡ before copy) ⊎ (after copy ≡ bytes (commit_bytes next))
+
+      of_next : (content : Content) → content ≡ bytes (commit_bytes next) → IsContentOf (Some next) content
+      of_next content is = (commit_bytes next, is, refl)
+
+      -- both copies were given the next commit
+      pub committed : after first_commit ≡ bytes (commit_bytes next) → after second_commit ≡ bytes (commit_bytes next) → IsStarted c after (Some next) new
+      committed first second = restarted current (Some next) g new started names (of_next (after first_commit) first) (of_next (only_bytes (after second_commit)) (ap only_bytes second))
+
+      half : after first_commit ≡ bytes (commit_bytes next) → after second_commit ≡ before second_commit → OldOrNew c after g g new
+      half first second = record {
+        held = new;
+        spare = g;
+        sound = half_way current next g new started follows number names (of_next (after first_commit) first) second;
+        held_is = inr (inr refl);
+        spare_is = inl refl;
+        rises = omega arith;
+      }
+
+      unchanged : after first_commit ≡ before first_commit → after second_commit ≡ before second_commit → OldOrNew c after g g new
+      unchanged first second =
+          still_old after current g new
+          (restarted current current g g started started.names (subst (IsContentOf current) (sym first) started.first) (subst (λ (content : Content). IsContentOf current (only_bytes content)) (sym second) started.second))
+
+      -- the copies were tried one after the other
+      pub interrupted : (IsTried first_commit × (after second_commit ≡ before second_commit)) ⊎ ((after first_commit ≡ bytes (commit_bytes next)) × IsTried second_commit) → OldOrNew c after g g new
+      interrupted (inl (inl first, second)) = unchanged first second
+      interrupted (inl (inr first, second)) = half first second
+      interrupted (inr (first, inl second)) = half first second
+      interrupted (inr (first, inr second)) = record {
+        held = new;
+        spare = new;
+        sound = sound_started c after (Some next) new (committed first second);
+        held_is = inr (inr refl);
+        spare_is = inr (inr refl);
+        rises = omega (arith, number, numbered c before current g started.names);
+      }

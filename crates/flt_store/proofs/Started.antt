@@ -1,0 +1,109 @@
+-- What a started image holds, and what leaves it so.
+use Rattle.std.proofs.Common.{◌≡◌, ◌⊎◌, ℕ, ◌+◌, ◌<◌, ◌≤◌, List, Option, Some, None, refl, sym, ◌∙◌, ap, subst, arith}
+use Rattle.std.specs.Prelude.{IsTrue, ◌≢◌}
+use Rattle.flt_flash.specs.Content.{Content, missing, invalid, bytes}
+use Rattle.flt_config.specs.declared.config.Config.{Config}
+use Rattle.flt_generation.specs.declared.commit.Commit.{Commit}
+use Rattle.flt_generation.specs.Layout.{number_of, mark_number, first_commit, second_commit, application_number, applications, is_used, index_in}
+use Rattle.flt_generation.specs.Form.{mark_of, IsBytesOfMark}
+use Rattle.flt_generation.specs.Excess.{IsBorne}
+use Rattle.flt_generation.specs.Holding.{Generation, CommitNames, Names, MarkAllows, either_copy, only_bytes, is_application, Holds, IsSound}
+use Rattle.flt_generation.specs.Successor.{IsContentOf, number_in}
+use Rattle.flt_store.specs.Started.{HasMark, NamesOf, IsStarted, AgreeButForCommit}
+use Rattle.flt_store.proofs.TableUse.{used_range}
+
+-- the application blocks are good
+abbrev pub AreApplications : (ℕ → Content) → Type 0
+AreApplications value = (block : ℕ) → block < applications → IsTrue (is_application (value (application_number block)))
+
+module _ (c : Config) (value : ℕ → Content) where
+  names_content : (commit : Option Commit) (content : Content) (g : Generation) → IsContentOf commit content → NamesOf c value commit g → Names c value content g
+  names_content None content g is names = subst (λ (held : Content). Names c value held g) (sym is) names
+  names_content (Some commit) content g is names = subst (λ (held : Content). Names c value held g) (sym is.1) (commit, is.2, names)
+
+  mark_allows : (content : Content) → HasMark c value → MarkAllows c (value mark_number) content
+  mark_allows content mark = subst (λ (held : Content). MarkAllows c held content) (sym mark.1) mark.2
+
+  pub holds_of : (content : Content) (commit : Option Commit) (g : Generation) → IsContentOf commit content → HasMark c value → NamesOf c value commit g → AreApplications value → IsBorne c value
+      → Holds c value content g
+  holds_of content commit g is mark names applications excess = record {
+    mark = mark_allows content mark;
+    names = names_content commit content g is names;
+    applications = applications;
+    excess = excess;
+  }
+
+  pub numbered : (commit : Option Commit) (g : Generation) → NamesOf c value commit g → g.number ≡ number_in commit
+  numbered None g names = ap (λ (h : Generation). h.number) names
+  numbered (Some commit) g names = sym names.number
+
+pub either_content : (first second : Content) (commit : Option Commit) → IsContentOf commit first → IsContentOf commit (only_bytes second) → IsContentOf commit (either_copy first second)
+either_content first second (Some commit) one two = (one.0, ap (λ (held : Content). either_copy held second) one.1, one.2)
+either_content first (bytes held) None one two = absurd (cc two)
+either_content first missing None one two = ap (λ (content : Content). either_copy content missing) one
+either_content first invalid None one two = ap (λ (content : Content). either_copy content invalid) one
+
+-- both copies name the generation
+pub sound_started : (c : Config) (value : ℕ → Content) (commit : Option Commit) (g : Generation) → IsStarted c value commit g → IsSound c value g g
+sound_started c value commit g started = record {
+  holds = holds_of c value (either_copy (value first_commit) (value second_commit)) commit g (either_content (value first_commit) (value second_commit) commit started.first started.second) started.mark started.names started.applications started.excess;
+  spares = holds_of c value (only_bytes (value second_commit)) commit g started.second started.mark started.names started.applications started.excess;
+  order = omega arith;
+  step = omega arith;
+  same = λ equal. refl;
+}
+
+-- what stands where the mark and the used blocks are as they were
+module _ (c : Config) (before after : ℕ → Content) (mark_same : after mark_number ≡ before mark_number)
+    (above : (id index : ℕ) → IsTrue (is_used c id) → index ≤ 1 → after (number_of id index) ≡ before (number_of id index)) where
+  pub commit_names_on : (commit : Commit) (g : Generation) → CommitNames c before commit g → CommitNames c after commit g
+  commit_names_on commit g is = record {
+    form = is.form;
+    number = is.number;
+    blocks = λ id used. (let range = used_range c id used in above id (index_in commit id) used ((is.form.indices id range.0 range.1).used used) ∙ is.blocks id used);
+    fits = is.fits;
+  }
+
+  pub names_on : (commit : Option Commit) (g : Generation) → NamesOf c before commit g → NamesOf c after commit g
+  names_on None g is = is
+  names_on (Some commit) g is = commit_names_on commit g is
+
+  pub mark_on : HasMark c before → HasMark c after
+  mark_on mark = (mark.0, mark_same ∙ mark.1, mark.2)
+
+  pub holds_on : (content : Content) (g : Generation) → AreApplications after → IsBorne c after → Holds c before content g → Holds c after content g
+  holds_on content g applications excess is = record {
+    mark = subst (λ (mark : Content). MarkAllows c mark content) (sym mark_same) is.mark;
+    names = names content is.names;
+    applications = applications;
+    excess = excess;
+  }
+    where
+      names : (content : Content) → Names c before content g → Names c after content g
+      names missing is = is
+      names invalid is = is
+      names (bytes held) is = (is.0, is.1, commit_names_on is.0 g is.2)
+
+-- what stands where the two images agree but for the copies of the commit
+module _ (c : Config) (before after : ℕ → Content) (agree : AgreeButForCommit before after) where
+  above_commit : (id index : ℕ) → IsTrue (is_used c id) → index ≤ 1 → after (number_of id index) ≡ before (number_of id index)
+  above_commit id index used small = let range = used_range c id used in agree (number_of id index) (λ same. omega (arith, range.0, same)) (λ same. omega (arith, range.0, same))
+
+  below_commit : after mark_number ≡ before mark_number
+  below_commit = agree mark_number (λ same. omega (arith, same)) (λ same. omega (arith, same))
+
+  pub commit_names_kept : (commit : Commit) (g : Generation) → CommitNames c before commit g → CommitNames c after commit g
+  commit_names_kept = commit_names_on c before after below_commit above_commit
+
+  pub names_kept : (commit : Option Commit) (g : Generation) → NamesOf c before commit g → NamesOf c after commit g
+  names_kept = names_on c before after below_commit above_commit
+
+  pub mark_kept : HasMark c before → HasMark c after
+  mark_kept = mark_on c before after below_commit above_commit
+
+  pub applications_kept : AreApplications before → AreApplications after
+  applications_kept are block within =
+      subst (λ (content : Content). IsTrue (is_application content)) (sym (agree (application_number block) (λ same. omega (arith, same)) (λ same. omega (arith, same)))) (are block within)
+
+  pub holds_kept : (content : Content) (g : Generation) → IsBorne c after → Holds c before content g → Holds c after content g
+  holds_kept content g excess is = holds_on c before after below_commit above_commit content g (applications_kept is.applications) excess is

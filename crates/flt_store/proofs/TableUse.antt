@@ -1,0 +1,74 @@
+-- What the table of blocks says of the calls on the mark, the commit, a part and an application block.
+use Rattle.std.proofs.Common.{◌≡◌, ℕ, ◌+◌, ◌≤◌, ◌<◌, List, Option, Some, None, sym, ◌∙◌, ap, subst, refl, arith}
+use Rattle.std.specs.Prelude.{IfSome, IsSomeAnd, IsTrue, ◌&&◌, nat_le, nat_lt}
+use Rattle.std.proofs.lemmas.Bool.{and_parts, ltb-true, leb-true}
+use Rattle.flt_config.specs.declared.config.Config.{Config}
+use Rattle.flt_nvm.specs.declared.table.Kind.{Kind}
+use Rattle.flt_nvm.specs.declared.table.Kind.TheVariants.{Native, Redundant, Dataset}
+use Rattle.flt_nvm.specs.declared.table.BlockCfg.{BlockCfg}
+use Rattle.flt_nvm.specs.Table.{block_in, indices_of, ByKind, AsKept, HasIndex, Holds, IsRedundant}
+use Rattle.flt_generation.specs.Layout.{mark_id, commit_id, first_part, end_part, first_application, applications, part_of, has_part, is_used}
+use Rattle.flt_generation.specs.Form.{part_length}
+use Rattle.flt_image.specs.Table.{row, block_table}
+use Rattle.flt_image.proofs.TableRows.{mark_row, commit_row, part_row, application_row}
+
+-- the used blocks lie between the commit and the application blocks, and are parts of the configuration
+pub used_range : (c : Config) (id : ℕ) → IsTrue (is_used c id) → (3 ≤ id) × (id < 24) × IsTrue (has_part c (part_of id))
+used_range c id used =
+    let both = and_parts (nat_le first_part id && nat_lt id end_part) (has_part c (part_of id)) used in
+    let range = and_parts (nat_le first_part id) (nat_lt id end_part) both.0 in
+    (leb-true first_part id range.0, ltb-true id end_part range.1, both.1)
+
+module _ (table : List BlockCfg) (is : table ≡ block_table) where
+  row_in : (id : ℕ) (found : Option BlockCfg) → block_in block_table id ≡ found → found ≡ block_in table id
+  row_in id found at = sym at ∙ ap (λ (rows : List BlockCfg). block_in rows id) (sym is)
+
+  has_index : (id index length : ℕ) (kind : Kind) → block_in block_table id ≡ Some (row kind length id) → index < indices_of kind → HasIndex table id index
+  has_index id index length kind at within = subst (λ (found : Option BlockCfg). IsSomeAnd found (λ block. index < indices_of block.kind)) (row_in id (Some (row kind length id)) at) within
+
+  holds : (id size length : ℕ) (kind : Kind) → block_in block_table id ≡ Some (row kind length id) → size ≤ length → Holds table id size
+  holds id size length kind at within = subst (λ (found : Option BlockCfg). IsSomeAnd found (λ block. size ≤ block.length)) (row_in id (Some (row kind length id)) at) within
+
+  kept_as : (id length : ℕ) (kind : Kind) (Single Both : Type 0) → block_in block_table id ≡ Some (row kind length id) → AsKept table id Single Both → ByKind kind Single Both
+  kept_as id length kind Single Both at fact = subst (λ (found : Option BlockCfg). IfSome found (λ block. ByKind block.kind Single Both)) (sym (row_in id (Some (row kind length id)) at)) fact
+
+  pub mark_index : HasIndex table mark_id 0
+  mark_index = has_index mark_id 0 8 Native mark_row (omega arith)
+
+  pub mark_fits : (size : ℕ) → size ≤ 8 → Holds table mark_id size
+  mark_fits size within = holds mark_id size 8 Native mark_row within
+
+  pub mark_alone : (Single Both : Type 0) → AsKept table mark_id Single Both → Single
+  mark_alone Single Both fact = kept_as mark_id 8 Native Single Both mark_row fact
+
+  pub commit_index : HasIndex table commit_id 0
+  commit_index = has_index commit_id 0 26 Redundant commit_row (omega arith)
+
+  pub commit_twice : IsRedundant table commit_id
+  commit_twice = subst (λ (found : Option BlockCfg). IsSomeAnd found (λ block. block.kind ≡ Redundant)) (row_in commit_id (Some (row Redundant 26 commit_id)) commit_row) refl
+
+  pub commit_fits : (size : ℕ) → size ≤ 26 → Holds table commit_id size
+  commit_fits size within = holds commit_id size 26 Redundant commit_row within
+
+  pub commit_both : (Single Both : Type 0) → AsKept table commit_id Single Both → Both
+  commit_both Single Both fact = kept_as commit_id 26 Redundant Single Both commit_row fact
+
+  module _ (id : ℕ) (low : first_part ≤ id) (high : id < end_part) where
+    pub part_index : (index : ℕ) → index ≤ 1 → HasIndex table id index
+    part_index index small = has_index id index (part_length (part_of id)) (Dataset 2) (part_row id low high) (omega (arith, small))
+
+    pub part_fits : (size : ℕ) → size ≤ part_length (part_of id) → Holds table id size
+    part_fits size within = holds id size (part_length (part_of id)) (Dataset 2) (part_row id low high) within
+
+    pub part_alone : (Single Both : Type 0) → AsKept table id Single Both → Single
+    part_alone Single Both fact = kept_as id (part_length (part_of id)) (Dataset 2) Single Both (part_row id low high) fact
+
+  module _ (block : ℕ) (within : block < applications) where
+    pub application_index : HasIndex table (first_application + block) 0
+    application_index = has_index (first_application + block) 0 32 Native (application_row block within) (omega arith)
+
+    pub application_fits : (size : ℕ) → size ≤ 32 → Holds table (first_application + block) size
+    application_fits size short = holds (first_application + block) size 32 Native (application_row block within) short
+
+    pub application_alone : (Single Both : Type 0) → AsKept table (first_application + block) Single Both → Single
+    application_alone Single Both fact = kept_as (first_application + block) 32 Native Single Both (application_row block within) fact

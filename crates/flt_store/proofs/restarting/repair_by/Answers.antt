@@ -1,0 +1,48 @@
+use Rattle.std.proofs.Common.{◌≡◌, ◌≢◌, ◌∙◌, ℕ, ◌-◌, ◌≤◌, List, length, Some, None, Err, sym, ap, arith}
+use Rattle.flt_nvm.specs.Driver.{driver_of}
+use Rattle.flt_store.proofs.TableUse.{commit_twice, commit_fits}
+use Rattle.flt_store.proofs.Causes.{one_write, borne_stays, writes_as}
+use Rattle.flt_store.proofs.Repairing.{one_commit, repaired, copy_within, bytes_of_commit, but_for_copy}
+use Rattle.flt_store.proofs.restarting.repair_by.Goals as goal
+
+pub repair-requires-clause-redundant : goal.repair-requires-clause-redundant
+repair-requires-clause-redundant g c = commit_twice _ c.requires.table
+
+pub repair-requires-clause-least : goal.repair-requires-clause-least
+repair-requires-clause-least g c = let size = bytes_of_commit c.args.config.now c.args.bytes.now _ (sym c.get_commit.ensures ∙ c.in-Some.is) in omega (arith, size)
+
+pub repair-requires-clause-fits : goal.repair-requires-clause-fits
+repair-requires-clause-fits g c = let size = bytes_of_commit c.args.config.now c.args.bytes.now _ (sym c.get_commit.ensures ∙ c.in-Some.is) in commit_fits _ c.requires.table _ (omega (arith, size))
+
+pub returns-in-Ok-clause-started : goal.returns-in-Ok-clause-started
+returns-in-Ok-clause-started g c = λ h holds.
+    let before = (driver_of c.args.nvm.now).value in
+    let after = (driver_of c.repair.new.self).value in
+    let read = sym c.get_commit.ensures ∙ c.in-Some.is in
+    let within = copy_within c.args.config.now before after c.args.bytes.now c.args.copy c.requires.least c.requires.most (bytes_of_commit c.args.config.now c.args.bytes.now _ read) c.repair.ensures.gives.either c.repair.ensures.gives.others in
+    repaired c.args.config.now before after (but_for_copy before after c.args.copy c.requires.least c.requires.most c.repair.ensures.gives.others) (borne_stays c.args.config.now before after within holds.excess)
+    c.args.bytes.now c.in-Some.commit h read holds c.in-Ok.ensures.first c.in-Ok.ensures.second
+
+pub returns-in-Ok-clause-within : goal.returns-in-Ok-clause-within
+returns-in-Ok-clause-within g c =
+    copy_within c.args.config.now (driver_of c.args.nvm.now).value (driver_of c.repair.new.self).value c.args.bytes.now c.args.copy c.requires.least c.requires.most
+    (bytes_of_commit c.args.config.now c.args.bytes.now _ (sym c.get_commit.ensures ∙ c.in-Some.is)) c.repair.ensures.gives.either c.repair.ensures.gives.others
+
+pub returns-in-Err-clause-within : goal.returns-in-Err-clause-within
+returns-in-Err-clause-within g c =
+    copy_within c.args.config.now (driver_of c.args.nvm.now).value (driver_of c.repair.new.self).value c.args.bytes.now c.args.copy c.requires.least c.requires.most
+    (bytes_of_commit c.args.config.now c.args.bytes.now _ (sym c.get_commit.ensures ∙ c.in-Some.is)) c.repair.ensures.gives.either c.repair.ensures.gives.others
+
+pub returns-in-Err-clause-writes : goal.returns-in-Err-clause-writes
+returns-in-Err-clause-writes g c = λ h holds.
+    let size = bytes_of_commit c.args.config.now c.args.bytes.now _ (sym c.get_commit.ensures ∙ c.in-Some.is) in
+    writes_as (driver_of c.args.nvm.now) (driver_of c.repair.new.self) c.in-Err.fault
+    (one_write (driver_of c.args.nvm.now) (driver_of c.repair.new.self) (Err c.in-Err.fault) c.in-Err.ensures.calls c.in-Err.ensures.three _ _ _ (omega (arith, size)) c.in-Err.ensures.gives)
+
+pub returns-in-None-clause-writes : goal.returns-in-None-clause-writes
+returns-in-None-clause-writes g c = λ h holds.
+    let found = one_commit c.args.config.now (driver_of c.args.nvm.now).value c.args.bytes.now h holds in
+    let read = c.get_commit.ensures in
+    let none = c.in-None.is in
+    let read_as = found.1 in
+    absurd (cc (read, none, read_as))

@@ -1,0 +1,97 @@
+use Rattle.std.proofs.Common.{◌≡◌, ◌∙◌, ◌≤◌, inl, List, ℕ, length, take, Err, sym, subst, arith}
+use Rattle.std.proofs.lemmas.List.{length-take-le}
+use Rattle.flt_nvm.specs.Driver.{driver_of}
+use Rattle.flt_nvm.specs.declared.got.Got.{Got}
+use Rattle.flt_nvm.specs.declared.got.Got.TheVariants.{Bytes, Missing, Invalid}
+use Rattle.flt_nvm.specs.Leaves.{GotOfBoth}
+use Rattle.flt_generation.specs.Layout.{commit_id}
+use Rattle.flt_store.proofs.TableUse.{commit_index, commit_both}
+use Rattle.flt_store.proofs.Causes.{writes_on, writes_as}
+use Rattle.flt_store.proofs.Repairing.{sound_kept, mark_stays, both_old, no_commit, not_invalid, but_for_copy}
+use Rattle.flt_store.proofs.Copies.{copy_read, bytes_short, copy_range, held_at, some_holds, started_by, tried_by, missing_read, invalid_read, stays_started}
+use Rattle.flt_store.proofs.restarting.restart.Goals as goal
+
+pub read-requires : goal.read-requires
+read-requires g c = commit_index _ c.requires
+
+pub slice_bounds-out-end : goal.slice_bounds-out-end
+slice_bounds-out-end g c =
+    let got = commit_both _ c.requires _ _ (rw c.in-Ok-Bytes.field-0-is at c.in-Ok-Bytes.ensures.got) in
+    bytes_short (driver_of c.args.nvm.now) (driver_of c.read.new.self) c.in-Ok-Bytes.length c.in-Ok-Bytes.copy _ c.read.new.out got
+
+pub repair_by-requires-clause-least : goal.repair_by-requires-clause-least
+repair_by-requires-clause-least g c =
+    let got = commit_both _ c.requires _ _ (rw c.in-Ok-Bytes.field-0-is at c.in-Ok-Bytes.ensures.got) in
+    (copy_range (driver_of c.args.nvm.now) (driver_of c.read.new.self) _ c.in-Ok-Bytes.copy (copy_read (driver_of c.args.nvm.now) (driver_of c.read.new.self) c.in-Ok-Bytes.length c.in-Ok-Bytes.copy _ c.read.new.out got)).0
+
+pub slice_bounds-repair_by-end : goal.slice_bounds-repair_by-end
+slice_bounds-repair_by-end g c =
+    let got = commit_both _ c.requires _ _ (rw c.in-Ok-Bytes.field-0-is at c.in-Ok-Bytes.ensures.got) in
+    sym (length-take-le c.in-Ok-Bytes.length c.read.new.out (bytes_short (driver_of c.args.nvm.now) (driver_of c.read.new.self) c.in-Ok-Bytes.length c.in-Ok-Bytes.copy _ c.read.new.out got))
+
+pub repair_by-requires-clause-most : goal.repair_by-requires-clause-most
+repair_by-requires-clause-most g c =
+    let got = commit_both _ c.requires _ _ (rw c.in-Ok-Bytes.field-0-is at c.in-Ok-Bytes.ensures.got) in
+    let raw = take c.in-Ok-Bytes.length c.read.new.out in
+    let found = copy_read (driver_of c.args.nvm.now) (driver_of c.read.new.self) c.in-Ok-Bytes.length c.in-Ok-Bytes.copy _ c.read.new.out got in
+    (copy_range (driver_of c.args.nvm.now) (driver_of c.read.new.self) raw c.in-Ok-Bytes.copy found).1
+
+pub repair_by-requires-clause-held : goal.repair_by-requires-clause-held
+repair_by-requires-clause-held g c =
+    let got = commit_both _ c.requires _ _ (rw c.in-Ok-Bytes.field-0-is at c.in-Ok-Bytes.ensures.got) in
+    let raw = take c.in-Ok-Bytes.length c.read.new.out in
+    let found = copy_read (driver_of c.args.nvm.now) (driver_of c.read.new.self) c.in-Ok-Bytes.length c.in-Ok-Bytes.copy _ c.read.new.out got in
+    held_at c.args.config.now (driver_of c.args.nvm.now) (driver_of c.read.new.self) raw c.in-Ok-Bytes.copy c.read.ensures.values found
+
+pub returns-in-Ok-clause-started : goal.returns-in-Ok-clause-started
+returns-in-Ok-clause-started g c = λ h s sound mark.
+    let got = commit_both _ c.requires _ _ (rw c.in-Ok-Bytes.field-0-is at c.in-Ok-Bytes.ensures.got) in
+    let raw = take c.in-Ok-Bytes.length c.read.new.out in
+    let found = copy_read (driver_of c.args.nvm.now) (driver_of c.read.new.self) c.in-Ok-Bytes.length c.in-Ok-Bytes.copy _ c.read.new.out got in
+    started_by c.args.config.now (driver_of c.args.nvm.now) (driver_of c.read.new.self) raw c.in-Ok-Bytes.copy c.read.ensures.values found h s sound (driver_of c.repair_by.new.nvm) c.in-Ok.commit c.repair_by.ensures.follows.counts c.in-Ok.ensures.started
+
+pub returns-in-Ok-clause-kept : goal.returns-in-Ok-clause-kept
+returns-in-Ok-clause-kept g c = λ number first second.
+    let got = commit_both _ c.requires _ _ (rw c.in-Ok-Bytes.field-0-is at c.in-Ok-Bytes.ensures.got) in
+    let raw = take c.in-Ok-Bytes.length c.read.new.out in
+    let found = copy_read (driver_of c.args.nvm.now) (driver_of c.read.new.self) c.in-Ok-Bytes.length c.in-Ok-Bytes.copy _ c.read.new.out got in
+    let range = copy_range (driver_of c.args.nvm.now) (driver_of c.read.new.self) raw c.in-Ok-Bytes.copy found in
+    but_for_copy (driver_of c.read.new.self).value (driver_of c.repair_by.new.nvm).value c.in-Ok-Bytes.copy range.0 range.1 c.repair_by.ensures.others number first second ∙ c.read.ensures.values number
+
+pub returns-in-Err-repair_by-clause-failed : goal.returns-in-Err-repair_by-clause-failed
+returns-in-Err-repair_by-clause-failed g c = λ h s new sound.
+    let got = commit_both _ c.requires _ _ (rw c.in-Ok-Bytes.field-0-is at c.in-Ok-Bytes.ensures.got) in
+    let raw = take c.in-Ok-Bytes.length c.read.new.out in
+    let found = copy_read (driver_of c.args.nvm.now) (driver_of c.read.new.self) c.in-Ok-Bytes.length c.in-Ok-Bytes.copy _ c.read.new.out got in
+    tried_by c.args.config.now (driver_of c.args.nvm.now) (driver_of c.read.new.self) raw c.in-Ok-Bytes.copy c.read.ensures.values found h s sound (driver_of c.repair_by.new.nvm) new c.repair_by.ensures.within c.repair_by.ensures.other c.repair_by.ensures.others
+
+pub returns-in-Err-repair_by-clause-writes : goal.returns-in-Err-repair_by-clause-writes
+returns-in-Err-repair_by-clause-writes g c = λ h s sound.
+    let got = commit_both _ c.requires _ _ (rw c.in-Ok-Bytes.field-0-is at c.in-Ok-Bytes.ensures.got) in
+    let raw = take c.in-Ok-Bytes.length c.read.new.out in
+    let found = copy_read (driver_of c.args.nvm.now) (driver_of c.read.new.self) c.in-Ok-Bytes.length c.in-Ok-Bytes.copy _ c.read.new.out got in
+    let some = some_holds c.args.config.now (driver_of c.args.nvm.now) (driver_of c.read.new.self) raw c.in-Ok-Bytes.copy c.read.ensures.values found h s sound in
+    writes_as (driver_of c.args.nvm.now) (driver_of c.repair_by.new.nvm) _ (writes_on (driver_of c.args.nvm.now) (driver_of c.read.new.self) (driver_of c.repair_by.new.nvm) _ c.read.ensures.calls.follows (c.in-Err-repair_by.ensures.writes some.0 some.1))
+
+pub returns-in-Err-repair_by-clause-kept : goal.returns-in-Err-repair_by-clause-kept
+returns-in-Err-repair_by-clause-kept g c = λ number first second.
+    let got = commit_both _ c.requires _ _ (rw c.in-Ok-Bytes.field-0-is at c.in-Ok-Bytes.ensures.got) in
+    let raw = take c.in-Ok-Bytes.length c.read.new.out in
+    let found = copy_read (driver_of c.args.nvm.now) (driver_of c.read.new.self) c.in-Ok-Bytes.length c.in-Ok-Bytes.copy _ c.read.new.out got in
+    let range = copy_range (driver_of c.args.nvm.now) (driver_of c.read.new.self) raw c.in-Ok-Bytes.copy found in
+    but_for_copy (driver_of c.read.new.self).value (driver_of c.repair_by.new.nvm).value c.in-Ok-Bytes.copy range.0 range.1 c.repair_by.ensures.others number first second ∙ c.read.ensures.values number
+
+pub returns-in-Ok-Missing-clause-started : goal.returns-in-Ok-Missing-clause-started
+returns-in-Ok-Missing-clause-started g c = λ h s sound mark.
+    let got = commit_both _ c.requires _ _ (rw c.in-Ok-Missing.field-0-is at c.in-Ok-Missing.ensures.got) in
+    let first = missing_read ((driver_of c.args.nvm.now).value 16) _ _ got.0 in
+    inl (stays_started c.args.config.now (driver_of c.args.nvm.now).value (driver_of c.read.new.self).value c.read.ensures.values h (no_commit c.args.config.now (driver_of c.args.nvm.now).value h s sound mark first got.1))
+
+pub returns-in-Ok-Invalid-clause-started : goal.returns-in-Ok-Invalid-clause-started
+returns-in-Ok-Invalid-clause-started g c = λ h s sound mark.
+    let got = commit_both _ c.requires _ _ (rw c.in-Ok-Invalid.field-0-is at c.in-Ok-Invalid.ensures.got) in
+    let first = invalid_read ((driver_of c.args.nvm.now).value 16) _ _ got.0 in
+    absurd (not_invalid c.args.config.now (driver_of c.args.nvm.now).value h s sound first got.1)
+
+pub returns-in-Err-clause-failed : goal.returns-in-Err-clause-failed
+returns-in-Err-clause-failed g c = λ h s new sound. both_old c.args.config.now (driver_of c.read.new.self).value h s new (sound_kept c.args.config.now (driver_of c.args.nvm.now).value (driver_of c.read.new.self).value h s c.read.ensures.values sound)

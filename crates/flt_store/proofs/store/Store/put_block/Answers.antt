@@ -1,0 +1,42 @@
+use Rattle.std.proofs.Common.{◌≡◌, ◌<◌, ◌≤◌}
+use Rattle.flt_nvm.specs.Driver.{driver_of as driver_beneath}
+use Rattle.flt_store.specs.declared.fault.PutFault.{PutFault}
+use Rattle.flt_store.specs.declared.fault.PutFault.TheVariants.{Flash}
+use Rattle.flt_store.specs.Store.{driver_of, commit_of}
+use Rattle.flt_store.proofs.Causes.{resolved}
+use Rattle.flt_store.proofs.Running.{served_on}
+use Rattle.flt_store.proofs.Applying.{borne_on, mark_put, sound_put, started_put}
+use Rattle.flt_store.proofs.store.Store.put_block.Goals as goal
+
+pub returns-in-Ok-clause-running : goal.returns-in-Ok-clause-running
+returns-in-Ok-clause-running g c = λ config h s below running.
+    let before = driver_of c.args.self.now in
+    let after = driver_beneath c.write_application.new.nvm in
+    let gives = c.write_application.ensures.gives in
+    record {
+      served = served_on config before after c.write_application.ensures.writes.follows running.served;
+      mark = mark_put config c.args.block below c.requires.block before.value after.value c.args.bytes.now c.requires.most gives.either gives.others running.mark;
+      sound = sound_put config c.args.block below c.requires.block before.value after.value c.args.bytes.now c.requires.most gives.either gives.others h s running.sound;
+      settled = λ yes. started_put config c.args.block below c.requires.block before.value after.value c.args.bytes.now c.requires.most gives.either gives.others (commit_of c.args.self.now) h (running.settled yes);
+    }
+
+pub returns-in-Err-clause-running : goal.returns-in-Err-clause-running
+returns-in-Err-clause-running g c = λ config h s below running.
+    let before = driver_of c.args.self.now in
+    let after = driver_beneath c.write_application.new.nvm in
+    let gives = c.write_application.ensures.gives in
+    record {
+      served = served_on config before after c.write_application.ensures.writes.follows running.served;
+      mark = mark_put config c.args.block below c.requires.block before.value after.value c.args.bytes.now c.requires.most gives.either gives.others running.mark;
+      sound = sound_put config c.args.block below c.requires.block before.value after.value c.args.bytes.now c.requires.most gives.either gives.others h s running.sound;
+      settled = λ yes. started_put config c.args.block below c.requires.block before.value after.value c.args.bytes.now c.requires.most gives.either gives.others (commit_of c.args.self.now) h (running.settled yes);
+    }
+
+pub returns-in-Err-clause-flash : goal.returns-in-Err-clause-flash
+returns-in-Err-clause-flash g c = λ config h s below running told.
+    let before = driver_of c.args.self.now in
+    let after = driver_beneath c.write_application.new.nvm in
+    let gives = c.write_application.ensures.gives in
+    let is : c.put_fault.result ≡ Flash = cc told in
+    resolved config running.served.given before after c.in-Err.fault c.in-Err.ensures.writes c.args.self.now.numbers running.served.room running.served.mounted
+    (borne_on config c.args.block below c.requires.block before.value after.value c.args.bytes.now c.requires.most gives.either gives.others running.sound.holds.excess) (c.put_fault.ensures.flash is)

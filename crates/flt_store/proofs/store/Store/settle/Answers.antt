@@ -1,0 +1,51 @@
+use Rattle.std.proofs.Common.{◌≡◌, ◌+◌, ◌∙◌, ◌≢◌, inl, inr, ⊎_elim, refl, sym, arith}
+use Rattle.flt_nvm.specs.Driver.{driver_of as driver_beneath}
+use Rattle.flt_generation.specs.Holding.{Generation}
+use Rattle.flt_store.specs.declared.fault.SaveFault.{SaveFault}
+use Rattle.flt_store.specs.declared.fault.SaveFault.TheVariants.{Flash}
+use Rattle.flt_store.specs.Started.{IsStarted}
+use Rattle.flt_store.specs.Store.{driver_of, numbered}
+use Rattle.flt_store.proofs.Causes.{resolved}
+use Rattle.flt_store.proofs.Started.{mark_kept}
+use Rattle.flt_store.proofs.Running.{served_on}
+use Rattle.flt_store.proofs.store.Store.settle.Goals as goal
+
+pub returns-in-Ok-clause-settles : goal.returns-in-Ok-clause-settles
+returns-in-Ok-clause-settles g c = λ h s running.
+    let before = driver_of c.args.self.now in
+    let after = driver_beneath c.restart.new.nvm in
+    let served = served_on c.args.config.now before after c.restart.ensures.follows running.served in
+    ⊎_elim {A = IsStarted c.args.config.now after.value c.in-Ok.commit h}
+    (λ by_held. record { chosen = h; is = inl refl; served = served; started = by_held })
+    (λ by_spare. record { chosen = s; is = inr (refl, c.if-self.false, by_spare.1); served = served; started = by_spare.0 })
+    (c.in-Ok.ensures.started h s running.sound running.mark)
+
+pub returns-in-Err-clause-failed : goal.returns-in-Err-clause-failed
+returns-in-Err-clause-failed g c = λ h s state running.
+    let before = driver_of c.args.self.now in
+    let after = driver_beneath c.restart.new.nvm in
+    let left = c.in-Err.ensures.failed h s (numbered (h.number + 1) state) running.sound in
+    record {
+      chosen = h;
+      is = inl refl;
+      now_held = left.held;
+      now_spare = left.spare;
+      running = record {
+        served = served_on c.args.config.now before after c.restart.ensures.follows running.served;
+        mark = mark_kept c.args.config.now before.value after.value c.restart.ensures.kept running.mark;
+        sound = left.sound;
+        settled = λ yes. (let no = c.if-self.false in absurd (cc (yes, no)));
+      };
+      held_is = left.held_is;
+      spare_is = left.spare_is;
+      rises = left.rises;
+    }
+
+pub returns-in-Err-clause-flash : goal.returns-in-Err-clause-flash
+returns-in-Err-clause-flash g c = λ h s running told.
+    let before = driver_of c.args.self.now in
+    let after = driver_beneath c.restart.new.nvm in
+    let left = c.in-Err.ensures.failed h s h running.sound in
+    let is : c.save_fault.result ≡ Flash = cc told in
+    resolved c.args.config.now running.served.given before after c.in-Err.fault (c.in-Err.ensures.writes h s running.sound) c.args.self.now.numbers running.served.room running.served.mounted
+    left.sound.holds.excess (c.save_fault.ensures.flash is)

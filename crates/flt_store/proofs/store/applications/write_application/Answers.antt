@@ -1,0 +1,20 @@
+use Rattle.std.proofs.Common.{◌≡◌, ◌≤◌, arith}
+use Rattle.flt_nvm.specs.Driver.{driver_of}
+use Rattle.flt_store.proofs.TableUse.{application_index, application_fits, application_alone}
+use Rattle.flt_store.proofs.Causes.{one_write}
+use Rattle.flt_store.proofs.store.applications.write_application.Goals as goal
+
+pub write-requires-clause-index : goal.write-requires-clause-index
+write-requires-clause-index g c = application_index _ c.requires.table c.args.block c.requires.block
+
+pub write-requires-clause-fits : goal.write-requires-clause-fits
+write-requires-clause-fits g c = application_fits _ c.requires.table c.args.block c.requires.block _ c.requires.most
+
+pub returns-clause-gives : goal.returns-clause-gives
+returns-clause-gives g c = application_alone _ c.requires.table c.args.block c.requires.block _ _ c.write.ensures.gives
+
+pub returns-clause-writes : goal.returns-clause-writes
+returns-clause-writes g c =
+    let most = c.requires.most in
+    one_write (driver_of c.args.nvm.now) (driver_of c.write.new.self) c.write.result c.write.ensures.calls c.write.ensures.three _ _ _ (omega (arith, most))
+    (application_alone _ c.requires.table c.args.block c.requires.block _ _ c.write.ensures.gives)

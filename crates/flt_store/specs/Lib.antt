@@ -1,0 +1,3 @@
+pub mod Cause
+pub mod Started
+pub mod Store

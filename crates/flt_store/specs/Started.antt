@@ -1,0 +1,44 @@
+-- An image after a start-up or a save that answered Ok: both copies of the commit name one generation.
+use Rattle.std.specs.Prelude.{◌≡◌, ◌≢◌, ◌⊎◌, ℕ, ◌<◌, ◌+◌, List, Option, Some, None, IsTrue}
+use Rattle.flt_flash.specs.Content.{Content, bytes}
+use Rattle.flt_flash.specs.Blocks.{BlocksState}
+use Rattle.flt_config.specs.declared.config.Config.{Config}
+use Rattle.flt_config.specs.declared.persist.Persist.{Persist}
+use Rattle.flt_generation.specs.declared.commit.Commit.{Commit}
+use Rattle.flt_generation.specs.Layout.{applications, mark_number, first_commit, second_commit, application_number}
+use Rattle.flt_generation.specs.Form.{mark_of, IsBytesOfMark}
+use Rattle.flt_generation.specs.Excess.{IsBorne}
+use Rattle.flt_generation.specs.Holding.{Generation, first_generation, CommitNames, only_bytes, is_application}
+use Rattle.flt_generation.specs.Successor.{IsContentOf, number_in}
+use Rattle.flt_store.specs.Cause.{FailsThrice}
+
+-- the mark of the configuration stands in the image
+abbrev pub HasMark : Config → (ℕ → Content) → Type 0
+HasMark c value = (raw : List ℕ) × (value mark_number ≡ bytes raw) × IsBytesOfMark (mark_of c) raw
+
+-- the generation that a commit names; none names the first
+abbrev pub NamesOf : Config → (ℕ → Content) → Option Commit → Generation → Type 0
+NamesOf c value None g = g ≡ first_generation c
+NamesOf c value (Some commit) g = CommitNames c value commit g
+
+-- the mark stands, and both copies of the commit, or neither before the first save, name the generation
+pub record IsStarted (c : Config) (value : ℕ → Content) (commit : Option Commit) (g : Generation) : Type 0 where
+  pub mark : HasMark c value
+  pub first : IsContentOf commit (value first_commit)
+  pub second : IsContentOf commit (only_bytes (value second_commit))
+  pub names : NamesOf c value commit g
+  pub applications : (block : ℕ) → block < applications → IsTrue (is_application (value (application_number block)))
+  pub excess : IsBorne c value
+
+-- the generation that a save of this state makes
+abbrev pub next_generation : Option Commit → Persist → Generation
+next_generation commit state = record { number = number_in commit + 1; state = state }
+
+-- the two agree but for the copies of the commit
+abbrev pub AgreeButForCommit : (ℕ → Content) → (ℕ → Content) → Type 0
+AgreeButForCommit before after = (number : ℕ) → number ≢ first_commit → number ≢ second_commit → after number ≡ before number
+
+-- the held generation was started, or the spare one, where the flash failed three times
+abbrev pub StartsEither : Config → BlocksState → BlocksState → Option Commit → Generation → Generation → Type 0
+StartsEither c before after commit held spare =
+    IsStarted c after.value commit held ⊎ (IsStarted c after.value commit spare × FailsThrice before after)

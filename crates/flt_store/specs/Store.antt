@@ -1,0 +1,88 @@
+-- A store that was started, and what its calls leave.
+use Rattle.std.specs.Prelude.{◌≡◌, ◌⊎◌, ℕ, ◌+◌, ◌-◌, ◌≤◌, Bool, IsTrue, IsFalse, List, [], Option}
+use Rattle.flt_flash.specs.Content.{Content, missing, invalid, bytes}
+use Rattle.flt_flash.specs.Blocks.{BlocksState}
+use Rattle.flt_flash.specs.declared.blocks.Blocks.{Ghosts}
+use Rattle.flt_config.specs.declared.config.Config.{Config}
+use Rattle.flt_config.specs.declared.persist.Persist.{Persist}
+use Rattle.flt_nvm.specs.Driver.{driver_of as driver_beneath}
+use Rattle.flt_generation.specs.declared.commit.Commit.{Commit}
+use Rattle.flt_generation.specs.Laws.{IsGiven}
+use Rattle.flt_generation.specs.Holding.{Generation, IsSound, IsOneOf}
+use Rattle.flt_store.specs.declared.store.Store.{Store}
+use Rattle.flt_store.specs.Cause.{FailsThrice, HasRoom}
+use Rattle.flt_store.specs.Started.{HasMark, IsStarted}
+
+-- the state under this number
+abbrev pub numbered : ℕ → Persist → Generation
+numbered number state = record { number = number; state = state }
+
+-- what a read of an application block gives
+abbrev pub Gets : Content → Bool → List ℕ → Type 0
+Gets missing found out = IsFalse found × (out ≡ [])
+Gets invalid found out = ⊥
+Gets (bytes held) found out = IsTrue found × (out ≡ held)
+
+-- the driver was mounted, and leaves a valid configuration its room
+pub record IsServed (c : Config) (driver : BlocksState) : Type 0 where
+  pub given : IsGiven c
+  pub room : HasRoom c driver.room
+  pub mounted : IsTrue driver.has_mounted
+
+module _ {B : Type 0} {b : Ghosts B} where
+  -- the driver beneath
+  abbrev pub driver_of : Store B b → BlocksState
+  driver_of store = driver_beneath store.nvm
+
+  -- the commit that the store keeps
+  abbrev pub commit_of : Store B b → Option Commit
+  commit_of store = store.commit
+
+  -- the last start-up and every save since then answered Ok
+  abbrev pub is_settled : Store B b → Bool
+  is_settled store = store.is_settled
+
+  -- the last start-up answered Ok under this configuration: the image holds these two generations, the second by the second copy
+  -- of its commit; while the store is settled, both copies name the first
+  pub record IsRunning (c : Config) (held spare : Generation) (store : Store B b) : Type 0 where
+    pub served : IsServed c (driver_of store)
+    pub mark : HasMark c (driver_of store).value
+    pub sound : IsSound c (driver_of store).value held spare
+    pub settled : IsTrue (is_settled store) → IsStarted c (driver_of store).value (commit_of store) held
+
+  -- a save goes on from the held generation; or from the spare one, where a save failed before and the flash failed three times
+  abbrev pub IsChosen : (held spare : Generation) → Generation → Store B b → Store B b → Type 0
+  IsChosen held spare chosen before after =
+      (chosen ≡ held) ⊎ ((chosen ≡ spare) × IsFalse (is_settled before) × FailsThrice (driver_of before) (driver_of after))
+
+  -- a start-up after a save that failed: both copies name the generation from which the next save goes on
+  pub record Settles (c : Config) (held spare : Generation) (before after : Store B b) : Type 0 where
+    pub chosen : Generation
+    pub is : IsChosen held spare chosen before after
+    pub served : IsServed c (driver_of after)
+    pub started : IsStarted c (driver_of after).value (commit_of after) chosen
+
+  -- a save that answered this number, one more than that of the generation from which it went on: both copies name the state under it
+  pub record Saves (c : Config) (held spare : Generation) (state : Persist) (number : ℕ) (before after : Store B b) : Type 0 where
+    pub chosen : Generation
+    pub is : IsChosen held spare chosen before after
+    pub next : number ≡ chosen.number + 1
+    pub running : IsRunning c (numbered number state) (numbered number state) after
+
+  -- a save that failed: each generation is one of the old two or the new one, and the spare one's number did not fall
+  pub record Leaves (c : Config) (held spare : Generation) (state : Persist) (before after : Store B b) : Type 0 where
+    pub chosen : Generation
+    pub is : IsChosen held spare chosen before after
+    pub now_held : Generation
+    pub now_spare : Generation
+    pub running : IsRunning c now_held now_spare after
+    pub held_is : IsOneOf now_held held spare (numbered (chosen.number + 1) state)
+    pub spare_is : IsOneOf now_spare held spare (numbered (chosen.number + 1) state)
+    pub rises : spare.number ≤ now_spare.number
+
+  -- the generation from which the save went on has the last number, and both copies name it
+  pub record IsLast (c : Config) (held spare : Generation) (before after : Store B b) : Type 0 where
+    pub last : Generation
+    pub is : IsChosen held spare last before after
+    pub number : last.number ≡ 4294967295
+    pub running : IsRunning c last last after

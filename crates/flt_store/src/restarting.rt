@@ -1,0 +1,74 @@
+// Which generation stands after a save that failed, and the repair of the commit's copies.
+ghost use Rattle.std.specs.Prelude.{◌≡◌, ◌⊎◌, ℕ, ◌-◌, ◌≤◌, length, IfOk, OnOk, OnErr, Some};
+ghost use Rattle.flt_flash.specs.Content.{bytes as holding};
+ghost use Rattle.flt_flash.specs.Calls.{Follows, OthersKept};
+ghost use Rattle.flt_nvm.specs.Driver.{driver_of, table_of};
+ghost use Rattle.flt_nvm.specs.Leaves.{IsEither};
+ghost use Rattle.flt_generation.specs.Layout.{commit_id, number_of};
+ghost use Rattle.flt_generation.specs.Holding.{Generation, Holds, IsSound, OldOrNew};
+ghost use Rattle.flt_image.specs.Table.{block_table};
+ghost use Rattle.flt_store.specs.Cause.{IsWithinOwn, Writes};
+ghost use Rattle.flt_store.specs.Started.{HasMark, IsStarted, AgreeButForCommit, StartsEither};
+
+use flt_config::ValidConfig;
+use flt_flash::{BlockFault, Blocks};
+use flt_image::{Commit, get_commit};
+use flt_nvm::{Got, Nvm};
+
+/// The identifier of the commit.
+const COMMIT: u16 = 2;
+
+/// Makes both copies of the commit hold what the first has, or the second where the first has no bytes or can't be read;
+/// answers their commit, or none before the first save.
+pub(crate) fn restart<B: Blocks + Drop>(
+    nvm: &mut Nvm<B>,
+    config: &ValidConfig,
+) -> Result<Option<Commit>, BlockFault>
+    requires { table_of nvm.old ≡ block_table }
+    ensures started { (held spare : Generation) → IsSound config.now (driver_of nvm.old).value held spare → HasMark config.now (driver_of nvm.old).value
+        → IfOk result (λ commit. StartsEither config.now (driver_of nvm.old) (driver_of nvm.new) commit held spare) }
+    ensures failed { (held spare new : Generation) → IsSound config.now (driver_of nvm.old).value held spare → OnErr result (OldOrNew config.now (driver_of nvm.new).value held spare new) }
+    ensures writes { (held spare : Generation) → IsSound config.now (driver_of nvm.old).value held spare → Writes (driver_of nvm.old) (driver_of nvm.new) result }
+    ensures kept { AgreeButForCommit (driver_of nvm.old).value (driver_of nvm.new).value }
+    ensures follows { Follows (driver_of nvm.old) (driver_of nvm.new) }
+    ensures table { table_of nvm.new ≡ table_of nvm.old }
+{
+    let mut out = [0; 128];
+    match nvm.read(COMMIT, 0, &mut out) {
+        Ok(Got::Bytes { length, copy }) => match repair_by(nvm, config, copy, &out[..length]) {
+            Ok(commit) => Ok(Some(commit)),
+            Err(fault) => Err(fault),
+        },
+        Ok(Got::Missing) => Ok(None),
+        Ok(Got::Invalid) => Ok(None),
+        Err(fault) => Err(fault),
+    }
+}
+
+// Makes the other copy hold what this one has, and answers the commit of these bytes. A sound image has no others.
+fn repair_by<B: Blocks + Drop>(
+    nvm: &mut Nvm<B>,
+    config: &ValidConfig,
+    copy: u8,
+    bytes: &[u8],
+) -> Result<Commit, BlockFault>
+    requires table { table_of nvm.old ≡ block_table }
+    requires least { 1 ≤ copy }
+    requires most { copy ≤ 2 }
+    requires held { (driver_of nvm.old).value (number_of commit_id (copy - 1)) ≡ holding bytes.now }
+    ensures started { (g : Generation) → Holds config.now (driver_of nvm.old).value (holding bytes.now) g → IfOk result (λ commit. IsStarted config.now (driver_of nvm.new).value (Some commit) g) }
+    ensures other { IsEither (driver_of nvm.old) (driver_of nvm.new) (number_of commit_id (2 - copy)) (holding bytes.now) }
+    ensures others { OthersKept (number_of commit_id (2 - copy)) (driver_of nvm.old) (driver_of nvm.new) }
+    ensures within { IsWithinOwn config.now (driver_of nvm.old).value (driver_of nvm.new).value }
+    ensures writes { (g : Generation) → Holds config.now (driver_of nvm.old).value (holding bytes.now) g → Writes (driver_of nvm.old) (driver_of nvm.new) result }
+    ensures follows { Follows (driver_of nvm.old) (driver_of nvm.new) }
+    ensures table { table_of nvm.new ≡ table_of nvm.old }
+{
+    match get_commit(config, bytes) {
+        Some(commit) => match nvm.repair(COMMIT, copy, bytes) {
+            Ok(()) => Ok(commit),
+            Err(fault) => Err(fault),
+        },
+        None => Err(BlockFault::Flash),
+    }
+}

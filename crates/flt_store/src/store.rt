@@ -1,0 +1,143 @@
+// Generations in the blocks of a driver.
+ghost use Rattle.std.specs.Prelude.{◌≡◌, ◌+◌, ◌<◌, ℕ, Err, IsErr, IsErrOf, IfOk, OnOk, OnErr, IsTrue, IsFalse};
+ghost use Rattle.flt_flash.specs.Calls.{Follows};
+ghost use Rattle.flt_nvm.specs.Driver.{driver_of as driver_beneath, table_of};
+ghost use Rattle.flt_config.specs.declared.persist.Persist.{Persist};
+ghost use Rattle.flt_config.specs.Durable.{Fits};
+ghost use Rattle.flt_generation.specs.Layout.{numbers};
+ghost use Rattle.flt_generation.specs.Holding.{Generation, OldOrNew, SameApplications};
+ghost use Rattle.flt_generation.specs.Successor.{number_in};
+ghost use Rattle.flt_image.specs.Table.{block_table};
+ghost use Rattle.flt_store.specs.Cause.{FailsThrice, IsStuck};
+ghost use Rattle.flt_store.specs.Started.{HasMark, IsStarted};
+
+mod applications;
+
+pub use applications::APPLICATION;
+
+use crate::fault::{SaveFault, save_fault};
+use crate::generation::write_generation;
+use crate::restarting::restart;
+use flt_config::{Persist, ValidConfig};
+use flt_flash::Blocks;
+use flt_image::{Commit, next_commit};
+use flt_nvm::Nvm;
+
+/// The saved generations of a durable state, and the application blocks, in the blocks of a driver.
+#[derive(Drop)]
+pub struct Store<B: Blocks + Drop> {
+    nvm: Nvm<B>,
+    commit: Option<Commit>,
+    is_settled: bool,
+    ghost numbers: { (driver_beneath nvm).numbers ≡ numbers },
+    ghost table: { table_of nvm ≡ block_table },
+}
+
+fn number_in(commit: &Option<Commit>) -> u32
+    ensures { result ≡ number_in commit.now }
+{
+    match commit {
+        None => 0,
+        Some(commit) => commit.generation,
+    }
+}
+
+impl<B: Blocks + Drop> Store<B> {
+    ghost use Rattle.flt_store.specs.Store.{driver_of, commit_of, is_settled, numbered, IsServed, IsRunning, IsLast, Leaves, Saves, Settles};
+
+    /// A store over the blocks of an image: the table is `block_table`'s, over a driver that was made with `fee_numbers`. It is
+    /// not started.
+    pub fn make(nvm: Nvm<B>) -> Store<B>
+        requires numbers { (driver_beneath nvm).numbers ≡ numbers }
+        requires table { table_of nvm ≡ block_table }
+        ensures { driver_of result ≡ driver_beneath nvm }
+    {
+        Store {
+            nvm,
+            commit: None,
+            is_settled: false,
+        }
+    }
+
+    // Finds out which generation stands, where a save failed.
+    fn settle(&mut self, config: &ValidConfig) -> Result<(), SaveFault>
+        ensures settles { (held spare : Generation) → IsRunning config.now held spare self.old → OnOk result (Settles config.now held spare self.old self.new) }
+        ensures failed { (held spare : Generation) (state : Persist) → IsRunning config.now held spare self.old → OnErr result (Leaves config.now held spare state self.old self.new) }
+        ensures flash { (held spare : Generation) → IsRunning config.now held spare self.old → IsErrOf result SaveFault.Flash → FailsThrice (driver_of self.old) (driver_of self.new) }
+        ensures not_spent { IsErrOf result SaveFault.Spent → ⊥ }
+        ensures at_once { IsTrue (is_settled self.old) → IsErr result → ⊥ }
+        ensures sequence { (held spare : Generation) → IsRunning config.now held spare self.old → IsErrOf result SaveFault.SequenceSpent → IsStuck (driver_of self.new) }
+        ensures applications { SameApplications (driver_of self.old).value (driver_of self.new).value }
+        ensures unsettled { OnErr result (IsFalse (is_settled self.new)) }
+        ensures follows { Follows (driver_of self.old) (driver_of self.new) }
+    {
+        if self.is_settled {
+            return Ok(());
+        }
+        match restart(&mut self.nvm, config) {
+            Ok(commit) => {
+                self.commit = commit;
+                Ok(())
+            }
+            Err(fault) => Err(save_fault(fault)),
+        }
+    }
+
+    // Saves a state as the next generation, where both copies of the commit name one.
+    fn save_next(&mut self, config: &ValidConfig, state: &Persist) -> Result<u32, SaveFault>
+        requires { Fits config.now state.now }
+        ensures saved { (g : Generation) → IsServed config.now (driver_of self.old) → IsStarted config.now (driver_of self.old).value (commit_of self.old) g
+            → IfOk result (λ number. (number ≡ g.number + 1) × IsRunning config.now (numbered number state.now) (numbered number state.now) self.new) }
+        ensures failed { (g : Generation) → IsServed config.now (driver_of self.old) → IsStarted config.now (driver_of self.old).value (commit_of self.old) g
+            → OnErr result (OldOrNew config.now (driver_of self.new).value g g (numbered (g.number + 1) state.now)) }
+        ensures flash { (g : Generation) → IsServed config.now (driver_of self.old) → IsStarted config.now (driver_of self.old).value (commit_of self.old) g
+            → IsErrOf result SaveFault.Flash → FailsThrice (driver_of self.old) (driver_of self.new) }
+        ensures spent { (g : Generation) → IsStarted config.now (driver_of self.old).value (commit_of self.old) g
+            → IsErrOf result SaveFault.Spent → (g.number ≡ 4294967295) × IsStarted config.now (driver_of self.new).value (commit_of self.new) g }
+        ensures last { (g : Generation) → IsStarted config.now (driver_of self.old).value (commit_of self.old) g → g.number ≡ 4294967295 → result ≡ Err SaveFault.Spent }
+        ensures sequence { IsErrOf result SaveFault.SequenceSpent → IsStuck (driver_of self.new) }
+        ensures mark { HasMark config.now (driver_of self.old).value → HasMark config.now (driver_of self.new).value }
+        ensures applications { SameApplications (driver_of self.old).value (driver_of self.new).value }
+        ensures settled { OnOk result (IsTrue (is_settled self.new)) }
+        ensures unsettled { OnErr result (IsFalse (is_settled self.new)) }
+        ensures follows { Follows (driver_of self.old) (driver_of self.new) }
+    {
+        self.is_settled = false;
+        if number_in(&self.commit) == u32::MAX {
+            return Err(SaveFault::Spent);
+        }
+        let next = next_commit(config, &self.commit);
+        match write_generation(&mut self.nvm, config, state, &self.commit, &next) {
+            Ok(()) => {
+                self.commit = Some(next);
+                self.is_settled = true;
+                Ok(next.generation)
+            }
+            Err(fault) => Err(save_fault(fault)),
+        }
+    }
+
+    /// Saves a state that fits as the next generation, and answers its number. Where an earlier save of this life failed, it first
+    /// finds out which generation stands, and makes both copies of its commit equal.
+    ///
+    /// After `Ok` the image names the new generation, by both copies. After an error it names the generation before or the new one.
+    /// `Spent` comes where the generation before has the number 2^32 - 1.
+    pub fn save(&mut self, config: &ValidConfig, state: &Persist) -> Result<u32, SaveFault>
+        requires { Fits config.now state.now }
+        ensures saved { (held spare : Generation) → IsRunning config.now held spare self.old → IfOk result (λ number. Saves config.now held spare state.now number self.old self.new) }
+        ensures failed { (held spare : Generation) → IsRunning config.now held spare self.old → OnErr result (Leaves config.now held spare state.now self.old self.new) }
+        ensures flash { (held spare : Generation) → IsRunning config.now held spare self.old → IsErrOf result SaveFault.Flash → FailsThrice (driver_of self.old) (driver_of self.new) }
+        ensures spent { (held spare : Generation) → IsRunning config.now held spare self.old → IsErrOf result SaveFault.Spent → IsLast config.now held spare self.old self.new }
+        ensures last { (held spare : Generation) → IsRunning config.now held spare self.old → IsTrue (is_settled self.old) → held.number ≡ 4294967295 → result ≡ Err SaveFault.Spent }
+        ensures sequence { (held spare : Generation) → IsRunning config.now held spare self.old → IsErrOf result SaveFault.SequenceSpent → IsStuck (driver_of self.new) }
+        ensures applications { SameApplications (driver_of self.old).value (driver_of self.new).value }
+        ensures settled { OnOk result (IsTrue (is_settled self.new)) }
+        ensures unsettled { OnErr result (IsFalse (is_settled self.new)) }
+        ensures follows { Follows (driver_of self.old) (driver_of self.new) }
+    {
+        match self.settle(config) {
+            Ok(()) => self.save_next(config, state),
+            Err(fault) => Err(fault),
+        }
+    }
+}

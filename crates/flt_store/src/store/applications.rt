@@ -1,0 +1,125 @@
+//! The application blocks.
+ghost use Rattle.std.specs.Prelude.{◌≡◌, ◌≤◌, ◌<◌, ◌+◌, ◌++◌, length, IfOk};
+ghost use Rattle.flt_flash.specs.Content.{bytes as holding};
+ghost use Rattle.flt_nvm.specs.Driver.{driver_of as driver_beneath, table_of};
+ghost use Rattle.flt_flash.specs.Calls.{Calls, NeverFull, SameValues};
+ghost use Rattle.flt_nvm.specs.Leaves.{FailsThrice as FailsInThree, Gives, GotOf};
+ghost use Rattle.flt_generation.specs.Layout.{applications, application_number};
+ghost use Rattle.flt_image.specs.Table.{block_table};
+ghost use Rattle.flt_store.specs.Cause.{Writes};
+
+use super::Store;
+use crate::fault::{PutFault, put_fault};
+use arrayvec::ArrayVec;
+use flt_flash::{BlockFault, Blocks, FlashFailed};
+use flt_nvm::{Got, Nvm};
+
+/// The identifier of application block 0.
+const FIRST_APPLICATION: u16 = 64;
+
+/// The most bytes of an application block.
+pub const APPLICATION: usize = 32;
+
+// The bytes, behind those that stand.
+fn push_all(bytes: &[u8], out: &mut ArrayVec<u8, APPLICATION>)
+    requires { length out.old.items + length bytes.now ≤ 32 }
+    ensures { out.new.items ≡ out.old.items ++ bytes.now }
+{
+    for byte in bytes {
+        out.push(*byte);
+    }
+}
+
+fn write_application<B: Blocks + Drop>(
+    nvm: &mut Nvm<B>,
+    block: u8,
+    bytes: &[u8],
+) -> Result<(), BlockFault>
+    requires table { table_of nvm.old ≡ block_table }
+    requires block { block < applications }
+    requires least { 1 ≤ length bytes.now }
+    requires most { length bytes.now ≤ 32 }
+    ensures gives { Gives (driver_beneath nvm.old) (driver_beneath nvm.new) (application_number block) (holding bytes.now) (length bytes.now) result }
+    ensures writes { Writes (driver_beneath nvm.old) (driver_beneath nvm.new) result }
+    ensures table { table_of nvm.new ≡ table_of nvm.old }
+{
+    nvm.write(FIRST_APPLICATION + block as u16, 0, bytes)
+}
+
+fn read_application<B: Blocks + Drop>(
+    nvm: &mut Nvm<B>,
+    block: u8,
+    out: &mut [u8; 128],
+) -> Result<Got, BlockFault>
+    requires table { table_of nvm.old ≡ block_table }
+    requires block { block < applications }
+    ensures got { IfOk result (λ got. GotOf 1 ((driver_beneath nvm.old).value (application_number block)) got out.old out.new) }
+    ensures values { SameValues (driver_beneath nvm.old) (driver_beneath nvm.new) }
+    ensures calls { Calls (driver_beneath nvm.old) (driver_beneath nvm.new) result }
+    ensures never_full { NeverFull result }
+    ensures three { FailsInThree (driver_beneath nvm.old) (driver_beneath nvm.new) result }
+    ensures table { table_of nvm.new ≡ table_of nvm.old }
+{
+    nvm.read(FIRST_APPLICATION + block as u16, 0, out)
+}
+
+impl<B: Blocks + Drop> Store<B> {
+    ghost use Rattle.std.specs.Prelude.{ℕ, IsErrOf, OnOk, OnErr, IsTrue};
+    ghost use Rattle.flt_flash.specs.Calls.{Follows, OthersKept};
+    ghost use Rattle.flt_nvm.specs.Leaves.{IsEither};
+    ghost use Rattle.flt_config.specs.declared.config.Config.{Config};
+    ghost use Rattle.flt_generation.specs.Holding.{Generation};
+    ghost use Rattle.flt_store.specs.Cause.{FailsThrice};
+    ghost use Rattle.flt_store.specs.Store.{driver_of, is_settled, Gets, IsRunning};
+
+    /// Puts 1 to 32 bytes into application block `block`, which is below the configuration's number of blocks.
+    ///
+    /// After `Ok` the block holds them; after an error it holds what it held or them. No other block and no generation changes.
+    /// `Flash` comes only where three tries failed, `SequenceSpent` only where the record can't be written any more.
+    pub fn put_block(&mut self, block: u8, bytes: &[u8]) -> Result<(), PutFault>
+        requires block { block < applications }
+        requires least { 1 ≤ length bytes.now }
+        requires most { length bytes.now ≤ 32 }
+        ensures put { OnOk result ((driver_of self.new).value (application_number block) ≡ holding bytes.now) }
+        ensures either { IsEither (driver_of self.old) (driver_of self.new) (application_number block) (holding bytes.now) }
+        ensures others { OthersKept (application_number block) (driver_of self.old) (driver_of self.new) }
+        ensures running { (c : Config) (held spare : Generation) → block < c.blocks → IsRunning c held spare self.old → IsRunning c held spare self.new }
+        ensures flash { (c : Config) (held spare : Generation) → block < c.blocks → IsRunning c held spare self.old → IsErrOf result PutFault.Flash → FailsThrice (driver_of self.old) (driver_of self.new) }
+        ensures sequence { IsErrOf result PutFault.SequenceSpent → IsTrue ((driver_of self.new).is_stuck (application_number block) (length bytes.now)) }
+        ensures settled { is_settled self.new ≡ is_settled self.old }
+        ensures follows { Follows (driver_of self.old) (driver_of self.new) }
+    {
+        match write_application(&mut self.nvm, block, bytes) {
+            Ok(()) => Ok(()),
+            Err(fault) => Err(put_fault(fault)),
+        }
+    }
+
+    /// Gives the bytes of application block `block` in place of what `out` held, and true; false and no byte, where it was never
+    /// written. The error comes only where three tries failed; after it `out` is empty.
+    pub fn get_block(
+        &mut self,
+        block: u8,
+        out: &mut ArrayVec<u8, APPLICATION>,
+    ) -> Result<bool, FlashFailed>
+        requires { block < applications }
+        ensures got { (c : Config) (held spare : Generation) → IsRunning c held spare self.old → IfOk result (λ found. Gets ((driver_of self.old).value (application_number block)) found out.new.items) }
+        ensures flash { (c : Config) (held spare : Generation) → IsRunning c held spare self.old → OnErr result (FailsThrice (driver_of self.old) (driver_of self.new)) }
+        ensures values { SameValues (driver_of self.old) (driver_of self.new) }
+        ensures running { (c : Config) (held spare : Generation) → IsRunning c held spare self.old → IsRunning c held spare self.new }
+        ensures settled { is_settled self.new ≡ is_settled self.old }
+        ensures follows { Follows (driver_of self.old) (driver_of self.new) }
+    {
+        let mut bytes = [0; 128];
+        out.clear();
+        match read_application(&mut self.nvm, block, &mut bytes) {
+            Ok(Got::Missing) => Ok(false),
+            Ok(Got::Bytes { length, .. }) if length <= APPLICATION => {
+                push_all(&bytes[..length], out);
+                Ok(true)
+            }
+            Ok(_) => Err(FlashFailed),
+            Err(_) => Err(FlashFailed),
+        }
+    }
+}
