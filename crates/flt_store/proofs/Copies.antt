@@ -25,6 +25,13 @@ IsCopyRead before after raw copy =
     ((copy ≡ 1) × (before.value first_commit ≡ bytes raw))
     ⊎ ((copy ≡ 2) × (before.value second_commit ≡ bytes raw) × (HasNoBytes (before.value first_commit) ⊎ FailsThrice before after))
 
+-- the copy has these bytes
+abbrev pub IsAt : (ℕ → Content) → List ℕ → ℕ → Type 0
+IsAt value raw copy = ((copy ≡ 1) × (value first_commit ≡ bytes raw)) ⊎ ((copy ≡ 2) × (value second_commit ≡ bytes raw))
+
+pub at_of : (before after : BlocksState) (raw : List ℕ) (copy : ℕ) → IsCopyRead before after raw copy → IsAt before.value raw copy
+at_of before after raw copy = ⊎_elim (λ one. inl one) (λ two. inr (two.0, two.1))
+
 got_bytes : (copy : ℕ) (content : Content) (n from : ℕ) (before after : List ℕ) → GotOf copy content (Bytes n from) before after → (from ≡ copy) × (content ≡ bytes (take n after))
 got_bytes copy content n from before after got = (got.0, content_read content n before after got.1)
 
@@ -45,16 +52,16 @@ pub bytes_short : (before after : BlocksState) (n copy : ℕ) (out_before out_af
 bytes_short before after n copy out_before out_after =
     ⊎_elim (λ first. found_short (before.value first_commit) n out_before out_after first.1) (λ second. found_short (before.value second_commit) n out_before out_after second.0.1)
 
-pub copy_range : (before after : BlocksState) (raw : List ℕ) (copy : ℕ) → IsCopyRead before after raw copy → (1 ≤ copy) × (copy ≤ 2)
-copy_range before after raw copy = ⊎_elim (λ one. (let is = one.0 in (omega (arith, is), omega (arith, is)))) (λ two. (let is = two.0 in (omega (arith, is), omega (arith, is))))
+pub copy_range : (value : ℕ → Content) (raw : List ℕ) (copy : ℕ) → IsAt value raw copy → (1 ≤ copy) × (copy ≤ 2)
+copy_range value raw copy = ⊎_elim (λ one. (let is = one.0 in (omega (arith, is), omega (arith, is)))) (λ two. (let is = two.0 in (omega (arith, is), omega (arith, is))))
 
-module _ (c : Config) (before middle : BlocksState) (raw : List ℕ) (copy : ℕ) (same : SameValues before middle) (found : IsCopyRead before middle raw copy) where
+module _ (c : Config) (before middle : BlocksState) (raw : List ℕ) (copy : ℕ) (same : SameValues before middle) (at : IsAt before.value raw copy) where
   pub held_at : middle.value (number_of commit_id (copy - 1)) ≡ bytes raw
   held_at =
       ⊎_elim
       (λ one. subst (λ (k : ℕ). middle.value (number_of commit_id (k - 1)) ≡ bytes raw) (sym one.0) (same first_commit ∙ one.1))
       (λ two. subst (λ (k : ℕ). middle.value (number_of commit_id (k - 1)) ≡ bytes raw) (sym two.0) (same second_commit ∙ two.1))
-      found
+      at
 
   module _ (h s : Generation) (sound : IsSound c before.value h s) where
     sound_now : IsSound c middle.value h s
@@ -66,12 +73,12 @@ module _ (c : Config) (before middle : BlocksState) (raw : List ℕ) (copy : ℕ
         ⊎_elim
         (λ one. (h, held_of_first c middle.value raw h s (same first_commit ∙ one.1) sound_now))
         (λ two. (s, spare_of_second c middle.value raw h s (same second_commit ∙ two.1) sound_now))
-        found
+        at
 
     module _ (after : BlocksState) where
-      pub started_by : (commit : Commit) → HasRisenBy 0 middle.device.faults after.device.faults
+      pub started_by : (commit : Commit) → IsCopyRead before middle raw copy → HasRisenBy 0 middle.device.faults after.device.faults
           → ((g : Generation) → Holds c middle.value (bytes raw) g → IsStarted c after.value (Some commit) g) → StartsEither c before after (Some commit) h s
-      started_by commit counts start =
+      started_by commit found counts start =
           ⊎_elim
           (λ one. inl (start h (held_of_first c middle.value raw h s (same first_commit ∙ one.1) sound_now)))
           (λ two.
@@ -84,7 +91,7 @@ module _ (c : Config) (before middle : BlocksState) (raw : List ℕ) (copy : ℕ
       pub tried_by : (new : Generation) → IsWithinOwn c middle.value after.value → IsEither middle after (number_of commit_id (2 - copy)) (bytes raw) → OthersKept (number_of commit_id (2 - copy)) middle after
           → OldOrNew c after.value h s new
       tried_by new within either others =
-          let range = copy_range before middle raw copy found in
+          let range = copy_range before.value raw copy at in
           let agree = but_for_copy middle.value after.value copy range.0 range.1 others in
           let excess : IsBorne c after.value = borne_stays c middle.value after.value within sound_now.holds.excess in
           ⊎_elim
@@ -94,7 +101,7 @@ module _ (c : Config) (before middle : BlocksState) (raw : List ℕ) (copy : ℕ
           (λ two. first_tried c middle.value after.value raw h s new sound_now (same second_commit ∙ two.1) agree excess
             (others second_commit (λ e. (let is = two.0 in omega (arith, e, is))))
             (subst (λ (k : ℕ). (after.value (number_of commit_id (2 - k)) ≡ middle.value (number_of commit_id (2 - k))) ⊎ (after.value (number_of commit_id (2 - k)) ≡ bytes raw)) two.0 either))
-          found
+          at
 
 pub missing_read : (content : Content) (before after : List ℕ) → GotOf 1 content Missing before after → content ≡ missing
 missing_read missing before after got = refl

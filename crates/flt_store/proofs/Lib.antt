@@ -7,3 +7,4 @@ pub mod Repairing
 pub mod Copies
 pub mod Running
 pub mod Applying
+pub mod Marks

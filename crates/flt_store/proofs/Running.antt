@@ -1,6 +1,6 @@
 -- What keeps a store running.
 use Rattle.std.proofs.Common.{◌≡◌, ◌⊎◌, inl, inr, ⊎_elim, ℕ, ◌+◌, ◌≤◌, Option, Result, Ok, Err, refl, sym, ◌∙◌, ap, subst, arith}
-use Rattle.std.specs.Prelude.{IfOk, OnErr}
+use Rattle.std.specs.Prelude.{IfOk, OnOk, OnErr}
 use Rattle.flt_flash.specs.Blocks.{BlocksState}
 use Rattle.flt_flash.specs.Calls.{Follows}
 use Rattle.flt_config.specs.declared.config.Config.{Config}
@@ -51,3 +51,7 @@ rises_from h s chosen number is order rises =
 pub err_both : {T E : Type 0} {P Q R : Type 0} (result : Result T E) → (P → Q → R) → OnErr result P → OnErr result Q → OnErr result R
 err_both (Ok x) to p q = tt
 err_both (Err e) to p q = to p q
+
+pub on_ok : {T E : Type 0} {P Q : Type 0} (result : Result T E) → (P → Q) → OnOk result P → OnOk result Q
+on_ok (Ok x) to p = to p
+on_ok (Err e) to p = tt

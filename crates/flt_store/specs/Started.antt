@@ -1,12 +1,12 @@
 -- An image after a start-up or a save that answered Ok: both copies of the commit name one generation.
 use Rattle.std.specs.Prelude.{◌≡◌, ◌≢◌, ◌⊎◌, ℕ, ◌<◌, ◌+◌, List, Option, Some, None, IsTrue}
-use Rattle.flt_flash.specs.Content.{Content, bytes}
+use Rattle.flt_flash.specs.Content.{Content, missing, bytes}
 use Rattle.flt_flash.specs.Blocks.{BlocksState}
 use Rattle.flt_config.specs.declared.config.Config.{Config}
 use Rattle.flt_config.specs.declared.persist.Persist.{Persist}
 use Rattle.flt_generation.specs.declared.commit.Commit.{Commit}
 use Rattle.flt_generation.specs.Layout.{applications, mark_number, first_commit, second_commit, application_number}
-use Rattle.flt_generation.specs.Form.{mark_of, IsBytesOfMark}
+use Rattle.flt_generation.specs.Form.{mark_of, mark_bytes, IsBytesOfMark}
 use Rattle.flt_generation.specs.Excess.{IsBorne}
 use Rattle.flt_generation.specs.Holding.{Generation, first_generation, CommitNames, only_bytes, is_application}
 use Rattle.flt_generation.specs.Successor.{IsContentOf, number_in}
@@ -42,3 +42,9 @@ AgreeButForCommit before after = (number : ℕ) → number ≢ first_commit → 
 abbrev pub StartsEither : Config → BlocksState → BlocksState → Option Commit → Generation → Generation → Type 0
 StartsEither c before after commit held spare =
     IsStarted c after.value commit held ⊎ (IsStarted c after.value commit spare × FailsThrice before after)
+
+-- the mark is as it was, or stands where it was missing
+abbrev pub IsMarkTried : Config → (ℕ → Content) → (ℕ → Content) → Type 0
+IsMarkTried c before after =
+    (after mark_number ≡ before mark_number)
+    ⊎ ((before mark_number ≡ missing) × (after mark_number ≡ bytes (mark_bytes (mark_of c))))

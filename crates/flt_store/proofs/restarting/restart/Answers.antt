@@ -8,7 +8,7 @@ use Rattle.flt_generation.specs.Layout.{commit_id}
 use Rattle.flt_store.proofs.TableUse.{commit_index, commit_both}
 use Rattle.flt_store.proofs.Causes.{writes_on, writes_as}
 use Rattle.flt_store.proofs.Repairing.{sound_kept, mark_stays, both_old, no_commit, not_invalid, but_for_copy}
-use Rattle.flt_store.proofs.Copies.{copy_read, bytes_short, copy_range, held_at, some_holds, started_by, tried_by, missing_read, invalid_read, stays_started}
+use Rattle.flt_store.proofs.Copies.{copy_read, at_of, bytes_short, copy_range, held_at, some_holds, started_by, tried_by, missing_read, invalid_read, stays_started}
 use Rattle.flt_store.proofs.restarting.restart.Goals as goal
 
 pub read-requires : goal.read-requires
@@ -22,7 +22,7 @@ slice_bounds-out-end g c =
 pub repair_by-requires-clause-least : goal.repair_by-requires-clause-least
 repair_by-requires-clause-least g c =
     let got = commit_both _ c.requires _ _ (rw c.in-Ok-Bytes.field-0-is at c.in-Ok-Bytes.ensures.got) in
-    (copy_range (driver_of c.args.nvm.now) (driver_of c.read.new.self) _ c.in-Ok-Bytes.copy (copy_read (driver_of c.args.nvm.now) (driver_of c.read.new.self) c.in-Ok-Bytes.length c.in-Ok-Bytes.copy _ c.read.new.out got)).0
+    (copy_range (driver_of c.args.nvm.now).value _ c.in-Ok-Bytes.copy (at_of (driver_of c.args.nvm.now) (driver_of c.read.new.self) _ c.in-Ok-Bytes.copy (copy_read (driver_of c.args.nvm.now) (driver_of c.read.new.self) c.in-Ok-Bytes.length c.in-Ok-Bytes.copy _ c.read.new.out got))).0
 
 pub slice_bounds-repair_by-end : goal.slice_bounds-repair_by-end
 slice_bounds-repair_by-end g c =
@@ -34,28 +34,32 @@ repair_by-requires-clause-most g c =
     let got = commit_both _ c.requires _ _ (rw c.in-Ok-Bytes.field-0-is at c.in-Ok-Bytes.ensures.got) in
     let raw = take c.in-Ok-Bytes.length c.read.new.out in
     let found = copy_read (driver_of c.args.nvm.now) (driver_of c.read.new.self) c.in-Ok-Bytes.length c.in-Ok-Bytes.copy _ c.read.new.out got in
-    (copy_range (driver_of c.args.nvm.now) (driver_of c.read.new.self) raw c.in-Ok-Bytes.copy found).1
+    let at = at_of (driver_of c.args.nvm.now) (driver_of c.read.new.self) raw c.in-Ok-Bytes.copy found in
+    (copy_range (driver_of c.args.nvm.now).value raw c.in-Ok-Bytes.copy at).1
 
 pub repair_by-requires-clause-held : goal.repair_by-requires-clause-held
 repair_by-requires-clause-held g c =
     let got = commit_both _ c.requires _ _ (rw c.in-Ok-Bytes.field-0-is at c.in-Ok-Bytes.ensures.got) in
     let raw = take c.in-Ok-Bytes.length c.read.new.out in
     let found = copy_read (driver_of c.args.nvm.now) (driver_of c.read.new.self) c.in-Ok-Bytes.length c.in-Ok-Bytes.copy _ c.read.new.out got in
-    held_at c.args.config.now (driver_of c.args.nvm.now) (driver_of c.read.new.self) raw c.in-Ok-Bytes.copy c.read.ensures.values found
+    let at = at_of (driver_of c.args.nvm.now) (driver_of c.read.new.self) raw c.in-Ok-Bytes.copy found in
+    held_at c.args.config.now (driver_of c.args.nvm.now) (driver_of c.read.new.self) raw c.in-Ok-Bytes.copy c.read.ensures.values at
 
 pub returns-in-Ok-clause-started : goal.returns-in-Ok-clause-started
 returns-in-Ok-clause-started g c = λ h s sound mark.
     let got = commit_both _ c.requires _ _ (rw c.in-Ok-Bytes.field-0-is at c.in-Ok-Bytes.ensures.got) in
     let raw = take c.in-Ok-Bytes.length c.read.new.out in
     let found = copy_read (driver_of c.args.nvm.now) (driver_of c.read.new.self) c.in-Ok-Bytes.length c.in-Ok-Bytes.copy _ c.read.new.out got in
-    started_by c.args.config.now (driver_of c.args.nvm.now) (driver_of c.read.new.self) raw c.in-Ok-Bytes.copy c.read.ensures.values found h s sound (driver_of c.repair_by.new.nvm) c.in-Ok.commit c.repair_by.ensures.follows.counts c.in-Ok.ensures.started
+    let at = at_of (driver_of c.args.nvm.now) (driver_of c.read.new.self) raw c.in-Ok-Bytes.copy found in
+    started_by c.args.config.now (driver_of c.args.nvm.now) (driver_of c.read.new.self) raw c.in-Ok-Bytes.copy c.read.ensures.values at h s sound (driver_of c.repair_by.new.nvm) c.in-Ok.commit found c.repair_by.ensures.follows.counts c.in-Ok.ensures.started
 
 pub returns-in-Ok-clause-kept : goal.returns-in-Ok-clause-kept
 returns-in-Ok-clause-kept g c = λ number first second.
     let got = commit_both _ c.requires _ _ (rw c.in-Ok-Bytes.field-0-is at c.in-Ok-Bytes.ensures.got) in
     let raw = take c.in-Ok-Bytes.length c.read.new.out in
     let found = copy_read (driver_of c.args.nvm.now) (driver_of c.read.new.self) c.in-Ok-Bytes.length c.in-Ok-Bytes.copy _ c.read.new.out got in
-    let range = copy_range (driver_of c.args.nvm.now) (driver_of c.read.new.self) raw c.in-Ok-Bytes.copy found in
+    let at = at_of (driver_of c.args.nvm.now) (driver_of c.read.new.self) raw c.in-Ok-Bytes.copy found in
+    let range = copy_range (driver_of c.args.nvm.now).value raw c.in-Ok-Bytes.copy at in
     but_for_copy (driver_of c.read.new.self).value (driver_of c.repair_by.new.nvm).value c.in-Ok-Bytes.copy range.0 range.1 c.repair_by.ensures.others number first second ∙ c.read.ensures.values number
 
 pub returns-in-Err-repair_by-clause-failed : goal.returns-in-Err-repair_by-clause-failed
@@ -63,14 +67,16 @@ returns-in-Err-repair_by-clause-failed g c = λ h s new sound.
     let got = commit_both _ c.requires _ _ (rw c.in-Ok-Bytes.field-0-is at c.in-Ok-Bytes.ensures.got) in
     let raw = take c.in-Ok-Bytes.length c.read.new.out in
     let found = copy_read (driver_of c.args.nvm.now) (driver_of c.read.new.self) c.in-Ok-Bytes.length c.in-Ok-Bytes.copy _ c.read.new.out got in
-    tried_by c.args.config.now (driver_of c.args.nvm.now) (driver_of c.read.new.self) raw c.in-Ok-Bytes.copy c.read.ensures.values found h s sound (driver_of c.repair_by.new.nvm) new c.repair_by.ensures.within c.repair_by.ensures.other c.repair_by.ensures.others
+    let at = at_of (driver_of c.args.nvm.now) (driver_of c.read.new.self) raw c.in-Ok-Bytes.copy found in
+    tried_by c.args.config.now (driver_of c.args.nvm.now) (driver_of c.read.new.self) raw c.in-Ok-Bytes.copy c.read.ensures.values at h s sound (driver_of c.repair_by.new.nvm) new c.repair_by.ensures.within c.repair_by.ensures.other c.repair_by.ensures.others
 
 pub returns-in-Err-repair_by-clause-writes : goal.returns-in-Err-repair_by-clause-writes
 returns-in-Err-repair_by-clause-writes g c = λ h s sound.
     let got = commit_both _ c.requires _ _ (rw c.in-Ok-Bytes.field-0-is at c.in-Ok-Bytes.ensures.got) in
     let raw = take c.in-Ok-Bytes.length c.read.new.out in
     let found = copy_read (driver_of c.args.nvm.now) (driver_of c.read.new.self) c.in-Ok-Bytes.length c.in-Ok-Bytes.copy _ c.read.new.out got in
-    let some = some_holds c.args.config.now (driver_of c.args.nvm.now) (driver_of c.read.new.self) raw c.in-Ok-Bytes.copy c.read.ensures.values found h s sound in
+    let at = at_of (driver_of c.args.nvm.now) (driver_of c.read.new.self) raw c.in-Ok-Bytes.copy found in
+    let some = some_holds c.args.config.now (driver_of c.args.nvm.now) (driver_of c.read.new.self) raw c.in-Ok-Bytes.copy c.read.ensures.values at h s sound in
     writes_as (driver_of c.args.nvm.now) (driver_of c.repair_by.new.nvm) _ (writes_on (driver_of c.args.nvm.now) (driver_of c.read.new.self) (driver_of c.repair_by.new.nvm) _ c.read.ensures.calls.follows (c.in-Err-repair_by.ensures.writes some.0 some.1))
 
 pub returns-in-Err-repair_by-clause-kept : goal.returns-in-Err-repair_by-clause-kept
@@ -78,7 +84,8 @@ returns-in-Err-repair_by-clause-kept g c = λ number first second.
     let got = commit_both _ c.requires _ _ (rw c.in-Ok-Bytes.field-0-is at c.in-Ok-Bytes.ensures.got) in
     let raw = take c.in-Ok-Bytes.length c.read.new.out in
     let found = copy_read (driver_of c.args.nvm.now) (driver_of c.read.new.self) c.in-Ok-Bytes.length c.in-Ok-Bytes.copy _ c.read.new.out got in
-    let range = copy_range (driver_of c.args.nvm.now) (driver_of c.read.new.self) raw c.in-Ok-Bytes.copy found in
+    let at = at_of (driver_of c.args.nvm.now) (driver_of c.read.new.self) raw c.in-Ok-Bytes.copy found in
+    let range = copy_range (driver_of c.args.nvm.now).value raw c.in-Ok-Bytes.copy at in
     but_for_copy (driver_of c.read.new.self).value (driver_of c.repair_by.new.nvm).value c.in-Ok-Bytes.copy range.0 range.1 c.repair_by.ensures.others number first second ∙ c.read.ensures.values number
 
 pub returns-in-Ok-Missing-clause-started : goal.returns-in-Ok-Missing-clause-started
