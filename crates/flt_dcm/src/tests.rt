@@ -176,16 +176,6 @@ fn first_difference(config: Config, dids: DidTable<DID_ROWS>, steps: &[Step]) ->
     None
 }
 
-/// The unit's answer to a request of the first tester, as in the table.
-fn first_byte_and_code(reply: Option<Reply>) -> (u8, u8) {
-    match reply {
-        Some(Reply::Response(bytes)) if 3 <= bytes.len() && bytes[0] == 0x7F => (0x7F, bytes[2]),
-        Some(Reply::Response(bytes)) if 1 <= bytes.len() => (bytes[0], 0),
-        Some(Reply::Silent) => (0, 0),
-        _ => (0xFF, 0xFF),
-    }
-}
-
 #[test]
 fn dtcs_are_listed_cleared_and_counted(rt: HostRuntime) {
     let mask = [
@@ -371,89 +361,331 @@ fn snapshots_and_extended_data_are_told(rt: HostRuntime) {
     );
 }
 
-/// A request of the profile: the service, the sub-function where it has one, the two lengths that it may have.
-type Row = (u8, Option<u8>, [usize; 2]);
-
-const REQUESTS: [Row; 17] = [
-    (0x10, Some(0x01), [2, 2]),
-    (0x10, Some(0x03), [2, 2]),
-    (0x14, None, [4, 4]),
-    (0x19, Some(0x01), [3, 3]),
-    (0x19, Some(0x02), [3, 3]),
-    (0x19, Some(0x03), [2, 2]),
-    (0x19, Some(0x04), [6, 6]),
-    (0x19, Some(0x06), [6, 6]),
-    (0x19, Some(0x0A), [2, 2]),
-    (0x19, Some(0x0B), [2, 2]),
-    (0x19, Some(0x0C), [2, 2]),
-    (0x19, Some(0x0D), [2, 2]),
-    (0x19, Some(0x0E), [2, 2]),
-    (0x19, Some(0x14), [2, 2]),
-    (0x3E, Some(0x00), [2, 2]),
-    (0x85, Some(0x01), [2, 5]),
-    (0x85, Some(0x02), [2, 5]),
-];
-
-/// The answer to a request whose bytes behind the second are FF: the first byte and the negative code, if it is one.
-fn by_table(service: u8, second: u8, length: usize, extended: bool) -> (u8, u8) {
-    let sub = second % 128;
-    let has_sub = service != 0x14;
-    if !REQUESTS.iter().any(|row| row.0 == service) {
-        return (0x7F, 0x11);
+#[test]
+fn a_request_meets_the_session_that_silence_left(rt: HostRuntime) {
+    let extended: &[u8] = &[0x50, 0x03, 0x00, 0x32, 0x01, 0xF4];
+    let refused: &[u8] = &[0x7F, 0x85, 0x7F];
+    let switched_off: &[u8] = &[0xC5, 0x02];
+    let answers = [
+        (498, switched_off),
+        (499, switched_off),
+        (500, refused),
+        (501, refused),
+    ];
+    for (ticks, answer) in answers {
+        let asked = [
+            Step::Cycle(0),
+            Step::Tick(300),
+            Step::Ask(0, &[0x10, 0x03], extended),
+            Step::Tick(ticks),
+            Step::Ask(0, &[0x85, 0x02], answer),
+        ];
+        assert_eq!(rt;
+            first_difference(one(event(0x000001)), DidTable::new(), &asked),
+            None
+        );
     }
-    if service == 0x85 && !extended {
-        return (0x7F, 0x7F);
-    }
-    if has_sub && length == 1 {
-        return (0x7F, 0x13);
-    }
-    match REQUESTS
-        .iter()
-        .find(|row| row.0 == service && (!has_sub || row.1 == Some(sub)))
-    {
-        None => (0x7F, 0x12),
-        Some(row) => {
-            if row.2[0] != length && row.2[1] != length {
-                return (0x7F, 0x13);
-            }
-            let names_a_dtc = service == 0x19 && (sub == 0x04 || sub == 0x06);
-            if names_a_dtc || service == 0x14 && second != 0xFF {
-                return (0x7F, 0x31);
-            }
-            if has_sub && 128 <= second {
-                return (0, 0);
-            }
-            (service.wrapping_add(0x40), 0)
-        }
+    for (ticks, report) in [
+        (498, Step::Ignored(0)),
+        (499, Step::Ignored(0)),
+        (500, Step::Fail(0)),
+        (501, Step::Fail(0)),
+    ] {
+        let held = [
+            Step::Cycle(0),
+            Step::Ask(0, &[0x10, 0x03], extended),
+            Step::Ask(0, &[0x85, 0x02], switched_off),
+            Step::Tick(499),
+            Step::Ask(0, &[0x10, 0x03], extended),
+            Step::Tick(ticks),
+            report,
+        ];
+        assert_eq!(rt;
+            first_difference(one(event(0x000001)), DidTable::new(), &held),
+            None
+        );
     }
 }
 
 #[test]
+fn requests_go_on_while_two_testers_hold_the_setting_off(rt: HostRuntime) {
+    let extended: &[u8] = &[0x50, 0x03, 0x00, 0x32, 0x01, 0xF4];
+    let steps = [
+        Step::Cycle(0),
+        Step::Fail(0),
+        Step::Ask(0, &[0x10, 0x03], extended),
+        Step::Ask(1, &[0x10, 0x03], extended),
+        Step::Ask(0, &[0x85, 0x02], &[0xC5, 0x02]),
+        Step::Ask(1, &[0x85, 0x02], &[0xC5, 0x02]),
+        Step::Ask(2, &[0x85, 0x01], &[0x7F, 0x85, 0x7F]),
+        Step::Ask(
+            2,
+            &[0x19, 0x02, 0xFF],
+            &[0x59, 0x02, 0xFF, 0x00, 0x00, 0x01, 0x2F],
+        ),
+        Step::Ask(
+            0,
+            &[0x19, 0x01, 0xFF],
+            &[0x59, 0x01, 0xFF, 0x01, 0x00, 0x01],
+        ),
+        Step::Ask(2, &[0x14, 0x00, 0x00, 0x02], &[0x7F, 0x14, 0x31]),
+        Step::Ask(2, &[0x14, 0x00, 0x00, 0x01], &[0x54]),
+        Step::Status(0, 0x50),
+        Step::Ignored(0),
+        Step::Tick(400),
+        Step::Ask(1, &[0x3E, 0x80], &[]),
+        Step::Tick(99),
+        Step::Ignored(0),
+        Step::Tick(1),
+        Step::Ask(0, &[0x85, 0x81], &[0x7F, 0x85, 0x7F]),
+        Step::Ignored(0),
+        Step::Tick(399),
+        Step::Ask(3, &[0x10, 0x03], extended),
+        Step::Ignored(0),
+        Step::Tick(1),
+        Step::Fail(0),
+        Step::Status(0, 0x2F),
+        Step::Ask(1, &[0x85, 0x02], &[0x7F, 0x85, 0x7F]),
+        Step::Ask(3, &[0x85, 0x02, 0xFF, 0xFF, 0xFE], &[0x7F, 0x85, 0x31]),
+        Step::Pass(0),
+        Step::Ask(3, &[0x85, 0x82], &[]),
+        Step::Ignored(0),
+        Step::Ask(3, &[0x85, 0x01], &[0xC5, 0x01]),
+        Step::Fail(0),
+    ];
+    assert_eq!(rt;
+        first_difference(one(event(0x000001)), DidTable::new(), &steps),
+        None
+    );
+}
+
+/// A request of the profile: the service, the sub-function where it has one, the two lengths that it may have, and the
+/// positive responses where FF FF FF FF follow the sub-function and where 12 34 56 02 do, of a controller whose one
+/// event, of DTC 123456, failed. A request that is refused has no bytes.
+type Row = (u8, Option<u8>, [usize; 2], &'static [u8], &'static [u8]);
+
+const REQUESTS: [Row; 17] = [
+    (
+        0x10,
+        Some(0x01),
+        [2, 2],
+        &[0x50, 0x01, 0x00, 0x32, 0x01, 0xF4],
+        &[0x50, 0x01, 0x00, 0x32, 0x01, 0xF4],
+    ),
+    (
+        0x10,
+        Some(0x03),
+        [2, 2],
+        &[0x50, 0x03, 0x00, 0x32, 0x01, 0xF4],
+        &[0x50, 0x03, 0x00, 0x32, 0x01, 0xF4],
+    ),
+    (0x14, None, [4, 4], &[0x54], &[]),
+    (
+        0x19,
+        Some(0x01),
+        [3, 3],
+        &[0x59, 0x01, 0xFF, 0x01, 0x00, 0x01],
+        &[0x59, 0x01, 0xFF, 0x01, 0x00, 0x01],
+    ),
+    (
+        0x19,
+        Some(0x02),
+        [3, 3],
+        &[0x59, 0x02, 0xFF, 0x12, 0x34, 0x56, 0x2F],
+        &[0x59, 0x02, 0xFF, 0x12, 0x34, 0x56, 0x2F],
+    ),
+    (
+        0x19,
+        Some(0x03),
+        [2, 2],
+        &[0x59, 0x03, 0x12, 0x34, 0x56, 0x01, 0x12, 0x34, 0x56, 0x02],
+        &[0x59, 0x03, 0x12, 0x34, 0x56, 0x01, 0x12, 0x34, 0x56, 0x02],
+    ),
+    (
+        0x19,
+        Some(0x04),
+        [6, 6],
+        &[],
+        &[0x59, 0x04, 0x12, 0x34, 0x56, 0x2F, 0x02, 0x00],
+    ),
+    (
+        0x19,
+        Some(0x06),
+        [6, 6],
+        &[],
+        &[0x59, 0x06, 0x12, 0x34, 0x56, 0x2F, 0x02, 0x00],
+    ),
+    (
+        0x19,
+        Some(0x0A),
+        [2, 2],
+        &[0x59, 0x0A, 0xFF, 0x12, 0x34, 0x56, 0x2F],
+        &[0x59, 0x0A, 0xFF, 0x12, 0x34, 0x56, 0x2F],
+    ),
+    (
+        0x19,
+        Some(0x0B),
+        [2, 2],
+        &[0x59, 0x0B, 0xFF, 0x12, 0x34, 0x56, 0x2F],
+        &[0x59, 0x0B, 0xFF, 0x12, 0x34, 0x56, 0x2F],
+    ),
+    (
+        0x19,
+        Some(0x0C),
+        [2, 2],
+        &[0x59, 0x0C, 0xFF, 0x12, 0x34, 0x56, 0x2F],
+        &[0x59, 0x0C, 0xFF, 0x12, 0x34, 0x56, 0x2F],
+    ),
+    (
+        0x19,
+        Some(0x0D),
+        [2, 2],
+        &[0x59, 0x0D, 0xFF, 0x12, 0x34, 0x56, 0x2F],
+        &[0x59, 0x0D, 0xFF, 0x12, 0x34, 0x56, 0x2F],
+    ),
+    (
+        0x19,
+        Some(0x0E),
+        [2, 2],
+        &[0x59, 0x0E, 0xFF, 0x12, 0x34, 0x56, 0x2F],
+        &[0x59, 0x0E, 0xFF, 0x12, 0x34, 0x56, 0x2F],
+    ),
+    (0x19, Some(0x14), [2, 2], &[0x59, 0x14], &[0x59, 0x14]),
+    (0x3E, Some(0x00), [2, 2], &[0x7E, 0x00], &[0x7E, 0x00]),
+    (0x85, Some(0x01), [2, 5], &[0xC5, 0x01], &[0xC5, 0x01]),
+    (0x85, Some(0x02), [2, 5], &[0xC5, 0x02], &[0xC5, 0x02]),
+];
+
+/// What follows the second byte of a request.
+#[derive(Clone, Copy, PartialEq, Eq)]
+enum Rest {
+    /// FF FF FF FF, and on.
+    AllSet,
+    /// 12 34 56 02, and zeros.
+    Known,
+}
+
+impl Rest {
+    fn bytes(self) -> [u8; 16] {
+        match self {
+            Rest::AllSet => [0xFF; 16],
+            Rest::Known => [0, 0, 0x12, 0x34, 0x56, 0x02, 0, 0, 0, 0, 0, 0, 0, 0, 0, 0],
+        }
+    }
+}
+
+/// The answer that a request is to have.
+#[derive(Clone, Copy)]
+enum Wanted {
+    Positive(&'static [u8]),
+    Suppressed,
+    Negative(u8),
+}
+
+impl Wanted {
+    fn is_met(self, service: u8, reply: Option<Reply>) -> bool {
+        match (self, reply) {
+            (Wanted::Positive(wanted), Some(Reply::Response(bytes))) => bytes.as_slice() == wanted,
+            (Wanted::Negative(code), Some(Reply::Response(bytes))) => {
+                bytes.as_slice() == [0x7F, service, code].as_slice()
+            }
+            (Wanted::Suppressed, Some(Reply::Silent)) => true,
+            _ => false,
+        }
+    }
+}
+
+/// The answer to a request of a known sub-function and of its length.
+fn by_row(row: Row, second: u8, length: usize, rest: Rest) -> Wanted {
+    let wanted = match rest {
+        Rest::AllSet => row.3,
+        Rest::Known => row.4,
+    };
+    let clears_one = row.0 == 0x14 && second != 0xFF;
+    let has_option = row.0 == 0x85 && length == 5 && rest == Rest::Known;
+    if wanted.is_empty() || clears_one || has_option {
+        Wanted::Negative(0x31)
+    } else if row.0 != 0x14 && 128 <= second {
+        Wanted::Suppressed
+    } else {
+        Wanted::Positive(wanted)
+    }
+}
+
+/// The answer to a request of these first two bytes and this length.
+fn by_table(service: u8, second: u8, length: usize, rest: Rest, extended: bool) -> Wanted {
+    let has_sub = service != 0x14;
+    if !REQUESTS.iter().any(|row| row.0 == service) {
+        return Wanted::Negative(0x11);
+    }
+    if service == 0x85 && !extended {
+        return Wanted::Negative(0x7F);
+    }
+    if has_sub && length == 1 {
+        return Wanted::Negative(0x13);
+    }
+    match REQUESTS.iter().find(|row| row.0 == service
+        && (!has_sub || row.1 == Some(second % 128)))
+    {
+        None => Wanted::Negative(0x12),
+        Some(row) => {
+            if row.2[0] != length && row.2[1] != length {
+                Wanted::Negative(0x13)
+            } else {
+                by_row(*row, second, length, rest)
+            }
+        }
+    }
+}
+
+/// How many of the requests of the lengths 1 to 16, each on a failed event, are not answered as the table has it.
+fn differences(server: &mut Server, service: u8, second: u8, rest: Rest, extended: bool) -> u32 {
+    let mut request = rest.bytes();
+    request[0] = service;
+    request[1] = second;
+    let mut differences = 0u32;
+    for length in 1..17usize {
+        server.ask(2, &[0x10, 0x81]);
+        let failed = server.reports(0, Report::Failed, Reply::Taken);
+        if extended {
+            server.ask(2, &[0x10, 0x83]);
+        }
+        let reply = server.ask(2, &request[..length]);
+        let wanted = by_table(service, second, length, rest, extended);
+        if !failed || !wanted.is_met(service, reply) {
+            differences = differences.saturating_add(1);
+        }
+    }
+    differences
+}
+
+#[test]
 fn each_request_is_answered_as_the_table_says(rt: HostRuntime) {
-    for extended in [false, true] {
-        let mut server = served(one(event(0x123456)), DidTable::new()).expect(
-            &rt,
-            "the configuration is valid",
-        );
-        for service in 0..=255u8 {
-            for second in 0..=255u8 {
-                let most = match service {
-                    0x10 | 0x14 | 0x19 | 0x3E | 0x85 => 16,
-                    _ if second % 128 == 0x7F => 2,
-                    _ => 0,
-                };
-                for length in 1..=most {
-                    let session: [u8; 2] = if extended { [0x10, 0x83] } else { [0x10, 0x81] };
-                    server.ask(2, &session);
-                    let mut request = [0xFF; 16];
-                    request[0] = service;
-                    request[1] = second;
-                    let reply = server.ask(2, &request[..length]);
-                    assert_eq!(rt;
-                        first_byte_and_code(reply),
-                        by_table(service, second, length, extended)
-                    );
-                }
+    let mut server = served(one(event(0x123456)), DidTable::new()).expect(
+        &rt,
+        "the configuration is valid",
+    );
+    assert!(&rt; server.agrees(Step::Cycle(0)));
+    for service in 0..=255u8 {
+        let is_known = REQUESTS.iter().any(|row| row.0 == service);
+        for second in 0..=255u8 {
+            if is_known || second % 128 == 0x02 {
+                assert_eq!(rt;
+                    differences(&mut server, service, second, Rest::AllSet, false),
+                    0
+                );
+                assert_eq!(rt;
+                    differences(&mut server, service, second, Rest::AllSet, true),
+                    0
+                );
+                assert_eq!(rt;
+                    differences(&mut server, service, second, Rest::Known, false),
+                    0
+                );
+                assert_eq!(rt;
+                    differences(&mut server, service, second, Rest::Known, true),
+                    0
+                );
             }
         }
     }
