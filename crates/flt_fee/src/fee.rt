@@ -321,6 +321,7 @@ impl<F: Flash> Fee<F> {
 }
 
 impl<F: Bench> Blocks for Fee<F> {
+    ghost use Rattle.flt_record.proofs.Short.{value_is_short};
     ghost use Rattle.flt_fee.specs.Fee.{state_of};
     ghost use Rattle.flt_fee.specs.Refusal.{first_holds};
 
@@ -331,6 +332,8 @@ impl<F: Bench> Blocks for Fee<F> {
     ghost settled_has_mounted = { λ driver. driver.mounted.mounted };
 
     ghost mounted_is_sound = { λ driver. driver.mounted.undamaged };
+
+    ghost bytes_are_short = { λ driver block. value_is_short _ _ _ block };
 
     fn mount(&mut self) -> Result<(), BlockFault> {
         self.look()

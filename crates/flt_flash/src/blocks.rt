@@ -1,6 +1,6 @@
 // Blocks that outlive the power, as the layers above a driver see them.
 ghost use Rattle.std.specs.Prelude.{◌≡◌, ◌<◌, ◌≤◌, length, Contains, IfOk, OnOk, OnErr, None, IsTrue, IsFalse, ℕ};
-ghost use Rattle.flt_flash.specs.Content.{invalid, bytes as holding};
+ghost use Rattle.flt_flash.specs.Content.{invalid, bytes as holding, IsShort};
 ghost use Rattle.flt_flash.specs.State.{CanArm};
 ghost use Rattle.flt_flash.specs.Blocks.{BlocksState};
 ghost use Rattle.flt_flash.specs.Calls.{Follows, Calls, NeverFull, Changes, Costs, SameValues, Settles, Finds, ArmsDriver, PowersUpDriver};
@@ -114,6 +114,8 @@ pub trait Blocks {
     ghost settled_has_mounted: { (driver : Self) → IsFalse (state driver).is_stale → IsTrue (state driver).has_mounted };
 
     ghost mounted_is_sound: { (driver : Self) → IsTrue (state driver).has_mounted → (state driver).damage ≡ None };
+
+    ghost bytes_are_short: { (driver : Self) (block : ℕ) → IsShort ((state driver).value block) };
 }
 
 /// Any number of mounts, reads, writes and invalidates in a row is one relation: it holds of none, and of some and then more.

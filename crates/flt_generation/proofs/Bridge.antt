@@ -117,7 +117,7 @@ no_fault_found test first (suc count) none k below = elim (cases_Bool (test firs
       ]
 ]
 
-find_no_fault : (test : ℕ → Bool) (first count : ℕ) → ((k : ℕ) → k < count → test (first + k) ≡ false) → find test (range_with_len first count) ≡ None
+pub find_no_fault : (test : ℕ → Bool) (first count : ℕ) → ((k : ℕ) → k < count → test (first + k) ≡ false) → find test (range_with_len first count) ≡ None
 find_no_fault test first zero fails = refl
 find_no_fault test first (suc count) fails =
     let start : first + 0 ≡ first = omega arith in
@@ -137,7 +137,7 @@ applications_fine value is block below =
     let here : 0 + block ≡ block = omega arith in
     not-false _ (subst (λ (n : ℕ). test n ≡ false) here (no_fault_found test 0 40 (no_fault _ is) block below))
 
-fine_applications : (value : ℕ → Content) → ((block : ℕ) → block < 40 → is_application (value (application_number block)) ≡ true) → applications_judged value ≡ Ok tt
+pub fine_applications : (value : ℕ → Content) → ((block : ℕ) → block < 40 → is_application (value (application_number block)) ≡ true) → applications_judged value ≡ Ok tt
 unfolding applications_judged
 fine_applications value fine =
     let test : ℕ → Bool = λ b. not (is_application (value (application_number b))) in

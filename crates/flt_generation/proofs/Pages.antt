@@ -18,7 +18,7 @@ use Rattle.flt_generation.proofs.Choices.{chosen, not_chosen}
 use Rattle.flt_generation.proofs.Steps.{is_summary, are_states, is_entry, kind_of}
 
 -- the sum of one more in front
-sum_more : {X : Type 0} (f : X → ℕ) (x : X) (xs : List X) → sum_by f (x ∷ xs) ≡ f x + sum_by f xs
+pub sum_more : {X : Type 0} (f : X → ℕ) (x : X) (xs : List X) → sum_by f (x ∷ xs) ≡ f x + sum_by f xs
 sum_more f x xs = sum_by-append f (x ∷ []) xs ∙ ap (λ (n : ℕ). n + sum_by f xs) (zero-add (f x))
 
 -- a weight for each number of a range that is below a bound
@@ -61,7 +61,7 @@ below_sum f weight times nothing (suc bound) first (suc count) each =
         ])
 
 -- the pages of both indices, part by part
-both_sum : (f : ℕ → ℕ) (first count : ℕ) → sum_by f (flat_map both_indices (range_with_len first count)) ≡ sum_by (λ id. f (number_of id 0) + f (number_of id 1)) (range_with_len first count)
+pub both_sum : (f : ℕ → ℕ) (first count : ℕ) → sum_by f (flat_map both_indices (range_with_len first count)) ≡ sum_by (λ id. f (number_of id 0) + f (number_of id 1)) (range_with_len first count)
 both_sum f first zero = refl
 both_sum f first (suc count) =
     let later = flat_map both_indices (range_with_len (first + 1) count) in
@@ -71,7 +71,7 @@ both_sum f first (suc count) =
     let pair = sum_more (λ id. f (number_of id 0) + f (number_of id 1)) first (range_with_len (first + 1) count) in
     omega (arith, rest, one, two, pair)
 
-mapped_sum : (f g : ℕ → ℕ) (first count : ℕ) → sum_by f (map g (range_with_len first count)) ≡ sum_by (λ n. f (g n)) (range_with_len first count)
+pub mapped_sum : (f g : ℕ → ℕ) (first count : ℕ) → sum_by f (map g (range_with_len first count)) ≡ sum_by (λ n. f (g n)) (range_with_len first count)
 mapped_sum f g first zero = refl
 mapped_sum f g first (suc count) =
     sum_more f (g first) (map g (range_with_len (first + 1) count)) ∙ ap (λ (n : ℕ). f (g first) + n) (mapped_sum f g (first + 1) count)

@@ -18,3 +18,4 @@ pub mod Finding
 pub mod Reading
 pub mod Summing
 pub mod Copying
+pub mod Short

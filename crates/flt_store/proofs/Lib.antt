@@ -8,3 +8,5 @@ pub mod Copies
 pub mod Running
 pub mod Applying
 pub mod Marks
+pub mod Beginning
+pub mod Faults

@@ -1,3 +1,4 @@
 pub mod Cause
 pub mod Started
 pub mod Store
+pub mod Start

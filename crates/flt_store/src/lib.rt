@@ -12,4 +12,6 @@ mod restarting;
 mod store;
 
 pub use fault::{PutFault, SaveFault};
+pub use flt_generation::{Mark, Place};
+pub use flt_restore::StartFault;
 pub use store::{APPLICATION, Store};

@@ -12,6 +12,8 @@ ghost use Rattle.flt_store.specs.Cause.{FailsThrice, IsStuck};
 ghost use Rattle.flt_store.specs.Started.{HasMark, IsStarted};
 
 mod applications;
+mod device;
+mod starting;
 
 pub use applications::APPLICATION;
 

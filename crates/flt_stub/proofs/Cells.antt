@@ -3,7 +3,7 @@ use Rattle.std.proofs.Common.{◌≡◌, ◌≢◌, ◌<◌, ℕ, List, length, 
 use Rattle.std.proofs.lemmas.List.{get_or_read}
 use Rattle.flt_stub.specs.declared.Cell.{Cell}
 use Rattle.flt_stub.specs.declared.Cell.TheVariants.{Missing}
-use Rattle.flt_stub.specs.Memory.{content_of}
+use Rattle.flt_stub.specs.Cells.{content_of}
 
 module _ (before after : List Cell) (same : after ≡ before) (block : ℕ) (within : block < length before) where
   pub written : (cell : Cell) → content_of (get_or (set after block cell) block Missing) ≡ content_of cell

@@ -1,5 +1,6 @@
 -- The laws of a driver of blocks, for the one in memory.
 use Rattle.std.specs.Prelude.{◌≡◌, ℕ, None, IsTrue, IsFalse, refl}
+use Rattle.flt_flash.specs.Content.{IsShort}
 use Rattle.flt_stub.specs.declared.BlocksMem.{BlocksMem}
 use Rattle.flt_stub.specs.Memory.{state_of}
 
@@ -14,3 +15,7 @@ settled_has_mounted driver = driver.mounted
 -- the image has no fault
 pub never_damaged : (driver : BlocksMem) → IsTrue (state_of driver).has_mounted → (state_of driver).damage ≡ None
 never_damaged driver mounted = refl
+
+-- no cell has more than 128 bytes
+pub always_short : (driver : BlocksMem) (block : ℕ) → IsShort ((state_of driver).value block)
+always_short driver = driver.short

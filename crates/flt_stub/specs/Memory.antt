@@ -1,17 +1,12 @@
 -- What a driver in memory means.
 use Rattle.std.specs.Prelude.{◌≡◌, ℕ, false, List, [], length, replicate, None, IsTrue, IsFalse, slice_index_or}
 use Rattle.std.specs.List.{range_with_len}
-use Rattle.flt_flash.specs.Content.{Content, missing, invalid, bytes}
+use Rattle.flt_flash.specs.Content.{missing}
 use Rattle.flt_flash.specs.Blocks.{BlocksState}
 use Rattle.flt_stub.specs.declared.Cell.{Cell}
-use Rattle.flt_stub.specs.declared.Cell.TheVariants.{Missing, Invalid, Bytes}
+use Rattle.flt_stub.specs.declared.Cell.TheVariants.{Missing}
+use Rattle.flt_stub.specs.Cells.{content_of}
 use Rattle.flt_stub.specs.declared.BlocksMem.{BlocksMem}
-
--- what a cell holds
-abbrev pub content_of : Cell → Content
-content_of Missing = missing
-content_of Invalid = invalid
-content_of (Bytes held) = bytes held.items
 
 -- the driver as the layers above see it
 abbrev pub state_of : BlocksMem → BlocksState

@@ -7,6 +7,7 @@
 
 ghost use Rattle.std.specs.Prelude.{◌≡◌, ◌+◌, ◌<◌, ◌≤◌, length, replicate, IfOk, IsTrue, IsFalse};
 ghost use Rattle.flt_flash.specs.Calls.{Finds};
+ghost use Rattle.flt_stub.specs.Cells.{AllShort};
 
 use arrayvec::ArrayVec;
 use flt_flash::{Arm, BlockFault, Blocks, Found};
@@ -30,10 +31,11 @@ pub struct BlocksMem {
     boots_left: u16,
     ghost boots_fit: { boots + boots_left < 65536 },
     ghost mounted: { IsFalse is_stale → IsTrue has_mounted },
+    ghost short: { AllShort cells.items },
 }
 
 impl Cell {
-    ghost use Rattle.flt_stub.specs.Memory.{content_of};
+    ghost use Rattle.flt_stub.specs.Cells.{content_of};
     ghost use Rattle.flt_flash.specs.Content.{bytes as holding};
 
     fn of(bytes: &[u8]) -> Cell
@@ -97,7 +99,7 @@ impl BlocksMem {
 
 impl Blocks for BlocksMem {
     ghost use Rattle.flt_stub.specs.Memory.{state_of};
-    ghost use Rattle.flt_stub.specs.Laws.{never_stuck, settled_has_mounted, never_damaged};
+    ghost use Rattle.flt_stub.specs.Laws.{never_stuck, settled_has_mounted, never_damaged, always_short};
 
     ghost state = { state_of };
 
@@ -106,6 +108,8 @@ impl Blocks for BlocksMem {
     ghost settled_has_mounted = { settled_has_mounted };
 
     ghost mounted_is_sound = { never_damaged };
+
+    ghost bytes_are_short = { always_short };
 
     fn mount(&mut self) -> Result<(), BlockFault> {
         self.settle();

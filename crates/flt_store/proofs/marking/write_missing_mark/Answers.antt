@@ -19,21 +19,21 @@ write-requires-clause-index g c = mark_index _ (c.read.ensures.table ∙ c.requi
 
 pub write-requires-clause-fits : goal.write-requires-clause-fits
 write-requires-clause-fits g c =
-    let size : length c.put_mark-mark.result ≡ 8 = ap (λ (raw : List ℕ). length raw) c.put_mark-mark.ensures ∙ mark_size c.mark_of.result in
+    let size : length c.put_mark.result ≡ 8 = ap (λ (raw : List ℕ). length raw) c.put_mark.ensures ∙ mark_size c.args.mark.now in
     mark_fits _ (c.read.ensures.table ∙ c.requires) _ (omega (arith, size))
 
 pub returns-in-Ok-Missing-clause-marked : goal.returns-in-Ok-Missing-clause-marked
-returns-in-Ok-Missing-clause-marked g c = λ allows.
+returns-in-Ok-Missing-clause-marked g c = λ config same allows.
     let gives = mark_alone _ (c.read.ensures.table ∙ c.requires) _ _ c.write.ensures.gives in
-    on_ok c.write.result (λ is. (c.put_mark-mark.result, is, c.put_mark-mark.ensures ∙ ap mark_bytes c.mark_of.ensures.value)) gives.done
+    on_ok c.write.result (λ is. (c.put_mark.result, is, c.put_mark.ensures ∙ ap mark_bytes same)) gives.done
 
 pub returns-in-Ok-Missing-clause-tried : goal.returns-in-Ok-Missing-clause-tried
-returns-in-Ok-Missing-clause-tried g c =
+returns-in-Ok-Missing-clause-tried g c = λ config same.
     let got = mark_alone _ c.requires _ _ (rw c.in-Ok-Missing.field-0-is at c.in-Ok-Missing.ensures.got) in
     let gives = mark_alone _ (c.read.ensures.table ∙ c.requires) _ _ c.write.ensures.gives in
     ⊎_elim
     (λ kept. inl (kept ∙ c.read.ensures.values mark_number))
-    (λ is. inr (missing_mark ((driver_of c.args.nvm.now).value mark_number) _ _ got, is ∙ ap bytes (c.put_mark-mark.ensures ∙ ap mark_bytes c.mark_of.ensures.value)))
+    (λ is. inr (missing_mark ((driver_of c.args.nvm.now).value mark_number) _ _ got, is ∙ ap bytes (c.put_mark.ensures ∙ ap mark_bytes same)))
     gives.either
 
 pub returns-in-Ok-Missing-clause-others : goal.returns-in-Ok-Missing-clause-others
@@ -43,18 +43,18 @@ returns-in-Ok-Missing-clause-others g c = λ other apart.
 
 pub returns-in-Ok-Missing-clause-writes : goal.returns-in-Ok-Missing-clause-writes
 returns-in-Ok-Missing-clause-writes g c =
-    let size : length c.put_mark-mark.result ≡ 8 = ap (λ (raw : List ℕ). length raw) c.put_mark-mark.ensures ∙ mark_size c.mark_of.result in
+    let size : length c.put_mark.result ≡ 8 = ap (λ (raw : List ℕ). length raw) c.put_mark.ensures ∙ mark_size c.args.mark.now in
     let gives = mark_alone _ (c.read.ensures.table ∙ c.requires) _ _ c.write.ensures.gives in
     writes_on (driver_of c.args.nvm.now) (driver_of c.read.new.self) (driver_of c.write.new.self) c.write.result c.read.ensures.calls.follows
     (one_write (driver_of c.read.new.self) (driver_of c.write.new.self) c.write.result c.write.ensures.calls c.write.ensures.three _ _ _ (omega (arith, size)) gives)
 
 pub returns-in-Ok-Invalid-clause-marked : goal.returns-in-Ok-Invalid-clause-marked
-returns-in-Ok-Invalid-clause-marked g c = λ allows.
+returns-in-Ok-Invalid-clause-marked g c = λ config same allows.
     let got = mark_alone _ c.requires _ _ (rw c.in-Ok-Invalid.field-0-is at c.in-Ok-Invalid.ensures.got) in
-    absurd (mark_not_invalid c.args.config.now ((driver_of c.args.nvm.now).value mark_number) _ _ allows got)
+    absurd (mark_not_invalid config ((driver_of c.args.nvm.now).value mark_number) _ _ allows got)
 
 pub returns-in-Ok-Bytes-clause-marked : goal.returns-in-Ok-Bytes-clause-marked
-returns-in-Ok-Bytes-clause-marked g c = λ allows.
+returns-in-Ok-Bytes-clause-marked g c = λ config same allows.
     let got = mark_alone _ c.requires _ _ (rw c.in-Ok-Bytes.field-0-is at c.in-Ok-Bytes.ensures.got) in
-    let mark = mark_found c.args.config.now ((driver_of c.args.nvm.now).value mark_number) _ _ _ _ allows got in
+    let mark = mark_found config ((driver_of c.args.nvm.now).value mark_number) _ _ _ _ allows got in
     (mark.0, c.read.ensures.values mark_number ∙ mark.1, mark.2)

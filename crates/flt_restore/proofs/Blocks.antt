@@ -1,0 +1,120 @@
+-- One application block more that is judged, and the pages of one record more.
+use Rattle.std.proofs.Common.{◌≡◌, ◌≢◌, ℕ, zero, suc, ◌+◌, ◌-◌, ◌<◌, ◌≤◌, ◌++◌, [], ◌∷◌, Bool, true, false, List, refl, sym, ◌∙◌, ap, subst, arith, inl, inr, below_more}
+use Rattle.std.specs.Prelude.{not, find, sum_by, Option, Some, None, Result, Ok, Err}
+use Rattle.std.specs.List.{range_with_len}
+use Rattle.std.proofs.lemmas.Bool.{cases_Bool, cases_eq}
+use Rattle.std.proofs.lemmas.List.Sums.{sum_by-append}
+use Rattle.flt_flash.specs.Content.{Content}
+use Rattle.flt_flash.specs.Blocks.{BlocksState}
+use Rattle.flt_config.specs.declared.config.Config.{Config}
+use Rattle.flt_generation.specs.Layout.{first_part, end_part, parts, first_application, applications, application_number}
+use Rattle.flt_generation.specs.Holding.{Fault, damaged_at, is_application, application_fault, applications_judged}
+use Rattle.flt_generation.proofs.Choices.{chosen, not_chosen, range_more}
+use Rattle.flt_generation.proofs.Bridge.{fine_applications}
+use Rattle.flt_restore.specs.declared.fault.StartFault.{StartFault}
+use Rattle.flt_restore.specs.Found.{Reads}
+use Rattle.flt_restore.specs.Judging.{application_judged, beyond, beyond_of_part, beyond_of_parts, beyond_of_applications, Tells}
+use Rattle.flt_restore.proofs.Telling.{same_values, tells_from, tells_flash}
+
+-- the first number of a range that passes a test
+first_found : (test : ℕ → Bool) (first count k : ℕ) → k < count → ((j : ℕ) → j < k → test (first + j) ≡ false) → test (first + k) ≡ true → find test (range_with_len first count) ≡ Some (first + k)
+first_found test first zero k below fails passes = absurd (omega (arith, below))
+first_found test first (suc count) zero below fails passes =
+    let at : first + 0 ≡ first = omega arith in
+    chosen (test first) (Some first) (find test (range_with_len (first + 1) count)) (subst (λ (n : ℕ). test n ≡ true) at passes) ∙ ap Some (sym at)
+first_found test first (suc count) (suc k) below fails passes =
+    let at : first + 0 ≡ first = omega arith in
+    let here : first + suc k ≡ first + 1 + k = omega arith in
+    not_chosen (test first) (Some first) (find test (range_with_len (first + 1) count)) (subst (λ (n : ℕ). test n ≡ false) at (fails 0 (omega arith)))
+    ∙ first_found test (first + 1) count k (omega (arith, below))
+    (λ j before. let later : first + (j + 1) ≡ first + 1 + j = omega arith in subst (λ (n : ℕ). test n ≡ false) later (fails (j + 1) (omega (arith, before))))
+    (subst (λ (n : ℕ). test n ≡ true) here passes)
+    ∙ ap Some (sym here)
+
+not_true : (b : Bool) → b ≡ true → not b ≡ false
+not_true true is = refl
+not_true false is = absurd (cc)
+
+not_false : (b : Bool) → b ≡ false → not b ≡ true
+not_false true is = absurd (cc)
+not_false false is = refl
+
+module _ (value : ℕ → Content) where
+  fine : (block : ℕ) → application_judged value block ≡ Ok tt → is_application (value (application_number block)) ≡ true
+  fine block is = elim (cases_Bool (is_application (value (application_number block)))) [
+    | inl passes ↦ passes
+    | inr fails ↦ absurd (let fault = sym (not_chosen (is_application (value (application_number block))) (Ok tt) (damaged_at (first_application + block)) fails) ∙ is in cc)
+  ]
+
+  all_fine : ((block : ℕ) → block < applications → application_judged value block ≡ Ok tt) → applications_judged value ≡ Ok tt
+  all_fine judged = fine_applications value (λ block below. fine block (judged block below))
+
+  -- the first block at fault is that of all
+  first_fault : (block : ℕ) → block < applications → ((before : ℕ) → before < block → application_judged value before ≡ Ok tt) → is_application (value (application_number block)) ≡ false
+      → applications_judged value ≡ application_judged value block
+  unfolding applications_judged
+  first_fault block below judged fails =
+      let test : ℕ → Bool = λ b. not (is_application (value (application_number b))) in
+      let at : (k : ℕ) → k ≡ 0 + k = λ k. omega arith in
+      ap application_fault
+      (first_found test 0 applications block below (λ k before. subst (λ (n : ℕ). test n ≡ false) (at k) (not_true _ (fine k (judged k before)))) (subst (λ (n : ℕ). test n ≡ true) (at block) (not_false _ fails)))
+      ∙ ap (λ (n : ℕ). damaged_at (first_application + n)) (sym (at block))
+      ∙ sym (not_chosen (is_application (value (application_number block))) (Ok tt) (damaged_at (first_application + block)) fails)
+
+  tells_first_fault : (c : Config) (before after : BlocksState) (block : ℕ) (fault : StartFault) → block < applications → ((earlier : ℕ) → earlier < block → application_judged value earlier ≡ Ok tt)
+      → Tells c before after (application_judged value block) fault → Tells c before after (applications_judged value) fault
+  tells_first_fault c before after block fault below judged tells = elim (cases_Bool (is_application (value (application_number block)))) [
+    | inl passes ↦
+        let none : application_judged value block ≡ Ok tt = chosen (is_application (value (application_number block))) (Ok tt) (damaged_at (first_application + block)) passes in
+        tells_flash {A = Unit {0}} c before after tt (applications_judged value) fault (subst (λ (r : Result (Unit {0}) Fault). Tells c before after r fault) none tells)
+    | inr fails ↦ subst (λ (r : Result (Unit {0}) Fault). Tells c before after r fault) (sym (first_fault block below judged fails)) tells
+  ]
+
+module _ (c : Config) (before middle : BlocksState) (reads : Reads before middle) where
+  pub application_refused : (after : BlocksState) (block : ℕ) (fault : StartFault) → block < applications → ((earlier : ℕ) → earlier < block → application_judged before.value earlier ≡ Ok tt)
+      → Tells c middle after (application_judged middle.value block) fault → Tells c before after (applications_judged before.value) fault
+  application_refused after block fault below judged tells =
+      tells_first_fault before.value c before after block fault below judged
+      (tells_from c before middle after _ fault reads (subst (λ (value : ℕ → Content). Tells c middle after (application_judged value block) fault) (same_values before middle reads) tells))
+
+  pub application_fine : (block : ℕ) → ((earlier : ℕ) → earlier < block → application_judged before.value earlier ≡ Ok tt) → application_judged middle.value block ≡ Ok tt
+      → (k : ℕ) → k < block + 1 → application_judged before.value k ≡ Ok tt
+  application_fine block judged here =
+      below_more _ block judged (subst (λ (value : ℕ → Content). application_judged value block ≡ Ok tt) (same_values before middle reads) here)
+
+  pub application_pages : (block pages more : ℕ) → pages ≡ beyond_of_applications c before.value block → more ≡ beyond c middle.value (application_number block)
+      → pages + more ≡ beyond_of_applications c before.value (block + 1)
+  unfolding beyond_of_applications
+  application_pages block pages more are is =
+      let f : ℕ → ℕ = λ k. beyond c before.value (application_number k) in
+      let here : more ≡ f block = subst (λ (value : ℕ → Content). more ≡ beyond c value (application_number block)) (same_values before middle reads) is in
+      let all : sum_by f (range_with_len 0 (block + 1)) ≡ sum_by f (range_with_len 0 block) + sum_by f ((0 + block) ∷ []) =
+      ap (sum_by f) (range_more 0 block) ∙ sum_by-append f (range_with_len 0 block) ((0 + block) ∷ []) in
+      let at : 0 + block ≡ block = omega arith in
+      let one : sum_by f ((0 + block) ∷ []) ≡ f block = ap (λ (n : ℕ). 0 + f n) at ∙ omega arith in
+      omega (arith, are, here, all, one)
+
+  pub part_pages : (id pages more : ℕ) → first_part ≤ id → pages ≡ beyond_of_parts c before.value (id - first_part) → more ≡ beyond_of_part c middle.value id
+      → pages + more ≡ beyond_of_parts c before.value (id + 1 - first_part)
+  unfolding beyond_of_parts
+  part_pages id pages more low are is =
+      let f : ℕ → ℕ = beyond_of_part c before.value in
+      let here : more ≡ f id = subst (λ (value : ℕ → Content). more ≡ beyond_of_part c value id) (same_values before middle reads) is in
+      let count : id - first_part + 1 ≡ id + 1 - first_part = omega (arith, low) in
+      let all : sum_by f (range_with_len first_part (id - first_part + 1)) ≡ sum_by f (range_with_len first_part (id - first_part)) + sum_by f ((first_part + (id - first_part)) ∷ []) =
+      ap (sum_by f) (range_more first_part (id - first_part)) ∙ sum_by-append f (range_with_len first_part (id - first_part)) ((first_part + (id - first_part)) ∷ []) in
+      let at : first_part + (id - first_part) ≡ id = omega (arith, low) in
+      let one : sum_by f ((first_part + (id - first_part)) ∷ []) ≡ 0 + f id = ap (λ (n : ℕ). 0 + f n) at in
+      let sum : pages + more ≡ sum_by f (range_with_len first_part (id - first_part + 1)) = omega (arith, are, here, all, one) in
+      sum ∙ ap (λ (n : ℕ). sum_by f (range_with_len first_part n)) count
+
+pub all_applications_fine : (value : ℕ → Content) (end : ℕ) → applications ≤ end → ((block : ℕ) → block < end → application_judged value block ≡ Ok tt) → applications_judged value ≡ Ok tt
+all_applications_fine value end all judged = all_fine value (λ block below. judged block (omega (arith, all, below)))
+
+pub no_applications : (c : Config) (value : ℕ → Content) → 0 ≡ beyond_of_applications c value 0
+unfolding beyond_of_applications
+no_applications c value = refl
+
+pub no_parts : (c : Config) (value : ℕ → Content) → 0 ≡ beyond_of_parts c value 0
+unfolding beyond_of_parts
+no_parts c value = refl

@@ -1,0 +1,6 @@
+pub mod Rows
+pub mod Telling
+pub mod TakingParts
+pub mod Blocks
+pub mod Naming
+pub mod Judged

@@ -1,0 +1,106 @@
+-- The generation that a commit names, step by step.
+use Rattle.std.proofs.Common.{◌≡◌, ℕ, List, refl, sym, ◌∙◌, ap, subst}
+use Rattle.std.specs.Prelude.{Option, Some, None, Result, Ok, Err}
+use Rattle.flt_flash.specs.Content.{Content, missing, invalid, bytes}
+use Rattle.flt_flash.specs.Blocks.{BlocksState}
+use Rattle.flt_config.specs.declared.config.Config.{Config}
+use Rattle.flt_config.specs.declared.persist.Persist.{Persist}
+use Rattle.flt_config.specs.Durable.{initial_state}
+use Rattle.flt_generation.specs.declared.commit.Commit.{Commit}
+use Rattle.flt_generation.specs.Layout.{commit_id, mark_number, parts}
+use Rattle.flt_generation.specs.Form.{IsCommit, IsBytesOfCommit}
+use Rattle.flt_generation.specs.Reading.{commit_in}
+use Rattle.flt_generation.specs.Holding.{Generation, first_generation, Fault, damaged_at, ◌>>=◌, marked, parts_read, generation_of, named, applications_judged, excess_judged, held_by}
+use Rattle.flt_generation.proofs.ImageLaws.{commits_are_read}
+use Rattle.flt_restore.specs.declared.fault.StartFault.{StartFault}
+use Rattle.flt_restore.specs.Judging.{but_excess, Tells}
+use Rattle.flt_restore.proofs.Telling.{tells_first, tells_next, tells_judged, judged_ok}
+
+module _ (c : Config) (value : ℕ → Content) where
+  pub named_first : (state : Persist) → state ≡ initial_state c → named c value missing ≡ Ok (record { number = 0; state = state })
+  unfolding named
+  named_first state is = ap (λ (p : Persist). Ok (record { number = 0; state = p })) (sym is)
+
+  pub named_invalid : named c value invalid ≡ damaged_at commit_id
+  unfolding named
+  named_invalid = refl
+
+  named_bytes : (raw : List ℕ) (o : Option Commit) → commit_in c raw ≡ o → named c value (bytes raw) ≡ generation_of c value o
+  unfolding named
+  named_bytes raw o is = ap (generation_of c value) is
+
+  pub no_commit : (raw : List ℕ) → None ≡ commit_in c raw → named c value (bytes raw) ≡ damaged_at commit_id
+  no_commit raw is = named_bytes raw None (sym is)
+
+  pub named_commit : (raw : List ℕ) (commit : Commit) (state : Persist) → Some commit ≡ commit_in c raw → parts_read c value commit parts ≡ Ok state
+      → named c value (bytes raw) ≡ Ok (record { number = commit.generation; state = state })
+  named_commit raw commit state is read =
+      named_bytes raw (Some commit) (sym is) ∙ ap (λ (r : Result Persist Fault). r >>= (λ p. Ok (record { number = commit.generation; state = p }))) read
+
+  pub parts_refused : (before after : BlocksState) (raw : List ℕ) (commit : Commit) (fault : StartFault) → Some commit ≡ commit_in c raw
+      → Tells c before after (parts_read c value commit parts) fault → Tells c before after (named c value (bytes raw)) fault
+  parts_refused before after raw commit fault is tells =
+      subst (λ (r : Result Generation Fault). Tells c before after r fault) (sym (named_bytes raw (Some commit) (sym is)))
+      (tells_first c before after (parts_read c value commit parts) (λ state. Ok (record { number = commit.generation; state = state })) fault tells)
+
+pub read_form : (c : Config) (raw : List ℕ) (commit : Commit) → Some commit ≡ commit_in c raw → IsCommit c commit × IsBytesOfCommit commit raw
+read_form c raw commit is = (commits_are_read c raw commit).0 (sym is)
+
+-- the steps of an image but for the excess, and the excess
+module _ (c : Config) (value : ℕ → Content) (commit : Content) where
+  abbrev after_named : Generation → Result Generation Fault
+  after_named g = applications_judged value >>= (λ _. Ok g)
+
+  abbrev after_mark : Unit {0} → Result Generation Fault
+  after_mark _ = named c value commit >>= after_named
+
+  pub mark_refused : (before after : BlocksState) (fault : StartFault) → Tells c before after (marked c (value mark_number) commit) fault → Tells c before after (but_excess c value commit) fault
+  unfolding but_excess
+  mark_refused before after fault tells = tells_first c before after (marked c (value mark_number) commit) after_mark fault tells
+
+  module _ (own : marked c (value mark_number) commit ≡ Ok tt) where
+    pub named_refused : (before after : BlocksState) (fault : StartFault) → Tells c before after (named c value commit) fault → Tells c before after (but_excess c value commit) fault
+    unfolding but_excess
+    named_refused before after fault tells =
+        tells_next c before after (marked c (value mark_number) commit) after_mark tt fault own (tells_first c before after (named c value commit) after_named fault tells)
+
+    module _ (g : Generation) (names : named c value commit ≡ Ok g) where
+      pub applications_refused : (before after : BlocksState) (fault : StartFault) → Tells c before after (applications_judged value) fault → Tells c before after (but_excess c value commit) fault
+      unfolding but_excess
+      applications_refused before after fault tells =
+          tells_next c before after (marked c (value mark_number) commit) after_mark tt fault own
+          (tells_next c before after (named c value commit) after_named g fault names (tells_first c before after (applications_judged value) (λ _. Ok g) fault tells))
+
+      pub all_told : applications_judged value ≡ Ok tt → but_excess c value commit ≡ Ok g
+      unfolding but_excess
+      all_told fine =
+          ap (λ (r : Result (Unit {0}) Fault). r >>= after_mark) own
+          ∙ ap (λ (r : Result Generation Fault). r >>= after_named) names
+          ∙ ap (λ (r : Result (Unit {0}) Fault). r >>= (λ _. Ok g)) fine
+
+  abbrev with_excess : Generation → Result Generation Fault
+  with_excess g = excess_judged c value >>= (λ _. Ok g)
+
+  regroup : (r1 : Result (Unit {0}) Fault) (r2 : Result Generation Fault) (r3 : Result (Unit {0}) Fault)
+      → (r1 >>= (λ _. r2 >>= (λ g. r3 >>= (λ _. with_excess g)))) ≡ ((r1 >>= (λ _. r2 >>= (λ g. r3 >>= (λ _. Ok g)))) >>= with_excess)
+  regroup (Err fault) r2 r3 = refl
+  regroup (Ok one) (Err fault) r3 = refl
+  regroup (Ok one) (Ok g) (Err fault) = refl
+  regroup (Ok one) (Ok g) (Ok two) = refl
+
+  held_after : held_by c value commit ≡ (but_excess c value commit >>= with_excess)
+  unfolding held_by but_excess
+  held_after = regroup (marked c (value mark_number) commit) (named c value commit) (applications_judged value)
+
+  pub steps_refused : (before after : BlocksState) (fault : StartFault) → Tells c before after (but_excess c value commit) fault → Tells c before after (held_by c value commit) fault
+  steps_refused before after fault tells =
+      subst (λ (r : Result Generation Fault). Tells c before after r fault) (sym held_after) (tells_first c before after (but_excess c value commit) with_excess fault tells)
+
+  module _ (g : Generation) (is : but_excess c value commit ≡ Ok g) where
+    pub excess_refused : (before after : BlocksState) (fault : StartFault) → Tells c before after (excess_judged c value) fault → Tells c before after (held_by c value commit) fault
+    excess_refused before after fault tells =
+        subst (λ (r : Result Generation Fault). Tells c before after r fault) (sym held_after)
+        (tells_next c before after (but_excess c value commit) with_excess g fault is (tells_first c before after (excess_judged c value) (λ _. Ok g) fault tells))
+
+    pub holds : excess_judged c value ≡ Ok tt → held_by c value commit ≡ Ok g
+    holds borne = held_after ∙ ap (λ (r : Result Generation Fault). r >>= with_excess) is ∙ ap (λ (r : Result (Unit {0}) Fault). r >>= (λ _. Ok g)) borne

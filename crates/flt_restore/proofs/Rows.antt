@@ -1,0 +1,22 @@
+-- Which blocks of the table have one copy, and that the commit has two.
+use Rattle.std.proofs.Common.{ℕ, ◌+◌, ◌<◌, ◌≤◌, ◌≡◌, Option, refl, sym, subst, arith}
+use Rattle.std.specs.Prelude.{IsSomeAnd}
+use Rattle.flt_nvm.specs.declared.table.BlockCfg.{BlockCfg}
+use Rattle.flt_nvm.specs.declared.table.Kind.TheVariants.{Redundant}
+use Rattle.flt_nvm.specs.Table.{IsRedundant}
+use Rattle.flt_generation.specs.Layout.{mark_id, commit_id, first_part, end_part, first_application, applications}
+use Rattle.flt_image.specs.Table.{block_table}
+use Rattle.flt_image.proofs.TableRows.{mark_row, commit_row, part_row, application_row}
+use Rattle.flt_restore.specs.Found.{IsIndexOf, IsSingle}
+
+pub commit_is_redundant : IsRedundant block_table commit_id
+commit_is_redundant = subst (λ (row : Option BlockCfg). IsSomeAnd row (λ block. block.kind ≡ Redundant)) (sym commit_row) refl
+
+pub mark_is_single : IsSingle mark_id 0
+mark_is_single = subst (λ (row : Option BlockCfg). IsSomeAnd row (λ block. IsIndexOf block.kind 0)) (sym mark_row) (omega arith)
+
+pub part_is_single : (id index : ℕ) → first_part ≤ id → id < end_part → index ≤ 1 → IsSingle id index
+part_is_single id index low high small = subst (λ (row : Option BlockCfg). IsSomeAnd row (λ block. IsIndexOf block.kind index)) (sym (part_row id low high)) (omega (arith, small))
+
+pub application_is_single : (block : ℕ) → block < applications → IsSingle (first_application + block) 0
+application_is_single block within = subst (λ (row : Option BlockCfg). IsSomeAnd row (λ block. IsIndexOf block.kind 0)) (sym (application_row block within)) (omega arith)

@@ -1,0 +1,83 @@
+-- Reads one after another, and what is told of steps one after another.
+use Rattle.std.proofs.Common.{◌≡◌, ℕ, refl, sym, ◌∙◌, ap, subst, arith}
+use Rattle.std.specs.Prelude.{Result, Ok, Err, IfErr}
+use Rattle.std.specs.Result.{IsErrAnd}
+use Rattle.flt_flash.specs.Content.{Content}
+use Rattle.flt_flash.specs.Blocks.{BlocksState}
+use Rattle.flt_flash.specs.State.{HasRisenBy}
+use Rattle.flt_flash.proofs.CallsInARow.{no_call, more_calls}
+use Rattle.flt_config.specs.declared.config.Config.{Config}
+use Rattle.flt_generation.specs.Holding.{Fault, damaged, other, ◌>>=◌}
+use Rattle.flt_restore.specs.declared.fault.StartFault.{StartFault}
+use Rattle.flt_restore.specs.declared.fault.StartFault.TheVariants.{Flash, Damaged, OtherConfig, SequenceSpent}
+use Rattle.flt_restore.specs.Found.{Reads}
+use Rattle.flt_restore.specs.Judging.{told_as, as_told, Tells}
+
+pub no_reads : (state : BlocksState) → Reads state state
+no_reads state = record { values = λ block. refl; follows = no_call state; stays = λ is. is }
+
+pub more_reads : (first second third : BlocksState) → Reads first second → Reads second third → Reads first third
+more_reads first second third one two = record {
+  values = λ block. two.values block ∙ one.values block;
+  follows = more_calls first second third one.follows two.follows;
+  stays = λ is. two.stays (one.stays is);
+}
+
+-- reads leave one map of contents
+pub same_values : (before after : BlocksState) → Reads before after → after.value ≡ before.value
+same_values before after reads = λ i block. reads.values block i
+
+pub rises : (before middle after : BlocksState) → Reads before middle → HasRisenBy 3 middle.device.faults after.device.faults → HasRisenBy 3 before.device.faults after.device.faults
+rises before middle after reads rose = omega (arith, reads.follows.counts, rose)
+
+pub stays_risen : (before middle after : BlocksState) → HasRisenBy 3 before.device.faults middle.device.faults → Reads middle after → HasRisenBy 3 before.device.faults after.device.faults
+stays_risen before middle after rose reads = omega (arith, reads.follows.counts, rose)
+
+-- what is told of one fault is told of what hands it on
+pub handed_on : {T : Type 0} (P : StartFault → Type 0) (result : Result T StartFault) (fault : StartFault) → IsErrAnd result (λ e. e ≡ fault) → P fault → IfErr result P
+handed_on P (Ok value) fault is holds = absurd is
+handed_on P (Err e) fault is holds = subst P (sym is) holds
+
+-- the fault of a first step is that of the whole
+pub tells_first : {A B : Type 0} (c : Config) (before after : BlocksState) (judged : Result A Fault) (next : A → Result B Fault) (fault : StartFault)
+    → Tells c before after judged fault → Tells c before after (judged >>= next) fault
+tells_first {A} {B} c before after judged next Flash tells = tells
+tells_first {A} {B} c before after judged next (Damaged place) tells = ap (λ (r : Result A Fault). r >>= next) tells
+tells_first {A} {B} c before after judged next (OtherConfig found wanted) tells = (ap (λ (r : Result A Fault). r >>= next) tells.0, tells.1)
+tells_first {A} {B} c before after judged next SequenceSpent tells = absurd tells
+
+-- and that of the next one, where the first had none
+pub tells_next : {A B : Type 0} (c : Config) (before after : BlocksState) (judged : Result A Fault) (next : A → Result B Fault) (value : A) (fault : StartFault)
+    → judged ≡ Ok value → Tells c before after (next value) fault → Tells c before after (judged >>= next) fault
+tells_next {A} {B} c before after judged next value fault is tells = subst (λ (r : Result A Fault). Tells c before after (r >>= next) fault) (sym is) tells
+
+-- a fault that is told later is told from the beginning
+pub tells_from : {A : Type 0} (c : Config) (before middle after : BlocksState) (judged : Result A Fault) (fault : StartFault)
+    → Reads before middle → Tells c middle after judged fault → Tells c before after judged fault
+tells_from c before middle after judged Flash reads tells = rises before middle after reads tells
+tells_from c before middle after judged (Damaged place) reads tells = tells
+tells_from c before middle after judged (OtherConfig found wanted) reads tells = tells
+tells_from c before middle after judged SequenceSpent reads tells = absurd tells
+
+-- what was judged without a read is told as it is
+pub tells_judged : {A : Type 0} (c : Config) (before after : BlocksState) (judged : Result A Fault) (fault : StartFault) → Err fault ≡ as_told c judged → Tells c before after judged fault
+tells_judged {A} c before after (Ok value) fault is = absurd (cc)
+tells_judged {A} c before after (Err (damaged place)) fault is =
+    let same : Damaged place ≡ fault = cc in
+    let told : Tells {A = A} c before after (Err (damaged place)) (Damaged place) = refl in
+    subst (λ (f : StartFault). Tells {A = A} c before after (Err (damaged place)) f) same told
+tells_judged {A} c before after (Err (other mark)) fault is =
+    let same : told_as c (other mark) ≡ fault = cc in
+    let told : Tells {A = A} c before after (Err (other mark)) (told_as c (other mark)) = (refl, refl) in
+    subst (λ (f : StartFault). Tells {A = A} c before after (Err (other mark)) f) same told
+
+pub judged_ok : {A : Type 0} (c : Config) (judged : Result A Fault) (value : A) → Ok value ≡ as_told c judged → judged ≡ Ok value
+judged_ok {A} c (Ok found) value is = cc
+judged_ok {A} c (Err fault) value is = absurd (cc)
+
+-- a step without a fault tells of the flash alone
+pub tells_flash : {A B : Type 0} (c : Config) (before after : BlocksState) (value : A) (judged : Result B Fault) (fault : StartFault) → Tells {A = A} c before after (Ok value) fault → Tells c before after judged fault
+tells_flash {A} {B} c before after value judged Flash told = told
+tells_flash {A} {B} c before after value judged (Damaged place) told = absurd (cc told)
+tells_flash {A} {B} c before after value judged (OtherConfig found wanted) told = absurd (cc told.0)
+tells_flash {A} {B} c before after value judged SequenceSpent told = absurd told

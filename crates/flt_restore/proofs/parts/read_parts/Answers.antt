@@ -1,0 +1,39 @@
+use Rattle.std.proofs.Common.{◌≡◌, Result, arith, refl, ap, ◌∙◌, sym, Ok}
+use Rattle.flt_config.specs.declared.persist.Persist.{Persist}
+use Rattle.flt_nvm.specs.Driver.{driver_of}
+use Rattle.flt_generation.specs.Holding.{Fault, parts_read}
+use Rattle.flt_restore.specs.Judging.{Tells}
+use Rattle.flt_restore.proofs.Telling.{handed_on, no_reads, more_reads}
+use Rattle.flt_restore.proofs.TakingParts.{part_taken, part_refused}
+use Rattle.flt_restore.proofs.parts.read_parts.Goals as goal
+
+abbrev the_ok : Persist → Result Persist Fault
+the_ok p = Ok p
+
+is_ok : {p q : Persist} → p ≡ q → the_ok p ≡ the_ok q
+is_ok same = ap the_ok same
+
+pub loop-id-init : goal.loop-id-init
+unfolding parts_read
+loop-id-init g c = record {
+  told = is_ok (sym c.initial.ensures.value);
+  states = c.initial.ensures.fits.states.one_each;
+  reads = no_reads (driver_of c.args.nvm.now);
+  table = refl;
+}
+
+pub returns-in_err-read_part-clause-refused : goal.returns-in_err-read_part-clause-refused
+returns-in_err-read_part-clause-refused g c =
+    handed_on (Tells c.args.config.now (driver_of c.args.nvm.now) (driver_of c.read_part.new.nvm) (parts_read c.args.config.now (driver_of c.args.nvm.now).value c.args.commit.now 21))
+    c.from_residual.result c.in_err-read_part.field-0.0 c.from_residual.ensures.1
+    (part_refused c.args.config.now (driver_of c.args.nvm.now) (driver_of c.loop-id.nvm) c.loop-id.invariant.reads c.args.commit.now c.loop-id.id (omega (arith, c.loop-id.auto.id)) (omega (arith, c.loop-id-test.true))
+    c.loop-id.out c.loop-id.invariant.told (driver_of c.read_part.new.nvm) c.in_err-read_part.field-0.0 c.in_err-read_part.ensures.refused)
+
+pub loop-id-preserved : goal.loop-id-preserved
+loop-id-preserved g c = record {
+  told = part_taken c.args.config.now (driver_of c.args.nvm.now) (driver_of c.loop-id.nvm) c.loop-id.invariant.reads c.args.commit.now c.loop-id.id (omega (arith, c.loop-id.auto.id)) (omega (arith, c.loop-id-test.true))
+      c.loop-id.out c.loop-id.invariant.told c.read_part.new.out c.in_ok-read_part.ensures.told;
+  states = c.in_ok-read_part.ensures.states;
+  reads = more_reads (driver_of c.args.nvm.now) (driver_of c.loop-id.nvm) (driver_of c.read_part.new.nvm) c.loop-id.invariant.reads c.in_ok-read_part.ensures.reads;
+  table = c.in_ok-read_part.ensures.table ∙ c.loop-id.invariant.table;
+}

@@ -1,0 +1,40 @@
+-- What was read of a block.
+use Rattle.std.specs.Prelude.{ℕ, ◌≤◌, ◌<◌, IsFalse, IsSomeAnd}
+use Rattle.flt_flash.specs.Content.{Content, missing, invalid, bytes}
+use Rattle.flt_flash.specs.Blocks.{BlocksState}
+use Rattle.flt_flash.specs.Calls.{Follows, SameValues}
+use Rattle.flt_nvm.specs.declared.got.Got.{Got}
+use Rattle.flt_nvm.specs.declared.got.Got.TheVariants.{Bytes as GotBytes, Missing as GotMissing, Invalid as GotInvalid}
+use Rattle.flt_nvm.specs.declared.table.Kind.{Kind}
+use Rattle.flt_nvm.specs.declared.table.Kind.TheVariants.{Native, Redundant, Dataset}
+use Rattle.flt_nvm.specs.Table.{block_in}
+use Rattle.flt_image.specs.Table.{block_table}
+use Rattle.flt_restore.specs.declared.content.Held.{Held}
+use Rattle.flt_restore.specs.declared.content.Held.TheVariants.{Missing, Invalid, Bytes}
+
+-- what a block holds, by what was read of it
+abbrev pub content_of : Held → Content
+content_of Missing = missing
+content_of Invalid = invalid
+content_of (Bytes raw) = bytes raw.items
+
+-- a read gave no more bytes than a block has
+abbrev pub IsWithin : Got → Type 0
+IsWithin (GotBytes length copy) = length ≤ 128
+IsWithin GotMissing = Unit {0}
+IsWithin GotInvalid = Unit {0}
+
+-- a block of one copy, and an index that it has
+abbrev pub IsIndexOf : Kind → ℕ → Type 0
+IsIndexOf Native index = index < 1
+IsIndexOf Redundant index = ⊥
+IsIndexOf (Dataset indices) index = index < indices
+
+abbrev pub IsSingle : ℕ → ℕ → Type 0
+IsSingle id index = IsSomeAnd (block_in block_table id) (λ block. IsIndexOf block.kind index)
+
+-- any number of reads, which change no block
+pub record Reads (before after : BlocksState) : Type 0 where
+  pub values : SameValues before after
+  pub follows : Follows before after
+  pub stays : IsFalse before.is_stale → IsFalse after.is_stale

@@ -1,0 +1,62 @@
+-- What each step of a start-up judges, and what it tells.
+use Rattle.std.specs.Prelude.{◌≡◌, ◌⊎◌, ℕ, ◌+◌, ◌-◌, Bool, if◌then◌else◌, List, Option, Some, None, Result, Ok, Err, sum_by}
+use Rattle.std.specs.List.{range_with_len}
+use Rattle.flt_flash.specs.Content.{Content, missing, invalid, bytes}
+use Rattle.flt_flash.specs.State.{HasRisenBy}
+use Rattle.flt_flash.specs.Blocks.{BlocksState, pages_of}
+use Rattle.flt_config.specs.declared.config.Config.{Config}
+use Rattle.flt_config.specs.Validity.{needed_pages}
+use Rattle.flt_generation.specs.declared.place.Place.TheVariants.{Block}
+use Rattle.flt_generation.specs.Layout.{mark_number, number_of, first_part, first_application, application_number}
+use Rattle.flt_generation.specs.Form.{mark_of, IsBytesOfCommit}
+use Rattle.flt_generation.specs.Excess.{own_pages}
+use Rattle.flt_generation.specs.Holding.{Generation, Fault, damaged, other, damaged_at, ◌>>=◌, marked, named, is_application, applications_judged}
+use Rattle.flt_restore.specs.declared.commit.CommitCopy.{CommitCopy}
+use Rattle.flt_restore.specs.declared.fault.StartFault.{StartFault}
+use Rattle.flt_restore.specs.declared.fault.StartFault.TheVariants.{Flash, Damaged, OtherConfig, SequenceSpent}
+
+-- a start-up's answer for a fault of the image
+abbrev pub told_as : Config → Fault → StartFault
+told_as c (damaged place) = Damaged place
+told_as c (other mark) = OtherConfig mark (mark_of c)
+
+abbrev pub as_told : {A : Type 0} → Config → Result A Fault → Result A StartFault
+as_told c (Ok value) = Ok value
+as_told c (Err fault) = Err (told_as c fault)
+
+-- a step's fault by its cause: three faults of the flash, or what was judged
+abbrev pub Tells : {A : Type 0} → Config → BlocksState → BlocksState → Result A Fault → StartFault → Type 0
+Tells c before after judged Flash = HasRisenBy 3 before.device.faults after.device.faults
+Tells c before after judged (Damaged place) = judged ≡ Err (damaged place)
+Tells c before after judged (OtherConfig found wanted) = (judged ≡ Err (other found)) × (wanted ≡ mark_of c)
+Tells c before after judged SequenceSpent = ⊥
+
+-- the pages that a number's record takes beyond the configuration's own
+abbrev pub beyond : Config → (ℕ → Content) → ℕ → ℕ
+beyond c value number = pages_of (value number) - own_pages c number
+
+abbrev pub beyond_of_part : Config → (ℕ → Content) → ℕ → ℕ
+beyond_of_part c value id = beyond c value (number_of id 0) + beyond c value (number_of id 1)
+
+unfoldable pub beyond_of_parts : Config → (ℕ → Content) → ℕ → ℕ
+beyond_of_parts c value count = sum_by (beyond_of_part c value) (range_with_len first_part count)
+
+unfoldable pub beyond_of_applications : Config → (ℕ → Content) → ℕ → ℕ
+beyond_of_applications c value count = sum_by (λ block. beyond c value (application_number block)) (range_with_len 0 count)
+
+-- one application block
+abbrev pub application_judged : (ℕ → Content) → ℕ → Result (Unit {0}) Fault
+application_judged value block = if is_application (value (application_number block)) then Ok tt else damaged_at (first_application + block)
+
+-- a commit was read from these bytes of this copy; none where the copy is missing
+abbrev pub IsReadFrom : Content → ℕ → Option CommitCopy → Type 0
+IsReadFrom content copy None = content ≡ missing
+IsReadFrom content copy (Some found) = (found.copy ≡ copy) × (content ≡ bytes found.bytes.items) × IsBytesOfCommit found.commit found.bytes.items
+
+-- the bytes are those of the copy that is told, the first or the second
+abbrev pub IsOfCopy : Content → Content → Content → ℕ → Type 0
+IsOfCopy first second content copy = (raw : List ℕ) → content ≡ bytes raw → ((copy ≡ 1) × (first ≡ bytes raw)) ⊎ ((copy ≡ 2) × (second ≡ bytes raw))
+
+-- what an image holds by a commit, but for the excess
+unfoldable pub but_excess : Config → (ℕ → Content) → Content → Result Generation Fault
+but_excess c value commit = marked c (value mark_number) commit >>= (λ _. named c value commit >>= (λ g. applications_judged value >>= (λ _. Ok g)))

@@ -1,0 +1,28 @@
+//! Why a start-up does not succeed.
+
+ghost use Rattle.std.specs.Prelude.{◌≡◌};
+ghost use Rattle.flt_restore.specs.declared.fault.StartFault.TheVariants.{Flash};
+
+use flt_flash::FlashFailed;
+use flt_generation::{Mark, Place};
+
+/// Why a start-up did not succeed.
+#[derive(Clone, Copy, Debug, PartialEq, Eq)]
+pub enum StartFault {
+    /// The device failed in three tries.
+    Flash,
+    /// The image holds no generation: this place holds what nothing of this product writes, or what does not fit.
+    Damaged(Place),
+    /// The image is another configuration's, whose mark was found.
+    OtherConfig { found: Mark, wanted: Mark },
+    /// The last sequence number of the device is in use.
+    SequenceSpent,
+}
+
+impl From<FlashFailed> for StartFault {
+    ghost from_gives = { λ _ e. e ≡ Flash };
+
+    fn from(_: FlashFailed) -> Self {
+        StartFault::Flash
+    }
+}

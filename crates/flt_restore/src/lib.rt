@@ -1,0 +1,22 @@
+//! What an image holds, read over blocks by kind: the generation that it names, or why it names none.
+//!
+//! It stands on `flt_nvm`, whose reads it makes, and on the definitions of `flt_generation`, by which it judges. The store
+//! above starts up by `restore`, whose contract is in `specs/Restored`: what is answered is what the image holds, or where
+//! the first copy of the commit can't be read, what it holds by the second. Nothing here writes a block.
+#![tactic(auto)]
+
+mod applications;
+mod commit;
+mod content;
+mod excess;
+mod fault;
+mod generation;
+mod judging;
+mod pages;
+mod parts;
+mod reading;
+mod restoring;
+
+pub use commit::CommitCopy;
+pub use fault::StartFault;
+pub use restoring::restore;

@@ -1,0 +1,51 @@
+//! Reads of a mounted driver, which fail only where the flash failed in three tries.
+ghost use Rattle.std.specs.Prelude.{◌≡◌, ◌-◌, ◌≤◌, ◌<◌, IfOk, OnOk, OnErr, IsTrue, IsFalse};
+ghost use Rattle.flt_flash.specs.State.{HasRisenBy};
+ghost use Rattle.flt_nvm.specs.Driver.{driver_of, table_of};
+ghost use Rattle.flt_image.specs.Table.{block_table};
+ghost use Rattle.flt_generation.specs.Layout.{commit_id, number_of};
+ghost use Rattle.flt_restore.specs.Found.{content_of, IsSingle, Reads};
+
+use crate::content::{Held, held_in};
+use flt_flash::{Blocks, FlashFailed};
+use flt_nvm::Nvm;
+
+/// The redundant block that names a generation.
+pub(crate) const COMMIT_ID: u16 = 2;
+
+/// Reads a block of one copy, or an index of a part.
+pub(crate) fn read_content<B: Blocks + Drop>(nvm: &mut Nvm<B>, id: u16, index: u8) -> Result<Held, FlashFailed>
+    requires table { table_of nvm.old ≡ block_table }
+    requires mounted { IsTrue (driver_of nvm.old).has_mounted }
+    requires single { IsSingle id index }
+    ensures content { IfOk result (λ held. content_of held ≡ (driver_of nvm.old).value (number_of id index)) }
+    ensures flash { OnErr result (HasRisenBy 3 (driver_of nvm.old).device.faults (driver_of nvm.new).device.faults) }
+    ensures settled { OnOk result (IsFalse (driver_of nvm.new).is_stale) }
+    ensures reads { Reads (driver_of nvm.old) (driver_of nvm.new) }
+    ensures table { table_of nvm.new ≡ table_of nvm.old }
+{
+    let mut out = [0; 128];
+    match nvm.read(id, index, &mut out) {
+        Ok(got) => Ok(held_in(got, &out)),
+        Err(_) => Err(FlashFailed),
+    }
+}
+
+/// Reads copy 1 or copy 2 of the commit.
+pub(crate) fn read_commit_copy<B: Blocks + Drop>(nvm: &mut Nvm<B>, copy: u8) -> Result<Held, FlashFailed>
+    requires table { table_of nvm.old ≡ block_table }
+    requires mounted { IsTrue (driver_of nvm.old).has_mounted }
+    requires least { 1 ≤ copy }
+    requires most { copy ≤ 2 }
+    ensures content { IfOk result (λ held. content_of held ≡ (driver_of nvm.old).value (number_of commit_id (copy - 1))) }
+    ensures flash { OnErr result (HasRisenBy 3 (driver_of nvm.old).device.faults (driver_of nvm.new).device.faults) }
+    ensures settled { OnOk result (IsFalse (driver_of nvm.new).is_stale) }
+    ensures reads { Reads (driver_of nvm.old) (driver_of nvm.new) }
+    ensures table { table_of nvm.new ≡ table_of nvm.old }
+{
+    let mut out = [0; 128];
+    match nvm.read_copy(COMMIT_ID, copy, &mut out) {
+        Ok(got) => Ok(held_in(got, &out)),
+        Err(_) => Err(FlashFailed),
+    }
+}

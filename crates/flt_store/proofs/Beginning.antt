@@ -1,0 +1,129 @@
+-- What a start-up makes of the generation that it judged.
+use Rattle.std.proofs.Common.{◌≡◌, ◌≢◌, ◌⊎◌, inl, inr, ⊎_elim, ℕ, ◌+◌, ◌-◌, ◌<◌, ◌≤◌, Bool, true, false, List, Option, Some, None, Result, Ok, Err, refl, sym, ◌∙◌, ap, subst, arith}
+use Rattle.std.specs.Prelude.{IsTrue, IsFalse}
+use Rattle.std.proofs.lemmas.Bool.{cases_eq}
+use Rattle.flt_flash.specs.Content.{Content, missing, invalid, bytes}
+use Rattle.flt_flash.specs.State.{HasRisenBy}
+use Rattle.flt_flash.specs.Blocks.{BlocksState}
+use Rattle.flt_flash.specs.Calls.{Follows, SameValues}
+use Rattle.flt_config.specs.declared.config.Config.{Config}
+use Rattle.flt_config.specs.declared.persist.Persist.{Persist}
+use Rattle.flt_generation.specs.declared.commit.Commit.{Commit}
+use Rattle.flt_generation.specs.Layout.{commit_id, number_of, mark_number, first_commit, second_commit}
+use Rattle.flt_generation.specs.Excess.{IsBorne}
+use Rattle.flt_generation.specs.Laws.{IsGiven}
+use Rattle.flt_generation.specs.Holding.{Generation, Fault, Holds, IsSound, OldOrNew, either_copy, only_bytes, held, spare}
+use Rattle.flt_generation.proofs.ImageLaws.{held_stands, spare_stands}
+use Rattle.flt_restore.specs.declared.commit.CommitCopy.{CommitCopy}
+use Rattle.flt_restore.specs.Restored.{HasBytes, IsJudged, IsCopy, IsCommitOf, IsRestored, generation}
+use Rattle.flt_store.specs.Started.{HasMark, IsStarted, IsMarkTried}
+use Rattle.flt_store.specs.Start.{Begins, IsFoundIn}
+use Rattle.flt_store.proofs.Repairing.{both_old}
+use Rattle.flt_store.proofs.Copies.{IsAt}
+use Rattle.flt_store.proofs.Marks.{borne_marked, good_marked, sound_marked}
+
+either_missing : (first second : Content) → first ≡ missing → only_bytes second ≡ missing → either_copy first second ≡ missing
+either_missing first (bytes raw) one two = absurd (cc two)
+either_missing first missing one two = ap (λ (d : Content). either_copy d missing) one
+either_missing first invalid one two = ap (λ (d : Content). either_copy d invalid) one
+
+first_missing : (first second : Content) → either_copy first second ≡ missing → first ≡ missing
+first_missing missing second is = refl
+first_missing invalid missing is = absurd (cc is)
+first_missing invalid invalid is = absurd (cc is)
+first_missing invalid (bytes raw) is = absurd (cc is)
+first_missing (bytes raw) second is = absurd (cc is)
+
+second_missing : (first second : Content) → either_copy first second ≡ missing → only_bytes second ≡ missing
+second_missing first missing is = refl
+second_missing first invalid is = refl
+second_missing missing (bytes raw) is = absurd (cc is)
+second_missing invalid (bytes raw) is = absurd (cc is)
+second_missing (bytes other) (bytes raw) is = absurd (cc is)
+
+-- no copy was found, and the mark was written where it was missing
+module _ (c : Config) (before after : ℕ → Content) (tried : IsMarkTried c before after) (others : (other : ℕ) → other ≢ mark_number → after other ≡ before other)
+    (g : Generation) (begins : Begins c before None g) where
+  first_still : after first_commit ≡ missing
+  first_still = others first_commit (λ same. omega (arith, same)) ∙ begins.1
+
+  second_still : only_bytes (after second_commit) ≡ missing
+  second_still = ap only_bytes (others second_commit (λ same. omega (arith, same))) ∙ begins.2
+
+  pub none_started : HasMark c after → IsStarted c after None g
+  none_started mark = record {
+    mark = mark;
+    first = first_still;
+    second = second_still;
+    names = begins.0.names;
+    applications = good_marked c before after tried others begins.0.applications;
+    excess = borne_marked c before after tried others begins.0.excess;
+  }
+
+  pub none_tried : (h s : Generation) → IsSound c before h s → OldOrNew c after h s h
+  none_tried h s sound = both_old c after h s h (sound_marked c before after tried others h s (either_missing (before first_commit) (before second_commit) begins.1 begins.2) begins.2 sound)
+
+-- a copy that was found
+pub copy_at : (value : ℕ → Content) (found : CommitCopy) → IsCopy value found → IsAt value found.bytes.items found.copy
+copy_at value found is = elim (cases_eq found.copy 1) [
+  | inl one ↦ inl (one, subst (λ (k : ℕ). value (number_of commit_id (k - 1)) ≡ bytes found.bytes.items) one is.holds)
+  | inr apart ↦ (let two : found.copy ≡ 2 = omega (arith, is.least, is.most, apart) in inr (two, subst (λ (k : ℕ). value (number_of commit_id (k - 1)) ≡ bytes found.bytes.items) two is.holds))
+]
+
+-- what was restored is where a start-up begins
+begins_at : (c : Config) → IsGiven c → (before after : BlocksState) (found : Option CommitCopy) (state : Persist) → IsRestored c before after found state → Begins c before.value found (generation found state)
+begins_at c given before after None state = ⊎_elim
+    (λ by_either.
+      let is = (held_stands c given before.value (generation None state)).0 by_either.0 in
+      (subst (λ (content : Content). Holds c before.value content (generation None state)) by_either.1 is,
+        first_missing (before.value first_commit) (before.value second_commit) by_either.1, second_missing (before.value first_commit) (before.value second_commit) by_either.1))
+    (λ by_second. absurd (no_bytes (before.value second_commit) by_second.1 by_second.2))
+  where
+    no_bytes : (content : Content) → only_bytes content ≡ missing → HasBytes content → ⊥
+    no_bytes missing is has = has
+    no_bytes invalid is has = has
+    no_bytes (bytes raw) is has = cc is
+begins_at c given before after (Some found) state = ⊎_elim
+    (λ by_either.
+      let is = (held_stands c given before.value (generation (Some found) state)).0 by_either.0 in
+      (subst (λ (content : Content). Holds c before.value content (generation (Some found) state)) by_either.1.0 is, by_either.1.1))
+    (λ by_second.
+      let is = (spare_stands c given before.value (generation (Some found) state)).0 by_second.0 in
+      (subst (λ (content : Content). Holds c before.value content (generation (Some found) state)) by_second.1.0 is, by_second.1.1))
+
+pub begins_of : (c : Config) → IsGiven c → (before after : BlocksState) (found : Option CommitCopy) (state : Persist) → SameValues before after → IsRestored c before after found state
+    → Begins c after.value found (generation found state)
+begins_of c given before after found state same restored =
+    let values : before.value ≡ after.value = λ i number. sym (same number) i in
+    subst (λ (value : ℕ → Content). Begins c value found (generation found state)) values (begins_at c given before after found state restored)
+
+pub found_in : (value : ℕ → Content) (found : Option CommitCopy) (c : Config) (g : Generation) → Begins c value found g → IsFoundIn value found
+found_in value None c g begins = tt
+found_in value (Some found) c g begins = begins.1
+
+pub judged_of : (c : Config) (before after : BlocksState) (found : Option CommitCopy) (state : Persist) → IsRestored c before after found state → IsJudged c before after (Ok (generation found state))
+judged_of c before after found state = ⊎_elim (λ by_either. inl by_either.0) (λ by_second. inr (by_second.0, by_second.2, by_second.3))
+
+-- what was judged between a mount and the writes was judged in the whole start-up
+pub judged_in : (c : Config) (first second third fourth : BlocksState) (judged : Result Generation Fault) → SameValues first second → HasRisenBy 0 first.device.faults second.device.faults
+    → HasRisenBy 0 third.device.faults fourth.device.faults → IsJudged c second third judged → IsJudged c first fourth judged
+judged_in c first second third fourth judged same before after =
+    ⊎_elim
+    (λ by_either. inl (subst (λ (value : ℕ → Content). held c value ≡ judged) values by_either))
+    (λ by_second. inr (subst (λ (value : ℕ → Content). spare c value ≡ judged) values by_second.0, subst HasBytes (same second_commit) by_second.1, (let rose = by_second.2 in omega (arith, rose, before, after))))
+  where
+    values : second.value ≡ first.value
+    values i number = same number i
+
+-- the number of the generation that was restored, told of its commit
+pub same_generation : (found : Option CommitCopy) (state : Persist) (number : ℕ) → (generation found state).number ≡ number → generation found state ≡ record { number = number; state = state }
+same_generation None state number is i = record { number = is i; state = state }
+same_generation (Some found) state number is i = record { number = is i; state = state }
+
+-- a driver that is not spent was not
+pub not_spent : (before after : BlocksState) → Follows before after → IsFalse after.is_spent → IsFalse before.is_spent
+not_spent before after follows later = by before.is_spent refl
+  where
+    by : (spent : Bool) → before.is_spent ≡ spent → IsFalse before.is_spent
+    by false is = is
+    by true is = let stays = follows.stays_spent is in absurd (cc (stays, later))

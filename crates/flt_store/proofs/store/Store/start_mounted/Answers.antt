@@ -1,0 +1,75 @@
+use Rattle.std.proofs.Common.{◌≡◌, Ok, Err, refl, sym, ◌∙◌, subst, ap, arith}
+use Rattle.flt_flash.proofs.CallsInARow.{more_calls}
+use Rattle.flt_nvm.specs.Driver.{driver_of as driver_beneath}
+use Rattle.flt_generation.specs.Holding.{Generation}
+use Rattle.flt_restore.specs.Restored.{generation, IsJudged}
+use Rattle.flt_store.specs.Start.{RefusedFor}
+use Rattle.flt_store.specs.Started.{IsStarted}
+use Rattle.flt_store.specs.Store.{driver_of, numbered}
+use Rattle.flt_store.proofs.Causes.{resolved, writes_on}
+use Rattle.flt_store.proofs.Started.{sound_started}
+use Rattle.flt_store.proofs.Started.{numbered as number_of_started}
+use Rattle.flt_store.proofs.Repairing.{sound_kept, both_old}
+use Rattle.flt_store.proofs.Running.{served_on}
+use Rattle.flt_store.proofs.Beginning.{begins_of, found_in, judged_of, judged_in, same_generation, not_spent}
+use Rattle.flt_store.proofs.Faults.{refused_by_reading, refused_by_writing}
+use Rattle.flt_store.proofs.store.Store.start_mounted.Goals as goal
+
+pub returns-in-Ok-begin_by-clause-started : goal.returns-in-Ok-begin_by-clause-started
+returns-in-Ok-begin_by-clause-started g c =
+    let first = driver_of c.args.self.now in
+    let second = driver_beneath c.restore.new.nvm in
+    let third = driver_beneath c.begin_by.new.nvm in
+    let restored = c.in-Ok.ensures.restored in
+    let d = generation c.in-Ok.found c.restore.new.out in
+    let begins = begins_of c.args.config.now c.mark_of-mark.ensures.given first second c.in-Ok.found c.restore.new.out c.restore.ensures.values restored.restored in
+    let started = c.in-Ok-begin_by.ensures.started d begins in
+    let number = c.number_in-generation.result in
+    let is = number_of_started c.args.config.now third.value c.in-Ok-begin_by.commit d started.names ∙ sym c.number_in-generation.ensures in
+    let same = same_generation c.in-Ok.found c.restore.new.out number is in
+    let now = subst (λ (h : Generation). IsStarted c.args.config.now third.value c.in-Ok-begin_by.commit h) same started in
+    let follows = more_calls first second third c.restore.ensures.follows c.begin_by.ensures.follows in
+    record {
+      undamaged = g.met.B.Blocks.mounted_is_sound c.args.self.now.nvm.blocks c.requires.mounted;
+      judged = subst (λ (h : Generation). IsJudged c.args.config.now first third (Ok h)) same
+          (judged_in c.args.config.now first first second third (Ok d) (λ n. refl) (omega arith) c.begin_by.ensures.follows.counts (judged_of c.args.config.now first second c.in-Ok.found c.restore.new.out restored.restored));
+      usable = not_spent first second c.restore.ensures.follows restored.usable;
+      running = record {
+        served = served_on c.args.config.now first third follows (record { given = c.mark_of-mark.ensures.given; room = c.requires.room; mounted = c.requires.mounted });
+        mark = now.mark;
+        sound = sound_started c.args.config.now third.value c.in-Ok-begin_by.commit (numbered number c.restore.new.out) now;
+        settled = λ yes. now;
+      };
+      settled = refl;
+    }
+
+pub returns-in-Err-begin_by-clause-refused : goal.returns-in-Err-begin_by-clause-refused
+returns-in-Err-begin_by-clause-refused g c =
+    let first = driver_of c.args.self.now in
+    let second = driver_beneath c.restore.new.nvm in
+    let third = driver_beneath c.begin_by.new.nvm in
+    let restored = c.in-Ok.ensures.restored in
+    let d = generation c.in-Ok.found c.restore.new.out in
+    let begins = begins_of c.args.config.now c.mark_of-mark.ensures.given first second c.in-Ok.found c.restore.new.out c.restore.ensures.values restored.restored in
+    let writes = writes_on first second third (Err c.in-Err-begin_by.fault) c.restore.ensures.follows (c.in-Err-begin_by.ensures.writes d begins) in
+    let judged = judged_in c.args.config.now first first second third (Ok d) (λ n. refl) (omega arith) c.begin_by.ensures.follows.counts (judged_of c.args.config.now first second c.in-Ok.found c.restore.new.out restored.restored) in
+    subst (RefusedFor c.args.config.now c.args.self.now _) (sym c.write_fault.ensures)
+    (refused_by_writing c.args.config.now c.args.self.now _ c.in-Err-begin_by.fault d (record { undamaged = g.met.B.Blocks.mounted_is_sound c.args.self.now.nvm.blocks c.requires.mounted; is = judged })
+    (λ is. (let stuck = writes.stuck (ap Err is) in g.met.B.Blocks.stuck_is_spent c.begin_by.new.nvm.blocks stuck.0 stuck.1 stuck.2))
+    (resolved c.args.config.now c.mark_of-mark.ensures.given first third c.in-Err-begin_by.fault writes c.args.self.now.numbers c.requires.room c.requires.mounted (c.begin_by.ensures.borne d begins)))
+
+pub returns-in-Err-clause-refused : goal.returns-in-Err-clause-refused
+returns-in-Err-clause-refused g c =
+    refused_by_reading c.args.config.now c.args.self.now _ c.in-Err.fault (g.met.B.Blocks.mounted_is_sound c.args.self.now.nvm.blocks c.requires.mounted) c.restore.ensures.values (c.restore.ensures.refused c.in-Err.fault c.in-Err.is)
+
+pub returns-in-Err-begin_by-clause-left : goal.returns-in-Err-begin_by-clause-left
+returns-in-Err-begin_by-clause-left g c = λ h s sound.
+    let first = driver_of c.args.self.now in
+    let second = driver_beneath c.restore.new.nvm in
+    let d = generation c.in-Ok.found c.restore.new.out in
+    let begins = begins_of c.args.config.now c.mark_of-mark.ensures.given first second c.in-Ok.found c.restore.new.out c.restore.ensures.values c.in-Ok.ensures.restored.restored in
+    c.in-Err-begin_by.ensures.tried h s d (sound_kept c.args.config.now first.value second.value h s c.restore.ensures.values sound) begins
+
+pub returns-in-Err-clause-left : goal.returns-in-Err-clause-left
+returns-in-Err-clause-left g c = λ h s sound.
+    both_old c.args.config.now (driver_beneath c.restore.new.nvm).value h s h (sound_kept c.args.config.now (driver_of c.args.self.now).value (driver_beneath c.restore.new.nvm).value h s c.restore.ensures.values sound)

@@ -1,0 +1,28 @@
+use Rattle.std.proofs.Common.{◌≡◌, refl, sym, ◌∙◌}
+use Rattle.flt_nvm.specs.Driver.{driver_of as driver_beneath}
+use Rattle.flt_store.specs.Store.{driver_of}
+use Rattle.flt_store.proofs.Repairing.{sound_kept, both_old}
+use Rattle.flt_store.proofs.Running.{ok_map}
+use Rattle.flt_store.proofs.Faults.{refused_through, starts_through, err_told}
+use Rattle.flt_store.proofs.store.Store.start_up.Goals as goal
+
+pub returns-in-Ok-clause-started : goal.returns-in-Ok-clause-started
+returns-in-Ok-clause-started g c =
+    ok_map c.start_mounted.result
+    (λ number starts. starts_through c.args.config.now c.args.self.now _ c.start_mounted.new.self c.start.ensures.calls.follows c.start.ensures.values c.in-Ok.ensures.calls.refuses_damage number c.start_mounted.new.out starts)
+    c.start_mounted.ensures.started
+
+pub returns-in-Ok-clause-refused : goal.returns-in-Ok-clause-refused
+returns-in-Ok-clause-refused g c =
+    err_told c.start_mounted.result
+    (λ fault refused. refused_through c.args.config.now c.args.self.now _ c.start_mounted.new.self c.start.ensures.calls.follows c.start.ensures.values c.in-Ok.ensures.calls.refuses_damage
+      (g.met.B.Blocks.settled_has_mounted c.start.new.self.blocks c.in-Ok.ensures.stale) fault refused)
+    c.start_mounted.ensures.refused
+
+pub returns-in-Ok-clause-left : goal.returns-in-Ok-clause-left
+returns-in-Ok-clause-left g c = λ h s sound.
+    c.start_mounted.ensures.left h s (sound_kept c.args.config.now (driver_of c.args.self.now).value (driver_beneath c.start.new.self).value h s c.start.ensures.values sound)
+
+pub returns-in-Err-clause-left : goal.returns-in-Err-clause-left
+returns-in-Err-clause-left g c = λ h s sound.
+    both_old c.args.config.now (driver_beneath c.start.new.self).value h s h (sound_kept c.args.config.now (driver_of c.args.self.now).value (driver_beneath c.start.new.self).value h s c.start.ensures.values sound)

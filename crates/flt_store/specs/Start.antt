@@ -1,0 +1,70 @@
+-- What a start-up leaves.
+use Rattle.std.specs.Prelude.{◌≡◌, ◌⊎◌, ℕ, Option, Some, None, Result, Ok, Err, IsTrue, IsFalse}
+use Rattle.flt_flash.specs.Content.{Content, missing, bytes}
+use Rattle.flt_flash.specs.Blocks.{BlocksState}
+use Rattle.flt_flash.specs.Calls.{SameValues}
+use Rattle.flt_flash.specs.declared.blocks.Blocks.{Ghosts}
+use Rattle.flt_flash.specs.declared.blocks.BlockFault.{BlockFault}
+use Rattle.flt_flash.specs.declared.blocks.BlockFault.TheVariants.{Flash as FlashFault, Full, SequenceSpent as Stuck, Damaged as DamagedPage}
+use Rattle.flt_config.specs.declared.config.Config.{Config}
+use Rattle.flt_config.specs.declared.persist.Persist.{Persist}
+use Rattle.flt_generation.specs.declared.place.Place.{Place}
+use Rattle.flt_generation.specs.declared.place.Place.TheVariants.{Page, Block}
+use Rattle.flt_generation.specs.Layout.{first_commit, second_commit}
+use Rattle.flt_generation.specs.Form.{mark_of}
+use Rattle.flt_generation.specs.Holding.{Generation, Fault, damaged, other, only_bytes, Holds}
+use Rattle.flt_restore.specs.declared.commit.CommitCopy.{CommitCopy}
+use Rattle.flt_restore.specs.declared.fault.StartFault.{StartFault}
+use Rattle.flt_restore.specs.declared.fault.StartFault.TheVariants.{Flash, Damaged, OtherConfig, SequenceSpent}
+use Rattle.flt_restore.specs.Restored.{IsJudged, IsCopy}
+use Rattle.flt_store.specs.declared.store.Store.{Store}
+use Rattle.flt_store.specs.Cause.{FailsThrice}
+use Rattle.flt_store.specs.Store.{driver_of, is_settled, numbered, IsRunning}
+
+-- a generation and the copy of the commit by which an image holds it; none where neither copy has bytes
+abbrev pub Begins : Config → (ℕ → Content) → Option CommitCopy → Generation → Type 0
+Begins c value None g = Holds c value missing g × (value first_commit ≡ missing) × (only_bytes (value second_commit) ≡ missing)
+Begins c value (Some found) g = Holds c value (bytes found.bytes.items) g × IsCopy value found
+
+-- the copy that was found stands in the image
+abbrev pub IsFoundIn : (ℕ → Content) → Option CommitCopy → Type 0
+IsFoundIn value None = Unit {0}
+IsFoundIn value (Some found) = IsCopy value found
+
+-- what a start-up answers to a fault of its mount; want of room and of sequence numbers are none
+abbrev pub told_of_mount : BlockFault → StartFault
+told_of_mount FlashFault = Flash
+told_of_mount (Full live needed) = Flash
+told_of_mount Stuck = Flash
+told_of_mount (DamagedPage sector page) = Damaged (Page sector page)
+
+-- what it answers to a fault of its writes; want of room and damage are none
+abbrev pub told_of_write : BlockFault → StartFault
+told_of_write FlashFault = Flash
+told_of_write (Full live needed) = Flash
+told_of_write Stuck = SequenceSpent
+told_of_write (DamagedPage sector page) = Flash
+
+module _ {B : Type 0} {b : Ghosts B} where
+  -- a start-up that answered this number: the image had no fault and a sequence number left, and what was judged is the state under
+  -- the number, which both copies of the commit now name
+  pub record Starts (c : Config) (number : ℕ) (state : Persist) (before after : Store B b) : Type 0 where
+    pub undamaged : (driver_of before).damage ≡ None
+    pub judged : IsJudged c (driver_of before) (driver_of after) (Ok (numbered number state))
+    pub usable : IsFalse (driver_of before).is_spent
+    pub running : IsRunning c (numbered number state) (numbered number state) after
+    pub settled : IsTrue (is_settled after)
+
+  -- a start-up judged this of an image without a fault of the driver
+  pub record Judges (c : Config) (before after : Store B b) (judged : Result Generation Fault) : Type 0 where
+    pub undamaged : (driver_of before).damage ≡ None
+    pub is : IsJudged c (driver_of before) (driver_of after) judged
+
+  -- a fault comes by its cause: three faults of the flash, a fault of the driver's image, what was judged, or the last sequence number
+  -- in use where a generation was judged
+  abbrev pub RefusedFor : Config → Store B b → Store B b → StartFault → Type 0
+  RefusedFor c before after Flash = FailsThrice (driver_of before) (driver_of after)
+  RefusedFor c before after (Damaged (Page sector page)) = ((driver_of before).damage ≡ Some (sector, page)) × IsFalse (driver_of before).has_mounted × SameValues (driver_of before) (driver_of after)
+  RefusedFor c before after (Damaged (Block id)) = Judges c before after (Err (damaged (Block id))) × SameValues (driver_of before) (driver_of after)
+  RefusedFor c before after (OtherConfig found wanted) = Judges c before after (Err (other found)) × (wanted ≡ mark_of c) × SameValues (driver_of before) (driver_of after)
+  RefusedFor c before after SequenceSpent = ((g : Generation) × Judges c before after (Ok g)) × IsTrue (driver_of after).is_spent

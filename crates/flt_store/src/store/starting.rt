@@ -1,0 +1,132 @@
+//! Start-up: what the image holds, and both copies of the commit made equal.
+ghost use Rattle.std.specs.Prelude.{◌≡◌, IfOk, IfErr, OnErr, IsTrue};
+ghost use Rattle.flt_flash.specs.Calls.{Follows};
+ghost use Rattle.flt_nvm.specs.Driver.{driver_of as driver_beneath, table_of};
+ghost use Rattle.flt_generation.specs.Holding.{Generation, IsSound, OldOrNew, SameApplications};
+ghost use Rattle.flt_generation.specs.Excess.{IsBorne};
+ghost use Rattle.flt_generation.specs.Form.{mark_of};
+ghost use Rattle.flt_image.specs.Table.{block_table};
+ghost use Rattle.flt_store.specs.Cause.{HasRoom, Writes};
+ghost use Rattle.flt_store.specs.Started.{IsStarted};
+ghost use Rattle.flt_store.specs.Start.{Begins, IsFoundIn, told_of_mount, told_of_write};
+
+use super::{Store, number_in};
+use crate::marking::write_missing_mark;
+use crate::restarting::repair_by;
+use flt_config::{Persist, ValidConfig};
+use flt_flash::{BlockFault, Blocks};
+use flt_generation::Place;
+use flt_image::{Commit, Mark, mark_of};
+use flt_nvm::Nvm;
+use flt_restore::{CommitCopy, StartFault, restore};
+
+// What a start-up answers to a fault of its mount.
+fn mount_fault(fault: BlockFault) -> StartFault
+    ensures { result ≡ told_of_mount fault }
+{
+    match fault {
+        BlockFault::Damaged { sector, page } => StartFault::Damaged(Place::Page { sector, page }),
+        _ => StartFault::Flash,
+    }
+}
+
+// What a start-up answers to a fault of its writes.
+fn write_fault(fault: BlockFault) -> StartFault
+    ensures { result ≡ told_of_write fault }
+{
+    match fault {
+        BlockFault::SequenceSpent => StartFault::SequenceSpent,
+        _ => StartFault::Flash,
+    }
+}
+
+// Makes both copies of the commit hold what the one has that was found; where none was, writes the mark if it is missing.
+fn begin_by<B: Blocks + Drop>(
+    nvm: &mut Nvm<B>,
+    config: &ValidConfig,
+    mark: &Mark,
+    found: Option<CommitCopy>,
+) -> Result<Option<Commit>, BlockFault>
+    requires table { table_of nvm.old ≡ block_table }
+    requires mark { mark.now ≡ mark_of config.now }
+    requires found { IsFoundIn (driver_beneath nvm.old).value found }
+    ensures started { (g : Generation) → Begins config.now (driver_beneath nvm.old).value found g → IfOk result (λ commit. IsStarted config.now (driver_beneath nvm.new).value commit g) }
+    ensures tried { (held spare g : Generation) → IsSound config.now (driver_beneath nvm.old).value held spare → Begins config.now (driver_beneath nvm.old).value found g
+        → OnErr result (OldOrNew config.now (driver_beneath nvm.new).value held spare held) }
+    ensures writes { (g : Generation) → Begins config.now (driver_beneath nvm.old).value found g → Writes (driver_beneath nvm.old) (driver_beneath nvm.new) result }
+    ensures borne { (g : Generation) → Begins config.now (driver_beneath nvm.old).value found g → IsBorne config.now (driver_beneath nvm.new).value }
+    ensures applications { SameApplications (driver_beneath nvm.old).value (driver_beneath nvm.new).value }
+    ensures follows { Follows (driver_beneath nvm.old) (driver_beneath nvm.new) }
+    ensures table { table_of nvm.new ≡ table_of nvm.old }
+{
+    match found {
+        None => match write_missing_mark(nvm, mark) {
+            Ok(()) => Ok(None),
+            Err(fault) => Err(fault),
+        },
+        Some(found) => match repair_by(nvm, config, found.copy, &found.bytes) {
+            Ok(commit) => Ok(Some(commit)),
+            Err(fault) => Err(fault),
+        },
+    }
+}
+
+impl<B: Blocks + Drop> Store<B> {
+    ghost use Rattle.flt_store.specs.Store.{driver_of};
+    ghost use Rattle.flt_store.specs.Start.{RefusedFor, Starts};
+
+    // Starts up on a driver that was mounted.
+    fn start_mounted(
+        &mut self,
+        config: &ValidConfig,
+        out: &mut Persist,
+    ) -> Result<u32, StartFault>
+        requires room { HasRoom config.now (driver_of self.old).room }
+        requires mounted { IsTrue (driver_of self.old).has_mounted }
+        ensures started { IfOk result (λ number. Starts config.now number out.new self.old self.new) }
+        ensures refused { IfErr result (RefusedFor config.now self.old self.new) }
+        ensures left { (held spare : Generation) → IsSound config.now (driver_of self.old).value held spare → OnErr result (OldOrNew config.now (driver_of self.new).value held spare held) }
+        ensures applications { SameApplications (driver_of self.old).value (driver_of self.new).value }
+        ensures follows { Follows (driver_of self.old) (driver_of self.new) }
+    {
+        let mark = mark_of(config);
+        match restore(&mut self.nvm, config, out) {
+            Ok(found) => match begin_by(&mut self.nvm, config, &mark, found) {
+                Ok(commit) => {
+                    let generation = number_in(&commit);
+                    self.commit = commit;
+                    self.is_settled = true;
+                    Ok(generation)
+                }
+                Err(fault) => Err(write_fault(fault)),
+            },
+            Err(fault) => Err(fault),
+        }
+    }
+
+    /// Starts up after the power came: finds out which generation the image holds, and makes both copies of its commit equal. It
+    /// answers the generation's number, 0 before the first save, with its state in `out`. The driver's room, where it has one, is
+    /// the configuration's pages less two.
+    ///
+    /// What is answered is what copy 1 of the commit names, or, where that can't be read in three tries, what copy 2 names. Of an
+    /// image that is damaged, or another configuration's, no block is changed. After an error `out` holds anything that fits its
+    /// type, and of a sound image each of the two generations is one of those before.
+    pub fn start_up(
+        &mut self,
+        config: &ValidConfig,
+        out: &mut Persist,
+    ) -> Result<u32, StartFault>
+        requires { HasRoom config.now (driver_of self.old).room }
+        ensures started { IfOk result (λ number. Starts config.now number out.new self.old self.new) }
+        ensures refused { IfErr result (RefusedFor config.now self.old self.new) }
+        ensures left { (held spare : Generation) → IsSound config.now (driver_of self.old).value held spare → OnErr result (OldOrNew config.now (driver_of self.new).value held spare held) }
+        ensures applications { SameApplications (driver_of self.old).value (driver_of self.new).value }
+        ensures follows { Follows (driver_of self.old) (driver_of self.new) }
+    {
+        self.is_settled = false;
+        match self.nvm.start() {
+            Ok(()) => self.start_mounted(config, out),
+            Err(fault) => Err(mount_fault(fault)),
+        }
+    }
+}
