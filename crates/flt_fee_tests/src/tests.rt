@@ -38,3 +38,16 @@ fn five_blocks(alloc: Global, flash: FlashMem, used: u16) -> Result<Fee<FlashMem
         Err(_) => Err(Fail::from("refused")),
     }
 }
+
+// A page of the flash, or a blank one where there is no such page.
+fn page_of_flash(flash: &FlashMem, sector: u8, page: u16) -> [u8; 32] {
+    if sector > 1 || page >= flash.pages() {
+        return BLANK_PAGE;
+    }
+    *flash.page(sector, page)
+}
+
+// The word of a page of the flash, or none.
+fn word_at(flash: &FlashMem, sector: u8, page: u16) -> Option<Word> {
+    get_word(&unseal(&page_of_flash(flash, sector, page))?)
+}

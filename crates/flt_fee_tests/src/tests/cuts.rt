@@ -7,12 +7,13 @@ use super::*;
 // The pages of each sector.
 const PAGES: u16 = 14;
 
-// What a block holds, told by its first byte.
+// What a block holds: as many bytes as the job gives it, all of them this one, or something else.
 #[derive(Clone, Copy, Debug, PartialEq, Eq)]
 enum Held {
     Missing,
     Invalid,
     Bytes(u8),
+    Other,
 }
 
 // The job: which block is changed, 9 rather than 8, and to what. It switches the sectors twice.
@@ -43,11 +44,33 @@ fn put<B: Blocks>(driver: &mut B, second: bool, asked: Held) -> Result<(), Block
     }
 }
 
-fn held_by(found: Found, first: u8) -> Held {
+// What a block holds with bytes that are all the same.
+fn held_with(bytes: &[u8]) -> Held {
+    let Some(first) = bytes.first() else {
+        return Held::Other;
+    };
+    for byte in bytes {
+        if byte != first {
+            return Held::Other;
+        }
+    }
+    Held::Bytes(*first)
+}
+
+// What a block holds with so many bytes from the start of these.
+fn held_of(block: u16, length: usize, bytes: &[u8; 128]) -> Held {
+    match (block, length) {
+        (8, 1) => held_with(&bytes[..1]),
+        (9, 40) => held_with(&bytes[..40]),
+        _ => Held::Other,
+    }
+}
+
+fn held_by(block: u16, found: Found, bytes: &[u8; 128]) -> Held {
     match found {
         Found::Missing => Held::Missing,
         Found::Invalid => Held::Invalid,
-        Found::Bytes(_) => Held::Bytes(first),
+        Found::Bytes(length) => held_of(block, length, bytes),
     }
 }
 
@@ -59,25 +82,18 @@ fn read_both<B: Blocks>(driver: &mut B) -> Result<(Held, Held), BlockFault>
 {
     let mut out = [0; 128];
     let first = driver.read(8, &mut out)?;
-    let first = held_by(first, out[0]);
+    let first = held_by(8, first, &out);
     let second = driver.read(9, &mut out)?;
-    Ok((first, held_by(second, out[0])))
+    Ok((first, held_by(9, second, &out)))
 }
 
-// The word of a page, or none.
-fn word_at(flash: &FlashMem, sector: u8, page: u16) -> Option<Word> {
-    if sector > 1 || page >= flash.pages() {
-        return None;
-    }
-    get_word(&unseal(flash.page(sector, page))?)
-}
-
-// The first byte of a page, or 0 where there is no such page.
-fn first_byte(flash: &FlashMem, sector: u8, page: u16) -> u8 {
-    if sector > 1 || page >= flash.pages() {
-        return 0;
-    }
-    flash.page(sector, page)[0]
+// Two pages of plain bytes from one on.
+fn bytes_from(flash: &FlashMem, sector: u8, page: u16) -> [u8; 128] {
+    let mut bytes = [0; 128];
+    bytes[..32].copy_from_slice(&page_of_flash(flash, sector, page));
+    let next = page.saturating_add(1);
+    bytes[32..64].copy_from_slice(&page_of_flash(flash, sector, next));
+    bytes
 }
 
 // The number of a valid sector, by the definition.
@@ -113,7 +129,7 @@ fn held_in(flash: &FlashMem, sector: u8, block: u16) -> Held {
             let gate = next.saturating_add(length.saturating_add(31) / 32);
             if of == block && word_at(flash, sector, gate) == Some(Word::Gate { block, page }) {
                 held = if valid {
-                    Held::Bytes(first_byte(flash, sector, next))
+                    held_of(block, length as usize, &bytes_from(flash, sector, next))
                 } else {
                     Held::Invalid
                 };

@@ -43,6 +43,25 @@ fn an_invalid_block_is_told(rt: HostRuntime) -> Result<(), Fail> {
     Ok(())
 }
 
+// A flash of 64 pages whose block 8 was given one byte so many times, from a blank flash on.
+fn filled(alloc: Global, times: u8) -> Result<FlashMem, Fail> {
+    let flash = FlashMem::blank(alloc, 64, 2)?;
+    let mut fee = two_blocks(alloc, flash, 64)?;
+    fill(&mut fee, times)?;
+    Ok(fee.retire())
+}
+
+#[test]
+fn twenty_records_fill_the_log(rt: HostRuntime) -> Result<(), Fail> {
+    let flash = filled(rt.alloc(), 20)?;
+    let last = Word::Gate { block: 8, page: 59 };
+    assert!(rt; word_at(&flash, 0, 61) == Some(last));
+    assert!(rt; page_of_flash(&flash, 0, 62) == BLANK_PAGE);
+    assert!(rt; page_of_flash(&flash, 0, 63) == BLANK_PAGE);
+    assert!(rt; (flash.wear(0), flash.wear(1)) == (1, 0));
+    Ok(())
+}
+
 #[test]
 fn the_record_after_the_last_page_switches(rt: HostRuntime) -> Result<(), Fail> {
     let flash = FlashMem::blank(rt.alloc(), 64, 2)?;
@@ -131,4 +150,43 @@ fn a_full_log_under_the_last_number_is_spent(rt: HostRuntime) -> Result<(), Fail
     let flash = FlashMem::of(rt.alloc(), spent_image(rt.alloc())?, 2)?;
     let mut fee = two_blocks(rt.alloc(), flash, 64)?;
     overspend(&rt, &mut fee)
+}
+
+// Two sectors of 64 pages: sector 0 is valid, and its log begins with a gate.
+fn damaged_image(alloc: Global) -> Result<Vec<[u8; 32]>, AllocError>
+    ensures { IfOk result (λ image. vec_len image ≡ 128) }
+{
+    let mut image = vec![in alloc; BLANK_PAGE; 128]?;
+    image[0] = page_of(Word::Start {
+        sequence: 1,
+        pages: 64,
+    });
+    image[1] = page_of(Word::Active { sequence: 1 });
+    image[2] = page_of(Word::Gate { block: 8, page: 2 });
+    Ok(image)
+}
+
+// Each call that mounts answers the place of the damage.
+fn meet_damage<B: Blocks>(rt: &impl Abort, driver: &mut B)
+    requires { Contains (B.state driver.old).numbers 8 }
+{
+    let damaged = BlockFault::Damaged { sector: 0, page: 2 };
+    let mut out = [0xee; 128];
+    assert!(rt; driver.mount() == Err(damaged));
+    assert!(rt; driver.write(8, &[1]) == Err(damaged));
+    assert!(rt; driver.invalidate(8) == Err(damaged));
+    assert!(rt; driver.read(8, &mut out) == Err(damaged));
+    assert!(rt; out[..] == [0xee; 128]);
+}
+
+#[test]
+fn a_damaged_log_is_told_and_left(rt: HostRuntime) -> Result<(), Fail> {
+    let flash = FlashMem::of(rt.alloc(), damaged_image(rt.alloc())?, 2)?;
+    let mut fee = two_blocks(rt.alloc(), flash, 64)?;
+    meet_damage(&rt, &mut fee);
+    let flash = fee.retire();
+    assert!(rt; (flash.wear(0), flash.wear(1)) == (0, 0));
+    assert!(rt; word_at(&flash, 0, 2) == Some(Word::Gate { block: 8, page: 2 }));
+    assert!(rt; page_of_flash(&flash, 0, 3) == BLANK_PAGE);
+    Ok(())
 }
