@@ -1,6 +1,8 @@
 // Worked rows of the driver.
-ghost use Rattle.std.specs.Prelude.{◌≡◌, ◌+◌, ◌*◌, OnOk, IfOk, Contains, vec_len};
+ghost use Rattle.std.specs.Prelude.{◌≡◌, ◌+◌, ◌*◌, ◌≤◌, OnOk, IfOk, Contains, vec_len};
+ghost use Rattle.flt_flash.specs.Memory.{state_of as flash_state};
 ghost use Rattle.flt_code.specs.Word.{IsWord};
+ghost use Rattle.flt_fee.specs.Fee.{state_of};
 ghost use Rattle.flt_fee_tests.specs.Few.{HasFive};
 
 use super::*;
@@ -188,5 +190,79 @@ fn a_damaged_log_is_told_and_left(rt: HostRuntime) -> Result<(), Fail> {
     assert!(rt; (flash.wear(0), flash.wear(1)) == (0, 0));
     assert!(rt; word_at(&flash, 0, 2) == Some(Word::Gate { block: 8, page: 2 }));
     assert!(rt; page_of_flash(&flash, 0, 3) == BLANK_PAGE);
+    Ok(())
+}
+
+// Makes the next read of the first page of plain bytes fail.
+fn mute_first_bytes<B: Blocks>(driver: &mut B)
+    ensures { (B.state driver.new).numbers ≡ (B.state driver.old).numbers }
+{
+    if driver.armed() < 64 {
+        driver.arm(Arm::Mute {
+            sector: 0,
+            page: 3,
+            times: 1,
+        });
+    }
+}
+
+// Mounts and reads while the bytes of block 8 can't be read once.
+fn read_muted<B: Blocks>(rt: &impl Abort, driver: &mut B) -> Result<(), Fail>
+    requires { Contains (B.state driver.old).numbers 8 }
+{
+    driver.write(8, &[1])?;
+    mute_first_bytes(driver);
+    driver.mount()?;
+    let mut out = [0xee; 128];
+    assert!(rt; driver.read(8, &mut out) == Err(BlockFault::Flash));
+    assert!(rt; out[..] == [0xee; 128]);
+    assert!(rt; driver.read(8, &mut out)? == Found::Bytes(1));
+    Ok(())
+}
+
+#[test]
+fn a_mount_reads_no_plain_bytes(rt: HostRuntime) -> Result<(), Fail> {
+    let flash = FlashMem::blank(rt.alloc(), 64, 2)?;
+    let mut fee = two_blocks(rt.alloc(), flash, 64)?;
+    read_muted(&rt, &mut fee)
+}
+
+// A driver of the blocks 9 and 8, in this order.
+fn turned_blocks(alloc: Global, flash: FlashMem, used: u16) -> Result<Fee<FlashMem>, Fail>
+    requires least { 4 ≤ used }
+    requires most { used ≤ (flash_state flash).pages }
+    ensures first { IfOk result (λ fee. Contains (state_of flash_state fee).numbers 8) }
+    ensures second { IfOk result (λ fee. Contains (state_of flash_state fee).numbers 9) }
+{
+    match Fee::make(flash, used, vec![in alloc; 9, 8]?) {
+        Ok(fee) => Ok(fee),
+        Err(_) => Err(Fail::from("refused")),
+    }
+}
+
+// Writes block 9, and then block 8 until the log is full and once more.
+fn switch_both<B: Blocks>(driver: &mut B) -> Result<(), BlockFault>
+    requires first { Contains (B.state driver.old).numbers 8 }
+    requires second { Contains (B.state driver.old).numbers 9 }
+{
+    driver.write(9, &[9])?;
+    fill(driver, 20)
+}
+
+#[test]
+fn a_switch_copies_in_ascending_order(rt: HostRuntime) -> Result<(), Fail> {
+    let flash = FlashMem::blank(rt.alloc(), 64, 2)?;
+    let mut fee = turned_blocks(rt.alloc(), flash, 64)?;
+    switch_both(&mut fee)?;
+    let flash = fee.retire();
+    for (block, page) in [(8, 2), (9, 5), (8, 8)] {
+        let head = Word::Head {
+            block,
+            length: 1,
+            valid: true,
+            page,
+        };
+        assert!(rt; word_at(&flash, 1, page) == Some(head));
+    }
     Ok(())
 }
