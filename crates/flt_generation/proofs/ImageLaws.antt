@@ -1,20 +1,22 @@
 -- The laws of stored generations.
-use Rattle.std.proofs.Common.{◌≡◌, ℕ, ◌+◌, ◌-◌, ◌*◌, ◌/◌, ◌<◌, ◌≤◌, refl, sym, ◌∙◌, ap, arith, replicate}
-use Rattle.std.specs.Prelude.{Ok, IsTrue, slice_index}
+use Rattle.std.proofs.Common.{◌≡◌, ℕ, ◌+◌, ◌-◌, ◌*◌, ◌/◌, ◌<◌, ◌≤◌, List, [], ◌∷◌, refl, sym, ◌∙◌, ap, subst, arith, replicate}
+use Rattle.std.specs.Prelude.{Ok, IsTrue, slice_index, sum_by}
 use Rattle.std.proofs.lemmas.Bool.{and_parts, leb-true, ltb-true}
 use Rattle.std.proofs.lemmas.List.{get_or-replicate}
-use Rattle.flt_flash.specs.Content.{Content, bytes}
+use Rattle.flt_flash.specs.Content.{Content, missing, bytes}
 use Rattle.flt_config.specs.declared.config.Config.{Config}
 use Rattle.flt_config.specs.declared.persist.Persist.{Persist}
 use Rattle.flt_generation.specs.declared.commit.Commit.{Commit}
-use Rattle.flt_generation.specs.Layout.{is_used, first_commit, second_commit}
+use Rattle.flt_generation.specs.Layout.{numbers, is_used, first_commit, second_commit}
 use Rattle.flt_generation.specs.Form.{IsMark, mark_of, block_bytes}
-use Rattle.flt_generation.specs.Holding.{parts_read, BlocksHold, either_copy, only_bytes}
-use Rattle.flt_generation.specs.Laws.{IsGiven, MarksAreRead, CommitsAreRead, PartsAreTaken, BlocksDetermineState, HeldStands, SpareStands}
+use Rattle.flt_generation.specs.Excess.{own_pages}
+use Rattle.flt_generation.specs.Holding.{first_generation, parts_read, BlocksHold, Holds, IsSound, either_copy, only_bytes}
+use Rattle.flt_generation.specs.Laws.{IsGiven, MarksAreRead, CommitsAreRead, PartsAreTaken, BlocksDetermineState, HeldStands, SpareStands, BlankIsSound}
 use Rattle.flt_generation.proofs.Marks.{read_mark, mark_read}
 use Rattle.flt_generation.proofs.Commits.{read_commit, commit_read}
 use Rattle.flt_generation.proofs.Exactly.{taken_as, as_taken}
 use Rattle.flt_generation.proofs.Whole.{HasSizes, whole_read}
+use Rattle.flt_generation.proofs.Pages.{sum_more}
 use Rattle.flt_generation.proofs.Bridge.{held_holds, holds_held}
 
 pub marks_are_read : MarksAreRead
@@ -75,3 +77,25 @@ spare_stands c given value g = (
   held_holds c value (only_bytes (value second_commit)) g given.valid.memory.1,
   holds_held c value (only_bytes (value second_commit)) g (sizes_of c given) (own_mark c given),
 )
+
+nothing_beyond : (c : Config) (ns : List ℕ) → sum_by (λ number. 0 - own_pages c number) ns ≡ 0
+nothing_beyond c [] = refl
+nothing_beyond c (n ∷ ns) =
+    let rest = nothing_beyond c ns in
+    let more = sum_more (λ number. 0 - own_pages c number) n ns in
+    omega (arith, rest, more)
+
+pub blank_is_sound : BlankIsSound
+blank_is_sound c given value blank =
+    let values : (λ number. missing) ≡ value = λ i number. sym (blank number) i in
+    let first = first_generation c in
+    subst (λ (content : ℕ → Content). IsSound c content first first) values
+    (record { holds = nothing; spares = nothing; order = omega arith; step = omega arith; same = λ equal. refl })
+  where
+    nothing : Holds c (λ number. missing) missing (first_generation c)
+    nothing = record {
+      mark = refl;
+      names = refl;
+      applications = λ block below. refl;
+      excess = (let none = nothing_beyond c numbers in let room = given.valid.room in omega (arith, none, room));
+    }

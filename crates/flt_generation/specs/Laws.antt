@@ -1,6 +1,6 @@
 -- What the definitions of a stored generation come to.
 use Rattle.std.specs.Prelude.{max, sum_by, ◌≡◌, ◌≢◌, ◌↔◌, ◌⊎◌, ℕ, ◌+◌, ◌≤◌, ◌<◌, ◌^◌, List, length, replicate, slice_index_or, Some, Ok, IsTrue, true}
-use Rattle.flt_flash.specs.Content.{Content}
+use Rattle.flt_flash.specs.Content.{Content, missing}
 use Rattle.flt_flash.specs.Blocks.{pages_of}
 use Rattle.flt_config.specs.declared.config.Config.{Config}
 use Rattle.flt_config.specs.declared.persist.Persist.{Persist}
@@ -17,7 +17,7 @@ use Rattle.flt_generation.specs.Form.{IsMark, IsCommit, IsBytesOfMark, IsBytesOf
 use Rattle.flt_generation.specs.Fit.{part_fits}
 use Rattle.flt_generation.specs.Reading.{mark_in, commit_in, untaken_entry, taken}
 use Rattle.flt_generation.specs.Excess.{own_pages, IsBorne}
-use Rattle.flt_generation.specs.Holding.{Generation, held, spare, IsHeld, IsSpare}
+use Rattle.flt_generation.specs.Holding.{Generation, first_generation, held, spare, IsHeld, IsSpare, IsSound}
 
 -- a valid configuration whose numbers are those of its type
 pub record IsGiven (c : Config) : Type 0 where
@@ -74,3 +74,7 @@ SpareStands = (c : Config) → IsGiven c → (value : ℕ → Content) (g : Gene
 abbrev pub BorneHasRoom : Type 0
 BorneHasRoom = (c : Config) → IsGiven c → (value : ℕ → Content) → IsBorne c value
     → sum_by (λ number. max (pages_of (value number)) (own_pages c number)) numbers + 7 ≤ c.pages
+
+-- an image in which nothing was ever written is sound, and holds the first generation
+abbrev pub BlankIsSound : Type 0
+BlankIsSound = (c : Config) → IsGiven c → (value : ℕ → Content) → ((number : ℕ) → value number ≡ missing) → IsSound c value (first_generation c) (first_generation c)

@@ -1,5 +1,5 @@
 //! What the definitions of a stored generation come to.
-ghost use Rattle.flt_generation.specs.Laws.{MarksAreRead, CommitsAreRead, PartsAreTaken, BlocksDetermineState, HeldStands, SpareStands, BorneHasRoom};
+ghost use Rattle.flt_generation.specs.Laws.{MarksAreRead, CommitsAreRead, PartsAreTaken, BlocksDetermineState, HeldStands, SpareStands, BorneHasRoom, BlankIsSound};
 
 /// Exactly the bytes of a mark are read, and as that mark.
 pub fn marks_are_read()
@@ -31,4 +31,9 @@ pub fn held_is_what_stands()
 /// The records of an image whose excess is borne leave room for one record more, as long as any that the configuration writes.
 pub fn borne_excess_leaves_room()
     ensures { BorneHasRoom }
+{}
+
+/// An image in which nothing was ever written is sound, and holds the first generation.
+pub fn blank_image_is_sound()
+    ensures { BlankIsSound }
 {}

@@ -8,12 +8,14 @@
 #![tactic(auto)]
 
 mod commit;
+mod identifier;
 pub mod laws;
 mod mark;
 mod part;
 mod place;
 
 pub use commit::{Commit, INDICES};
+pub use identifier::{APPLICATIONS, COMMIT_ID, END_PART, FIRST_APPLICATION, FIRST_PART, MARK_ID};
 pub use mark::Mark;
 pub use part::Part;
 pub use place::Place;

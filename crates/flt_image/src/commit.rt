@@ -6,9 +6,9 @@ ghost use Rattle.flt_generation.specs.Layout.{index_in};
 ghost use Rattle.flt_generation.specs.Reading.{commit_from, commit_in, is_index, is_commit};
 ghost use Rattle.flt_generation.specs.Successor.{IsNext, IsNextIndex, number_in};
 
-use crate::layout::{END_ID, FIRST_ID, is_used};
+use crate::layout::is_used;
 use flt_config::ValidConfig;
-use flt_generation::{Commit, INDICES};
+use flt_generation::{Commit, END_PART, FIRST_PART, INDICES};
 
 /// What a commit has for a block that is not used.
 const UNUSED: u8 = 0xFF;
@@ -35,8 +35,8 @@ pub fn next_commit(config: &ValidConfig, current: &Option<Commit>) -> Commit
         Some(commit) => commit.generation + 1,
     };
     let mut index = [UNUSED; INDICES];
-    for id in FIRST_ID..END_ID {
-        index[(id - FIRST_ID) as usize] = next_index(config, current, id);
+    for id in FIRST_PART..END_PART {
+        index[(id - FIRST_PART) as usize] = next_index(config, current, id);
     }
     Commit { generation, index }
 }
@@ -51,7 +51,7 @@ fn next_index(config: &ValidConfig, current: &Option<Commit>, id: u16) -> u8
         return UNUSED;
     }
     match current {
-        Some(commit) if commit.index[(id - FIRST_ID) as usize] == 0 => 1,
+        Some(commit) if commit.index[(id - FIRST_PART) as usize] == 0 => 1,
         _ => 0,
     }
 }
@@ -69,8 +69,8 @@ fn is_index(config: &ValidConfig, id: u16, index: u8) -> bool
 fn has_indices(config: &ValidConfig, commit: &Commit) -> bool
     ensures { result ≡ list_all (λ id. is_index config.now id (index_in commit.now id)) (range_with_len 3 21) }
 {
-    for id in FIRST_ID..END_ID {
-        if !is_index(config, id, commit.index[(id - FIRST_ID) as usize]) {
+    for id in FIRST_PART..END_PART {
+        if !is_index(config, id, commit.index[(id - FIRST_PART) as usize]) {
             return false;
         }
     }

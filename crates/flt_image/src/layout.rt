@@ -4,12 +4,7 @@ ghost use Rattle.flt_generation.specs.Layout.{part_of, has_part, is_used, used_i
 
 use arrayvec::ArrayVec;
 use flt_config::ValidConfig;
-use flt_generation::{INDICES, Part};
-
-/// The identifiers of the blocks of a generation: the first one, and the one past the last.
-pub(crate) const FIRST_ID: u16 = 3;
-
-pub(crate) const END_ID: u16 = 24;
+use flt_generation::{END_PART, FIRST_PART, INDICES, Part};
 
 /// The part of a generation that a block holds.
 pub(crate) fn part_of(id: u16) -> Part
@@ -42,7 +37,7 @@ fn has_part(config: &ValidConfig, part: Part) -> bool
 pub fn is_used(config: &ValidConfig, id: u16) -> bool
     ensures { result ≡ is_used config.now id }
 {
-    FIRST_ID <= id && id < END_ID && has_part(config, part_of(id))
+    FIRST_PART <= id && id < END_PART && has_part(config, part_of(id))
 }
 
 /// The blocks that each generation of this configuration has, in ascending order: the summary (3), a block of states for each
@@ -51,7 +46,7 @@ pub fn used_ids(config: &ValidConfig) -> ArrayVec<u16, INDICES>
     ensures { result.items ≡ used_ids config.now }
 {
     let mut ids = ArrayVec::new();
-    for id in FIRST_ID..END_ID {
+    for id in FIRST_PART..END_PART {
         push_used(config, id, &mut ids);
     }
     ids

@@ -2,13 +2,8 @@
 ghost use Rattle.std.specs.Prelude.{◌≡◌, ◌<◌, ◌≤◌, IfOk};
 ghost use Rattle.flt_generation.specs.Layout.{numbers};
 
-use crate::layout::{END_ID, FIRST_ID};
+use flt_generation::{APPLICATIONS, END_PART, FIRST_APPLICATION, FIRST_PART};
 use std::alloc::{AllocError, Global};
-
-/// How many application blocks the driver has, and the identifier of the first.
-const APPLICATIONS: u16 = 40;
-
-const FIRST_APPLICATION: u16 = 64;
 
 /// The 85 numbers with which a driver of blocks is made, in ascending order: a block's identifier times 8, and its index.
 pub fn fee_numbers(alloc: Global) -> Result<Vec<u16>, AllocError>
@@ -18,7 +13,7 @@ pub fn fee_numbers(alloc: Global) -> Result<Vec<u16>, AllocError>
     for number in [8, 16, 17] {
         made.push(number)?;
     }
-    for id in FIRST_ID..END_ID {
+    for id in FIRST_PART..END_PART {
         made.push(id * 8)?;
         made.push(id * 8 + 1)?;
     }

@@ -15,15 +15,9 @@ ghost use Rattle.flt_store.specs.Started.{IsStarted, next_generation};
 
 use flt_config::{Persist, ValidConfig};
 use flt_flash::{BlockFault, Blocks};
+use flt_generation::{COMMIT_ID, END_PART, FIRST_PART};
 use flt_image::{BlockBytes, Commit, is_used, put_block, put_commit};
 use flt_nvm::Nvm;
-
-/// The identifier of the commit.
-const COMMIT: u16 = 2;
-
-/// The identifier of the first block of a generation, and the one behind the last.
-const FIRST_PART: u16 = 3;
-const END_PART: u16 = 24;
 
 // Writes one used block at the index at which the next commit names it.
 fn write_block<B: Blocks + Drop>(
@@ -113,5 +107,5 @@ pub(crate) fn write_generation<B: Blocks + Drop>(
     ensures table { table_of nvm.new ≡ table_of nvm.old }
 {
     write_blocks(nvm, config, state, next)?;
-    nvm.write(COMMIT, 0, &put_commit(next))
+    nvm.write(COMMIT_ID, 0, &put_commit(next))
 }

@@ -12,11 +12,9 @@ ghost use Rattle.flt_store.specs.Cause.{Writes};
 ghost use Rattle.flt_store.specs.Started.{HasMark, IsMarkTried};
 
 use flt_flash::{BlockFault, Blocks};
+use flt_generation::MARK_ID;
 use flt_image::{Mark, put_mark};
 use flt_nvm::{Got, Nvm};
-
-/// The identifier of the mark.
-const MARK: u16 = 1;
 
 /// Writes the mark of a configuration where it is missing.
 pub(crate) fn write_missing_mark<B: Blocks + Drop>(
@@ -31,8 +29,8 @@ pub(crate) fn write_missing_mark<B: Blocks + Drop>(
     ensures table { table_of nvm.new ≡ table_of nvm.old }
 {
     let mut out = [0; 128];
-    match nvm.read(MARK, 0, &mut out) {
-        Ok(Got::Missing) => nvm.write(MARK, 0, &put_mark(mark)),
+    match nvm.read(MARK_ID, 0, &mut out) {
+        Ok(Got::Missing) => nvm.write(MARK_ID, 0, &put_mark(mark)),
         Ok(Got::Invalid) => Ok(()),
         Ok(Got::Bytes { .. }) => Ok(()),
         Err(fault) => Err(fault),

@@ -12,11 +12,9 @@ ghost use Rattle.flt_store.specs.Started.{HasMark, IsStarted, AgreeButForCommit,
 
 use flt_config::ValidConfig;
 use flt_flash::{BlockFault, Blocks};
+use flt_generation::COMMIT_ID;
 use flt_image::{Commit, get_commit};
 use flt_nvm::{Got, Nvm};
-
-/// The identifier of the commit.
-const COMMIT: u16 = 2;
 
 /// Makes both copies of the commit hold what the first has, or the second where the first has no bytes or can't be read;
 /// answers their commit, or none before the first save.
@@ -34,7 +32,7 @@ pub(crate) fn restart<B: Blocks + Drop>(
     ensures table { table_of nvm.new ≡ table_of nvm.old }
 {
     let mut out = [0; 128];
-    match nvm.read(COMMIT, 0, &mut out) {
+    match nvm.read(COMMIT_ID, 0, &mut out) {
         Ok(Got::Bytes { length, copy }) => match repair_by(nvm, config, copy, &out[..length]) {
             Ok(commit) => Ok(Some(commit)),
             Err(fault) => Err(fault),
@@ -65,7 +63,7 @@ pub(crate) fn repair_by<B: Blocks + Drop>(
     ensures table { table_of nvm.new ≡ table_of nvm.old }
 {
     match get_commit(config, bytes) {
-        Some(commit) => match nvm.repair(COMMIT, copy, bytes) {
+        Some(commit) => match nvm.repair(COMMIT_ID, copy, bytes) {
             Ok(()) => Ok(commit),
             Err(fault) => Err(fault),
         },

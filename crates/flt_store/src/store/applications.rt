@@ -12,10 +12,8 @@ use super::Store;
 use crate::fault::{PutFault, put_fault};
 use arrayvec::ArrayVec;
 use flt_flash::{BlockFault, Blocks, FlashFailed};
+use flt_generation::FIRST_APPLICATION;
 use flt_nvm::{Got, Nvm};
-
-/// The identifier of application block 0.
-const FIRST_APPLICATION: u16 = 64;
 
 /// The most bytes of an application block.
 pub const APPLICATION: usize = 32;
