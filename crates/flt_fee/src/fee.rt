@@ -333,7 +333,7 @@ impl<F: Bench> Blocks for Fee<F> {
 
     ghost mounted_is_sound = { λ driver. driver.mounted.undamaged };
 
-    ghost bytes_are_short = { λ driver block. value_is_short _ _ _ block };
+    ghost bytes_are_short = { λ driver block. value_is_short driver.used driver.numbers.items (F.state driver.flash).image block };
 
     fn mount(&mut self) -> Result<(), BlockFault> {
         self.look()

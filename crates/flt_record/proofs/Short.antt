@@ -1,14 +1,14 @@
 -- What an image gives a block is 128 bytes at most.
-use Rattle.std.proofs.Common.{◌≡◌, ◌+◌, ◌≤◌, ℕ, zero, suc, Bool, true, false, List, [], ◌∷◌, length, Option, Some, None, Result, Ok, Err, refl, sym, ap, subst, take, arith}
+use Rattle.std.proofs.Common.{◌≡◌, ◌+◌, ◌≤◌, ℕ, zero, suc, Bool, true, false, List, length, Option, Some, None, Result, Ok, Err, refl, take, arith}
 use Rattle.std.specs.Prelude.{if◌then◌else◌, ◌==◌, ◌&&◌, slice_range}
 use Rattle.std.specs.List.{flat_map}
 use Rattle.std.proofs.lemmas.List.{length-take}
-use Rattle.flt_flash.specs.Content.{Content, invalid, bytes, IsShort}
+use Rattle.flt_flash.specs.Content.{invalid, bytes, IsShort}
 use Rattle.flt_flash.specs.Blocks.{byte_pages}
 use Rattle.flt_sector.specs.declared.log.Item.{Item}
 use Rattle.flt_sector.specs.declared.log.Item.TheVariants.{End, Torn, Kept}
 use Rattle.flt_sector.specs.Log.{Entry, LogFrom, item_at, log_after, log_from}
-use Rattle.flt_sector.specs.Blocks.{Current, current, bytes_behind, or_earlier, last_complete, content_of, pages_by, log_by, value_by, block_value}
+use Rattle.flt_sector.specs.Blocks.{Current, current, bytes_behind, or_earlier, last_complete, content_of, pages_by, value_by, block_value}
 use Rattle.flt_record.proofs.Finding.{length_most}
 use Rattle.flt_record.proofs.Proper.{proper_item}
 

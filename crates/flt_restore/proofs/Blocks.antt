@@ -1,13 +1,13 @@
 -- One application block more that is judged, and the pages of one record more.
-use Rattle.std.proofs.Common.{◌≡◌, ◌≢◌, ℕ, zero, suc, ◌+◌, ◌-◌, ◌<◌, ◌≤◌, ◌++◌, [], ◌∷◌, Bool, true, false, List, refl, sym, ◌∙◌, ap, subst, arith, inl, inr, below_more}
-use Rattle.std.specs.Prelude.{not, find, sum_by, Option, Some, None, Result, Ok, Err}
+use Rattle.std.proofs.Common.{◌≡◌, ℕ, zero, suc, ◌+◌, ◌-◌, ◌<◌, ◌≤◌, [], ◌∷◌, Bool, true, false, refl, sym, ◌∙◌, ap, subst, arith, inl, inr, below_more}
+use Rattle.std.specs.Prelude.{not, find, sum_by, Some, Result, Ok}
 use Rattle.std.specs.List.{range_with_len}
-use Rattle.std.proofs.lemmas.Bool.{cases_Bool, cases_eq}
+use Rattle.std.proofs.lemmas.Bool.{cases_Bool}
 use Rattle.std.proofs.lemmas.List.Sums.{sum_by-append}
 use Rattle.flt_flash.specs.Content.{Content}
 use Rattle.flt_flash.specs.Blocks.{BlocksState}
 use Rattle.flt_config.specs.declared.config.Config.{Config}
-use Rattle.flt_generation.specs.Layout.{first_part, end_part, parts, first_application, applications, application_number}
+use Rattle.flt_generation.specs.Layout.{first_part, first_application, applications, application_number}
 use Rattle.flt_generation.specs.Holding.{Fault, damaged_at, is_application, application_fault, applications_judged}
 use Rattle.flt_generation.proofs.Choices.{chosen, not_chosen, range_more}
 use Rattle.flt_generation.proofs.Bridge.{fine_applications}

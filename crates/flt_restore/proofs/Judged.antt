@@ -1,6 +1,6 @@
 -- What is answered of an image that was judged by one copy of its commit or the other.
-use Rattle.std.proofs.Common.{◌≡◌, ◌⊎◌, ℕ, ◌+◌, ◌-◌, ◌*◌, ◌/◌, ◌<◌, ◌≤◌, ◌++◌, [], ◌∷◌, List, length, refl, sym, ◌∙◌, ap, subst, arith, inl, inr}
-use Rattle.std.specs.Prelude.{nat_le, sum_by, map, flat_map, Option, Some, None, Result, Ok, Err, IfOk, IfErr, IsTrue, IsFalse}
+use Rattle.std.proofs.Common.{◌≡◌, ◌⊎◌, ℕ, ◌+◌, ◌-◌, ◌<◌, ◌≤◌, ◌++◌, [], ◌∷◌, List, refl, sym, ◌∙◌, ap, subst, arith, inl, inr}
+use Rattle.std.specs.Prelude.{nat_le, map, flat_map, Option, Some, None, Result, Ok, Err, IfOk, IfErr, IsTrue}
 use Rattle.std.specs.List.{range_with_len}
 use Rattle.std.proofs.lemmas.Bool.{le-leb, lt-leb}
 use Rattle.std.proofs.lemmas.List.Sums.{sum_by-append}
@@ -10,7 +10,6 @@ use Rattle.flt_flash.specs.Blocks.{BlocksState, pages_of}
 use Rattle.flt_config.specs.declared.config.Config.{Config}
 use Rattle.flt_config.specs.declared.persist.Persist.{Persist}
 use Rattle.flt_config.specs.Validity.{needed_pages}
-use Rattle.flt_generation.specs.declared.place.Place.TheVariants.{Block}
 use Rattle.flt_generation.specs.Layout.{numbers, number_of, both_indices, application_number, commit_id, first_commit, second_commit}
 use Rattle.flt_generation.specs.Form.{IsBytesOfCommit}
 use Rattle.flt_generation.specs.Excess.{own_pages, excess}
@@ -75,7 +74,7 @@ commit_by_either value content copy None is from read = sym is ∙ read
 commit_by_either value content copy (Some found) is from read = (
   sym is ∙ read.1,
   copy_is value found found.bytes.items refl read.2
-  (subst (λ (n : ℕ). ((n ≡ 1) × (value first_commit ≡ bytes found.bytes.items)) ⊎ ((n ≡ 2) × (value second_commit ≡ bytes found.bytes.items))) (sym read.0) (from found.bytes.items read.1)),
+      (subst (λ (n : ℕ). ((n ≡ 1) × (value first_commit ≡ bytes found.bytes.items)) ⊎ ((n ≡ 2) × (value second_commit ≡ bytes found.bytes.items))) (sym read.0) (from found.bytes.items read.1)),
 )
 
 no_bytes : (content : Content) → content ≡ missing → HasBytes content → ⊥

@@ -10,11 +10,11 @@ use Rattle.flt_generation.specs.declared.commit.Commit.{Commit}
 use Rattle.flt_generation.specs.Layout.{commit_id, mark_number, parts}
 use Rattle.flt_generation.specs.Form.{IsCommit, IsBytesOfCommit}
 use Rattle.flt_generation.specs.Reading.{commit_in}
-use Rattle.flt_generation.specs.Holding.{Generation, first_generation, Fault, damaged_at, ◌>>=◌, marked, parts_read, generation_of, named, applications_judged, excess_judged, held_by}
+use Rattle.flt_generation.specs.Holding.{Generation, Fault, damaged_at, ◌>>=◌, marked, parts_read, generation_of, named, applications_judged, excess_judged, held_by}
 use Rattle.flt_generation.proofs.ImageLaws.{commits_are_read}
 use Rattle.flt_restore.specs.declared.fault.StartFault.{StartFault}
 use Rattle.flt_restore.specs.Judging.{but_excess, Tells}
-use Rattle.flt_restore.proofs.Telling.{tells_first, tells_next, tells_judged, judged_ok}
+use Rattle.flt_restore.proofs.Telling.{tells_first, tells_next}
 
 module _ (c : Config) (value : ℕ → Content) where
   pub named_first : (state : Persist) → state ≡ initial_state c → named c value missing ≡ Ok (record { number = 0; state = state })

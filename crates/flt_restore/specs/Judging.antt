@@ -1,12 +1,10 @@
 -- What each step of a start-up judges, and what it tells.
-use Rattle.std.specs.Prelude.{◌≡◌, ◌⊎◌, ℕ, ◌+◌, ◌-◌, Bool, if◌then◌else◌, List, Option, Some, None, Result, Ok, Err, sum_by}
+use Rattle.std.specs.Prelude.{◌≡◌, ◌⊎◌, ℕ, ◌+◌, ◌-◌, if◌then◌else◌, List, Option, Some, None, Result, Ok, Err, sum_by}
 use Rattle.std.specs.List.{range_with_len}
-use Rattle.flt_flash.specs.Content.{Content, missing, invalid, bytes}
+use Rattle.flt_flash.specs.Content.{Content, missing, bytes}
 use Rattle.flt_flash.specs.State.{HasRisenBy}
 use Rattle.flt_flash.specs.Blocks.{BlocksState, pages_of}
 use Rattle.flt_config.specs.declared.config.Config.{Config}
-use Rattle.flt_config.specs.Validity.{needed_pages}
-use Rattle.flt_generation.specs.declared.place.Place.TheVariants.{Block}
 use Rattle.flt_generation.specs.Layout.{mark_number, number_of, first_part, first_application, application_number}
 use Rattle.flt_generation.specs.Form.{mark_of, IsBytesOfCommit}
 use Rattle.flt_generation.specs.Excess.{own_pages}

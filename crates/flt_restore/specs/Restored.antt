@@ -5,7 +5,6 @@ use Rattle.flt_flash.specs.State.{HasRisenBy}
 use Rattle.flt_flash.specs.Blocks.{BlocksState}
 use Rattle.flt_config.specs.declared.config.Config.{Config}
 use Rattle.flt_config.specs.declared.persist.Persist.{Persist}
-use Rattle.flt_generation.specs.declared.place.Place.{Place}
 use Rattle.flt_generation.specs.Layout.{commit_id, number_of, first_commit, second_commit}
 use Rattle.flt_generation.specs.Form.{mark_of, IsBytesOfCommit}
 use Rattle.flt_generation.specs.Holding.{Generation, Fault, damaged, other, held, spare, either_copy, only_bytes}

@@ -18,7 +18,11 @@ use flt_nvm::Nvm;
 const APPLICATIONS: u16 = 40;
 
 // Judges one application block, and tells the pages that its record takes beyond the configuration's own.
-fn read_application<B: Blocks + Drop>(nvm: &mut Nvm<B>, config: &ValidConfig, block: u16) -> Result<u32, StartFault>
+fn read_application<B: Blocks + Drop>(
+    nvm: &mut Nvm<B>,
+    config: &ValidConfig,
+    block: u16,
+) -> Result<u32, StartFault>
     requires table { table_of nvm.old ≡ block_table }
     requires mounted { IsTrue (driver_of nvm.old).has_mounted }
     requires within { block < 40 }
@@ -40,7 +44,10 @@ fn read_application<B: Blocks + Drop>(nvm: &mut Nvm<B>, config: &ValidConfig, bl
 
 /// Judges the application blocks up to the first that is at fault, and tells the pages that their records take beyond the
 /// configuration's own.
-pub(crate) fn read_applications<B: Blocks + Drop>(nvm: &mut Nvm<B>, config: &ValidConfig) -> Result<u32, StartFault>
+pub(crate) fn read_applications<B: Blocks + Drop>(
+    nvm: &mut Nvm<B>,
+    config: &ValidConfig,
+) -> Result<u32, StartFault>
     requires table { table_of nvm.old ≡ block_table }
     requires mounted { IsTrue (driver_of nvm.old).has_mounted }
     ensures told { OnOk result (applications_judged (driver_of nvm.old).value ≡ Ok tt) }

@@ -23,7 +23,12 @@ use flt_flash::{Blocks, FlashFailed};
 use flt_nvm::Nvm;
 
 // The pages that the record of one index takes beyond the configuration's own.
-fn read_index<B: Blocks + Drop>(nvm: &mut Nvm<B>, config: &ValidConfig, id: u16, index: u8) -> Result<u32, FlashFailed>
+fn read_index<B: Blocks + Drop>(
+    nvm: &mut Nvm<B>,
+    config: &ValidConfig,
+    id: u16,
+    index: u8,
+) -> Result<u32, FlashFailed>
     requires table { table_of nvm.old ≡ block_table }
     requires mounted { IsTrue (driver_of nvm.old).has_mounted }
     requires first { 3 ≤ id }
@@ -39,7 +44,11 @@ fn read_index<B: Blocks + Drop>(nvm: &mut Nvm<B>, config: &ValidConfig, id: u16,
     Ok(pages_beyond(config, id * 8 + index as u16, &held))
 }
 
-fn read_indices<B: Blocks + Drop>(nvm: &mut Nvm<B>, config: &ValidConfig, id: u16) -> Result<u32, FlashFailed>
+fn read_indices<B: Blocks + Drop>(
+    nvm: &mut Nvm<B>,
+    config: &ValidConfig,
+    id: u16,
+) -> Result<u32, FlashFailed>
     requires table { table_of nvm.old ≡ block_table }
     requires mounted { IsTrue (driver_of nvm.old).has_mounted }
     requires first { 3 ≤ id }
@@ -56,7 +65,10 @@ fn read_indices<B: Blocks + Drop>(nvm: &mut Nvm<B>, config: &ValidConfig, id: u1
 }
 
 /// The pages that the records of all parts take beyond the configuration's own, whether it uses the part or not.
-pub(crate) fn read_pages_of_parts<B: Blocks + Drop>(nvm: &mut Nvm<B>, config: &ValidConfig) -> Result<u32, FlashFailed>
+pub(crate) fn read_pages_of_parts<B: Blocks + Drop>(
+    nvm: &mut Nvm<B>,
+    config: &ValidConfig,
+) -> Result<u32, FlashFailed>
     requires table { table_of nvm.old ≡ block_table }
     requires mounted { IsTrue (driver_of nvm.old).has_mounted }
     ensures pages { IfOk result (λ pages. pages ≡ beyond_of_parts config.now (driver_of nvm.old).value parts) }

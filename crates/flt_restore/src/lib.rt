@@ -20,3 +20,6 @@ mod restoring;
 pub use commit::CommitCopy;
 pub use fault::StartFault;
 pub use restoring::restore;
+
+#[cfg(test)]
+mod tests;

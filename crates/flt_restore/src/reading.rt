@@ -14,7 +14,11 @@ use flt_nvm::Nvm;
 pub(crate) const COMMIT_ID: u16 = 2;
 
 /// Reads a block of one copy, or an index of a part.
-pub(crate) fn read_content<B: Blocks + Drop>(nvm: &mut Nvm<B>, id: u16, index: u8) -> Result<Held, FlashFailed>
+pub(crate) fn read_content<B: Blocks + Drop>(
+    nvm: &mut Nvm<B>,
+    id: u16,
+    index: u8,
+) -> Result<Held, FlashFailed>
     requires table { table_of nvm.old ≡ block_table }
     requires mounted { IsTrue (driver_of nvm.old).has_mounted }
     requires single { IsSingle id index }
@@ -32,7 +36,10 @@ pub(crate) fn read_content<B: Blocks + Drop>(nvm: &mut Nvm<B>, id: u16, index: u
 }
 
 /// Reads copy 1 or copy 2 of the commit.
-pub(crate) fn read_commit_copy<B: Blocks + Drop>(nvm: &mut Nvm<B>, copy: u8) -> Result<Held, FlashFailed>
+pub(crate) fn read_commit_copy<B: Blocks + Drop>(
+    nvm: &mut Nvm<B>,
+    copy: u8,
+) -> Result<Held, FlashFailed>
     requires table { table_of nvm.old ≡ block_table }
     requires mounted { IsTrue (driver_of nvm.old).has_mounted }
     requires least { 1 ≤ copy }

@@ -55,7 +55,8 @@ fn restore_by_either<B: Blocks + Drop>(
     ensures table { table_of nvm.new ≡ table_of nvm.old }
 {
     let second = read_commit_copy(nvm, 2)?;
-    let copies = pages_beyond(config, FIRST_COMMIT, &first) + pages_beyond(config, SECOND_COMMIT, &second);
+    let copies = pages_beyond(config, FIRST_COMMIT, &first)
+        + pages_beyond(config, SECOND_COMMIT, &second);
     let pages = pages_beyond(config, MARK, mark) + copies;
     let read = read_image(nvm, config, mark, either_copy(first, second), out)?;
     judge_excess(config, pages + read.pages)?;

@@ -1,5 +1,5 @@
-use Rattle.std.proofs.Common.{◌≡◌, Ok, sym, ◌∙◌, ap, subst}
-use Rattle.flt_flash.specs.Content.{Content, missing, invalid}
+use Rattle.std.proofs.Common.{◌≡◌, sym, ◌∙◌, ap, subst}
+use Rattle.flt_flash.specs.Content.{missing, invalid}
 use Rattle.flt_nvm.specs.Driver.{driver_of}
 use Rattle.flt_generation.specs.Holding.{named}
 use Rattle.flt_restore.specs.declared.fault.StartFault.{StartFault}

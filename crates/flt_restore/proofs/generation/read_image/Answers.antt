@@ -1,12 +1,9 @@
 use Rattle.std.proofs.Common.{◌≡◌, ℕ, Ok, sym, ◌∙◌, ap, subst}
-use Rattle.std.specs.Prelude.{Result}
 use Rattle.flt_flash.specs.Content.{Content}
 use Rattle.flt_nvm.specs.Driver.{driver_of}
-use Rattle.flt_generation.specs.Holding.{Fault, marked, named, applications_judged}
-use Rattle.flt_restore.specs.declared.fault.StartFault.{StartFault}
+use Rattle.flt_generation.specs.Holding.{marked, applications_judged}
 use Rattle.flt_restore.specs.Found.{content_of}
 use Rattle.flt_restore.specs.Judging.{Tells, as_told, but_excess}
-use Rattle.flt_restore.specs.Restored.{generation}
 use Rattle.flt_restore.proofs.Telling.{handed_on, same_values, tells_judged, tells_from, judged_ok}
 use Rattle.flt_restore.proofs.Naming.{mark_refused, named_refused, applications_refused, all_told}
 use Rattle.flt_restore.proofs.generation.read_image.Goals as goal

@@ -1,4 +1,4 @@
-use Rattle.std.proofs.Common.{◌≡◌, List, ℕ, Some, None, refl, sym, ◌∙◌, ap, subst}
+use Rattle.std.proofs.Common.{◌≡◌, Some, None, refl, sym, ◌∙◌, ap, subst}
 use Rattle.flt_flash.specs.Content.{bytes}
 use Rattle.flt_nvm.specs.Driver.{driver_of}
 use Rattle.flt_generation.specs.Reading.{commit_in}

@@ -1,4 +1,4 @@
-use Rattle.std.proofs.Common.{◌≡◌, ◌-◌, length, Ok, IsTrue}
+use Rattle.std.proofs.Common.{◌≡◌, ◌-◌, length, Ok}
 use Rattle.flt_nvm.specs.Driver.{driver_of, table_of}
 use Rattle.flt_generation.specs.Holding.{parts_read}
 use Rattle.flt_restore.specs.Found.{Reads}

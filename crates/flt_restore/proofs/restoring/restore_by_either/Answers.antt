@@ -1,9 +1,8 @@
-use Rattle.std.proofs.Common.{◌≡◌, ◌+◌, Ok, Err, sym, ◌∙◌, ap, subst, inl, arith}
+use Rattle.std.proofs.Common.{◌≡◌, ◌+◌, sym, ◌∙◌, ap, subst, inl}
 use Rattle.flt_flash.specs.Content.{Content}
 use Rattle.flt_nvm.specs.Driver.{driver_of}
 use Rattle.flt_generation.specs.Excess.{excess}
 use Rattle.flt_generation.specs.Holding.{either_copy, excess_judged}
-use Rattle.flt_restore.specs.declared.fault.StartFault.{StartFault}
 use Rattle.flt_restore.specs.Found.{content_of}
 use Rattle.flt_restore.specs.Judging.{IsOfCopy}
 use Rattle.flt_restore.specs.Restored.{Refuses}
@@ -78,8 +77,8 @@ returns-clause-restored g c =
     (subst (λ (first : Content). IsOfCopy first (content_of c.in_ok-second.second) content c.either_copy.result.copy) c.requires.first c.either_copy.ensures.copy) in
     record {
       restored = inl (
-            holds_by config before middle after reads content (either_copy (before.value 16) (before.value 17)) is _ c.in_ok-read.ensures.told borne,
-            commit_by_either before.value content c.either_copy.result.copy c.in_ok-read.read.commit is from c.in_ok-read.ensures.source,
-          );
+        holds_by config before middle after reads content (either_copy (before.value 16) (before.value 17)) is _ c.in_ok-read.ensures.told borne,
+        commit_by_either before.value content c.either_copy.result.copy c.in_ok-read.read.commit is from c.in_ok-read.ensures.source,
+      );
       usable = c.in_ok-check_sequence.ensures.left;
     }

@@ -1,14 +1,12 @@
-use Rattle.std.proofs.Common.{◌≡◌, ◌+◌, ◌≤◌, ◌<◌, Ok, Err, sym, ◌∙◌, ap, subst, inl, inr, arith}
+use Rattle.std.proofs.Common.{◌≡◌, sym, ◌∙◌, ap, subst, inl, inr, arith}
 use Rattle.flt_flash.specs.Content.{IsShort}
-use Rattle.flt_flash.specs.State.{HasRisenBy}
 use Rattle.flt_nvm.specs.Driver.{driver_of}
-use Rattle.flt_generation.specs.Excess.{excess}
-use Rattle.flt_generation.specs.Holding.{only_bytes, excess_judged}
+use Rattle.flt_generation.specs.Holding.{only_bytes}
 use Rattle.flt_generation.specs.declared.place.Place.TheVariants.{Block}
 use Rattle.flt_restore.specs.declared.fault.StartFault.TheVariants.{Damaged}
-use Rattle.flt_restore.specs.Found.{content_of, Reads}
+use Rattle.flt_restore.specs.Found.{content_of}
 use Rattle.flt_restore.specs.Restored.{HasBytes, Refuses}
-use Rattle.flt_restore.proofs.Telling.{handed_on, tells_judged, judged_ok, more_reads, stays_risen}
+use Rattle.flt_restore.proofs.Telling.{handed_on, more_reads, stays_risen}
 use Rattle.flt_restore.proofs.Judged.{refused_spare, spent_spare, only_itself, commit_by_second, steps_tell, excess_tells, holds_by, pages_unread, first_copy_beyond, excess_borne, excess_over}
 use Rattle.flt_restore.proofs.restoring.restore_by_second.Goals as goal
 

@@ -1,0 +1,105 @@
+// Start-up over the driver in memory.
+ghost use Rattle.std.specs.Prelude.{◌≡◌};
+ghost use Rattle.std.specs.List.{range_with_len};
+ghost use Rattle.flt_stub.specs.Memory.{state_of};
+
+use crate::{CommitCopy, StartFault, restore};
+use arrayvec::ArrayVec;
+use flt_config::{Config, Persist, ValidConfig, check, initial};
+use flt_flash::Blocks;
+use flt_generation::Place;
+use flt_image::block_table;
+use flt_nvm::Nvm;
+use flt_stub::BlocksMem;
+use std::alloc::Global;
+use std::process::Abort;
+use std::test::Fail;
+
+const MARK: [u8; 8] = [1, 1, 2, 0, 0, 1, 0, 0];
+
+/// Generation 7: the summary at index 0, the only entry at index 1.
+const COMMIT: [u8; 26] = [
+    1, 0, 0, 0, 7, 0, 0xFF, 0xFF, 0xFF, 0xFF, 1, 0xFF, 0xFF, 0xFF, 0xFF, 0xFF, 0xFF, 0xFF, 0xFF,
+    0xFF, 0xFF, 0xFF, 0xFF, 0xFF, 0xFF, 0xFF,
+];
+
+/// No entry, and an overflow.
+const SUMMARY: [u8; 32] = [
+    1, 1, 0, 0, 0xFF, 0xFF, 0xFF, 0xFF, 0xFF, 0xFF, 0xFF, 0xFF, 0, 0, 0, 0, 0, 0, 0, 0, 0, 0, 0, 0,
+    0, 0, 0, 0, 0, 0, 0, 0,
+];
+
+const NO_ENTRY: [u8; 68] = [
+    0xFF, 0xFF, 0, 0, 0, 0, 0, 0, 0, 0, 0, 0, 0, 0, 0, 0, 0, 0, 0, 0, 0, 0, 0, 0, 0, 0, 0, 0, 0, 0,
+    0, 0, 0, 0, 0, 0, 0, 0, 0, 0, 0, 0, 0, 0, 0, 0, 0, 0, 0, 0, 0, 0, 0, 0, 0, 0, 0, 0, 0, 0, 0, 0,
+    0, 0, 0, 0, 0, 0,
+];
+
+// No event, one entry, one application block.
+fn config() -> Config {
+    Config {
+        id: 0x0102,
+        memory: 1,
+        pages: 64,
+        blocks: 1,
+        events: ArrayVec::new(),
+    }
+}
+
+fn restored(
+    alloc: Global,
+    driver: BlocksMem,
+    config: &ValidConfig,
+    out: &mut Persist,
+) -> Result<Result<Option<CommitCopy>, StartFault>, Fail>
+    requires { (state_of driver).numbers ≡ range_with_len 0 832 }
+{
+    let mut nvm = Nvm::make(driver, block_table(alloc)?);
+    nvm.start()?;
+    Ok(restore(&mut nvm, config, out))
+}
+
+#[test]
+fn a_blank_image_holds_the_first_generation(rt: HostRuntime) -> Result<(), Fail> {
+    let config = check(config())?;
+    let mut out = initial(&config);
+    let driver = BlocksMem::blank(rt.alloc(), 832, 0)?;
+    match restored(rt.alloc(), driver, &config, &mut out)? {
+        Ok(None) => assert!(&rt; out == initial(&config)),
+        _ => panic!(&rt; "not blank"),
+    }
+    Ok(())
+}
+
+#[test]
+fn an_image_is_restored_by_its_second_copy(rt: HostRuntime) -> Result<(), Fail> {
+    let config = check(config())?;
+    let mut out = initial(&config);
+    let mut driver = BlocksMem::blank(rt.alloc(), 832, 0)?;
+    driver.write(8, &MARK)?;
+    driver.write(17, &COMMIT)?;
+    driver.write(24, &SUMMARY)?;
+    driver.write(65, &NO_ENTRY)?;
+    match restored(rt.alloc(), driver, &config, &mut out)? {
+        Ok(Some(found)) => {
+            assert!(&rt; (found.commit.generation, found.copy) == (7, 2));
+            assert!(&rt; &found.bytes[..] == &COMMIT[..]);
+            assert!(&rt; out.overflow && out.entries.is_empty());
+        }
+        _ => panic!(&rt; "not restored"),
+    }
+    Ok(())
+}
+
+#[test]
+fn a_long_application_block_is_damage(rt: HostRuntime) -> Result<(), Fail> {
+    let config = check(config())?;
+    let mut out = initial(&config);
+    let mut driver = BlocksMem::blank(rt.alloc(), 832, 0)?;
+    driver.write(520, &[0; 33])?;
+    match restored(rt.alloc(), driver, &config, &mut out)? {
+        Err(fault) => assert!(&rt; fault == StartFault::Damaged(Place::Block { id: 65 })),
+        Ok(_) => panic!(&rt; "restored"),
+    }
+    Ok(())
+}
