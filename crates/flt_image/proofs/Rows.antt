@@ -1,7 +1,10 @@
 -- Rows of the table of blocks.
-use Rattle.std.proofs.Common.{◌≡◌, ℕ, ◌+◌, ◌++◌, [], ◌∷◌, List, true, refl, sym, ◌∙◌, ap}
+use Rattle.std.proofs.Common.{◌≡◌, ◌≢◌, ℕ, ◌+◌, ◌++◌, [], ◌∷◌, List, true, refl, sym, ◌∙◌, ap}
 use Rattle.std.specs.Prelude.{map}
-use Rattle.std.specs.List.{range_with_len}
+use Rattle.std.specs.List.{range_with_len, AllPairs}
+use Rattle.std.specs.Cmp.{nat_eq_equiv}
+use Rattle.std.proofs.lemmas.Bool.Decides.{Decides-eqb}
+use Rattle.std.proofs.lemmas.Map.Made.{AllPairs-from_IsDistinct, IsDistinct-from_count}
 use Rattle.std.proofs.lemmas.List.{append-nil, append_assoc}
 use Rattle.std.proofs.lemmas.List.FromFn.{map-range_with_len_more}
 use Rattle.flt_nvm.specs.declared.table.Kind.{Kind}
@@ -27,3 +30,8 @@ rows_more before made kind length first count is =
 pub table_serves : serves numbers block_table ≡ true
 unfolding numbers block_table rows
 table_serves = refl
+
+-- the numbers are distinct
+pub numbers_differ : AllPairs (λ (first second : ℕ). first ≢ second) numbers
+unfolding numbers
+numbers_differ = AllPairs-from_IsDistinct Decides-eqb numbers (IsDistinct-from_count nat_eq_equiv numbers refl)
