@@ -9,13 +9,12 @@ ghost use Rattle.flt_restore.specs.Judging.{application_judged, beyond, beyond_o
 
 use crate::fault::StartFault;
 use crate::judging::{damaged, is_application};
-use crate::pages::{FIRST_APPLICATION, pages_beyond};
+use crate::pages::pages_beyond;
 use crate::reading::read_content;
 use flt_config::ValidConfig;
 use flt_flash::Blocks;
+use flt_generation::{APPLICATIONS, FIRST_APPLICATION};
 use flt_nvm::Nvm;
-
-const APPLICATIONS: u16 = 40;
 
 // Judges one application block, and tells the pages that its record takes beyond the configuration's own.
 fn read_application<B: Blocks + Drop>(

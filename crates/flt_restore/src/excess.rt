@@ -16,10 +16,10 @@ ghost use Rattle.flt_restore.specs.Judging.{as_told, beyond, beyond_of_part, bey
 use crate::fault::StartFault;
 use crate::judging::damaged;
 use crate::pages::pages_beyond;
-use crate::parts::{END_PART, FIRST_PART};
 use crate::reading::read_content;
 use flt_config::{ValidConfig, needed_pages};
 use flt_flash::{Blocks, FlashFailed};
+use flt_generation::{END_PART, FIRST_PART};
 use flt_nvm::Nvm;
 
 // The pages that the record of one index takes beyond the configuration's own.

@@ -16,9 +16,9 @@ use crate::excess::read_pages_of_parts;
 use crate::fault::StartFault;
 use crate::judging::{Source, damaged, judge_mark};
 use crate::parts::read_parts;
-use crate::reading::COMMIT_ID;
 use flt_config::{Persist, ValidConfig, initial};
 use flt_flash::Blocks;
+use flt_generation::COMMIT_ID;
 use flt_image::{BlockBytes, get_commit};
 use flt_nvm::Nvm;
 

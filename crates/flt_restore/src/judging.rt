@@ -7,11 +7,8 @@ ghost use Rattle.flt_restore.specs.Judging.{as_told, IsOfCopy};
 use crate::content::Held;
 use crate::fault::StartFault;
 use flt_config::ValidConfig;
-use flt_generation::{Mark, Place};
+use flt_generation::{MARK_ID, Mark, Place};
 use flt_image::{get_mark, mark_of};
-
-/// The block that names the configuration.
-pub(crate) const MARK_ID: u16 = 1;
 
 /// The fault of a block.
 pub(crate) fn damaged(id: u16) -> StartFault

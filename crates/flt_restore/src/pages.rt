@@ -8,6 +8,7 @@ ghost use Rattle.flt_restore.specs.Found.{content_of};
 
 use crate::content::{Held, pages_of, record_pages};
 use flt_config::ValidConfig;
+use flt_generation::FIRST_APPLICATION;
 use flt_image::is_used;
 
 /// The number of the mark, and those of the copies of the commit.
@@ -16,9 +17,6 @@ pub(crate) const MARK: u16 = 8;
 pub(crate) const FIRST_COMMIT: u16 = 16;
 
 pub(crate) const SECOND_COMMIT: u16 = 17;
-
-/// The identifier of the first application block.
-pub(crate) const FIRST_APPLICATION: u16 = 64;
 
 // The bytes of a part: the summary, the states of sixteen events, or an entry.
 fn part_length(id: u16) -> usize

@@ -14,14 +14,9 @@ use crate::judging::damaged;
 use crate::reading::read_content;
 use flt_config::{Persist, ValidConfig, initial};
 use flt_flash::Blocks;
-use flt_generation::Commit;
+use flt_generation::{Commit, END_PART, FIRST_PART};
 use flt_image::{get_block, is_used};
 use flt_nvm::Nvm;
-
-/// The identifiers of the parts: the first one, and the one past the last.
-pub(crate) const FIRST_PART: u16 = 3;
-
-pub(crate) const END_PART: u16 = 24;
 
 // Takes one part where it is used, beside those that were taken before.
 fn read_part<B: Blocks + Drop>(

@@ -8,10 +8,8 @@ ghost use Rattle.flt_restore.specs.Found.{content_of, IsSingle, Reads};
 
 use crate::content::{Held, held_in};
 use flt_flash::{Blocks, FlashFailed};
+use flt_generation::COMMIT_ID;
 use flt_nvm::Nvm;
-
-/// The redundant block that names a generation.
-pub(crate) const COMMIT_ID: u16 = 2;
 
 /// Reads a block of one copy, or an index of a part.
 pub(crate) fn read_content<B: Blocks + Drop>(

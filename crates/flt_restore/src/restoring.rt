@@ -16,11 +16,12 @@ use crate::content::Held;
 use crate::excess::{judge_excess, judge_excess_unread};
 use crate::fault::StartFault;
 use crate::generation::read_image;
-use crate::judging::{MARK_ID, Source, either_copy};
+use crate::judging::{Source, either_copy};
 use crate::pages::{FIRST_COMMIT, MARK, SECOND_COMMIT, pages_beyond};
 use crate::reading::{read_commit_copy, read_content};
 use flt_config::{Persist, ValidConfig};
 use flt_flash::{Blocks, FlashFailed};
+use flt_generation::MARK_ID;
 use flt_nvm::Nvm;
 
 // A sequence number has to be left for the records to come.
