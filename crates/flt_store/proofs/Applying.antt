@@ -1,12 +1,11 @@
 -- One application block was written, or read.
-use Rattle.std.proofs.Common.{◌≡◌, ◌≢◌, ◌⊎◌, inl, inr, ⊎_elim, ℕ, ◌+◌, ◌*◌, ◌/◌, ◌<◌, ◌≤◌, ◌++◌, Bool, true, false, List, [], length, take, drop, Option, Some, None, Result, Ok, Err, refl, sym, ◌∙◌, ap, subst, arith}
+use Rattle.std.proofs.Common.{◌≡◌, ◌≢◌, ◌⊎◌, inl, inr, ⊎_elim, ℕ, ◌+◌, ◌/◌, ◌<◌, ◌≤◌, true, false, List, [], length, take, drop, Option, refl, sym, ◌∙◌, ap, subst, arith}
 use Rattle.std.proofs.Math.Seq.{take-append_seam}
-use Rattle.std.specs.Prelude.{IsTrue, nat_lt, nat_le, if◌then◌else◌}
+use Rattle.std.specs.Prelude.{IsTrue, nat_lt}
 use Rattle.std.proofs.lemmas.Bool.{cases_eq, le-leb, leb-true, lt-ltb}
 use Rattle.flt_flash.specs.Content.{Content, missing, invalid, bytes}
 use Rattle.flt_flash.specs.Blocks.{pages_of, record_pages}
 use Rattle.flt_config.specs.declared.config.Config.{Config}
-use Rattle.flt_nvm.specs.declared.got.Got.{Got}
 use Rattle.flt_nvm.specs.declared.got.Got.TheVariants.{Bytes, Missing, Invalid}
 use Rattle.flt_nvm.specs.Leaves.{GotOf}
 use Rattle.flt_generation.specs.declared.commit.Commit.{Commit}
@@ -17,7 +16,7 @@ use Rattle.flt_generation.specs.Successor.{IsContentOf}
 use Rattle.flt_generation.proofs.Pages.{applications_of}
 use Rattle.flt_generation.proofs.Choices.{chosen}
 use Rattle.flt_store.specs.Cause.{IsWithinOwn}
-use Rattle.flt_store.specs.Started.{HasMark, NamesOf, IsStarted}
+use Rattle.flt_store.specs.Started.{HasMark, IsStarted}
 use Rattle.flt_store.specs.Store.{Gets}
 use Rattle.flt_store.proofs.TableUse.{used_range}
 use Rattle.flt_store.proofs.Causes.{borne_stays}
@@ -53,7 +52,7 @@ module _ (c : Config) (block : ℕ) (own : block < c.blocks) (within : block < a
         (⊎_elim
         (λ kept. inl kept)
         (λ is. (let pages : pages_of (after (application_number block)) ≡ record_pages (length raw) = ap pages_of is in
-          let most : (length raw + 31) / 32 ≤ 1 = omega (arith, short) in inr (omega (arith, pages, own_three, most))))
+        let most : (length raw + 31) / 32 ≤ 1 = omega (arith, short) in inr (omega (arith, pages, own_three, most))))
         either)
     | inr apart ↦ inl (others other apart)
   ]

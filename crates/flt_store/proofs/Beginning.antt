@@ -1,6 +1,6 @@
 -- What a start-up makes of the generation that it judged.
-use Rattle.std.proofs.Common.{◌≡◌, ◌≢◌, ◌⊎◌, inl, inr, ⊎_elim, ℕ, ◌+◌, ◌-◌, ◌<◌, ◌≤◌, Bool, true, false, List, Option, Some, None, Result, Ok, Err, refl, sym, ◌∙◌, ap, subst, arith}
-use Rattle.std.specs.Prelude.{IsTrue, IsFalse}
+use Rattle.std.proofs.Common.{◌≡◌, ◌≢◌, inl, inr, ⊎_elim, ℕ, ◌-◌, Bool, true, false, Option, Some, None, Result, Ok, refl, sym, ◌∙◌, ap, subst, arith}
+use Rattle.std.specs.Prelude.{IsFalse}
 use Rattle.std.proofs.lemmas.Bool.{cases_eq}
 use Rattle.flt_flash.specs.Content.{Content, missing, invalid, bytes}
 use Rattle.flt_flash.specs.State.{HasRisenBy}
@@ -8,14 +8,12 @@ use Rattle.flt_flash.specs.Blocks.{BlocksState}
 use Rattle.flt_flash.specs.Calls.{Follows, SameValues}
 use Rattle.flt_config.specs.declared.config.Config.{Config}
 use Rattle.flt_config.specs.declared.persist.Persist.{Persist}
-use Rattle.flt_generation.specs.declared.commit.Commit.{Commit}
 use Rattle.flt_generation.specs.Layout.{commit_id, number_of, mark_number, first_commit, second_commit}
-use Rattle.flt_generation.specs.Excess.{IsBorne}
 use Rattle.flt_generation.specs.Laws.{IsGiven}
 use Rattle.flt_generation.specs.Holding.{Generation, Fault, Holds, IsSound, OldOrNew, either_copy, only_bytes, held, spare}
 use Rattle.flt_generation.proofs.ImageLaws.{held_stands, spare_stands}
 use Rattle.flt_restore.specs.declared.commit.CommitCopy.{CommitCopy}
-use Rattle.flt_restore.specs.Restored.{HasBytes, IsJudged, IsCopy, IsCommitOf, IsRestored, generation}
+use Rattle.flt_restore.specs.Restored.{HasBytes, IsJudged, IsCopy, IsRestored, generation}
 use Rattle.flt_store.specs.Started.{HasMark, IsStarted, IsMarkTried}
 use Rattle.flt_store.specs.Start.{Begins, IsFoundIn}
 use Rattle.flt_store.proofs.Repairing.{both_old}
@@ -74,9 +72,11 @@ copy_at value found is = elim (cases_eq found.copy 1) [
 begins_at : (c : Config) → IsGiven c → (before after : BlocksState) (found : Option CommitCopy) (state : Persist) → IsRestored c before after found state → Begins c before.value found (generation found state)
 begins_at c given before after None state = ⊎_elim
     (λ by_either.
-      let is = (held_stands c given before.value (generation None state)).0 by_either.0 in
-      (subst (λ (content : Content). Holds c before.value content (generation None state)) by_either.1 is,
-        first_missing (before.value first_commit) (before.value second_commit) by_either.1, second_missing (before.value first_commit) (before.value second_commit) by_either.1))
+    let is = (held_stands c given before.value (generation None state)).0 by_either.0 in (
+      subst (λ (content : Content). Holds c before.value content (generation None state)) by_either.1 is,
+      first_missing (before.value first_commit) (before.value second_commit) by_either.1,
+      second_missing (before.value first_commit) (before.value second_commit) by_either.1,
+    ))
     (λ by_second. absurd (no_bytes (before.value second_commit) by_second.1 by_second.2))
   where
     no_bytes : (content : Content) → only_bytes content ≡ missing → HasBytes content → ⊥
@@ -85,11 +85,11 @@ begins_at c given before after None state = ⊎_elim
     no_bytes (bytes raw) is has = cc is
 begins_at c given before after (Some found) state = ⊎_elim
     (λ by_either.
-      let is = (held_stands c given before.value (generation (Some found) state)).0 by_either.0 in
-      (subst (λ (content : Content). Holds c before.value content (generation (Some found) state)) by_either.1.0 is, by_either.1.1))
+    let is = (held_stands c given before.value (generation (Some found) state)).0 by_either.0 in
+    (subst (λ (content : Content). Holds c before.value content (generation (Some found) state)) by_either.1.0 is, by_either.1.1))
     (λ by_second.
-      let is = (spare_stands c given before.value (generation (Some found) state)).0 by_second.0 in
-      (subst (λ (content : Content). Holds c before.value content (generation (Some found) state)) by_second.1.0 is, by_second.1.1))
+    let is = (spare_stands c given before.value (generation (Some found) state)).0 by_second.0 in
+    (subst (λ (content : Content). Holds c before.value content (generation (Some found) state)) by_second.1.0 is, by_second.1.1))
 
 pub begins_of : (c : Config) → IsGiven c → (before after : BlocksState) (found : Option CommitCopy) (state : Persist) → SameValues before after → IsRestored c before after found state
     → Begins c after.value found (generation found state)

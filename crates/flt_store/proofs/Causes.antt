@@ -1,10 +1,10 @@
 -- The causes of faults along a row of writes, and that there is always room.
-use Rattle.std.proofs.Common.{◌≡◌, ◌⊎◌, inl, inr, ⊎_elim, ℕ, ◌+◌, ◌-◌, ◌/◌, ◌<◌, ◌≤◌, max, Bool, true, List, [], ◌∷◌, length, Option, Some, None, Result, Ok, Err, refl, sym, ◌∙◌, ap, subst, arith}
-use Rattle.std.specs.Prelude.{IsTrue, IsFalse, IsErrOf, IsSomeAnd, sum_by, if◌then◌else◌}
+use Rattle.std.proofs.Common.{◌≡◌, ◌⊎◌, inl, inr, ⊎_elim, ℕ, ◌+◌, ◌-◌, ◌/◌, ◌<◌, ◌≤◌, max, List, [], ◌∷◌, length, Option, Some, None, Result, Ok, Err, refl, sym, ◌∙◌, ap, subst, arith}
+use Rattle.std.specs.Prelude.{IsTrue, IsErrOf, IsSomeAnd, sum_by}
 use Rattle.std.proofs.lemmas.Bool.{cases_eq}
 use Rattle.std.proofs.lemmas.List.Sums.{sum_by-cons}
-use Rattle.flt_flash.specs.Content.{Content, missing, invalid, bytes}
-use Rattle.flt_flash.specs.Blocks.{BlocksState, pages_of, record_pages, live_pages, IsFull}
+use Rattle.flt_flash.specs.Content.{Content, bytes}
+use Rattle.flt_flash.specs.Blocks.{BlocksState, pages_of, record_pages, IsFull}
 use Rattle.flt_flash.specs.Calls.{Calls, Follows}
 use Rattle.flt_flash.specs.declared.blocks.BlockFault.{BlockFault}
 use Rattle.flt_flash.specs.declared.blocks.BlockFault.TheVariants.{Flash, Full, SequenceSpent, Damaged}
@@ -12,15 +12,15 @@ use Rattle.flt_flash.proofs.CallsInARow.{no_call, more_calls}
 use Rattle.flt_config.specs.declared.config.Config.{Config}
 use Rattle.flt_nvm.specs.Table.{number_of}
 use Rattle.flt_nvm.specs.Leaves.{FailsThrice as FailsInThree, Gives, GivesBoth}
-use Rattle.flt_generation.specs.Layout.{numbers, commit_id, first_commit, second_commit, application_number, part_of, has_part, is_used, applications}
+use Rattle.flt_generation.specs.Layout.{numbers, commit_id, first_commit, second_commit, part_of, has_part, is_used}
 use Rattle.flt_generation.specs.Form.{part_length}
 use Rattle.flt_generation.specs.declared.part.Part.{Part}
 use Rattle.flt_generation.specs.declared.part.Part.TheVariants.{Summary, States, Entry}
 use Rattle.flt_generation.specs.Excess.{own_pages, excess, IsBorne}
 use Rattle.flt_generation.specs.Laws.{IsGiven}
-use Rattle.flt_generation.proofs.Pages.{of_part, applications_of, borne_has_room}
+use Rattle.flt_generation.proofs.Pages.{of_part, borne_has_room}
 use Rattle.flt_generation.proofs.Choices.{chosen}
-use Rattle.flt_store.specs.Cause.{FailsThrice, IsStuck, HasRoom, IsWithinOwn, Writes}
+use Rattle.flt_store.specs.Cause.{FailsThrice, HasRoom, IsWithinOwn, Writes}
 use Rattle.flt_store.proofs.TableUse.{used_range}
 
 -- no write, and some writes and then more
@@ -173,9 +173,9 @@ both_within c before after raw result size gives number = elim (cases_eq number 
       (λ one. ⊎_elim (λ kept. inl kept) (λ is. commit_at c before.value after.value raw first_commit size (own_first c) is) one.0)
       (λ two. commit_at c before.value after.value raw first_commit size (own_first c) two.0) gives.either)
   | inr apart ↦ elim (cases_eq number second_commit) [
-      | inl same ↦
-          subst (WithinAt c before.value after.value) (sym same)
-          (⊎_elim (λ one. inl one.1) (λ two. ⊎_elim (λ kept. inl kept) (λ is. commit_at c before.value after.value raw second_commit size (own_second c) is) two.1) gives.either)
-      | inr far ↦ inl (gives.others number apart far)
-    ]
+    | inl same ↦
+        subst (WithinAt c before.value after.value) (sym same)
+        (⊎_elim (λ one. inl one.1) (λ two. ⊎_elim (λ kept. inl kept) (λ is. commit_at c before.value after.value raw second_commit size (own_second c) is) two.1) gives.either)
+    | inr far ↦ inl (gives.others number apart far)
+  ]
 ]

@@ -1,13 +1,11 @@
 -- A copy of the commit was read, and the other one tried with its bytes.
-use Rattle.std.proofs.Common.{◌≡◌, ◌⊎◌, inl, inr, ⊎_elim, ℕ, ◌+◌, ◌-◌, ◌<◌, ◌≤◌, ◌++◌, List, length, take, drop, Option, Some, None, length-append, refl, sym, ◌∙◌, ap, subst, arith}
-use Rattle.std.specs.Prelude.{◌≢◌}
+use Rattle.std.proofs.Common.{◌≡◌, ◌⊎◌, inl, inr, ⊎_elim, ℕ, ◌+◌, ◌-◌, ◌≤◌, List, length, take, drop, Some, None, length-append, refl, sym, ◌∙◌, ap, subst, arith}
 use Rattle.flt_flash.specs.Content.{Content, missing, invalid, bytes}
 use Rattle.flt_flash.specs.State.{HasRisenBy}
 use Rattle.flt_flash.specs.Blocks.{BlocksState}
 use Rattle.flt_flash.specs.Calls.{Finds, SameValues, OthersKept}
 use Rattle.flt_flash.specs.declared.blocks.Found.TheVariants.{Bytes as FoundBytes}
 use Rattle.flt_config.specs.declared.config.Config.{Config}
-use Rattle.flt_nvm.specs.declared.got.Got.{Got}
 use Rattle.flt_nvm.specs.declared.got.Got.TheVariants.{Bytes, Missing, Invalid}
 use Rattle.flt_nvm.specs.Leaves.{HasNoBytes, IsEither, GotOf, GotOfBoth}
 use Rattle.flt_generation.specs.declared.commit.Commit.{Commit}
@@ -15,7 +13,7 @@ use Rattle.flt_generation.specs.Layout.{commit_id, number_of, first_commit, seco
 use Rattle.flt_generation.specs.Excess.{IsBorne}
 use Rattle.flt_generation.specs.Holding.{Generation, Holds, IsSound, OldOrNew}
 use Rattle.flt_store.specs.Cause.{FailsThrice, IsWithinOwn}
-use Rattle.flt_store.specs.Started.{HasMark, IsStarted, StartsEither}
+use Rattle.flt_store.specs.Started.{IsStarted, StartsEither}
 use Rattle.flt_store.proofs.Causes.{borne_stays}
 use Rattle.flt_store.proofs.Repairing.{content_read, held_of_first, spare_of_second, spare_is_held, sound_kept, second_tried, first_tried, but_for_copy}
 
@@ -82,10 +80,10 @@ module _ (c : Config) (before middle : BlocksState) (raw : List ℕ) (copy : ℕ
           ⊎_elim
           (λ one. inl (start h (held_of_first c middle.value raw h s (same first_commit ∙ one.1) sound_now)))
           (λ two.
-            let by_spare : IsStarted c after.value (Some commit) s = start s (spare_of_second c middle.value raw h s (same second_commit ∙ two.1) sound_now) in
-            ⊎_elim
-            (λ none. inl (subst (λ (g : Generation). IsStarted c after.value (Some commit) g) (spare_is_held c before.value h s sound none) by_spare))
-            (λ rose. inr (by_spare, omega (arith, rose, counts))) two.2)
+          let by_spare : IsStarted c after.value (Some commit) s = start s (spare_of_second c middle.value raw h s (same second_commit ∙ two.1) sound_now) in
+          ⊎_elim
+          (λ none. inl (subst (λ (g : Generation). IsStarted c after.value (Some commit) g) (spare_is_held c before.value h s sound none) by_spare))
+          (λ rose. inr (by_spare, omega (arith, rose, counts))) two.2)
           found
 
       pub tried_by : (new : Generation) → IsWithinOwn c middle.value after.value → IsEither middle after (number_of commit_id (2 - copy)) (bytes raw) → OthersKept (number_of commit_id (2 - copy)) middle after
@@ -96,11 +94,11 @@ module _ (c : Config) (before middle : BlocksState) (raw : List ℕ) (copy : ℕ
           let excess : IsBorne c after.value = borne_stays c middle.value after.value within sound_now.holds.excess in
           ⊎_elim
           (λ one. second_tried c middle.value after.value raw h s new sound_now (same first_commit ∙ one.1) agree excess
-            (others first_commit (λ e. (let is = one.0 in omega (arith, e, is))))
-            (subst (λ (k : ℕ). (after.value (number_of commit_id (2 - k)) ≡ middle.value (number_of commit_id (2 - k))) ⊎ (after.value (number_of commit_id (2 - k)) ≡ bytes raw)) one.0 either))
+          (others first_commit (λ e. (let is = one.0 in omega (arith, e, is))))
+          (subst (λ (k : ℕ). (after.value (number_of commit_id (2 - k)) ≡ middle.value (number_of commit_id (2 - k))) ⊎ (after.value (number_of commit_id (2 - k)) ≡ bytes raw)) one.0 either))
           (λ two. first_tried c middle.value after.value raw h s new sound_now (same second_commit ∙ two.1) agree excess
-            (others second_commit (λ e. (let is = two.0 in omega (arith, e, is))))
-            (subst (λ (k : ℕ). (after.value (number_of commit_id (2 - k)) ≡ middle.value (number_of commit_id (2 - k))) ⊎ (after.value (number_of commit_id (2 - k)) ≡ bytes raw)) two.0 either))
+          (others second_commit (λ e. (let is = two.0 in omega (arith, e, is))))
+          (subst (λ (k : ℕ). (after.value (number_of commit_id (2 - k)) ≡ middle.value (number_of commit_id (2 - k))) ⊎ (after.value (number_of commit_id (2 - k)) ≡ bytes raw)) two.0 either))
           at
 
 pub missing_read : (content : Content) (before after : List ℕ) → GotOf 1 content Missing before after → content ≡ missing

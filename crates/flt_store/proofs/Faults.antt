@@ -1,6 +1,6 @@
 -- What a start-up judges of the blocks is never a fault of a page.
-use Rattle.std.proofs.Common.{◌≡◌, ◌⊎◌, inl, inr, ⊎_elim, ℕ, zero, suc, ◌+◌, Bool, true, false, Option, Some, None, Result, Ok, Err, refl, sym, ◌∙◌, subst, arith}
-use Rattle.std.specs.Prelude.{IsTrue, IsFalse, IfErr, nat_le, if◌then◌else◌}
+use Rattle.std.proofs.Common.{◌≡◌, ⊎_elim, ℕ, zero, suc, ◌+◌, Bool, true, false, Option, Some, None, Result, Ok, Err, refl, ◌∙◌, subst, arith}
+use Rattle.std.specs.Prelude.{IsTrue, IfErr, nat_le, if◌then◌else◌}
 use Rattle.flt_flash.specs.Content.{Content, missing, invalid, bytes}
 use Rattle.flt_flash.specs.Blocks.{BlocksState}
 use Rattle.flt_flash.specs.Calls.{Follows, SameValues}
@@ -12,18 +12,17 @@ use Rattle.flt_config.specs.declared.persist.Persist.{Persist}
 use Rattle.flt_config.specs.Validity.{needed_pages}
 use Rattle.flt_generation.specs.declared.mark.Mark.{Mark}
 use Rattle.flt_generation.specs.declared.commit.Commit.{Commit}
-use Rattle.flt_generation.specs.declared.place.Place.{Place}
 use Rattle.flt_generation.specs.declared.place.Place.TheVariants.{Page, Block}
 use Rattle.flt_generation.specs.Layout.{first_commit, second_commit, mark_number, number_of, part_of, first_part, parts, is_used, index_in}
 use Rattle.flt_generation.specs.Form.{mark_of}
 use Rattle.flt_generation.specs.Reading.{mark_in, commit_in, taken}
 use Rattle.flt_generation.specs.Excess.{excess}
-use Rattle.flt_generation.specs.Holding.{Generation, Fault, damaged, other, damaged_at, ◌>>=◌, is_same_mark, judged_mark, marked, or_damaged, with_content, with_named, parts_read, generation_of, named, application_fault, applications_judged, excess_judged, held_by, held, spare, either_copy, only_bytes}
+use Rattle.flt_generation.specs.Holding.{Generation, Fault, damaged, other, damaged_at, ◌>>=◌, is_same_mark, judged_mark, marked, or_damaged, with_content, with_named, parts_read, generation_of, named, application_fault, applications_judged, excess_judged, held_by, either_copy, only_bytes}
 use Rattle.flt_restore.specs.declared.fault.StartFault.{StartFault}
 use Rattle.flt_restore.specs.declared.fault.StartFault.TheVariants.{Flash, Damaged, OtherConfig, SequenceSpent}
 use Rattle.flt_restore.specs.Restored.{IsJudged, Refuses}
 use Rattle.flt_store.specs.declared.store.Store.{Store}
-use Rattle.flt_store.specs.Cause.{FailsThrice, IsStuck, Writes}
+use Rattle.flt_store.specs.Cause.{FailsThrice}
 use Rattle.flt_store.specs.Store.{driver_of, numbered}
 use Rattle.flt_store.proofs.Beginning.{judged_in, not_spent}
 use Rattle.flt_store.specs.Start.{Judges, RefusedFor, Starts, told_of_write}
@@ -71,7 +70,7 @@ never_parts c value commit zero = tt
 never_parts c value commit (suc count) =
     never_then (parts_read c value commit count) (with_named c value commit (first_part + count)) (never_parts c value commit count)
     (λ state. never_if (is_used c (first_part + count)) (with_content c (first_part + count) (value (number_of (first_part + count) (index_in commit (first_part + count)))) state) (Ok state)
-      (never_content c (first_part + count) (value (number_of (first_part + count) (index_in commit (first_part + count)))) state) tt)
+    (never_content c (first_part + count) (value (number_of (first_part + count) (index_in commit (first_part + count)))) state) tt)
 
 never_generation : (c : Config) (value : ℕ → Content) (commit : Option Commit) → NeverPage (generation_of c value commit)
 never_generation c value None = tt
@@ -96,9 +95,9 @@ never_held_by : (c : Config) (value : ℕ → Content) (commit : Content) → Ne
 unfolding held_by applications_judged
 never_held_by c value commit =
     never_then (marked c (value mark_number) commit) _ (never_marked c (value mark_number) commit) (λ first.
-      never_then (named c value commit) _ (never_named c value commit) (λ g.
-        never_then (applications_judged value) _ (never_application _) (λ second.
-          never_then (excess_judged c value) _ (never_excess c value) (λ third. tt))))
+    never_then (named c value commit) _ (never_named c value commit) (λ g.
+    never_then (applications_judged value) _ (never_application _) (λ second.
+    never_then (excess_judged c value) _ (never_excess c value) (λ third. tt))))
 
 never_page : (c : Config) (value : ℕ → Content) (commit : Content) (sector page : ℕ) → held_by c value commit ≡ Err (damaged (Page sector page)) → ⊥
 never_page c value commit sector page is = subst (λ (judged : Result Generation Fault). NeverPage judged) is (never_held_by c value commit)

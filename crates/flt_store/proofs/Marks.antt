@@ -1,5 +1,5 @@
 -- The mark of the configuration was read, and written where it was missing.
-use Rattle.std.proofs.Common.{◌≡◌, ◌≢◌, ◌⊎◌, inl, inr, ⊎_elim, ℕ, ◌+◌, ◌<◌, ◌≤◌, List, length, Option, Some, None, refl, sym, ◌∙◌, ap, subst, arith}
+use Rattle.std.proofs.Common.{◌≡◌, ◌≢◌, ◌⊎◌, inl, inr, ⊎_elim, ℕ, ◌≤◌, List, length, refl, sym, ◌∙◌, ap, subst, arith}
 use Rattle.std.specs.Prelude.{IsTrue}
 use Rattle.std.proofs.lemmas.Bool.{cases_eq}
 use Rattle.flt_flash.specs.Content.{Content, missing, invalid, bytes}
@@ -7,14 +7,13 @@ use Rattle.flt_flash.specs.Blocks.{pages_of, record_pages}
 use Rattle.flt_config.specs.declared.config.Config.{Config}
 use Rattle.flt_nvm.specs.declared.got.Got.TheVariants.{Bytes, Missing, Invalid}
 use Rattle.flt_nvm.specs.Leaves.{GotOf}
-use Rattle.flt_generation.specs.Layout.{mark_number, first_commit, second_commit, application_number, number_of, is_used}
+use Rattle.flt_generation.specs.Layout.{mark_number, first_commit, second_commit, application_number}
 use Rattle.flt_generation.specs.Form.{mark_of, mark_bytes, IsBytesOfMark}
 use Rattle.flt_generation.specs.Excess.{IsBorne, own_pages}
-use Rattle.flt_generation.specs.Holding.{Generation, Holds, IsSound, MarkAllows, Names, either_copy, only_bytes, is_application}
+use Rattle.flt_generation.specs.Holding.{Generation, Holds, IsSound, MarkAllows, either_copy, only_bytes, is_application}
 use Rattle.flt_generation.proofs.Marks.{mark_size}
 use Rattle.flt_store.specs.Cause.{IsWithinOwn}
 use Rattle.flt_store.specs.Started.{IsMarkTried}
-use Rattle.flt_store.proofs.TableUse.{used_range}
 use Rattle.flt_store.proofs.Causes.{borne_stays}
 use Rattle.flt_store.proofs.Started.{AreApplications}
 
@@ -35,7 +34,7 @@ module _ (c : Config) (before after : ℕ → Content) (tried : IsMarkTried c be
         (⊎_elim
         (λ kept. inl kept)
         (λ wrote. (let pages : pages_of (after mark_number) ≡ record_pages (length (mark_bytes (mark_of c))) = ap pages_of wrote.1 in
-          inr (omega (arith, pages, own_mark, mark_size (mark_of c)))))
+        inr (omega (arith, pages, own_mark, mark_size (mark_of c)))))
         tried)
     | inr apart ↦ inl (others other apart)
   ]

@@ -1,25 +1,23 @@
 -- What a repair of the commit's copies leaves of a sound image.
-use Rattle.std.proofs.Common.{◌≡◌, ◌⊎◌, inl, inr, ⊎_elim, ℕ, ◌+◌, ◌<◌, ◌≤◌, ◌++◌, List, length, take, drop, Option, Some, None, Result, Ok, Err, refl, sym, ◌∙◌, ap, subst, arith}
+use Rattle.std.proofs.Common.{◌≡◌, ◌⊎◌, inl, inr, ⊎_elim, ℕ, ◌≤◌, List, length, take, drop, Some, None, refl, sym, ◌∙◌, ap, subst, arith}
 use Rattle.std.proofs.Math.Seq.{take-append_seam}
-use Rattle.std.specs.Prelude.{IsTrue, IfOk, OnErr, ◌≢◌, ◌-◌}
+use Rattle.std.specs.Prelude.{◌≢◌, ◌-◌}
 use Rattle.std.proofs.lemmas.Bool.{cases_eq}
 use Rattle.flt_flash.specs.Content.{Content, missing, invalid, bytes}
-use Rattle.flt_flash.specs.Blocks.{BlocksState, pages_of, record_pages}
+use Rattle.flt_flash.specs.Blocks.{pages_of, record_pages}
 use Rattle.flt_flash.specs.Calls.{Finds}
 use Rattle.flt_flash.specs.declared.blocks.Found.TheVariants.{Bytes}
 use Rattle.flt_config.specs.declared.config.Config.{Config}
 use Rattle.flt_nvm.specs.Leaves.{HasNoBytes}
 use Rattle.flt_generation.specs.declared.commit.Commit.{Commit}
 use Rattle.flt_generation.specs.Layout.{commit_id, number_of, first_commit, second_commit}
-use Rattle.flt_generation.specs.Form.{IsCommit, commit_bytes}
 use Rattle.flt_generation.specs.Reading.{commit_in}
 use Rattle.flt_generation.specs.Excess.{IsBorne, own_pages}
-use Rattle.flt_generation.specs.Holding.{Generation, CommitNames, Names, MarkAllows, Holds, IsHeld, IsSpare, IsSound, either_copy, only_bytes, OldOrNew, IsOneOf}
-use Rattle.flt_generation.specs.Successor.{IsContentOf}
+use Rattle.flt_generation.specs.Holding.{Generation, CommitNames, Names, MarkAllows, Holds, IsHeld, IsSpare, IsSound, either_copy, only_bytes, OldOrNew}
 use Rattle.flt_generation.proofs.Commits.{commit_size, commit_read, read_commit}
 use Rattle.flt_store.specs.Cause.{IsWithinOwn}
-use Rattle.flt_store.specs.Started.{HasMark, NamesOf, IsStarted, AgreeButForCommit}
-use Rattle.flt_store.proofs.Causes.{borne_stays, own_first, own_second}
+use Rattle.flt_store.specs.Started.{HasMark, IsStarted, AgreeButForCommit}
+use Rattle.flt_store.proofs.Causes.{own_first, own_second}
 use Rattle.flt_store.proofs.Started.{holds_kept, commit_names_kept, mark_kept, applications_kept}
 
 -- what a read of bytes says of the content

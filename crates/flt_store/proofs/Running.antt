@@ -1,11 +1,10 @@
 -- What keeps a store running.
-use Rattle.std.proofs.Common.{◌≡◌, ◌⊎◌, inl, inr, ⊎_elim, ℕ, ◌+◌, ◌≤◌, Option, Result, Ok, Err, refl, sym, ◌∙◌, ap, subst, arith}
+use Rattle.std.proofs.Common.{◌≡◌, ◌⊎◌, inl, inr, ⊎_elim, ℕ, ◌≤◌, Result, Ok, Err, sym, ap, subst, arith}
 use Rattle.std.specs.Prelude.{IfOk, OnOk, OnErr}
 use Rattle.flt_flash.specs.Blocks.{BlocksState}
 use Rattle.flt_flash.specs.Calls.{Follows}
 use Rattle.flt_config.specs.declared.config.Config.{Config}
-use Rattle.flt_generation.specs.Holding.{Generation, IsOneOf, OldOrNew}
-use Rattle.flt_flash.specs.Content.{Content}
+use Rattle.flt_generation.specs.Holding.{Generation, IsOneOf}
 use Rattle.flt_store.specs.Cause.{FailsThrice, HasRoom}
 use Rattle.flt_store.specs.Store.{IsServed}
 

@@ -1,24 +1,20 @@
 -- What the writes of a save leave of a started image.
-use Rattle.std.proofs.Common.{◌≡◌, ◌⊎◌, inl, inr, ⊎_elim, ℕ, ◌+◌, ◌*◌, ◌<◌, ◌≤◌, ◌^◌, List, length, Option, Some, None, Result, Ok, Err, refl, sym, ◌∙◌, ap, subst, arith}
-use Rattle.std.specs.Prelude.{IsTrue, ◌≢◌, OnOk}
-use Rattle.flt_flash.specs.Content.{Content, missing, invalid, bytes}
-use Rattle.flt_flash.specs.Blocks.{BlocksState}
-use Rattle.flt_flash.specs.declared.blocks.BlockFault.{BlockFault}
+use Rattle.std.proofs.Common.{◌≡◌, ◌⊎◌, inl, inr, ⊎_elim, ℕ, ◌+◌, ◌<◌, ◌≤◌, ◌^◌, Option, Some, None, refl, sym, ◌∙◌, ap, subst, arith}
+use Rattle.std.specs.Prelude.{IsTrue, ◌≢◌}
+use Rattle.flt_flash.specs.Content.{Content, bytes}
 use Rattle.flt_config.specs.declared.config.Config.{Config}
 use Rattle.flt_config.specs.declared.persist.Persist.{Persist}
-use Rattle.flt_config.specs.Durable.{Fits}
-use Rattle.flt_nvm.specs.Leaves.{GivesBoth}
 use Rattle.flt_generation.specs.declared.commit.Commit.{Commit}
-use Rattle.flt_generation.specs.Layout.{commit_id, number_of, mark_number, first_commit, second_commit, application_number, is_used, index_in}
-use Rattle.flt_generation.specs.Form.{commit_bytes, block_bytes, IsCommit}
+use Rattle.flt_generation.specs.Layout.{number_of, mark_number, first_commit, second_commit, application_number, is_used, index_in}
+use Rattle.flt_generation.specs.Form.{commit_bytes, IsCommit}
 use Rattle.flt_generation.specs.Excess.{IsBorne}
-use Rattle.flt_generation.specs.Holding.{Generation, BlocksHold, either_copy, only_bytes, is_application, IsSound, OldOrNew}
+use Rattle.flt_generation.specs.Holding.{Generation, either_copy, only_bytes, is_application, IsSound, OldOrNew}
 use Rattle.flt_generation.specs.Successor.{IsContentOf, number_in, IsNext, IsMoved, OnlyNewBlocks}
 use Rattle.flt_store.specs.Cause.{IsWithinOwn}
-use Rattle.flt_store.specs.Started.{NamesOf, IsStarted, AgreeButForCommit, next_generation}
+use Rattle.flt_store.specs.Started.{NamesOf, IsStarted, AgreeButForCommit}
 use Rattle.flt_store.proofs.TableUse.{used_range}
-use Rattle.flt_store.proofs.Causes.{borne_stays, own_first, own_second}
-use Rattle.flt_store.proofs.Started.{holds_of, sound_started, numbered, either_content, names_kept, mark_kept, applications_kept}
+use Rattle.flt_store.proofs.Causes.{borne_stays}
+use Rattle.flt_store.proofs.Started.{holds_of, sound_started, numbered, names_kept, mark_kept, applications_kept}
 
 module _ (c : Config) where
   -- the next commit is of the form

@@ -1,11 +1,10 @@
 -- What a started image holds, and what leaves it so.
-use Rattle.std.proofs.Common.{◌≡◌, ◌⊎◌, ℕ, ◌+◌, ◌<◌, ◌≤◌, List, Option, Some, None, refl, sym, ◌∙◌, ap, subst, arith}
-use Rattle.std.specs.Prelude.{IsTrue, ◌≢◌}
+use Rattle.std.proofs.Common.{◌≡◌, ℕ, ◌<◌, ◌≤◌, Option, Some, None, refl, sym, ◌∙◌, ap, subst, arith}
+use Rattle.std.specs.Prelude.{IsTrue}
 use Rattle.flt_flash.specs.Content.{Content, missing, invalid, bytes}
 use Rattle.flt_config.specs.declared.config.Config.{Config}
 use Rattle.flt_generation.specs.declared.commit.Commit.{Commit}
 use Rattle.flt_generation.specs.Layout.{number_of, mark_number, first_commit, second_commit, application_number, applications, is_used, index_in}
-use Rattle.flt_generation.specs.Form.{mark_of, IsBytesOfMark}
 use Rattle.flt_generation.specs.Excess.{IsBorne}
 use Rattle.flt_generation.specs.Holding.{Generation, CommitNames, Names, MarkAllows, either_copy, only_bytes, is_application, Holds, IsSound}
 use Rattle.flt_generation.specs.Successor.{IsContentOf, number_in}

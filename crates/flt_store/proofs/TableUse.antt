@@ -1,5 +1,5 @@
 -- What the table of blocks says of the calls on the mark, the commit, a part and an application block.
-use Rattle.std.proofs.Common.{◌≡◌, ℕ, ◌+◌, ◌≤◌, ◌<◌, List, Option, Some, None, sym, ◌∙◌, ap, subst, refl, arith}
+use Rattle.std.proofs.Common.{◌≡◌, ℕ, ◌+◌, ◌≤◌, ◌<◌, List, Option, Some, sym, ◌∙◌, ap, subst, refl, arith}
 use Rattle.std.specs.Prelude.{IfSome, IsSomeAnd, IsTrue, ◌&&◌, nat_le, nat_lt}
 use Rattle.std.proofs.lemmas.Bool.{and_parts, ltb-true, leb-true}
 use Rattle.flt_config.specs.declared.config.Config.{Config}

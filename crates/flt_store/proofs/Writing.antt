@@ -1,25 +1,25 @@
 -- One block more of a generation was written, and then the copies of its commit.
-use Rattle.std.proofs.Common.{◌≡◌, ◌⊎◌, inl, inr, ⊎_elim, ℕ, ◌+◌, ◌<◌, ◌≤◌, List, length, Option, Some, None, Result, Ok, Err, refl, sym, ◌∙◌, ap, subst, arith}
+use Rattle.std.proofs.Common.{◌≡◌, inl, inr, ⊎_elim, ℕ, ◌+◌, ◌<◌, ◌≤◌, List, length, Option, Some, Result, Ok, Err, refl, sym, ◌∙◌, ap, subst, arith}
 use Rattle.std.specs.Prelude.{IsTrue, OnOk}
 use Rattle.std.proofs.lemmas.Bool.{cases_eq}
 use Rattle.flt_flash.specs.Content.{Content, bytes}
-use Rattle.flt_flash.specs.Blocks.{BlocksState, record_pages}
+use Rattle.flt_flash.specs.Blocks.{BlocksState}
 use Rattle.flt_flash.specs.declared.blocks.BlockFault.{BlockFault}
 use Rattle.flt_config.specs.declared.config.Config.{Config}
 use Rattle.flt_config.specs.declared.persist.Persist.{Persist}
 use Rattle.flt_config.specs.Durable.{Fits}
 use Rattle.flt_nvm.specs.Leaves.{GivesBoth}
 use Rattle.flt_generation.specs.declared.commit.Commit.{Commit}
-use Rattle.flt_generation.specs.Layout.{commit_id, number_of, mark_number, first_commit, second_commit, application_number, applications, is_used, index_in}
+use Rattle.flt_generation.specs.Layout.{commit_id, number_of, mark_number, application_number, is_used, index_in}
 use Rattle.flt_generation.specs.Form.{commit_bytes, block_bytes, IsCommit}
-use Rattle.flt_generation.specs.Excess.{IsBorne, own_pages}
+use Rattle.flt_generation.specs.Excess.{IsBorne}
 use Rattle.flt_generation.specs.Holding.{Generation, BlocksHold, OldOrNew, SameApplications}
 use Rattle.flt_generation.specs.Successor.{IsNext, IsNewBlock, OnlyNewBlock, OnlyNewBlocks}
 use Rattle.flt_generation.proofs.Commits.{commit_size}
 use Rattle.flt_store.specs.Cause.{IsWithinOwn}
 use Rattle.flt_store.specs.Started.{NamesOf, IsStarted, AgreeButForCommit, next_generation}
 use Rattle.flt_store.proofs.TableUse.{used_range}
-use Rattle.flt_store.proofs.Causes.{both_within, borne_stays, own_first, own_second}
+use Rattle.flt_store.proofs.Causes.{both_within, borne_stays}
 use Rattle.flt_store.proofs.Saving.{settled, committed, interrupted, kept_low, kept_application}
 
 module _ (c : Config) (next : Commit) (state : Persist) where
@@ -35,12 +35,12 @@ module _ (c : Config) (next : Commit) (state : Persist) where
     | inr apart ↦ ⊎_elim
         (λ kept. kept ∙ earlier id (omega (arith, below, apart)) used)
         (λ new.
-          let range = used_range c id used in
-          let other = used_range c now new.used in
-          let index : index_in next id ≤ 1 = (form.indices id range.0 range.1).used used in
-          let later : index_in next now ≤ 1 = (form.indices now other.0 other.1).used new.used in
-          let place = new.place in
-          absurd (apart (omega (arith, index, later, place))))
+        let range = used_range c id used in
+        let other = used_range c now new.used in
+        let index : index_in next id ≤ 1 = (form.indices id range.0 range.1).used used in
+        let later : index_in next now ≤ 1 = (form.indices now other.0 other.1).used new.used in
+        let place = new.place in
+        absurd (apart (omega (arith, index, later, place))))
         (only (number_of id (index_in next id)))
   ]
 
@@ -48,9 +48,9 @@ module _ (c : Config) (next : Commit) (state : Persist) where
   only_more now first before after earlier only number =
       ⊎_elim
       (λ kept. ⊎_elim
-        (λ stood. inl (kept ∙ stood))
-        (λ block. inr (block.0, subst (λ (content : Content). IsNewBlock c next state block.0 number content) (sym kept) block.1))
-        (earlier number))
+      (λ stood. inl (kept ∙ stood))
+      (λ block. inr (block.0, subst (λ (content : Content). IsNewBlock c next state block.0 number content) (sym kept) block.1))
+      (earlier number))
       (λ new. inr (now, new))
       (only number)
 

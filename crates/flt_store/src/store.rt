@@ -15,11 +15,10 @@ mod applications;
 mod device;
 mod starting;
 
-pub use applications::APPLICATION;
-
 use crate::fault::{SaveFault, save_fault};
 use crate::generation::write_generation;
 use crate::restarting::restart;
+pub use applications::APPLICATION;
 use flt_config::{Persist, ValidConfig};
 use flt_flash::Blocks;
 use flt_image::{Commit, next_commit};

@@ -39,7 +39,8 @@ impl<B: Blocks + Drop> Store<B> {
     /// Turns the device on again, which adds to its list of boots. A start-up comes next.
     pub fn power_up(&mut self)
         requires { 0 < (driver_of self.old).device.bench.boots_left }
-        ensures { PowersUpDriver (driver_of self.old) (driver_of self.new) }
+        ensures powers_up { PowersUpDriver (driver_of self.old) (driver_of self.new) }
+        ensures settled { is_settled self.new ≡ is_settled self.old }
     {
         self.nvm.power_up()
     }

@@ -76,11 +76,7 @@ impl<B: Blocks + Drop> Store<B> {
     ghost use Rattle.flt_store.specs.Start.{RefusedFor, Starts};
 
     // Starts up on a driver that was mounted.
-    fn start_mounted(
-        &mut self,
-        config: &ValidConfig,
-        out: &mut Persist,
-    ) -> Result<u32, StartFault>
+    fn start_mounted(&mut self, config: &ValidConfig, out: &mut Persist) -> Result<u32, StartFault>
         requires room { HasRoom config.now (driver_of self.old).room }
         requires mounted { IsTrue (driver_of self.old).has_mounted }
         ensures started { IfOk result (λ number. Starts config.now number out.new self.old self.new) }
@@ -111,11 +107,7 @@ impl<B: Blocks + Drop> Store<B> {
     /// What is answered is what copy 1 of the commit names, or, where that can't be read in three tries, what copy 2 names. Of an
     /// image that is damaged, or another configuration's, no block is changed. After an error `out` holds anything that fits its
     /// type, and of a sound image each of the two generations is one of those before.
-    pub fn start_up(
-        &mut self,
-        config: &ValidConfig,
-        out: &mut Persist,
-    ) -> Result<u32, StartFault>
+    pub fn start_up(&mut self, config: &ValidConfig, out: &mut Persist) -> Result<u32, StartFault>
         requires { HasRoom config.now (driver_of self.old).room }
         ensures started { IfOk result (λ number. Starts config.now number out.new self.old self.new) }
         ensures refused { IfErr result (RefusedFor config.now self.old self.new) }

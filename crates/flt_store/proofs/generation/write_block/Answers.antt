@@ -1,5 +1,5 @@
-use Rattle.std.proofs.Common.{◌≡◌, ◌∙◌, ℕ, ◌≤◌, List, length, ap, subst, arith}
-use Rattle.flt_nvm.specs.Driver.{driver_of, table_of}
+use Rattle.std.proofs.Common.{◌≡◌, ◌∙◌, ℕ, List, length, ap, subst, arith}
+use Rattle.flt_nvm.specs.Driver.{driver_of}
 use Rattle.flt_nvm.specs.Leaves.{Gives}
 use Rattle.flt_flash.specs.Content.{bytes}
 use Rattle.flt_generation.specs.Layout.{number_of, index_in, part_of}

@@ -1,7 +1,7 @@
 use Rattle.std.proofs.Common.{◌∙◌}
 use Rattle.flt_flash.proofs.CallsInARow.{more_calls}
 use Rattle.flt_nvm.specs.Driver.{driver_of}
-use Rattle.flt_store.proofs.Causes.{within_on, writes_on}
+use Rattle.flt_store.proofs.Causes.{within_on}
 use Rattle.flt_store.proofs.Writing.{written_more, only_more}
 use Rattle.flt_store.proofs.generation.write_blocks.Goals as goal
 

@@ -1,8 +1,7 @@
-use Rattle.std.proofs.Common.{◌≡◌, ◌∙◌, ℕ, ◌≤◌, length, sym, ap, arith}
+use Rattle.std.proofs.Common.{◌∙◌, sym, ap, arith}
 use Rattle.flt_flash.specs.Blocks.{record_pages}
 use Rattle.flt_nvm.specs.Driver.{driver_of}
-use Rattle.flt_generation.specs.Layout.{number_of, index_in, part_of}
-use Rattle.flt_generation.specs.Form.{part_length}
+use Rattle.flt_generation.specs.Layout.{number_of, index_in}
 use Rattle.flt_store.proofs.TableUse.{used_range}
 use Rattle.flt_store.proofs.Causes.{given_within, own_part}
 use Rattle.flt_store.proofs.generation.write_used.Goals as goal

@@ -1,7 +1,6 @@
-use Rattle.std.proofs.Common.{◌≡◌, ◌≢◌, ◌⊎◌, inl, inr, ⊎_elim, ◌∙◌, ◌≤◌, ℕ, List, length, ap, refl, arith}
-use Rattle.flt_flash.specs.Content.{Content, bytes}
+use Rattle.std.proofs.Common.{◌≡◌, inl, inr, ⊎_elim, ◌∙◌, ℕ, List, length, ap, arith}
+use Rattle.flt_flash.specs.Content.{bytes}
 use Rattle.flt_nvm.specs.Driver.{driver_of}
-use Rattle.flt_generation.specs.declared.mark.Mark.{Mark}
 use Rattle.flt_generation.specs.Layout.{mark_number}
 use Rattle.flt_generation.specs.Form.{mark_bytes}
 use Rattle.flt_generation.proofs.Marks.{mark_size}

@@ -1,4 +1,4 @@
-use Rattle.std.proofs.Common.{◌≡◌, ◌≢◌, ◌∙◌, ℕ, ◌-◌, ◌≤◌, List, length, Some, None, Err, sym, ap, arith}
+use Rattle.std.proofs.Common.{◌∙◌, Err, sym, arith}
 use Rattle.flt_nvm.specs.Driver.{driver_of}
 use Rattle.flt_store.proofs.TableUse.{commit_twice, commit_fits}
 use Rattle.flt_store.proofs.Causes.{one_write, borne_stays, writes_as}

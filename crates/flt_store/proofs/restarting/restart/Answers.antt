@@ -1,13 +1,9 @@
-use Rattle.std.proofs.Common.{◌≡◌, ◌∙◌, ◌≤◌, inl, List, ℕ, length, take, Err, sym, subst, arith}
+use Rattle.std.proofs.Common.{◌∙◌, inl, take, sym}
 use Rattle.std.proofs.lemmas.List.{length-take-le}
 use Rattle.flt_nvm.specs.Driver.{driver_of}
-use Rattle.flt_nvm.specs.declared.got.Got.{Got}
-use Rattle.flt_nvm.specs.declared.got.Got.TheVariants.{Bytes, Missing, Invalid}
-use Rattle.flt_nvm.specs.Leaves.{GotOfBoth}
-use Rattle.flt_generation.specs.Layout.{commit_id}
 use Rattle.flt_store.proofs.TableUse.{commit_index, commit_both}
 use Rattle.flt_store.proofs.Causes.{writes_on, writes_as}
-use Rattle.flt_store.proofs.Repairing.{sound_kept, mark_stays, both_old, no_commit, not_invalid, but_for_copy}
+use Rattle.flt_store.proofs.Repairing.{sound_kept, both_old, no_commit, not_invalid, but_for_copy}
 use Rattle.flt_store.proofs.Copies.{copy_read, at_of, bytes_short, copy_range, held_at, some_holds, started_by, tried_by, missing_read, invalid_read, stays_started}
 use Rattle.flt_store.proofs.restarting.restart.Goals as goal
 

@@ -1,7 +1,4 @@
-use Rattle.std.proofs.Common.{◌≡◌, ◌<◌, ◌≤◌, ◌∙◌, arith}
-use Rattle.flt_nvm.specs.Driver.{driver_of as driver_beneath}
-use Rattle.flt_store.specs.Store.{driver_of, commit_of}
-use Rattle.flt_store.proofs.Applying.{gets_nothing, gets_bytes, not_invalid_application, short_application}
+use Rattle.flt_store.proofs.Applying.{gets_nothing}
 use Rattle.flt_store.proofs.store.Store.get_block.Goals as goal
 
 pub returns-in-Ok-Missing-clause-got : goal.returns-in-Ok-Missing-clause-got

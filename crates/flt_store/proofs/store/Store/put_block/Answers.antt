@@ -1,6 +1,5 @@
-use Rattle.std.proofs.Common.{◌≡◌, ◌<◌, ◌≤◌}
+use Rattle.std.proofs.Common.{◌≡◌}
 use Rattle.flt_nvm.specs.Driver.{driver_of as driver_beneath}
-use Rattle.flt_store.specs.declared.fault.PutFault.{PutFault}
 use Rattle.flt_store.specs.declared.fault.PutFault.TheVariants.{Flash}
 use Rattle.flt_store.specs.Store.{driver_of, commit_of}
 use Rattle.flt_store.proofs.Causes.{resolved}

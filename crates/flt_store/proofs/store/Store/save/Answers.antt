@@ -1,4 +1,4 @@
-use Rattle.std.proofs.Common.{◌≡◌, ◌+◌, ◌≤◌, ◌∙◌, inl, inr, ⊎_elim, ap, refl, sym, subst, arith}
+use Rattle.std.proofs.Common.{◌≡◌, ◌+◌, ◌∙◌, ⊎_elim, ap, refl, arith}
 use Rattle.flt_generation.specs.Holding.{Generation}
 use Rattle.flt_store.specs.Store.{driver_of, commit_of, numbered}
 use Rattle.flt_store.proofs.Started.{sound_started}

@@ -1,7 +1,5 @@
-use Rattle.std.proofs.Common.{◌≡◌, ◌+◌, ◌∙◌, ◌≢◌, inl, inr, ⊎_elim, refl, sym, arith}
+use Rattle.std.proofs.Common.{◌≡◌, ◌+◌, inl, inr, ⊎_elim, refl}
 use Rattle.flt_nvm.specs.Driver.{driver_of as driver_beneath}
-use Rattle.flt_generation.specs.Holding.{Generation}
-use Rattle.flt_store.specs.declared.fault.SaveFault.{SaveFault}
 use Rattle.flt_store.specs.declared.fault.SaveFault.TheVariants.{Flash}
 use Rattle.flt_store.specs.Started.{IsStarted}
 use Rattle.flt_store.specs.Store.{driver_of, numbered}

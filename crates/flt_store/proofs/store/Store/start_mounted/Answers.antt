@@ -1,4 +1,4 @@
-use Rattle.std.proofs.Common.{◌≡◌, Ok, Err, refl, sym, ◌∙◌, subst, ap, arith}
+use Rattle.std.proofs.Common.{Ok, Err, refl, sym, ◌∙◌, subst, ap, arith}
 use Rattle.flt_flash.proofs.CallsInARow.{more_calls}
 use Rattle.flt_nvm.specs.Driver.{driver_of as driver_beneath}
 use Rattle.flt_generation.specs.Holding.{Generation}
@@ -11,7 +11,7 @@ use Rattle.flt_store.proofs.Started.{sound_started}
 use Rattle.flt_store.proofs.Started.{numbered as number_of_started}
 use Rattle.flt_store.proofs.Repairing.{sound_kept, both_old}
 use Rattle.flt_store.proofs.Running.{served_on}
-use Rattle.flt_store.proofs.Beginning.{begins_of, found_in, judged_of, judged_in, same_generation, not_spent}
+use Rattle.flt_store.proofs.Beginning.{begins_of, judged_of, judged_in, same_generation, not_spent}
 use Rattle.flt_store.proofs.Faults.{refused_by_reading, refused_by_writing}
 use Rattle.flt_store.proofs.store.Store.start_mounted.Goals as goal
 

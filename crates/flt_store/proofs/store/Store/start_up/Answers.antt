@@ -1,4 +1,3 @@
-use Rattle.std.proofs.Common.{◌≡◌, refl, sym, ◌∙◌}
 use Rattle.flt_nvm.specs.Driver.{driver_of as driver_beneath}
 use Rattle.flt_store.specs.Store.{driver_of}
 use Rattle.flt_store.proofs.Repairing.{sound_kept, both_old}
@@ -16,7 +15,7 @@ pub returns-in-Ok-clause-refused : goal.returns-in-Ok-clause-refused
 returns-in-Ok-clause-refused g c =
     err_told c.start_mounted.result
     (λ fault refused. refused_through c.args.config.now c.args.self.now _ c.start_mounted.new.self c.start.ensures.calls.follows c.start.ensures.values c.in-Ok.ensures.calls.refuses_damage
-      (g.met.B.Blocks.settled_has_mounted c.start.new.self.blocks c.in-Ok.ensures.stale) fault refused)
+    (g.met.B.Blocks.settled_has_mounted c.start.new.self.blocks c.in-Ok.ensures.stale) fault refused)
     c.start_mounted.ensures.refused
 
 pub returns-in-Ok-clause-left : goal.returns-in-Ok-clause-left

@@ -1,4 +1,3 @@
-use Rattle.flt_nvm.specs.Driver.{driver_of}
 use Rattle.flt_store.proofs.TableUse.{application_index, application_alone}
 use Rattle.flt_store.proofs.Running.{ok_map}
 use Rattle.flt_store.proofs.store.applications.read_application.Goals as goal

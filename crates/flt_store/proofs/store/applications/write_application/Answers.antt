@@ -1,4 +1,4 @@
-use Rattle.std.proofs.Common.{◌≡◌, ◌≤◌, arith}
+use Rattle.std.proofs.Common.{arith}
 use Rattle.flt_nvm.specs.Driver.{driver_of}
 use Rattle.flt_store.proofs.TableUse.{application_index, application_fits, application_alone}
 use Rattle.flt_store.proofs.Causes.{one_write}

@@ -1,4 +1,4 @@
-use Rattle.std.proofs.Common.{◌≡◌, ℕ, List, refl, sym, ◌∙◌, subst}
+use Rattle.std.proofs.Common.{ℕ, List, refl, sym, subst}
 use Rattle.flt_flash.specs.Content.{bytes}
 use Rattle.flt_generation.specs.Holding.{Holds}
 use Rattle.flt_nvm.specs.Driver.{driver_of}
