@@ -1,0 +1,6 @@
+use Rattle.std.proofs.Common.{◌≡◌}
+use Rattle.flt_store_tests.specs.Room.{IsRoomy, SameRoom}
+use Rattle.flt_store_tests.proofs.tests.cuts.run_job.Given as goal
+
+abbrev pub invariant-loop-call : goal.invariant-loop-call
+invariant-loop-call g l = IsRoomy l.config l.store × SameRoom l.initial.store l.store

@@ -1,0 +1,195 @@
+// The store over a flash in memory: worked examples, and each operation of a job cut and made to fail.
+ghost use Rattle.std.specs.Prelude.{◌≡◌, ◌<◌, IfOk};
+ghost use Rattle.flt_flash.specs.State.{CanArm};
+ghost use Rattle.flt_nvm.specs.Driver.{driver_of as driver_beneath, table_of};
+ghost use Rattle.flt_generation.specs.Layout.{numbers};
+ghost use Rattle.flt_image.specs.Table.{block_table};
+ghost use Rattle.flt_store.specs.Cause.{HasRoom};
+ghost use Rattle.flt_store_tests.specs.Room.{IsRoomy, SameRoom};
+
+mod cuts;
+mod rows;
+
+use arrayvec::ArrayVec;
+use flt_code::{Word, get_word, unseal};
+use flt_config::{
+    Config, EntryState, EventCfg, EventState, Frame, Persist, ValidConfig, check, fits, initial,
+};
+use flt_fee::Fee;
+use flt_flash::{Arm, BLANK_PAGE, Blocks, Flash, FlashMem, Pattern};
+use flt_image::{block_table, fee_numbers, laws};
+use flt_nvm::{Got, Nvm};
+use flt_store::{SaveFault, StartFault, Store};
+use std::alloc::{AllocError, Global};
+use std::process::Abort;
+use std::test::Fail;
+
+// The pages of each sector.
+const PAGES: u16 = 64;
+
+// The status of an event that was never tested.
+const NOT_TESTED: u8 = 0x50;
+
+// The status of an event that failed in this cycle, and of one that passed after that.
+const FAILED: u8 = 0x2F;
+
+const PASSED: u8 = 0x2E;
+
+fn event(dtc: u32) -> EventCfg {
+    EventCfg {
+        dtc,
+        priority: 1,
+        cycle: 0,
+        confirm: 1,
+        heal: 3,
+        age: 40,
+        indicator: false,
+        debounce: Default::default(),
+        dids: ArrayVec::new(),
+    }
+}
+
+// A configuration of so many entries, application blocks and events.
+fn configured(memory: u8, blocks: u8, count: u8) -> Result<ValidConfig, Fail> {
+    let mut events = ArrayVec::new();
+    for number in 0..count {
+        if !events.is_full() {
+            events.push(event(1 + number as u32));
+        }
+    }
+    Ok(check(Config {
+        id: 0,
+        memory,
+        pages: PAGES,
+        blocks,
+        events,
+    })?)
+}
+
+// A state of events of these statuses, those that were tested having failed in one cycle, and of entries of the first events,
+// which occurred so often.
+fn state(statuses: &[u8], occurrences: &[u8]) -> Persist {
+    let mut events = ArrayVec::new();
+    for status in statuses {
+        if !events.is_full() {
+            events.push(EventState {
+                status: *status,
+                failed: u8::from(*status != NOT_TESTED),
+                clean: 0,
+                lit: false,
+            });
+        }
+    }
+    let mut entries = ArrayVec::new();
+    let mut last = None;
+    for (event, occurrence) in (0..16).zip(occurrences) {
+        last = Some(event);
+        if !entries.is_full() {
+            entries.push(EntryState {
+                event,
+                occurrence: *occurrence,
+                first: Frame::new(),
+                recent: Frame::new(),
+            });
+        }
+    }
+    let first = if occurrences.is_empty() {
+        None
+    } else {
+        Some(0)
+    };
+    Persist {
+        events,
+        entries,
+        overflow: false,
+        first_failed: first,
+        first_confirmed: first,
+        recent_failed: last,
+        recent_confirmed: last,
+    }
+}
+
+// Blocks by identifier over a flash whose sectors have the configuration's pages.
+fn blocks_over(
+    alloc: Global,
+    flash: FlashMem,
+    config: &ValidConfig,
+) -> Result<Nvm<Fee<FlashMem>>, Fail>
+    ensures numbers { IfOk result (λ nvm. (driver_beneath nvm).numbers ≡ numbers) }
+    ensures table { IfOk result (λ nvm. table_of nvm ≡ block_table) }
+    ensures room { IfOk result (λ nvm. HasRoom config.now (driver_beneath nvm).room) }
+{
+    let used = config.config().pages;
+    if used > flash.pages() {
+        return Err(Fail::from("the flash is too small"));
+    }
+    laws::numbers_are_distinct();
+    laws::numbers_serve_table();
+    match Fee::make(flash, used, fee_numbers(alloc)?) {
+        Ok(fee) => Ok(Nvm::make(fee, block_table(alloc)?)),
+        Err(_) => Err(Fail::from("no memory")),
+    }
+}
+
+// A store over such a flash.
+fn store_over(
+    alloc: Global,
+    flash: FlashMem,
+    config: &ValidConfig,
+) -> Result<Store<Fee<FlashMem>>, Fail>
+    ensures { IfOk result (λ store. IsRoomy config.now store) }
+{
+    Ok(Store::make(blocks_over(alloc, flash, config)?))
+}
+
+// A store over a blank flash whose power may come back twice.
+fn blank_store(alloc: Global, config: &ValidConfig) -> Result<Store<Fee<FlashMem>>, Fail>
+    ensures { IfOk result (λ store. IsRoomy config.now store) }
+{
+    let flash = FlashMem::blank(alloc, PAGES, 2)?;
+    store_over(alloc, flash, config)
+}
+
+// Starts up: the number of the generation and its state.
+fn start<B: Blocks + Drop>(
+    store: &mut Store<B>,
+    config: &ValidConfig,
+) -> Result<(u32, Persist), StartFault>
+    requires { IsRoomy config.now store.old }
+    ensures { SameRoom store.old store.new }
+{
+    let mut out = initial(config);
+    let number = store.start_up(config, &mut out)?;
+    Ok((number, out))
+}
+
+// Saves a state that fits.
+fn save<B: Blocks + Drop>(
+    rt: &impl Abort,
+    store: &mut Store<B>,
+    config: &ValidConfig,
+    state: &Persist,
+) -> Result<u32, SaveFault>
+    ensures { SameRoom store.old store.new }
+{
+    assert!(rt; fits(config, state));
+    store.save(config, state)
+}
+
+// Turns the power on again.
+fn power_up<B: Blocks + Drop>(store: &mut Store<B>)
+    ensures { SameRoom store.old store.new }
+{
+    if store.boots_left() > 0 {
+        store.power_up();
+    }
+}
+
+fn arm<B: Blocks + Drop>(store: &mut Store<B>, arm: Arm)
+    requires { CanArm arm }
+    ensures { SameRoom store.old store.new }
+{
+    if store.armed() < 64 {
+        store.arm(arm);
+    }
+}

@@ -1,0 +1,191 @@
+// A fixed job on a store, each of whose programs and erases is cut or fails by each pattern: what stands then is what stood
+// before the call that failed, or what it asked for.
+ghost use Rattle.flt_flash.specs.State.{CanArm};
+ghost use Rattle.flt_store_tests.specs.Room.{IsRoomy, SameRoom};
+
+use super::*;
+
+// A call of the job.
+#[derive(Clone, Copy, Debug, PartialEq, Eq)]
+enum Call {
+    Start,
+    // Saves the state of an event of this status.
+    Save(u8),
+    // Puts this byte into block 0.
+    Put(u8),
+}
+
+// The job: a start-up, a save, 14 puts, of which the last switches the sectors, a save, and a start-up.
+const JOB: [Call; 18] = [
+    Call::Start,
+    Call::Save(FAILED),
+    Call::Put(1),
+    Call::Put(2),
+    Call::Put(3),
+    Call::Put(4),
+    Call::Put(5),
+    Call::Put(6),
+    Call::Put(7),
+    Call::Put(8),
+    Call::Put(9),
+    Call::Put(10),
+    Call::Put(11),
+    Call::Put(12),
+    Call::Put(13),
+    Call::Put(14),
+    Call::Save(PASSED),
+    Call::Start,
+];
+
+// How many programs and erases the job makes: 3 of the first mount, 3 of the mark, 18 of each save, 3 of each put, and 27 of the
+// switch.
+const OPERATIONS: u32 = 111;
+
+// What the image says: the generation's number, the status of its event, and the byte of block 0 where that was put.
+#[derive(Clone, Copy, Debug, PartialEq, Eq)]
+struct Told {
+    number: u32,
+    status: u8,
+    byte: Option<u8>,
+}
+
+impl Told {
+    // What a blank flash says.
+    fn blank() -> Told {
+        Told {
+            number: 0,
+            status: NOT_TESTED,
+            byte: None,
+        }
+    }
+
+    // What it says after a call.
+    fn after(self, call: Call) -> Told {
+        match call {
+            Call::Start => self,
+            Call::Save(status) => Told {
+                number: self.number.saturating_add(1),
+                status,
+                ..self
+            },
+            Call::Put(byte) => Told {
+                byte: Some(byte),
+                ..self
+            },
+        }
+    }
+
+    // The state of the generation.
+    fn state(self) -> Persist {
+        let occurrences: &[u8] = if self.number == 0 { &[] } else { &[1] };
+        state(&[self.status], occurrences)
+    }
+}
+
+// Makes a call of the job; it tells whether that answered `Ok`, with what it has to answer.
+fn make<B: Blocks + Drop>(
+    rt: &impl Abort,
+    store: &mut Store<B>,
+    config: &ValidConfig,
+    call: Call,
+    asked: Told,
+) -> bool
+    requires { IsRoomy config.now store.old }
+    ensures { SameRoom store.old store.new }
+{
+    match call {
+        Call::Start => match start(store, config) {
+            Err(_) => false,
+            Ok((number, state)) => {
+                assert!(rt; number == asked.number && state == asked.state());
+                true
+            }
+        },
+        Call::Save(_) => match save(rt, store, config, &asked.state()) {
+            Err(_) => false,
+            Ok(number) => {
+                assert!(rt; number == asked.number);
+                true
+            }
+        },
+        Call::Put(byte) => store.put_block(0, &[byte]).is_ok(),
+    }
+}
+
+// Makes the calls of the job until one fails: what stood before the last call, and what it asked for.
+fn run_job<B: Blocks + Drop>(
+    rt: &impl Abort,
+    store: &mut Store<B>,
+    config: &ValidConfig,
+) -> (Told, Told, bool)
+    requires { IsRoomy config.now store.old }
+    ensures { SameRoom store.old store.new }
+{
+    let mut before = Told::blank();
+    for call in &JOB {
+        let asked = before.after(*call);
+        if !make(rt, store, config, *call, asked) {
+            return (before, asked, false);
+        }
+        before = asked;
+    }
+    (before, before, true)
+}
+
+// What the store tells when it starts up.
+fn read_told<B: Blocks + Drop>(
+    rt: &impl Abort,
+    store: &mut Store<B>,
+    config: &ValidConfig,
+) -> Result<Told, Fail>
+    requires { IsRoomy config.now store.old }
+{
+    let (number, state) = start(store, config)?;
+    let status = state.events.first().map_or(0, |event| event.status);
+    let mut out = ArrayVec::new();
+    let found = store.get_block(0, &mut out)?;
+    let byte = if found { out.first().copied() } else { None };
+    let told = Told {
+        number,
+        status,
+        byte,
+    };
+    assert!(rt; state == told.state() && found == (out.len() == 1));
+    Ok(told)
+}
+
+// Runs the job over a blank flash with this arm, and starts up with the power on again. It tells whether each call of the job
+// answered `Ok`, and whether the arm still stands.
+fn run_case(
+    rt: &impl Abort,
+    alloc: Global,
+    config: &ValidConfig,
+    made: Arm,
+) -> Result<(bool, bool), Fail>
+    requires { CanArm made }
+{
+    let mut store = blank_store(alloc, config)?;
+    arm(&mut store, made);
+    let (before, asked, done) = run_job(rt, &mut store, config);
+    let stands = store.armed() > 0;
+    power_up(&mut store);
+    let found = read_told(rt, &mut store, config)?;
+    assert!(rt; found == before || found == asked, "{made:?} {found:?}");
+    Ok((done, stands))
+}
+
+#[test]
+fn each_operation_is_cut_and_fails(rt: HostRuntime) -> Result<(), Fail> {
+    let config = configured(1, 1, 1)?;
+    for pattern in &[Pattern::Nothing, Pattern::All, Pattern::Tail, Pattern::Odd] {
+        let pattern = *pattern;
+        for after in 1..OPERATIONS + 2 {
+            let last = after > OPERATIONS;
+            let cut = run_case(&rt, rt.alloc(), &config, Arm::Cut { after, pattern })?;
+            assert!(&rt; cut == (last, last), "{after} {pattern:?}");
+            let fault = run_case(&rt, rt.alloc(), &config, Arm::Fault { after, pattern })?;
+            assert!(&rt; fault == (true, last), "{after} {pattern:?}");
+        }
+    }
+    Ok(())
+}
