@@ -1,8 +1,8 @@
 -- The pages of a configuration's own records, and those that an image takes.
 use Rattle.std.proofs.Common.{◌≡◌, ℕ, zero, suc, ◌+◌, ◌-◌, ◌*◌, ◌/◌, ◌%◌, ◌<◌, ◌≤◌, ◌==◌, ◌&&◌, ◌++◌, [], ◌∷◌, Bool, true, false, List, length, refl, sym, ◌∙◌, ap, subst, arith, inl, inr, min, zero-add}
-use Rattle.std.specs.Prelude.{◌||◌, max, nat_lt, nat_le, if◌then◌else◌, map, flat_map, sum_by}
+use Rattle.std.specs.Prelude.{◌||◌, max, IsTrue, nat_lt, nat_le, if◌then◌else◌, map, flat_map, sum_by}
 use Rattle.std.specs.List.{range_with_len}
-use Rattle.std.proofs.lemmas.Bool.{cases_lt, and_right, and_left, or_from, eq-eqb, ne_eqb, le-leb, lt-leb, lt-ltb, le-ltb}
+use Rattle.std.proofs.lemmas.Bool.{cases_lt, and_parts, leb-true, ltb-true, and_right, and_left, or_from, eq-eqb, ne_eqb, le-leb, lt-leb, lt-ltb, le-ltb}
 use Rattle.std.proofs.lemmas.List.Sums.{sum_by-append}
 use Rattle.flt_flash.specs.Content.{Content}
 use Rattle.flt_flash.specs.Blocks.{pages_of, record_pages}
@@ -230,3 +230,16 @@ most_sum f own (n ∷ ns) =
 pub borne_has_room : (c : Config) → IsGiven c → (value : ℕ → Content) → IsBorne c value → sum_by (λ number. max (pages_of (value number)) (own_pages c number)) numbers + 7 ≤ c.pages
 borne_has_room c given value borne =
     omega (arith, most_sum (λ number. pages_of (value number)) (own_pages c) numbers, own_sum c given, borne)
+
+-- the used blocks lie between the commit and the application blocks, and are parts of the configuration
+pub used_range : (c : Config) (id : ℕ) → IsTrue (is_used c id) → (3 ≤ id) × (id < 24) × IsTrue (has_part c (part_of id))
+used_range c id used =
+    let both = and_parts (nat_le 3 id && nat_lt id 24) (has_part c (part_of id)) used in
+    let range = and_parts (nat_le 3 id) (nat_lt id 24) both.0 in
+    (leb-true 3 id range.0, ltb-true id 24 range.1, both.1)
+
+-- a used block is as long as its part
+pub own_part : (c : Config) (id index : ℕ) → IsTrue (is_used c id) → index ≤ 1 → own_pages c (number_of id index) ≡ record_pages (part_length (part_of id))
+own_part c id index used small =
+    let range = used_range c id used in
+    of_part c id index range.0 range.1 small ∙ chosen (has_part c (part_of id)) (record_pages (part_length (part_of id))) 0 range.2

@@ -14,13 +14,13 @@ use Rattle.flt_generation.specs.declared.commit.Commit.{Commit}
 use Rattle.flt_generation.specs.declared.part.Part.{Part}
 use Rattle.flt_generation.specs.declared.part.Part.TheVariants.{Summary, States, Entry}
 use Rattle.flt_generation.specs.Layout.{number_of, part_of, has_part, is_used, index_in}
-use Rattle.flt_generation.specs.Form.{part_bytes}
+use Rattle.flt_generation.specs.Form.{part_bytes, part_length}
 use Rattle.flt_generation.specs.Fit.{states_fit, entry_fits_at, is_alone, place_fits, note_fits, summary_fits, part_fits}
 use Rattle.flt_generation.specs.Reading.{with_part, with_summary, entry_from, with_states, taken}
 use Rattle.flt_generation.specs.Holding.{with_named, parts_read, BlocksHold}
 use Rattle.flt_generation.proofs.Fitting.{entry_by_test, noted_by_test}
 use Rattle.flt_generation.proofs.Parts.{set_states_fit}
-use Rattle.flt_generation.proofs.Sizes.{taken_holds, set_here}
+use Rattle.flt_generation.proofs.Sizes.{taken_holds, set_here, candidate_size}
 use Rattle.flt_generation.proofs.Steps.{gave, both_ok, is_summary, are_states, is_entry, kind_of, bytes_kept}
 
 -- a used block, by its part
@@ -279,3 +279,28 @@ pub read_blocks : (c : Config) (value : ℕ → Content) (commit : Commit) (p : 
 read_blocks c value commit p known = λ id used.
     let range = (and_parts _ _ used).0 in
     known.contents id (leb-true 3 id (and_parts _ _ range).0) (ltb-true id 24 (and_parts _ _ range).1) used
+
+-- each block that a commit names has the bytes of its part
+pub record HasSize (value : ℕ → Content) (commit : Commit) (id : ℕ) : Type 0 where
+  pub raw : List ℕ
+  pub holds : value (number_of id (index_in commit id)) ≡ bytes raw
+  pub size : length raw ≡ part_length (part_of id)
+
+taken_size : (c : Config) (part : Part) (raw : List ℕ) (p q : Persist) → taken c part raw p ≡ Some q → length raw ≡ part_length part
+taken_size c part raw p q is =
+    let holds = taken_holds c part raw (with_part part raw p) q is in
+    ap length holds.1 ∙ ap (λ (r : Persist). length (part_bytes r part)) (sym holds.0) ∙ candidate_size part raw p
+
+pub named_sizes : (c : Config) (value : ℕ → Content) (commit : Commit) (count : ℕ) (p : Persist) → parts_read c value commit count ≡ Ok p → (id : ℕ) → 3 ≤ id → id < 3 + count → IsTrue (is_used c id)
+    → HasSize value commit id
+unfolding parts_read
+named_sizes c value commit zero p is id low high used = absurd (omega (arith, low, high))
+named_sizes c value commit (suc count) p is id low high used =
+    let both = both_ok (parts_read c value commit count) (with_named c value commit (3 + count)) p is in
+    elim (cases_eq id (3 + count)) [
+      | inl same ↦
+          let step = gave c value commit id both.0 p (subst (λ (n : ℕ). with_named c value commit n both.0 ≡ Ok p) (sym same) both.2) in
+          let given = step.used used in
+          record { raw = given.0; holds = given.1; size = taken_size c (part_of id) given.0 both.0 p given.2 }
+      | inr apart ↦ named_sizes c value commit count both.0 both.1 id low (omega (arith, high, apart)) used
+    ]

@@ -4,3 +4,4 @@ pub mod TakingParts
 pub mod Blocks
 pub mod Naming
 pub mod Judged
+pub mod Owned

@@ -1,11 +1,11 @@
 -- What each step of a start-up judges, and what it tells.
-use Rattle.std.specs.Prelude.{◌≡◌, ◌⊎◌, ℕ, ◌+◌, ◌-◌, if◌then◌else◌, List, Option, Some, None, Result, Ok, Err, sum_by}
+use Rattle.std.specs.Prelude.{◌≡◌, ◌⊎◌, ℕ, ◌+◌, ◌-◌, ◌≤◌, ◌<◌, ◌==◌, Bool, false, IsTrue, if◌then◌else◌, List, Option, Some, None, Result, Ok, Err, sum_by}
 use Rattle.std.specs.List.{range_with_len}
 use Rattle.flt_flash.specs.Content.{Content, missing, bytes}
 use Rattle.flt_flash.specs.State.{HasRisenBy}
 use Rattle.flt_flash.specs.Blocks.{BlocksState, pages_of}
 use Rattle.flt_config.specs.declared.config.Config.{Config}
-use Rattle.flt_generation.specs.Layout.{mark_number, number_of, first_part, first_application, application_number}
+use Rattle.flt_generation.specs.Layout.{mark_number, number_of, first_part, end_part, first_application, application_number, index_in}
 use Rattle.flt_generation.specs.Form.{mark_of, IsBytesOfCommit}
 use Rattle.flt_generation.specs.Excess.{own_pages}
 use Rattle.flt_generation.specs.Holding.{Generation, Fault, damaged, other, damaged_at, ◌>>=◌, marked, named, is_application, applications_judged}
@@ -41,6 +41,15 @@ beyond_of_parts c value count = sum_by (beyond_of_part c value) (range_with_len 
 
 unfoldable pub beyond_of_applications : Config → (ℕ → Content) → ℕ → ℕ
 beyond_of_applications c value count = sum_by (λ block. beyond c value (application_number block)) (range_with_len 0 count)
+
+-- the commit that was read names this index of a part
+abbrev pub is_named : Option CommitCopy → ℕ → ℕ → Bool
+is_named None id index = false
+is_named (Some found) id index = index_in found.commit id == index
+
+-- what it names takes no page beyond the configuration's own
+abbrev pub NamesOwn : Config → (ℕ → Content) → Option CommitCopy → Type 0
+NamesOwn c value commit = (id index : ℕ) → first_part ≤ id → id < end_part → index ≤ 1 → IsTrue (is_named commit id index) → beyond c value (number_of id index) ≡ 0
 
 -- one application block
 abbrev pub application_judged : (ℕ → Content) → ℕ → Result (Unit {0}) Fault

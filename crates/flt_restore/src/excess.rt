@@ -11,8 +11,9 @@ ghost use Rattle.flt_generation.specs.declared.place.Place.TheVariants.{Block};
 ghost use Rattle.flt_generation.specs.Excess.{excess};
 ghost use Rattle.flt_generation.specs.Holding.{excess_judged};
 ghost use Rattle.flt_restore.specs.declared.fault.StartFault.TheVariants.{Flash, Damaged};
-ghost use Rattle.flt_restore.specs.Judging.{as_told, beyond, beyond_of_part, beyond_of_parts};
+ghost use Rattle.flt_restore.specs.Judging.{as_told, beyond, beyond_of_part, beyond_of_parts, is_named, NamesOwn};
 
+use crate::commit::CommitCopy;
 use crate::fault::StartFault;
 use crate::judging::damaged;
 use crate::pages::pages_beyond;
@@ -22,13 +23,27 @@ use flt_flash::{Blocks, FlashFailed};
 use flt_generation::{END_PART, FIRST_PART};
 use flt_nvm::Nvm;
 
-// The pages that the record of one index takes beyond the configuration's own.
+// Whether the commit that was read names this index of a part.
+fn is_named(commit: &Option<CommitCopy>, id: u16, index: u8) -> bool
+    requires first { 3 ≤ id }
+    requires end { id < 24 }
+    ensures { result ≡ is_named commit.now id index }
+{
+    match commit {
+        None => false,
+        Some(found) => found.commit.index[(id - FIRST_PART) as usize] == index,
+    }
+}
+
+// The pages that the record of one index takes beyond the configuration's own. What the commit names was read before.
 fn read_index<B: Blocks + Drop>(
     nvm: &mut Nvm<B>,
     config: &ValidConfig,
+    commit: &Option<CommitCopy>,
     id: u16,
     index: u8,
 ) -> Result<u32, FlashFailed>
+    requires own { NamesOwn config.now (driver_of nvm.old).value commit.now }
     requires table { table_of nvm.old ≡ block_table }
     requires mounted { IsTrue (driver_of nvm.old).has_mounted }
     requires first { 3 ≤ id }
@@ -40,6 +55,9 @@ fn read_index<B: Blocks + Drop>(
     ensures reads { Reads (driver_of nvm.old) (driver_of nvm.new) }
     ensures table { table_of nvm.new ≡ table_of nvm.old }
 {
+    if is_named(commit, id, index) {
+        return Ok(0);
+    }
     let held = read_content(nvm, id, index)?;
     Ok(pages_beyond(config, id * 8 + index as u16, &held))
 }
@@ -47,8 +65,10 @@ fn read_index<B: Blocks + Drop>(
 fn read_indices<B: Blocks + Drop>(
     nvm: &mut Nvm<B>,
     config: &ValidConfig,
+    commit: &Option<CommitCopy>,
     id: u16,
 ) -> Result<u32, FlashFailed>
+    requires own { NamesOwn config.now (driver_of nvm.old).value commit.now }
     requires table { table_of nvm.old ≡ block_table }
     requires mounted { IsTrue (driver_of nvm.old).has_mounted }
     requires first { 3 ≤ id }
@@ -59,8 +79,8 @@ fn read_indices<B: Blocks + Drop>(
     ensures reads { Reads (driver_of nvm.old) (driver_of nvm.new) }
     ensures table { table_of nvm.new ≡ table_of nvm.old }
 {
-    let first = read_index(nvm, config, id, 0)?;
-    let second = read_index(nvm, config, id, 1)?;
+    let first = read_index(nvm, config, commit, id, 0)?;
+    let second = read_index(nvm, config, commit, id, 1)?;
     Ok(first + second)
 }
 
@@ -68,7 +88,9 @@ fn read_indices<B: Blocks + Drop>(
 pub(crate) fn read_pages_of_parts<B: Blocks + Drop>(
     nvm: &mut Nvm<B>,
     config: &ValidConfig,
+    commit: &Option<CommitCopy>,
 ) -> Result<u32, FlashFailed>
+    requires own { NamesOwn config.now (driver_of nvm.old).value commit.now }
     requires table { table_of nvm.old ≡ block_table }
     requires mounted { IsTrue (driver_of nvm.old).has_mounted }
     ensures pages { IfOk result (λ pages. pages ≡ beyond_of_parts config.now (driver_of nvm.old).value parts) }
@@ -79,7 +101,7 @@ pub(crate) fn read_pages_of_parts<B: Blocks + Drop>(
 {
     let mut pages = 0;
     for id in FIRST_PART..END_PART {
-        pages += read_indices(nvm, config, id)?;
+        pages += read_indices(nvm, config, commit, id)?;
     }
     Ok(pages)
 }

@@ -6,7 +6,7 @@ ghost use Rattle.flt_image.specs.Table.{block_table};
 ghost use Rattle.flt_generation.specs.Layout.{mark_number, parts, applications};
 ghost use Rattle.flt_generation.specs.Holding.{named};
 ghost use Rattle.flt_restore.specs.Found.{content_of, Reads};
-ghost use Rattle.flt_restore.specs.Judging.{beyond_of_applications, beyond_of_parts, but_excess, IsReadFrom, Tells};
+ghost use Rattle.flt_restore.specs.Judging.{beyond_of_applications, beyond_of_parts, but_excess, IsReadFrom, NamesOwn, Tells};
 ghost use Rattle.flt_restore.specs.Restored.{generation};
 
 use crate::applications::read_applications;
@@ -34,6 +34,7 @@ fn read_named<B: Blocks + Drop>(
     requires mounted { IsTrue (driver_of nvm.old).has_mounted }
     ensures told { IfOk result (λ found. named config.now (driver_of nvm.old).value (holding bytes.items) ≡ Ok (generation (Some found) out.new)) }
     ensures source { IfOk result (λ found. IsReadFrom (holding bytes.items) copy (Some found)) }
+    ensures own { IfOk result (λ found. NamesOwn config.now (driver_of nvm.old).value (Some found)) }
     ensures refused { IfErr result (Tells config.now (driver_of nvm.old) (driver_of nvm.new) (named config.now (driver_of nvm.old).value (holding bytes.items))) }
     ensures reads { Reads (driver_of nvm.old) (driver_of nvm.new) }
     ensures table { table_of nvm.new ≡ table_of nvm.old }
@@ -63,6 +64,7 @@ fn read_generation<B: Blocks + Drop>(
     requires mounted { IsTrue (driver_of nvm.old).has_mounted }
     ensures told { IfOk result (λ commit. named config.now (driver_of nvm.old).value (content_of held) ≡ Ok (generation commit out.new)) }
     ensures source { IfOk result (λ commit. IsReadFrom (content_of held) copy commit) }
+    ensures own { IfOk result (λ commit. NamesOwn config.now (driver_of nvm.old).value commit) }
     ensures refused { IfErr result (Tells config.now (driver_of nvm.old) (driver_of nvm.new) (named config.now (driver_of nvm.old).value (content_of held))) }
     ensures reads { Reads (driver_of nvm.old) (driver_of nvm.new) }
     ensures table { table_of nvm.new ≡ table_of nvm.old }
@@ -110,7 +112,7 @@ pub(crate) fn read_image<B: Blocks + Drop>(
     judge_mark(config, mark, &source.held)?;
     let commit = read_generation(nvm, config, source.held, source.copy, out)?;
     let applications = read_applications(nvm, config)?;
-    let parts = read_pages_of_parts(nvm, config)?;
+    let parts = read_pages_of_parts(nvm, config, &commit)?;
     Ok(ReadImage {
         commit,
         pages: parts + applications,

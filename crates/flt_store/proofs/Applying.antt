@@ -18,7 +18,7 @@ use Rattle.flt_generation.proofs.Choices.{chosen}
 use Rattle.flt_store.specs.Cause.{IsWithinOwn}
 use Rattle.flt_store.specs.Started.{HasMark, IsStarted}
 use Rattle.flt_store.specs.Store.{Gets}
-use Rattle.flt_store.proofs.TableUse.{used_range}
+use Rattle.flt_generation.proofs.Pages.{used_range}
 use Rattle.flt_store.proofs.Causes.{borne_stays}
 use Rattle.flt_store.proofs.Started.{AreApplications, names_on, mark_on, holds_on}
 

@@ -21,7 +21,6 @@ use Rattle.flt_generation.specs.Laws.{IsGiven}
 use Rattle.flt_generation.proofs.Pages.{of_part, borne_has_room}
 use Rattle.flt_generation.proofs.Choices.{chosen}
 use Rattle.flt_store.specs.Cause.{FailsThrice, HasRoom, IsWithinOwn, Writes}
-use Rattle.flt_store.proofs.TableUse.{used_range}
 
 -- no write, and some writes and then more
 pub no_write : (state : BlocksState) → Writes state state (Ok (tt {0}))
@@ -129,12 +128,7 @@ resolved {T} c given before after fault writes all room has borne other = by fau
     by SequenceSpent writes other = absurd (other refl)
     by (Damaged sector page) writes other = absurd (writes.mounted has sector page refl)
 
--- what the store writes is no longer than what the configuration may write
-pub own_part : (c : Config) (id index : ℕ) → IsTrue (is_used c id) → index ≤ 1 → own_pages c (number_of id index) ≡ record_pages (part_length (part_of id))
-own_part c id index used small =
-    let range = used_range c id used in
-    of_part c id index range.0 range.1 small ∙ chosen (has_part c (part_of id)) (record_pages (part_length (part_of id))) 0 range.2
-
+-- what is written as a commit is no longer than what the configuration may write
 pub own_first : (c : Config) → own_pages c first_commit ≡ 3
 unfolding own_pages
 own_first c = refl

@@ -12,7 +12,7 @@ use Rattle.flt_generation.specs.Holding.{Generation, either_copy, only_bytes, is
 use Rattle.flt_generation.specs.Successor.{IsContentOf, number_in, IsNext, IsMoved, OnlyNewBlocks}
 use Rattle.flt_store.specs.Cause.{IsWithinOwn}
 use Rattle.flt_store.specs.Started.{NamesOf, IsStarted, AgreeButForCommit}
-use Rattle.flt_store.proofs.TableUse.{used_range}
+use Rattle.flt_generation.proofs.Pages.{used_range}
 use Rattle.flt_store.proofs.Causes.{borne_stays}
 use Rattle.flt_store.proofs.Started.{holds_of, sound_started, numbered, names_kept, mark_kept, applications_kept}
 

@@ -9,7 +9,7 @@ use Rattle.flt_generation.specs.Excess.{IsBorne}
 use Rattle.flt_generation.specs.Holding.{Generation, CommitNames, Names, MarkAllows, either_copy, only_bytes, is_application, Holds, IsSound}
 use Rattle.flt_generation.specs.Successor.{IsContentOf, number_in}
 use Rattle.flt_store.specs.Started.{HasMark, NamesOf, IsStarted, AgreeButForCommit}
-use Rattle.flt_store.proofs.TableUse.{used_range}
+use Rattle.flt_generation.proofs.Pages.{used_range}
 
 -- the application blocks are good
 abbrev pub AreApplications : (ℕ → Content) → Type 0

@@ -12,13 +12,6 @@ use Rattle.flt_generation.specs.Form.{part_length}
 use Rattle.flt_image.specs.Table.{row, block_table}
 use Rattle.flt_image.proofs.TableRows.{mark_row, commit_row, part_row, application_row}
 
--- the used blocks lie between the commit and the application blocks, and are parts of the configuration
-pub used_range : (c : Config) (id : ℕ) → IsTrue (is_used c id) → (3 ≤ id) × (id < 24) × IsTrue (has_part c (part_of id))
-used_range c id used =
-    let both = and_parts (nat_le first_part id && nat_lt id end_part) (has_part c (part_of id)) used in
-    let range = and_parts (nat_le first_part id) (nat_lt id end_part) both.0 in
-    (leb-true first_part id range.0, ltb-true id end_part range.1, both.1)
-
 module _ (table : List BlockCfg) (is : table ≡ block_table) where
   row_in : (id : ℕ) (found : Option BlockCfg) → block_in block_table id ≡ found → found ≡ block_in table id
   row_in id found at = sym at ∙ ap (λ (rows : List BlockCfg). block_in rows id) (sym is)

@@ -18,7 +18,7 @@ use Rattle.flt_generation.specs.Successor.{IsNext, IsNewBlock, OnlyNewBlock, Onl
 use Rattle.flt_generation.proofs.Commits.{commit_size}
 use Rattle.flt_store.specs.Cause.{IsWithinOwn}
 use Rattle.flt_store.specs.Started.{NamesOf, IsStarted, AgreeButForCommit, next_generation}
-use Rattle.flt_store.proofs.TableUse.{used_range}
+use Rattle.flt_generation.proofs.Pages.{used_range}
 use Rattle.flt_store.proofs.Causes.{both_within, borne_stays}
 use Rattle.flt_store.proofs.Saving.{settled, committed, interrupted, kept_low, kept_application}
 

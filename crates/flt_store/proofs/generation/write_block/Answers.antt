@@ -4,7 +4,8 @@ use Rattle.flt_nvm.specs.Leaves.{Gives}
 use Rattle.flt_flash.specs.Content.{bytes}
 use Rattle.flt_generation.specs.Layout.{number_of, index_in, part_of}
 use Rattle.flt_generation.specs.Form.{block_bytes, part_length}
-use Rattle.flt_store.proofs.TableUse.{used_range, part_index, part_fits, part_alone}
+use Rattle.flt_generation.proofs.Pages.{used_range}
+use Rattle.flt_store.proofs.TableUse.{part_index, part_fits, part_alone}
 use Rattle.flt_store.proofs.Causes.{one_write, part_short}
 use Rattle.flt_store.proofs.generation.write_block.Goals as goal
 

@@ -2,8 +2,8 @@ use Rattle.std.proofs.Common.{◌∙◌, sym, ap, arith}
 use Rattle.flt_flash.specs.Blocks.{record_pages}
 use Rattle.flt_nvm.specs.Driver.{driver_of}
 use Rattle.flt_generation.specs.Layout.{number_of, index_in}
-use Rattle.flt_store.proofs.TableUse.{used_range}
-use Rattle.flt_store.proofs.Causes.{given_within, own_part}
+use Rattle.flt_generation.proofs.Pages.{used_range, own_part}
+use Rattle.flt_store.proofs.Causes.{given_within}
 use Rattle.flt_store.proofs.generation.write_used.Goals as goal
 
 pub returns-then-is_used-clause-within : goal.returns-then-is_used-clause-within
