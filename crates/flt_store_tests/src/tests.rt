@@ -1,4 +1,4 @@
-// The store over a flash in memory: worked examples, and each operation of a job cut and made to fail.
+// The store over a flash in memory: worked examples, changed images, and each operation of a job cut and made to fail.
 ghost use Rattle.std.specs.Prelude.{◌≡◌, ◌<◌, IfOk};
 ghost use Rattle.flt_flash.specs.State.{CanArm};
 ghost use Rattle.flt_nvm.specs.Driver.{driver_of as driver_beneath, table_of};
@@ -8,18 +8,20 @@ ghost use Rattle.flt_store.specs.Cause.{HasRoom};
 ghost use Rattle.flt_store_tests.specs.Room.{IsRoomy, SameRoom};
 
 mod cuts;
+mod images;
 mod rows;
 
 use arrayvec::ArrayVec;
-use flt_code::{Word, get_word, unseal};
+use flt_code::{Word, get_word, put_word, seal, unseal};
 use flt_config::{
     Config, EntryState, EventCfg, EventState, Frame, Persist, ValidConfig, check, fits, initial,
 };
 use flt_fee::Fee;
 use flt_flash::{Arm, BLANK_PAGE, Blocks, Flash, FlashMem, Pattern};
+use flt_generation::COMMIT_ID;
 use flt_image::{block_table, fee_numbers, laws};
 use flt_nvm::{Got, Nvm};
-use flt_store::{SaveFault, StartFault, Store};
+use flt_store::{Mark, Place, SaveFault, StartFault, Store};
 use std::alloc::{AllocError, Global};
 use std::process::Abort;
 use std::test::Fail;

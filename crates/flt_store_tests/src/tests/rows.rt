@@ -6,9 +6,6 @@ ghost use Rattle.flt_image.specs.Table.{block_table};
 
 use super::*;
 
-// The identifier of the commit.
-const COMMIT: u16 = 2;
-
 // A page of a flash, or a blank one where there is none.
 fn page_of(flash: &FlashMem, sector: u8, page: u16) -> [u8; 32] {
     if sector > 1 || page >= flash.pages() {
@@ -31,7 +28,11 @@ fn is_record(flash: &FlashMem, page: u16, block: u16, length: u16) -> bool {
 }
 
 // A flash after a start-up and the first save of an event that failed.
-fn saved_flash(rt: &impl Abort, alloc: Global, config: &ValidConfig) -> Result<FlashMem, Fail> {
+pub(super) fn saved_flash(
+    rt: &impl Abort,
+    alloc: Global,
+    config: &ValidConfig,
+) -> Result<FlashMem, Fail> {
     let mut store = blank_store(alloc, config)?;
     start(&mut store, config)?;
     assert!(rt; save(rt, &mut store, config, &state(&[FAILED], &[1]))? == 1);
@@ -145,7 +146,7 @@ fn a_muted_first_copy_gives_the_generation_before(rt: HostRuntime) -> Result<(),
 }
 
 // The pages of both sectors.
-fn image_of(alloc: Global, flash: &FlashMem) -> Result<Vec<[u8; 32]>, AllocError>
+pub(super) fn image_of(alloc: Global, flash: &FlashMem) -> Result<Vec<[u8; 32]>, AllocError>
     ensures { IfOk result (λ image. vec_len image ≡ 128) }
 {
     let mut image = vec![in alloc; BLANK_PAGE; 128]?;
@@ -173,8 +174,8 @@ fn repair_first_copy<B: Blocks + Drop>(nvm: &mut Nvm<B>) -> Result<(), Fail>
     ensures { table_of nvm.new ≡ table_of nvm.old }
 {
     let mut out = [0; 128];
-    match nvm.read_copy(COMMIT, 2, &mut out)? {
-        Got::Bytes { length: 26, .. } => Ok(nvm.repair(COMMIT, 2, &out[..26])?),
+    match nvm.read_copy(COMMIT_ID, 2, &mut out)? {
+        Got::Bytes { length: 26, .. } => Ok(nvm.repair(COMMIT_ID, 2, &out[..26])?),
         _ => Err(Fail::from("no commit in copy 2")),
     }
 }
@@ -185,11 +186,11 @@ fn read_and_repair<B: Blocks + Drop>(rt: &impl Abort, nvm: &mut Nvm<B>) -> Resul
 {
     let mut out = [0; 128];
     let mut again = [0; 128];
-    assert!(rt; nvm.read_copy(COMMIT, 1, &mut out)? == Got::Missing);
+    assert!(rt; nvm.read_copy(COMMIT_ID, 1, &mut out)? == Got::Missing);
     let length = 26;
-    assert!(rt; nvm.read(COMMIT, 0, &mut out)? == Got::Bytes { length, copy: 2 });
+    assert!(rt; nvm.read(COMMIT_ID, 0, &mut out)? == Got::Bytes { length, copy: 2 });
     repair_first_copy(nvm)?;
-    assert!(rt; nvm.read(COMMIT, 0, &mut again)? == Got::Bytes { length, copy: 1 });
+    assert!(rt; nvm.read(COMMIT_ID, 0, &mut again)? == Got::Bytes { length, copy: 1 });
     assert!(rt; out == again);
     Ok(())
 }

@@ -1,4 +1,3 @@
-use Rattle.std.proofs.Common.{◌≡◌}
 use Rattle.flt_store_tests.specs.Room.{IsRoomy, SameRoom}
 use Rattle.flt_store_tests.proofs.tests.cuts.run_job.Given as goal
 
