@@ -2,6 +2,7 @@
 use crate::vault::Entry;
 use std::collections::LinkedList;
 
+/// Where a seat stands on its way through the lock.
 pub enum Stage {
     /// It has no ticket.
     Idle,
