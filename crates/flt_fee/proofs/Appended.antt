@@ -1,16 +1,15 @@
 -- What a driver means once a record was appended behind its log.
-use Rattle.std.proofs.Common.{◌≡◌, ◌≢◌, ◌⊎◌, ⊎_elim, inl, inr, ◌+◌, ◌<◌, ◌≤◌, ℕ, Bool, true, false, List, length, Option, Some, None, Result, Ok, Err, refl, sym, ◌∙◌, ap, subst, arith}
-use Rattle.std.specs.Prelude.{◌==◌, if◌then◌else◌, OnOk, OnErr, IsTrue, IsFalse, IsErrOf}
+use Rattle.std.proofs.Common.{◌≡◌, ◌≢◌, ◌⊎◌, ⊎_elim, inl, inr, ◌+◌, ◌<◌, ◌≤◌, ℕ, Bool, true, false, List, length, None, Result, Ok, Err, refl, sym, ◌∙◌, ap}
+use Rattle.std.specs.Prelude.{◌==◌, if◌then◌else◌, OnOk, IsErrOf}
 use Rattle.std.specs.List.{list_any}
 use Rattle.std.proofs.lemmas.Bool.{eq-eqb, ne_eqb}
 use Rattle.flt_flash.specs.Image.{sector_at}
 use Rattle.flt_flash.specs.Content.{Content}
 use Rattle.flt_flash.specs.State.{FlashState, HasShape, Runs, HasRisenBy}
-use Rattle.flt_flash.specs.Blocks.{BlocksState}
-use Rattle.flt_flash.specs.Calls.{Follows, Calls, Changes, SameValues}
+use Rattle.flt_flash.specs.Calls.{Calls, Changes}
 use Rattle.flt_flash.specs.declared.flash.FlashFailed.{FlashFailed}
 use Rattle.flt_flash.specs.declared.blocks.BlockFault.{BlockFault}
-use Rattle.flt_flash.specs.declared.blocks.BlockFault.TheVariants.{Flash, Full, SequenceSpent, Damaged}
+use Rattle.flt_flash.specs.declared.blocks.BlockFault.TheVariants.{Flash, Damaged}
 use Rattle.flt_code.specs.Word.{IsWord}
 use Rattle.flt_code.specs.declared.words.Word.TheVariants.{Head}
 use Rattle.flt_record.specs.Blank.{AreBlank}
@@ -18,7 +17,7 @@ use Rattle.flt_flash.specs.Blocks.{byte_pages}
 use Rattle.flt_sector.specs.Blocks.{current, first_fault, block_value}
 use Rattle.flt_record.specs.Holds.{asked_of, given}
 use Rattle.flt_record.proofs.LogOn.{blank_behind}
-use Rattle.flt_fee.specs.Mounted.{Stands, IsMounted}
+use Rattle.flt_fee.specs.Mounted.{Stands}
 use Rattle.flt_fee.specs.Fee.{is_last, state_by}
 use Rattle.flt_record.specs.Recorded.{Records}
 use Rattle.flt_fee.proofs.Composed.{follows_by}

@@ -1,5 +1,5 @@
 -- The gates of a sector that is begun and made active.
-use Rattle.std.proofs.Common.{◌≡◌, ◌⊎◌, ⊎_elim, inl, inr, ◌<◌, ◌≤◌, ◌^◌, ℕ, Bool, false, List, [], get_or, set, replicate, length, length-set, get_or-set_same, get_or-set_other, Option, Some, None, Result, Ok, Err, refl, sym, ◌∙◌, ap, arith}
+use Rattle.std.proofs.Common.{◌≡◌, ◌⊎◌, ⊎_elim, inl, inr, ◌<◌, ◌≤◌, ◌^◌, ℕ, false, List, [], get_or, set, replicate, length, length-set, get_or-set_same, get_or-set_other, Option, Some, None, Ok, ◌∙◌, ap, arith}
 use Rattle.std.proofs.lemmas.List.{set-set, get_or-replicate, length-replicate}
 use Rattle.flt_flash.specs.Image.{sector_at, programmed, erased, blank_page}
 use Rattle.flt_flash.specs.State.{FlashState, HasShape}

@@ -1,9 +1,9 @@
 -- Calls of a driver, one after another, and a call by what it did to the image.
 use Rattle.std.proofs.Common.{◌≡◌, ℕ, Bool, true, false, List, Option, Some, None, Result, Ok, Err, refl, sym, ◌∙◌, ap, arith}
-use Rattle.std.specs.Prelude.{OnOk, IsTrue, IsFalse, IsErrOf}
+use Rattle.std.specs.Prelude.{OnOk, IsTrue, IsFalse}
 use Rattle.flt_flash.specs.State.{FlashState, Runs}
 use Rattle.flt_flash.specs.Blocks.{BlocksState}
-use Rattle.flt_flash.specs.Calls.{Follows, Calls, SameValues}
+use Rattle.flt_flash.specs.Calls.{Follows, Calls}
 use Rattle.flt_flash.specs.declared.blocks.BlockFault.{BlockFault}
 use Rattle.flt_flash.proofs.CallsInARow.{more_calls}
 use Rattle.flt_sector.specs.Blocks.{current, first_fault, block_value}
@@ -23,8 +23,8 @@ module _ (used : ℕ) (numbers : List ℕ) (before after : FlashState) (runs : R
     damage_stays = λ place is. (ap (first_fault used numbers) (stays place is) ∙ is, stays place is, λ block. ap (λ (image : List (List (List ℕ))). block_value used numbers image block) (stays place is));
     no_new_damage = sound;
     counts = runs.counts;
-    operations = tt;
-    erases = tt;
+    operations = omega (arith, runs.operations);
+    erases = runs.erases;
     bench = runs.bench;
   }
 

@@ -1,31 +1,33 @@
 -- The current records of all blocks, copied one after another.
-use Rattle.std.proofs.Common.{◌≡◌, ◌≢◌, ◌+◌, ◌<◌, ◌≤◌, ℕ, zero, suc, Bool, true, false, List, [], ◌∷◌, get_or, set, length, Option, Some, None, Result, Ok, Err, inl, inr, refl, sym, ◌∙◌, ap, subst, arith}
-use Rattle.std.specs.Prelude.{◌==◌, if◌then◌else◌, nat_lt, Contains, IfOk, IsErr, sum_by}
+use Rattle.std.proofs.Common.{◌≡◌, ◌≢◌, ◌+◌, ◌<◌, ◌≤◌, ℕ, zero, suc, Bool, true, false, List, [], ◌∷◌, get_or, length, Option, Some, None, Result, Ok, Err, inl, inr, refl, sym, ◌∙◌, ap, subst, arith}
+use Rattle.std.specs.Prelude.{◌==◌, if◌then◌else◌, Contains, IsErr, sum_by}
 use Rattle.std.specs.List.{list_any}
-use Rattle.std.proofs.lemmas.Bool.{cases_lt, cases_eq, eqb-true, eqb-false, lt-ltb, le-ltb, ltb-true, ltb-false, false_from_ne_true}
+use Rattle.std.proofs.lemmas.Bool.{cases_lt, cases_eq, eqb-true, eqb-false, lt-ltb, le-ltb, false_from_ne_true}
 use Rattle.std.proofs.lemmas.List.{set-get_or, get_or_default}
 use Rattle.std.proofs.lemmas.List.Sums.{sum_by-cons}
 use Rattle.std.proofs.lemmas.List.Folds.{Any-from_list_any}
 use Rattle.flt_flash.specs.Image.{sector_at}
 use Rattle.flt_flash.specs.Content.{Content, missing}
 use Rattle.flt_flash.specs.Blocks.{pages_of}
-use Rattle.flt_flash.specs.State.{FlashState, HasShape, HasRisenBy}
+use Rattle.flt_flash.specs.State.{FlashState, HasShape}
 use Rattle.flt_flash.specs.declared.flash.FlashFailed.{FlashFailed}
 use Rattle.flt_flash.proofs.Following.{no_run}
 use Rattle.flt_sector.specs.Log.{log}
-use Rattle.flt_sector.specs.Blocks.{content_of, last_complete}
+use Rattle.flt_sector.specs.Blocks.{content_of}
 use Rattle.flt_record.specs.Blank.{AreBlank}
 use Rattle.flt_record.specs.Holds.{Holds, given}
 use Rattle.flt_record.specs.Live.{held_in, current_pages}
 use Rattle.flt_record.specs.Recorded.{OnSector}
+use Rattle.flt_record.specs.declared.place.Place.{Place}
+use Rattle.flt_record.specs.Place.{IsAt, IsPlaceOf, Tells}
+use Rattle.flt_record.proofs.Telling.{farther_at, still_at}
 use Rattle.flt_record.proofs.Begun.{holds_nothing}
 use Rattle.flt_record.proofs.Copying.{other_stays}
 use Rattle.flt_record.proofs.Counting.{unnumbered}
 use Rattle.flt_record.proofs.LogOn.{end_least, blank_behind}
 use Rattle.flt_record.proofs.Recording.{on_sector, pages_on}
-use Rattle.flt_fee.specs.Switch.{IsNext, below, KeepsGates, CopiesBlock, CopiesBlocks}
+use Rattle.flt_fee.specs.Switch.{IsNext, below, KeepsGates, CopiesBlock, CopiesBlocks, Replaces}
 use Rattle.flt_fee.proofs.CopyingBlock.{same_kept}
-use Rattle.flt_fee.proofs.Standing.{is_among}
 
 -- sums of the pages of what is copied
 sum_grows : (f g : ℕ → ℕ) → ((x : ℕ) → f x ≤ g x) → (n pages : ℕ) → f n + pages ≤ g n → (xs : List ℕ) (k : ℕ) → k < length xs → get_or xs k n ≡ n → sum_by f xs + pages ≤ sum_by g xs
@@ -95,6 +97,15 @@ pub record Copying (used : ℕ) (numbers : List ℕ) (start now : FlashState) (s
   pub gates : KeepsGates (sector_at start.image other) (sector_at now.image other)
   pub holds : Holds used numbers (sector_at now.image other) end (below from (held_in used numbers (sector_at start.image sector)))
   pub room : end ≤ 2 + sum_by (λ n. pages_of (below from (held_in used numbers (sector_at start.image sector)) n)) numbers
+
+-- the places of the numbers below one are in the log of the other sector, which ends here, and the others are where they were
+pub record Moves (numbers : List ℕ) (places : List (Option Place)) (start now : FlashState) (sector other used end from : ℕ) (value : ℕ → Content) : Type 0 where
+  pub moved : (k : ℕ) → k < length numbers → get_or numbers k 0 < from → IsAt (sector_at now.image other) end (value (get_or numbers k 0)) (get_or places k None)
+  pub waits : (k : ℕ) → k < length numbers → from ≤ get_or numbers k 0 → IsAt (sector_at start.image sector) used (value (get_or numbers k 0)) (get_or places k None)
+
+pub nothing_moved : (numbers : List ℕ) (places : List (Option Place)) (start now : FlashState) (sector other used end : ℕ) (value : ℕ → Content) → Tells numbers places (sector_at start.image sector) used value
+    → Moves numbers places start now sector other used end 0 value
+nothing_moved numbers places start now sector other used end value tells = record { moved = λ k within lt. absurd (omega (arith, lt)); waits = λ k within le. tells k within }
 
 module _ (used : ℕ) (numbers : List ℕ) (start : FlashState) (shape : HasShape start) (sector other : ℕ) (in_other : other < 2) (apart : other ≢ sector) (least : 2 ≤ used)
     (fine : (log used numbers (sector_at start.image sector)).fault ≡ None) where
@@ -170,6 +181,51 @@ module _ (used : ℕ) (numbers : List ℕ) (start : FlashState) (shape : HasShap
             holds = subst (λ (pages : List (List ℕ)). Holds used numbers pages last (below (number + 1) (held_in used numbers (sector_at start.image sector)))) (sym there) holds;
             room = omega (arith, does.place, is.room, ap pages_of (content_now number), sum_next value from number numbers next.found.1 next.found.0);
           }
+
+    -- the table, while the blocks are copied
+    module _ (places : List (Option Place)) (moves : Moves numbers places start now sector other used end from value) where
+      -- the place of the block that comes next is in the log that is copied
+      pub place_waits : (number : ℕ) → from ≤ number → (found : Option Place) → IsPlaceOf numbers places number found
+          → IsAt (sector_at now.image sector) used (held_in used numbers (sector_at now.image sector) number) found
+      place_waits number low found is =
+          subst (λ (place : Option Place). IsAt (sector_at now.image sector) used (held_in used numbers (sector_at now.image sector) number) place) is.place
+          (subst (λ n. IsAt (sector_at now.image sector) used (held_in used numbers (sector_at now.image sector) n) (get_or places is.index None)) is.number
+          (subst (λ (pages : List (List ℕ)). IsAt pages used (held_in used numbers pages (get_or numbers is.index 0)) (get_or places is.index None)) (sym source_now)
+          (moves.waits is.index is.within (omega (arith, low, is.number)))))
+
+      pub moves_on : (number : ℕ) → IsNext from numbers (Some number) → (after : FlashState) (last : ℕ)
+          → CopiesBlock now after other used numbers number end (held_in used numbers (sector_at now.image sector) number) (Ok last) → (then_places : List (Option Place))
+          → Replaces numbers (sector_at after.image other) places then_places number last (held_in used numbers (sector_at now.image sector) number)
+          → Moves numbers then_places start after sector other used last (number + 1) value
+      moves_on number next after last does then_places replaces = record {
+        moved = λ k within lt. elim (cases_eq (get_or numbers k 0) number) [
+          | inl same ↦
+              subst (λ (c : Content). IsAt (sector_at after.image other) last c (get_or then_places k None)) (content_now number ∙ ap value (sym same)) (replaces.own k within same)
+          | inr apart ↦
+              subst (λ (place : Option Place). IsAt (sector_at after.image other) last (value (get_or numbers k 0)) place) (sym (replaces.others k within apart))
+              (farther_at (sector_at after.image other) end last (omega (arith, does.place)) (value (get_or numbers k 0)) (get_or places k None)
+              (still_at (sector_at now.image other) (sector_at after.image other) end size (λ j low below. ap (λ (p : List (List ℕ)). get_or p j []) there ∙ does.stays j below) (value (get_or numbers k 0)) (get_or places k None)
+              (moves.moved k within (lower k within lt apart))))
+        ];
+        waits = λ k within le.
+            subst (λ (place : Option Place). IsAt (sector_at start.image sector) used (value (get_or numbers k 0)) place) (sym (replaces.others k within (λ same. omega (arith, same, le))))
+            (moves.waits k within (omega (arith, le, next.found.1)));
+      }
+        where
+          there : sector_at after.image other ≡ does.pages
+          there = pages_on now after other does.pages shape_now in_other does.on
+
+          size : length (sector_at after.image other) ≡ length (sector_at now.image other)
+          size = ap length there ∙ does.gates.size
+
+          lower : (k : ℕ) → k < length numbers → get_or numbers k 0 < number + 1 → get_or numbers k 0 ≢ number → get_or numbers k 0 < from
+          lower k within lt apart_of = elim (cases_lt (get_or numbers k 0) from) [
+            | inl less ↦ less
+            | inr more ↦ absurd (let least_of = next.found.2 k within more in apart_of (omega (arith, least_of, lt)))
+          ]
+
+      pub moved_all : IsNext from numbers None → Tells numbers places (sector_at now.image other) end (held_in used numbers (sector_at start.image sector))
+      moved_all none k within = moves.moved k within (none.none k within)
 
     -- all blocks are copied
     pub all_done : IsNext from numbers None → CopiesBlocks start now sector other used numbers (Ok end)

@@ -1,14 +1,13 @@
 -- What a driver means while its image holds nothing.
-use Rattle.std.proofs.Common.{◌≡◌, ◌⊎◌, ⊎_elim, inl, inr, ◌≤◌, ℕ, Bool, true, false, List, Option, Some, None, Result, Ok, Err, refl, sym, ◌∙◌, ap}
-use Rattle.std.specs.Prelude.{OnOk, IsTrue, IsFalse, IsErrOf}
+use Rattle.std.proofs.Common.{◌≡◌, ⊎_elim, inl, ◌≤◌, ℕ, Bool, true, false, List, None, Result, Ok, Err, refl, sym, ◌∙◌, ap}
+use Rattle.std.specs.Prelude.{OnOk, IsErrOf}
 use Rattle.flt_flash.specs.Image.{sector_at}
-use Rattle.flt_flash.specs.Content.{Content, missing}
+use Rattle.flt_flash.specs.Content.{missing}
 use Rattle.flt_flash.specs.State.{FlashState, Runs, HasRisenBy}
-use Rattle.flt_flash.specs.Blocks.{BlocksState}
-use Rattle.flt_flash.specs.Calls.{Follows, Calls, SameValues}
+use Rattle.flt_flash.specs.Calls.{Calls, SameValues}
 use Rattle.flt_flash.specs.declared.blocks.BlockFault.{BlockFault}
-use Rattle.flt_flash.specs.declared.blocks.BlockFault.TheVariants.{Flash, Full, SequenceSpent, Damaged}
-use Rattle.flt_sector.specs.Blocks.{Current, current, first_fault, fault_by, value_by, block_value}
+use Rattle.flt_flash.specs.declared.blocks.BlockFault.TheVariants.{Flash, Damaged}
+use Rattle.flt_sector.specs.Blocks.{current, first_fault, fault_by, value_by, block_value}
 use Rattle.flt_record.proofs.Begun.{holds_nothing}
 use Rattle.flt_fee.specs.Fee.{is_last, state_by}
 use Rattle.flt_fee.specs.Mounted.{Stands, IsMounted}
@@ -23,7 +22,7 @@ module _ (used : ℕ) (numbers : List ℕ) (least : 2 ≤ used) where
   pub fresh_mounted : (image : List (List (List ℕ))) → IsFresh used image → IsMounted false true used numbers image 0 1 2
   fresh_mounted image is = stands_mounted true refl used numbers image 0 1 2 (λ block. missing) (fresh_stands image is)
 
-  nothing_held : (image : List (List (List ℕ))) → HoldsNothing used image → (block : ℕ) → block_value used numbers image block ≡ missing
+  pub nothing_held : (image : List (List (List ℕ))) → HoldsNothing used image → (block : ℕ) → block_value used numbers image block ≡ missing
   nothing_held image is block = ⊎_elim (λ none. ap (value_by used numbers image block) none) (λ fresh. stands_value used numbers image 0 1 2 (λ b. missing) (fresh_stands image fresh) block) is
 
   pub nothing_wrong : (image : List (List (List ℕ))) → HoldsNothing used image → first_fault used numbers image ≡ None

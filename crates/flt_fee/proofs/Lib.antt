@@ -12,3 +12,6 @@ pub mod CopyingBlocks
 pub mod Switching
 pub mod Refusing
 pub mod Putting
+pub mod Placed
+pub mod Costing
+pub mod Wearing

@@ -1,16 +1,15 @@
 -- What a driver means after a call that only read.
-use Rattle.std.proofs.Common.{◌≡◌, ◌⊎◌, ⊎_elim, inl, inr, ◌≤◌, ℕ, Bool, true, false, List, Option, Some, None, Result, Ok, Err, refl, sym, ◌∙◌, ap, subst, arith}
-use Rattle.std.specs.Prelude.{◌&&◌, OnOk, OnErr, IsTrue, IsFalse, IsErrOf}
+use Rattle.std.proofs.Common.{◌≡◌, ⊎_elim, ℕ, Bool, true, false, List, Option, Some, None, Result, Ok, Err, refl, sym, ◌∙◌, ap, subst}
+use Rattle.std.specs.Prelude.{◌&&◌, OnOk, IsFalse, IsErrOf}
 use Rattle.flt_flash.specs.Image.{sector_at}
 use Rattle.flt_flash.specs.State.{FlashState, OnlyReads, HasRisenBy}
 use Rattle.flt_flash.specs.Blocks.{BlocksState}
 use Rattle.flt_flash.specs.Calls.{Follows, Calls, SameValues}
 use Rattle.flt_flash.specs.declared.blocks.BlockFault.{BlockFault}
-use Rattle.flt_flash.specs.declared.blocks.BlockFault.TheVariants.{Flash, Full, SequenceSpent, Damaged}
+use Rattle.flt_flash.specs.declared.blocks.BlockFault.TheVariants.{Flash, Damaged}
 use Rattle.flt_sector.specs.Log.{LogFrom, log}
 use Rattle.flt_sector.specs.Blocks.{Current, current, first_fault, fault_by, place_in, block_value}
-use Rattle.flt_pages.specs.declared.fault.PageFault.{PageFault}
-use Rattle.flt_pages.specs.declared.fault.PageFault.TheVariants.{Flash as flash_fault, Damaged as damaged_page}
+use Rattle.flt_pages.specs.declared.fault.PageFault.TheVariants.{Damaged as damaged_page}
 use Rattle.flt_pages.specs.Told.{TellsOrFails}
 use Rattle.flt_record.specs.Scan.{told_end}
 use Rattle.flt_fee.specs.Fee.{is_last, is_past, state_by}
@@ -34,6 +33,12 @@ module _ (used : ℕ) (numbers : List ℕ) (before after : FlashState) (reads : 
   -- where the current sector is known, the first fault is that of its log
   pub fault_there : (at : Current) → current used before.image ≡ Ok (Some at) → first_fault used numbers before.image ≡ place_in at.sector (log used numbers (sector_at before.image at.sector)).fault
   fault_there at is = ap (fault_by used numbers before.image) is
+
+  pub reading_follows : (was_stale had_mounted is_stale has_mounted : Bool) → (had_mounted ≡ true → has_mounted ≡ true)
+      → Follows (state_by used numbers was_stale had_mounted before) (state_by used numbers is_stale has_mounted after)
+  reading_follows was_stale had_mounted is_stale has_mounted once =
+      follows_by used numbers before after reads.runs was_stale had_mounted is_stale has_mounted once (λ yes. ap (λ (image : List (List (List ℕ))). is_last (current used image)) reads.image ∙ yes)
+      (λ none. ap (first_fault used numbers) reads.image ∙ none) (λ place is. reads.image)
 
   pub reading_calls : {T : Type 0} (was_stale had_mounted is_stale has_mounted : Bool) (result : Result T BlockFault) → (had_mounted ≡ true → has_mounted ≡ true)
       → (IsErrOf result Flash → HasRisenBy 1 before.faults after.faults)

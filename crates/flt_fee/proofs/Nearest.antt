@@ -1,5 +1,5 @@
 -- The least of the numbers from one on, among the first ones.
-use Rattle.std.proofs.Common.{◌≡◌, ◌+◌, ◌<◌, ◌≤◌, ℕ, Bool, true, false, List, get_or, length, Option, Some, None, inl, inr, refl, sym, ◌∙◌, ap, subst, below_more, arith}
+use Rattle.std.proofs.Common.{◌≡◌, ◌+◌, ◌<◌, ◌≤◌, ℕ, Bool, true, false, List, get_or, length, Option, Some, None, inl, inr, refl, sym, subst, below_more, arith}
 use Rattle.std.specs.Prelude.{Contains, IfSome, IfNone, min, nat_le, if◌then◌else◌}
 use Rattle.std.proofs.lemmas.Bool.{cases_lt, leb-true, leb-false}
 use Rattle.std.proofs.lemmas.List.{get_or_default}

@@ -1,6 +1,6 @@
 -- The steps of giving a block a content: a mount where the driver is stale, room, and the record.
-use Rattle.std.proofs.Common.{◌≡◌, ◌≢◌, ◌⊎◌, ⊎_elim, inl, inr, ℕ, Bool, List, Option, Some, None, Result, Ok, Err, refl, sym, ◌∙◌, ap}
-use Rattle.std.specs.Prelude.{sum_by, OnOk, IsTrue, IsErrOf}
+use Rattle.std.proofs.Common.{◌≡◌, ⊎_elim, inl, inr, ℕ, Option, None, Result, Ok, Err, refl, ◌∙◌}
+use Rattle.std.specs.Prelude.{sum_by, IsTrue, IsErrOf}
 use Rattle.flt_flash.specs.Content.{Content}
 use Rattle.flt_flash.specs.Blocks.{BlocksState, IsFull, pages_of, record_pages}
 use Rattle.flt_flash.specs.Calls.{SameValues, NeverFull, Changes}

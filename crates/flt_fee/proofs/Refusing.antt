@@ -1,20 +1,18 @@
 -- When a driver that is not stale refuses a record.
-use Rattle.std.proofs.Common.{◌≡◌, ◌≢◌, ◌+◌, ◌-◌, ◌^◌, ◌<◌, ◌≤◌, ℕ, Bool, true, false, List, Option, Some, None, Result, Ok, Err, refl, sym, ◌∙◌, ap, arith}
-use Rattle.std.specs.Prelude.{◌&&◌, ◌==◌, not, nat_le, nat_lt, if◌then◌else◌, sum_by, IsTrue}
+use Rattle.std.proofs.Common.{◌≡◌, ◌≢◌, ◌+◌, ◌-◌, ◌^◌, ◌<◌, ◌≤◌, ℕ, Bool, true, false, List, Option, Some, None, Result, refl, sym, ◌∙◌, ap, arith}
+use Rattle.std.specs.Prelude.{◌&&◌, ◌==◌, not, nat_le, if◌then◌else◌, sum_by, IsTrue}
 use Rattle.std.specs.List.{AllPairs}
 use Rattle.std.proofs.lemmas.Bool.{eq-eqb, ne_eqb, le-leb, lt-ltb, le-ltb, false_from_ne_true, leb-true}
 use Rattle.flt_flash.specs.Image.{sector_at}
 use Rattle.flt_flash.specs.State.{FlashState}
 use Rattle.flt_flash.specs.Blocks.{BlocksState, live_pages, pages_of, record_pages, IsFull}
-use Rattle.flt_flash.specs.declared.blocks.BlockFault.{BlockFault}
 use Rattle.flt_flash.specs.declared.blocks.BlockFault.TheVariants.{Full, SequenceSpent}
-use Rattle.flt_sector.specs.Log.{log}
 use Rattle.flt_sector.specs.Blocks.{Current, current, value_by}
 use Rattle.flt_record.specs.Live.{current_pages}
 use Rattle.flt_record.proofs.Counting.{live_within, log_within}
 use Rattle.flt_fee.specs.Fee.{is_last, is_past, state_by}
 use Rattle.flt_fee.specs.Mounted.{IsMounted}
-use Rattle.flt_fee.specs.Refusal.{refusal, refusal_by}
+use Rattle.flt_fee.specs.Refusal.{refusal}
 
 neither : (b : Bool) → (b && false) ≡ false
 neither true = refl
@@ -34,7 +32,7 @@ module _ (was_stale has_mounted : Bool) (settled : was_stale ≡ false) (used : 
   pub live_end : 2 + live_pages (state_by used numbers was_stale has_mounted before) ≤ end
   live_end = omega (arith, live_is, live_within used numbers (sector_at before.image sector) (omega arith) (is.sound settled) distinct, is.ends settled)
 
-  past_is : (size : ℕ) → is_past used numbers before.image size (current used before.image) ≡ not (nat_le (end + record_pages size) used)
+  pub past_is : (size : ℕ) → is_past used numbers before.image size (current used before.image) ≡ not (nat_le (end + record_pages size) used)
   past_is size = ap (is_past used numbers before.image size) (is.current settled) ∙ ap (λ e. not (nat_le (e + record_pages size) used)) (is.ends settled)
 
   last_is : is_last (current used before.image) ≡ (sequence == 2 ^ 32 - 1)

@@ -9,7 +9,7 @@ use Rattle.flt_code.specs.Seal.{sealed}
 use Rattle.flt_code.specs.Word.{word_bytes}
 use Rattle.flt_code.specs.declared.words.Word.TheVariants.{Start, Active}
 use Rattle.flt_sector.specs.Gates.{gates_of}
-use Rattle.flt_sector.specs.Blocks.{Current, current, current_by, greater_of}
+use Rattle.flt_sector.specs.Blocks.{current, current_by, greater_of}
 use Rattle.flt_pages.specs.Append.{TornCode, TornErase, Appends}
 use Rattle.flt_record.proofs.TornGates.{chosen}
 use Rattle.flt_fee.specs.SetUp.{IsFresh, HoldsNothing}
@@ -92,3 +92,7 @@ module _ (used : ℕ) (least : 4 ≤ used) (fits : used < 2 ^ 16) (before : Flas
     pub done_fresh : (after : FlashState) (result : Result (Unit {0}) FlashFailed) → Appends middle after 0 1 active result → OnOk result (IsFresh used after.image)
     done_fresh after (Ok x) is = fresh_by after is.done
     done_fresh after (Err e) is = tt
+
+pub wear_on : {fact : Type 0} (result : Result (Unit {0}) FlashFailed) → fact → OnOk result fact
+wear_on (Ok x) is = is
+wear_on (Err e) is = tt

@@ -1,33 +1,28 @@
 -- What an image means whose current sector is known.
-use Rattle.std.proofs.Common.{◌≡◌, ◌≢◌, ◌⊎◌, ⊎_elim, inl, inr, ◌+◌, ◌-◌, ◌^◌, ◌<◌, ◌≤◌, ℕ, Bool, true, false, List, [], get_or, set, length, get_or-set_same, get_or-set_other, Option, Some, None, Result, Ok, Err, refl, sym, ◌∙◌, ap, subst, arith}
-use Rattle.std.specs.Prelude.{◌==◌, if◌then◌else◌, Contains}
+use Rattle.std.proofs.Common.{◌≡◌, ◌⊎◌, ⊎_elim, inl, inr, ◌+◌, ◌<◌, ◌≤◌, ℕ, Bool, true, false, List, [], get_or, set, length, get_or-set_same, get_or-set_other, None, Result, Ok, sym, ◌∙◌, ap, subst, arith}
+use Rattle.std.specs.Prelude.{◌==◌, Contains}
 use Rattle.std.specs.List.{list_any}
-use Rattle.std.proofs.lemmas.Bool.{cases_eq, eq-eqb, ne_eqb}
+use Rattle.std.proofs.lemmas.Bool.{cases_eq, eq-eqb}
 use Rattle.flt_flash.specs.Image.{sector_at}
-use Rattle.flt_flash.specs.Content.{Content, missing, invalid, bytes}
+use Rattle.flt_flash.specs.Content.{Content}
 use Rattle.flt_sector.specs.Log.{LogFrom, log}
 use Rattle.flt_sector.specs.Gates.{gate_by, started_by, activated_by, both_gates, gates_of}
-use Rattle.flt_sector.specs.Blocks.{Current, current, current_by, first_fault, fault_by, place_in, block_value, value_by, content_of, last_complete}
+use Rattle.flt_sector.specs.Blocks.{current, current_by, first_fault, fault_by, place_in, block_value, value_by, content_of, last_complete}
 use Rattle.flt_record.specs.Record.{KeptApart}
 use Rattle.flt_fee.specs.Mounted.{Stands, IsMounted}
-use Rattle.flt_fee.specs.Fee.{state_by}
-use Rattle.flt_record.specs.Recorded.{OnSector, Records}
+use Rattle.flt_record.specs.Recorded.{Records}
 use Rattle.flt_record.proofs.Recording.{pages_on}
 use Rattle.flt_record.proofs.Appending.{left_record, whole_record}
 use Rattle.flt_record.proofs.LogOn.{end_least}
 use Rattle.flt_flash.specs.Blocks.{byte_pages}
 use Rattle.flt_record.specs.Record.{IsWhole, RecordLeft}
 use Rattle.flt_record.specs.Holds.{Holds, asked_of, given}
-use Rattle.flt_flash.specs.State.{FlashState, HasShape, HasRisenBy}
-use Rattle.flt_flash.specs.Blocks.{BlocksState}
-use Rattle.flt_flash.specs.Calls.{Follows, Calls, Changes, SameValues}
+use Rattle.flt_flash.specs.State.{FlashState, HasShape}
 use Rattle.flt_flash.specs.declared.flash.FlashFailed.{FlashFailed}
-use Rattle.flt_flash.specs.declared.blocks.BlockFault.{BlockFault}
-use Rattle.flt_flash.specs.declared.blocks.BlockFault.TheVariants.{Flash, Full, SequenceSpent, Damaged}
-use Rattle.flt_code.specs.Word.{IsWord, is_length}
-use Rattle.flt_code.specs.declared.words.Word.TheVariants.{Head, Gate}
+use Rattle.flt_code.specs.Word.{IsWord}
+use Rattle.flt_code.specs.declared.words.Word.TheVariants.{Head}
 use Rattle.std.proofs.lemmas.List.Folds.{list_any_at}
-use Rattle.std.specs.Prelude.{OnOk, OnErr, IsTrue, IsFalse, IsErrOf}
+use Rattle.std.specs.Prelude.{OnOk}
 
 module _ (used : ℕ) (numbers : List ℕ) (image : List (List (List ℕ))) (sector sequence end : ℕ) (value : ℕ → Content) (stands : Stands used numbers image sector sequence end value) where
   pub stands_value : (block : ℕ) → block_value used numbers image block ≡ value block

@@ -1,30 +1,31 @@
 -- What an image means while its sectors are switched.
 use Rattle.std.proofs.Common.{◌≡◌, ◌≢◌, ◌⊎◌, ⊎_elim, inl, inr, ◌+◌, ◌-◌, ◌<◌, ◌≤◌, ◌^◌, ℕ, zero, suc, Bool, true, false, List, [], get_or, set, replicate, length, length-set, get_or-set_same, get_or-set_other, Option, Some, None, Result, Ok, Err, refl, sym, ◌∙◌, ap, subst, arith}
-use Rattle.std.specs.Prelude.{◌==◌, nat_lt, IfOk, IsErr, OnErr}
+use Rattle.std.specs.Prelude.{◌==◌, nat_lt}
 use Rattle.std.proofs.lemmas.Bool.{ne_eqb, lt-ltb, le-ltb}
 use Rattle.std.proofs.lemmas.List.{set-set}
 use Rattle.flt_flash.specs.Image.{sector_at, page_at, programmed, erased, blank_page}
 use Rattle.flt_flash.specs.Content.{Content}
-use Rattle.flt_flash.specs.State.{FlashState, HasShape, Runs, HasRisenBy}
+use Rattle.flt_flash.specs.State.{FlashState, HasShape}
 use Rattle.flt_flash.specs.declared.flash.FlashFailed.{FlashFailed}
-use Rattle.flt_flash.proofs.Following.{runs_on, one_run}
-use Rattle.flt_code.specs.Seal.{sealed, unsealed}
-use Rattle.flt_code.specs.Spoiled.{is_spoiled}
+use Rattle.flt_code.specs.Seal.{sealed}
 use Rattle.flt_code.specs.Word.{word_bytes}
 use Rattle.flt_code.specs.declared.words.Word.TheVariants.{Start, Active}
 use Rattle.flt_sector.specs.Gates.{gates_of}
 use Rattle.flt_sector.specs.Log.{log}
-use Rattle.flt_sector.specs.Blocks.{Current, current, current_by, greater_of}
-use Rattle.flt_pages.specs.Append.{TornCode, TornErase, Appends, Begins}
+use Rattle.flt_sector.specs.Blocks.{Current, current, current_by}
+use Rattle.flt_pages.specs.Append.{TornCode, TornErase, Appends}
 use Rattle.flt_record.specs.Blank.{AreBlank}
 use Rattle.flt_record.specs.Holds.{Holds}
-use Rattle.flt_record.specs.Live.{held_in, current_pages}
+use Rattle.flt_record.specs.Live.{held_in}
 use Rattle.flt_record.specs.Recorded.{OnSector}
+use Rattle.flt_record.specs.declared.place.Place.{Place}
+use Rattle.flt_record.specs.Place.{Tells}
+use Rattle.flt_record.proofs.Telling.{still_tells}
 use Rattle.flt_record.proofs.Appending.{held_same}
 use Rattle.flt_record.proofs.Recording.{pages_on}
 use Rattle.flt_record.proofs.TornGates.{chosen, the_sector, first_alone, second_alone}
 use Rattle.flt_fee.specs.Mounted.{Stands}
-use Rattle.flt_fee.specs.Switch.{KeepsGates, CopiesBlocks, Keeps}
+use Rattle.flt_fee.specs.Switch.{KeepsGates, Keeps}
 use Rattle.flt_fee.proofs.Beginning.{made_active, not_active, start_alone, begin_left, is_begun}
 
 abbrev the_sequence : Result (Option Current) (ℕ × ℕ) → ℕ
@@ -214,6 +215,17 @@ module _ (used : ℕ) (numbers : List ℕ) (before : FlashState) (shape : HasSha
             holds = subst (λ (p : List (List ℕ)). Holds used numbers p end (held_in used numbers (sector_at before.image sector))) (sym there)
                 (held_same used numbers pages (set pages 1 active) end value (omega arith) (length-set pages 1 active) (λ k low. get_or-set_other pages 1 k active [] (omega arith)) holds);
           }
+
+      -- and the table of the copies tells what it holds
+      pub table_over : (end : ℕ) (places : List (Option Place)) → Tells numbers places (sector_at full.image (1 - sector)) end (held_in used numbers (sector_at middle.image sector)) → (after : FlashState)
+          → after.image ≡ programmed full.image (1 - sector) 1 active → Tells numbers places (sector_at after.image (1 - sector)) end (held_in used numbers (sector_at before.image sector))
+      table_over end places tells after is =
+          let image = is ∙ laid active in
+          let there = ap (λ (i : List (List (List ℕ))). sector_at i (1 - sector)) image ∙ get_or-set_same before.image (1 - sector) (set pages 1 active) [] (omega (arith, shape.sectors, in_other)) in
+          subst (λ (p : List (List ℕ)). Tells numbers places p end (held_in used numbers (sector_at before.image sector))) (sym there)
+          (still_tells pages (set pages 1 active) end (length-set pages 1 active) (λ k low lt. get_or-set_other pages 1 k active [] (omega arith)) numbers places value
+          (subst (λ (p : List (List ℕ)). Tells numbers places p end (held_in used numbers (sector_at before.image sector))) full_pages
+          (subst (λ (p : List (List ℕ)). Tells numbers places (sector_at full.image (1 - sector)) end (held_in used numbers p)) source_stays tells)))
 
       pub activation_left : (end : ℕ) → Holds used numbers pages end (held_in used numbers (sector_at before.image sector)) → (after : FlashState) (result : Result (Unit {0}) FlashFailed)
           → Appends full after (1 - sector) 1 active result → Keeps used numbers after.image (held_in used numbers (sector_at before.image sector))

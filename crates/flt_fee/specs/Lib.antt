@@ -4,3 +4,5 @@ pub mod Place
 pub mod SetUp
 pub mod Switch
 pub mod Refusal
+pub mod Costs
+pub mod Wear

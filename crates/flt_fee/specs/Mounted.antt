@@ -1,8 +1,8 @@
 -- What a driver knows of its image while it is not stale.
-use Rattle.std.specs.Prelude.{◌≡◌, ℕ, Bool, true, false, List, Option, Some, None, Result, Ok}
+use Rattle.std.specs.Prelude.{◌≡◌, ℕ, Bool, true, false, List, Some, None, Ok}
 use Rattle.flt_flash.specs.Image.{sector_at}
 use Rattle.flt_flash.specs.Content.{Content}
-use Rattle.flt_sector.specs.Blocks.{Current, current, first_fault}
+use Rattle.flt_sector.specs.Blocks.{current, first_fault}
 use Rattle.flt_sector.specs.Log.{log}
 use Rattle.flt_record.specs.Holds.{Holds}
 

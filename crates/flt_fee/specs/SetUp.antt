@@ -1,8 +1,8 @@
 -- An image that holds nothing.
-use Rattle.std.specs.Prelude.{◌≡◌, ◌⊎◌, ℕ, List, Option, Some, None, Result, Ok}
+use Rattle.std.specs.Prelude.{◌≡◌, ◌⊎◌, ℕ, List, Some, None, Ok}
 use Rattle.flt_flash.specs.Image.{sector_at}
 use Rattle.flt_record.specs.Blank.{AreBlank}
-use Rattle.flt_sector.specs.Blocks.{Current, current}
+use Rattle.flt_sector.specs.Blocks.{current}
 
 -- the first sector is the current one with the number 1, and its log is empty
 pub record IsFresh (used : ℕ) (image : List (List (List ℕ))) : Type 0 where

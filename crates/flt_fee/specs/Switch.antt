@@ -1,5 +1,5 @@
 -- What a switch of the sectors leaves.
-use Rattle.std.specs.Prelude.{◌≡◌, ◌+◌, ◌-◌, ◌<◌, ◌≤◌, ℕ, List, [], length, nat_lt, nat_le, if◌then◌else◌, Option, Some, None, IfSome, IfNone, Contains, Result, IfOk, OnErr, min, slice_index}
+use Rattle.std.specs.Prelude.{◌≡◌, ◌≢◌, ◌+◌, ◌<◌, ◌≤◌, ℕ, List, [], length, nat_lt, nat_le, if◌then◌else◌, Option, Some, None, IfSome, IfNone, Contains, Result, IfOk, OnErr, min, slice_index, slice_index_or}
 use Rattle.flt_flash.specs.Image.{sector_at}
 use Rattle.flt_flash.specs.Content.{Content, missing}
 use Rattle.flt_flash.specs.Blocks.{pages_of}
@@ -7,6 +7,8 @@ use Rattle.flt_flash.specs.State.{FlashState, HasRisenBy}
 use Rattle.flt_flash.specs.declared.flash.FlashFailed.{FlashFailed}
 use Rattle.flt_record.specs.Holds.{Holds, given}
 use Rattle.flt_record.specs.Live.{held_in, current_pages}
+use Rattle.flt_record.specs.declared.place.Place.{Place}
+use Rattle.flt_record.specs.Place.{IsAt}
 use Rattle.flt_record.specs.Record.{KeptApart}
 use Rattle.flt_record.specs.Recorded.{OnSector}
 use Rattle.flt_fee.specs.Mounted.{Stands}
@@ -29,6 +31,7 @@ pub record CopiesBlock (before after : FlashState) (other used : ℕ) (numbers :
   pub pages : List (List ℕ)
   pub on : OnSector before after other pages
   pub gates : KeepsGates (sector_at before.image other) pages
+  pub stays : (k : ℕ) → k < end → slice_index_or pages k [] ≡ slice_index_or (sector_at before.image other) k []
   pub place : IfOk result (λ last. last ≡ end + pages_of content)
   pub done : IfOk result (λ last. (value : ℕ → Content) → value number ≡ missing → Holds used numbers (sector_at before.image other) end value → Holds used numbers pages last (given number content value))
   pub cause : OnErr result (HasRisenBy 1 before.faults after.faults)
@@ -53,3 +56,8 @@ pub record Keeps (used : ℕ) (numbers : List ℕ) (image : List (List (List ℕ
 abbrev pub nearest : ℕ → Option ℕ → ℕ → Option ℕ
 nearest from None number = if nat_le from number then Some number else None
 nearest from (Some least) number = if nat_le from number then Some (min least number) else Some least
+
+-- the table after a record was copied: the place of its block is that of the copy, in the log that ends here, and no other place moved
+pub record Replaces (numbers : List ℕ) (pages : List (List ℕ)) (before after : List (Option Place)) (number end : ℕ) (content : Content) : Type 0 where
+  pub own : (k : ℕ) → k < length numbers → slice_index_or numbers k 0 ≡ number → IsAt pages end content (slice_index_or after k None)
+  pub others : (k : ℕ) → k < length numbers → slice_index_or numbers k 0 ≢ number → slice_index_or after k None ≡ slice_index_or before k None

@@ -1,29 +1,47 @@
 // The driver over two sectors.
-ghost use Rattle.std.specs.Prelude.{◌≡◌, ◌≢◌, ◌+◌, ◌^◌, ◌<◌, ◌≤◌, ℕ, length, true, false, Contains, IsFalse, IsTrue, IfOk, IfErr, OnOk, OnErr, IsErrOf, Ok, Some, None};
+ghost use Rattle.std.specs.Prelude.{◌≡◌, ◌≢◌, ◌+◌, ◌-◌, ◌*◌, ◌^◌, ◌<◌, ◌≤◌, ℕ, length, true, false, Contains, IsFalse, IsTrue, IfOk, IfErr, OnOk, OnErr, IsErrOf, Ok, Some, None};
 ghost use Rattle.std.specs.List.{AllPairs};
-ghost use Rattle.flt_flash.specs.Content.{invalid, bytes as holding};
+ghost use Rattle.std.proofs.Props.{props};
+ghost use Rattle.flt_flash.specs.Content.{invalid, bytes as holding, size_of};
 ghost use Rattle.flt_flash.specs.Image.{sector_at};
 ghost use Rattle.flt_flash.specs.Blocks.{byte_pages, record_pages, live_pages, IsFull};
-ghost use Rattle.flt_flash.specs.Calls.{Calls, Changes, Costs, Finds, NeverFull, SameValues, Settles};
+ghost use Rattle.flt_flash.specs.Calls.{Calls, Changes, Costs, CostsAtMost, Finds, NoFault, NeverFull, SameValues, Settles};
 ghost use Rattle.flt_flash.specs.declared.blocks.BlockFault.TheVariants.{Full, SequenceSpent};
 ghost use Rattle.flt_code.specs.Word.{is_length};
-ghost use Rattle.flt_sector.specs.Blocks.{current};
+ghost use Rattle.flt_sector.specs.Blocks.{current, block_value};
 ghost use Rattle.flt_record.specs.Holds.{asked_of};
-ghost use Rattle.flt_record.specs.Place.{IsWithin, bytes_at};
+ghost use Rattle.flt_record.specs.Place.{IsWithin, IsAt, Tells, bytes_at};
+ghost use Rattle.flt_fee.specs.Costs.{Spends, Erases, MakesRoom, StoreCosts, Stores, UnlessFailed};
 ghost use Rattle.flt_fee.specs.Mounted.{IsMounted};
 ghost use Rattle.flt_fee.specs.Place.{place_of};
 ghost use Rattle.flt_fee.specs.Refusal.{refusal, AnswersBy, KeepsStuck};
+ghost use Rattle.flt_fee.specs.Wear.{StaysEven, UnlessFlash};
 
 use crate::place::{CurrentSector, current_sector};
 use crate::set_up::set_up_flash;
 use crate::switch::switch_sectors;
 use flt_flash::{Arm, Bench, BlockFault, Blocks, Flash, FlashFailed, Found, Refused};
 use flt_pages::PageFault;
-use flt_record::{Place, append_record, byte_pages, last_record, live_pages, log_end, read_record};
+use flt_record::{
+    Place, append_record, byte_pages, find_places, forget, live_pages, note, place_of, read_record,
+};
+use std::alloc::{AllocError, Global};
+
+// A table of blocks without records.
+fn no_places(alloc: Global, many: usize) -> Result<Vec<Option<Place>>, AllocError>
+    ensures { IfOk result (λ places. length places.items ≡ many) }
+{
+    let mut places = Vec::with_capacity(alloc, many)?;
+    for _place in 0..many {
+        places.push(None)?;
+    }
+    Ok(places)
+}
 
 /// Blocks of 1 to 128 bytes in the records of two sectors, of which it uses the first `used` pages each.
 ///
-/// It keeps the current sector, its sequence number, and the page where its log ends, and looks at the log with each call.
+/// It keeps the current sector, its sequence number, the page where its log ends, and the place of each block's current
+/// record. A mount looks at the log once, and no other call looks at it.
 /// Its room is `used - 2` pages. It is spent where the sequence number is 2^32 - 1, and a record is stuck where it is spent
 /// and the record does not fit behind the log.
 #[derive(Drop)]
@@ -36,15 +54,18 @@ pub struct Fee<F: Flash> {
     sector: u8,
     sequence: u32,
     end: u16,
+    places: Vec<Option<Place>>,
     ghost within: { used ≤ (F.state flash).pages },
     ghost least: { 4 ≤ used },
     ghost sectors: { sector < 2 },
     ghost distinct: { AllPairs (λ a b. a ≢ b) numbers.items },
+    ghost sized: { length places.items ≡ length numbers.items },
     ghost mounted: { IsMounted is_stale has_mounted used numbers.items (F.state flash).image sector sequence end },
+    ghost table: { IsFalse is_stale → Tells numbers.items places.items (sector_at (F.state flash).image sector) end (block_value used numbers.items (F.state flash).image) } by { Prim.hlevel props },
 }
 
 impl<F: Flash> Fee<F> {
-    ghost use Rattle.flt_fee.specs.Fee.{device_of, state_by, state_of};
+    ghost use Rattle.flt_fee.specs.Fee.{device_of, is_past, state_by, state_of};
 
     // Appends a record behind the log, where it fits.
     fn append(&mut self, block: u16, bytes: &[u8], valid: bool) -> Result<(), BlockFault>
@@ -57,13 +78,22 @@ impl<F: Flash> Fee<F> {
         ensures calls { Calls (state_of F.state self.old) (state_of F.state self.new) result }
         ensures never_full { NeverFull result }
         ensures stale { Settles result (state_of F.state self.new) }
+        ensures spends { OnOk result (Spends (record_pages (length bytes.now)) (F.state self.old.flash) (F.state self.new.flash)) }
+        ensures even { StaysEven self.old.used (F.state self.old.flash) (F.state self.new.flash) }
     {
         let page = self.end;
         self.is_stale = true;
         match append_record(&mut self.flash, self.sector, page, block, bytes, valid) {
             Err(FlashFailed) => Err(BlockFault::Flash),
             Ok(()) => {
-                self.end = page + 2 + byte_pages(bytes.len() as u16);
+                let length = bytes.len() as u16;
+                let place = Place {
+                    page,
+                    length,
+                    valid,
+                };
+                note(&self.numbers, &mut self.places, block, true, place);
+                self.end = page + 2 + byte_pages(length);
                 self.is_stale = false;
                 Ok(())
             }
@@ -79,9 +109,16 @@ impl<F: Flash> Fee<F> {
         ensures never_full { NeverFull result }
         ensures stale { Settles result (state_of F.state self.new) }
         ensures stuck { KeepsStuck (state_of F.state self.old) (state_of F.state self.new) result }
+        ensures even { UnlessFlash result (StaysEven self.old.used (F.state self.old.flash) (F.state self.new.flash)) }
     {
         self.is_stale = true;
-        match log_end(&mut self.flash, at.sector, self.used, &self.numbers) {
+        match find_places(
+            &mut self.flash,
+            at.sector,
+            self.used,
+            &self.numbers,
+            &mut self.places,
+        ) {
             Err(PageFault::Flash) => Err(BlockFault::Flash),
             Err(PageFault::Damaged { sector, page }) => Err(BlockFault::Damaged { sector, page }),
             Ok(end) => {
@@ -103,11 +140,13 @@ impl<F: Flash> Fee<F> {
         ensures never_full { NeverFull result }
         ensures stale { Settles result (state_of F.state self.new) }
         ensures stuck { KeepsStuck (state_of F.state self.old) (state_of F.state self.new) result }
+        ensures even { UnlessFlash result (StaysEven self.old.used (F.state self.old.flash) (F.state self.new.flash)) }
     {
         self.is_stale = true;
         match set_up_flash(&mut self.flash, self.used) {
             Err(FlashFailed) => Err(BlockFault::Flash),
             Ok(()) => {
+                forget(&mut self.places);
                 self.sector = 0;
                 self.sequence = 1;
                 self.end = 2;
@@ -125,6 +164,7 @@ impl<F: Flash> Fee<F> {
         ensures never_full { NeverFull result }
         ensures stale { Settles result (state_of F.state self.new) }
         ensures stuck { KeepsStuck (state_of F.state self.old) (state_of F.state self.new) result }
+        ensures even { UnlessFlash result (StaysEven self.old.used (F.state self.old.flash) (F.state self.new.flash)) }
     {
         self.is_stale = true;
         match current_sector(&mut self.flash, self.used) {
@@ -143,29 +183,18 @@ impl<F: Flash> Fee<F> {
         ensures stale { Settles result (state_of F.state self.new) }
         ensures stuck { KeepsStuck (state_of F.state self.old) (state_of F.state self.new) result }
         ensures kept { IsFalse (state_of F.state self.old).is_stale → IsFalse (state_of F.state self.new).is_stale }
+        ensures nothing { IsFalse (state_of F.state self.old).is_stale → (result ≡ Ok tt) × (self.new ≡ self.old) }
+        ensures even { UnlessFlash result (StaysEven self.old.used (F.state self.old.flash) (F.state self.new.flash)) }
     {
         if self.is_stale { self.look() } else { Ok(()) }
     }
 
     // The pages of the current records of all blocks.
-    fn live(&mut self) -> Result<u16, BlockFault>
-        requires settled { IsFalse (state_of F.state self.old).is_stale }
-        ensures live { IfOk result (λ live. live ≡ live_pages (state_of F.state self.old)) }
-        ensures values { SameValues (state_of F.state self.old) (state_of F.state self.new) }
-        ensures calls { Calls (state_of F.state self.old) (state_of F.state self.new) result }
-        ensures never_full { NeverFull result }
-        ensures stale { Settles result (state_of F.state self.new) }
-        ensures stays { (F.state self.new.flash).image ≡ (F.state self.old.flash).image }
-        ensures sequence { self.new.sequence ≡ self.old.sequence }
-        ensures used { self.new.used ≡ self.old.used }
+    fn live(&self) -> u16
+        requires { IsFalse (state_of F.state self.now).is_stale }
+        ensures { result ≡ live_pages (state_of F.state self.now) }
     {
-        match live_pages(&mut self.flash, self.sector, self.used, &self.numbers) {
-            Err(FlashFailed) => {
-                self.is_stale = true;
-                Err(BlockFault::Flash)
-            }
-            Ok(live) => Ok(live),
-        }
+        live_pages(&self.places)
     }
 
     // Makes the other sector the current one, with a copy of all that the blocks hold.
@@ -174,16 +203,19 @@ impl<F: Flash> Fee<F> {
         requires next { self.old.sequence + 1 < 2 ^ 32 }
         requires room { 2 + live_pages (state_of F.state self.old) ≤ self.old.used }
         ensures room { OnOk result (self.new.end ≤ 2 + live_pages (state_of F.state self.old)) }
+        ensures erases { OnOk result (Erases (3 + 2 * live_pages (state_of F.state self.old)) (1 - self.old.sector) (F.state self.old.flash) (F.state self.new.flash)) }
         ensures values { SameValues (state_of F.state self.old) (state_of F.state self.new) }
         ensures calls { Calls (state_of F.state self.old) (state_of F.state self.new) result }
         ensures never_full { NeverFull result }
         ensures stale { Settles result (state_of F.state self.new) }
+        ensures even { UnlessFlash result (StaysEven self.old.used (F.state self.old.flash) (F.state self.new.flash)) }
     {
         self.is_stale = true;
         match switch_sectors(
             &mut self.flash,
             self.used,
             &self.numbers,
+            &mut self.places,
             self.sector,
             self.sequence,
         ) {
@@ -204,27 +236,45 @@ impl<F: Flash> Fee<F> {
         requires most { size ≤ 128 }
         ensures answers { AnswersBy (refusal (state_of F.state self.old) block size) result }
         ensures room { OnOk result (self.new.end + record_pages size ≤ self.new.used) }
+        ensures made { OnOk result (MakesRoom self.old.used self.old.end (live_pages (state_of F.state self.old)) size self.old.sector (F.state self.old.flash) (F.state self.new.flash)) }
+        ensures refused { UnlessFailed result (OnErr result (F.state self.new.flash ≡ F.state self.old.flash)) }
         ensures full { (live needed : ℕ) → IsErrOf result (Full live needed) → IsFull (state_of F.state self.new) size live needed }
         ensures spent { IsErrOf result SequenceSpent → IsTrue ((state_of F.state self.new).is_stuck block size) }
         ensures values { SameValues (state_of F.state self.old) (state_of F.state self.new) }
         ensures calls { Calls (state_of F.state self.old) (state_of F.state self.new) result }
         ensures stale { Settles result (state_of F.state self.new) }
+        ensures even { UnlessFlash result (StaysEven self.old.used (F.state self.old.flash) (F.state self.new.flash)) }
     {
         let needed = 2 + byte_pages(size);
         if needed <= self.used - self.end {
             return Ok(());
         }
-        match self.live() {
+        let live = self.live();
+        if needed > self.used - 2 - live {
+            Err(BlockFault::Full { live, needed })
+        } else if self.sequence == u32::MAX {
+            Err(BlockFault::SequenceSpent)
+        } else {
+            self.switch()
+        }
+    }
+
+    // Gives a block of a driver that is not stale these bytes, or makes it invalid.
+    fn store(&mut self, block: u16, bytes: &[u8], valid: bool) -> Result<(), BlockFault>
+        requires settled { IsFalse (state_of F.state self.old).is_stale }
+        requires number { Contains (state_of F.state self.old).numbers block }
+        requires most { length bytes.now ≤ 128 }
+        requires length { is_length valid (length bytes.now) ≡ true }
+        ensures changes { Changes (state_of F.state self.old) (state_of F.state self.new) block (asked_of valid bytes.now) (length bytes.now) result }
+        ensures calls { Calls (state_of F.state self.old) (state_of F.state self.new) result }
+        ensures stale { Settles result (state_of F.state self.new) }
+        ensures answers { AnswersBy (refusal (state_of F.state self.old) block (length bytes.now)) result }
+        ensures stores { UnlessFailed result (Stores self.old.used self.old.end (live_pages (state_of F.state self.old)) (length bytes.now) self.old.sector (F.state self.old.flash) (F.state self.new.flash)) }
+        ensures even { UnlessFlash result (StaysEven self.old.used (F.state self.old.flash) (F.state self.new.flash)) }
+    {
+        match self.make_room(block, bytes.len() as u16) {
             Err(fault) => Err(fault),
-            Ok(live) => {
-                if needed > self.used - 2 - live {
-                    Err(BlockFault::Full { live, needed })
-                } else if self.sequence == u32::MAX {
-                    Err(BlockFault::SequenceSpent)
-                } else {
-                    self.switch()
-                }
-            }
+            Ok(()) => self.append(block, bytes, valid),
         }
     }
 
@@ -237,36 +287,41 @@ impl<F: Flash> Fee<F> {
         ensures calls { Calls (state_of F.state self.old) (state_of F.state self.new) result }
         ensures stale { Settles result (state_of F.state self.new) }
         ensures answers { AnswersBy (refusal (state_of F.state self.old) block (length bytes.now)) result }
+        ensures stores { IsFalse (state_of F.state self.old).is_stale → NoFault (state_of F.state self.old) (state_of F.state self.new) → StoreCosts (is_past self.old.used self.old.numbers.items (F.state self.old.flash).image (length bytes.now) (current self.old.used (F.state self.old.flash).image)) (state_of F.state self.old) (state_of F.state self.new) (length bytes.now) }
+        ensures costs { Costs (state_of F.state self.old) (state_of F.state self.new) (length bytes.now) }
+        ensures even { UnlessFlash result (StaysEven self.old.used (F.state self.old.flash) (F.state self.new.flash)) }
     {
         match self.settle() {
             Err(fault) => Err(fault),
-            Ok(()) => match self.make_room(block, bytes.len() as u16) {
-                Err(fault) => Err(fault),
-                Ok(()) => self.append(block, bytes, valid),
-            },
+            Ok(()) => self.store(block, bytes, valid),
         }
+    }
+
+    // The place of a block's current record, if it has one.
+    fn place(&self, block: u16) -> Option<Place>
+        requires settled { IsFalse (state_of F.state self.now).is_stale }
+        requires number { Contains (state_of F.state self.now).numbers block }
+        ensures { IsAt (sector_at (F.state self.now.flash).image self.now.sector) self.now.used ((state_of F.state self.now).value block) result }
+    {
+        place_of(&self.numbers, &self.places, block)
     }
 
     // Reads a block of a driver that is not stale.
     fn find(&mut self, block: u16, out: &mut [u8; 128]) -> Result<Found, BlockFault>
         requires settled { IsFalse (state_of F.state self.old).is_stale }
+        requires number { Contains (state_of F.state self.old).numbers block }
         ensures found { IfOk result (λ found. Finds ((state_of F.state self.old).value block) found out.old out.new) }
         ensures nothing { OnErr result (out.new ≡ out.old) }
         ensures values { SameValues (state_of F.state self.old) (state_of F.state self.new) }
         ensures calls { Calls (state_of F.state self.old) (state_of F.state self.new) result }
         ensures never_full { NeverFull result }
         ensures stale { IsFalse (state_of F.state self.new).is_stale }
+        ensures spends { OnOk result (Spends (byte_pages (size_of ((state_of F.state self.old).value block))) (F.state self.old.flash) (F.state self.new.flash)) }
+        ensures even { StaysEven self.old.used (F.state self.old.flash) (F.state self.new.flash) }
     {
-        match last_record(
-            &mut self.flash,
-            self.sector,
-            self.used,
-            &self.numbers,
-            block,
-        ) {
-            Err(FlashFailed) => Err(BlockFault::Flash),
-            Ok(None) => Ok(Found::Missing),
-            Ok(Some(place)) => self.take(place, out),
+        match self.place(block) {
+            None => Ok(Found::Missing),
+            Some(place) => self.take(place, out),
         }
     }
 
@@ -280,6 +335,8 @@ impl<F: Flash> Fee<F> {
         ensures calls { Calls (state_of F.state self.old) (state_of F.state self.new) result }
         ensures never_full { NeverFull result }
         ensures stale { IsFalse (state_of F.state self.new).is_stale }
+        ensures spends { OnOk result (Spends (byte_pages (size_of (asked_of place.valid (bytes_at (sector_at (F.state self.old.flash).image self.old.sector) place)))) (F.state self.old.flash) (F.state self.new.flash)) }
+        ensures even { StaysEven self.old.used (F.state self.old.flash) (F.state self.new.flash) }
     {
         if !place.valid {
             return Ok(Found::Invalid);
@@ -291,8 +348,9 @@ impl<F: Flash> Fee<F> {
     }
 
     /// A driver over this flash of `used` pages in each sector, for these block numbers. It is stale, and has not mounted.
-    /// The error, for want of memory, hands the flash back; this driver takes none and never gives it.
-    pub fn make(flash: F, used: u16, numbers: Vec<u16>) -> Result<Fee<F>, Refused<F>>
+    /// It takes the memory of one place for each number, and no other call takes any. The error, for want of memory, hands
+    /// the flash back.
+    pub fn make(alloc: Global, flash: F, used: u16, numbers: Vec<u16>) -> Result<Fee<F>, Refused<F>>
         requires least { 4 ≤ used }
         requires most { used ≤ (F.state flash).pages }
         requires distinct { AllPairs (λ a b. a ≢ b) numbers.items }
@@ -300,16 +358,20 @@ impl<F: Flash> Fee<F> {
         ensures numbers { IfOk result (λ fee. (state_of F.state fee).numbers ≡ numbers.items) }
         ensures refused { IfErr result (λ refused. refused.device ≡ flash) }
     {
-        Ok(Fee {
-            flash,
-            used,
-            numbers,
-            is_stale: true,
-            has_mounted: false,
-            sector: 0,
-            sequence: 0,
-            end: 0,
-        })
+        match no_places(alloc, numbers.len()) {
+            Err(AllocError) => Err(Refused { device: flash }),
+            Ok(places) => Ok(Fee {
+                flash,
+                used,
+                numbers,
+                is_stale: true,
+                has_mounted: false,
+                sector: 0,
+                sequence: 0,
+                end: 0,
+                places,
+            }),
+        }
     }
 
     /// The flash, as the driver left it.
@@ -322,7 +384,7 @@ impl<F: Flash> Fee<F> {
 
 impl<F: Bench> Blocks for Fee<F> {
     ghost use Rattle.flt_record.proofs.Short.{value_is_short};
-    ghost use Rattle.flt_fee.specs.Fee.{state_of};
+    ghost use Rattle.flt_fee.specs.Fee.{is_past, state_of};
     ghost use Rattle.flt_fee.specs.Refusal.{first_holds};
 
     ghost state = { state_of F.state };
@@ -335,7 +397,15 @@ impl<F: Bench> Blocks for Fee<F> {
 
     ghost bytes_are_short = { λ driver block. value_is_short driver.used driver.numbers.items (F.state driver.flash).image block };
 
-    fn mount(&mut self) -> Result<(), BlockFault> {
+    fn mount(&mut self) -> Result<(), BlockFault>
+        ensures values { SameValues (state_of F.state self.old) (state_of F.state self.new) }
+        ensures calls { Calls (state_of F.state self.old) (state_of F.state self.new) result }
+        ensures never_full { NeverFull result }
+        ensures stale { Settles result (state_of F.state self.new) }
+
+        // The sectors wear evenly.
+        ensures even { NoFault (state_of F.state self.old) (state_of F.state self.new) → StaysEven self.old.used (F.state self.old.flash) (F.state self.new.flash) }
+    {
         self.look()
     }
 
@@ -348,13 +418,34 @@ impl<F: Bench> Blocks for Fee<F> {
         ensures stale { Settles result (state_of F.state self.new) }
         ensures costs { Costs (state_of F.state self.old) (state_of F.state self.new) (length bytes.now) }
 
+        // It costs the pages of its record where that fits behind the log, and else a switch of the sectors with one erase too.
+        ensures stores { IsFalse (state_of F.state self.old).is_stale → NoFault (state_of F.state self.old) (state_of F.state self.new) → StoreCosts (is_past self.old.used self.old.numbers.items (F.state self.old.flash).image (length bytes.now) (current self.old.used (F.state self.old.flash).image)) (state_of F.state self.old) (state_of F.state self.new) (length bytes.now) }
+
         // It is refused exactly where there is no room for it, or else no sequence number for a switch.
         ensures answers { AnswersBy (refusal (state_of F.state self.old) block (length bytes.now)) result }
+
+        // The sectors wear evenly.
+        ensures even { NoFault (state_of F.state self.old) (state_of F.state self.new) → StaysEven self.old.used (F.state self.old.flash) (F.state self.new.flash) }
     {
         self.put(block, bytes, true)
     }
 
-    fn read(&mut self, block: u16, out: &mut [u8; 128]) -> Result<Found, BlockFault> {
+    fn read(&mut self, block: u16, out: &mut [u8; 128]) -> Result<Found, BlockFault>
+        requires { Contains (state_of F.state self.old).numbers block }
+        ensures found { IfOk result (λ found. Finds ((state_of F.state self.old).value block) found out.old out.new) }
+        ensures nothing { OnErr result (out.new ≡ out.old) }
+        ensures values { SameValues (state_of F.state self.old) (state_of F.state self.new) }
+        ensures calls { Calls (state_of F.state self.old) (state_of F.state self.new) result }
+        ensures never_full { NeverFull result }
+        ensures settled { OnOk result (IsFalse (state_of F.state self.new).is_stale) }
+        ensures stale { IsFalse (state_of F.state self.old).is_stale → IsFalse (state_of F.state self.new).is_stale }
+
+        // A driver that is not stale looks at no log: it reads the pages of the record's bytes alone.
+        ensures costs { IsFalse (state_of F.state self.old).is_stale → NoFault (state_of F.state self.old) (state_of F.state self.new) → CostsAtMost (byte_pages (size_of ((state_of F.state self.old).value block))) (state_of F.state self.old) (state_of F.state self.new) }
+
+        // The sectors wear evenly.
+        ensures even { NoFault (state_of F.state self.old) (state_of F.state self.new) → StaysEven self.old.used (F.state self.old.flash) (F.state self.new.flash) }
+    {
         match self.settle() {
             Err(fault) => Err(fault),
             Ok(()) => self.find(block, out),
@@ -368,8 +459,14 @@ impl<F: Bench> Blocks for Fee<F> {
         ensures stale { Settles result (state_of F.state self.new) }
         ensures costs { Costs (state_of F.state self.old) (state_of F.state self.new) 0 }
 
+        // It costs the pages of its record where that fits behind the log, and else a switch of the sectors with one erase too.
+        ensures stores { IsFalse (state_of F.state self.old).is_stale → NoFault (state_of F.state self.old) (state_of F.state self.new) → StoreCosts (is_past self.old.used self.old.numbers.items (F.state self.old.flash).image 0 (current self.old.used (F.state self.old.flash).image)) (state_of F.state self.old) (state_of F.state self.new) 0 }
+
         // It is refused exactly where there is no room for it, or else no sequence number for a switch.
         ensures answers { AnswersBy (refusal (state_of F.state self.old) block 0) result }
+
+        // The sectors wear evenly.
+        ensures even { NoFault (state_of F.state self.old) (state_of F.state self.new) → StaysEven self.old.used (F.state self.old.flash) (F.state self.new.flash) }
     {
         self.put(block, &[], false)
     }

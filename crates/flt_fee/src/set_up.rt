@@ -1,6 +1,6 @@
 // A flash of which no sector is valid.
-ghost use Rattle.std.specs.Prelude.{◌≡◌, ◌≤◌, Ok, None, OnOk, OnErr};
-ghost use Rattle.flt_flash.specs.State.{Runs, HasRisenBy};
+ghost use Rattle.std.specs.Prelude.{◌≡◌, ◌≤◌, Ok, None, OnOk, OnErr, slice_index, slice_set};
+ghost use Rattle.flt_flash.specs.State.{Runs, HasRisenBy, counted};
 ghost use Rattle.flt_sector.specs.Blocks.{current};
 ghost use Rattle.flt_fee.specs.SetUp.{IsFresh, HoldsNothing};
 
@@ -13,6 +13,7 @@ pub(crate) fn set_up_flash<F: Flash>(flash: &mut F, used: u16) -> Result<(), Fla
     requires most { used ≤ (F.state flash.old).pages }
     requires none { current used (F.state flash.old).image ≡ Ok None }
     ensures fresh { OnOk result (IsFresh used (F.state flash.new).image) }
+    ensures wear { OnOk result ((F.state flash.new).wear ≡ slice_set (F.state flash.old).wear 0 (counted (slice_index (F.state flash.old).wear 0))) }
     ensures left { HoldsNothing used (F.state flash.new).image }
     ensures runs { Runs (F.state flash.old) (F.state flash.new) }
     ensures cause { OnErr result (HasRisenBy 1 (F.state flash.old).faults (F.state flash.new).faults) }

@@ -1,5 +1,6 @@
 // The switch of the sectors.
-ghost use Rattle.std.specs.Prelude.{◌≡◌, ◌+◌, ◌-◌, ◌^◌, ◌<◌, ◌≤◌, ◌≢◌, Ok, Some, None, Contains, IfOk, OnErr};
+ghost use Rattle.std.specs.Prelude.{Option, ◌≡◌, ◌+◌, ◌-◌, ◌*◌, ◌^◌, ◌<◌, ◌≤◌, ◌≢◌, Ok, Some, None, Contains, IfOk, OnOk, OnErr, length};
+ghost use Rattle.std.specs.List.{AllPairs};
 ghost use Rattle.flt_flash.specs.Image.{sector_at};
 ghost use Rattle.flt_flash.specs.State.{Runs, HasRisenBy};
 ghost use Rattle.flt_flash.specs.Blocks.{pages_of};
@@ -7,12 +8,14 @@ ghost use Rattle.flt_sector.specs.Log.{log};
 ghost use Rattle.flt_sector.specs.Blocks.{current};
 ghost use Rattle.flt_record.specs.Blank.{AreBlank};
 ghost use Rattle.flt_record.specs.Live.{held_in, current_pages};
+ghost use Rattle.flt_record.specs.Place.{IsAt, IsPlaceOf, Tells};
+ghost use Rattle.flt_fee.specs.Costs.{Erases};
 ghost use Rattle.flt_fee.specs.Mounted.{Stands};
-ghost use Rattle.flt_fee.specs.Switch.{IsNext, nearest, CopiesBlock, CopiesBlocks, Keeps};
+ghost use Rattle.flt_fee.specs.Switch.{IsNext, nearest, CopiesBlock, CopiesBlocks, Keeps, Replaces};
 
 use flt_flash::{Flash, FlashFailed};
 use flt_pages::{activate, begin};
-use flt_record::{byte_pages, copy_record, last_record};
+use flt_record::{Place, byte_pages, copy_record, note, place_of};
 
 // The lesser of a number and one found earlier, where it is not below `from`.
 fn nearer(earlier: Option<u16>, number: u16, from: u32) -> Option<u16>
@@ -45,6 +48,7 @@ fn copy_block<F: Flash>(
     other: u8,
     used: u16,
     numbers: &[u16],
+    places: &mut [Option<Place>],
     number: u16,
     end: u16,
 ) -> Result<u16, FlashFailed>
@@ -54,16 +58,24 @@ fn copy_block<F: Flash>(
     requires least { 2 ≤ used }
     requires most { used ≤ (F.state flash.old).pages }
     requires sound { (log used numbers.now (sector_at (F.state flash.old).image sector)).fault ≡ None }
+    requires size { length places.old ≡ length numbers.now }
+    requires distinct { AllPairs (λ a b. a ≢ b) numbers.now }
+    requires place { (found : Option Place) → IsPlaceOf numbers.now places.old number found → IsAt (sector_at (F.state flash.old).image sector) used (held_in used numbers.now (sector_at (F.state flash.old).image sector) number) found }
     requires number { Contains numbers.now number }
     requires begun { 2 ≤ end }
     requires room { end + pages_of (held_in used numbers.now (sector_at (F.state flash.old).image sector) number) ≤ used }
     requires blank { AreBlank (sector_at (F.state flash.old).image other) end used }
     ensures copies { CopiesBlock (F.state flash.old) (F.state flash.new) other used numbers.now number end (held_in used numbers.now (sector_at (F.state flash.old).image sector) number) result }
+    ensures size { length places.new ≡ length numbers.now }
+    ensures operations { IfOk result (λ last. (F.state flash.new).operations + 2 * end ≤ (F.state flash.old).operations + 2 * last) }
+    ensures table { IfOk result (λ last. Replaces numbers.now (sector_at (F.state flash.new).image other) places.old places.new number last (held_in used numbers.now (sector_at (F.state flash.old).image sector) number)) }
 {
-    match last_record(flash, sector, used, numbers, number)? {
+    match place_of(numbers, places, number) {
         None => Ok(end),
         Some(place) => {
             copy_record(flash, sector, place, number, other, end)?;
+            let copy = Place { page: end, ..place };
+            note(numbers, places, number, true, copy);
             Ok(end + (2 + byte_pages(place.length)))
         }
     }
@@ -76,6 +88,7 @@ fn copy_blocks<F: Flash>(
     other: u8,
     used: u16,
     numbers: &[u16],
+    places: &mut [Option<Place>],
 ) -> Result<u16, FlashFailed>
     requires sector { sector < 2 }
     requires other { other < 2 }
@@ -85,12 +98,18 @@ fn copy_blocks<F: Flash>(
     requires sound { (log used numbers.now (sector_at (F.state flash.old).image sector)).fault ≡ None }
     requires room { 2 + current_pages used numbers.now (sector_at (F.state flash.old).image sector) ≤ used }
     requires blank { AreBlank (sector_at (F.state flash.old).image other) 2 used }
+    requires size { length places.old ≡ length numbers.now }
+    requires distinct { AllPairs (λ a b. a ≢ b) numbers.now }
+    requires table { Tells numbers.now places.old (sector_at (F.state flash.old).image sector) used (held_in used numbers.now (sector_at (F.state flash.old).image sector)) }
+    ensures size { length places.new ≡ length numbers.now }
+    ensures table { IfOk result (λ end. Tells numbers.now places.new (sector_at (F.state flash.new).image other) end (held_in used numbers.now (sector_at (F.state flash.old).image sector))) }
+    ensures operations { IfOk result (λ end. (F.state flash.new).operations + 4 ≤ (F.state flash.old).operations + 2 * end) }
     ensures copies { CopiesBlocks (F.state flash.old) (F.state flash.new) sector other used numbers.now result }
 {
     let mut end = 2;
     let mut from = 0;
     'copies: while let Some(number) = next_number(numbers, from) {
-        end = copy_block(flash, sector, other, used, numbers, number, end)?;
+        end = copy_block(flash, sector, other, used, numbers, places, number, end)?;
         from = u32::from(number) + 1;
     }
     Ok(end)
@@ -102,6 +121,7 @@ pub(crate) fn switch_sectors<F: Flash>(
     flash: &mut F,
     used: u16,
     numbers: &[u16],
+    places: &mut [Option<Place>],
     sector: u8,
     sequence: u32,
 ) -> Result<u16, FlashFailed>
@@ -112,15 +132,21 @@ pub(crate) fn switch_sectors<F: Flash>(
     requires sound { (log used numbers.now (sector_at (F.state flash.old).image sector)).fault ≡ None }
     requires next { sequence + 1 < 2 ^ 32 }
     requires room { 2 + current_pages used numbers.now (sector_at (F.state flash.old).image sector) ≤ used }
+    requires size { length places.old ≡ length numbers.now }
+    requires distinct { AllPairs (λ a b. a ≢ b) numbers.now }
+    requires table { Tells numbers.now places.old (sector_at (F.state flash.old).image sector) used (held_in used numbers.now (sector_at (F.state flash.old).image sector)) }
+    ensures size { length places.new ≡ length numbers.now }
+    ensures table { IfOk result (λ end. Tells numbers.now places.new (sector_at (F.state flash.new).image (1 - sector)) end (held_in used numbers.now (sector_at (F.state flash.old).image sector))) }
     ensures room { IfOk result (λ end. end ≤ 2 + current_pages used numbers.now (sector_at (F.state flash.old).image sector)) }
     ensures switched { IfOk result (λ end. Stands used numbers.now (F.state flash.new).image (1 - sector) (sequence + 1) end (held_in used numbers.now (sector_at (F.state flash.old).image sector))) }
     ensures left { Keeps used numbers.now (F.state flash.new).image (held_in used numbers.now (sector_at (F.state flash.old).image sector)) }
+    ensures erases { OnOk result (Erases (3 + 2 * current_pages used numbers.now (sector_at (F.state flash.old).image sector)) (1 - sector) (F.state flash.old) (F.state flash.new)) }
     ensures runs { Runs (F.state flash.old) (F.state flash.new) }
     ensures cause { OnErr result (HasRisenBy 1 (F.state flash.old).faults (F.state flash.new).faults) }
 {
     let other = 1 - sector;
     begin(flash, other, used, sequence + 1)?;
-    let end = copy_blocks(flash, sector, other, used, numbers)?;
+    let end = copy_blocks(flash, sector, other, used, numbers, places)?;
     activate(flash, other, sequence + 1)?;
     Ok(end)
 }

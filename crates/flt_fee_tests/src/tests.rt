@@ -21,7 +21,7 @@ fn two_blocks(alloc: Global, flash: FlashMem, used: u16) -> Result<Fee<FlashMem>
     ensures first { IfOk result (λ fee. Contains (state_of flash_state fee).numbers 8) }
     ensures second { IfOk result (λ fee. Contains (state_of flash_state fee).numbers 9) }
 {
-    match Fee::make(flash, used, vec![in alloc; 8, 9]?) {
+    match Fee::make(alloc, flash, used, vec![in alloc; 8, 9]?) {
         Ok(fee) => Ok(fee),
         Err(_) => Err(Fail::from("refused")),
     }
@@ -33,7 +33,7 @@ fn five_blocks(alloc: Global, flash: FlashMem, used: u16) -> Result<Fee<FlashMem
     requires most { used ≤ (flash_state flash).pages }
     ensures { IfOk result (λ fee. HasFive (state_of flash_state fee).numbers) }
 {
-    match Fee::make(flash, used, vec![in alloc; 1, 2, 3, 4, 5]?) {
+    match Fee::make(alloc, flash, used, vec![in alloc; 1, 2, 3, 4, 5]?) {
         Ok(fee) => Ok(fee),
         Err(_) => Err(Fail::from("refused")),
     }

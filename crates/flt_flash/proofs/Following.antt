@@ -18,6 +18,8 @@ pub no_run : (state : FlashState) → Runs state state
 no_run state = record {
   pages = refl;
   counts = omega arith;
+  operations = omega arith;
+  erases = omega arith;
   stays_off = λ off. off;
   stays_while_off = λ off. refl;
   counts_for_no_arm = λ off. refl;
@@ -28,6 +30,8 @@ pub one_run : {T : Type 0} {result : Result T FlashFailed} {before after : Flash
 one_run does = record {
   pages = does.pages;
   counts = does.counts;
+  operations = omega (arith, does.operations);
+  erases = does.erases;
   stays_off = does.stays_off;
   stays_while_off = does.stays_while_off;
   counts_for_no_arm = does.counts_for_no_arm;
@@ -38,6 +42,8 @@ pub runs_on : {first second third : FlashState} → Runs first second → Runs s
 runs_on {first} {second} {third} one two = record {
   pages = two.pages ∙ one.pages;
   counts = omega (arith, one.counts, two.counts);
+  operations = omega (arith, one.operations, two.operations);
+  erases = omega (arith, one.erases, two.erases);
   stays_off = λ off. two.stays_off (one.stays_off off);
   stays_while_off = λ off. two.stays_while_off (one.stays_off off) ∙ one.stays_while_off off;
   counts_for_no_arm = λ off. two.counts_for_no_arm (one.stays_off off) ∙ one.counts_for_no_arm off;

@@ -1,5 +1,5 @@
 -- The image of a flash in memory is two sectors of its pages.
-use Rattle.std.proofs.Common.{ℕ, zero, suc, ◌<◌, ◌≡◌, length, refl, arith}
+use Rattle.std.proofs.Common.{ℕ, zero, suc, ◌<◌, ◌≤◌, ◌≡◌, ◌-◌, ◌^◌, get_or, length, refl, arith}
 use Rattle.flt_flash.specs.Image.{sector_at, ArePages}
 use Rattle.flt_flash.specs.State.{HasShape}
 use Rattle.flt_flash.specs.Memory.{state_of}
@@ -7,7 +7,7 @@ use Rattle.flt_flash.specs.declared.memory.FlashMem.{FlashMem}
 
 -- the shape of the image is kept by the fields of the flash
 pub shape_of : (flash : FlashMem) → HasShape (state_of flash)
-shape_of flash = record { most = flash.most; sectors = refl; pages = sizes; bytes = bytes; wear = refl }
+shape_of flash = record { most = flash.most; sectors = refl; pages = sizes; bytes = bytes; wear = refl; operations = omega (arith, flash.most_operations); erases = erases }
   where
     sizes : (sector : ℕ) → sector < 2 → length (sector_at (state_of flash).image sector) ≡ flash.pages
     sizes zero lt = flash.first_size
@@ -18,3 +18,8 @@ shape_of flash = record { most = flash.most; sectors = refl; pages = sizes; byte
     bytes zero lt = flash.first_bytes
     bytes (suc zero) lt = flash.second_bytes
     bytes (suc (suc sector)) lt = absurd (omega arith)
+
+    erases : (sector : ℕ) → sector < 2 → get_or (state_of flash).wear sector 0 ≤ 2 ^ 64 - 1
+    erases zero lt = omega (arith, flash.most_first_wear)
+    erases (suc zero) lt = omega (arith, flash.most_second_wear)
+    erases (suc (suc sector)) lt = absurd (omega arith)

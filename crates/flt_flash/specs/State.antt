@@ -1,5 +1,5 @@
 -- What a flash and its bench mean, and what each operation does beside its answer.
-use Rattle.std.specs.Prelude.{◌≡◌, ℕ, ◌+◌, ◌-◌, ◌^◌, ◌≤◌, min, Bool, false, List, [], ◌∷◌, ◌++◌, Option, Some, Result, IsTrue, IsErr, OnErr, IfSome, IsSomeAnd, length, ◌<◌}
+use Rattle.std.specs.Prelude.{◌≡◌, ℕ, ◌+◌, ◌-◌, ◌^◌, ◌≤◌, min, Bool, false, List, [], ◌∷◌, ◌++◌, Option, Some, Result, IsTrue, IsErr, OnErr, IfSome, IsSomeAnd, length, ◌<◌, slice_index_or}
 use Rattle.flt_flash.specs.Image.{sector_at, ArePages}
 use Rattle.flt_flash.specs.declared.arm.Arm.{Arm}
 use Rattle.flt_flash.specs.declared.arm.Arm.TheVariants.{Cut, Fault, Mute}
@@ -17,6 +17,14 @@ HasRisenBy many before after = min (before + many) (2 ^ 64 - 1) ≤ after
 -- one more, as far as the count goes
 abbrev pub counted : ℕ → ℕ
 counted before = min (before + 1) (2 ^ 64 - 1)
+
+-- a count as far as it goes
+abbrev pub as_counted : ℕ → ℕ
+as_counted count = min count (2 ^ 64 - 1)
+
+-- the erase calls of both sectors
+abbrev pub erases_of : List ℕ → ℕ
+erases_of wear = as_counted (slice_index_or wear 0 0) + as_counted (slice_index_or wear 1 0)
 
 -- a power-up: the count of faults and the image at its moment
 pub record Boot : Type 0 where
@@ -40,13 +48,15 @@ pub record FlashState : Type 0 where
   pub wear : List ℕ
   pub bench : BenchState
 
--- the image is two sectors of this many pages of 32 bytes, and the erase calls are counted for both
+-- the image is two sectors of this many pages of 32 bytes, and the erase calls are counted for both; no count is past its greatest number
 pub record HasShape (state : FlashState) : Type 0 where
   pub most : state.pages < 65536
   pub sectors : length state.image ≡ 2
   pub pages : (sector : ℕ) → sector < 2 → length (sector_at state.image sector) ≡ state.pages
   pub bytes : (sector : ℕ) → sector < 2 → ArePages (sector_at state.image sector)
   pub wear : length state.wear ≡ 2
+  pub operations : state.operations ≤ 2 ^ 64 - 1
+  pub erases : (sector : ℕ) → sector < 2 → slice_index_or state.wear sector 0 ≤ 2 ^ 64 - 1
 
 -- an operation keeps the boots and the arms made, and lets none stand anew
 pub record KeepsBench (before after : BenchState) : Type 0 where
@@ -65,6 +75,7 @@ pub record Operates {T : Type 0} (before after : FlashState) (result : Result T 
   pub stays_while_off : IsTrue before.is_off → after.image ≡ before.image
   pub counts_for_no_arm : IsTrue before.is_off → after.bench ≡ before.bench
   pub operations : after.operations ≡ counted before.operations
+  pub erases : erases_of before.wear ≤ erases_of after.wear
   pub bench : KeepsBench before.bench after.bench
 
 -- the program or erase of a cut or a fault is one to come
@@ -113,6 +124,8 @@ first_state pages first second boots = record {
 pub record Runs (before after : FlashState) : Type 0 where
   pub pages : after.pages ≡ before.pages
   pub counts : HasRisenBy 0 before.faults after.faults
+  pub operations : HasRisenBy 0 before.operations after.operations
+  pub erases : erases_of before.wear ≤ erases_of after.wear
   pub stays_off : IsTrue before.is_off → IsTrue after.is_off
   pub stays_while_off : IsTrue before.is_off → after.image ≡ before.image
   pub counts_for_no_arm : IsTrue before.is_off → after.bench ≡ before.bench

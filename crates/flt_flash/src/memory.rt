@@ -1,5 +1,5 @@
 // A flash in memory, and the bench that cuts its power and makes its operations fail.
-ghost use Rattle.std.specs.Prelude.{◌≡◌, false, ℕ, ◌+◌, ◌-◌, ◌/◌, ◌%◌, ◌<◌, ◌≤◌, take, drop, [], ◌∷◌, ◌++◌, length, replicate, Some, IfNone, IfSome, OnSome, is_err, is_some, OnOk, OnErr, IfOk, slice_index, slice_set};
+ghost use Rattle.std.specs.Prelude.{◌≡◌, false, ℕ, ◌^◌, ◌+◌, ◌-◌, ◌/◌, ◌%◌, ◌<◌, ◌≤◌, take, drop, [], ◌∷◌, ◌++◌, length, replicate, Some, IfNone, IfSome, OnSome, is_err, is_some, OnOk, OnErr, IfOk, slice_index, slice_set};
 ghost use Rattle.flt_flash.specs.declared.arm.Pattern.TheVariants.{Nothing};
 ghost use Rattle.flt_flash.specs.State.{first_state, Operates, counted, CanArm, Arms, PowersUp};
 ghost use Rattle.flt_flash.specs.Tearing.{IsTornSector, IsTorn};
@@ -29,6 +29,9 @@ pub struct FlashMem {
     boots: Vec<SavedBoot>,
     boots_used: u16,
     ghost most: { pages < 65536 },
+    ghost most_operations: { power.operations < 2 ^ 64 },
+    ghost most_first_wear: { first_wear < 2 ^ 64 },
+    ghost most_second_wear: { second_wear < 2 ^ 64 },
     ghost first_size: { length first.items ≡ pages },
     ghost second_size: { length second.items ≡ pages },
     ghost first_bytes: { ArePages first.items },

@@ -235,7 +235,7 @@ start_fits event = record {
   lit = λ is. absurd (cc);
 }
 
-initial_states : (c : Config) → AreStatesOf c.events.items (initial_state c).events.items
+pub initial_states : (c : Config) → AreStatesOf c.events.items (initial_state c).events.items
 initial_states c = record {
   one_each = length-replicate (length c.events.items) start_state;
   fitting = λ k event state below. subst (IsStateOf (slice_index_or c.events.items k event)) (sym (get_or-replicate (length c.events.items) k start_state state below)) (start_fits (slice_index_or c.events.items k event));

@@ -1,19 +1,18 @@
 -- What a part that is read leaves, by what was found of it alone.
-use Rattle.std.proofs.Common.{◌≡◌, ◌≢◌, ◌⊎◌, ℕ, ◌+◌, ◌-◌, ◌*◌, ◌<◌, ◌≤◌, ◌++◌, [], ◌∷◌, Bool, true, false, ◌&&◌, List, length, refl, sym, ◌∙◌, ap, subst, arith, inl, inr, set, get_or, take, drop}
-use Rattle.std.specs.Prelude.{slice_index_or, slice_get, slice_index, bytes_eq, nat_le, Option, Some, None, position, is_none}
-use Rattle.std.proofs.lemmas.Bool.{cases_lt, cases_eq, false_from_ne_true, and_from, and_parts, le-leb, leb-true, lt-leb, and_left, and_right}
-use Rattle.std.proofs.lemmas.List.{get_or_past, get_or-set_same, get_or-set_other, set_past, take-set, drop-set-lt}
+use Rattle.std.proofs.Common.{◌≡◌, ℕ, ◌+◌, ◌<◌, ◌≤◌, [], ◌∷◌, Bool, true, false, ◌&&◌, List, length, refl, sym, ◌∙◌, ap, subst, arith, inl, inr, set, take, drop}
+use Rattle.std.specs.Prelude.{slice_index_or, slice_get, bytes_eq, Option, Some, None, position, is_none}
+use Rattle.std.proofs.lemmas.Bool.{cases_lt, cases_eq, false_from_ne_true, and_from, and_parts, le-leb, leb-true, and_left, and_right}
+use Rattle.std.proofs.lemmas.List.{get_or-set_same, get_or-set_other, set_past, take-set, drop-set-lt}
 use Rattle.flt_config.specs.declared.config.Config.{Config}
-use Rattle.flt_config.specs.declared.config.EventCfg.{EventCfg}
 use Rattle.flt_config.specs.declared.persist.Persist.{Persist}
 use Rattle.flt_config.specs.declared.persist.EventState.{EventState}
 use Rattle.flt_config.specs.declared.persist.EntryState.{EntryState}
-use Rattle.flt_config.specs.Durable.{Fits, AreStatesOf, IsEntryOf, start_state, is_of_event}
+use Rattle.flt_config.specs.Durable.{Fits, AreStatesOf, start_state, is_of_event}
 use Rattle.flt_generation.specs.declared.part.Part.{Part}
 use Rattle.flt_generation.specs.declared.part.Part.TheVariants.{Summary, States, Entry}
-use Rattle.flt_generation.specs.Form.{summary_bytes, states_bytes, entry_bytes, no_entry_bytes, place_bytes, part_bytes}
+use Rattle.flt_generation.specs.Form.{summary_bytes, states_bytes, entry_bytes, place_bytes, part_bytes}
 use Rattle.flt_generation.specs.Fit.{states_fit, entry_fits_at, is_alone, place_fits, summary_fits, part_fits}
-use Rattle.flt_generation.specs.Reading.{with_states, entry_from, untaken_entry, with_summary, with_part, taken}
+use Rattle.flt_generation.specs.Reading.{with_states, entry_from, with_summary, with_part, taken}
 use Rattle.flt_generation.proofs.Fitting.{entry_by_test, test_of_entry, noted_by_test, test_of_noted}
 use Rattle.flt_generation.proofs.States.{same_block, same_states, pass_together, length-with_states}
 use Rattle.flt_generation.proofs.Sizes.{set_here, none_here, refused_by_bytes, refused_by_fit, accepted, taken_holds}

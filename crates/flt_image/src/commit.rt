@@ -1,11 +1,13 @@
 // The record that names the blocks of a generation.
-ghost use Rattle.std.specs.Prelude.{◌≡◌, ℕ, ◌<◌, ◌≤◌, ◌+◌, IfSome, Some, length};
+ghost use Rattle.std.specs.Prelude.{◌≡◌, ◌≢◌, ℕ, ◌<◌, ◌≤◌, ◌+◌, IfSome, Some, List, length, bytes_eq, IsTrue, IsFalse};
 ghost use Rattle.std.specs.List.{list_all, range_with_len};
 ghost use Rattle.flt_generation.specs.Form.{commit_bytes};
 ghost use Rattle.flt_generation.specs.Layout.{index_in};
 ghost use Rattle.flt_generation.specs.Reading.{commit_from, commit_in, is_index, is_commit};
 ghost use Rattle.flt_generation.specs.Successor.{IsNext, IsNextIndex, number_in};
+ghost use Rattle.flt_image.specs.Blocks.{bytes_at};
 
+use crate::blocks::StateBlocks;
 use crate::layout::is_used;
 use flt_config::ValidConfig;
 use flt_generation::{Commit, END_PART, FIRST_PART, INDICES};
@@ -25,10 +27,16 @@ pub fn put_commit(commit: &Commit) -> [u8; 26]
     bytes
 }
 
-/// The commit after this one, or the first: the next number, and each used block at the other index, or 0 where there was none.
-pub fn next_commit(config: &ValidConfig, current: &Option<Commit>) -> Commit
+/// The commit after this one, or the first: the next number, and each used block at 0 in the first; else, where its bytes before and
+/// after are the same, at the index where it stands, and at the other where they differ.
+pub fn next_commit(
+    config: &ValidConfig,
+    current: &Option<Commit>,
+    before: &StateBlocks,
+    after: &StateBlocks,
+) -> Commit
     requires { number_in current.now + 1 < 4294967296 }
-    ensures { IsNext config.now current.now result }
+    ensures { IsNext config.now current.now (bytes_at before.now) (bytes_at after.now) result }
 {
     let generation = match current {
         None => 1,
@@ -36,23 +44,50 @@ pub fn next_commit(config: &ValidConfig, current: &Option<Commit>) -> Commit
     };
     let mut index = [UNUSED; INDICES];
     for id in FIRST_PART..END_PART {
-        index[(id - FIRST_PART) as usize] = next_index(config, current, id);
+        index[(id - FIRST_PART) as usize] = next_index(
+            config,
+            current,
+            before.get(id),
+            after.get(id),
+            id,
+        );
     }
     Commit { generation, index }
 }
 
-// The index at which the next commit names a block.
-fn next_index(config: &ValidConfig, current: &Option<Commit>, id: u16) -> u8
+// The index at which the next commit names a block, by its bytes before and after.
+fn next_index(
+    config: &ValidConfig,
+    current: &Option<Commit>,
+    before: &[u8],
+    after: &[u8],
+    id: u16,
+) -> u8
     requires first { 3 ≤ id }
     requires end { id < 24 }
-    ensures { IsNextIndex config.now current.now id result }
+    ensures { IsNextIndex config.now current.now before.now after.now id result }
 {
     if !is_used(config, id) {
         return UNUSED;
     }
     match current {
-        Some(commit) if commit.index[(id - FIRST_PART) as usize] == 0 => 1,
-        _ => 0,
+        None => 0,
+        Some(commit) => other_index(commit.index[(id - FIRST_PART) as usize], before == after),
+    }
+}
+
+// The same index, or the other one.
+fn other_index(index: u8, stays: bool) -> u8
+    ensures stays { IsTrue stays → result ≡ index }
+    ensures small { IsFalse stays → result ≤ 1 }
+    ensures moves { IsFalse stays → index ≢ result }
+{
+    if stays {
+        index
+    } else if index == 0 {
+        1
+    } else {
+        0
     }
 }
 

@@ -6,6 +6,7 @@
 #![tactic(auto)]
 
 mod block;
+mod blocks;
 mod commit;
 mod entry;
 pub mod laws;
@@ -18,6 +19,7 @@ mod summary;
 mod table;
 
 pub use block::{get_block, put_block};
+pub use blocks::StateBlocks;
 pub use commit::{get_commit, next_commit, put_commit};
 pub use flt_generation::{Commit, Mark};
 pub use layout::{is_used, used_ids};

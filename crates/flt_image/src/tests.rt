@@ -1,7 +1,7 @@
 //! The bytes of each block written out by hand, what is read back of them, and what is refused.
 use crate::{
-    BlockBytes, Commit, block_table, fee_numbers, get_block, get_commit, get_mark, is_used,
-    mark_of, next_commit, put_block, put_commit, put_mark, used_ids,
+    BlockBytes, Commit, StateBlocks, block_table, fee_numbers, get_block, get_commit, get_mark,
+    is_used, mark_of, next_commit, put_block, put_commit, put_mark, used_ids,
 };
 use arrayvec::ArrayVec;
 use flt_config::{
@@ -264,11 +264,22 @@ fn commits_are_read_of_their_own_configuration(rt: HostRuntime) {
                     assert!(&rt; commit.generation == 0x01020304);
                     assert!(&rt; put_commit(&commit) == COMMIT);
                     if commit.generation < 0xFFFF_FFFF {
-                        let next = next_commit(&valid, &Some(commit));
-                        let bytes = put_commit(&next);
-                        assert!(&rt;
-                            bytes[4] == 5 && bytes[5] == 1 && bytes[6] == 0 && bytes[7] == 0xFF
-                        );
+                        let first = initial(&valid);
+                        let mut state = initial(&valid);
+                        state.overflow = true;
+                        assert!(&rt; fits(&valid, &state));
+                        let after = StateBlocks::of(&valid, &state);
+                        for (before, states) in [
+                            (StateBlocks::unknown(), 0),
+                            (StateBlocks::of(&valid, &first), 1),
+                        ] {
+                            let next = next_commit(&valid, &Some(commit), &before, &after);
+                            let bytes = put_commit(&next);
+                            assert!(&rt; bytes[4] == 5 && bytes[5] == 1);
+                            assert!(&rt; bytes[6] == states && bytes[7] == 0xFF);
+                        }
+                        let made = next_commit(&valid, &None, &after, &after);
+                        assert!(&rt; made.generation == 1 && made.index[0] == 0);
                     }
                 }
                 None => panic!(&rt; "refused"),

@@ -1,5 +1,5 @@
 -- What callers may know of a source and a sink in memory.
-use Rattle.std.specs.Prelude.{ℕ, ◌+◌, List, drop}
+use Rattle.std.specs.Prelude.{ℕ, List, drop}
 use Rattle.flt_io.specs.declared.mem_source.MemSource.{MemSource}
 use Rattle.flt_io.specs.declared.mem_sink.MemSink.{MemSink}
 

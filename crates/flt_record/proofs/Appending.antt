@@ -1,24 +1,21 @@
 -- What a sector holds when a record was appended behind its log, whole or not.
-use Rattle.std.proofs.Common.{◌≡◌, ◌≢◌, ◌⊎◌, inl, inr, ◌+◌, ◌-◌, ◌<◌, ◌≤◌, ◌^◌, ℕ, Bool, true, false, List, [], ◌∷◌, ◌++◌, append-nil, get_or, length, Option, Some, None, Result, Ok, Err, refl, sym, ◌∙◌, ap, arith}
-use Rattle.std.specs.Prelude.{if◌then◌else◌, ◌==◌, ◌&&◌}
+use Rattle.std.proofs.Common.{◌≡◌, ◌⊎◌, inl, inr, ◌+◌, ◌<◌, ◌≤◌, ℕ, Bool, true, false, List, [], ◌∷◌, ◌++◌, append-nil, get_or, length, Some, refl, sym, ◌∙◌, ap, arith}
+use Rattle.std.specs.Prelude.{if◌then◌else◌, ◌==◌}
 use Rattle.std.specs.List.{list_any}
 use Rattle.std.proofs.lemmas.Bool.{cases_eq}
-use Rattle.flt_flash.specs.Image.{blank_page}
-use Rattle.flt_flash.specs.Content.{Content, missing, invalid, bytes}
-use Rattle.flt_code.specs.Seal.{unsealed}
+use Rattle.flt_flash.specs.Content.{Content, invalid, bytes}
 use Rattle.flt_code.specs.Word.{IsWord}
 use Rattle.flt_code.specs.declared.words.Word.TheVariants.{Head, Gate}
 use Rattle.flt_sector.specs.Page.{is_blank}
 use Rattle.flt_record.specs.Blank.{AreBlank}
 use Rattle.flt_flash.specs.Blocks.{byte_pages}
-use Rattle.flt_sector.specs.Log.{Entry, log}
-use Rattle.flt_sector.specs.Blocks.{content_of, last_complete, bytes_behind}
+use Rattle.flt_sector.specs.Log.{Entry}
+use Rattle.flt_sector.specs.Blocks.{content_of, last_complete}
 use Rattle.flt_record.specs.Record.{KeptApart, IsTornHead, IsOpen, IsWhole, RecordLeft}
 use Rattle.flt_record.specs.Holds.{Holds, asked_of, given}
-use Rattle.flt_sector.specs.declared.log.Item.TheVariants.{End, Torn, Kept}
-use Rattle.flt_record.proofs.Items.{AllBelow, item_pages}
-use Rattle.flt_record.proofs.BlankPages.{is_blank-blank, blank_from_test}
-use Rattle.flt_record.proofs.LogOn.{log_same, log_more, end_least, end_most, blank_behind, all_below}
+use Rattle.flt_sector.specs.declared.log.Item.TheVariants.{Torn, Kept}
+use Rattle.flt_record.proofs.BlankPages.{blank_from_test}
+use Rattle.flt_record.proofs.LogOn.{log_same, log_more, end_least, blank_behind, all_below}
 use Rattle.flt_record.proofs.AtEnd.{torn_item, open_item, whole_item}
 use Rattle.flt_record.proofs.Values.{last_more, same_content}
 

@@ -1,19 +1,16 @@
 -- The item at the end of a log, once something is programmed there.
-use Rattle.std.proofs.Common.{◌≡◌, ◌≢◌, ◌+◌, ◌<◌, ◌≤◌, ℕ, Bool, true, false, List, [], ◌∷◌, get_or, Option, Some, None, Result, Ok, Err, refl, sym, ◌∙◌, ap, arith}
-use Rattle.std.specs.Prelude.{if◌then◌else◌, ◌==◌, ◌&&◌, nat_le}
+use Rattle.std.proofs.Common.{◌≡◌, ◌+◌, ◌<◌, ◌≤◌, ℕ, Bool, true, false, List, [], get_or, Some, None, Ok, Err, refl, ◌∙◌, ap, arith}
+use Rattle.std.specs.Prelude.{if◌then◌else◌, ◌==◌, ◌&&◌}
 use Rattle.std.specs.List.{list_any}
 use Rattle.std.proofs.lemmas.Bool.{eq-eqb, ne_eqb, le-leb, false_from_ne_true}
-use Rattle.flt_flash.specs.Image.{blank_page}
 use Rattle.flt_code.specs.Seal.{sealed, unsealed}
-use Rattle.flt_code.specs.Word.{word_bytes, word_of, IsWord}
-use Rattle.flt_code.specs.declared.words.Word.{Word}
-use Rattle.flt_code.specs.declared.words.Word.TheVariants.{Start, Active, Head, Gate}
+use Rattle.flt_code.specs.Word.{word_bytes, IsWord}
+use Rattle.flt_code.specs.declared.words.Word.TheVariants.{Head, Gate}
 use Rattle.flt_code.proofs.WordBytes.{word_of-word_bytes}
 use Rattle.flt_code.proofs.WordCode.{word_page, unsealed_blank}
 use Rattle.flt_sector.specs.Page.{is_blank}
 use Rattle.flt_flash.specs.Blocks.{byte_pages}
 use Rattle.flt_sector.specs.Log.{is_gate_of, item_by_gate, item_by_head, item_by_code, item_at}
-use Rattle.flt_sector.specs.declared.log.Item.{Item}
 use Rattle.flt_sector.specs.declared.log.Item.TheVariants.{End, Torn, Kept}
 use Rattle.flt_record.proofs.BlankPages.{blank_from_test}
 

@@ -1,17 +1,16 @@
 -- A sector as it is begun and made valid.
-use Rattle.std.proofs.Common.{◌≡◌, ◌≢◌, ◌⊎◌, inl, inr, ⊎_elim, ◌+◌, ◌^◌, ◌<◌, ◌≤◌, ℕ, Bool, true, false, List, [], get_or, set, replicate, length, length-set, get_or-set_same, get_or-set_other, Option, Some, None, Result, Ok, Err, refl, sym, ◌∙◌, ap, subst, arith}
-use Rattle.std.specs.Prelude.{◌==◌, if◌then◌else◌}
-use Rattle.std.proofs.lemmas.List.{get_or-replicate, length-replicate}
+use Rattle.std.proofs.Common.{◌≡◌, ◌⊎◌, inl, inr, ◌+◌, ◌^◌, ◌<◌, ◌≤◌, ℕ, false, List, [], get_or, Option, Some, None, Result, Ok, Err, refl, ◌∙◌, ap, arith}
+use Rattle.std.specs.Prelude.{if◌then◌else◌}
 use Rattle.std.proofs.lemmas.Bool.{eq-eqb}
 use Rattle.flt_flash.specs.Image.{blank_page}
-use Rattle.flt_flash.specs.Content.{Content, missing}
+use Rattle.flt_flash.specs.Content.{missing}
 use Rattle.flt_code.specs.Seal.{sealed, unsealed}
 use Rattle.flt_code.specs.Spoiled.{is_spoiled}
-use Rattle.flt_code.specs.Word.{word_bytes, word_of, IsWord}
+use Rattle.flt_code.specs.Word.{word_bytes, IsWord}
 use Rattle.flt_code.specs.declared.words.Word.{Word}
 use Rattle.flt_code.specs.declared.words.Word.TheVariants.{Start, Active}
 use Rattle.flt_code.proofs.WordBytes.{word_of-word_bytes}
-use Rattle.flt_code.proofs.WordCode.{word_code, word_page, unsealed_blank}
+use Rattle.flt_code.proofs.WordCode.{word_code, word_page}
 use Rattle.flt_code.proofs.Unspoiled.{unspoiled_word}
 use Rattle.flt_record.specs.Blank.{AreBlank}
 use Rattle.flt_sector.specs.Gates.{gate_by_code, gate_by, started_by, activated_by, both_gates, gates_of}

@@ -1,5 +1,5 @@
 -- A record that is copied from the other sector, step by step.
-use Rattle.std.proofs.Common.{◌≡◌, ◌≢◌, ◌⊎◌, inl, inr, ◌+◌, ◌-◌, ◌*◌, ◌<◌, ◌≤◌, ℕ, Bool, true, List, [], get_or, set, take, length, get_or-set_other, Result, Ok, Err, refl, sym, ◌∙◌, ap, subst, arith}
+use Rattle.std.proofs.Common.{◌≡◌, ◌≢◌, ◌⊎◌, inl, inr, ◌+◌, ◌-◌, ◌*◌, ◌<◌, ◌≤◌, ℕ, List, [], get_or, set, take, length, get_or-set_other, Result, Ok, Err, sym, ◌∙◌, ap, subst, arith}
 use Rattle.std.specs.Prelude.{min, slice_range, IsErr}
 use Rattle.std.proofs.lemmas.Bool.{cases_lt}
 use Rattle.flt_flash.specs.Image.{sector_at, page_at, blank_page}
@@ -8,7 +8,7 @@ use Rattle.flt_flash.specs.Blocks.{byte_pages, record_pages}
 use Rattle.flt_flash.specs.declared.flash.FlashFailed.{FlashFailed}
 use Rattle.flt_flash.proofs.Following.{runs_on, one_run}
 use Rattle.flt_code.specs.Seal.{sealed}
-use Rattle.flt_code.specs.Word.{word_bytes, is_length}
+use Rattle.flt_code.specs.Word.{word_bytes}
 use Rattle.flt_code.specs.declared.words.Word.TheVariants.{Head, Gate}
 use Rattle.flt_pages.specs.Append.{Appends, AppendsPiece, filled}
 use Rattle.flt_record.specs.declared.place.Place.{Place}

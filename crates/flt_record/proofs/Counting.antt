@@ -1,11 +1,11 @@
 -- The pages of the records of a log, and of the current ones among them.
-use Rattle.std.proofs.Common.{◌≡◌, ◌≢◌, ◌+◌, ◌-◌, ◌<◌, ◌≤◌, ℕ, zero, suc, Bool, true, false, List, [], ◌∷◌, get_or, take, length, length-take, Option, Some, None, Result, Ok, Err, refl, sym, ◌∙◌, ap, subst, arith}
+use Rattle.std.proofs.Common.{◌≡◌, ◌≢◌, ◌+◌, ◌<◌, ◌≤◌, ℕ, zero, suc, Bool, true, false, List, [], ◌∷◌, get_or, take, length, length-take, Option, Some, None, Result, Ok, Err, refl, sym, ◌∙◌, ap, arith}
 use Rattle.std.specs.Prelude.{if◌then◌else◌, ◌==◌, ◌&&◌, sum_by, slice_range}
 use Rattle.std.specs.List.{list_any, AllPairs, flat_map}
 use Rattle.std.proofs.lemmas.Bool.{eqb-true}
 use Rattle.std.proofs.lemmas.List.Sums.{sum_by-cons, sum_by_push, sum_by-take-le}
 use Rattle.std.proofs.lemmas.List.{take_more}
-use Rattle.flt_flash.specs.Content.{Content, missing, invalid, bytes}
+use Rattle.flt_flash.specs.Content.{invalid, bytes}
 use Rattle.flt_flash.specs.Blocks.{byte_pages, record_pages, pages_of}
 use Rattle.flt_sector.specs.Log.{Entry, LogFrom, item_at, log_after, log_from, log}
 use Rattle.flt_sector.specs.Blocks.{or_earlier, last_complete, bytes_behind, content_of}

@@ -1,6 +1,6 @@
 -- One page of plain bytes more.
-use Rattle.std.proofs.Common.{◌≡◌, ◌⊎◌, inl, inr, ◌+◌, ◌-◌, ◌*◌, ◌<◌, ◌≤◌, ℕ, List, [], ◌++◌, set, drop, take, length, length-take, length-drop, Result, Ok, Err, refl, sym, ◌∙◌, ap, subst, arith}
-use Rattle.std.specs.Prelude.{OnOk, OnErr, IsErr, slice_range}
+use Rattle.std.proofs.Common.{◌≡◌, ◌⊎◌, inl, inr, ◌+◌, ◌-◌, ◌*◌, ◌<◌, ◌≤◌, ℕ, List, [], set, drop, length, length-take, length-drop, Result, Ok, Err, sym, ap, subst, arith}
+use Rattle.std.specs.Prelude.{IsErr, slice_range}
 use Rattle.flt_flash.specs.Image.{sector_at, blank_page}
 use Rattle.flt_flash.specs.State.{FlashState, HasShape, HasRisenBy}
 use Rattle.flt_flash.specs.declared.flash.FlashFailed.{FlashFailed}

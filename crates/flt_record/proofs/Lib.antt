@@ -16,6 +16,6 @@ pub mod Counting
 pub mod PageBytes
 pub mod Finding
 pub mod Reading
-pub mod Summing
 pub mod Copying
 pub mod Short
+pub mod Telling

@@ -1,13 +1,13 @@
 -- The plain bytes behind a head, page by page.
-use Rattle.std.proofs.Common.{◌≡◌, ◌+◌, ◌-◌, ◌*◌, ◌/◌, ◌<◌, ◌≤◌, ℕ, zero, suc, Bool, true, false, List, [], ◌∷◌, ◌++◌, get_or, take, drop, length, length-take, length-drop, length-append, refl, sym, ◌∙◌, ap, subst, arith}
-use Rattle.std.specs.Prelude.{slice_range, nat_le, if◌then◌else◌, Some}
+use Rattle.std.proofs.Common.{◌≡◌, ◌+◌, ◌-◌, ◌*◌, ◌<◌, ◌≤◌, ℕ, zero, suc, Bool, true, false, List, [], ◌∷◌, ◌++◌, get_or, take, drop, length, length-take, length-drop, length-append, refl, sym, ◌∙◌, ap, arith}
+use Rattle.std.specs.Prelude.{slice_range, if◌then◌else◌, Some}
 use Rattle.std.specs.List.{flat_map}
 use Rattle.std.proofs.Math.Seq.{drop-append-add}
 use Rattle.std.proofs.lemmas.Bool.{eqb-true}
 use Rattle.std.proofs.lemmas.List.{get_or-drop, get_or-take, drop-take, take-append-le, ext_get_or}
 use Rattle.flt_flash.specs.Image.{ArePages}
 use Rattle.flt_flash.specs.Blocks.{byte_pages, record_pages, pages_of}
-use Rattle.flt_flash.specs.Content.{Content, missing, invalid, bytes}
+use Rattle.flt_flash.specs.Content.{invalid, bytes}
 use Rattle.flt_code.specs.Word.{is_length}
 use Rattle.flt_sector.specs.Log.{Entry}
 use Rattle.flt_sector.specs.Blocks.{bytes_behind, content_of}

@@ -1,5 +1,5 @@
 -- The head of a record says a length of its kind and one of the block numbers.
-use Rattle.std.proofs.Common.{◌≡◌, ◌+◌, ℕ, Bool, true, false, List, [], ◌∷◌, ◌++◌, get_or, replicate, Option, Some, None, Result, Ok, Err, refl, sym, ◌∙◌, ap}
+use Rattle.std.proofs.Common.{◌≡◌, ◌+◌, ℕ, Bool, true, false, List, [], get_or, Option, Some, None, Ok, Err, refl, sym, ◌∙◌}
 use Rattle.std.specs.Prelude.{if◌then◌else◌, ◌==◌, ◌&&◌, nat_le, slice_index, slice_range}
 use Rattle.std.specs.Int.{from_be_bytes, w16, w32}
 use Rattle.std.specs.List.{list_any}
@@ -11,8 +11,7 @@ use Rattle.flt_code.specs.declared.words.Word.{Word}
 use Rattle.flt_code.specs.declared.words.Word.TheVariants.{Start, Active, Head, Gate}
 use Rattle.flt_sector.specs.Page.{is_blank}
 use Rattle.flt_sector.specs.Log.{is_gate_of, item_by_gate, item_by_head, item_by_code, item_at}
-use Rattle.flt_sector.specs.declared.log.Item.{Item}
-use Rattle.flt_sector.specs.declared.log.Item.TheVariants.{End, Torn, Kept}
+use Rattle.flt_sector.specs.declared.log.Item.TheVariants.{End, Kept}
 
 checked_is : (found : Option Word) (bytes : List ℕ) (word : Word) → checked found bytes ≡ Some word → found ≡ Some word
 checked_is None bytes word is = absurd (cc is)

@@ -1,9 +1,9 @@
 -- The steps of appending a record, one after another.
-use Rattle.std.proofs.Common.{◌≡◌, ◌⊎◌, inl, inr, ⊎_elim, ◌+◌, ◌<◌, ◌≤◌, ℕ, Bool, true, List, [], get_or, set, take, length, get_or-set_same, Result, Ok, Err, Option, None, refl, sym, ◌∙◌, ap, subst, arith}
-use Rattle.std.specs.Prelude.{OnOk, OnErr, IsErr, slice_range}
+use Rattle.std.proofs.Common.{◌≡◌, ◌⊎◌, inl, inr, ⊎_elim, ◌+◌, ◌<◌, ◌≤◌, ℕ, Bool, List, [], set, length, get_or-set_same, Result, Ok, Err, None, refl, sym, ◌∙◌, ap, subst, arith}
+use Rattle.std.specs.Prelude.{OnOk, OnErr, IsErr}
 use Rattle.std.proofs.lemmas.List.{set-set}
-use Rattle.flt_flash.specs.Image.{sector_at, page_at, programmed, blank_page}
-use Rattle.flt_flash.specs.State.{FlashState, HasShape, Runs, HasRisenBy}
+use Rattle.flt_flash.specs.Image.{sector_at}
+use Rattle.flt_flash.specs.State.{FlashState, HasShape, HasRisenBy}
 use Rattle.flt_flash.specs.declared.flash.FlashFailed.{FlashFailed}
 use Rattle.flt_flash.proofs.Following.{one_run, runs_on}
 use Rattle.flt_code.specs.Seal.{sealed, unsealed}
@@ -11,9 +11,9 @@ use Rattle.flt_code.specs.Word.{word_bytes}
 use Rattle.flt_code.specs.declared.words.Word.TheVariants.{Head, Gate}
 use Rattle.flt_record.specs.Blank.{AreBlank}
 use Rattle.flt_flash.specs.Blocks.{byte_pages}
-use Rattle.flt_record.specs.Record.{KeptApart, IsTornHead, IsOpen, IsWhole, RecordLeft}
+use Rattle.flt_record.specs.Record.{KeptApart, IsOpen, IsWhole, RecordLeft}
 use Rattle.flt_record.proofs.Steps.{head_torn, head_stands, pieces_between, gate_torn, gate_stands}
-use Rattle.flt_pages.specs.Append.{TornCode, Appends}
+use Rattle.flt_pages.specs.Append.{Appends}
 use Rattle.flt_record.specs.Recorded.{OnSector, Fills, Records}
 
 pub on_sector : (before middle after : FlashState) (sector : ℕ) (first second : List (List ℕ)) → OnSector before middle sector first → OnSector middle after sector second → OnSector before after sector second

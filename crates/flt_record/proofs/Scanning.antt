@@ -1,10 +1,10 @@
 -- The log from a page on, while it is looked at.
-use Rattle.std.proofs.Common.{◌≡◌, ◌⊎◌, ⊎_elim, inl, inr, ◌+◌, ◌-◌, ◌<◌, ◌≤◌, ℕ, zero, suc, Bool, List, [], Option, Some, None, Result, Ok, Err, refl, sym, ◌∙◌, ap, subst, arith}
+use Rattle.std.proofs.Common.{◌≡◌, ⊎_elim, inl, inr, ◌+◌, ◌-◌, ◌<◌, ◌≤◌, ℕ, zero, suc, Bool, List, Option, Some, None, Result, Ok, Err, refl, sym, ◌∙◌, ap, subst, arith}
 use Rattle.flt_flash.specs.Blocks.{byte_pages}
 use Rattle.flt_sector.specs.Log.{LogFrom, item_at, first_written, log_after, log_from, log}
 use Rattle.flt_sector.specs.declared.log.Item.{Item}
 use Rattle.flt_sector.specs.declared.log.Item.TheVariants.{End, Torn, Kept}
-use Rattle.flt_record.proofs.Items.{item_pages, item_within}
+use Rattle.flt_record.proofs.Items.{item_within}
 use Rattle.flt_pages.specs.declared.fault.PageFault.{PageFault}
 use Rattle.flt_pages.specs.declared.fault.PageFault.TheVariants.{Flash, Damaged}
 use Rattle.std.specs.Prelude.{IsErrAnd}

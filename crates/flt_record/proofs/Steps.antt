@@ -1,15 +1,14 @@
 -- The pages of a sector as a record grows on them.
-use Rattle.std.proofs.Common.{◌≡◌, ◌≢◌, ◌⊎◌, inl, inr, ◌+◌, ◌<◌, ◌≤◌, ℕ, Bool, true, List, [], get_or, set, take, length, length-set, get_or-set_same, get_or-set_other, Option, None, refl, sym, ◌∙◌, ap, arith}
+use Rattle.std.proofs.Common.{◌≡◌, ◌+◌, ◌≤◌, ℕ, Bool, List, [], get_or, set, take, length, length-set, get_or-set_same, get_or-set_other, None, ◌∙◌, ap, arith}
 use Rattle.std.specs.Prelude.{slice_range}
 use Rattle.std.specs.List.{flat_map}
-use Rattle.flt_flash.specs.Image.{blank_page}
 use Rattle.flt_code.specs.Seal.{sealed, unsealed}
 use Rattle.flt_code.specs.Word.{word_bytes}
 use Rattle.flt_code.specs.declared.words.Word.TheVariants.{Head, Gate}
 use Rattle.flt_code.proofs.WordCode.{unsealed_blank}
 use Rattle.flt_record.specs.Blank.{AreBlank}
 use Rattle.flt_flash.specs.Blocks.{byte_pages}
-use Rattle.flt_record.specs.Record.{KeptApart, IsTornHead, IsOpen, IsWhole, RecordLeft}
+use Rattle.flt_record.specs.Record.{KeptApart, IsTornHead, IsOpen, IsWhole}
 use Rattle.flt_record.proofs.Values.{same_range}
 
 pub set_apart : (pages : List (List ℕ)) (page : ℕ) (bytes : List ℕ) → KeptApart pages (set pages page bytes) page (page + 1)

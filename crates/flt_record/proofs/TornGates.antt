@@ -1,16 +1,15 @@
 -- The gates of a sector whose erase was torn, and the current sector beside it.
-use Rattle.std.proofs.Common.{◌≡◌, ◌≢◌, ◌⊎◌, inl, inr, ⊎_elim, ◌<◌, ◌≤◌, ℕ, Bool, true, false, List, [], get_or, replicate, length, Option, Some, None, Result, Ok, Err, refl, sym, ◌∙◌, ap, subst, arith}
+use Rattle.std.proofs.Common.{◌≡◌, ◌⊎◌, inl, inr, ⊎_elim, ◌<◌, ◌≤◌, ℕ, Bool, true, false, List, [], get_or, replicate, length, Option, Some, None, Result, Ok, Err, refl, sym, ◌∙◌, ap, subst, arith}
 use Rattle.std.specs.Prelude.{◌==◌, nat_lt, if◌then◌else◌}
 use Rattle.std.proofs.lemmas.List.{get_or-replicate}
 use Rattle.flt_flash.specs.Image.{blank_page}
 use Rattle.flt_flash.specs.Tearing.{IsTornPage, IsTornSector}
 use Rattle.flt_code.specs.Seal.{unsealed}
 use Rattle.flt_code.specs.Spoiled.{is_spoiled}
-use Rattle.flt_code.specs.Word.{word_of}
 use Rattle.flt_code.specs.declared.words.Word.{Word}
 use Rattle.flt_code.proofs.Unspoiled.{erased_or_none, erased_unspoiled}
 use Rattle.flt_sector.specs.Gates.{gate_by_code, gate_by, started_by, activated_by, both_gates, gates_of}
-use Rattle.flt_sector.specs.Blocks.{Current, greater_of, current_by}
+use Rattle.flt_sector.specs.Blocks.{Current, current_by}
 
 module _ (says : Option Word → Result (Option ℕ) ℕ) (fault : ℕ) (page torn : List ℕ) (tears : IsTornPage page blank_page torn) where
   not_spoiled : (number : Option ℕ) → gate_by says fault page ≡ Ok number → is_spoiled page ≡ false

@@ -1,9 +1,8 @@
 -- What the records of a log hold, once one more stands behind them.
-use Rattle.std.proofs.Common.{◌≡◌, ◌≢◌, ◌⊎◌, ◌+◌, ◌-◌, ◌<◌, ◌≤◌, ℕ, Bool, true, false, List, [], ◌∷◌, ◌++◌, get_or, take, drop, length, length-take, length-drop, Option, Some, None, refl, sym, ◌∙◌, ap, arith}
+use Rattle.std.proofs.Common.{◌≡◌, ◌+◌, ◌-◌, ◌<◌, ◌≤◌, ℕ, Bool, true, false, List, [], ◌∷◌, ◌++◌, get_or, take, drop, length, length-take, length-drop, Option, Some, None, refl, sym, ◌∙◌, ap, arith}
 use Rattle.std.specs.Prelude.{if◌then◌else◌, ◌==◌, ◌&&◌, slice_range}
 use Rattle.std.specs.List.{flat_map}
-use Rattle.std.proofs.lemmas.Bool.{ne_eqb, eq-eqb}
-use Rattle.flt_flash.specs.Content.{Content, missing, invalid, bytes}
+use Rattle.flt_flash.specs.Content.{invalid, bytes}
 use Rattle.flt_flash.specs.Blocks.{byte_pages}
 use Rattle.flt_sector.specs.Log.{Entry}
 use Rattle.std.proofs.lemmas.List.{ext_get_or, get_or-take, get_or-drop}
@@ -31,7 +30,7 @@ module _ (pages after : List (List ℕ)) (first bound : ℕ) (size : length afte
 
 -- pages that agree from page 2 on, below a bound
 module _ (pages after : List (List ℕ)) (bound : ℕ) (size : length after ≡ length pages) (agree : (k : ℕ) → 2 ≤ k → k < bound → get_or after k [] ≡ get_or pages k []) where
-  same_bytes : (entry : Entry) → 2 ≤ entry.page → entry.page + 2 + byte_pages entry.length ≤ bound → bytes_behind after entry ≡ bytes_behind pages entry
+  pub same_bytes : (entry : Entry) → 2 ≤ entry.page → entry.page + 2 + byte_pages entry.length ≤ bound → bytes_behind after entry ≡ bytes_behind pages entry
   same_bytes entry low within = ap (λ (l : List (List ℕ)). take entry.length (flat_map (λ page. page) l)) (same_range pages after 2 bound size agree (entry.page + 1) (entry.page + 1 + byte_pages entry.length) (omega arith) (omega arith))
 
   -- the last complete record lies below the bound too

@@ -1,9 +1,11 @@
 -- Where a record stands in a log.
-use Rattle.std.specs.Prelude.{◌≡◌, ◌+◌, ◌≤◌, ℕ, true, List, Option, Some, None}
+use Rattle.std.specs.Prelude.{◌≡◌, ◌+◌, ◌<◌, ◌≤◌, ℕ, true, List, length, Option, Some, None, IfSome, slice_index_or}
+use Rattle.flt_flash.specs.Content.{Content, missing}
 use Rattle.flt_flash.specs.Blocks.{record_pages}
 use Rattle.flt_code.specs.Word.{is_length}
 use Rattle.flt_sector.specs.Log.{Entry}
 use Rattle.flt_sector.specs.Blocks.{bytes_behind}
+use Rattle.flt_record.specs.Holds.{asked_of}
 use Rattle.flt_record.specs.declared.place.Place.{Place}
 
 -- the complete record of a block that stands at a place
@@ -28,3 +30,29 @@ bytes_at pages place = bytes_behind pages (record_at 0 place)
 abbrev pub pages_found : Option Place → ℕ
 pages_found None = 0
 pages_found (Some place) = record_pages place.length
+
+-- a record at this place lies in the log that ends at a page
+pub record IsInLog (end : ℕ) (place : Place) : Type 0 where
+  pub begun : 2 ≤ place.page
+  pub within : IsWithin end place
+
+-- what the record at a place holds, or nothing yet
+abbrev pub content_at : List (List ℕ) → Option Place → Content
+content_at pages None = missing
+content_at pages (Some place) = asked_of place.valid (bytes_at pages place)
+
+-- a block of this content has its current record at this place of the log that ends at a page, or has none
+pub record IsAt (pages : List (List ℕ)) (end : ℕ) (content : Content) (found : Option Place) : Type 0 where
+  pub holds : content ≡ content_at pages found
+  pub inside : IfSome found (λ place. IsInLog end place)
+
+-- the place of each number, in the order of the numbers, tells what its block holds
+abbrev pub Tells : List ℕ → List (Option Place) → List (List ℕ) → ℕ → (ℕ → Content) → Type 0
+Tells numbers places pages end value = (k : ℕ) → k < length numbers → IsAt pages end (value (slice_index_or numbers k 0)) (slice_index_or places k None)
+
+-- the place of a block in the table
+pub record IsPlaceOf (numbers : List ℕ) (places : List (Option Place)) (block : ℕ) (found : Option Place) : Type 0 where
+  pub index : ℕ
+  pub within : index < length numbers
+  pub number : slice_index_or numbers index 0 ≡ block
+  pub place : slice_index_or places index None ≡ found

@@ -1,10 +1,9 @@
 -- What a record that is appended at a page leaves of a sector's pages.
-use Rattle.std.specs.Prelude.{◌≡◌, ◌⊎◌, ◌+◌, ◌<◌, ◌≤◌, ℕ, Bool, true, List, [], length, Option, None, slice_index_or}
+use Rattle.std.specs.Prelude.{◌≡◌, ◌⊎◌, ◌+◌, ◌<◌, ◌≤◌, ℕ, Bool, true, List, [], length, None, slice_index_or}
 use Rattle.flt_code.specs.Seal.{sealed, unsealed}
 use Rattle.flt_code.specs.Word.{word_bytes}
 use Rattle.flt_code.specs.declared.words.Word.TheVariants.{Head, Gate}
 use Rattle.flt_flash.specs.Blocks.{byte_pages}
-use Rattle.flt_sector.specs.Log.{Entry}
 use Rattle.flt_sector.specs.Blocks.{bytes_behind}
 
 -- all pages but those from one to another are as they were

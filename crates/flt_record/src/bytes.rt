@@ -23,6 +23,7 @@ pub fn read_record<F: Flash>(
     requires within { IsWithin (F.state flash.old).pages place }
     ensures read { OnOk result (out.new ≡ bytes_at (sector_at (F.state flash.old).image sector) place ++ drop place.length out.old) }
     ensures nothing { OnErr result (out.new ≡ out.old) }
+    ensures operations { OnOk result ((F.state flash.new).operations ≤ (F.state flash.old).operations + byte_pages place.length) }
     ensures reads { OnlyReads (F.state flash.old) (F.state flash.new) }
     ensures cause { OnErr result (HasRisenBy 1 (F.state flash.old).faults (F.state flash.new).faults) }
 {
@@ -61,6 +62,7 @@ fn copy_bytes<F: Flash>(
     requires room { first + byte_pages place.length ≤ (F.state flash.old).pages }
     requires blank { AreBlank (sector_at (F.state flash.old).image other) first (first + byte_pages place.length) }
     ensures fills { Fills (F.state flash.old) (F.state flash.new) other first (bytes_at (sector_at (F.state flash.old).image sector) place) result }
+    ensures operations { OnOk result ((F.state flash.new).operations ≤ (F.state flash.old).operations + 2 * byte_pages place.length) }
 {
     for index in 0..byte_pages(place.length) {
         let mut bytes = [0; 32];
@@ -88,6 +90,7 @@ pub fn copy_record<F: Flash>(
     requires room { page + record_pages place.length ≤ (F.state flash.old).pages }
     requires blank { AreBlank (sector_at (F.state flash.old).image other) page (page + record_pages place.length) }
     ensures records { Records (F.state flash.old) (F.state flash.new) other page block (bytes_at (sector_at (F.state flash.old).image sector) place) place.valid result }
+    ensures operations { OnOk result ((F.state flash.new).operations ≤ (F.state flash.old).operations + (2 + 2 * byte_pages place.length)) }
 {
     append_head(flash, other, page, block, place.length, place.valid)?;
     copy_bytes(flash, sector, place, other, page + 1)?;

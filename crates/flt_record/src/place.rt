@@ -1,14 +1,7 @@
 // The places of current records.
-ghost use Rattle.std.specs.Prelude.{◌≡◌, ◌<◌, ◌≤◌, ◌&&◌, if◌then◌else◌, Some, None, IfOk, IfSome, OnErr};
-ghost use Rattle.flt_flash.specs.Image.{sector_at};
-ghost use Rattle.flt_flash.specs.State.{OnlyReads, HasRisenBy};
-ghost use Rattle.flt_sector.specs.Log.{log};
-ghost use Rattle.flt_sector.specs.Blocks.{last_complete};
-ghost use Rattle.flt_record.specs.Place.{record_found, IsWithin};
-
-use crate::byte_pages;
-use flt_flash::{Flash, FlashFailed};
-use flt_pages::{Item, item};
+ghost use Rattle.std.specs.Prelude.{◌≡◌, ◌≢◌, ◌<◌, ◌==◌, ◌&&◌, ℕ, if◌then◌else◌, Some, None, IfSome, IfNone, Contains, length, slice_index_or};
+ghost use Rattle.std.specs.List.{AllPairs};
+ghost use Rattle.flt_record.specs.Place.{IsPlaceOf};
 
 /// Where a complete record stands, and what its head says of it.
 #[derive(Clone, Copy, Debug, PartialEq, Eq)]
@@ -21,60 +14,52 @@ pub struct Place {
     pub valid: bool,
 }
 
-// The record here, where it is complete and of the same block, or else an earlier one.
-fn newer(earlier: Option<Place>, here: Place, complete: bool, same: bool) -> Option<Place>
-    ensures { result ≡ (if complete && same then Some here else earlier) }
+// The index of a block among the numbers.
+fn index_of(numbers: &[u16], block: u16) -> Option<usize>
+    ensures found { IfSome result (λ index. (index < length numbers.now) × (slice_index_or numbers.now index 0 ≡ block)) }
+    ensures none { IfNone result ((k : ℕ) → k < length numbers.now → slice_index_or numbers.now k 0 ≢ block) }
 {
-    if complete && same {
-        Some(here)
-    } else {
-        earlier
+    for (index, number) in numbers.iter().enumerate() {
+        if *number == block {
+            return Some(index);
+        }
+    }
+    None
+}
+
+/// The place of one of the blocks, by the table.
+pub fn place_of(numbers: &[u16], places: &[Option<Place>], block: u16) -> Option<Place>
+    requires size { length places.now ≡ length numbers.now }
+    requires number { Contains numbers.now block }
+    ensures { IsPlaceOf numbers.now places.now block result }
+{
+    match index_of(numbers, block) {
+        None => None,
+        Some(index) => places[index],
     }
 }
 
-/// The last complete record of a block in a log without a fault; `None` where the block has none.
-///
-/// It reads heads and gates, and changes nothing. It fails only where a read did.
-pub fn last_record<F: Flash>(
-    flash: &mut F,
-    sector: u8,
-    used: u16,
-    numbers: &[u16],
-    block: u16,
-) -> Result<Option<Place>, FlashFailed>
-    requires sector { sector < 2 }
-    requires least { 2 ≤ used }
-    requires most { used ≤ (F.state flash.old).pages }
-    requires sound { (log used numbers.now (sector_at (F.state flash.old).image sector)).fault ≡ None }
-    ensures found { IfOk result (λ found. last_complete block (log used numbers.now (sector_at (F.state flash.old).image sector)).entries ≡ record_found block found) }
-    ensures within { IfOk result (λ found. IfSome found (λ place. IsWithin used place)) }
-    ensures reads { OnlyReads (F.state flash.old) (F.state flash.new) }
-    ensures cause { OnErr result (HasRisenBy 1 (F.state flash.old).faults (F.state flash.new).faults) }
+/// Notes a record as the current one of its block, where it is complete, in the table of places.
+pub fn note(numbers: &[u16], places: &mut [Option<Place>], block: u16, complete: bool, place: Place)
+    requires size { length places.old ≡ length numbers.now }
+    requires distinct { AllPairs (λ a b. a ≢ b) numbers.now }
+    ensures size { length places.new ≡ length places.old }
+    ensures noted { (k : ℕ) → k < length numbers.now → slice_index_or places.new k None ≡ (if complete && (block == slice_index_or numbers.now k 0) then Some place else slice_index_or places.old k None) }
 {
-    let mut found = None;
-    let mut page = 2;
-    'log: loop {
-        match item(flash, sector, used, page, numbers) {
-            // No item of a log without a fault is damaged, so that this is the fault of a read.
-            Err(_) => return Err(FlashFailed),
-            Ok(item) => match item {
-                Item::End => return Ok(found),
-                Item::Torn => page += 1,
-                Item::Kept {
-                    block: of,
-                    length,
-                    valid,
-                    complete,
-                } => {
-                    let here = Place {
-                        page,
-                        length,
-                        valid,
-                    };
-                    found = newer(found, here, complete, of == block);
-                    page += 2 + byte_pages(length);
-                }
-            },
-        }
+    if !complete {
+        return;
+    }
+    if let Some(index) = index_of(numbers, block) {
+        places[index] = Some(place);
+    }
+}
+
+/// Makes each place of a table that of a block without a record.
+pub fn forget(places: &mut [Option<Place>])
+    ensures size { length places.new ≡ length places.old }
+    ensures none { (k : ℕ) → k < length places.old → slice_index_or places.new k None ≡ None }
+{
+    for index in 0..places.len() {
+        places[index] = None;
     }
 }

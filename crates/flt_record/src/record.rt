@@ -1,8 +1,8 @@
 // Records behind the log of a sector.
-ghost use Rattle.std.specs.Prelude.{◌≡◌, ◌+◌, ◌<◌, ◌≤◌, ℕ, true, length};
+ghost use Rattle.std.specs.Prelude.{◌≡◌, ◌+◌, ◌<◌, ◌≤◌, ℕ, true, length, OnOk};
 ghost use Rattle.flt_flash.specs.Image.{sector_at};
 ghost use Rattle.flt_code.specs.Word.{is_length};
-ghost use Rattle.flt_flash.specs.Blocks.{byte_pages};
+ghost use Rattle.flt_flash.specs.Blocks.{byte_pages, record_pages};
 ghost use Rattle.flt_record.specs.Blank.{AreBlank};
 ghost use Rattle.flt_record.specs.Recorded.{Fills, Records};
 
@@ -24,6 +24,7 @@ fn fill<F: Flash>(flash: &mut F, sector: u8, first: u16, bytes: &[u8]) -> Result
     requires room { first + byte_pages (length bytes.now) ≤ (F.state flash.old).pages }
     requires blank { AreBlank (sector_at (F.state flash.old).image sector) first (first + byte_pages (length bytes.now)) }
     ensures fills { Fills (F.state flash.old) (F.state flash.new) sector first bytes.now result }
+    ensures operations { OnOk result ((F.state flash.new).operations ≤ (F.state flash.old).operations + byte_pages (length bytes.now)) }
 {
     for index in 0..byte_pages(bytes.len() as u16) {
         let start = 32 * index as usize;
@@ -55,6 +56,7 @@ pub fn append_record<F: Flash>(
     requires room { page + 2 + byte_pages (length bytes.now) ≤ (F.state flash.old).pages }
     requires blank { AreBlank (sector_at (F.state flash.old).image sector) page (page + 2 + byte_pages (length bytes.now)) }
     ensures records { Records (F.state flash.old) (F.state flash.new) sector page block bytes.now valid result }
+    ensures operations { OnOk result ((F.state flash.new).operations ≤ (F.state flash.old).operations + record_pages (length bytes.now)) }
 {
     let size = bytes.len() as u16;
     append_head(flash, sector, page, block, size, valid)?;

@@ -1,31 +1,41 @@
 // A look at the log of a sector.
-ghost use Rattle.std.specs.Prelude.{◌≡◌, ◌<◌, ◌≤◌, IsErrOf};
+ghost use Rattle.std.specs.Prelude.{◌≡◌, ◌≢◌, ◌<◌, ◌≤◌, IfOk, IsErrOf, length};
+ghost use Rattle.std.specs.List.{AllPairs};
 ghost use Rattle.flt_flash.specs.Image.{sector_at};
 ghost use Rattle.flt_flash.specs.State.{OnlyReads, HasRisenBy};
 ghost use Rattle.flt_sector.specs.Log.{log};
 ghost use Rattle.flt_pages.specs.Told.{TellsOrFails};
+ghost use Rattle.flt_record.specs.Live.{held_in};
+ghost use Rattle.flt_record.specs.Place.{Tells};
 ghost use Rattle.flt_record.specs.Scan.{told_end};
 
+use crate::place::{Place, forget, note};
 use flt_flash::Flash;
 use flt_pages::{Item, PageFault, blank_from, item};
 
 /// The page at which the log of a sector with `used` pages ends, for these block numbers; `Damaged` is its first fault, of an
-/// item or of the pages behind the end.
+/// item or of the pages behind the end. It fills the table with the place of each block's current record.
 ///
-/// It reads heads, gates and the pages behind the end, and changes nothing.
-pub fn log_end<F: Flash>(
+/// It goes over the log once: it reads heads, gates and the pages behind the end, and changes nothing of the flash.
+pub fn find_places<F: Flash>(
     flash: &mut F,
     sector: u8,
     used: u16,
     numbers: &[u16],
+    places: &mut [Option<Place>],
 ) -> Result<u16, PageFault>
     requires sector { sector < 2 }
     requires least { 2 ≤ used }
     requires most { used ≤ (F.state flash.old).pages }
+    requires size { length places.old ≡ length numbers.now }
+    requires distinct { AllPairs (λ a b. a ≢ b) numbers.now }
     ensures end { TellsOrFails result (told_end sector (log used numbers.now (sector_at (F.state flash.old).image sector)).end (log used numbers.now (sector_at (F.state flash.old).image sector)).fault) }
+    ensures places { IfOk result (λ end. Tells numbers.now places.new (sector_at (F.state flash.old).image sector) end (held_in used numbers.now (sector_at (F.state flash.old).image sector))) }
+    ensures size { length places.new ≡ length numbers.now }
     ensures reads { OnlyReads (F.state flash.old) (F.state flash.new) }
     ensures cause { IsErrOf result PageFault.Flash → HasRisenBy 1 (F.state flash.old).faults (F.state flash.new).faults }
 {
+    forget(places);
     let mut page = 2;
     'log: loop {
         match item(flash, sector, used, page, numbers)? {
@@ -34,9 +44,20 @@ pub fn log_end<F: Flash>(
                 return Ok(page);
             }
             Item::Torn => page += 1,
-            Item::Kept { length, .. } => page = (u32::from(page)
-                + 2
-                + (u32::from(length) + 31) / 32) as u16,
+            Item::Kept {
+                block,
+                length,
+                valid,
+                complete,
+            } => {
+                let here = Place {
+                    page,
+                    length,
+                    valid,
+                };
+                note(numbers, places, block, complete, here);
+                page = (u32::from(page) + 2 + (u32::from(length) + 31) / 32) as u16;
+            }
         }
     }
 }

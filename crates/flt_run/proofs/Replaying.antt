@@ -12,8 +12,7 @@ use Rattle.flt_dcm.specs.Unit.{UnitView, Stands}
 use Rattle.flt_script.specs.Step.{is_part_among, is_step_among, are_parts_among}
 use Rattle.flt_script.specs.declared.step.Part.{Part}
 use Rattle.flt_script.specs.declared.step.Part.TheVariants.{One}
-use Rattle.flt_script.specs.declared.step.Step.{Step}
-use Rattle.flt_run.specs.Steps.{answer_of, lists, op_of, op_of_step, parts_of, step_of}
+use Rattle.flt_run.specs.Steps.{answer_of, lists, op_of, parts_of, step_of}
 
 -- ---- the loop over the parts
 

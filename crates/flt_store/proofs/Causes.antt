@@ -12,14 +12,13 @@ use Rattle.flt_flash.proofs.CallsInARow.{no_call, more_calls}
 use Rattle.flt_config.specs.declared.config.Config.{Config}
 use Rattle.flt_nvm.specs.Table.{number_of}
 use Rattle.flt_nvm.specs.Leaves.{FailsThrice as FailsInThree, Gives, GivesBoth}
-use Rattle.flt_generation.specs.Layout.{numbers, commit_id, first_commit, second_commit, part_of, has_part, is_used}
+use Rattle.flt_generation.specs.Layout.{numbers, commit_id, first_commit, second_commit}
 use Rattle.flt_generation.specs.Form.{part_length}
 use Rattle.flt_generation.specs.declared.part.Part.{Part}
 use Rattle.flt_generation.specs.declared.part.Part.TheVariants.{Summary, States, Entry}
 use Rattle.flt_generation.specs.Excess.{own_pages, excess, IsBorne}
 use Rattle.flt_generation.specs.Laws.{IsGiven}
-use Rattle.flt_generation.proofs.Pages.{of_part, borne_has_room}
-use Rattle.flt_generation.proofs.Choices.{chosen}
+use Rattle.flt_generation.proofs.Pages.{borne_has_room}
 use Rattle.flt_store.specs.Cause.{FailsThrice, HasRoom, IsWithinOwn, Writes}
 
 -- no write, and some writes and then more

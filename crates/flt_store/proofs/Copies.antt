@@ -39,7 +39,7 @@ copy_read before after n copy out_before out_after =
     (λ first. inl (got_bytes 1 (before.value first_commit) n copy out_before out_after first))
     (λ second. (let got = got_bytes 2 (before.value second_commit) n copy out_before out_after second.0 in inr (got.0, got.1, second.1)))
 
-found_short : (content : Content) (n : ℕ) (before after : List ℕ) → Finds content (FoundBytes n) before after → n ≤ length after
+pub found_short : (content : Content) (n : ℕ) (before after : List ℕ) → Finds content (FoundBytes n) before after → n ≤ length after
 found_short missing n before after found = absurd found
 found_short invalid n before after found = absurd found
 found_short (bytes held) n before after found =

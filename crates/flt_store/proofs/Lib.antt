@@ -1,11 +1,15 @@
 pub mod TableUse
 pub mod Causes
+pub mod Successors
 pub mod Started
 pub mod Saving
 pub mod Writing
 pub mod Repairing
 pub mod Copies
 pub mod Running
+pub mod Known
+pub mod Costs
+pub mod Changed
 pub mod Applying
 pub mod Marks
 pub mod Beginning

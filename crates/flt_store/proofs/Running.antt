@@ -54,3 +54,9 @@ err_both (Err e) to p q = to p q
 pub on_ok : {T E : Type 0} {P Q : Type 0} (result : Result T E) → (P → Q) → OnOk result P → OnOk result Q
 on_ok (Ok x) to p = to p
 on_ok (Err e) to p = tt
+
+pub taken : {T E : Type 0} {P : Type 0} {x : T} (result : Result T E) → result ≡ Ok x → OnOk result P → P
+taken {P = P} {x = x} result is p = subst (λ r. OnOk r P) is p
+
+pub err_taken : {T E : Type 0} {P : Type 0} {e : E} (result : Result T E) → result ≡ Err e → OnErr result P → P
+err_taken {P = P} {e = e} result is p = subst (λ r. OnErr r P) is p

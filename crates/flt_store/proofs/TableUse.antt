@@ -1,13 +1,11 @@
 -- What the table of blocks says of the calls on the mark, the commit, a part and an application block.
 use Rattle.std.proofs.Common.{◌≡◌, ℕ, ◌+◌, ◌≤◌, ◌<◌, List, Option, Some, sym, ◌∙◌, ap, subst, refl, arith}
-use Rattle.std.specs.Prelude.{IfSome, IsSomeAnd, IsTrue, ◌&&◌, nat_le, nat_lt}
-use Rattle.std.proofs.lemmas.Bool.{and_parts, ltb-true, leb-true}
-use Rattle.flt_config.specs.declared.config.Config.{Config}
+use Rattle.std.specs.Prelude.{IfSome, IsSomeAnd}
 use Rattle.flt_nvm.specs.declared.table.Kind.{Kind}
 use Rattle.flt_nvm.specs.declared.table.Kind.TheVariants.{Native, Redundant, Dataset}
 use Rattle.flt_nvm.specs.declared.table.BlockCfg.{BlockCfg}
 use Rattle.flt_nvm.specs.Table.{block_in, indices_of, ByKind, AsKept, HasIndex, Holds, IsRedundant}
-use Rattle.flt_generation.specs.Layout.{mark_id, commit_id, first_part, end_part, first_application, applications, part_of, has_part, is_used}
+use Rattle.flt_generation.specs.Layout.{mark_id, commit_id, first_part, end_part, first_application, applications, part_of}
 use Rattle.flt_generation.specs.Form.{part_length}
 use Rattle.flt_image.specs.Table.{row, block_table}
 use Rattle.flt_image.proofs.TableRows.{mark_row, commit_row, part_row, application_row}

@@ -1,4 +1,9 @@
 pub mod Cause
 pub mod Started
+pub mod Known
+pub mod Reading
+pub mod Writing
+pub mod Cost
+pub mod Keeping
 pub mod Store
 pub mod Start

@@ -12,6 +12,8 @@ use Rattle.flt_generation.specs.Holding.{Generation, IsSound, IsOneOf}
 use Rattle.flt_store.specs.declared.store.Store.{Store}
 use Rattle.flt_store.specs.Cause.{FailsThrice, HasRoom}
 use Rattle.flt_store.specs.Started.{HasMark, IsStarted}
+use Rattle.flt_store.specs.Known.{Knows, MayKnow}
+use Rattle.flt_image.specs.Blocks.{bytes_at}
 
 -- the state under this number
 abbrev pub numbered : ℕ → Persist → Generation
@@ -38,17 +40,28 @@ module _ {B : Type 0} {b : Ghosts B} where
   abbrev pub commit_of : Store B b → Option Commit
   commit_of store = store.commit
 
+  -- the bytes of the used blocks that the store keeps, by identifier
+  abbrev pub kept_of : Store B b → ℕ → List ℕ
+  kept_of store = bytes_at store.saved
+
   -- the last start-up and every save since then answered Ok
   abbrev pub is_settled : Store B b → Bool
   is_settled store = store.is_settled
 
   -- the last start-up answered Ok under this configuration: the image holds these two generations, the second by the second copy
-  -- of its commit; while the store is settled, both copies name the first
+  -- of its commit; while the store is settled, both copies name the first, and the store keeps its bytes
   pub record IsRunning (c : Config) (held spare : Generation) (store : Store B b) : Type 0 where
     pub served : IsServed c (driver_of store)
     pub mark : HasMark c (driver_of store).value
     pub sound : IsSound c (driver_of store).value held spare
     pub settled : IsTrue (is_settled store) → IsStarted c (driver_of store).value (commit_of store) held
+    pub known : IsTrue (is_settled store) → Knows c (kept_of store) held.state
+
+  -- both copies name the generation from which a save goes on, of which the store keeps what it knows
+  pub record IsReady (c : Config) (g : Generation) (store : Store B b) : Type 0 where
+    pub served : IsServed c (driver_of store)
+    pub started : IsStarted c (driver_of store).value (commit_of store) g
+    pub known : MayKnow c (commit_of store) (kept_of store) g.state
 
   -- a save goes on from the held generation; or from the spare one, where a save failed before and the flash failed three times
   abbrev pub IsChosen : (held spare : Generation) → Generation → Store B b → Store B b → Type 0
@@ -59,8 +72,7 @@ module _ {B : Type 0} {b : Ghosts B} where
   pub record Settles (c : Config) (held spare : Generation) (before after : Store B b) : Type 0 where
     pub chosen : Generation
     pub is : IsChosen held spare chosen before after
-    pub served : IsServed c (driver_of after)
-    pub started : IsStarted c (driver_of after).value (commit_of after) chosen
+    pub ready : IsReady c chosen after
 
   -- a save that answered this number, one more than that of the generation from which it went on: both copies name the state under it
   pub record Saves (c : Config) (held spare : Generation) (state : Persist) (number : ℕ) (before after : Store B b) : Type 0 where

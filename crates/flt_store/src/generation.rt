@@ -1,111 +1,175 @@
-// The writes of a save: the used blocks of the state, then both copies of the commit.
-ghost use Rattle.std.specs.Prelude.{◌≡◌, ℕ, ◌≤◌, ◌<◌, ◌+◌, length, IsTrue, OnOk, Some};
+// The writes of a save: the used blocks whose bytes changed, then both copies of the commit.
+ghost use Rattle.std.specs.Prelude.{◌≡◌, ℕ, ◌≤◌, ◌<◌, ◌+◌, ◌*◌, if◌then◌else◌, length, IsTrue, IsFalse, OnOk, IfOk, Some};
 ghost use Rattle.flt_flash.specs.Content.{bytes as holding};
+ghost use Rattle.flt_flash.specs.Blocks.{record_pages};
 ghost use Rattle.flt_flash.specs.Calls.{Follows};
 ghost use Rattle.flt_nvm.specs.Driver.{driver_of, table_of};
 ghost use Rattle.flt_nvm.specs.Leaves.{Gives};
 ghost use Rattle.flt_config.specs.Durable.{Fits};
-ghost use Rattle.flt_generation.specs.Layout.{number_of, mark_number, is_used, index_in, part_of};
-ghost use Rattle.flt_generation.specs.Form.{IsCommit, block_bytes, part_length};
-ghost use Rattle.flt_generation.specs.Holding.{Generation, BlocksHold, OldOrNew, SameApplications};
-ghost use Rattle.flt_generation.specs.Successor.{IsNext, OnlyNewBlock, OnlyNewBlocks};
+ghost use Rattle.flt_generation.specs.Layout.{number_of, mark_number, index_in, part_of, used_ids};
+ghost use Rattle.flt_generation.specs.Form.{block_bytes, part_length};
+ghost use Rattle.flt_generation.specs.Holding.{Generation, OldOrNew, SameApplications};
+ghost use Rattle.flt_generation.specs.Successor.{IsNext, OnlyNewBlock, OnlyNewBlocks, WritesWithin, is_moved, is_written, number_in};
+ghost use Rattle.flt_image.specs.Blocks.{bytes_at, AreBlocksOf};
 ghost use Rattle.flt_image.specs.Table.{block_table};
 ghost use Rattle.flt_store.specs.Cause.{IsWithinOwn, Writes};
+ghost use Rattle.flt_store.specs.Cost.{Spends, pages_to_write, written_sum};
+ghost use Rattle.flt_store.specs.Known.{MayKnow};
 ghost use Rattle.flt_store.specs.Started.{IsStarted, next_generation};
+ghost use Rattle.flt_store.specs.Writing.{AreSized, AreWritten};
 
 use flt_config::{Persist, ValidConfig};
 use flt_flash::{BlockFault, Blocks};
 use flt_generation::{COMMIT_ID, END_PART, FIRST_PART};
-use flt_image::{BlockBytes, Commit, is_used, put_block, put_commit};
+use flt_image::{Commit, StateBlocks, is_used, next_commit, put_commit};
 use flt_nvm::Nvm;
 
-// Writes one used block at the index at which the next commit names it.
+// Writes one index of a block.
 fn write_block<B: Blocks + Drop>(
     nvm: &mut Nvm<B>,
-    config: &ValidConfig,
-    state: &Persist,
-    next: &Commit,
     id: u16,
+    index: u8,
+    bytes: &[u8],
 ) -> Result<(), BlockFault>
     requires table { table_of nvm.old ≡ block_table }
-    requires form { IsCommit config.now next.now }
-    requires used { IsTrue (is_used config.now id) }
-    requires fits { Fits config.now state.now }
-    ensures gives { Gives (driver_of nvm.old) (driver_of nvm.new) (number_of id (index_in next.now id)) (holding (block_bytes state.now id)) (part_length (part_of id)) result }
-    ensures size { length (block_bytes state.now id) ≡ part_length (part_of id) }
+    requires first { 3 ≤ id }
+    requires end { id < 24 }
+    requires index { index ≤ 1 }
+    requires size { length bytes.now ≡ part_length (part_of id) }
+    ensures spends { (most : ℕ) → Spends most (driver_of nvm.old) (driver_of nvm.new) (record_pages (length bytes.now)) most }
+    ensures fresh { OnOk result (IsFalse (driver_of nvm.new).is_stale) }
+    ensures gives { Gives (driver_of nvm.old) (driver_of nvm.new) (number_of id index) (holding bytes.now) (length bytes.now) result }
     ensures writes { Writes (driver_of nvm.old) (driver_of nvm.new) result }
     ensures table { table_of nvm.new ≡ table_of nvm.old }
 {
-    let mut bytes = BlockBytes::new();
-    put_block(config, state, id, &mut bytes);
-    nvm.write(id, next.index[(id - FIRST_PART) as usize], &bytes)
+    nvm.write(id, index, bytes)
 }
 
-// Writes the block, if it is used.
-fn write_used<B: Blocks + Drop>(
+// The next commit names the block at another index than the current one.
+fn is_moved(current: &Option<Commit>, next: &Commit, id: u16) -> bool
+    requires first { 3 ≤ id }
+    requires end { id < 24 }
+    ensures { result ≡ is_moved current.now next.now id }
+{
+    match current {
+        None => true,
+        Some(commit) => {
+            let place = (id - FIRST_PART) as usize;
+            commit.index[place] != next.index[place]
+        }
+    }
+}
+
+fn is_written(config: &ValidConfig, current: &Option<Commit>, next: &Commit, id: u16) -> bool
+    requires first { 3 ≤ id }
+    requires end { id < 24 }
+    ensures { result ≡ is_written config.now current.now next.now id }
+{
+    is_used(config, id) && is_moved(current, next, id)
+}
+
+// Writes the block at the index at which the next commit names it, if that is another than the current one.
+fn write_moved<B: Blocks + Drop>(
     nvm: &mut Nvm<B>,
     config: &ValidConfig,
-    state: &Persist,
+    current: &Option<Commit>,
     next: &Commit,
+    blocks: &StateBlocks,
     id: u16,
 ) -> Result<(), BlockFault>
     requires table { table_of nvm.old ≡ block_table }
-    requires form { IsCommit config.now next.now }
-    requires fits { Fits config.now state.now }
-    ensures written { OnOk result (IsTrue (is_used config.now id) → (driver_of nvm.new).value (number_of id (index_in next.now id)) ≡ holding (block_bytes state.now id)) }
-    ensures only { OnlyNewBlock config.now next.now state.now id (driver_of nvm.old).value (driver_of nvm.new).value }
+    requires moves { WritesWithin config.now current.now next.now }
+    requires sizes { AreSized config.now (bytes_at blocks.now) }
+    requires first { 3 ≤ id }
+    requires end { id < 24 }
+    ensures written { OnOk result (IsTrue (is_written config.now current.now next.now id) → (driver_of nvm.new).value (number_of id (index_in next.now id)) ≡ holding (bytes_at blocks.now id)) }
+    ensures only { OnlyNewBlock config.now current.now next.now (bytes_at blocks.now) id (driver_of nvm.old).value (driver_of nvm.new).value }
     ensures within { IsWithinOwn config.now (driver_of nvm.old).value (driver_of nvm.new).value }
+    ensures spends { (most : ℕ) → Spends most (driver_of nvm.old) (driver_of nvm.new)
+        (if is_written config.now current.now next.now id then record_pages (length (bytes_at blocks.now id)) else 0) (if is_written config.now current.now next.now id then most else 0) }
+    ensures fresh { IsFalse (driver_of nvm.old).is_stale → OnOk result (IsFalse (driver_of nvm.new).is_stale) }
     ensures writes { Writes (driver_of nvm.old) (driver_of nvm.new) result }
     ensures table { table_of nvm.new ≡ table_of nvm.old }
 {
-    if is_used(config, id) {
-        write_block(nvm, config, state, next, id)
+    if is_written(config, current, next, id) {
+        write_block(
+            nvm,
+            id,
+            next.index[(id - FIRST_PART) as usize],
+            blocks.get(id),
+        )
     } else {
         Ok(())
     }
 }
 
-// Writes each used block at the index at which the next commit names it, in ascending order.
+// Writes those blocks in ascending order.
 fn write_blocks<B: Blocks + Drop>(
     nvm: &mut Nvm<B>,
     config: &ValidConfig,
-    state: &Persist,
+    current: &Option<Commit>,
     next: &Commit,
+    blocks: &StateBlocks,
 ) -> Result<(), BlockFault>
     requires table { table_of nvm.old ≡ block_table }
-    requires form { IsCommit config.now next.now }
-    requires fits { Fits config.now state.now }
-    ensures written { OnOk result (BlocksHold config.now (driver_of nvm.new).value next.now state.now) }
-    ensures only { OnlyNewBlocks config.now next.now state.now (driver_of nvm.old).value (driver_of nvm.new).value }
+    requires moves { WritesWithin config.now current.now next.now }
+    requires sizes { AreSized config.now (bytes_at blocks.now) }
+    ensures written { OnOk result (AreWritten config.now current.now next.now (bytes_at blocks.now) (driver_of nvm.new).value) }
+    ensures only { OnlyNewBlocks config.now current.now next.now (bytes_at blocks.now) (driver_of nvm.old).value (driver_of nvm.new).value }
     ensures within { IsWithinOwn config.now (driver_of nvm.old).value (driver_of nvm.new).value }
+    ensures spends { (most : ℕ) → IsFalse (driver_of nvm.old).is_stale → Spends most (driver_of nvm.old) (driver_of nvm.new)
+        (written_sum config.now current.now next.now (λ id. record_pages (length (bytes_at blocks.now id))) 21) (written_sum config.now current.now next.now (λ id. most) 21) }
+    ensures fresh { IsFalse (driver_of nvm.old).is_stale → OnOk result (IsFalse (driver_of nvm.new).is_stale) }
     ensures writes { Writes (driver_of nvm.old) (driver_of nvm.new) result }
     ensures table { table_of nvm.new ≡ table_of nvm.old }
 {
     for id in FIRST_PART..END_PART {
-        write_used(nvm, config, state, next, id)?;
+        write_moved(nvm, config, current, next, blocks, id)?;
     }
     Ok(())
 }
 
-/// Writes a generation: its blocks, then the first copy of its commit, then the second.
+/// A generation that was written.
+#[derive(Drop)]
+pub(crate) struct Written {
+    pub(crate) commit: Commit,
+    pub(crate) saved: StateBlocks,
+}
+
+/// Writes a generation: the blocks whose bytes are not those that were saved, or all where there is no commit, then the first
+/// copy of its commit, then the second.
 pub(crate) fn write_generation<B: Blocks + Drop>(
     nvm: &mut Nvm<B>,
     config: &ValidConfig,
     state: &Persist,
     current: &Option<Commit>,
-    next: &Commit,
-) -> Result<(), BlockFault>
+    saved: &StateBlocks,
+) -> Result<Written, BlockFault>
     requires table { table_of nvm.old ≡ block_table }
-    requires next { IsNext config.now current.now next.now }
-    requires form { IsCommit config.now next.now }
+    requires number { number_in current.now + 1 < 4294967296 }
     requires fits { Fits config.now state.now }
-    ensures done { (g : Generation) → IsStarted config.now (driver_of nvm.old).value current.now g → OnOk result (IsStarted config.now (driver_of nvm.new).value (Some next.now) (next_generation current.now state.now)) }
-    ensures either { (g : Generation) → IsStarted config.now (driver_of nvm.old).value current.now g → OldOrNew config.now (driver_of nvm.new).value g g (next_generation current.now state.now) }
+    ensures done { (g : Generation) → IsStarted config.now (driver_of nvm.old).value current.now g → MayKnow config.now current.now (bytes_at saved.now) g.state
+        → IfOk result (λ written. IsStarted config.now (driver_of nvm.new).value (Some written.commit) (next_generation current.now state.now)) }
+    ensures either { (g : Generation) → IsStarted config.now (driver_of nvm.old).value current.now g → MayKnow config.now current.now (bytes_at saved.now) g.state
+        → OldOrNew config.now (driver_of nvm.new).value g g (next_generation current.now state.now) }
+    ensures spends { (most : ℕ) → IsFalse (driver_of nvm.old).is_stale → Spends most (driver_of nvm.old) (driver_of nvm.new)
+        (6 + pages_to_write config.now current.now (bytes_at saved.now) (block_bytes state.now)) ((length (used_ids config.now) + 2) * most) }
+    ensures fresh { OnOk result (IsFalse (driver_of nvm.new).is_stale) }
+    ensures next { IfOk result (λ written. IsNext config.now current.now (bytes_at saved.now) (bytes_at written.saved) written.commit) }
+    ensures encodes { IfOk result (λ written. AreBlocksOf config.now state.now (bytes_at written.saved)) }
     ensures applications { SameApplications (driver_of nvm.old).value (driver_of nvm.new).value }
     ensures mark { (driver_of nvm.new).value mark_number ≡ (driver_of nvm.old).value mark_number }
     ensures writes { Writes (driver_of nvm.old) (driver_of nvm.new) result }
     ensures table { table_of nvm.new ≡ table_of nvm.old }
 {
-    write_blocks(nvm, config, state, next)?;
-    nvm.write(COMMIT_ID, 0, &put_commit(next))
+    let blocks = StateBlocks::of(config, state);
+    let commit = next_commit(config, current, saved, &blocks);
+    write_blocks(nvm, config, current, &commit, &blocks)?;
+    match nvm.write(COMMIT_ID, 0, &put_commit(&commit)) {
+        Ok(()) => Ok(Written {
+            commit,
+            saved: blocks,
+        }),
+        Err(fault) => Err(fault),
+    }
 }

@@ -7,6 +7,7 @@
 
 mod fault;
 mod generation;
+mod knowing;
 mod marking;
 mod restarting;
 mod store;

@@ -1,5 +1,5 @@
 // The mark of a configuration, in an image that has none.
-ghost use Rattle.std.specs.Prelude.{◌≡◌, OnOk};
+ghost use Rattle.std.specs.Prelude.{◌≡◌, IsFalse, OnOk};
 ghost use Rattle.flt_flash.specs.Content.{missing};
 ghost use Rattle.flt_flash.specs.Calls.{OthersKept};
 ghost use Rattle.flt_config.specs.declared.config.Config.{Config};
@@ -25,6 +25,7 @@ pub(crate) fn write_missing_mark<B: Blocks + Drop>(
     ensures marked { (c : Config) → mark.now ≡ mark_of c → MarkAllows c ((driver_of nvm.old).value mark_number) missing → OnOk result (HasMark c (driver_of nvm.new).value) }
     ensures tried { (c : Config) → mark.now ≡ mark_of c → IsMarkTried c (driver_of nvm.old).value (driver_of nvm.new).value }
     ensures others { OthersKept mark_number (driver_of nvm.old) (driver_of nvm.new) }
+    ensures fresh { OnOk result (IsFalse (driver_of nvm.new).is_stale) }
     ensures writes { Writes (driver_of nvm.old) (driver_of nvm.new) result }
     ensures table { table_of nvm.new ≡ table_of nvm.old }
 {

@@ -1,10 +1,11 @@
 // Which generation stands after a save that failed, and the repair of the commit's copies.
-ghost use Rattle.std.specs.Prelude.{◌≡◌, ◌⊎◌, ℕ, ◌-◌, ◌≤◌, length, IfOk, OnOk, OnErr, Some};
+ghost use Rattle.std.specs.Prelude.{◌≡◌, ◌⊎◌, ℕ, ◌-◌, ◌≤◌, length, IsFalse, IfOk, IfSome, OnOk, OnErr, Some};
 ghost use Rattle.flt_flash.specs.Content.{bytes as holding};
 ghost use Rattle.flt_flash.specs.Calls.{Follows, OthersKept};
 ghost use Rattle.flt_nvm.specs.Driver.{driver_of, table_of};
 ghost use Rattle.flt_nvm.specs.Leaves.{IsEither};
 ghost use Rattle.flt_generation.specs.Layout.{commit_id, number_of};
+ghost use Rattle.flt_generation.specs.Form.{IsCommit};
 ghost use Rattle.flt_generation.specs.Holding.{Generation, Holds, IsSound, OldOrNew};
 ghost use Rattle.flt_image.specs.Table.{block_table};
 ghost use Rattle.flt_store.specs.Cause.{IsWithinOwn, Writes};
@@ -28,6 +29,7 @@ pub(crate) fn restart<B: Blocks + Drop>(
     ensures failed { (held spare new : Generation) → IsSound config.now (driver_of nvm.old).value held spare → OnErr result (OldOrNew config.now (driver_of nvm.new).value held spare new) }
     ensures writes { (held spare : Generation) → IsSound config.now (driver_of nvm.old).value held spare → Writes (driver_of nvm.old) (driver_of nvm.new) result }
     ensures kept { AgreeButForCommit (driver_of nvm.old).value (driver_of nvm.new).value }
+    ensures form { IfOk result (λ commit. IfSome commit (IsCommit config.now)) }
     ensures follows { Follows (driver_of nvm.old) (driver_of nvm.new) }
     ensures table { table_of nvm.new ≡ table_of nvm.old }
 {
@@ -55,6 +57,8 @@ pub(crate) fn repair_by<B: Blocks + Drop>(
     requires most { copy ≤ 2 }
     requires held { (driver_of nvm.old).value (number_of commit_id (copy - 1)) ≡ holding bytes.now }
     ensures started { (g : Generation) → Holds config.now (driver_of nvm.old).value (holding bytes.now) g → IfOk result (λ commit. IsStarted config.now (driver_of nvm.new).value (Some commit) g) }
+    ensures form { IfOk result (IsCommit config.now) }
+    ensures fresh { OnOk result (IsFalse (driver_of nvm.new).is_stale) }
     ensures other { IsEither (driver_of nvm.old) (driver_of nvm.new) (number_of commit_id (2 - copy)) (holding bytes.now) }
     ensures others { OthersKept (number_of commit_id (2 - copy)) (driver_of nvm.old) (driver_of nvm.new) }
     ensures within { IsWithinOwn config.now (driver_of nvm.old).value (driver_of nvm.new).value }

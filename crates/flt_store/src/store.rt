@@ -1,14 +1,18 @@
 // Generations in the blocks of a driver.
-ghost use Rattle.std.specs.Prelude.{◌≡◌, ◌+◌, ◌<◌, ℕ, Err, IsErr, IsErrOf, IfOk, OnOk, OnErr, IsTrue, IsFalse};
-ghost use Rattle.flt_flash.specs.Calls.{Follows};
+ghost use Rattle.std.specs.Prelude.{◌≡◌, ◌≢◌, ◌+◌, ◌*◌, ◌<◌, ℕ, length, Err, IsErr, IsErrOf, IfOk, OnOk, OnErr, IsTrue, IsFalse};
+ghost use Rattle.flt_flash.specs.Calls.{Follows, NoFault, NoErase, CostsAtMost};
 ghost use Rattle.flt_nvm.specs.Driver.{driver_of as driver_beneath, table_of};
 ghost use Rattle.flt_config.specs.declared.persist.Persist.{Persist};
 ghost use Rattle.flt_config.specs.Durable.{Fits};
-ghost use Rattle.flt_generation.specs.Layout.{numbers};
+ghost use Rattle.flt_generation.specs.Form.{block_bytes};
+ghost use Rattle.flt_generation.specs.Layout.{numbers, used_ids};
 ghost use Rattle.flt_generation.specs.Holding.{Generation, OldOrNew, SameApplications};
-ghost use Rattle.flt_generation.specs.Successor.{number_in};
+ghost use Rattle.flt_generation.specs.Successor.{changed_pages, number_in};
 ghost use Rattle.flt_image.specs.Table.{block_table};
 ghost use Rattle.flt_store.specs.Cause.{FailsThrice, IsStuck};
+ghost use Rattle.flt_store.specs.Cost.{Spends, pages_to_write};
+ghost use Rattle.flt_store.specs.Keeping.{KeepsPlaces};
+ghost use Rattle.flt_store.specs.Known.{Knows};
 ghost use Rattle.flt_store.specs.Started.{HasMark, IsStarted};
 
 mod applications;
@@ -16,12 +20,13 @@ mod device;
 mod starting;
 
 use crate::fault::{SaveFault, save_fault};
-use crate::generation::write_generation;
+use crate::generation::{Written, write_generation};
+use crate::knowing::read_blocks;
 use crate::restarting::restart;
 pub use applications::APPLICATION;
 use flt_config::{Persist, ValidConfig};
 use flt_flash::Blocks;
-use flt_image::{Commit, next_commit};
+use flt_image::{Commit, StateBlocks};
 use flt_nvm::Nvm;
 
 /// The saved generations of a durable state, and the application blocks, in the blocks of a driver.
@@ -29,6 +34,7 @@ use flt_nvm::Nvm;
 pub struct Store<B: Blocks + Drop> {
     nvm: Nvm<B>,
     commit: Option<Commit>,
+    saved: StateBlocks,
     is_settled: bool,
     ghost numbers: { (driver_beneath nvm).numbers ≡ numbers },
     ghost table: { table_of nvm ≡ block_table },
@@ -44,7 +50,7 @@ fn number_in(commit: &Option<Commit>) -> u32
 }
 
 impl<B: Blocks + Drop> Store<B> {
-    ghost use Rattle.flt_store.specs.Store.{driver_of, commit_of, is_settled, numbered, IsServed, IsRunning, IsLast, Leaves, Saves, Settles};
+    ghost use Rattle.flt_store.specs.Store.{driver_of, commit_of, kept_of, is_settled, numbered, IsReady, IsRunning, IsLast, Leaves, Saves, Settles};
 
     /// A store over the blocks of an image: the table is `block_table`'s, over a driver that was made with `fee_numbers`. It is
     /// not started.
@@ -56,6 +62,7 @@ impl<B: Blocks + Drop> Store<B> {
         Store {
             nvm,
             commit: None,
+            saved: StateBlocks::unknown(),
             is_settled: false,
         }
     }
@@ -70,6 +77,7 @@ impl<B: Blocks + Drop> Store<B> {
         ensures sequence { (held spare : Generation) → IsRunning config.now held spare self.old → IsErrOf result SaveFault.SequenceSpent → IsStuck (driver_of self.new) }
         ensures applications { SameApplications (driver_of self.old).value (driver_of self.new).value }
         ensures unsettled { OnErr result (IsFalse (is_settled self.new)) }
+        ensures still { IsTrue (is_settled self.old) → self.new ≡ self.old }
         ensures follows { Follows (driver_of self.old) (driver_of self.new) }
     {
         if self.is_settled {
@@ -77,6 +85,7 @@ impl<B: Blocks + Drop> Store<B> {
         }
         match restart(&mut self.nvm, config) {
             Ok(commit) => {
+                self.saved = read_blocks(&mut self.nvm, config, &commit);
                 self.commit = commit;
                 Ok(())
             }
@@ -87,32 +96,36 @@ impl<B: Blocks + Drop> Store<B> {
     // Saves a state as the next generation, where both copies of the commit name one.
     fn save_next(&mut self, config: &ValidConfig, state: &Persist) -> Result<u32, SaveFault>
         requires { Fits config.now state.now }
-        ensures saved { (g : Generation) → IsServed config.now (driver_of self.old) → IsStarted config.now (driver_of self.old).value (commit_of self.old) g
+        ensures saved { (g : Generation) → IsReady config.now g self.old
             → IfOk result (λ number. (number ≡ g.number + 1) × IsRunning config.now (numbered number state.now) (numbered number state.now) self.new) }
-        ensures failed { (g : Generation) → IsServed config.now (driver_of self.old) → IsStarted config.now (driver_of self.old).value (commit_of self.old) g
+        ensures failed { (g : Generation) → IsReady config.now g self.old
             → OnErr result (OldOrNew config.now (driver_of self.new).value g g (numbered (g.number + 1) state.now)) }
-        ensures flash { (g : Generation) → IsServed config.now (driver_of self.old) → IsStarted config.now (driver_of self.old).value (commit_of self.old) g
+        ensures flash { (g : Generation) → IsReady config.now g self.old
             → IsErrOf result SaveFault.Flash → FailsThrice (driver_of self.old) (driver_of self.new) }
-        ensures spent { (g : Generation) → IsStarted config.now (driver_of self.old).value (commit_of self.old) g
+        ensures spent { (g : Generation) → IsReady config.now g self.old
             → IsErrOf result SaveFault.Spent → (g.number ≡ 4294967295) × IsStarted config.now (driver_of self.new).value (commit_of self.new) g }
-        ensures last { (g : Generation) → IsStarted config.now (driver_of self.old).value (commit_of self.old) g → g.number ≡ 4294967295 → result ≡ Err SaveFault.Spent }
+        ensures last { (g : Generation) → IsReady config.now g self.old → g.number ≡ 4294967295 → result ≡ Err SaveFault.Spent }
         ensures sequence { IsErrOf result SaveFault.SequenceSpent → IsStuck (driver_of self.new) }
         ensures mark { HasMark config.now (driver_of self.old).value → HasMark config.now (driver_of self.new).value }
         ensures applications { SameApplications (driver_of self.old).value (driver_of self.new).value }
         ensures settled { OnOk result (IsTrue (is_settled self.new)) }
         ensures unsettled { OnErr result (IsFalse (is_settled self.new)) }
+        ensures places { (g : Generation) → IsReady config.now g self.old → Knows config.now (kept_of self.old) g.state → OnOk result (KeepsPlaces config.now g.state state.now (driver_of self.old).value (driver_of self.new).value) }
+        ensures spends { (g : Generation) (most : ℕ) → Knows config.now (kept_of self.old) g.state → IsFalse (driver_of self.old).is_stale
+            → Spends most (driver_of self.old) (driver_of self.new) (6 + pages_to_write config.now (commit_of self.old) (block_bytes g.state) (block_bytes state.now)) ((length (used_ids config.now) + 2) * most) }
+        ensures fresh { OnOk result (IsFalse (driver_of self.new).is_stale) }
         ensures follows { Follows (driver_of self.old) (driver_of self.new) }
     {
         self.is_settled = false;
         if number_in(&self.commit) == u32::MAX {
             return Err(SaveFault::Spent);
         }
-        let next = next_commit(config, &self.commit);
-        match write_generation(&mut self.nvm, config, state, &self.commit, &next) {
-            Ok(()) => {
-                self.commit = Some(next);
+        match write_generation(&mut self.nvm, config, state, &self.commit, &self.saved) {
+            Ok(Written { commit, saved }) => {
+                self.commit = Some(commit);
+                self.saved = saved;
                 self.is_settled = true;
-                Ok(next.generation)
+                Ok(commit.generation)
             }
             Err(fault) => Err(save_fault(fault)),
         }
@@ -120,6 +133,8 @@ impl<B: Blocks + Drop> Store<B> {
 
     /// Saves a state that fits as the next generation, and answers its number. Where an earlier save of this life failed, it first
     /// finds out which generation stands, and makes both copies of its commit equal.
+    ///
+    /// A used block whose bytes are those of the generation before is not written, and keeps its index; the first save writes all.
     ///
     /// After `Ok` the image names the new generation, by both copies. After an error it names the generation before or the new one.
     /// `Spent` comes where the generation before has the number 2^32 - 1.
@@ -134,6 +149,15 @@ impl<B: Blocks + Drop> Store<B> {
         ensures applications { SameApplications (driver_of self.old).value (driver_of self.new).value }
         ensures settled { OnOk result (IsTrue (is_settled self.new)) }
         ensures unsettled { OnErr result (IsFalse (is_settled self.new)) }
+
+        // Where no earlier save failed: a block whose bytes stayed stands where it stood, and only the others are written.
+        ensures places { (held spare : Generation) → IsRunning config.now held spare self.old → IsTrue (is_settled self.old) → OnOk result (KeepsPlaces config.now held.state state.now (driver_of self.old).value (driver_of self.new).value) }
+        ensures by_changes { (held spare : Generation) → IsRunning config.now held spare self.old → IsTrue (is_settled self.old) → held.number ≢ 0 → IsFalse (driver_of self.old).is_stale
+            → NoFault (driver_of self.old) (driver_of self.new) → NoErase (driver_of self.old) (driver_of self.new)
+            → CostsAtMost (6 + changed_pages config.now (block_bytes held.state) (block_bytes state.now)) (driver_of self.old) (driver_of self.new) }
+        ensures at_most { (held spare : Generation) → IsRunning config.now held spare self.old → IsTrue (is_settled self.old) → IsFalse (driver_of self.old).is_stale
+            → NoFault (driver_of self.old) (driver_of self.new) → CostsAtMost ((length (used_ids config.now) + 2) * (2 * config.now.pages + 4)) (driver_of self.old) (driver_of self.new) }
+        ensures fresh { OnOk result (IsFalse (driver_of self.new).is_stale) }
         ensures follows { Follows (driver_of self.old) (driver_of self.new) }
     {
         match self.settle(config) {

@@ -127,7 +127,7 @@ fn blocks_over(
     }
     laws::numbers_are_distinct();
     laws::numbers_serve_table();
-    match Fee::make(flash, used, fee_numbers(alloc)?) {
+    match Fee::make(alloc, flash, used, fee_numbers(alloc)?) {
         Ok(fee) => Ok(Nvm::make(fee, block_table(alloc)?)),
         Err(_) => Err(Fail::from("no memory")),
     }

@@ -11,7 +11,7 @@ use Rattle.flt_turn.specs.Plays.{IsFound, IsTurn}
 use Rattle.flt_turn.specs.Seats.{Seated, seated, Extends, ops_before}
 use Rattle.flt_turn.specs.Vaults.{VaultOf, journal_of, start_of, room_of}
 use Rattle.flt_turn.specs.Views.{drawn, turned, done}
-use Rattle.flt_turn.proofs.Journals.{olds_longer, calls_of-append, nothing_more, take_front}
+use Rattle.flt_turn.proofs.Journals.{calls_of-append, nothing_more, take_front}
 
 module _ {M S O R B : Type 0} {m : Ghosts M S O R B} where
   -- the view of a seat that has the turn
@@ -77,7 +77,8 @@ module _ {M S O R B : Type 0} {m : Ghosts M S O R B} where
         seen = longer' ∙ ap (λ l. l ++ entry v.number op ∷ []) (sym all);
         others = nothing_more (calls_of v.number v.seen) _ (sym (calls_of-append v.number v.seen f.seen.0) ∙ (ap (calls_of v.number) all ∙ (f.mine ∙ sym f.own)));
         place_is = ap length all ∙ f.place;
-        olds = subst (λ l. All (λ old. IsPrefix old l) v.olds) (sym longer') (olds_longer v.olds _ _ f.olds);
+        olds = subst (λ l. All (λ old. IsPrefix old l) v.olds) (sym all) f.olds;
+        own = ap (calls_of v.number) all ∙ f.mine;
         mine = refl;
         left = omega arith;
         lock = refl;

@@ -51,7 +51,9 @@ pub record Extends {S O : Type 0} (before after : Seated S O) (op : O) (place : 
   pub seen : after.seen ≡ (before.seen ++ between) ++ entry before.number op ∷ []
   pub others : calls_of before.number between ≡ []
   pub place_is : length (before.seen ++ between) ≡ place
-  pub olds : All (λ old. IsPrefix old after.seen) before.olds
+  -- what joined seats knew stands before the call, and there the seat's operations are all that have its number
+  pub olds : All (λ old. IsPrefix old (before.seen ++ between)) before.olds
+  pub own : calls_of before.number (before.seen ++ between) ≡ before.mine
   pub mine : after.mine ≡ before.mine ++ op ∷ []
   pub left : after.left + 1 ≡ before.left
   pub lock : after.lock ≡ before.lock

@@ -234,7 +234,7 @@ fn turned_blocks(alloc: Global, flash: FlashMem, used: u16) -> Result<Fee<FlashM
     ensures first { IfOk result (λ fee. Contains (state_of flash_state fee).numbers 8) }
     ensures second { IfOk result (λ fee. Contains (state_of flash_state fee).numbers 9) }
 {
-    match Fee::make(flash, used, vec![in alloc; 9, 8]?) {
+    match Fee::make(alloc, flash, used, vec![in alloc; 9, 8]?) {
         Ok(fee) => Ok(fee),
         Err(_) => Err(Fail::from("refused")),
     }

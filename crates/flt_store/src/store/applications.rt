@@ -1,5 +1,5 @@
 //! The application blocks.
-ghost use Rattle.std.specs.Prelude.{◌≡◌, ◌≤◌, ◌<◌, ◌+◌, ◌++◌, length, IfOk};
+ghost use Rattle.std.specs.Prelude.{◌≡◌, ◌≤◌, ◌<◌, ◌+◌, ◌++◌, length, IsFalse, IfOk, OnOk};
 ghost use Rattle.flt_flash.specs.Content.{bytes as holding};
 ghost use Rattle.flt_nvm.specs.Driver.{driver_of as driver_beneath, table_of};
 ghost use Rattle.flt_flash.specs.Calls.{Calls, NeverFull, SameValues};
@@ -38,6 +38,7 @@ fn write_application<B: Blocks + Drop>(
     requires least { 1 ≤ length bytes.now }
     requires most { length bytes.now ≤ 32 }
     ensures gives { Gives (driver_beneath nvm.old) (driver_beneath nvm.new) (application_number block) (holding bytes.now) (length bytes.now) result }
+    ensures fresh { OnOk result (IsFalse (driver_beneath nvm.new).is_stale) }
     ensures writes { Writes (driver_beneath nvm.old) (driver_beneath nvm.new) result }
     ensures table { table_of nvm.new ≡ table_of nvm.old }
 {
@@ -54,6 +55,7 @@ fn read_application<B: Blocks + Drop>(
     ensures got { IfOk result (λ got. GotOf 1 ((driver_beneath nvm.old).value (application_number block)) got out.old out.new) }
     ensures values { SameValues (driver_beneath nvm.old) (driver_beneath nvm.new) }
     ensures calls { Calls (driver_beneath nvm.old) (driver_beneath nvm.new) result }
+    ensures stays { IsFalse (driver_beneath nvm.old).is_stale → IsFalse (driver_beneath nvm.new).is_stale }
     ensures never_full { NeverFull result }
     ensures three { FailsInThree (driver_beneath nvm.old) (driver_beneath nvm.new) result }
     ensures table { table_of nvm.new ≡ table_of nvm.old }
@@ -62,7 +64,7 @@ fn read_application<B: Blocks + Drop>(
 }
 
 impl<B: Blocks + Drop> Store<B> {
-    ghost use Rattle.std.specs.Prelude.{ℕ, IsErrOf, OnOk, OnErr, IsTrue};
+    ghost use Rattle.std.specs.Prelude.{ℕ, IsErrOf, OnErr, IsTrue};
     ghost use Rattle.flt_flash.specs.Calls.{Follows, OthersKept};
     ghost use Rattle.flt_nvm.specs.Leaves.{IsEither};
     ghost use Rattle.flt_config.specs.declared.config.Config.{Config};
@@ -85,6 +87,7 @@ impl<B: Blocks + Drop> Store<B> {
         ensures flash { (c : Config) (held spare : Generation) → block < c.blocks → IsRunning c held spare self.old → IsErrOf result PutFault.Flash → FailsThrice (driver_of self.old) (driver_of self.new) }
         ensures sequence { IsErrOf result PutFault.SequenceSpent → IsTrue ((driver_of self.new).is_stuck (application_number block) (length bytes.now)) }
         ensures settled { is_settled self.new ≡ is_settled self.old }
+        ensures fresh { OnOk result (IsFalse (driver_of self.new).is_stale) }
         ensures follows { Follows (driver_of self.old) (driver_of self.new) }
     {
         match write_application(&mut self.nvm, block, bytes) {
@@ -106,6 +109,7 @@ impl<B: Blocks + Drop> Store<B> {
         ensures values { SameValues (driver_of self.old) (driver_of self.new) }
         ensures running { (c : Config) (held spare : Generation) → IsRunning c held spare self.old → IsRunning c held spare self.new }
         ensures settled { is_settled self.new ≡ is_settled self.old }
+        ensures stays { IsFalse (driver_of self.old).is_stale → IsFalse (driver_of self.new).is_stale }
         ensures follows { Follows (driver_of self.old) (driver_of self.new) }
     {
         let mut bytes = [0; 128];

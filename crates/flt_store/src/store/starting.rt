@@ -1,5 +1,5 @@
 //! Start-up: what the image holds, and both copies of the commit made equal.
-ghost use Rattle.std.specs.Prelude.{◌≡◌, IfOk, IfErr, OnErr, IsTrue};
+ghost use Rattle.std.specs.Prelude.{◌≡◌, IfOk, IfErr, OnOk, OnErr, IsTrue, IsFalse};
 ghost use Rattle.flt_flash.specs.Calls.{Follows};
 ghost use Rattle.flt_nvm.specs.Driver.{driver_of as driver_beneath, table_of};
 ghost use Rattle.flt_generation.specs.Holding.{Generation, IsSound, OldOrNew, SameApplications};
@@ -16,7 +16,7 @@ use crate::restarting::repair_by;
 use flt_config::{Persist, ValidConfig};
 use flt_flash::{BlockFault, Blocks};
 use flt_generation::Place;
-use flt_image::{Commit, Mark, mark_of};
+use flt_image::{Commit, Mark, StateBlocks, mark_of};
 use flt_nvm::Nvm;
 use flt_restore::{CommitCopy, StartFault, restore};
 
@@ -55,6 +55,7 @@ fn begin_by<B: Blocks + Drop>(
         → OnErr result (OldOrNew config.now (driver_beneath nvm.new).value held spare held) }
     ensures writes { (g : Generation) → Begins config.now (driver_beneath nvm.old).value found g → Writes (driver_beneath nvm.old) (driver_beneath nvm.new) result }
     ensures borne { (g : Generation) → Begins config.now (driver_beneath nvm.old).value found g → IsBorne config.now (driver_beneath nvm.new).value }
+    ensures fresh { OnOk result (IsFalse (driver_beneath nvm.new).is_stale) }
     ensures applications { SameApplications (driver_beneath nvm.old).value (driver_beneath nvm.new).value }
     ensures follows { Follows (driver_beneath nvm.old) (driver_beneath nvm.new) }
     ensures table { table_of nvm.new ≡ table_of nvm.old }
@@ -82,6 +83,7 @@ impl<B: Blocks + Drop> Store<B> {
         ensures started { IfOk result (λ number. Starts config.now number out.new self.old self.new) }
         ensures refused { IfErr result (RefusedFor config.now self.old self.new) }
         ensures left { (held spare : Generation) → IsSound config.now (driver_of self.old).value held spare → OnErr result (OldOrNew config.now (driver_of self.new).value held spare held) }
+        ensures fresh { OnOk result (IsFalse (driver_of self.new).is_stale) }
         ensures applications { SameApplications (driver_of self.old).value (driver_of self.new).value }
         ensures follows { Follows (driver_of self.old) (driver_of self.new) }
     {
@@ -91,6 +93,7 @@ impl<B: Blocks + Drop> Store<B> {
                 Ok(commit) => {
                     let generation = number_in(&commit);
                     self.commit = commit;
+                    self.saved = StateBlocks::of(config, out);
                     self.is_settled = true;
                     Ok(generation)
                 }
@@ -112,6 +115,7 @@ impl<B: Blocks + Drop> Store<B> {
         ensures started { IfOk result (λ number. Starts config.now number out.new self.old self.new) }
         ensures refused { IfErr result (RefusedFor config.now self.old self.new) }
         ensures left { (held spare : Generation) → IsSound config.now (driver_of self.old).value held spare → OnErr result (OldOrNew config.now (driver_of self.new).value held spare held) }
+        ensures fresh { OnOk result (IsFalse (driver_of self.new).is_stale) }
         ensures applications { SameApplications (driver_of self.old).value (driver_of self.new).value }
         ensures follows { Follows (driver_of self.old) (driver_of self.new) }
     {

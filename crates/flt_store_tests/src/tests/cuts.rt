@@ -37,9 +37,9 @@ const JOB: [Call; 18] = [
     Call::Start,
 ];
 
-// How many programs and erases the job makes: 3 of the first mount, 3 of the mark, 18 of each save, 3 of each put, and 27 of the
-// switch.
-const OPERATIONS: u32 = 111;
+// How many programs and erases the job makes: 3 of the first mount, 3 of the mark, 18 of the first save, 10 of the second, whose
+// summary and entry stay, 3 of each put, and 27 of the switch.
+const OPERATIONS: u32 = 103;
 
 // What the image says: the generation's number, the status of its event, and the byte of block 0 where that was put.
 #[derive(Clone, Copy, Debug, PartialEq, Eq)]

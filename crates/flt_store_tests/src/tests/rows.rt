@@ -1,5 +1,5 @@
 // Worked examples.
-ghost use Rattle.std.specs.Prelude.{◌≡◌, IfOk, vec_len, All};
+ghost use Rattle.std.specs.Prelude.{◌≡◌, ◌<◌, IfOk, vec_len, All};
 ghost use Rattle.flt_flash.specs.State.{CanArm};
 ghost use Rattle.flt_nvm.specs.Driver.{table_of};
 ghost use Rattle.flt_image.specs.Table.{block_table};
@@ -143,6 +143,62 @@ fn mutes_the_first_copy(rt: &impl Abort, alloc: Global, muted: bool) -> Result<(
 fn a_muted_first_copy_gives_the_generation_before(rt: HostRuntime) -> Result<(), Fail> {
     mutes_the_first_copy(&rt, rt.alloc(), true)?;
     mutes_the_first_copy(&rt, rt.alloc(), false)
+}
+
+// Saves the first state, then with the power cut at a program or erase another one, as often as there are answers; starts up with
+// the power on again.
+fn saves_again(
+    rt: &impl Abort,
+    alloc: Global,
+    second: &Persist,
+    after: u32,
+    answers: &[Result<u32, SaveFault>],
+) -> Result<(u32, Persist), Fail>
+    requires { 0 < after }
+{
+    let config = configured(1, 0, 1)?;
+    let mut store = blank_store(alloc, &config)?;
+    start(&mut store, &config)?;
+    assert!(rt; save(rt, &mut store, &config, &initial(&config)) == Ok(1));
+    let pattern = Pattern::Nothing;
+    arm(&mut store, Arm::Cut { after, pattern });
+    for answer in answers {
+        assert!(rt; save(rt, &mut store, &config, second) == *answer);
+    }
+    power_up(&mut store);
+    Ok(start(&mut store, &config)?)
+}
+
+#[test]
+fn blocks_that_stay_are_not_written(rt: HostRuntime) -> Result<(), Fail> {
+    let first = state(&[NOT_TESTED], &[]);
+    let answers = [Ok(2), Err(SaveFault::Flash)];
+    assert!(&rt; saves_again(&rt, rt.alloc(), &first, 7, &answers)? == (2, first));
+    let second = state(&[FAILED], &[1]);
+    let answers = [Err(SaveFault::Flash), Err(SaveFault::Flash)];
+    assert!(&rt; saves_again(&rt, rt.alloc(), &second, 18, &answers)? == (2, second));
+    Ok(())
+}
+
+#[test]
+fn a_save_after_a_failed_one_compares_with_what_stands(rt: HostRuntime) -> Result<(), Fail> {
+    let config = configured(1, 0, 1)?;
+    let first = state(&[FAILED], &[1]);
+    let mut store = blank_store(rt.alloc(), &config)?;
+    start(&mut store, &config)?;
+    assert!(&rt; save(&rt, &mut store, &config, &first) == Ok(1));
+    let pattern = Pattern::Nothing;
+    for after in 1..4 {
+        arm(&mut store, Arm::Fault { after, pattern });
+    }
+    let failed = save(&rt, &mut store, &config, &state(&[PASSED], &[1]));
+    assert!(&rt; failed == Err(SaveFault::Flash));
+    arm(&mut store, Arm::Fault { after: 7, pattern });
+    assert!(&rt; save(&rt, &mut store, &config, &first) == Ok(2));
+    assert!(&rt; store.armed() == 1);
+    power_up(&mut store);
+    assert!(&rt; start(&mut store, &config)? == (2, first));
+    Ok(())
 }
 
 // The pages of both sectors.

@@ -1,11 +1,10 @@
-use Rattle.std.proofs.Common.{◌≡◌, ℕ, List, Result, Ok, Err, sym, ◌∙◌, ap, subst}
 use Rattle.flt_flash.specs.Image.{sector_at}
 use Rattle.flt_sector.specs.Gates.{gates_of}
 use Rattle.flt_sector.specs.Blocks.{current}
-use Rattle.flt_pages.specs.Told.{told, TellsOrFails}
+use Rattle.flt_pages.specs.Told.{TellsOrFails}
 use Rattle.flt_fee.specs.Place.{told_current}
 use Rattle.flt_record.proofs.Scanning.{handed_on}
-use Rattle.flt_fee.proofs.Placing.{number_told, first_fault_told, second_fault_told, both_told}
+use Rattle.flt_fee.proofs.Placing.{first_fault_told}
 use Rattle.flt_fee.proofs.place.current_sector.Goals as goal
 
 pub returns-in_err-first-clause-current : goal.returns-in_err-first-clause-current

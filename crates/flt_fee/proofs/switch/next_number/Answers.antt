@@ -1,4 +1,4 @@
-use Rattle.std.proofs.Common.{◌≡◌, ◌+◌, ◌<◌, ℕ, Option, length, sym, subst, arith}
+use Rattle.std.proofs.Common.{◌+◌, ◌<◌, ℕ, Option, length, sym, subst, arith}
 use Rattle.flt_fee.proofs.Nearest.{NextBelow, nothing_yet, next_on, next_all}
 use Rattle.flt_fee.proofs.switch.next_number.Goals as goal
 

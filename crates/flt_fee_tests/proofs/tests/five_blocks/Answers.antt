@@ -1,4 +1,4 @@
-use Rattle.std.proofs.Common.{◌<◌, ℕ, List, refl, sym, ◌∙◌, subst, arith}
+use Rattle.std.proofs.Common.{ℕ, List, refl, sym, ◌∙◌, subst, arith}
 use Rattle.flt_fee_tests.specs.Few.{HasFive}
 use Rattle.flt_fee_tests.proofs.tests.five_blocks.Goals as goal
 

@@ -1,4 +1,4 @@
-use Rattle.std.proofs.Common.{◌<◌, ℕ, List, Contains, refl, sym, ◌∙◌, subst, arith}
+use Rattle.std.proofs.Common.{ℕ, List, Contains, refl, sym, ◌∙◌, subst, arith}
 use Rattle.flt_fee_tests.proofs.tests.two_blocks.Goals as goal
 
 pub returns-in-Ok-clause-first : goal.returns-in-Ok-clause-first

@@ -1,4 +1,4 @@
-use Rattle.std.proofs.Common.{◌≡◌, ◌∙◌, sym, ap}
+use Rattle.std.proofs.Common.{◌∙◌, sym, ap}
 use Rattle.flt_generation.specs.declared.part.Part.TheVariants.{Summary, States, Entry}
 use Rattle.flt_generation.specs.Form.{part_length}
 use Rattle.flt_generation.specs.Layout.{part_of}

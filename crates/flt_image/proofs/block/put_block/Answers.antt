@@ -1,5 +1,4 @@
-use Rattle.std.proofs.Common.{ℕ, List, ◌<◌, subst, sym}
-use Rattle.flt_config.specs.declared.persist.EventState.{EventState}
+use Rattle.std.proofs.Common.{subst, sym}
 use Rattle.flt_image.specs.Taking.{HaveShortCounts}
 use Rattle.flt_generation.proofs.Parts.{states_short}
 use Rattle.flt_image.proofs.block.put_block.Goals as goal

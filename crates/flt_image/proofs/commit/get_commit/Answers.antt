@@ -1,7 +1,7 @@
-use Rattle.std.proofs.Common.{◌≡◌, length, sym, ◌∙◌, ap, arith, Some}
+use Rattle.std.proofs.Common.{sym, ◌∙◌, ap, arith, Some}
 use Rattle.std.specs.Prelude.{bytes_eq}
 use Rattle.flt_generation.specs.Form.{commit_bytes}
-use Rattle.flt_generation.specs.Reading.{commit_from, is_commit}
+use Rattle.flt_generation.specs.Reading.{is_commit}
 use Rattle.flt_generation.proofs.Commits.{tested_commit_bytes, no_commit_by_bytes, no_commit_by_test, no_commit_by_size}
 use Rattle.flt_image.proofs.commit.get_commit.Goals as goal
 

@@ -1,4 +1,4 @@
-use Rattle.std.proofs.Common.{◌≡◌, ◌∙◌, sym, ap, List, [], ◌∷◌, ◌++◌, ◌<◌, ◌≤◌, length, arith}
+use Rattle.std.proofs.Common.{◌∙◌, sym, ap, List, [], ◌∷◌, ◌++◌, ◌<◌, length, arith}
 use Rattle.std.specs.Prelude.{bytes_eq, slice_get, slice_set}
 use Rattle.flt_config.specs.declared.persist.Persist.{Persist}
 use Rattle.flt_config.specs.declared.persist.EntryState.{EntryState}

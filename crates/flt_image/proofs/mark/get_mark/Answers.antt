@@ -1,4 +1,4 @@
-use Rattle.std.proofs.Common.{◌≡◌, length, sym, ◌∙◌, ap, subst, ◌<◌, arith, Some}
+use Rattle.std.proofs.Common.{sym, ◌∙◌, ap, subst, ◌<◌, arith, Some}
 use Rattle.std.specs.Prelude.{bytes_eq}
 use Rattle.flt_generation.specs.declared.mark.Mark.{Mark}
 use Rattle.flt_generation.specs.Form.{mark_bytes}

@@ -1,4 +1,4 @@
-use Rattle.std.proofs.Common.{◌≡◌, ℕ, ◌+◌, ◌-◌, ◌*◌, ◌++◌, [], ◌∷◌, List, sym, ◌∙◌, ap, subst, arith}
+use Rattle.std.proofs.Common.{◌≡◌, ℕ, ◌+◌, ◌-◌, ◌*◌, ◌++◌, [], ◌∷◌, List, ◌∙◌, ap, subst, arith}
 use Rattle.std.specs.Prelude.{flat_map, map}
 use Rattle.std.specs.List.{range_with_len}
 use Rattle.flt_generation.specs.Layout.{numbers, both_indices, application_number}

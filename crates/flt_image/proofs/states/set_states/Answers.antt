@@ -1,7 +1,7 @@
-use Rattle.std.proofs.Common.{◌≡◌, ◌∙◌, ap, sym, ℕ, ◌+◌, List}
+use Rattle.std.proofs.Common.{◌∙◌, ap, sym, ◌+◌, List}
 use Rattle.std.specs.Prelude.{slice_set}
 use Rattle.flt_config.specs.declared.persist.EventState.{EventState}
-use Rattle.flt_generation.specs.Reading.{state_from, with_states}
+use Rattle.flt_generation.specs.Reading.{with_states}
 use Rattle.flt_generation.proofs.States.{with_states_more, no_states_set}
 use Rattle.flt_image.proofs.Takings.{short_set, along}
 use Rattle.flt_image.proofs.states.set_states.Goals as goal

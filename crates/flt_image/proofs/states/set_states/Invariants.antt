@@ -1,4 +1,4 @@
-use Rattle.std.proofs.Common.{◌≡◌, length}
+use Rattle.std.proofs.Common.{◌≡◌}
 use Rattle.flt_generation.specs.Reading.{with_states}
 use Rattle.flt_image.specs.Taking.{HaveShortCounts}
 use Rattle.flt_image.proofs.states.set_states.Given as goal

@@ -1,4 +1,4 @@
-use Rattle.std.proofs.Common.{◌≡◌, ◌∙◌, sym, ap, List}
+use Rattle.std.proofs.Common.{◌∙◌, sym, ap, List}
 use Rattle.std.specs.Prelude.{bytes_eq}
 use Rattle.flt_config.specs.declared.persist.EventState.{EventState}
 use Rattle.flt_generation.specs.Form.{states_bytes}

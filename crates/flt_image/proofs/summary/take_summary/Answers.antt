@@ -1,4 +1,4 @@
-use Rattle.std.proofs.Common.{◌≡◌, ◌∙◌, sym, ap, arith}
+use Rattle.std.proofs.Common.{◌∙◌, sym, ap, arith}
 use Rattle.std.proofs.lemmas.Bool.{not-true, not-false}
 use Rattle.std.specs.Prelude.{bytes_eq}
 use Rattle.flt_config.specs.declared.config.Config.{Config}

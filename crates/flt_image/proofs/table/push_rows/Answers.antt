@@ -1,4 +1,4 @@
-use Rattle.std.proofs.Common.{◌≡◌, ◌∙◌, ℕ, ◌+◌, ◌++◌, refl, subst, arith}
+use Rattle.std.proofs.Common.{◌≡◌, ◌∙◌, ℕ, ◌++◌, subst, arith}
 use Rattle.flt_image.specs.Table.{rows}
 use Rattle.flt_image.proofs.Rows.{no_rows, rows_more}
 use Rattle.flt_image.proofs.table.push_rows.Goals as goal

@@ -1,4 +1,4 @@
-use Rattle.std.proofs.Common.{◌≡◌, ◌+◌, ℕ}
+use Rattle.std.proofs.Common.{◌+◌, ◌≤◌, ◌*◌}
 use Rattle.flt_flash.specs.Image.{sector_at}
 use Rattle.flt_record.specs.Record.{KeptApart}
 use Rattle.flt_record.specs.Place.{bytes_at}
@@ -11,4 +11,5 @@ invariant-loop-index g l = record {
   on : OnSector (g.F.Flash.state l.initial.flash) (g.F.Flash.state l.flash) l.other (sector_at (g.F.Flash.state l.flash).image l.other);
   apart : KeptApart (sector_at (g.F.Flash.state l.initial.flash).image l.other) (sector_at (g.F.Flash.state l.flash).image l.other) l.first (l.first + l.index);
   filled : Filled (sector_at (g.F.Flash.state l.flash).image l.other) l.first (bytes_at (sector_at (g.F.Flash.state l.initial.flash).image l.sector) l.place) l.index;
+  operations : (g.F.Flash.state l.flash).operations ≤ (g.F.Flash.state l.initial.flash).operations + 2 * l.index;
 }

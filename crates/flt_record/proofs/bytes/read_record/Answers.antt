@@ -1,4 +1,4 @@
-use Rattle.std.proofs.Common.{◌≡◌, ◌+◌, ◌*◌, ◌<◌, ◌≤◌, ◌++◌, ℕ, List, take, length, sym, ◌∙◌, ap, arith}
+use Rattle.std.proofs.Common.{◌≡◌, ◌+◌, ◌*◌, ◌<◌, ◌≤◌, ◌++◌, ℕ, List, length, sym, ◌∙◌, ap, arith}
 use Rattle.std.proofs.lemmas.Slice.{take-put_mid}
 use Rattle.flt_flash.specs.Image.{sector_at, page_at}
 use Rattle.flt_flash.proofs.Following.{one_read, reads_on}
@@ -26,4 +26,5 @@ loop-index-preserved g c =
           take-put_mid (32 * c.loop-index.index) _ c.loop-index.held bytes (32 * (c.loop-index.index + 1)) long room
           ∙ (λ i. c.loop-index.invariant.front i ++ is i)
           ∙ sym (flat_more pages (c.args.place.page + 1) c.loop-index.index within);
+      operations = omega (arith, c.in_ok-read_page.ensures.operation.operations, c.loop-index.invariant.operations);
     }

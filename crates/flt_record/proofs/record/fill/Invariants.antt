@@ -1,4 +1,4 @@
-use Rattle.std.proofs.Common.{◌≡◌, ◌+◌, ℕ}
+use Rattle.std.proofs.Common.{◌+◌, ◌≤◌}
 use Rattle.flt_flash.specs.Image.{sector_at}
 use Rattle.flt_record.specs.Record.{KeptApart}
 use Rattle.flt_record.proofs.Filling.{Filled}
@@ -10,4 +10,5 @@ invariant-loop-index g l = record {
   on : OnSector (g.F.Flash.state l.initial.flash) (g.F.Flash.state l.flash) l.sector (sector_at (g.F.Flash.state l.flash).image l.sector);
   apart : KeptApart (sector_at (g.F.Flash.state l.initial.flash).image l.sector) (sector_at (g.F.Flash.state l.flash).image l.sector) l.first (l.first + l.index);
   filled : Filled (sector_at (g.F.Flash.state l.flash).image l.sector) l.first l.bytes l.index;
+  operations : (g.F.Flash.state l.flash).operations ≤ (g.F.Flash.state l.initial.flash).operations + l.index;
 }

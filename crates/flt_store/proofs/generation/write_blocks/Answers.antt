@@ -1,7 +1,12 @@
-use Rattle.std.proofs.Common.{◌∙◌}
-use Rattle.flt_flash.proofs.CallsInARow.{more_calls}
+use Rattle.std.proofs.Common.{◌∙◌, ◌+◌, ◌-◌, inl, length, refl, arith}
+use Rattle.flt_flash.proofs.CallsInARow.{no_call, more_calls}
 use Rattle.flt_nvm.specs.Driver.{driver_of}
-use Rattle.flt_store.proofs.Causes.{within_on}
+use Rattle.flt_image.specs.Blocks.{bytes_at}
+use Rattle.flt_flash.specs.Blocks.{record_pages}
+use Rattle.flt_store.proofs.Causes.{within_on, none_written}
+use Rattle.flt_store.proofs.Costs.{spends_start, spends_through, spends_to_the_end}
+use Rattle.flt_store.proofs.Successors.{used_of}
+use Rattle.flt_generation.proofs.Pages.{used_range}
 use Rattle.flt_store.proofs.Writing.{written_more, only_more}
 use Rattle.flt_store.proofs.generation.write_blocks.Goals as goal
 
@@ -9,11 +14,42 @@ pub loop-id-preserved : goal.loop-id-preserved
 loop-id-preserved g c =
     let before = driver_of c.args.nvm.now in
     let middle = driver_of c.loop-id.nvm in
-    let after = driver_of c.write_used.new.nvm in
+    let after = driver_of c.write_moved.new.nvm in
     record {
-      written = written_more c.args.config.now c.args.next.now c.args.state.now c.requires.form c.loop-id.id middle.value after.value c.write_used.ensures.only c.in_ok-write_used.ensures.written c.loop-id.invariant.written;
-      only = only_more c.args.config.now c.args.next.now c.args.state.now c.loop-id.id before.value middle.value after.value c.loop-id.invariant.only c.write_used.ensures.only;
-      within = within_on c.args.config.now before.value middle.value after.value c.loop-id.invariant.within c.write_used.ensures.within;
-      follows = more_calls before middle after c.loop-id.invariant.follows c.write_used.ensures.writes.follows;
-      table = c.write_used.ensures.table ∙ c.loop-id.invariant.table;
+      written = written_more c.args.config.now c.args.current.now c.args.next.now (bytes_at c.args.blocks.now) c.requires.moves c.loop-id.id middle.value after.value c.write_moved.ensures.only c.in_ok-write_moved.ensures.written c.loop-id.invariant.written;
+      only = only_more c.args.config.now c.args.current.now c.args.next.now (bytes_at c.args.blocks.now) c.loop-id.id before.value middle.value after.value c.loop-id.invariant.only c.write_moved.ensures.only;
+      within = within_on c.args.config.now before.value middle.value after.value c.loop-id.invariant.within c.write_moved.ensures.within;
+      spends = λ most settled. spends_through most before middle after c.loop-id.invariant.follows c.write_moved.ensures.writes.follows c.args.config.now c.args.current.now c.args.next.now
+          (λ id. record_pages (length (bytes_at c.args.blocks.now id))) c.loop-id.id c.loop-id.auto.id (c.loop-id.invariant.fresh settled) (c.loop-id.invariant.spends most settled) (c.write_moved.ensures.spends most);
+      fresh = λ settled. c.in_ok-write_moved.ensures.fresh (c.loop-id.invariant.fresh settled);
+      follows = more_calls before middle after c.loop-id.invariant.follows c.write_moved.ensures.writes.follows;
+      table = c.write_moved.ensures.table ∙ c.loop-id.invariant.table;
     }
+
+pub loop-id-init : goal.loop-id-init
+loop-id-init g c =
+    let state = driver_of c.args.nvm.now in
+    record {
+      written = λ id below written. (let range = used_range c.args.config.now id (used_of c.args.config.now c.args.current.now c.args.next.now id written) in absurd (omega (arith, below, range.0)));
+      only = λ number. inl refl;
+      within = none_written c.args.config.now state.value;
+      spends = λ most settled. spends_start most state c.args.config.now c.args.current.now c.args.next.now (λ id. record_pages (length (bytes_at c.args.blocks.now id)));
+      fresh = λ settled. settled;
+      follows = no_call state;
+      table = refl;
+    }
+
+pub returns-in_err-write_moved-clause-spends : goal.returns-in_err-write_moved-clause-spends
+returns-in_err-write_moved-clause-spends g c = λ most settled.
+    let before = driver_of c.args.nvm.now in
+    let middle = driver_of c.loop-id.nvm in
+    let after = driver_of c.write_moved.new.nvm in
+    spends_to_the_end most before after c.args.config.now c.args.current.now c.args.next.now (λ id. record_pages (length (bytes_at c.args.blocks.now id))) (c.loop-id.id + 1 - 3) (let below = c.loop-id-test.true in omega (arith, below))
+    (spends_through most before middle after c.loop-id.invariant.follows c.write_moved.ensures.writes.follows c.args.config.now c.args.current.now c.args.next.now
+    (λ id. record_pages (length (bytes_at c.args.blocks.now id))) c.loop-id.id c.loop-id.auto.id (c.loop-id.invariant.fresh settled) (c.loop-id.invariant.spends most settled) (c.write_moved.ensures.spends most))
+
+pub returns-clause-spends : goal.returns-clause-spends
+returns-clause-spends g c = λ most settled.
+    let end = c.loop-id.auto.id-end in
+    spends_to_the_end most (driver_of c.args.nvm.now) (driver_of c.loop-id.nvm) c.args.config.now c.args.current.now c.args.next.now (λ id. record_pages (length (bytes_at c.args.blocks.now id)))
+    (c.loop-id.id - 3) (omega (arith, end)) (c.loop-id.invariant.spends most settled)

@@ -1,5 +1,6 @@
 use Rattle.std.proofs.Common.{◌∙◌, Err, sym, arith}
 use Rattle.flt_nvm.specs.Driver.{driver_of}
+use Rattle.flt_generation.proofs.Commits.{read_commit}
 use Rattle.flt_store.proofs.TableUse.{commit_twice, commit_fits}
 use Rattle.flt_store.proofs.Causes.{one_write, borne_stays, writes_as}
 use Rattle.flt_store.proofs.Repairing.{one_commit, repaired, copy_within, bytes_of_commit, but_for_copy}
@@ -46,3 +47,6 @@ returns-in-None-clause-writes g c = λ h holds.
     let none = c.in-None.is in
     let read_as = found.1 in
     absurd (cc (read, none, read_as))
+
+pub returns-in-Ok-clause-form : goal.returns-in-Ok-clause-form
+returns-in-Ok-clause-form g c = (read_commit c.args.config.now c.args.bytes.now c.in-Some.commit (sym c.get_commit.ensures ∙ c.in-Some.is)).0

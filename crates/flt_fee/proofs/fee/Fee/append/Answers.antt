@@ -1,6 +1,6 @@
-use Rattle.std.proofs.Common.{◌≡◌, ◌+◌, ◌<◌, ◌≤◌, ◌^◌, ℕ, true, List, length, subst, arith}
-use Rattle.std.specs.Prelude.{◌==◌}
-use Rattle.std.specs.List.{list_any}
+use Rattle.std.proofs.Common.{◌≡◌, ◌+◌, ◌<◌, ℕ, true, List, length, sym, subst, arith, ◌∙◌, refl, ap, get_or, Option, Some, None}
+use Rattle.std.specs.Prelude.{◌==◌, ◌&&◌, if◌then◌else◌}
+use Rattle.std.proofs.lemmas.List.{with_items_is}
 use Rattle.flt_flash.specs.Content.{Content}
 use Rattle.flt_code.specs.Word.{IsWord}
 use Rattle.flt_code.specs.declared.words.Word.TheVariants.{Head}
@@ -8,8 +8,13 @@ use Rattle.flt_flash.specs.Blocks.{byte_pages}
 use Rattle.flt_sector.specs.Blocks.{block_value}
 use Rattle.flt_record.specs.Holds.{asked_of, given}
 use Rattle.flt_fee.specs.Mounted.{Stands}
-use Rattle.flt_fee.proofs.Standing.{mounted_stands, stale_mounted, stands_mounted, is_among}
-use Rattle.flt_fee.proofs.Appended.{blank_at_end, left_sound, failed_changes, failed_calls, done_changes, now_stands}
+use Rattle.flt_fee.proofs.Standing.{mounted_stands, stale_mounted, stands_mounted, is_among, current_stays}
+use Rattle.flt_fee.proofs.Appended.{blank_at_end, left_sound, failed_changes, failed_calls, done_calls, done_changes, now_stands}
+use Rattle.flt_record.specs.declared.place.Place.{Place}
+use Rattle.flt_flash.specs.Image.{sector_at}
+use Rattle.flt_record.specs.Place.{Tells}
+use Rattle.flt_fee.proofs.Placed.{tells_appended}
+use Rattle.flt_fee.proofs.Wearing.{even_same}
 use Rattle.flt_fee.proofs.fee.Fee.append.Goals as goal
 
 pub append_record-requires-clause-blank : goal.append_record-requires-clause-blank
@@ -51,11 +56,19 @@ invariant_of-self-in-Ok g c =
     self.sectors (omega (arith, self.least)) stands proper (is_among self.numbers.items c.args.block c.requires.number) c.requires.room
     self.is_stale self.has_mounted (self.mounted.mounted c.requires.settled) c.in-Ok.ensures.records in
     let last : self.end + (2 + byte_pages (length c.args.bytes.now)) ≡ self.end + 2 + c.byte_pages.result = omega (arith, c.byte_pages.ensures) in
+    let same = with_items_is self.places c.note.new.places (omega (arith, c.note.ensures.size, ap length c.deref_mut.ensures.value, self.places.ok.0)) in
+    let place : Place = record { page = self.end; length = length c.args.bytes.now; valid = c.args.valid } in
+    let noted = subst (λ (numbers : List ℕ). (k : ℕ) → k < length numbers → get_or c.note.new.places k None ≡ (if true && (c.args.block == get_or numbers k 0) then Some place else get_or self.places.items k None)) c.deref.ensures.value
+    (subst (λ (places : List (Option Place)). (k : ℕ) → k < length c.deref.result.now → get_or c.note.new.places k None ≡ (if true && (c.args.block == get_or c.deref.result.now k 0) then Some place else get_or places k None)) c.deref_mut.ensures.value
+    c.note.ensures.noted) in
     record {
       within = omega (arith, self.within, c.in-Ok.ensures.records.on.runs.pages);
       least = self.least;
       sectors = self.sectors;
       distinct = self.distinct;
+      sized = ap length same ∙ c.note.ensures.size ∙ ap length c.deref_mut.ensures.value ∙ self.sized;
+      table = λ fresh. subst (λ (places : List (Option Place)). Tells self.numbers.items places (sector_at after self.sector) (self.end + 2 + c.byte_pages.result) (block_value self.used self.numbers.items after)) (sym same) (tells_appended self.used self.numbers.items (g.F.Flash.state self.flash) (g.F.Flash.state c.append_record.new.flash) (g.met.F.Flash.shape self.flash) self.sector self.sequence self.end c.args.block c.args.bytes.now c.args.valid
+          self.sectors (omega (arith, self.least)) stands proper c.in-Ok.ensures.records now self.places.items c.note.new.places (self.table c.requires.settled) place refl noted (self.end + 2 + c.byte_pages.result) last);
       mounted = stands_mounted self.has_mounted (self.mounted.mounted c.requires.settled) self.used self.numbers.items after self.sector self.sequence (self.end + 2 + c.byte_pages.result) value
           (subst (λ n. Stands self.used self.numbers.items after self.sector self.sequence n value) last now);
     }
@@ -83,5 +96,39 @@ invariant_of-self g c =
       least = self.least;
       sectors = self.sectors;
       distinct = self.distinct;
+      sized = self.sized;
+      table = λ fresh. absurd (cc fresh);
       mounted = stale_mounted self.has_mounted self.used self.numbers.items _ self.sector self.sequence self.end (λ yes. sound);
     }
+
+pub returns-in-Err-clause-even : goal.returns-in-Err-clause-even
+returns-in-Err-clause-even g c =
+    let self = c.args.self.now in
+    let image = (g.F.Flash.state self.flash).image in
+    let stands = mounted_stands self.is_stale self.has_mounted c.requires.settled self.used self.numbers.items image self.sector self.sequence self.end self.mounted in
+    let proper : IsWord (Head c.args.block (length c.args.bytes.now) c.args.valid self.end) = (omega arith, omega arith, omega arith, c.requires.length) in
+    even_same self.used (g.F.Flash.state self.flash) (g.F.Flash.state c.append_record.new.flash)
+    (current_stays self.used self.numbers.items (g.F.Flash.state self.flash) (g.F.Flash.state c.append_record.new.flash) (g.met.F.Flash.shape self.flash) self.sector self.sequence self.end c.args.block c.args.bytes.now c.args.valid
+    (block_value self.used self.numbers.items image) self.sectors (omega (arith, self.least)) stands proper (is_among self.numbers.items c.args.block c.requires.number) c.requires.room c.in-Err.ensures.records)
+    c.in-Err.ensures.records.on.wear
+
+pub returns-in-Ok-clause-even : goal.returns-in-Ok-clause-even
+returns-in-Ok-clause-even g c =
+    let self = c.args.self.now in
+    let image = (g.F.Flash.state self.flash).image in
+    let stands = mounted_stands self.is_stale self.has_mounted c.requires.settled self.used self.numbers.items image self.sector self.sequence self.end self.mounted in
+    let proper : IsWord (Head c.args.block (length c.args.bytes.now) c.args.valid self.end) = (omega arith, omega arith, omega arith, c.requires.length) in
+    even_same self.used (g.F.Flash.state self.flash) (g.F.Flash.state c.append_record.new.flash)
+    (current_stays self.used self.numbers.items (g.F.Flash.state self.flash) (g.F.Flash.state c.append_record.new.flash) (g.met.F.Flash.shape self.flash) self.sector self.sequence self.end c.args.block c.args.bytes.now c.args.valid
+    (block_value self.used self.numbers.items image) self.sectors (omega (arith, self.least)) stands proper (is_among self.numbers.items c.args.block c.requires.number) c.requires.room c.in-Ok.ensures.records)
+    c.in-Ok.ensures.records.on.wear
+
+pub returns-in-Ok-clause-calls : goal.returns-in-Ok-clause-calls
+returns-in-Ok-clause-calls g c =
+    let self = c.args.self.now in
+    let image = (g.F.Flash.state self.flash).image in
+    let stands = mounted_stands self.is_stale self.has_mounted c.requires.settled self.used self.numbers.items image self.sector self.sequence self.end self.mounted in
+    let proper : IsWord (Head c.args.block (length c.args.bytes.now) c.args.valid self.end) = (omega arith, omega arith, omega arith, c.requires.length) in
+    done_calls self.used self.numbers.items (g.F.Flash.state self.flash) (g.F.Flash.state c.append_record.new.flash) (g.met.F.Flash.shape self.flash) self.sector self.sequence self.end c.args.block c.args.bytes.now c.args.valid
+    self.sectors (omega (arith, self.least)) stands proper (is_among self.numbers.items c.args.block c.requires.number) c.requires.room
+    self.is_stale self.has_mounted (self.mounted.mounted c.requires.settled) c.in-Ok.ensures.records

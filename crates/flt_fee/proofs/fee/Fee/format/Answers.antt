@@ -1,7 +1,13 @@
-use Rattle.std.proofs.Common.{◌≤◌, true, false, refl, Ok, Err, arith}
+use Rattle.std.proofs.Common.{true, false, List, Option, sym, subst, Err, arith, ◌∙◌, ap, length}
+use Rattle.std.proofs.lemmas.List.{with_items_is}
 use Rattle.flt_flash.specs.declared.blocks.BlockFault.TheVariants.{Flash}
 use Rattle.flt_fee.proofs.Standing.{stale_mounted}
-use Rattle.flt_fee.proofs.Formatting.{fresh_mounted, nothing_wrong, nothing_changes, formatting_calls}
+use Rattle.flt_fee.proofs.Formatting.{fresh_mounted, nothing_held, nothing_wrong, nothing_changes, formatting_calls}
+use Rattle.flt_flash.specs.Image.{sector_at}
+use Rattle.flt_sector.specs.Blocks.{block_value}
+use Rattle.flt_record.specs.declared.place.Place.{Place}
+use Rattle.flt_record.specs.Place.{Tells}
+use Rattle.flt_record.proofs.Telling.{tells_nothing}
 use Rattle.flt_fee.proofs.fee.Fee.format.Goals as goal
 
 pub invariant_of-self : goal.invariant_of-self
@@ -12,6 +18,8 @@ invariant_of-self g c =
       least = self.least;
       sectors = self.sectors;
       distinct = self.distinct;
+      sized = self.sized;
+      table = λ fresh. absurd (cc fresh);
       mounted = stale_mounted self.has_mounted self.used self.numbers.items _ self.sector self.sequence self.end
           (λ yes. nothing_wrong self.used self.numbers.items (omega (arith, self.least)) (g.F.Flash.state c.set_up_flash.new.flash).image c.set_up_flash.ensures.left);
     }
@@ -19,11 +27,17 @@ invariant_of-self g c =
 pub invariant_of-self-in-Ok : goal.invariant_of-self-in-Ok
 invariant_of-self-in-Ok g c =
     let self = c.args.self.now in
+    let after = (g.F.Flash.state c.set_up_flash.new.flash).image in
+    let same = with_items_is self.places c.forget.new.places (omega (arith, c.forget.ensures.size, ap length c.deref_mut.ensures.value, self.places.ok.0)) in
     record {
       within = omega (arith, self.within, c.in-Ok.ensures.runs.pages);
       least = self.least;
       sectors = omega arith;
       distinct = self.distinct;
+      sized = ap length same ∙ c.forget.ensures.size ∙ ap length c.deref_mut.ensures.value ∙ self.sized;
+      table = λ fresh. subst (λ (places : List (Option Place)). Tells self.numbers.items places (sector_at after 0) 2 (block_value self.used self.numbers.items after)) (sym same) (tells_nothing self.numbers.items c.forget.new.places (sector_at (g.F.Flash.state c.set_up_flash.new.flash).image 0) 2 (block_value self.used self.numbers.items (g.F.Flash.state c.set_up_flash.new.flash).image)
+          (nothing_held self.used self.numbers.items (omega (arith, self.least)) (g.F.Flash.state c.set_up_flash.new.flash).image c.in-Ok.ensures.left)
+          (λ k within. c.forget.ensures.none k (omega (arith, within, ap length c.deref_mut.ensures.value, self.sized))));
       mounted = fresh_mounted self.used self.numbers.items (omega (arith, self.least)) (g.F.Flash.state c.set_up_flash.new.flash).image c.in-Ok.ensures.fresh;
     }
 

@@ -1,4 +1,4 @@
-use Rattle.std.proofs.Common.{◌≡◌, ◌+◌, ◌-◌, ◌≤◌, arith}
+use Rattle.std.proofs.Common.{arith}
 use Rattle.flt_fee.proofs.Refusing.{end_within, live_end, fits_behind}
 use Rattle.flt_fee.proofs.fee.Fee.make_room.Goals as goal
 
@@ -14,9 +14,9 @@ returns-then-needed-self-clause-answers g c =
     fits_behind self.is_stale self.has_mounted c.requires.settled self.used self.numbers.items (g.F.Flash.state self.flash) self.sector self.sequence self.end self.least self.distinct self.mounted c.args.block c.args.size
     (omega (arith, within, c.byte_pages-needed.ensures))
 
-pub overflow_sub-self-in-Ok-2 : goal.overflow_sub-self-in-Ok-2
-overflow_sub-self-in-Ok-2 g c =
+pub overflow_sub-self-3 : goal.overflow_sub-self-3
+overflow_sub-self-3 g c =
     let self = c.args.self.now in
     let within = end_within self.is_stale self.has_mounted c.requires.settled self.used self.numbers.items (g.F.Flash.state self.flash) self.sector self.sequence self.end self.least self.distinct self.mounted in
     let records = live_end self.is_stale self.has_mounted c.requires.settled self.used self.numbers.items (g.F.Flash.state self.flash) self.sector self.sequence self.end self.least self.distinct self.mounted in
-    omega (arith, within, records, c.in-Ok.ensures.live, c.in-Ok.ensures.used)
+    omega (arith, within, records, c.live-live.ensures)

@@ -1,10 +1,16 @@
-use Rattle.std.proofs.Common.{◌≡◌, ◌+◌, ◌<◌, ◌≤◌, ℕ, true, false, List, Ok, Err, subst, arith}
+use Rattle.std.proofs.Common.{ℕ, List, Option, Ok, subst, arith, ◌∙◌, sym, ap, length}
+use Rattle.std.proofs.lemmas.List.{with_items_is}
 use Rattle.flt_flash.specs.Image.{sector_at}
 use Rattle.flt_sector.specs.Log.{log}
 use Rattle.flt_pages.specs.Told.{TellsOrFails}
 use Rattle.flt_record.specs.Scan.{told_end}
 use Rattle.flt_fee.specs.Place.{place_of}
-use Rattle.flt_fee.proofs.Mounting.{resumed, same_values, reading_calls, sound_there, damage_there, unmounted}
+use Rattle.flt_fee.proofs.Mounting.{resumed}
+use Rattle.flt_sector.specs.Blocks.{block_value}
+use Rattle.flt_record.specs.declared.place.Place.{Place}
+use Rattle.flt_record.specs.Live.{held_in}
+use Rattle.flt_record.specs.Place.{Tells}
+use Rattle.flt_fee.proofs.Placed.{tells_current}
 use Rattle.flt_fee.proofs.fee.Fee.resume.Goals as goal
 
 pub invariant_of-self-in-Ok : goal.invariant_of-self-in-Ok
@@ -13,10 +19,16 @@ invariant_of-self-in-Ok g c =
     let before = g.F.Flash.state self.flash in
     let tells = subst (λ (numbers : List ℕ). TellsOrFails {T = ℕ} (Ok c.in-Ok.end) (told_end c.args.at.sector (log self.used numbers (sector_at before.image c.args.at.sector)).end (log self.used numbers (sector_at before.image c.args.at.sector)).fault))
     c.deref.ensures.value c.in-Ok.ensures.end in
+    let after = (g.F.Flash.state c.find_places.new.flash).image in
+    let same = with_items_is self.places c.find_places.new.places (omega (arith, c.in-Ok.ensures.size, ap length c.deref.ensures.value, self.sized, self.places.ok.0)) in
     record {
       within = omega (arith, self.within, c.in-Ok.ensures.reads.runs.pages);
       least = self.least;
       sectors = c.requires.sector;
       distinct = self.distinct;
-      mounted = resumed self.used self.numbers.items before (g.F.Flash.state c.log_end.new.flash) c.in-Ok.ensures.reads (place_of c.args.at) c.requires.found c.in-Ok.end tells;
+      sized = ap length same ∙ c.in-Ok.ensures.size ∙ ap length c.deref.ensures.value;
+      table = λ fresh. subst (λ (places : List (Option Place)). Tells self.numbers.items places (sector_at after c.args.at.sector) c.in-Ok.end (block_value self.used self.numbers.items after)) (sym same) (subst (λ (image : List (List (List ℕ))). Tells self.numbers.items c.find_places.new.places (sector_at image c.args.at.sector) c.in-Ok.end (block_value self.used self.numbers.items image)) (sym c.in-Ok.ensures.reads.image)
+          (tells_current self.used self.numbers.items before.image c.args.at.sector c.args.at.sequence c.in-Ok.end c.requires.found c.find_places.new.places
+          (subst (λ (numbers : List ℕ). Tells numbers c.find_places.new.places (sector_at before.image c.args.at.sector) c.in-Ok.end (held_in self.used numbers (sector_at before.image c.args.at.sector))) c.deref.ensures.value c.in-Ok.ensures.places)));
+      mounted = resumed self.used self.numbers.items before (g.F.Flash.state c.find_places.new.flash) c.in-Ok.ensures.reads (place_of c.args.at) c.requires.found c.in-Ok.end tells;
     }

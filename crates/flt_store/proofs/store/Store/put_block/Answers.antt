@@ -17,6 +17,7 @@ returns-in-Ok-clause-running g c = λ config h s below running.
       mark = mark_put config c.args.block below c.requires.block before.value after.value c.args.bytes.now c.requires.most gives.either gives.others running.mark;
       sound = sound_put config c.args.block below c.requires.block before.value after.value c.args.bytes.now c.requires.most gives.either gives.others h s running.sound;
       settled = λ yes. started_put config c.args.block below c.requires.block before.value after.value c.args.bytes.now c.requires.most gives.either gives.others (commit_of c.args.self.now) h (running.settled yes);
+      known = running.known;
     }
 
 pub returns-in-Err-clause-running : goal.returns-in-Err-clause-running
@@ -29,6 +30,7 @@ returns-in-Err-clause-running g c = λ config h s below running.
       mark = mark_put config c.args.block below c.requires.block before.value after.value c.args.bytes.now c.requires.most gives.either gives.others running.mark;
       sound = sound_put config c.args.block below c.requires.block before.value after.value c.args.bytes.now c.requires.most gives.either gives.others h s running.sound;
       settled = λ yes. started_put config c.args.block below c.requires.block before.value after.value c.args.bytes.now c.requires.most gives.either gives.others (commit_of c.args.self.now) h (running.settled yes);
+      known = running.known;
     }
 
 pub returns-in-Err-clause-flash : goal.returns-in-Err-clause-flash

@@ -1,15 +1,26 @@
-use Rattle.std.proofs.Common.{◌≡◌, ◌+◌, ◌∙◌, ⊎_elim, ap, refl, arith}
+use Rattle.std.proofs.Common.{◌≡◌, ◌+◌, ◌*◌, ◌∙◌, ⊎_elim, length, sym, subst, ap, refl, arith}
+use Rattle.std.specs.Prelude.{IsFalse, OnOk}
+use Rattle.flt_flash.specs.Calls.{CostsAtMost}
+use Rattle.flt_generation.specs.Form.{block_bytes}
+use Rattle.flt_generation.specs.Layout.{used_ids}
+use Rattle.flt_store.specs.Cost.{Spends, pages_to_write}
+use Rattle.flt_store.specs.Keeping.{KeepsPlaces}
+use Rattle.flt_store.specs.Known.{Knows}
+use Rattle.flt_store.proofs.Changed.{pages_of_later}
+use Rattle.flt_store.proofs.Costs.{switch_within}
+use Rattle.flt_store.proofs.Known.{knows_may}
+use Rattle.flt_store.proofs.Started.{numbered as number_of_started}
 use Rattle.flt_generation.specs.Holding.{Generation}
-use Rattle.flt_store.specs.Store.{driver_of, commit_of, numbered}
+use Rattle.flt_store.specs.Store.{driver_of, commit_of, kept_of, numbered, IsReady}
 use Rattle.flt_store.proofs.Started.{sound_started}
-use Rattle.flt_store.proofs.Running.{served_on, ok_map, err_both, chosen_on, one_of_chosen, rises_from}
+use Rattle.flt_store.proofs.Running.{served_on, ok_map, err_taken, err_both, chosen_on, one_of_chosen, rises_from}
 use Rattle.flt_store.proofs.store.Store.save.Goals as goal
 
 pub returns-in-Ok-clause-saved : goal.returns-in-Ok-clause-saved
 returns-in-Ok-clause-saved g c = λ h s running.
     let settled = c.in-Ok.ensures.settles h s running in
     let is = chosen_on (driver_of c.args.self.now) (driver_of c.settle.new.self) (driver_of c.save_next.new.self) c.save_next.ensures.follows settled.is in
-    ok_map c.save_next.result (λ number both. record { chosen = settled.chosen; is = is; next = both.0; running = both.1 }) (c.save_next.ensures.saved settled.chosen settled.served settled.started)
+    ok_map c.save_next.result (λ number both. record { chosen = settled.chosen; is = is; next = both.0; running = both.1 }) (c.save_next.ensures.saved settled.chosen settled.ready)
 
 pub returns-in-Ok-clause-failed : goal.returns-in-Ok-clause-failed
 returns-in-Ok-clause-failed g c = λ h s running.
@@ -22,21 +33,22 @@ returns-in-Ok-clause-failed g c = λ h s running.
       now_held = left.held;
       now_spare = left.spare;
       running = record {
-        served = served_on c.args.config.now (driver_of c.settle.new.self) (driver_of c.save_next.new.self) c.save_next.ensures.follows settled.served;
-        mark = c.save_next.ensures.mark settled.started.mark;
+        served = served_on c.args.config.now (driver_of c.settle.new.self) (driver_of c.save_next.new.self) c.save_next.ensures.follows settled.ready.served;
+        mark = c.save_next.ensures.mark settled.ready.started.mark;
         sound = left.sound;
         settled = λ yes. absurd (cc (yes, no));
+        known = λ yes. absurd (cc (yes, no));
       };
       held_is = one_of_chosen h s settled.chosen new left.held settled.is left.held_is;
       spare_is = one_of_chosen h s settled.chosen new left.spare settled.is left.spare_is;
       rises = rises_from h s settled.chosen left.spare.number settled.is running.sound.order left.rises;
     })
-    (c.save_next.ensures.failed settled.chosen settled.served settled.started) c.save_next.ensures.unsettled
+    (c.save_next.ensures.failed settled.chosen settled.ready) c.save_next.ensures.unsettled
 
 pub returns-in-Ok-clause-flash : goal.returns-in-Ok-clause-flash
 returns-in-Ok-clause-flash g c = λ h s running told.
     let settled = c.in-Ok.ensures.settles h s running in
-    let rose = c.save_next.ensures.flash settled.chosen settled.served settled.started told in
+    let rose = c.save_next.ensures.flash settled.chosen settled.ready told in
     let counts = c.settle.ensures.follows.counts in
     omega (arith, rose, counts)
 
@@ -44,16 +56,17 @@ pub returns-in-Ok-clause-spent : goal.returns-in-Ok-clause-spent
 returns-in-Ok-clause-spent g c = λ h s running told.
     let settled = c.in-Ok.ensures.settles h s running in
     let is = chosen_on (driver_of c.args.self.now) (driver_of c.settle.new.self) (driver_of c.save_next.new.self) c.save_next.ensures.follows settled.is in
-    let last = c.save_next.ensures.spent settled.chosen settled.started told in
+    let last = c.save_next.ensures.spent settled.chosen settled.ready told in
     record {
       last = settled.chosen;
       is = is;
       number = last.0;
       running = record {
-        served = served_on c.args.config.now (driver_of c.settle.new.self) (driver_of c.save_next.new.self) c.save_next.ensures.follows settled.served;
+        served = served_on c.args.config.now (driver_of c.settle.new.self) (driver_of c.save_next.new.self) c.save_next.ensures.follows settled.ready.served;
         mark = last.1.mark;
         sound = sound_started c.args.config.now (driver_of c.save_next.new.self).value (commit_of c.save_next.new.self) settled.chosen last.1;
         settled = λ yes. last.1;
+        known = λ yes. (let no = err_taken c.save_next.result told c.save_next.ensures.unsettled in absurd (cc (yes, no)));
       };
     }
 
@@ -61,7 +74,46 @@ pub returns-in-Ok-clause-last : goal.returns-in-Ok-clause-last
 returns-in-Ok-clause-last g c = λ h s running yes last.
     let settled = c.in-Ok.ensures.settles h s running in
     let number : settled.chosen.number ≡ 4294967295 = ⊎_elim (λ by_held. ap (λ (d : Generation). d.number) by_held ∙ last) (λ by_spare. (let no = by_spare.1 in absurd (cc (yes, no)))) settled.is in
-    c.save_next.ensures.last settled.chosen settled.started number
+    c.save_next.ensures.last settled.chosen settled.ready number
 
 pub returns-in-Err-clause-last : goal.returns-in-Err-clause-last
 returns-in-Err-clause-last g c = λ h s running yes last. absurd (c.in-Err.ensures.at_once yes refl)
+
+pub returns-in-Ok-clause-places : goal.returns-in-Ok-clause-places
+returns-in-Ok-clause-places g c = λ h s running yes.
+    let same = c.settle.ensures.still yes in
+    let ready : IsReady c.args.config.now h c.args.self.now = record {
+      served = running.served;
+      started = running.settled yes;
+      known = knows_may c.args.config.now (commit_of c.args.self.now) (kept_of c.args.self.now) h.state (running.known yes);
+    } in
+    subst (λ before. OnOk c.save_next.result (KeepsPlaces c.args.config.now h.state c.args.state.now (driver_of before).value (driver_of c.save_next.new.self).value)) same
+    (c.save_next.ensures.places h (subst (λ before. IsReady c.args.config.now h before) (sym same) ready) (subst (λ before. Knows c.args.config.now (kept_of before) h.state) (sym same) (running.known yes)))
+
+pub returns-in-Ok-clause-by_changes : goal.returns-in-Ok-clause-by_changes
+returns-in-Ok-clause-by_changes g c = λ h s running yes some settled unfailed none.
+    let same = c.settle.ensures.still yes in
+    let most = 2 * c.args.config.now.pages + 4 in
+    let spends = subst (λ before. IsFalse (driver_of before).is_stale → Spends most (driver_of before) (driver_of c.save_next.new.self)
+    (6 + pages_to_write c.args.config.now (commit_of before) (block_bytes h.state) (block_bytes c.args.state.now)) ((length (used_ids c.args.config.now) + 2) * most)) same
+    (c.save_next.ensures.spends h most (subst (λ before. Knows c.args.config.now (kept_of before) h.state) (sym same) (running.known yes))) settled in
+    let started = running.settled yes in
+    let number = number_of_started c.args.config.now (driver_of c.args.self.now).value (commit_of c.args.self.now) h started.names in
+    subst (λ pages. CostsAtMost (6 + pages) (driver_of c.args.self.now) (driver_of c.save_next.new.self))
+    (pages_of_later c.args.config.now (commit_of c.args.self.now) (block_bytes h.state) (block_bytes c.args.state.now) (λ none. some (number ∙ none)))
+    (spends.at_the_end settled unfailed none)
+
+pub returns-in-Ok-clause-at_most : goal.returns-in-Ok-clause-at_most
+returns-in-Ok-clause-at_most g c = λ h s running yes settled unfailed.
+    let same = c.settle.ensures.still yes in
+    let most = 2 * c.args.config.now.pages + 4 in
+    let spends = subst (λ before. IsFalse (driver_of before).is_stale → Spends most (driver_of before) (driver_of c.save_next.new.self)
+    (6 + pages_to_write c.args.config.now (commit_of before) (block_bytes h.state) (block_bytes c.args.state.now)) ((length (used_ids c.args.config.now) + 2) * most)) same
+    (c.save_next.ensures.spends h most (subst (λ before. Knows c.args.config.now (kept_of before) h.state) (sym same) (running.known yes))) settled in
+    spends.at_most (switch_within c.args.config.now running.served.given (driver_of c.args.self.now).room running.served.room) settled unfailed
+
+pub returns-in-Err-clause-by_changes : goal.returns-in-Err-clause-by_changes
+returns-in-Err-clause-by_changes g c = λ h s running yes. absurd (c.in-Err.ensures.at_once yes refl)
+
+pub returns-in-Err-clause-at_most : goal.returns-in-Err-clause-at_most
+returns-in-Err-clause-at_most g c = λ h s running yes. absurd (c.in-Err.ensures.at_once yes refl)

@@ -1,18 +1,72 @@
-use Rattle.std.proofs.Common.{◌≡◌, ◌+◌}
+use Rattle.std.proofs.Common.{◌≡◌, ◌+◌, ℕ, Some, ◌∙◌, sym, subst, arith}
 use Rattle.flt_nvm.specs.Driver.{driver_of as driver_beneath}
 use Rattle.flt_store.specs.declared.fault.SaveFault.TheVariants.{Flash}
-use Rattle.flt_store.specs.Store.{driver_of, commit_of, numbered}
+use Rattle.flt_generation.specs.Form.{block_bytes}
+use Rattle.flt_image.specs.Blocks.{bytes_at}
+use Rattle.flt_store.specs.Store.{driver_of, commit_of, kept_of, numbered}
+use Rattle.flt_store.proofs.Changed.{keeps_places, pages_by}
+use Rattle.flt_store.proofs.Costs.{spends_less, spends_nothing}
+use Rattle.flt_generation.specs.Successor.{number_in}
+use Rattle.flt_store.specs.Started.{IsStarted}
+use Rattle.flt_store.proofs.Started.{sound_started}
+use Rattle.flt_store.proofs.Started.{numbered as number_of_started}
+use Rattle.flt_store.proofs.Running.{served_on}
 use Rattle.flt_store.proofs.Saving.{still_old}
 use Rattle.flt_store.proofs.Causes.{resolved}
 use Rattle.flt_store.proofs.store.Store.save_next.Goals as goal
 
 pub returns-then-number_in-clause-failed : goal.returns-then-number_in-clause-failed
-returns-then-number_in-clause-failed g c = λ h served started. still_old c.args.config.now (driver_of c.args.self.now).value (commit_of c.args.self.now) h (numbered (h.number + 1) c.args.state.now) started
+returns-then-number_in-clause-failed g c = λ h ready. still_old c.args.config.now (driver_of c.args.self.now).value (commit_of c.args.self.now) h (numbered (h.number + 1) c.args.state.now) ready.started
 
 pub returns-in-Err-clause-flash : goal.returns-in-Err-clause-flash
-returns-in-Err-clause-flash g c = λ h served started told.
+returns-in-Err-clause-flash g c = λ h ready told.
     let before = driver_of c.args.self.now in
     let after = driver_beneath c.write_generation.new.nvm in
     let is : c.save_fault.result ≡ Flash = cc told in
-    let left = c.in-Err.ensures.either h started in
-    resolved c.args.config.now served.given before after c.in-Err.fault c.in-Err.ensures.writes c.args.self.now.numbers served.room served.mounted left.sound.holds.excess (c.save_fault.ensures.flash is)
+    let left = c.in-Err.ensures.either h ready.started ready.known in
+    resolved c.args.config.now ready.served.given before after c.in-Err.fault c.in-Err.ensures.writes c.args.self.now.numbers ready.served.room ready.served.mounted left.sound.holds.excess (c.save_fault.ensures.flash is)
+
+pub returns-in-Ok-clause-saved : goal.returns-in-Ok-clause-saved
+returns-in-Ok-clause-saved g c = λ h ready.
+    let before = driver_of c.args.self.now in
+    let after = driver_beneath c.write_generation.new.nvm in
+    let number = c.in-Ok.field-0.commit.generation in
+    let started = c.in-Ok.ensures.done h ready.started ready.known in
+    let is : number ≡ number_in (commit_of c.args.self.now) + 1 = c.in-Ok.ensures.next.number in
+    let was : h.number ≡ number_in (commit_of c.args.self.now) = number_of_started c.args.config.now before.value (commit_of c.args.self.now) h ready.started.names in
+    let new = numbered number c.args.state.now in
+    let now : IsStarted c.args.config.now after.value (Some c.in-Ok.field-0.commit) new =
+    subst (λ (n : ℕ). IsStarted c.args.config.now after.value (Some c.in-Ok.field-0.commit) (numbered n c.args.state.now)) (sym is) started in (
+      omega (arith, is, was),
+      record {
+        served = served_on c.args.config.now before after c.write_generation.ensures.writes.follows ready.served;
+        mark = now.mark;
+        sound = sound_started c.args.config.now after.value (Some c.in-Ok.field-0.commit) new now;
+        settled = λ yes. now;
+        known = λ yes. c.in-Ok.ensures.encodes.bytes;
+      },
+    )
+
+pub returns-in-Err-clause-last : goal.returns-in-Err-clause-last
+returns-in-Err-clause-last g c = λ h ready last.
+    let was : h.number ≡ number_in (commit_of c.args.self.now) = number_of_started c.args.config.now (driver_of c.args.self.now).value (commit_of c.args.self.now) h ready.started.names in
+    absurd (c.if-number_in.false (c.number_in.ensures ∙ sym was ∙ last))
+
+pub returns-in-Ok-clause-places : goal.returns-in-Ok-clause-places
+returns-in-Ok-clause-places g c = λ h ready knows.
+    keeps_places c.args.config.now (kept_of c.args.self.now) (bytes_at c.in-Ok.field-0.saved) h.state c.args.state.now knows c.in-Ok.ensures.encodes (driver_of c.args.self.now).value (driver_beneath c.write_generation.new.nvm).value
+    (commit_of c.args.self.now) c.in-Ok.field-0.commit h _ ready.started (c.in-Ok.ensures.done h ready.started ready.known) c.in-Ok.ensures.next
+
+pub returns-then-number_in-clause-spends : goal.returns-then-number_in-clause-spends
+returns-then-number_in-clause-spends g c = λ h most knows settled.
+    spends_less most (driver_of c.args.self.now) (driver_of c.args.self.now) 0 _ 0 _ (omega arith) (omega arith) (spends_nothing most (driver_of c.args.self.now))
+
+pub returns-in-Ok-clause-spends : goal.returns-in-Ok-clause-spends
+returns-in-Ok-clause-spends g c = λ h most knows settled.
+    let pages = pages_by c.args.config.now (kept_of c.args.self.now) (block_bytes h.state) (block_bytes c.args.state.now) knows (commit_of c.args.self.now) in
+    spends_less most (driver_of c.args.self.now) (driver_beneath c.write_generation.new.nvm) _ _ _ _ (omega (arith, pages)) (omega arith) (c.write_generation.ensures.spends most settled)
+
+pub returns-in-Err-clause-spends : goal.returns-in-Err-clause-spends
+returns-in-Err-clause-spends g c = λ h most knows settled.
+    let pages = pages_by c.args.config.now (kept_of c.args.self.now) (block_bytes h.state) (block_bytes c.args.state.now) knows (commit_of c.args.self.now) in
+    spends_less most (driver_of c.args.self.now) (driver_beneath c.write_generation.new.nvm) _ _ _ _ (omega (arith, pages)) (omega arith) (c.write_generation.ensures.spends most settled)

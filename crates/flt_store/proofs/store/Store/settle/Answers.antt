@@ -1,21 +1,48 @@
-use Rattle.std.proofs.Common.{◌≡◌, ◌+◌, inl, inr, ⊎_elim, refl}
+use Rattle.std.specs.Prelude.{IsTrue}
+use Rattle.std.proofs.Common.{rules, ◌≡◌, ◌+◌, inl, inr, ⊎_elim, refl, arith}
 use Rattle.flt_nvm.specs.Driver.{driver_of as driver_beneath}
 use Rattle.flt_store.specs.declared.fault.SaveFault.TheVariants.{Flash}
 use Rattle.flt_store.specs.Started.{IsStarted}
-use Rattle.flt_store.specs.Store.{driver_of, numbered}
+use Rattle.flt_flash.proofs.CallsInARow.{more_calls}
+use Rattle.flt_generation.specs.Holding.{Generation}
+use Rattle.flt_image.specs.Blocks.{bytes_at}
+use Rattle.flt_store.specs.Store.{driver_of, commit_of, kept_of, is_settled, numbered}
+use Rattle.flt_store.proofs.Known.{knows_may, read_may, started_kept}
 use Rattle.flt_store.proofs.Causes.{resolved}
 use Rattle.flt_store.proofs.Started.{mark_kept}
 use Rattle.flt_store.proofs.Running.{served_on}
 use Rattle.flt_store.proofs.store.Store.settle.Goals as goal
 
+pub returns-then-self-clause-settles : goal.returns-then-self-clause-settles
+returns-then-self-clause-settles g c = λ h s running.
+    let settled : IsTrue (is_settled c.args.self.now) = search rules in
+    record {
+      chosen = h;
+      is = inl refl;
+      ready = record {
+        served = running.served;
+        started = running.settled settled;
+        known = knows_may c.args.config.now (commit_of c.args.self.now) (kept_of c.args.self.now) h.state (running.known settled);
+      };
+    }
+
 pub returns-in-Ok-clause-settles : goal.returns-in-Ok-clause-settles
 returns-in-Ok-clause-settles g c = λ h s running.
     let before = driver_of c.args.self.now in
-    let after = driver_beneath c.restart.new.nvm in
-    let served = served_on c.args.config.now before after c.restart.ensures.follows running.served in
-    ⊎_elim {A = IsStarted c.args.config.now after.value c.in-Ok.commit h}
-    (λ by_held. record { chosen = h; is = inl refl; served = served; started = by_held })
-    (λ by_spare. record { chosen = s; is = inr (refl, c.if-self.false, by_spare.1); served = served; started = by_spare.0 })
+    let middle = driver_beneath c.restart.new.nvm in
+    let after = driver_beneath c.read_blocks-self.new.nvm in
+    let later = c.read_blocks-self.ensures.follows in
+    let served = served_on c.args.config.now before after (more_calls before middle after c.restart.ensures.follows later) running.served in
+    let kept = started_kept c.args.config.now middle.value after.value c.read_blocks-self.ensures.values c.in-Ok.commit in
+    let known = λ (h : Generation) (started : IsStarted c.args.config.now middle.value c.in-Ok.commit h).
+    read_may c.args.config.now middle.value c.in-Ok.commit h (bytes_at c.read_blocks-self.result) started.names c.read_blocks-self.ensures.read in
+    ⊎_elim {A = IsStarted c.args.config.now middle.value c.in-Ok.commit h}
+    (λ by_held. record { chosen = h; is = inl refl; ready = record { served = served; started = kept h by_held; known = known h by_held } })
+    (λ by_spare. record {
+      chosen = s;
+      is = inr (refl, c.if-self.false, (let rose = by_spare.1 in let counts = later.counts in omega (arith, rose, counts)));
+      ready = record { served = served; started = kept s by_spare.0; known = known s by_spare.0 };
+    })
     (c.in-Ok.ensures.started h s running.sound running.mark)
 
 pub returns-in-Err-clause-failed : goal.returns-in-Err-clause-failed
@@ -33,6 +60,7 @@ returns-in-Err-clause-failed g c = λ h s state running.
         mark = mark_kept c.args.config.now before.value after.value c.restart.ensures.kept running.mark;
         sound = left.sound;
         settled = λ yes. (let no = c.if-self.false in absurd (cc (yes, no)));
+        known = λ yes. (let no = c.if-self.false in absurd (cc (yes, no)));
       };
       held_is = left.held_is;
       spare_is = left.spare_is;

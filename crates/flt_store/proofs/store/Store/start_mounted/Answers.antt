@@ -11,6 +11,7 @@ use Rattle.flt_store.proofs.Started.{sound_started}
 use Rattle.flt_store.proofs.Started.{numbered as number_of_started}
 use Rattle.flt_store.proofs.Repairing.{sound_kept, both_old}
 use Rattle.flt_store.proofs.Running.{served_on}
+use Rattle.flt_store.proofs.Known.{begun_fits}
 use Rattle.flt_store.proofs.Beginning.{begins_of, judged_of, judged_in, same_generation, not_spent}
 use Rattle.flt_store.proofs.Faults.{refused_by_reading, refused_by_writing}
 use Rattle.flt_store.proofs.store.Store.start_mounted.Goals as goal
@@ -39,6 +40,7 @@ returns-in-Ok-begin_by-clause-started g c =
         mark = now.mark;
         sound = sound_started c.args.config.now third.value c.in-Ok-begin_by.commit (numbered number c.restore.new.out) now;
         settled = λ yes. now;
+        known = λ yes. c.of-self.ensures.bytes;
       };
       settled = refl;
     }
@@ -73,3 +75,10 @@ returns-in-Err-begin_by-clause-left g c = λ h s sound.
 pub returns-in-Err-clause-left : goal.returns-in-Err-clause-left
 returns-in-Err-clause-left g c = λ h s sound.
     both_old c.args.config.now (driver_beneath c.restore.new.nvm).value h s h (sound_kept c.args.config.now (driver_of c.args.self.now).value (driver_beneath c.restore.new.nvm).value h s c.restore.ensures.values sound)
+
+pub of-self-requires : goal.of-self-requires
+of-self-requires g c =
+    let first = driver_of c.args.self.now in
+    let second = driver_beneath c.restore.new.nvm in
+    begun_fits c.args.config.now second.value c.in-Ok.found c.restore.new.out
+    (begins_of c.args.config.now c.mark_of-mark.ensures.given first second c.in-Ok.found c.restore.new.out c.restore.ensures.values c.in-Ok.ensures.restored.restored)

@@ -1,0 +1,11 @@
+pub mod Running
+pub mod Journals
+pub mod Parts
+pub mod Facts
+pub mod Blocks
+pub mod Trails
+pub mod Seats
+pub mod BlockRuns
+pub mod Lifetimes
+pub mod WholeLife
+pub mod Rising

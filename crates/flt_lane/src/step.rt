@@ -1,0 +1,51 @@
+//! One step of a lane.
+ghost use Rattle.std.specs.Prelude.{◌≡◌, ◌<◌, IsTrue, IsErr, IfOk, length};
+ghost use mathlib.Core.Logic.{◌↔◌};
+ghost use Rattle.flt_script.specs.Step.{is_step_among};
+ghost use Rattle.flt_shared.specs.Call.{IsCall};
+ghost use Rattle.flt_shared.specs.Lock.{IsSeatOf};
+ghost use Rattle.flt_lane.specs.Calls.{op_of_step};
+ghost use Rattle.flt_lane.specs.Runs.{Makes};
+
+use flt_script::Step;
+use flt_shared::{DemAnswer, DemLock, DemSeat, Reply};
+use flt_turn::Answer;
+use std::sync::Wait;
+
+/// What a step was answered.
+#[derive(Drop)]
+pub enum StepAnswer {
+    /// The answer of the status machine, at its place of the journal.
+    Dem(Answer<Reply>),
+}
+
+/// Makes the call of a step.
+fn call<R: Wait>(rt: &R, dem: &DemLock, seat: &mut DemSeat, step: &Step) -> DemAnswer
+    requires lock { IsSeatOf dem.now seat.old }
+    requires step { IsTrue (is_step_among (length seat.old.start.config.events.items) step.now) }
+    ensures full { IsErr result ↔ (seat.old.left ≡ 0) }
+    ensures call { IfOk result (IsCall seat.old seat.new (op_of_step step.now)) }
+{
+    match step {
+        Step::Report { event, report } => dem.report(rt, seat, *event, *report),
+        Step::Show { event } => dem.show(rt, seat, *event),
+        Step::Cycle { cycle } => dem.cycle(rt, seat, *cycle),
+        Step::Tick { ticks } => dem.tick(rt, seat, *ticks),
+        Step::Signal { index, value } => dem.signal(rt, seat, *index, *value),
+        Step::Request { tester, bytes } => dem.request(rt, seat, *tester, bytes),
+    }
+}
+
+/// Makes the call of a step on a seat that has one left, and answers by it.
+pub fn do_step<R: Wait>(rt: &R, dem: &DemLock, seat: &mut DemSeat, step: &Step) -> StepAnswer
+    requires lock { IsSeatOf dem.now seat.old }
+    requires step { IsTrue (is_step_among (length seat.old.start.config.events.items) step.now) }
+    requires left { 0 < seat.old.left }
+    ensures made { Makes seat.old step.now result seat.new }
+    ensures lock { IsSeatOf dem.now seat.new }
+{
+    let Ok(told) = call(rt, dem, seat, step) else {
+        unreachable!()
+    };
+    StepAnswer::Dem(told)
+}

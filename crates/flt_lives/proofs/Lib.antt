@@ -1,0 +1,12 @@
+pub mod Keeping
+pub mod Riding
+pub mod Carrying
+pub mod Starting
+pub mod Linking
+pub mod Bridge
+pub mod Soundness
+pub mod EventFits
+pub mod EntryFits
+pub mod RecentFits
+pub mod StatesFitting
+pub mod Causing

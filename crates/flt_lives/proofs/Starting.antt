@@ -1,0 +1,161 @@
+-- What a start-up finds, and what it leaves where it fails.
+use Rattle.std.proofs.Common.{◌≡◌, inl, inr, ⊎_elim, ℕ, ◌+◌, [], ◌∷◌, length, Option, Some, None, Result, Ok, Err, refl, sym, ap, subst, arith, ◌∙◌, rules}
+use Rattle.std.specs.Prelude.{slice_index_or, IfOk}
+use Rattle.std.proofs.lemmas.List.{length-append, length-replicate, get_or-replicate}
+use Rattle.flt_flash.specs.Blocks.{BlocksState}
+use Rattle.flt_flash.specs.Calls.{Follows, SameValues, PowersUpDriver}
+use Rattle.flt_flash.specs.declared.blocks.Blocks.{Ghosts}
+use Rattle.flt_config.specs.declared.config.Config.{Config}
+use Rattle.flt_config.specs.declared.persist.Persist.{Persist}
+use Rattle.flt_config.specs.Durable.{Fits, AreStatesOf, IsStateOf, initial_state, start_state}
+use Rattle.flt_flash.specs.Content.{Content, missing, invalid, bytes}
+use Rattle.flt_config.specs.declared.config.EventCfg.{EventCfg}
+use Rattle.flt_generation.specs.declared.place.Place.TheVariants.{Page, Block}
+use Rattle.flt_generation.specs.Holding.{Generation, Fault, IsSound, OldOrNew, Names}
+use Rattle.flt_restore.specs.Restored.{IsJudged}
+use Rattle.flt_restore.specs.declared.fault.StartFault.{StartFault}
+use Rattle.flt_restore.specs.declared.fault.StartFault.TheVariants as faults
+use Rattle.flt_store.specs.declared.store.Store.{Store}
+use Rattle.flt_store.specs.Store.{driver_of, numbered}
+use Rattle.flt_store.specs.Start.{Starts, RefusedFor}
+use Rattle.flt_lives.specs.Moment.{Moment, moment_of, boot_of, IsSoundAt}
+use Rattle.flt_lives.specs.Chain.{IsFound, Finds, KeepsSound, Unchanged, IsRefused, Holds, HoldsBy, Leaves, LifeView}
+use Rattle.flt_lives.specs.Living.{StaysSound, IsLived}
+use Rattle.flt_lives.specs.declared.life.Boot.TheVariants.{Started, Refused}
+use Rattle.flt_lives.specs.declared.life.Boot.{Boot}
+use Rattle.flt_lives.specs.Causes.{AreCaused}
+use Rattle.flt_lives.specs.Going.{ArmsSince, GoesOn, AddsLife}
+use Rattle.flt_lives.proofs.Riding.{goes_nowhere}
+
+-- a fault that does not make the life dark
+abbrev pub Refuses : StartFault → Type 0
+Refuses faults.Flash = ⊥
+Refuses _ = Unit {0}
+
+damage_kept : (before after : BlocksState) → Follows before after → (damage : Option (ℕ × ℕ)) → before.damage ≡ damage → after.damage ≡ before.damage
+damage_kept before after follows None is = follows.no_new_damage is ∙ sym is
+damage_kept before after follows (Some place) is = (follows.damage_stays place is).0 ∙ sym is
+
+unchanged : (before after : BlocksState) → Follows before after → SameValues before after → Unchanged (moment_of before) (moment_of after)
+unchanged before after follows same = record { value = same; damage = damage_kept before after follows before.damage refl }
+
+pub keeps : (c : Config) (before after : BlocksState) → Follows before after
+    → ((h s : Generation) → IsSound c before.value h s → OldOrNew c after.value h s h) → KeepsSound c (moment_of before) (moment_of after)
+keeps c before after follows left = λ h s sound. record { undamaged = follows.no_new_damage sound.undamaged; old = left h s sound.sound }
+
+found_of : (c : Config) (before after : BlocksState) (judged : Result Generation Fault) → IsJudged c before after judged → IsFound c (moment_of before) after.device.faults judged
+found_of c before after judged = ⊎_elim (λ held. inl held) (λ spare. inr (spare.0, spare.2))
+
+module _ {B : Type 0} {b : Ghosts B} (c : Config) (before after : Store B b) where
+  pub finds : (number : ℕ) (state : Persist) → Starts c number state before after → Finds c (moment_of (driver_of before)) (driver_of after).device.faults (numbered number state)
+  finds number state starts = record { undamaged = starts.undamaged; found = found_of c (driver_of before) (driver_of after) (Ok (numbered number state)) starts.judged }
+
+  pub refused_is : (fault : StartFault) → Refuses fault → Follows (driver_of before) (driver_of after) → RefusedFor c before after fault
+      → KeepsSound c (moment_of (driver_of before)) (moment_of (driver_of after))
+      → IsRefused c (moment_of (driver_of before)) (moment_of (driver_of after)) (driver_of after).device.faults fault
+  refused_is faults.Flash refuses follows told kept = absurd refuses
+  refused_is (faults.Damaged (Page sector page)) refuses follows told kept = (told.0, unchanged (driver_of before) (driver_of after) follows told.2)
+  refused_is (faults.Damaged (Block id)) refuses follows told kept =
+      (told.0.undamaged, found_of c (driver_of before) (driver_of after) _ told.0.is, unchanged (driver_of before) (driver_of after) follows told.1)
+  refused_is (faults.OtherConfig found wanted) refuses follows told kept =
+      (told.0.undamaged, found_of c (driver_of before) (driver_of after) _ told.0.is, told.1, unchanged (driver_of before) (driver_of after) follows told.2)
+  refused_is faults.SequenceSpent refuses follows told kept =
+      ((told.0.0, record { undamaged = told.0.1.undamaged; found = found_of c (driver_of before) (driver_of after) _ told.0.1.is }), kept, told.1)
+
+-- ---- a state that was restored fits
+
+start_fits : (event : EventCfg) → IsStateOf event start_state
+start_fits event = record {
+  status = omega arith;
+  failed = omega arith;
+  clean = omega arith;
+  warning = (λ set. absurd (set refl), λ both. absurd (let no = both.0 in cc));
+  lit = λ is. absurd (cc);
+}
+
+initial_states : (c : Config) → AreStatesOf c.events.items (initial_state c).events.items
+initial_states c = record {
+  one_each = length-replicate (length c.events.items) start_state;
+  fitting = λ k event state below. subst (IsStateOf (slice_index_or c.events.items k event)) (sym (get_or-replicate (length c.events.items) k start_state state below)) (start_fits (slice_index_or c.events.items k event));
+}
+
+initial_fits : (c : Config) → Fits c (initial_state c)
+initial_fits c = record {
+  states = initial_states c;
+  room = omega arith;
+  entries = search rules;
+  distinct = search rules;
+  first_failed = tt;
+  first_confirmed = tt;
+  recent_failed = tt;
+  recent_confirmed = tt;
+}
+
+pub named_fits : (c : Config) (value : ℕ → Content) (commit : Content) (g : Generation) → Names c value commit g → Fits c g.state
+named_fits c value missing g names = subst (λ (d : Generation). Fits c d.state) (sym names) (initial_fits c)
+named_fits c value invalid g names = absurd names
+named_fits c value (bytes held) g names = names.2.fits
+
+-- ---- what stays
+
+pub stays_by_keeping : (c : Config) (first : BlocksState) (second third : BlocksState) → PowersUpDriver first second → KeepsSound c (moment_of second) (moment_of third)
+    → StaysSound c (moment_of first) (moment_of third)
+stays_by_keeping c first second third powers keeps = λ h s sound.
+    let same = ap moment_of powers.rest in
+    let kept = keeps h s (subst (λ (m : Moment). IsSoundAt c m h s) (sym same) sound) in
+    (kept.old.held, kept.old.spare, record { undamaged = kept.undamaged; sound = kept.old.sound })
+
+-- ---- the power-up before it
+
+pub same_moment : (before after : BlocksState) → PowersUpDriver before after → moment_of after ≡ moment_of before
+same_moment before after powers = ap moment_of powers.rest
+
+module _ (first second : BlocksState) (powers : PowersUpDriver first second) where
+  pub adds_life : (third : BlocksState) → GoesOn second third → AddsLife first third
+  adds_life third goes =
+      let same : second.device.faults ≡ first.device.faults = ap (λ (d : BlocksState). d.device.faults) powers.rest in
+      let rises = goes.counts in
+      record {
+        numbers = goes.numbers ∙ ap (λ (d : BlocksState). d.numbers) powers.rest;
+        room = goes.room ∙ ap (λ (d : BlocksState). d.room) powers.rest;
+        counts = omega (arith, same, rises);
+        boots = goes.boots ∙ powers.bench.boots;
+        boots_left = goes.boots_left ∙ powers.bench.boots_left;
+      }
+
+  pub life_arms : (third fourth : BlocksState) → Follows second third → GoesOn third fourth
+      → ArmsSince (length first.device.bench.boots + 1) third.device.faults first.device.bench.arms fourth.device.bench.arms
+  life_arms third fourth follows goes =
+      let boots : length third.device.bench.boots ≡ length first.device.bench.boots + 1 =
+      ap length (follows.bench.boots ∙ powers.bench.boots) ∙ length-append first.device.bench.boots (boot_of first ∷ []) in
+      let arms : third.device.bench.arms ≡ first.device.bench.arms = follows.bench.arms ∙ powers.bench.arms in
+      subst (λ n. ArmsSince n third.device.faults first.device.bench.arms fourth.device.bench.arms) boots
+      (subst (λ a. ArmsSince (length third.device.bench.boots) third.device.faults a fourth.device.bench.arms) arms goes.arms)
+
+module _ {B : Type 0} {b : Ghosts B} (c : Config) (first : BlocksState) (before after : Store B b) (powers : PowersUpDriver first (driver_of before)) where
+  pub lived_refused : (fault : StartFault) → Refuses fault → Follows (driver_of before) (driver_of after) → RefusedFor c before after fault
+      → KeepsSound c (moment_of (driver_of before)) (moment_of (driver_of after))
+      → IsLived c first (driver_of after) (record { boot = Refused fault; journal = []; answers = [] })
+  lived_refused fault refuses follows told kept = record {
+    ended = (driver_of after).device.faults;
+    holds = subst (λ (m : Moment). Holds c m (moment_of (driver_of after)) (driver_of after).device.faults (record { boot = Refused fault; journal = []; answers = [] }))
+        (same_moment first (driver_of before) powers) (refused_is c before after fault refuses follows told kept, refl, refl);
+    later = omega arith;
+    arms = life_arms first (driver_of before) powers (driver_of after) (driver_of after) follows (goes_nowhere (driver_of after));
+  }
+
+  pub lived_started : (number : ℕ) (state : Persist) (last : BlocksState) (life : LifeView) → Starts c number state before after → Follows (driver_of before) (driver_of after)
+      → GoesOn (driver_of after) last → life.boot ≡ Started number state → Leaves c (numbered number state) life (moment_of last)
+      → AreCaused c (moment_of (driver_of before)) (moment_of last) life.answers → IsLived c first last life
+  lived_started number state last life starts follows goes boot leaves caused = record {
+    ended = (driver_of after).device.faults;
+    holds = subst (λ (m : Moment). Holds c m (moment_of last) (driver_of after).device.faults life) (same_moment first (driver_of before) powers)
+        (subst (λ (b : Boot). HoldsBy c (moment_of (driver_of before)) (moment_of last) (driver_of after).device.faults life b) (sym boot)
+        (finds c before after number state starts, starts.usable, leaves, caused));
+    later = goes.counts;
+    arms = life_arms first (driver_of before) powers (driver_of after) last follows goes;
+  }
+
+pub all_ok : {T E : Type 0} {P Q R S : T → Type 0} (result : Result T E) → ((x : T) → P x → Q x → R x → S x) → IfOk result P → IfOk result Q → IfOk result R → IfOk result S
+all_ok (Ok x) to p q r = to x p q r
+all_ok (Err e) to p q r = tt

@@ -1,0 +1,222 @@
+-- A state that was taken after calls from a state that fits is one that fits.
+use Rattle.std.proofs.Common.{◌≡◌, ◌≢◌, ◌∙◌, ℕ, zero, suc, ◌<◌, ◌≤◌, nat_eq, Bool, true, false, List, [], ◌∷◌, map, length, get_or, Option, Some, None, refl, sym, ap, subst, arith, inl, inr, ⊎_elim, length-append}
+use Rattle.std.specs.Prelude.{All, AllPairs, IfSome, unwrap_or, option_map, is_some, slice_get}
+use Rattle.std.proofs.lemmas.Bool.{cases_Bool, cases_eq}
+use Rattle.std.proofs.lemmas.Option.{unwrap_or-slice_get}
+use Rattle.std.proofs.lemmas.List.{get_or-map, length-map, get_or_push, get_or_append_left, get_or_default}
+use Rattle.std.proofs.lemmas.List.Elements.{All-nil, All-head, All-tail, All-map, All-weaker, All-push, All-filter, All-from_get_or, All-get_or}
+use Rattle.flt_config.specs.declared.config.EventCfg.{EventCfg}
+use Rattle.flt_config.specs.declared.persist.EntryState.{EntryState}
+use Rattle.flt_config.specs.declared.persist.EventState.{EventState}
+use Rattle.flt_config.specs.Ranges.{frame_width}
+use Rattle.flt_config.specs.Validity.{IsValid, IsEventInRange, IsFromTo}
+use Rattle.flt_config.specs.Durable.{Fits, AreStatesOf, IsStateOf, IsEntryOf, IsOfOtherEvent, start_state}
+use Rattle.flt_model.specs.Life.{Life, History, no_event, count, event_of, base_of}
+use Rattle.flt_model.specs.Mark.{Trace, Of, AllCleared, marks_of}
+use Rattle.flt_model.specs.Mark.Mark.{Failed, Passed, Cycle, Clear, Aged, Displaced, Added, Refused}
+use Rattle.flt_model.specs.Noted.{Notable, is_entering as is_entering_event, is_confirming, recent, first, without, recent_after, first_after}
+use Rattle.flt_model.specs.Entry.{holders, has_entry, is_other, entry_of, base_entry, base_occurrence, is_entering}
+use Rattle.flt_model.specs.Trace.{trace}
+use Rattle.flt_model.specs.Durable.{below, state_at, saved}
+use Rattle.flt_model.specs.Laws.{Distinct}
+use Rattle.flt_model.proofs.ClearLaws.{TraceBelow, trace_below}
+use Rattle.flt_model.proofs.EntryLaws.{holders_have_entries}
+use Rattle.flt_model.proofs.EntryLemmas.{among_at}
+use Rattle.flt_model.proofs.RoomLaws.{entries_keep_room, fitting_base_has_room}
+use Rattle.flt_lives.proofs.EventFits.{event_fits}
+use Rattle.flt_lives.proofs.EntryFits.{AreNarrow, IsOwn, found, counted, first_wide}
+use Rattle.flt_lives.proofs.RecentFits.{AreFramed, frames_stay}
+
+-- ---- lists
+
+length_below : (n : ℕ) → length (below n) ≡ n
+length_below zero = refl
+length_below (suc n) = let before = length_below n in let more = length-append (below n) (n ∷ []) in omega (arith, before, more)
+
+at_below : (n k d : ℕ) → k < n → get_or (below n) k d ≡ k
+at_below zero k d h = absurd (omega (arith, h))
+at_below (suc n) k d h =
+    ⊎_elim
+    (λ same. rw same (get_or_push (below n) n d n (length_below n)))
+    (λ ne.
+    let within : k < length (below n) = let size = length_below n in omega (arith, h, ne, size) in
+    get_or_append_left (below n) (n ∷ []) d k within ∙ at_below n k d (omega (arith, h, ne)))
+    (cases_eq k n)
+
+places_differ : (events : List ℕ) → Distinct events → (i j : ℕ) → i < j → j < length events → get_or events i 0 ≢ get_or events j 0
+places_differ [] distinct i j less within = absurd (omega (arith, within))
+places_differ (event ∷ events) distinct i zero less within = absurd (omega (arith, less))
+places_differ (event ∷ events) distinct zero (suc j) less within =
+    λ same. (let among = among_at events j (omega (arith, within)) in let none = distinct.0 in absurd (cc (same, among, none)))
+places_differ (event ∷ events) distinct (suc i) (suc j) less within = places_differ events distinct.1 i j (omega (arith, less)) (omega (arith, within))
+
+narrow_at : (events : List EventCfg) → All IsEventInRange events → (k : ℕ) → AreNarrow (unwrap_or (slice_get events k) no_event).dids.items
+narrow_at [] all k = All-nil _
+narrow_at (event ∷ events) all zero =
+    All-weaker (λ did. IsFromTo 1 8 did.width) (λ did. did.width ≤ 8) (λ did is. is.1) event.dids.items (All-head IsEventInRange event events all).did_widths
+narrow_at (event ∷ events) all (suc k) = narrow_at events (All-tail IsEventInRange event events all) k
+
+-- ---- notes
+
+abbrev IsBelow : ℕ → Option ℕ → Type 0
+IsBelow n note = IfSome note (λ event. event < n)
+
+note_without : (n event : ℕ) (note : Option ℕ) → IsBelow n note → IsBelow n (without event note)
+note_without n event None is = tt
+note_without n event (Some other) is = elim (cases_Bool (nat_eq other event)) [ inl same ↦ rw same tt | inr apart ↦ rw apart is ]
+
+recent_noted : (n : ℕ) (notable : Bool) (event : ℕ) (note : Option ℕ) → event < n → IsBelow n note → IsBelow n (recent_after notable event note)
+recent_noted n true event note less is = less
+recent_noted n false event note less is = is
+
+first_noted : (n : ℕ) (notable : Bool) (event : ℕ) (note : Option ℕ) → event < n → IsBelow n note → IsBelow n (first_after notable event note)
+first_noted n true event None less is = less
+first_noted n true event (Some other) less is = is
+first_noted n false event note less is = is
+
+module _ (n : ℕ) (notable : Notable) (base : Option ℕ) (noted : IsBelow n base) where
+  recent_below : (marks : Trace) → TraceBelow n marks → IsBelow n (recent notable base marks)
+  recent_below [] b = noted
+  recent_below (AllCleared ∷ marks) b = recent_below marks b
+  recent_below (Of event Failed sent ∷ marks) b = recent_noted n (notable event marks) event (recent notable base marks) b.0 (recent_below marks b.1)
+  recent_below (Of event Clear sent ∷ marks) b = note_without n event (recent notable base marks) (recent_below marks b.1)
+  recent_below (Of event Passed sent ∷ marks) b = recent_below marks b.1
+  recent_below (Of event Cycle sent ∷ marks) b = recent_below marks b.1
+  recent_below (Of event Aged sent ∷ marks) b = recent_below marks b.1
+  recent_below (Of event Displaced sent ∷ marks) b = recent_below marks b.1
+  recent_below (Of event Added sent ∷ marks) b = recent_below marks b.1
+  recent_below (Of event Refused sent ∷ marks) b = recent_below marks b.1
+
+  first_below : (marks : Trace) → TraceBelow n marks → IsBelow n (first notable base marks)
+  first_below [] b = noted
+  first_below (AllCleared ∷ marks) b = first_below marks b
+  first_below (Of event Failed sent ∷ marks) b = first_noted n (notable event marks) event (first notable base marks) b.0 (first_below marks b.1)
+  first_below (Of event Clear sent ∷ marks) b = note_without n event (first notable base marks) (first_below marks b.1)
+  first_below (Of event Passed sent ∷ marks) b = first_below marks b.1
+  first_below (Of event Cycle sent ∷ marks) b = first_below marks b.1
+  first_below (Of event Aged sent ∷ marks) b = first_below marks b.1
+  first_below (Of event Displaced sent ∷ marks) b = first_below marks b.1
+  first_below (Of event Added sent ∷ marks) b = first_below marks b.1
+  first_below (Of event Refused sent ∷ marks) b = first_below marks b.1
+
+-- ---- what the base's entry says of an event
+
+module _ (events : List EventCfg) (event : ℕ) where
+  least_of : (o : Option EntryState) → IfSome o (IsOwn events event) → is_some o ≡ true → 1 ≤ unwrap_or (option_map (λ entry. entry.occurrence) o) 0
+  least_of None is held = absurd (cc)
+  least_of (Some entry) is held = is.0.occurrence.0
+
+  first_of : (o : Option EntryState) → IfSome o (IsOwn events event) → is_some o ≡ true
+      → length (unwrap_or (option_map (λ entry. entry.first.items) o) []) ≡ frame_width (get_or events event no_event).dids.items
+  first_of None is held = absurd (cc)
+  first_of (Some entry) is held = is.0.first no_event ∙ ap (λ k. frame_width (get_or events k no_event).dids.items) is.1
+
+  recent_of : (o : Option EntryState) → IfSome o (IsOwn events event) → is_some o ≡ true
+      → length (unwrap_or (option_map (λ entry. entry.recent.items) o) []) ≡ frame_width (get_or events event no_event).dids.items
+  recent_of None is held = absurd (cc)
+  recent_of (Some entry) is held = is.0.recent no_event ∙ ap (λ k. frame_width (get_or events k no_event).dids.items) is.1
+
+-- ---- the whole
+
+module _ (life : Life) (valid : IsValid life.config) (fits : Fits life.config life.base) where
+  narrow : (event : ℕ) → AreNarrow (event_of life event).dids.items
+  narrow = narrow_at life.config.events.items valid.events
+
+  rules_are : (event : ℕ) → event_of life event ≡ get_or life.config.events.items event no_event
+  rules_are event = unwrap_or-slice_get life.config.events.items event no_event
+
+  width_is : (event : ℕ) → frame_width (get_or life.config.events.items event no_event).dids.items ≡ frame_width (event_of life event).dids.items
+  width_is event = ap (λ (r : EventCfg). frame_width r.dids.items) (sym (rules_are event))
+
+  owned : (event : ℕ) → IfSome (base_entry life event) (IsOwn life.config.events.items event)
+  owned event = found life.config.events.items event life.base.entries.items fits.entries
+
+  framed_base : AreFramed life narrow []
+  framed_base event held = recent_of life.config.events.items event (base_entry life event) (owned event) held ∙ width_is event
+
+  holders_below : (marks : Trace) → TraceBelow (count life) marks → All (λ event. event < count life) (holders life marks)
+  holders_below [] b =
+      All-map (λ event. event < count life) (λ (entry : EntryState). entry.event) life.base.entries.items
+      (All-weaker (IsEntryOf life.config.events.items) (λ entry. entry.event < count life) (λ entry is. is.event) life.base.entries.items fits.entries)
+  holders_below (AllCleared ∷ marks) b = holders_below marks b
+  holders_below (Of event Added sent ∷ marks) b = All-push (λ e. e < count life) (holders life marks) event (holders_below marks b.1) b.0
+  holders_below (Of event Aged sent ∷ marks) b = All-filter (is_other event) (λ e. e < count life) (holders life marks) (holders_below marks b.1)
+  holders_below (Of event Displaced sent ∷ marks) b = All-filter (is_other event) (λ e. e < count life) (holders life marks) (holders_below marks b.1)
+  holders_below (Of event Clear sent ∷ marks) b = All-filter (is_other event) (λ e. e < count life) (holders life marks) (holders_below marks b.1)
+  holders_below (Of event Failed sent ∷ marks) b = holders_below marks b.1
+  holders_below (Of event Passed sent ∷ marks) b = holders_below marks b.1
+  holders_below (Of event Cycle sent ∷ marks) b = holders_below marks b.1
+  holders_below (Of event Refused sent ∷ marks) b = holders_below marks b.1
+
+  other_width : (event : ℕ) (d : EventCfg) → event < count life → frame_width (event_of life event).dids.items ≡ frame_width (get_or life.config.events.items event d).dids.items
+  other_width event d within = ap (λ (r : EventCfg). frame_width r.dids.items) (rules_are event ∙ get_or_default life.config.events.items event no_event d within)
+
+  entry_is : (marks : Trace) (event : ℕ) → AreFramed life narrow marks → event < count life → has_entry life event marks ≡ true → IsEntryOf life.config.events.items (entry_of life event marks)
+  entry_is marks event framed within held =
+      let least = counted (is_entering life event) (is_some (base_entry life event)) (base_occurrence life event)
+      (least_of life.config.events.items event (base_entry life event) (owned event)) (marks_of event marks) held in
+      record {
+        event = within;
+        occurrence = (omega (arith, least), omega arith);
+        first = λ d. first_wide life event (narrow event)
+            (λ is. first_of life.config.events.items event (base_entry life event) (owned event) is ∙ width_is event) marks held ∙ other_width event d within;
+        recent = λ d. framed event held ∙ other_width event d within;
+      }
+
+  entries_are : (marks : Trace) → AreFramed life narrow marks → TraceBelow (count life) marks
+      → All (IsEntryOf life.config.events.items) (map (λ event. entry_of life event marks) (holders life marks))
+  entries_are marks framed b =
+      All-map (IsEntryOf life.config.events.items) (λ event. entry_of life event marks) (holders life marks)
+      (All-from_get_or (λ event. IsEntryOf life.config.events.items (entry_of life event marks)) (holders life marks) 0 (λ place within.
+      (let event = get_or (holders life marks) place 0 in
+      let less = All-get_or (λ e. e < count life) (holders life marks) place 0 within (holders_below marks b) in
+      entry_is marks event framed less (sym (holders_have_entries life marks event) ∙ among_at (holders life marks) place within))))
+
+  apart : (marks : Trace) → Distinct (holders life marks) → AllPairs IsOfOtherEvent (map (λ event. entry_of life event marks) (holders life marks))
+  apart marks distinct i j d less within =
+      let f : ℕ → EntryState = λ event. entry_of life event marks in
+      let size = length-map (holders life marks) f in
+      let second : j < length (holders life marks) = omega (arith, within, size) in
+      let first_within : i < length (holders life marks) = omega (arith, less, second) in
+      let at_i = ap (λ (e : EntryState). e.event) (get_or-map f (holders life marks) i 0 d first_within) in
+      let at_j = ap (λ (e : EntryState). e.event) (get_or-map f (holders life marks) j 0 d second) in
+      λ same. places_differ (holders life marks) distinct i j less second (sym at_i ∙ same ∙ at_j)
+
+  state_is : (marks : Trace) (k : ℕ) → k < count life → IsStateOf (event_of life k) (state_at life marks k)
+  state_is marks k within =
+      let was = fits.states.fitting k no_event start_state within in
+      let base_is : base_of life k ≡ get_or life.base.events.items k start_state = unwrap_or-slice_get life.base.events.items k start_state in
+      event_fits (event_of life k) (base_of life k)
+      (subst (λ (s : EventState). IsStateOf (event_of life k) s) (sym base_is)
+      (subst (λ (r : EventCfg). IsStateOf r (get_or life.base.events.items k start_state)) (sym (rules_are k)) was)) (marks_of k marks)
+
+  states_are : (marks : Trace) → AreStatesOf life.config.events.items (map (state_at life marks) (below (count life)))
+  states_are marks = record {
+    one_each = length-map (below (count life)) (state_at life marks) ∙ length_below (count life);
+    fitting = λ k event state within.
+        (let size = length_below (count life) in
+        let lies : k < length (below (count life)) = omega (arith, within, size) in
+        let at = get_or-map (state_at life marks) (below (count life)) k 0 state lies ∙ ap (state_at life marks) (at_below (count life) k 0 within) in
+        let rules = rules_are k ∙ get_or_default life.config.events.items k no_event event within in
+        subst (λ (s : EventState). IsStateOf (get_or life.config.events.items k event) s) (sym at)
+        (subst (λ (r : EventCfg). IsStateOf r (state_at life marks k)) rules (state_is marks k within)));
+  }
+
+  pub saved_fits : (past : History) → Fits life.config (saved life (trace life past))
+  saved_fits past =
+      let marks = trace life past in
+      let b = trace_below life fits past in
+      let room = entries_keep_room life past (fitting_base_has_room life fits) in
+      let framed = frames_stay life narrow past framed_base in
+      let size = length-map (holders life marks) (λ event. entry_of life event marks) in
+      let most = room.room in
+      record {
+        states = states_are marks;
+        room = omega (arith, size, most);
+        entries = entries_are marks framed b;
+        distinct = apart marks room.distinct;
+        first_failed = first_below (count life) (is_entering_event life) life.base.first_failed fits.first_failed marks b;
+        first_confirmed = first_below (count life) (is_confirming life) life.base.first_confirmed fits.first_confirmed marks b;
+        recent_failed = recent_below (count life) (is_entering_event life) life.base.recent_failed fits.recent_failed marks b;
+        recent_confirmed = recent_below (count life) (is_confirming life) life.base.recent_confirmed fits.recent_confirmed marks b;
+      }

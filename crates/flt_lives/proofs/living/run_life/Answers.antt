@@ -1,0 +1,67 @@
+use Rattle.std.proofs.Common.{sym, subst}
+use Rattle.flt_restore.specs.declared.fault.StartFault.TheVariants as faults
+use Rattle.flt_store.specs.Store.{driver_of}
+use Rattle.flt_store.specs.Start.{RefusedFor}
+use Rattle.flt_lives.specs.Moment.{Moment, moment_of}
+use Rattle.flt_lives.specs.Chain.{LifeView}
+use Rattle.flt_lives.specs.Living.{IsLived, StaysSound, view_of}
+use Rattle.flt_lives.proofs.Starting.{named_fits, keeps, stays_by_keeping, lived_refused, lived_started, all_ok}
+use Rattle.flt_lives.proofs.living.run_life.Goals as goal
+
+pub live-requires-clause-fits : goal.live-requires-clause-fits
+live-requires-clause-fits g c = named_fits c.args.config.now (driver_of c.start_up.new.self).value _ _ c.in-Ok.ensures.started.running.sound.holds.names
+
+pub returns-in_err-answers-in-Err-Flash-clause-sound : goal.returns-in_err-answers-in-Err-Flash-clause-sound
+returns-in_err-answers-in-Err-Flash-clause-sound g c =
+    subst (λ (m : Moment). StaysSound c.args.config.now (moment_of (driver_of c.args.store.now)) m) (sym c.take_dark_steps.ensures.same)
+    (stays_by_keeping c.args.config.now (driver_of c.args.store.now) (driver_of c.power_up.new.self) (driver_of c.start_up.new.self) c.power_up.ensures.powers_up
+    (keeps c.args.config.now (driver_of c.power_up.new.self) (driver_of c.start_up.new.self) c.start_up.ensures.follows c.in-Err-Flash.ensures.left))
+
+pub returns-in_ok-answers-in-Err-Flash-clause-sound : goal.returns-in_ok-answers-in-Err-Flash-clause-sound
+returns-in_ok-answers-in-Err-Flash-clause-sound g c =
+    subst (λ (m : Moment). StaysSound c.args.config.now (moment_of (driver_of c.args.store.now)) m) (sym c.take_dark_steps.ensures.same)
+    (stays_by_keeping c.args.config.now (driver_of c.args.store.now) (driver_of c.power_up.new.self) (driver_of c.start_up.new.self) c.power_up.ensures.powers_up
+    (keeps c.args.config.now (driver_of c.power_up.new.self) (driver_of c.start_up.new.self) c.start_up.ensures.follows c.in-Err-Flash.ensures.left))
+
+pub returns-in-Err-Damaged-clause-lived : goal.returns-in-Err-Damaged-clause-lived
+returns-in-Err-Damaged-clause-lived g c =
+    subst (λ (v : LifeView). IsLived c.args.config.now (driver_of c.args.store.now) (driver_of c.start_up.new.self) v) (sym c.refused.ensures)
+    (lived_refused c.args.config.now (driver_of c.args.store.now) c.power_up.new.self c.start_up.new.self c.power_up.ensures.powers_up (faults.Damaged c.in-Err-Damaged.place) tt
+    c.start_up.ensures.follows (subst (RefusedFor c.args.config.now c.power_up.new.self c.start_up.new.self) c.in-Err-Damaged.field-0-is c.in-Err-Damaged.ensures.refused)
+    (keeps c.args.config.now (driver_of c.power_up.new.self) (driver_of c.start_up.new.self) c.start_up.ensures.follows c.in-Err-Damaged.ensures.left))
+
+pub returns-in-Err-Damaged-clause-sound : goal.returns-in-Err-Damaged-clause-sound
+returns-in-Err-Damaged-clause-sound g c =
+    stays_by_keeping c.args.config.now (driver_of c.args.store.now) (driver_of c.power_up.new.self) (driver_of c.start_up.new.self) c.power_up.ensures.powers_up
+    (keeps c.args.config.now (driver_of c.power_up.new.self) (driver_of c.start_up.new.self) c.start_up.ensures.follows c.in-Err-Damaged.ensures.left)
+
+pub returns-in-Err-OtherConfig-clause-lived : goal.returns-in-Err-OtherConfig-clause-lived
+returns-in-Err-OtherConfig-clause-lived g c =
+    subst (λ (v : LifeView). IsLived c.args.config.now (driver_of c.args.store.now) (driver_of c.start_up.new.self) v) (sym c.refused-in-Err-OtherConfig.ensures)
+    (lived_refused c.args.config.now (driver_of c.args.store.now) c.power_up.new.self c.start_up.new.self c.power_up.ensures.powers_up (faults.OtherConfig c.in-Err-OtherConfig.found c.in-Err-OtherConfig.wanted) tt
+    c.start_up.ensures.follows (subst (RefusedFor c.args.config.now c.power_up.new.self c.start_up.new.self) c.in-Err-OtherConfig.field-0-is c.in-Err-OtherConfig.ensures.refused)
+    (keeps c.args.config.now (driver_of c.power_up.new.self) (driver_of c.start_up.new.self) c.start_up.ensures.follows c.in-Err-OtherConfig.ensures.left))
+
+pub returns-in-Err-OtherConfig-clause-sound : goal.returns-in-Err-OtherConfig-clause-sound
+returns-in-Err-OtherConfig-clause-sound g c =
+    stays_by_keeping c.args.config.now (driver_of c.args.store.now) (driver_of c.power_up.new.self) (driver_of c.start_up.new.self) c.power_up.ensures.powers_up
+    (keeps c.args.config.now (driver_of c.power_up.new.self) (driver_of c.start_up.new.self) c.start_up.ensures.follows c.in-Err-OtherConfig.ensures.left)
+
+pub returns-in-Err-SequenceSpent-clause-lived : goal.returns-in-Err-SequenceSpent-clause-lived
+returns-in-Err-SequenceSpent-clause-lived g c =
+    subst (λ (v : LifeView). IsLived c.args.config.now (driver_of c.args.store.now) (driver_of c.start_up.new.self) v) (sym c.refused-in-Err-SequenceSpent.ensures)
+    (lived_refused c.args.config.now (driver_of c.args.store.now) c.power_up.new.self c.start_up.new.self c.power_up.ensures.powers_up faults.SequenceSpent tt
+    c.start_up.ensures.follows (subst (RefusedFor c.args.config.now c.power_up.new.self c.start_up.new.self) c.in-Err-SequenceSpent.field-0-is c.in-Err-SequenceSpent.ensures.refused)
+    (keeps c.args.config.now (driver_of c.power_up.new.self) (driver_of c.start_up.new.self) c.start_up.ensures.follows c.in-Err-SequenceSpent.ensures.left))
+
+pub returns-in-Err-SequenceSpent-clause-sound : goal.returns-in-Err-SequenceSpent-clause-sound
+returns-in-Err-SequenceSpent-clause-sound g c =
+    stays_by_keeping c.args.config.now (driver_of c.args.store.now) (driver_of c.power_up.new.self) (driver_of c.start_up.new.self) c.power_up.ensures.powers_up
+    (keeps c.args.config.now (driver_of c.power_up.new.self) (driver_of c.start_up.new.self) c.start_up.ensures.follows c.in-Err-SequenceSpent.ensures.left)
+
+pub returns-in-Ok-clause-lived : goal.returns-in-Ok-clause-lived
+returns-in-Ok-clause-lived g c =
+    all_ok c.live.result
+    (λ life boot leaves caused. lived_started c.args.config.now (driver_of c.args.store.now) c.power_up.new.self c.start_up.new.self c.power_up.ensures.powers_up c.in-Ok.generation c.start_up.new.out
+    (driver_of c.live.new.store) (view_of life) c.in-Ok.ensures.started c.start_up.ensures.follows c.live.ensures.goes_on boot leaves caused)
+    c.live.ensures.boot c.live.ensures.leaves (c.live.ensures.caused (moment_of (driver_of c.power_up.new.self)) c.start_up.ensures.follows.counts)

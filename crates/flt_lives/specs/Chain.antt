@@ -1,0 +1,109 @@
+-- What holds of a life and its two power-ups, and of all lives of a run.
+use Rattle.std.specs.Prelude.{◌≡◌, ◌⊎◌, ℕ, ◌+◌, ◌==◌, List, [], ◌∷◌, length, drop, find, Option, Some, None, Result, Ok, Err, IsTrue, IsFalse}
+use Rattle.flt_flash.specs.declared.arm.ArmMade.{ArmMade}
+use Rattle.flt_flash.specs.State.{HasRisenBy, Boot as PowerUp}
+use Rattle.flt_config.specs.declared.config.Config.{Config}
+use Rattle.flt_config.specs.declared.persist.Persist.{Persist}
+use Rattle.flt_generation.specs.declared.place.Place.TheVariants.{Page, Block}
+use Rattle.flt_generation.specs.Form.{mark_of}
+use Rattle.flt_generation.specs.Holding.{Generation, Fault, damaged, other, held, spare, OldOrNew}
+use Rattle.flt_model.specs.Life.{Life}
+use Rattle.flt_restore.specs.declared.fault.StartFault.{StartFault}
+use Rattle.flt_restore.specs.declared.fault.StartFault.TheVariants as faults
+use Rattle.flt_store.specs.Store.{numbered}
+use Rattle.flt_lives.specs.declared.life.StepAnswer.{StepAnswer}
+use Rattle.flt_lives.specs.declared.life.Boot.{Boot}
+use Rattle.flt_lives.specs.declared.life.Boot.TheVariants.{Started, Dark, Refused}
+use Rattle.flt_lives.specs.Moment.{Moment, Medium, moment_at, IsSoundAt}
+use Rattle.flt_lives.specs.Journal.{Journal, Acknowledges}
+use Rattle.flt_lives.specs.Causes.{AreCaused}
+use Rattle.flt_lives.specs.Saving.{IsLeft, AreRising}
+
+-- a life, its calls and its answers the newest first
+pub record LifeView : Type 0 where
+  pub boot : Boot
+  pub journal : Journal
+  pub answers : List StepAnswer
+
+-- what the machine starts from
+abbrev pub start_from : Config → Persist → Life
+start_from c state = record { config = c; base = state }
+
+-- this is what the image holds; or, where the count rose by three in the start of the life, what it holds by the second copy
+module _ (c : Config) (boot : Moment) (ended : ℕ) where
+  abbrev pub IsFound : Result Generation Fault → Type 0
+  IsFound found = (held c boot.value ≡ found) ⊎ ((spare c boot.value ≡ found) × HasRisenBy 3 boot.faults ended)
+
+  -- a generation that was found in an image without a fault
+  pub record Finds (g : Generation) : Type 0 where
+    pub undamaged : boot.damage ≡ None
+    pub found : IsFound (Ok g)
+
+-- the next power-up finds a sound image: each of its two generations is the one that was acknowledged last, or one of a save since
+-- then; and the numbers that were acknowledged rise
+pub record Leaves (c : Config) (first : Generation) (life : LifeView) (next : Moment) : Type 0 where
+  pub held : Generation
+  pub spare : Generation
+  pub last : Generation
+  pub sound : IsSoundAt c next held spare
+  pub acknowledged : Acknowledges (start_from c first.state) first life.journal last
+  pub held_is : IsLeft (start_from c first.state) life.journal life.answers last held
+  pub spare_is : IsLeft (start_from c first.state) life.journal life.answers last spare
+  pub rising : AreRising first.number life.answers
+
+-- of a sound image the next power-up finds a sound one, which holds each as one of the two old generations
+pub record Keeps (c : Config) (held spare : Generation) (next : Moment) : Type 0 where
+  pub undamaged : next.damage ≡ None
+  pub old : OldOrNew c next.value held spare held
+
+abbrev pub KeepsSound : Config → Moment → Moment → Type 0
+KeepsSound c boot next = (held spare : Generation) → IsSoundAt c boot held spare → Keeps c held spare next
+
+-- the next power-up finds the blocks and the fault of this one
+pub record Unchanged (boot next : Moment) : Type 0 where
+  pub value : (number : ℕ) → next.value number ≡ boot.value number
+  pub damage : next.damage ≡ boot.damage
+
+-- why a life is refused
+abbrev pub IsRefused : Config → Moment → Moment → ℕ → StartFault → Type 0
+IsRefused c boot next ended faults.Flash = ⊥
+IsRefused c boot next ended (faults.Damaged (Page sector page)) = (boot.damage ≡ Some (sector, page)) × Unchanged boot next
+IsRefused c boot next ended (faults.Damaged (Block id)) = (boot.damage ≡ None) × IsFound c boot ended (Err (damaged (Block id))) × Unchanged boot next
+IsRefused c boot next ended (faults.OtherConfig found wanted) = (boot.damage ≡ None) × IsFound c boot ended (Err (other found)) × (wanted ≡ mark_of c) × Unchanged boot next
+IsRefused c boot next ended faults.SequenceSpent = ((g : Generation) × Finds c boot ended g) × KeepsSound c boot next × IsTrue next.is_spent
+
+-- what holds by how the life began
+abbrev pub HoldsBy : Config → Moment → Moment → ℕ → LifeView → Boot → Type 0
+HoldsBy c boot next ended life (Started number state) = Finds c boot ended (numbered number state) × IsFalse boot.is_spent × Leaves c (numbered number state) life next × AreCaused c boot next life.answers
+HoldsBy c boot next ended life Dark = HasRisenBy 3 boot.faults ended × (life.journal ≡ []) × KeepsSound c boot next
+HoldsBy c boot next ended life (Refused fault) = IsRefused c boot next ended fault × (life.journal ≡ []) × (life.answers ≡ [])
+
+-- what holds of a life between two power-ups; the count of faults came to `ended` by the end of its start
+abbrev pub Holds : Config → Moment → Moment → ℕ → LifeView → Type 0
+Holds c boot next ended life = HoldsBy c boot next ended life life.boot
+
+-- the count of faults at an arm, if there is one, or else at the next power-up
+abbrev pub count_at : Option ArmMade → ℕ → ℕ
+count_at None next = next
+count_at (Some made) next = made.faults
+
+-- the count of faults at the end of the start of a life, which lasts to the first arm that was made in it, where arms are told and it
+-- has one, and else to the next power-up; the life is told by the number of boots in it
+abbrev pub start_count : Option (List ArmMade) → ℕ → ℕ → ℕ
+start_count None boots next = next
+start_count (Some made) boots next = count_at (find (λ arm. arm.boots == boots) made) next
+
+-- the arms that were made between two states of a bench, where both tell theirs
+abbrev pub arms_between : Option (List ArmMade) → Option (List ArmMade) → Option (List ArmMade)
+arms_between (Some earlier) (Some now) = Some (drop (length earlier) now)
+arms_between (Some earlier) None = None
+arms_between None now = None
+
+-- lives and their boots, the newest first, each life between its boot and the next one; the last stands before `next`
+abbrev pub AreLinked : Config → Medium → Option (List ArmMade) → ℕ → PowerUp → List PowerUp → List LifeView → Type 0
+AreLinked c medium arms earlier next [] [] = Unit {0}
+AreLinked c medium arms earlier next [] (life ∷ lives) = ⊥
+AreLinked c medium arms earlier next (boot ∷ boots) [] = ⊥
+AreLinked c medium arms earlier next (boot ∷ boots) (life ∷ lives) =
+    Holds c (moment_at medium boot) (moment_at medium next) (start_count arms (earlier + length boots + 1) next.faults) life
+    × AreLinked c medium arms earlier boot boots lives

@@ -1,0 +1,45 @@
+-- What steps leave of a driver and its bench.
+use Rattle.std.specs.Prelude.{◌≡◌, ℕ, ◌-◌, List, [], ◌∷◌, ◌++◌, length, All, Option, IfSome, IsSomeAnd}
+use Rattle.flt_flash.specs.declared.arm.ArmMade.{ArmMade}
+use Rattle.flt_flash.specs.State.{HasRisenBy}
+use Rattle.flt_flash.specs.Blocks.{BlocksState}
+use Rattle.flt_lives.specs.Moment.{boot_of}
+use Rattle.flt_lives.specs.declared.life.Action.{Action}
+use Rattle.flt_lives.specs.declared.life.Action.TheVariants.{Call, Save, Arm}
+
+-- an arm of a life with so many boots, made when the count of faults had come to this
+pub record IsMadeIn (boots count : ℕ) (arm : ArmMade) : Type 0 where
+  pub life : arm.boots ≡ boots
+  pub later : HasRisenBy 0 count arm.faults
+
+-- the arms made since then, where they are told, are of one life and were made past this count
+pub record AddsArms (boots count : ℕ) (earlier made : List ArmMade) : Type 0 where
+  pub more : List ArmMade
+  pub is : made ≡ earlier ++ more
+  pub each : All (IsMadeIn boots count) more
+
+abbrev pub ArmsSince : ℕ → ℕ → Option (List ArmMade) → Option (List ArmMade) → Type 0
+ArmsSince boots count before after = IfSome after (λ made. IsSomeAnd before (λ earlier. AddsArms boots count earlier made))
+
+-- any number of steps of one life
+pub record GoesOn (before after : BlocksState) : Type 0 where
+  pub numbers : after.numbers ≡ before.numbers
+  pub room : after.room ≡ before.room
+  pub counts : HasRisenBy 0 before.device.faults after.device.faults
+  pub boots : after.device.bench.boots ≡ before.device.bench.boots
+  pub boots_left : after.device.bench.boots_left ≡ before.device.bench.boots_left
+  pub arms : ArmsSince (length before.device.bench.boots) before.device.faults before.device.bench.arms after.device.bench.arms
+
+-- how many arms a step makes
+abbrev pub arms_of : Action → ℕ
+arms_of (Call op) = 0
+arms_of Save = 0
+arms_of (Arm arm) = 1
+
+-- what a life leaves of a driver and its bench: one boot more
+pub record AddsLife (before after : BlocksState) : Type 0 where
+  pub numbers : after.numbers ≡ before.numbers
+  pub room : after.room ≡ before.room
+  pub counts : HasRisenBy 0 before.device.faults after.device.faults
+  pub boots : after.device.bench.boots ≡ before.device.bench.boots ++ boot_of before ∷ []
+  pub boots_left : after.device.bench.boots_left ≡ before.device.bench.boots_left - 1

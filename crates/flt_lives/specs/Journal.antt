@@ -1,0 +1,50 @@
+-- The journal of a life, its newest entry first: which state was saved last, and which states were taken since.
+use Rattle.std.specs.Prelude.{◌≡◌, ◌⊎◌, ℕ, Bool, true, false, ◌&&◌, ◌==◌, if◌then◌else◌, List, [], ◌∷◌, map, Option, Some, None}
+use Rattle.flt_config.specs.declared.persist.Persist.{Persist}
+use Rattle.flt_model.specs.Life.{Life, History}
+use Rattle.flt_model.specs.Durable.{saved_after}
+use Rattle.flt_model.specs.declared.call.Op.{Op}
+use Rattle.flt_model.specs.declared.call.Op.TheVariants as ops
+use Rattle.flt_generation.specs.Holding.{Generation}
+use Rattle.flt_lives.specs.declared.life.Entry.{Entry}
+
+abbrev pub Journal : Type 0
+Journal = List (Entry Op)
+
+abbrev pub entry : ℕ → Op → Entry Op
+entry lane op = record { lane = lane; op = op }
+
+-- the calls of a journal
+abbrev pub calls_of : Journal → History
+calls_of journal = map (λ e. e.op) journal
+
+abbrev pub is_snapshot : Op → Bool
+is_snapshot ops.Snapshot = true
+is_snapshot _ = false
+
+-- the state that the last snapshot of a lane took
+abbrev pub snapshot_of : Life → ℕ → Journal → Option Persist
+snapshot_of start lane [] = None
+snapshot_of start lane (e ∷ earlier) =
+    if is_snapshot e.op && (e.lane == lane) then Some (saved_after start (calls_of earlier)) else snapshot_of start lane earlier
+
+-- a save is acknowledged with its number, and with the state that its lane took last; another call acknowledges nothing
+abbrev pub AcknowledgesBy : Life → ℕ → Journal → Op → Generation → Type 0 → Type 0
+AcknowledgesBy start lane earlier (ops.Saved number) g before = (g.number ≡ number) × (snapshot_of start lane earlier ≡ Some g.state)
+AcknowledgesBy start lane earlier _ g before = before
+
+-- the generation that was acknowledged last; before the first save it is the one with which the life started
+abbrev pub Acknowledges : Life → Generation → Journal → Generation → Type 0
+Acknowledges start first [] g = g ≡ first
+Acknowledges start first (e ∷ earlier) g = AcknowledgesBy start e.lane earlier e.op g (Acknowledges start first earlier g)
+
+-- a snapshot takes the state of its place; a save that is acknowledged leaves none behind it
+abbrev pub TakesBy : Life → Journal → Op → Persist → Type 0 → Type 0
+TakesBy start earlier ops.Snapshot state before = (state ≡ saved_after start (calls_of earlier)) ⊎ before
+TakesBy start earlier (ops.Saved number) state before = ⊥
+TakesBy start earlier _ state before = before
+
+-- the state was taken by a snapshot behind the last save that was acknowledged
+abbrev pub IsTakenSince : Life → Journal → Persist → Type 0
+IsTakenSince start [] state = ⊥
+IsTakenSince start (e ∷ earlier) state = TakesBy start earlier e.op state (IsTakenSince start earlier state)

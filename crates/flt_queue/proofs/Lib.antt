@@ -1,0 +1,5 @@
+pub mod Steps
+pub mod Orders
+pub mod Ranges
+pub mod Dues
+pub mod Refusals

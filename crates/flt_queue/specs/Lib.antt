@@ -1,0 +1,4 @@
+pub mod Queue
+pub mod Stands
+pub mod Call
+pub mod Laws

@@ -1,0 +1,149 @@
+//! The queue under the ticket lock.
+ghost use Rattle.std.specs.Prelude.{◌≡◌, ◌<◌, ◌≤◌, ◌+◌, ◌^◌, ◌∷◌, [], IfOk, IfErr, IsErr, All, length, reverse};
+ghost use mathlib.Core.Logic.{◌↔◌};
+ghost use mathlib.Core.List.{IsPrefix};
+ghost use Rattle.flt_queue.specs.declared.job.QueueOp.TheVariants as ops;
+ghost use Rattle.flt_queue.specs.Queue.{IsAdmitted, IsFor, IsJob};
+ghost use Rattle.flt_queue.specs.Stands.{Stands};
+ghost use Rattle.flt_queue.specs.Call.{IsCall, IsRefusal};
+ghost use Rattle.flt_turn.specs.Journal.{Interleaves, ops_of};
+ghost use Rattle.flt_turn.specs.Seats.{IsSeatOf, main_seat, split_off, split_seat, joined_seat};
+
+use crate::job::{Job, QueueOp, QueueReply};
+use crate::queue::JobQueue;
+use flt_turn::{Answer, HistoryFull, MachineBack, Seat, Turn, Vault};
+use std::alloc::Global;
+use std::sync::Wait;
+
+/// The right to call a locked queue.
+pub type QueueSeat = Seat<JobQueue>;
+
+/// What a call was told, or that no call was left to its seat.
+pub type QueueAnswer = Result<Answer<QueueReply>, HistoryFull<QueueOp>>;
+
+/// The queue for many lanes.
+#[derive(Drop)]
+pub struct QueueLock {
+    pub turn: Turn<JobQueue>,
+}
+
+impl QueueLock {
+    /// A lock over a queue of this many blocks, at most 40, and its main seat, to which all calls are left. The lock takes `room`
+    /// calls in all: their entries in the journal are reserved here, and no later call takes memory.
+    ///
+    /// The error means that there was no memory. The queue comes back, and took no call.
+    pub fn make(
+        alloc: Global,
+        blocks: u8,
+        room: u32,
+    ) -> Result<(QueueLock, QueueSeat), MachineBack<JobQueue>>
+        requires { blocks ≤ 40 }
+        ensures ok { IfOk result (λ made. made.1 ≡ main_seat made.0.turn blocks room) }
+        ensures lock { IfOk result (λ made. IsSeatOf made.0.turn made.1) }
+        ensures err { IfErr result (λ back. Stands blocks [] back.machine) }
+    {
+        let queue = JobQueue::new(blocks);
+        match Turn::make(alloc, queue, room) {
+            Ok((turn, seat)) => Ok((QueueLock { turn }, seat)),
+            Err(back) => Err(back),
+        }
+    }
+
+    /// Makes a call when its turn comes.
+    fn call<R: Wait>(&self, rt: &R, seat: &mut QueueSeat, op: QueueOp) -> QueueAnswer
+        requires lock { IsSeatOf self.now.turn seat.old }
+        requires admitted { IsAdmitted seat.old.start op }
+        ensures full { IsErr result ↔ (seat.old.left ≡ 0) }
+        ensures refused { IfErr result (IsRefusal seat.old seat.new op) }
+        ensures call { IfOk result (IsCall seat.old seat.new op) }
+    {
+        self.turn.call(rt, seat, &(), op, &mut ())
+    }
+
+    /// Posts a job, of 1 to 32 bytes for a block of the queue.
+    pub fn post<R: Wait>(&self, rt: &R, seat: &mut QueueSeat, urgent: bool, job: Job) -> QueueAnswer
+        requires lock { IsSeatOf self.now.turn seat.old }
+        requires job { IsJob seat.old.start job }
+        ensures full { IsErr result ↔ (seat.old.left ≡ 0) }
+        ensures refused { IfErr result (IsRefusal seat.old seat.new (ops.Post urgent job)) }
+        ensures call { IfOk result (IsCall seat.old seat.new (ops.Post urgent job)) }
+    {
+        self.call(rt, seat, QueueOp::Post { urgent, job })
+    }
+
+    /// Takes the next job, which is one of 1 to 32 bytes for a block of the queue.
+    pub fn take<R: Wait>(&self, rt: &R, seat: &mut QueueSeat) -> QueueAnswer
+        requires lock { IsSeatOf self.now.turn seat.old }
+        ensures full { IsErr result ↔ (seat.old.left ≡ 0) }
+        ensures refused { IfErr result (IsRefusal seat.old seat.new ops.Take) }
+        ensures call { IfOk result (IsCall seat.old seat.new ops.Take) }
+        ensures job { IfOk result (λ told. IsFor seat.old.start told.reply) }
+    {
+        self.call(rt, seat, QueueOp::Take)
+    }
+
+    /// Notes what became of the job of a block that was taken.
+    pub fn done<R: Wait>(
+        &self,
+        rt: &R,
+        seat: &mut QueueSeat,
+        block: u8,
+        written: bool,
+    ) -> QueueAnswer
+        requires lock { IsSeatOf self.now.turn seat.old }
+        requires block { block < seat.old.start }
+        ensures full { IsErr result ↔ (seat.old.left ≡ 0) }
+        ensures refused { IfErr result (IsRefusal seat.old seat.new (ops.Done block written)) }
+        ensures call { IfOk result (IsCall seat.old seat.new (ops.Done block written)) }
+    {
+        self.call(rt, seat, QueueOp::Done { block, written })
+    }
+
+    /// Asks a block for its last result.
+    pub fn ask<R: Wait>(&self, rt: &R, seat: &mut QueueSeat, block: u8) -> QueueAnswer
+        requires lock { IsSeatOf self.now.turn seat.old }
+        requires block { block < seat.old.start }
+        ensures full { IsErr result ↔ (seat.old.left ≡ 0) }
+        ensures refused { IfErr result (IsRefusal seat.old seat.new (ops.Ask block)) }
+        ensures call { IfOk result (IsCall seat.old seat.new (ops.Ask block)) }
+    {
+        self.call(rt, seat, QueueOp::Ask { block })
+    }
+
+    /// Splits a seat from the main seat, with this many of its calls.
+    pub fn split(&self, main: &mut QueueSeat, calls: u32) -> QueueSeat
+        requires lock { IsSeatOf self.now.turn main.old }
+        requires main { main.old.number ≡ 0 }
+        requires calls { calls ≤ main.old.left }
+        requires children { main.old.children + 1 < 2 ^ 32 }
+        ensures main { main.new ≡ split_off calls main.old }
+        ensures seat { result ≡ split_seat calls main.old }
+    {
+        self.turn.split(main, calls)
+    }
+
+    /// Takes a seat back into the main seat, with the calls that are left to it and all that it knows.
+    pub fn join(&self, main: &mut QueueSeat, other: QueueSeat)
+        requires lock { IsSeatOf self.now.turn main.old × IsSeatOf self.now.turn other }
+        requires main { main.old.number ≡ 0 }
+        ensures { main.new ≡ joined_seat main.old other }
+    {
+        self.turn.join(main, other)
+    }
+
+    /// Ends the lock, once each seat that was split from the main seat was joined. The queue comes back with the whole journal,
+    /// which has the calls of all seats and no others.
+    pub fn close(self, main: QueueSeat) -> Vault<JobQueue>
+        requires lock { IsSeatOf self.turn main }
+        requires main { main.number ≡ 0 }
+        requires whole { length main.ended ≡ main.children }
+        ensures seen { IsPrefix main.seen result.journal.items }
+        ensures olds { All (λ old. IsPrefix old result.journal.items) main.olds }
+        ensures calls { Interleaves result.journal.items ((main.number, main.mine) ∷ main.ended) }
+        ensures admitted { All (λ entry. IsAdmitted main.start entry.op) result.journal.items }
+        ensures stands { ∥ Stands main.start (reverse (ops_of result.journal.items)) result.machine ∥₁ }
+    {
+        let QueueLock { turn } = self;
+        turn.close(main)
+    }
+}

@@ -1,0 +1,74 @@
+// The queue by hand.
+ghost use Rattle.std.specs.Prelude.{◌≡◌, ◌<◌, length};
+
+use crate::{Job, JobQueue, LastResult, QueueOp, QueueReply};
+use arrayvec::ArrayVec;
+use std::test::*;
+
+fn job(block: u8, byte: u8) -> Job
+    ensures block { result.block ≡ block }
+    ensures bytes { length result.bytes.items ≡ 1 }
+{
+    let mut bytes = ArrayVec::new();
+    bytes.push(byte);
+    Job { block, bytes }
+}
+
+fn post(queue: &mut JobQueue, urgent: bool, block: u8) -> QueueReply
+    requires { block < queue.old.blocks }
+    ensures { queue.new.blocks ≡ queue.old.blocks }
+{
+    queue.apply(&QueueOp::Post {
+        urgent,
+        job: job(block, 1),
+    })
+}
+
+fn done(queue: &mut JobQueue, block: u8) -> QueueReply
+    requires { block < queue.old.blocks }
+    ensures { queue.new.blocks ≡ queue.old.blocks }
+{
+    queue.apply(&QueueOp::Done {
+        block,
+        written: true,
+    })
+}
+
+fn ask(queue: &mut JobQueue, block: u8) -> QueueReply
+    requires { block < queue.old.blocks }
+    ensures { queue.new.blocks ≡ queue.old.blocks }
+{
+    queue.apply(&QueueOp::Ask { block })
+}
+
+// 32 jobs wait, and not one more; each is taken once, in order, and done.
+#[test]
+fn forty_blocks(rt: HostRuntime) -> Result<(), Fail> {
+    let mut queue = JobQueue::new(40);
+    for block in 0..32u8 {
+        assert_eq!(rt; post(&mut queue, false, block), QueueReply::Accepted);
+    }
+    assert_eq!(rt; post(&mut queue, false, 32), QueueReply::QueueFull);
+    assert_eq!(rt; post(&mut queue, false, 0), QueueReply::BlockPending);
+    assert_eq!(rt; ask(&mut queue, 0), QueueReply::Last(LastResult::Pending));
+    assert_eq!(rt; done(&mut queue, 0), QueueReply::NotTaken);
+    for block in 0..32u8 {
+        assert_eq!(rt; queue.apply(&QueueOp::Take), QueueReply::Job(job(block, 1)));
+        assert_eq!(rt; done(&mut queue, block), QueueReply::Noted);
+    }
+    assert_eq!(rt; queue.apply(&QueueOp::Take), QueueReply::NoJob);
+    assert_eq!(rt; ask(&mut queue, 0), QueueReply::Last(LastResult::Written));
+    assert_eq!(rt; ask(&mut queue, 32), QueueReply::Last(LastResult::Never));
+    Ok(())
+}
+
+// An urgent job is taken before a standard one that was posted earlier.
+#[test]
+fn urgent_first(rt: HostRuntime) -> Result<(), Fail> {
+    let mut queue = JobQueue::new(40);
+    assert_eq!(rt; post(&mut queue, false, 0), QueueReply::Accepted);
+    assert_eq!(rt; post(&mut queue, true, 1), QueueReply::Accepted);
+    assert_eq!(rt; queue.apply(&QueueOp::Take), QueueReply::Job(job(1, 1)));
+    assert_eq!(rt; queue.apply(&QueueOp::Take), QueueReply::Job(job(0, 1)));
+    Ok(())
+}

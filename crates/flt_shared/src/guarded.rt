@@ -1,0 +1,50 @@
+//! What lies under the lock.
+ghost use Rattle.std.specs.Prelude.{reverse};
+ghost use Rattle.flt_model.specs.Answer.{answer};
+ghost use Rattle.flt_did.specs.Serves.{Serves};
+ghost use Rattle.flt_did.specs.Table.{dids_of};
+ghost use Rattle.flt_dcm.specs.Unit.{Stands, IsAdmitted, written};
+ghost use Rattle.flt_shared.specs.Start.{some_start, start_of};
+
+use flt_config::Persist;
+use flt_dcm::{DemStart, Op, Reply, UnitState};
+use flt_did::{DID_ROWS, DidTable};
+use flt_turn::{Machine, Step};
+
+/// The status machine without the functions of its table, which are lent to each of its steps.
+#[derive(Drop)]
+pub struct Guarded {
+    pub(crate) state: UnitState,
+}
+
+impl Machine for Guarded {
+    type Start = DemStart;
+
+    type Op = Op;
+
+    type Reply = Reply;
+
+    type Out = Persist;
+
+    ghost some_start = { some_start };
+
+    ghost start = { λ guarded. start_of guarded.state };
+
+    ghost admits = { λ start op. IsAdmitted start.config op };
+
+    ghost stands_for = { λ guarded start ops. Stands start (reverse ops) guarded.state };
+
+    ghost answer = { λ start ops op. answer start (reverse ops) op };
+
+    ghost written = { λ start ops op out. written start (reverse ops) op out };
+}
+
+impl Step for Guarded {
+    type Context = DidTable<DID_ROWS>;
+
+    ghost serves = { λ dids start. Serves (dids_of dids) start.config.events.items };
+
+    fn step(&mut self, dids: &DidTable<DID_ROWS>, op: &Op, out: &mut Persist) -> Reply {
+        self.state.apply(dids, op, out)
+    }
+}

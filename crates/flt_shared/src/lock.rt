@@ -1,0 +1,261 @@
+//! The lock, and its calls.
+ghost use Rattle.std.specs.Prelude.{◌≡◌, ◌<◌, ◌≤◌, ◌+◌, ◌^◌, ◌∷◌, [], IfOk, IfErr, IsErr, OnErr, All, length, reverse};
+ghost use mathlib.Core.Logic.{◌↔◌};
+ghost use mathlib.Core.List.{IsPrefix};
+ghost use Rattle.std.proofs.Props.{props};
+ghost use Rattle.flt_model.specs.Durable.{saved_after};
+ghost use Rattle.flt_model.specs.declared.call.Op.TheVariants as ops;
+ghost use Rattle.flt_did.specs.Serves.{Serves};
+ghost use Rattle.flt_did.specs.Table.{dids_of};
+ghost use Rattle.flt_dcm.specs.Unit.{IsAdmitted, Stands, written};
+ghost use Rattle.flt_turn.specs.Journal.{Interleaves, ops_of};
+ghost use Rattle.flt_turn.specs.Seats.{main_seat, split_off, split_seat, joined_seat};
+ghost use Rattle.flt_shared.specs.Call.{IsCall, IsRefusal, ShowsStandard, past};
+ghost use Rattle.flt_shared.specs.Start.{start_of};
+
+use crate::guarded::Guarded;
+use arrayvec::ArrayVec;
+use flt_config::{Config, Persist};
+use flt_dcm::{Op, Reply, Unit};
+use flt_did::{DID_ROWS, DidTable};
+use flt_model::{REQUEST, Report};
+use flt_turn::{Answer, Entry, HistoryFull, MachineBack, Seat, Turn, Vault};
+use std::alloc::Global;
+use std::snapshot::Snapshot;
+use std::sync::Wait;
+
+/// The right to call a locked status machine.
+pub type DemSeat = Seat<Guarded>;
+
+/// What a call was told, or that no call was left to its seat.
+pub type DemAnswer = Result<Answer<Reply>, HistoryFull<Op>>;
+
+/// What a lock leaves when it ends.
+#[derive(Drop)]
+pub struct DemEnd {
+    /// All calls in their order, each with the number of its seat.
+    pub journal: Vec<Entry<Op>>,
+    pub unit: Unit,
+}
+
+/// The status machine for many lanes: its state is under the lock, and its table of data identifiers stands beside it.
+#[derive(Drop)]
+pub struct DemLock {
+    pub turn: Turn<Guarded>,
+    pub dids: DidTable<DID_ROWS>,
+    pub config: Snapshot<Config>,
+    ghost served: { Serves (dids_of dids) config.value.events.items } by { Prim.hlevel props },
+}
+
+/// A durable state of nothing, which a call without a buffer lends.
+fn nothing() -> Persist {
+    Persist {
+        events: ArrayVec::new(),
+        entries: ArrayVec::new(),
+        overflow: false,
+        first_failed: None,
+        first_confirmed: None,
+        recent_failed: None,
+        recent_confirmed: None,
+    }
+}
+
+/// A copy of the bytes of a request, which takes no memory.
+fn copy_of(bytes: &ArrayVec<u8, REQUEST>) -> ArrayVec<u8, REQUEST>
+    ensures { result ≡ bytes.now }
+{
+    bytes.clone().unwrap()
+}
+
+impl DemLock {
+    ghost use Rattle.flt_dcm.specs.Whole.{state_of, table_of};
+    ghost use Rattle.flt_shared.specs.Lock.{IsSeatOf};
+
+    /// A lock over a unit that was started and took no call since, and its main seat, to which all calls are left. The lock takes
+    /// `room` calls in all: their entries in the journal are reserved here, and no later call takes memory.
+    ///
+    /// `MachineBack` means that there was no memory. The unit comes back as it was.
+    pub fn make(
+        alloc: Global,
+        unit: Unit,
+        room: u32,
+    ) -> Result<(DemLock, DemSeat), MachineBack<Unit>>
+        requires { Stands (start_of (state_of unit)) [] (state_of unit) }
+        ensures ok { IfOk result (λ made. made.1 ≡ main_seat made.0.turn (start_of (state_of unit)) room) }
+        ensures lock { IfOk result (λ made. IsSeatOf made.0 made.1) }
+        ensures err { IfErr result (λ back. (state_of back.machine ≡ state_of unit) × (table_of back.machine ≡ table_of unit)) }
+    {
+        let Unit { state, dids, .. } = unit;
+        let config = Snapshot::of(state.config().config());
+        match Turn::make(alloc, Guarded { state }, room) {
+            Ok((turn, seat)) => Ok((DemLock { turn, dids, config }, seat)),
+            Err(MachineBack { machine }) => {
+                let Guarded { state } = machine;
+                Err(MachineBack {
+                    machine: Unit { state, dids },
+                })
+            }
+        }
+    }
+
+    /// Makes a call when its turn comes. A snapshot writes the durable state to `out`; nothing else writes it.
+    fn call<R: Wait>(&self, rt: &R, seat: &mut DemSeat, op: Op, out: &mut Persist) -> DemAnswer
+        requires lock { IsSeatOf self.now seat.old }
+        requires admitted { IsAdmitted seat.old.start.config op }
+        ensures full { IsErr result ↔ (seat.old.left ≡ 0) }
+        ensures refused { IfErr result (IsRefusal seat.old seat.new op) }
+        ensures kept { OnErr result (out.new ≡ out.old) }
+        ensures call { IfOk result (IsCall seat.old seat.new op) }
+        ensures written { IfOk result (λ told. out.new ≡ written seat.old.start (past told.place seat.new.seen) op out.old) }
+    {
+        self.turn.call(rt, seat, &self.dids, op, out)
+    }
+
+    /// Sets a signal, of the number 0 to 7.
+    pub fn signal<R: Wait>(&self, rt: &R, seat: &mut DemSeat, index: u8, value: u16) -> DemAnswer
+        requires lock { IsSeatOf self.now seat.old }
+        requires signal { index < 8 }
+        ensures full { IsErr result ↔ (seat.old.left ≡ 0) }
+        ensures refused { IfErr result (IsRefusal seat.old seat.new (ops.Signal index value)) }
+        ensures call { IfOk result (IsCall seat.old seat.new (ops.Signal index value)) }
+    {
+        self.call(rt, seat, Op::Signal { index, value }, &mut nothing())
+    }
+
+    /// Reports an event's result.
+    pub fn report<R: Wait>(
+        &self,
+        rt: &R,
+        seat: &mut DemSeat,
+        event: u16,
+        report: Report,
+    ) -> DemAnswer
+        requires lock { IsSeatOf self.now seat.old }
+        requires event { event < length seat.old.start.config.events.items }
+        ensures full { IsErr result ↔ (seat.old.left ≡ 0) }
+        ensures refused { IfErr result (IsRefusal seat.old seat.new (ops.Report event report)) }
+        ensures call { IfOk result (IsCall seat.old seat.new (ops.Report event report)) }
+    {
+        self.call(rt, seat, Op::Report { event, report }, &mut nothing())
+    }
+
+    /// Lets ticks of 10 ms go by.
+    pub fn tick<R: Wait>(&self, rt: &R, seat: &mut DemSeat, ticks: u16) -> DemAnswer
+        requires lock { IsSeatOf self.now seat.old }
+        ensures full { IsErr result ↔ (seat.old.left ≡ 0) }
+        ensures refused { IfErr result (IsRefusal seat.old seat.new (ops.Tick ticks)) }
+        ensures call { IfOk result (IsCall seat.old seat.new (ops.Tick ticks)) }
+    {
+        self.call(rt, seat, Op::Tick { ticks }, &mut nothing())
+    }
+
+    /// Ends an operation cycle, of the number 0 to 3, and starts the next.
+    pub fn cycle<R: Wait>(&self, rt: &R, seat: &mut DemSeat, cycle: u8) -> DemAnswer
+        requires lock { IsSeatOf self.now seat.old }
+        requires cycle { cycle < 4 }
+        ensures full { IsErr result ↔ (seat.old.left ≡ 0) }
+        ensures refused { IfErr result (IsRefusal seat.old seat.new (ops.Cycle cycle)) }
+        ensures call { IfOk result (IsCall seat.old seat.new (ops.Cycle cycle)) }
+    {
+        self.call(rt, seat, Op::Cycle { cycle }, &mut nothing())
+    }
+
+    /// Sends a request of a tester, of the number 0 to 3.
+    pub fn request<R: Wait>(
+        &self,
+        rt: &R,
+        seat: &mut DemSeat,
+        tester: u8,
+        bytes: &ArrayVec<u8, REQUEST>,
+    ) -> DemAnswer
+        requires lock { IsSeatOf self.now seat.old }
+        requires tester { tester < 4 }
+        requires some { 0 < length bytes.now.items }
+        ensures full { IsErr result ↔ (seat.old.left ≡ 0) }
+        ensures refused { IfErr result (IsRefusal seat.old seat.new (ops.Request tester bytes.now)) }
+        ensures call { IfOk result (IsCall seat.old seat.new (ops.Request tester bytes.now)) }
+    {
+        let bytes = copy_of(bytes);
+        self.call(rt, seat, Op::Request { tester, bytes }, &mut nothing())
+    }
+
+    /// Asks for the state of an event.
+    pub fn show<R: Wait>(&self, rt: &R, seat: &mut DemSeat, event: u16) -> DemAnswer
+        requires lock { IsSeatOf self.now seat.old }
+        requires event { event < length seat.old.start.config.events.items }
+        ensures full { IsErr result ↔ (seat.old.left ≡ 0) }
+        ensures refused { IfErr result (IsRefusal seat.old seat.new (ops.Show event)) }
+        ensures call { IfOk result (IsCall seat.old seat.new (ops.Show event)) }
+        ensures standard { IfOk result (λ told. ShowsStandard seat.old.start (past told.place seat.new.seen) event told.reply) }
+    {
+        self.call(rt, seat, Op::Show { event }, &mut nothing())
+    }
+
+    /// Writes the durable state to `out`.
+    pub fn snapshot<R: Wait>(&self, rt: &R, seat: &mut DemSeat, out: &mut Persist) -> DemAnswer
+        requires lock { IsSeatOf self.now seat.old }
+        ensures full { IsErr result ↔ (seat.old.left ≡ 0) }
+        ensures refused { IfErr result (IsRefusal seat.old seat.new ops.Snapshot) }
+        ensures kept { OnErr result (out.new ≡ out.old) }
+        ensures call { IfOk result (IsCall seat.old seat.new ops.Snapshot) }
+        ensures state { IfOk result (λ told. out.new ≡ saved_after seat.old.start (past told.place seat.new.seen)) }
+    {
+        self.call(rt, seat, Op::Snapshot, out)
+    }
+
+    /// Notes that a durable state was saved under this number.
+    pub fn saved<R: Wait>(&self, rt: &R, seat: &mut DemSeat, generation: u32) -> DemAnswer
+        requires lock { IsSeatOf self.now seat.old }
+        ensures full { IsErr result ↔ (seat.old.left ≡ 0) }
+        ensures refused { IfErr result (IsRefusal seat.old seat.new (ops.Saved generation)) }
+        ensures call { IfOk result (IsCall seat.old seat.new (ops.Saved generation)) }
+    {
+        self.call(rt, seat, Op::Saved { generation }, &mut nothing())
+    }
+
+    /// Splits a seat from the main seat, with this many of its calls.
+    pub fn split(&self, main: &mut DemSeat, calls: u32) -> DemSeat
+        requires lock { IsSeatOf self.now main.old }
+        requires main { main.old.number ≡ 0 }
+        requires calls { calls ≤ main.old.left }
+        requires children { main.old.children + 1 < 2 ^ 32 }
+        ensures main { main.new ≡ split_off calls main.old }
+        ensures seat { result ≡ split_seat calls main.old }
+    {
+        self.turn.split(main, calls)
+    }
+
+    /// Takes a seat back into the main seat, with the calls that are left to it and all that it knows.
+    pub fn join(&self, main: &mut DemSeat, other: DemSeat)
+        requires lock { IsSeatOf self.now main.old × IsSeatOf self.now other }
+        requires main { main.old.number ≡ 0 }
+        ensures { main.new ≡ joined_seat main.old other }
+    {
+        self.turn.join(main, other)
+    }
+
+    /// Ends the lock, once each seat that was split from the main seat was joined. The unit comes back with the whole journal, which
+    /// has the calls of all seats and no others.
+    pub fn close(self, main: DemSeat) -> DemEnd
+        requires lock { IsSeatOf self main }
+        requires main { main.number ≡ 0 }
+        requires whole { length main.ended ≡ main.children }
+        ensures seen { IsPrefix main.seen result.journal.items }
+        ensures olds { All (λ old. IsPrefix old result.journal.items) main.olds }
+        ensures calls { Interleaves result.journal.items ((main.number, main.mine) ∷ main.ended) }
+        ensures admitted { All (λ entry. IsAdmitted main.start.config entry.op) result.journal.items }
+        ensures start { start_of (state_of result.unit) ≡ main.start }
+        ensures dids { table_of result.unit ≡ dids_of self.dids }
+        ensures stands { ∥ Stands main.start (reverse (ops_of result.journal.items)) (state_of result.unit) ∥₁ }
+    {
+        let DemLock {
+            turn,
+            dids,
+            config: _,
+        } = self;
+        let Vault { journal, machine } = turn.close(main);
+        let Guarded { state } = machine;
+        let unit = Unit { state, dids };
+        DemEnd { journal, unit }
+    }
+}

@@ -1,0 +1,17 @@
+-- What a save leaves where it was.
+use Rattle.std.specs.Prelude.{◌≡◌, ℕ, List, Some}
+use Rattle.flt_flash.specs.Content.{Content, bytes}
+use Rattle.flt_config.specs.declared.config.Config.{Config}
+use Rattle.flt_config.specs.declared.persist.Persist.{Persist}
+use Rattle.flt_generation.specs.declared.commit.Commit.{Commit}
+use Rattle.flt_generation.specs.Layout.{first_commit}
+use Rattle.flt_generation.specs.Reading.{commit_in}
+use Rattle.flt_generation.specs.Successor.{KeepsIndices}
+
+-- the commit that is read from the first copy
+abbrev pub HasCommit : Config → (ℕ → Content) → Commit → Type 0
+HasCommit c value commit = (raw : List ℕ) × (value first_commit ≡ bytes raw) × (commit_in c raw ≡ Some commit)
+
+-- the commit after a save names each used block whose bytes stayed at the index at which the commit before it did
+abbrev pub KeepsPlaces : Config → Persist → Persist → (ℕ → Content) → (ℕ → Content) → Type 0
+KeepsPlaces c old new before after = (current next : Commit) → HasCommit c before current → HasCommit c after next → KeepsIndices c old new current next
