@@ -26,7 +26,8 @@ use Rattle.flt_record.proofs.Copying.{other_stays}
 use Rattle.flt_record.proofs.Counting.{unnumbered}
 use Rattle.flt_record.proofs.LogOn.{end_least, blank_behind}
 use Rattle.flt_record.proofs.Recording.{on_sector, pages_on}
-use Rattle.flt_fee.specs.Switch.{IsNext, below, KeepsGates, CopiesBlock, CopiesBlocks, Replaces}
+use Rattle.flt_pages.specs.Next.{IsNext}
+use Rattle.flt_fee.specs.Switch.{below, KeepsGates, CopiesBlock, CopiesBlocks, Replaces}
 use Rattle.flt_fee.proofs.CopyingBlock.{same_kept}
 
 -- sums of the pages of what is copied

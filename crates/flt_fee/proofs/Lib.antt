@@ -6,7 +6,6 @@ pub mod Mounting
 pub mod Beginning
 pub mod SettingUp
 pub mod Formatting
-pub mod Nearest
 pub mod CopyingBlock
 pub mod CopyingBlocks
 pub mod Switching

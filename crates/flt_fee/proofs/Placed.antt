@@ -1,8 +1,10 @@
 -- The table of places of a driver.
-use Rattle.std.proofs.Common.{◌≡◌, ◌≢◌, ◌+◌, ◌<◌, ◌≤◌, ℕ, Bool, true, false, List, get_or, length, Option, Some, None, Ok, refl, sym, ap, subst, arith}
+use Rattle.std.proofs.Common.{◌≡◌, ◌≢◌, ◌+◌, ◌<◌, ◌≤◌, ℕ, Bool, true, false, List, get_or, length, Option, Some, None, Ok, refl, sym, ap, ◌∙◌, subst, arith}
 use Rattle.std.specs.Prelude.{◌==◌, ◌&&◌, if◌then◌else◌, sum_by}
 use Rattle.std.specs.List.{AllPairs}
-use Rattle.flt_flash.specs.Image.{sector_at}
+use Rattle.flt_flash.specs.Image.{sector_at, ArePages}
+use Rattle.flt_flash.specs.Calls.{found_of}
+use Rattle.flt_flash.specs.declared.blocks.Found.TheVariants.{Bytes}
 use Rattle.flt_flash.specs.Content.{Content}
 use Rattle.flt_flash.specs.Blocks.{byte_pages, live_pages}
 use Rattle.flt_flash.specs.State.{FlashState, HasShape}
@@ -12,9 +14,10 @@ use Rattle.flt_sector.specs.Blocks.{current, block_value, value_by}
 use Rattle.flt_record.specs.declared.place.Place.{Place}
 use Rattle.flt_record.specs.Holds.{asked_of, given}
 use Rattle.flt_record.specs.Live.{held_in}
-use Rattle.flt_record.specs.Place.{IsAt, IsPlaceOf, Tells, pages_found}
+use Rattle.flt_record.specs.Place.{IsAt, IsPlaceOf, Tells, bytes_at, pages_found, record_at}
 use Rattle.flt_record.specs.Recorded.{Records}
 use Rattle.flt_record.proofs.LogOn.{end_least}
+use Rattle.flt_record.proofs.PageBytes.{bytes_size}
 use Rattle.flt_record.proofs.Recording.{pages_on}
 use Rattle.flt_record.proofs.Telling.{farther_at, tells_more, told_place, live_told}
 use Rattle.flt_fee.specs.Fee.{state_by}
@@ -79,3 +82,9 @@ module _ (used : ℕ) (numbers : List ℕ) (before after : FlashState) (shape : 
     where
       begun : 2 ≤ end
       begun = end_least used numbers (sector_at before.image sector) (sector_at before.image sector) stands.holds.entries end begins stands.holds.is (λ k low lt. refl)
+
+-- what is found of a valid record at its place is as many bytes as its head says
+pub valid_found : (pages : List (List ℕ)) (end : ℕ) (content : Content) (place : Place) → ArePages pages → end ≤ length pages → place.valid ≡ true → IsAt pages end content (Some place) → Bytes place.length ≡ found_of content
+valid_found pages end content place sizes most valid at =
+    let size : length (bytes_at pages place) ≡ place.length = bytes_size pages sizes (record_at 0 place) (omega (arith, at.inside.within.below)) in
+    ap Bytes (sym size) ∙ sym (ap found_of at.holds ∙ ap (λ v. found_of (asked_of v (bytes_at pages place))) valid)

@@ -39,4 +39,4 @@ state_by used numbers is_stale has_mounted flash = record {
 
 -- the driver as the layers above see it
 abbrev pub state_of : {F : Type 0} {g : _} → (F → FlashState) → Fee F g → BlocksState
-state_of state fee = state_by fee.used fee.numbers.items fee.is_stale fee.has_mounted (state fee.flash)
+state_of state fee = state_by fee.used fee.numbers fee.is_stale fee.has_mounted (state fee.flash)

@@ -13,11 +13,6 @@ use Rattle.flt_record.specs.Record.{KeptApart}
 use Rattle.flt_record.specs.Recorded.{OnSector}
 use Rattle.flt_fee.specs.Mounted.{Stands}
 
--- the least of the numbers from one on, if there is one
-pub record IsNext (from : ℕ) (numbers : List ℕ) (next : Option ℕ) : Type 0 where
-  pub found : IfSome next (λ number. Contains numbers number × (from ≤ number) × ((k : ℕ) → k < length numbers → from ≤ slice_index numbers k → number ≤ slice_index numbers k))
-  pub none : IfNone next ((k : ℕ) → k < length numbers → slice_index numbers k < from)
-
 -- the blocks of numbers below one hold what they hold, and the others nothing yet
 abbrev pub below : ℕ → (ℕ → Content) → ℕ → Content
 below from value block = if nat_lt block from then value block else missing
@@ -51,11 +46,6 @@ pub record Keeps (used : ℕ) (numbers : List ℕ) (image : List (List (List ℕ
   pub sequence : ℕ
   pub end : ℕ
   pub stands : Stands used numbers image sector sequence end value
-
--- the lesser of a number and one found earlier, where it is not below `from`
-abbrev pub nearest : ℕ → Option ℕ → ℕ → Option ℕ
-nearest from None number = if nat_le from number then Some number else None
-nearest from (Some least) number = if nat_le from number then Some (min least number) else Some least
 
 -- the table after a record was copied: the place of its block is that of the copy, in the log that ends here, and no other place moved
 pub record Replaces (numbers : List ℕ) (pages : List (List ℕ)) (before after : List (Option Place)) (number end : ℕ) (content : Content) : Type 0 where

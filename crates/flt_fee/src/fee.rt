@@ -5,7 +5,7 @@ ghost use Rattle.std.proofs.Props.{props};
 ghost use Rattle.flt_flash.specs.Content.{invalid, bytes as holding, size_of};
 ghost use Rattle.flt_flash.specs.Image.{sector_at};
 ghost use Rattle.flt_flash.specs.Blocks.{byte_pages, record_pages, live_pages, IsFull};
-ghost use Rattle.flt_flash.specs.Calls.{Calls, Changes, Costs, CostsAtMost, Finds, NoFault, NeverFull, SameValues, Settles};
+ghost use Rattle.flt_flash.specs.Calls.{Calls, Changes, Costs, Finds, NoFault, NeverFull, ReadCosts, SameImage, SameValues, Settles};
 ghost use Rattle.flt_flash.specs.declared.blocks.BlockFault.TheVariants.{Full, SequenceSpent};
 ghost use Rattle.flt_code.specs.Word.{is_length};
 ghost use Rattle.flt_sector.specs.Blocks.{current, block_value};
@@ -21,7 +21,7 @@ use crate::place::{CurrentSector, current_sector};
 use crate::set_up::set_up_flash;
 use crate::switch::switch_sectors;
 use flt_flash::{Arm, Bench, BlockFault, Blocks, Flash, FlashFailed, Found, Refused};
-use flt_pages::PageFault;
+use flt_pages::{Numbers, PageFault};
 use flt_record::{
     Place, append_record, byte_pages, find_places, forget, live_pages, note, place_of, read_record,
 };
@@ -38,6 +38,19 @@ fn no_places(alloc: Global, many: usize) -> Result<Vec<Option<Place>>, AllocErro
     Ok(places)
 }
 
+// The block numbers with their index, and a table of as many blocks without records.
+fn tables(
+    alloc: Global,
+    numbers: Vec<u16>,
+) -> Result<(Numbers, Vec<Option<Place>>), AllocError>
+    ensures numbers { IfOk result (λ made. made.0 ≡ numbers.items) }
+    ensures places { IfOk result (λ made. length made.1.items ≡ length numbers.items) }
+{
+    let numbers = Numbers::make(alloc, numbers)?;
+    let places = no_places(alloc, numbers.len())?;
+    Ok((numbers, places))
+}
+
 /// Blocks of 1 to 128 bytes in the records of two sectors, of which it uses the first `used` pages each.
 ///
 /// It keeps the current sector, its sequence number, the page where its log ends, and the place of each block's current
@@ -48,7 +61,7 @@ fn no_places(alloc: Global, many: usize) -> Result<Vec<Option<Place>>, AllocErro
 pub struct Fee<F: Flash> {
     flash: F,
     used: u16,
-    numbers: Vec<u16>,
+    numbers: Numbers,
     is_stale: bool,
     has_mounted: bool,
     sector: u8,
@@ -58,10 +71,10 @@ pub struct Fee<F: Flash> {
     ghost within: { used ≤ (F.state flash).pages },
     ghost least: { 4 ≤ used },
     ghost sectors: { sector < 2 },
-    ghost distinct: { AllPairs (λ a b. a ≢ b) numbers.items },
-    ghost sized: { length places.items ≡ length numbers.items },
-    ghost mounted: { IsMounted is_stale has_mounted used numbers.items (F.state flash).image sector sequence end },
-    ghost table: { IsFalse is_stale → Tells numbers.items places.items (sector_at (F.state flash).image sector) end (block_value used numbers.items (F.state flash).image) } by { Prim.hlevel props },
+    ghost distinct: { AllPairs (λ a b. a ≢ b) numbers },
+    ghost sized: { length places.items ≡ length numbers },
+    ghost mounted: { IsMounted is_stale has_mounted used numbers (F.state flash).image sector sequence end },
+    ghost table: { IsFalse is_stale → Tells numbers places.items (sector_at (F.state flash).image sector) end (block_value used numbers (F.state flash).image) } by { Prim.hlevel props },
 }
 
 impl<F: Flash> Fee<F> {
@@ -287,7 +300,7 @@ impl<F: Flash> Fee<F> {
         ensures calls { Calls (state_of F.state self.old) (state_of F.state self.new) result }
         ensures stale { Settles result (state_of F.state self.new) }
         ensures answers { AnswersBy (refusal (state_of F.state self.old) block (length bytes.now)) result }
-        ensures stores { IsFalse (state_of F.state self.old).is_stale → NoFault (state_of F.state self.old) (state_of F.state self.new) → StoreCosts (is_past self.old.used self.old.numbers.items (F.state self.old.flash).image (length bytes.now) (current self.old.used (F.state self.old.flash).image)) (state_of F.state self.old) (state_of F.state self.new) (length bytes.now) }
+        ensures stores { IsFalse (state_of F.state self.old).is_stale → NoFault (state_of F.state self.old) (state_of F.state self.new) → StoreCosts (is_past self.old.used self.old.numbers (F.state self.old.flash).image (length bytes.now) (current self.old.used (F.state self.old.flash).image)) (state_of F.state self.old) (state_of F.state self.new) (length bytes.now) }
         ensures costs { Costs (state_of F.state self.old) (state_of F.state self.new) (length bytes.now) }
         ensures even { UnlessFlash result (StaysEven self.old.used (F.state self.old.flash) (F.state self.new.flash)) }
     {
@@ -316,6 +329,7 @@ impl<F: Flash> Fee<F> {
         ensures calls { Calls (state_of F.state self.old) (state_of F.state self.new) result }
         ensures never_full { NeverFull result }
         ensures stale { IsFalse (state_of F.state self.new).is_stale }
+        ensures image { SameImage (state_of F.state self.old) (state_of F.state self.new) }
         ensures spends { OnOk result (Spends (byte_pages (size_of ((state_of F.state self.old).value block))) (F.state self.old.flash) (F.state self.new.flash)) }
         ensures even { StaysEven self.old.used (F.state self.old.flash) (F.state self.new.flash) }
     {
@@ -335,6 +349,7 @@ impl<F: Flash> Fee<F> {
         ensures calls { Calls (state_of F.state self.old) (state_of F.state self.new) result }
         ensures never_full { NeverFull result }
         ensures stale { IsFalse (state_of F.state self.new).is_stale }
+        ensures image { SameImage (state_of F.state self.old) (state_of F.state self.new) }
         ensures spends { OnOk result (Spends (byte_pages (size_of (asked_of place.valid (bytes_at (sector_at (F.state self.old.flash).image self.old.sector) place)))) (F.state self.old.flash) (F.state self.new.flash)) }
         ensures even { StaysEven self.old.used (F.state self.old.flash) (F.state self.new.flash) }
     {
@@ -358,9 +373,9 @@ impl<F: Flash> Fee<F> {
         ensures numbers { IfOk result (λ fee. (state_of F.state fee).numbers ≡ numbers.items) }
         ensures refused { IfErr result (λ refused. refused.device ≡ flash) }
     {
-        match no_places(alloc, numbers.len()) {
+        match tables(alloc, numbers) {
             Err(AllocError) => Err(Refused { device: flash }),
-            Ok(places) => Ok(Fee {
+            Ok((numbers, places)) => Ok(Fee {
                 flash,
                 used,
                 numbers,
@@ -395,7 +410,7 @@ impl<F: Bench> Blocks for Fee<F> {
 
     ghost mounted_is_sound = { λ driver. driver.mounted.undamaged };
 
-    ghost bytes_are_short = { λ driver block. value_is_short driver.used driver.numbers.items (F.state driver.flash).image block };
+    ghost bytes_are_short = { λ driver block. value_is_short driver.used driver.numbers (F.state driver.flash).image block };
 
     fn mount(&mut self) -> Result<(), BlockFault>
         ensures values { SameValues (state_of F.state self.old) (state_of F.state self.new) }
@@ -419,7 +434,7 @@ impl<F: Bench> Blocks for Fee<F> {
         ensures costs { Costs (state_of F.state self.old) (state_of F.state self.new) (length bytes.now) }
 
         // It costs the pages of its record where that fits behind the log, and else a switch of the sectors with one erase too.
-        ensures stores { IsFalse (state_of F.state self.old).is_stale → NoFault (state_of F.state self.old) (state_of F.state self.new) → StoreCosts (is_past self.old.used self.old.numbers.items (F.state self.old.flash).image (length bytes.now) (current self.old.used (F.state self.old.flash).image)) (state_of F.state self.old) (state_of F.state self.new) (length bytes.now) }
+        ensures stores { IsFalse (state_of F.state self.old).is_stale → NoFault (state_of F.state self.old) (state_of F.state self.new) → StoreCosts (is_past self.old.used self.old.numbers (F.state self.old.flash).image (length bytes.now) (current self.old.used (F.state self.old.flash).image)) (state_of F.state self.old) (state_of F.state self.new) (length bytes.now) }
 
         // It is refused exactly where there is no room for it, or else no sequence number for a switch.
         ensures answers { AnswersBy (refusal (state_of F.state self.old) block (length bytes.now)) result }
@@ -440,8 +455,9 @@ impl<F: Bench> Blocks for Fee<F> {
         ensures settled { OnOk result (IsFalse (state_of F.state self.new).is_stale) }
         ensures stale { IsFalse (state_of F.state self.old).is_stale → IsFalse (state_of F.state self.new).is_stale }
 
-        // A driver that is not stale looks at no log: it reads the pages of the record's bytes alone.
-        ensures costs { IsFalse (state_of F.state self.old).is_stale → NoFault (state_of F.state self.old) (state_of F.state self.new) → CostsAtMost (byte_pages (size_of ((state_of F.state self.old).value block))) (state_of F.state self.old) (state_of F.state self.new) }
+        // A driver that is not stale looks at no log: it reads the pages of the record's bytes alone, and writes nothing.
+        ensures image { IsFalse (state_of F.state self.old).is_stale → SameImage (state_of F.state self.old) (state_of F.state self.new) }
+        ensures costs { ReadCosts (state_of F.state self.old) (state_of F.state self.new) block }
 
         // The sectors wear evenly.
         ensures even { NoFault (state_of F.state self.old) (state_of F.state self.new) → StaysEven self.old.used (F.state self.old.flash) (F.state self.new.flash) }
@@ -449,6 +465,14 @@ impl<F: Bench> Blocks for Fee<F> {
         match self.settle() {
             Err(fault) => Err(fault),
             Ok(()) => self.find(block, out),
+        }
+    }
+
+    fn look_up(&self, block: u16) -> Found {
+        match self.place(block) {
+            None => Found::Missing,
+            Some(place) if place.valid => Found::Bytes(place.length as usize),
+            Some(_) => Found::Invalid,
         }
     }
 
@@ -460,7 +484,7 @@ impl<F: Bench> Blocks for Fee<F> {
         ensures costs { Costs (state_of F.state self.old) (state_of F.state self.new) 0 }
 
         // It costs the pages of its record where that fits behind the log, and else a switch of the sectors with one erase too.
-        ensures stores { IsFalse (state_of F.state self.old).is_stale → NoFault (state_of F.state self.old) (state_of F.state self.new) → StoreCosts (is_past self.old.used self.old.numbers.items (F.state self.old.flash).image 0 (current self.old.used (F.state self.old.flash).image)) (state_of F.state self.old) (state_of F.state self.new) 0 }
+        ensures stores { IsFalse (state_of F.state self.old).is_stale → NoFault (state_of F.state self.old) (state_of F.state self.new) → StoreCosts (is_past self.old.used self.old.numbers (F.state self.old.flash).image 0 (current self.old.used (F.state self.old.flash).image)) (state_of F.state self.old) (state_of F.state self.new) 0 }
 
         // It is refused exactly where there is no room for it, or else no sequence number for a switch.
         ensures answers { AnswersBy (refusal (state_of F.state self.old) block 0) result }

@@ -11,35 +11,11 @@ ghost use Rattle.flt_record.specs.Live.{held_in, current_pages};
 ghost use Rattle.flt_record.specs.Place.{IsAt, IsPlaceOf, Tells};
 ghost use Rattle.flt_fee.specs.Costs.{Erases};
 ghost use Rattle.flt_fee.specs.Mounted.{Stands};
-ghost use Rattle.flt_fee.specs.Switch.{IsNext, nearest, CopiesBlock, CopiesBlocks, Keeps, Replaces};
+ghost use Rattle.flt_fee.specs.Switch.{CopiesBlock, CopiesBlocks, Keeps, Replaces};
 
 use flt_flash::{Flash, FlashFailed};
-use flt_pages::{activate, begin};
+use flt_pages::{Numbers, activate, begin};
 use flt_record::{Place, byte_pages, copy_record, note, place_of};
-
-// The lesser of a number and one found earlier, where it is not below `from`.
-fn nearer(earlier: Option<u16>, number: u16, from: u32) -> Option<u16>
-    ensures { result ≡ nearest from earlier number }
-{
-    if u32::from(number) < from {
-        return earlier;
-    }
-    match earlier {
-        None => Some(number),
-        Some(least) => Some(least.min(number)),
-    }
-}
-
-// The least of the numbers from one on.
-fn next_number(numbers: &[u16], from: u32) -> Option<u16>
-    ensures { IsNext from numbers.now result }
-{
-    let mut next = None;
-    for number in numbers {
-        next = nearer(next, *number, from);
-    }
-    next
-}
 
 // Copies the current record of a block, if it has one, behind the log of the other sector, and tells where that ends then.
 fn copy_block<F: Flash>(
@@ -47,7 +23,7 @@ fn copy_block<F: Flash>(
     sector: u8,
     other: u8,
     used: u16,
-    numbers: &[u16],
+    numbers: &Numbers,
     places: &mut [Option<Place>],
     number: u16,
     end: u16,
@@ -87,7 +63,7 @@ fn copy_blocks<F: Flash>(
     sector: u8,
     other: u8,
     used: u16,
-    numbers: &[u16],
+    numbers: &Numbers,
     places: &mut [Option<Place>],
 ) -> Result<u16, FlashFailed>
     requires sector { sector < 2 }
@@ -108,7 +84,7 @@ fn copy_blocks<F: Flash>(
 {
     let mut end = 2;
     let mut from = 0;
-    'copies: while let Some(number) = next_number(numbers, from) {
+    'copies: while let Some(number) = numbers.next_from(from) {
         end = copy_block(flash, sector, other, used, numbers, places, number, end)?;
         from = u32::from(number) + 1;
     }
@@ -120,7 +96,7 @@ fn copy_blocks<F: Flash>(
 pub(crate) fn switch_sectors<F: Flash>(
     flash: &mut F,
     used: u16,
-    numbers: &[u16],
+    numbers: &Numbers,
     places: &mut [Option<Place>],
     sector: u8,
     sequence: u32,

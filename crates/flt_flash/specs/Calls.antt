@@ -1,8 +1,8 @@
 -- What each call of a driver of blocks leaves.
 use Rattle.std.specs.Prelude.{◌≡◌, ◌≢◌, ◌⊎◌, ◌≤◌, ◌+◌, ◌*◌, ◌^◌, ℕ, true, List, ◌++◌, length, drop, Option, Some, None, Result, Ok, Err, IsTrue, IsFalse, IfSome, IsSomeAnd, OnOk, IsErrOf}
-use Rattle.flt_flash.specs.Content.{Content, missing, invalid, bytes}
+use Rattle.flt_flash.specs.Content.{Content, missing, invalid, bytes, size_of}
 use Rattle.flt_flash.specs.State.{HasRisenBy, last_count, KeepsBench, AddsArm, AddsBoot}
-use Rattle.flt_flash.specs.Blocks.{BlocksState, IsFull, record_pages}
+use Rattle.flt_flash.specs.Blocks.{BlocksState, IsFull, byte_pages, record_pages}
 use Rattle.flt_flash.specs.declared.arm.Arm.{Arm}
 use Rattle.flt_flash.specs.declared.blocks.Found.{Found}
 use Rattle.flt_flash.specs.declared.blocks.Found.TheVariants.{Bytes, Missing, Invalid}
@@ -12,6 +12,10 @@ use Rattle.flt_flash.specs.declared.blocks.BlockFault.TheVariants.{Flash, Full, 
 -- every block holds what it held
 abbrev pub SameValues : BlocksState → BlocksState → Type 0
 SameValues before after = (block : ℕ) → after.value block ≡ before.value block
+
+-- the image of the device is as it was
+abbrev pub SameImage : BlocksState → BlocksState → Type 0
+SameImage before after = after.device.image ≡ before.device.image
 
 -- every other block holds what it held
 abbrev pub OthersKept : ℕ → BlocksState → BlocksState → Type 0
@@ -79,6 +83,12 @@ Finds (bytes held) (Bytes n) before after = (n ≡ length held) × (after ≡ he
 Finds (bytes held) Missing before after = ⊥
 Finds (bytes held) Invalid before after = ⊥
 
+-- what a read finds of a content, without its bytes
+abbrev pub found_of : Content → Found
+found_of missing = Missing
+found_of invalid = Invalid
+found_of (bytes held) = Bytes (length held)
+
 -- the count of faults did not rise
 abbrev pub NoFault : BlocksState → BlocksState → Type 0
 NoFault before after = HasRisenBy 1 before.device.faults after.device.faults → ⊥
@@ -100,6 +110,10 @@ switch_cost (Some room) size = 2 * room + 4
 pub record Costs (before after : BlocksState) (size : ℕ) : Type 0 where
   pub at_the_end : IsFalse before.is_stale → NoFault before after → NoErase before after → CostsAtMost (record_pages size) before after
   pub at_most : IsFalse before.is_stale → NoFault before after → CostsAtMost (switch_cost before.room size) before after
+
+-- what a read of a block costs on a driver that is not stale, where no operation failed
+abbrev pub ReadCosts : BlocksState → BlocksState → ℕ → Type 0
+ReadCosts before after block = IsFalse before.is_stale → NoFault before after → CostsAtMost (byte_pages (size_of (before.value block))) before after
 
 -- an arm is made on the device, and nothing else changes
 pub record ArmsDriver (arm : Arm) (before after : BlocksState) : Type 0 where

@@ -3,7 +3,7 @@ ghost use Rattle.std.specs.Prelude.{◌≡◌, ◌<◌, ◌≤◌, length, Conta
 ghost use Rattle.flt_flash.specs.Content.{invalid, bytes as holding, IsShort};
 ghost use Rattle.flt_flash.specs.State.{CanArm};
 ghost use Rattle.flt_flash.specs.Blocks.{BlocksState};
-ghost use Rattle.flt_flash.specs.Calls.{Follows, Calls, NeverFull, Changes, Costs, SameValues, Settles, Finds, ArmsDriver, PowersUpDriver};
+ghost use Rattle.flt_flash.specs.Calls.{Follows, Calls, NeverFull, Changes, Costs, ReadCosts, SameImage, SameValues, Settles, Finds, found_of, ArmsDriver, PowersUpDriver};
 
 use crate::Arm;
 
@@ -75,7 +75,17 @@ pub trait Blocks {
 
         // A read that fails leaves a driver that was not stale as it was.
         ensures settled { OnOk result (IsFalse (state self.new).is_stale) }
-        ensures stale { IsFalse (state self.old).is_stale → IsFalse (state self.new).is_stale };
+        ensures stale { IsFalse (state self.old).is_stale → IsFalse (state self.new).is_stale }
+
+        // Such a driver reads the pages of the block's bytes alone, and writes nothing.
+        ensures image { IsFalse (state self.old).is_stale → SameImage (state self.old) (state self.new) }
+        ensures costs { ReadCosts (state self.old) (state self.new) block };
+
+    /// What a read of a block would find, without its bytes. It makes no operation of the device.
+    fn look_up(&self, block: u16) -> Found
+        requires settled { IsFalse (state self.now).is_stale }
+        requires number { Contains (state self.now).numbers block }
+        ensures { result ≡ found_of ((state self.now).value block) };
 
     /// Makes a block invalid.
     fn invalidate(&mut self, block: u16) -> Result<(), BlockFault>

@@ -2,3 +2,4 @@ pub mod Jobs
 pub mod Served
 pub mod Kept
 pub mod Found
+pub mod Looking

@@ -2,3 +2,4 @@ pub mod Table
 pub mod Tries
 pub mod Leaves
 pub mod Driver
+pub mod Reads

@@ -2,8 +2,7 @@
 use Rattle.std.specs.Prelude.{◌⊎◌, ℕ, zero, suc, Result, Err, IsErrOf, IsFalse, OnOk}
 use Rattle.flt_flash.specs.Content.{Content}
 use Rattle.flt_flash.specs.Blocks.{BlocksState}
-use Rattle.flt_flash.specs.Calls.{Calls, Changes, Costs, NeverFull, SameValues, Settles}
-use Rattle.flt_flash.specs.declared.blocks.Found.{Found}
+use Rattle.flt_flash.specs.Calls.{Calls, Changes, Costs, NeverFull, ReadCosts, SameImage, SameValues, Settles}
 use Rattle.flt_flash.specs.declared.blocks.BlockFault.{BlockFault}
 use Rattle.flt_flash.specs.declared.blocks.BlockFault.TheVariants.{Flash}
 
@@ -29,10 +28,12 @@ pub record Changing (block : ℕ) (asked : Content) (size : ℕ) (before after :
   pub stale : Settles result after
   pub costs : Costs before after size
 
--- one read
-pub record Looks (before after : BlocksState) (result : Result Found BlockFault) : Type 0 where
+-- one read of a block
+pub record Looks {T : Type 0} (block : ℕ) (before after : BlocksState) (result : Result T BlockFault) : Type 0 where
   pub values : SameValues before after
   pub calls : Calls before after result
   pub never_full : NeverFull result
   pub settled : OnOk result (IsFalse after.is_stale)
   pub stale : IsFalse before.is_stale → IsFalse after.is_stale
+  pub image : IsFalse before.is_stale → SameImage before after
+  pub costs : ReadCosts before after block

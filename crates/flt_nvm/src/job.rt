@@ -2,7 +2,7 @@
 //! job at once.
 ghost use Rattle.std.specs.Prelude.{◌≡◌, ◌≤◌, length, Contains, IfOk, OnErr, OnOk, IsFalse};
 ghost use Rattle.flt_flash.specs.Content.{invalid, bytes as holding};
-ghost use Rattle.flt_flash.specs.Calls.{Calls, Finds, NeverFull, SameValues, Settles};
+ghost use Rattle.flt_flash.specs.Calls.{Calls, Finds, NeverFull, ReadCosts, SameImage, SameValues, Settles};
 ghost use Rattle.flt_nvm.specs.Tries.{Tries, Mounts, Changing, Looks};
 ghost use Rattle.flt_nvm.specs.Leaves.{Gives, GivesInAJob, FailsThrice};
 
@@ -103,7 +103,7 @@ fn try_read<B: Blocks>(
 ) -> Result<Found, BlockFault>
     requires number { Contains (B.state blocks.old).numbers block }
     requires tries { 1 ≤ most }
-    ensures tries { Tries most Looks (B.state blocks.old) (B.state blocks.new) result }
+    ensures tries { Tries most (Looks block) (B.state blocks.old) (B.state blocks.new) result }
     ensures found { IfOk result (λ found. Finds ((B.state blocks.old).value block) found out.old out.new) }
     ensures nothing { OnErr result (out.new ≡ out.old) }
 {
@@ -117,7 +117,7 @@ fn try_read<B: Blocks>(
 #[tactic(auto, unfolding(crate::specs::Tries::Tries))]
 pub fn read<B: Blocks>(blocks: &mut B, block: u16, out: &mut [u8; 128]) -> Result<Found, BlockFault>
     requires { Contains (B.state blocks.old).numbers block }
-    ensures tries { Tries 3 Looks (B.state blocks.old) (B.state blocks.new) result }
+    ensures tries { Tries 3 (Looks block) (B.state blocks.old) (B.state blocks.new) result }
     ensures found { IfOk result (λ found. Finds ((B.state blocks.old).value block) found out.old out.new) }
     ensures nothing { OnErr result (out.new ≡ out.old) }
     ensures values { SameValues (B.state blocks.old) (B.state blocks.new) }
@@ -125,6 +125,8 @@ pub fn read<B: Blocks>(blocks: &mut B, block: u16, out: &mut [u8; 128]) -> Resul
     ensures never_full { NeverFull result }
     ensures settled { OnOk result (IsFalse (B.state blocks.new).is_stale) }
     ensures stale { IsFalse (B.state blocks.old).is_stale → IsFalse (B.state blocks.new).is_stale }
+    ensures image { IsFalse (B.state blocks.old).is_stale → SameImage (B.state blocks.old) (B.state blocks.new) }
+    ensures costs { ReadCosts (B.state blocks.old) (B.state blocks.new) block }
     ensures three { FailsThrice (B.state blocks.old) (B.state blocks.new) result }
 {
     try_read(blocks, block, out, TRIES)

@@ -14,6 +14,3 @@ mod table;
 pub use got::Got;
 pub use nvm::Nvm;
 pub use table::{BlockCfg, Kind};
-
-#[cfg(test)]
-mod tests;

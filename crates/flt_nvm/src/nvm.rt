@@ -21,9 +21,11 @@ impl<B: Blocks + Drop> Nvm<B> {
     ghost use Rattle.std.specs.Prelude.{◌≡◌, ◌<◌, ◌≤◌, ◌-◌, ◌↔◌, length, Contains, IsFalse, IsErrOf, IfOk, OnOk, OnErr};
     ghost use Rattle.flt_flash.specs.Content.{invalid, bytes as holding};
     ghost use Rattle.flt_flash.specs.State.{CanArm, HasRisenBy};
-    ghost use Rattle.flt_flash.specs.Calls.{ArmsDriver, Calls, Finds, NeverFull, PowersUpDriver, SameValues, Settles};
+    ghost use Rattle.flt_flash.specs.Calls.{ArmsDriver, Calls, Finds, NeverFull, PowersUpDriver, ReadCosts, SameImage, SameValues, Settles, found_of};
     ghost use Rattle.flt_nvm.specs.Table.{number_of, AsKept, HasIndex, HasPlace, Holds, IsRedundant};
     ghost use Rattle.flt_nvm.specs.Leaves.{FailsThrice, Gives, GivesBoth, GivesInAJob, GivesInTwoJobs, GotOf, GotOfBoth};
+    ghost use Rattle.flt_nvm.specs.Tries.{Tries, Mounts};
+    ghost use Rattle.flt_nvm.specs.Reads.{LooksInAJob};
     ghost use Rattle.flt_nvm.specs.Driver.{driver_of, table_of};
 
     /// The blocks of this table over a driver that was made with their numbers: `id * 8 + index`, or for a redundant block
@@ -56,6 +58,7 @@ impl<B: Blocks + Drop> Nvm<B> {
 
     /// Mounts the driver. No block changes. `Flash` comes only where three mounts failed.
     pub fn start(&mut self) -> Result<(), BlockFault>
+        ensures tries { Tries 3 Mounts (driver_of self.old) (driver_of self.new) result }
         ensures values { SameValues (driver_of self.old) (driver_of self.new) }
         ensures calls { Calls (driver_of self.old) (driver_of self.new) result }
         ensures never_full { NeverFull result }
@@ -95,6 +98,7 @@ impl<B: Blocks + Drop> Nvm<B> {
     // Reads one number, as this copy.
     fn read_number(&mut self, number: u16, copy: u8, out: &mut [u8; 128]) -> Result<Got, BlockFault>
         requires { Contains (driver_of self.old).numbers number }
+        ensures job { LooksInAJob number (driver_of self.old) (driver_of self.new) result }
         ensures got { IfOk result (λ got. GotOf copy ((driver_of self.old).value number) got out.old out.new) }
         ensures nothing { OnErr result (out.new ≡ out.old) }
         ensures values { SameValues (driver_of self.old) (driver_of self.new) }
@@ -102,6 +106,8 @@ impl<B: Blocks + Drop> Nvm<B> {
         ensures never_full { NeverFull result }
         ensures settled { OnOk result (IsFalse (driver_of self.new).is_stale) }
         ensures stale { IsFalse (driver_of self.old).is_stale → IsFalse (driver_of self.new).is_stale }
+        ensures image { IsFalse (driver_of self.old).is_stale → SameImage (driver_of self.old) (driver_of self.new) }
+        ensures costs { ReadCosts (driver_of self.old) (driver_of self.new) number }
         ensures three { FailsThrice (driver_of self.old) (driver_of self.new) result }
         ensures table { table_of self.new ≡ table_of self.old }
     {
@@ -191,6 +197,16 @@ impl<B: Blocks + Drop> Nvm<B> {
             let number = self.number(id, index);
             self.invalidate_number(number)
         }
+    }
+
+    /// What a read of an index of a block, or of a copy counted from 0, would find, without its bytes. It makes no operation of the
+    /// device.
+    pub fn look_up(&self, id: u16, place: u8) -> Found
+        requires settled { IsFalse (driver_of self.now).is_stale }
+        requires place { HasPlace (table_of self.now) id place }
+        ensures { result ≡ found_of ((driver_of self.now).value (number_of id place)) }
+    {
+        self.blocks.look_up(self.number(id, place))
     }
 
     /// Whether the last sequence number is in use, so that some record can't be written any more.

@@ -1,4 +1,5 @@
 pub mod Appended
 pub mod ItemCases
 pub mod BlankPages
+pub mod Rows
 pub mod WordPages

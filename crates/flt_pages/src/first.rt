@@ -1,11 +1,11 @@
 // What the first page of an item says.
-ghost use Rattle.std.specs.Prelude.{◌≡◌, ◌+◌, ◌-◌, ◌*◌, ◌/◌, ◌<◌, ◌≤◌, ℕ, List, [], slice_index_or, IfSome, Bool, ◌==◌};
-ghost use Rattle.std.specs.List.{list_any};
+ghost use Rattle.std.specs.Prelude.{◌≡◌, ◌+◌, ◌-◌, ◌*◌, ◌/◌, ◌<◌, ◌≤◌, ℕ, List, [], slice_index_or, IfSome, Bool};
 ghost use Rattle.flt_code.specs.Seal.{unsealed};
 ghost use Rattle.flt_flash.specs.Blocks.{byte_pages};
 ghost use Rattle.flt_sector.specs.Log.{item_at, is_gate_of, item_by_gate, item_by_head};
 ghost use Rattle.flt_pages.specs.First.{item_begun, GateBelow, item_completed};
 
+use crate::numbers::Numbers;
 use flt_code::{Word, get_word, unseal};
 use flt_flash::BLANK_PAGE;
 use flt_sector::Item;
@@ -33,13 +33,7 @@ pub(crate) fn byte_pages(length: u16) -> u32
     (u32::from(length) + 31) / 32
 }
 
-fn is_among(numbers: &[u16], block: u16) -> bool
-    ensures { result ≡ list_any (λ number. number == block) numbers.now }
-{
-    numbers.iter().any(|number| *number == block)
-}
-
-fn begin_by_head(used: u16, page: u16, numbers: &[u16], word: Option<Word>) -> Begin
+fn begin_by_head(used: u16, page: u16, numbers: &Numbers, word: Option<Word>) -> Begin
     requires { page < used }
     ensures means { (pages : List (List ℕ)) → item_by_head used numbers.now pages page word ≡ item_begun result pages page }
     ensures gate { GateBelow used result }
@@ -56,7 +50,7 @@ fn begin_by_head(used: u16, page: u16, numbers: &[u16], word: Option<Word>) -> B
         return Begin::Damaged;
     };
     let end = u32::from(page) + 2 + byte_pages(length);
-    if own == page && is_among(numbers, block) && end <= u32::from(used) {
+    if own == page && numbers.contains(block) && end <= u32::from(used) {
         Begin::Record {
             block,
             length,
@@ -69,7 +63,7 @@ fn begin_by_head(used: u16, page: u16, numbers: &[u16], word: Option<Word>) -> B
 }
 
 /// What the first page of the item at `page` says.
-pub(crate) fn first_page_says(used: u16, page: u16, numbers: &[u16], bytes: &[u8; 32]) -> Begin
+pub(crate) fn first_page_says(used: u16, page: u16, numbers: &Numbers, bytes: &[u8; 32]) -> Begin
     requires { page < used }
     ensures means { (pages : List (List ℕ)) → slice_index_or pages page [] ≡ bytes.now → item_at used numbers.now pages page ≡ item_begun result pages page }
     ensures gate { GateBelow used result }

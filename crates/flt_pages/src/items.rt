@@ -7,6 +7,7 @@ ghost use Rattle.flt_pages.specs.Told.{told, told_fault, TellsOrFails};
 
 use crate::PageFault;
 use crate::first::{Begin, first_page_says, is_complete};
+use crate::numbers::Numbers;
 use flt_flash::{BLANK_PAGE, Flash, FlashFailed};
 use flt_sector::Item;
 
@@ -34,7 +35,7 @@ pub fn item<F: Flash>(
     sector: u8,
     used: u16,
     page: u16,
-    numbers: &[u16],
+    numbers: &Numbers,
 ) -> Result<Item, PageFault>
     requires sector { sector < 2 }
     requires used { used ≤ (F.state flash.old).pages }

@@ -12,6 +12,7 @@ mod first;
 mod gate_pages;
 mod items;
 mod law;
+mod numbers;
 
 pub use append::{activate, append_gate, append_head, append_piece, begin};
 pub use fault::PageFault;
@@ -19,6 +20,7 @@ pub use flt_sector::Item;
 pub use gate_pages::gates;
 pub use items::{blank_from, item};
 pub use law::appending;
+pub use numbers::Numbers;
 
 #[cfg(test)]
 mod tests;

@@ -12,7 +12,7 @@ use flt_code::{Word, get_word, is_spoiled, put_word, seal, unseal};
 use flt_flash::{Arm, BLANK_PAGE, Bench, Flash, FlashMem, Pattern};
 use std::process::Abort;
 use std::test::Fail;
-use worked::record;
+use worked::{eight, record};
 
 const START: [u8; 32] = [
     0x53, 0x01, 0, 0, 0, 1, 2, 0, 0, 0, 0, 0, 0, 0, 0, 0, 0xac, 0xfe, 0xff, 0xff, 0xff, 0xfe, 0xfd,
@@ -54,17 +54,18 @@ fn a_start_gate_is_sealed(rt: HostRuntime) -> Result<(), Fail> {
 
 #[test]
 fn a_record_is_kept(rt: HostRuntime) -> Result<(), Fail> {
+    let numbers = eight(rt.alloc())?;
     let mut flash = FlashMem::blank(rt.alloc(), 64, 2)?;
     begin(&mut flash, 0, 64, 1)?;
     assert_blank(&rt, &flash, 0, 2);
     append_head(&mut flash, 0, 2, 8, 1, true)?;
     assert_blank(&rt, &flash, 0, 3);
     append_piece(&mut flash, 0, 3, &[0x07])?;
-    assert!(rt; item(&mut flash, 0, 64, 2, &[8])? == record(false));
+    assert!(rt; item(&mut flash, 0, 64, 2, &numbers)? == record(false));
     assert_blank(&rt, &flash, 0, 4);
     append_gate(&mut flash, 0, 4, 8, 2)?;
-    assert!(rt; item(&mut flash, 0, 64, 2, &[8])? == record(true));
-    assert!(rt; item(&mut flash, 0, 64, 5, &[8])? == Item::End);
+    assert!(rt; item(&mut flash, 0, 64, 2, &numbers)? == record(true));
+    assert!(rt; item(&mut flash, 0, 64, 5, &numbers)? == Item::End);
     blank_from(&mut flash, 0, 64, 5)?;
     assert!(rt; gates(&mut flash, 0, 64)?.is_none());
     assert_blank(&rt, &flash, 0, 1);
@@ -77,6 +78,7 @@ fn a_record_is_kept(rt: HostRuntime) -> Result<(), Fail> {
 
 #[test]
 fn a_head_is_torn(rt: HostRuntime) -> Result<(), Fail> {
+    let numbers = eight(rt.alloc())?;
     let mut flash = FlashMem::blank(rt.alloc(), 64, 2)?;
     begin(&mut flash, 0, 64, 1)?;
     flash.arm(Arm::Cut {
@@ -86,11 +88,11 @@ fn a_head_is_torn(rt: HostRuntime) -> Result<(), Fail> {
     assert!(rt; flash.armed() == 1);
     assert_blank(&rt, &flash, 0, 2);
     assert!(rt; append_head(&mut flash, 0, 2, 8, 1, true).is_err());
-    assert!(rt; item(&mut flash, 0, 64, 2, &[8]) == Err(PageFault::Flash));
+    assert!(rt; item(&mut flash, 0, 64, 2, &numbers) == Err(PageFault::Flash));
     assert!(rt; flash.boots_left() == 2);
     flash.power_up();
     assert!(rt; (flash.boots_left(), flash.armed(), flash.operations()) == (1, 0, 4));
     assert!(rt; flash.boot_page(0, 0, 0) == flash.page(0, 0));
-    assert!(rt; item(&mut flash, 0, 64, 2, &[8])? == Item::Torn);
+    assert!(rt; item(&mut flash, 0, 64, 2, &numbers)? == Item::Torn);
     Ok(())
 }

@@ -3,6 +3,8 @@ ghost use Rattle.std.specs.Prelude.{◌≡◌, ◌≢◌, ◌<◌, ◌==◌, ◌
 ghost use Rattle.std.specs.List.{AllPairs};
 ghost use Rattle.flt_record.specs.Place.{IsPlaceOf};
 
+use flt_pages::Numbers;
+
 /// Where a complete record stands, and what its head says of it.
 #[derive(Clone, Copy, Debug, PartialEq, Eq)]
 pub struct Place {
@@ -14,33 +16,20 @@ pub struct Place {
     pub valid: bool,
 }
 
-// The index of a block among the numbers.
-fn index_of(numbers: &[u16], block: u16) -> Option<usize>
-    ensures found { IfSome result (λ index. (index < length numbers.now) × (slice_index_or numbers.now index 0 ≡ block)) }
-    ensures none { IfNone result ((k : ℕ) → k < length numbers.now → slice_index_or numbers.now k 0 ≢ block) }
-{
-    for (index, number) in numbers.iter().enumerate() {
-        if *number == block {
-            return Some(index);
-        }
-    }
-    None
-}
-
 /// The place of one of the blocks, by the table.
-pub fn place_of(numbers: &[u16], places: &[Option<Place>], block: u16) -> Option<Place>
+pub fn place_of(numbers: &Numbers, places: &[Option<Place>], block: u16) -> Option<Place>
     requires size { length places.now ≡ length numbers.now }
     requires number { Contains numbers.now block }
     ensures { IsPlaceOf numbers.now places.now block result }
 {
-    match index_of(numbers, block) {
+    match numbers.index_of(block) {
         None => None,
         Some(index) => places[index],
     }
 }
 
 /// Notes a record as the current one of its block, where it is complete, in the table of places.
-pub fn note(numbers: &[u16], places: &mut [Option<Place>], block: u16, complete: bool, place: Place)
+pub fn note(numbers: &Numbers, places: &mut [Option<Place>], block: u16, complete: bool, place: Place)
     requires size { length places.old ≡ length numbers.now }
     requires distinct { AllPairs (λ a b. a ≢ b) numbers.now }
     ensures size { length places.new ≡ length places.old }
@@ -49,7 +38,7 @@ pub fn note(numbers: &[u16], places: &mut [Option<Place>], block: u16, complete:
     if !complete {
         return;
     }
-    if let Some(index) = index_of(numbers, block) {
+    if let Some(index) = numbers.index_of(block) {
         places[index] = Some(place);
     }
 }

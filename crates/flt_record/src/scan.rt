@@ -11,7 +11,7 @@ ghost use Rattle.flt_record.specs.Scan.{told_end};
 
 use crate::place::{Place, forget, note};
 use flt_flash::Flash;
-use flt_pages::{Item, PageFault, blank_from, item};
+use flt_pages::{Item, Numbers, PageFault, blank_from, item};
 
 /// The page at which the log of a sector with `used` pages ends, for these block numbers; `Damaged` is its first fault, of an
 /// item or of the pages behind the end. It fills the table with the place of each block's current record.
@@ -21,7 +21,7 @@ pub fn find_places<F: Flash>(
     flash: &mut F,
     sector: u8,
     used: u16,
-    numbers: &[u16],
+    numbers: &Numbers,
     places: &mut [Option<Place>],
 ) -> Result<u16, PageFault>
     requires sector { sector < 2 }

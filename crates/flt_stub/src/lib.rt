@@ -6,7 +6,7 @@
 #![tactic(auto)]
 
 ghost use Rattle.std.specs.Prelude.{◌≡◌, ◌+◌, ◌<◌, ◌≤◌, length, replicate, IfOk, IsTrue, IsFalse};
-ghost use Rattle.flt_flash.specs.Calls.{Finds};
+ghost use Rattle.flt_flash.specs.Calls.{Finds, found_of};
 ghost use Rattle.flt_stub.specs.Cells.{AllShort};
 
 use arrayvec::ArrayVec;
@@ -47,6 +47,16 @@ impl Cell {
             held.push(*byte);
         }
         Cell::Bytes(held)
+    }
+
+    fn found(&self) -> Found
+        ensures { result ≡ found_of (content_of self.now) }
+    {
+        match self {
+            Cell::Missing => Found::Missing,
+            Cell::Invalid => Found::Invalid,
+            Cell::Bytes(held) => Found::Bytes(held.len()),
+        }
     }
 
     fn read(&self, out: &mut [u8; 128]) -> Found
@@ -125,6 +135,10 @@ impl Blocks for BlocksMem {
     fn read(&mut self, block: u16, out: &mut [u8; 128]) -> Result<Found, BlockFault> {
         self.settle();
         Ok(self.cells[block as usize].read(out))
+    }
+
+    fn look_up(&self, block: u16) -> Found {
+        self.cells[block as usize].found()
     }
 
     fn invalidate(&mut self, block: u16) -> Result<(), BlockFault> {

@@ -15,6 +15,7 @@ fn drive<B: Blocks>(rt: &impl Abort, driver: &mut B) -> Result<(), Fail>
     assert!(rt; driver.read(8, &mut out)? == Found::Missing);
     driver.write(8, &[1, 2])?;
     assert!(rt; driver.read(8, &mut out)? == Found::Bytes(2));
+    assert!(rt; driver.look_up(8) == Found::Bytes(2));
     assert!(rt; out[..3] == [1, 2, 0xee]);
     assert!(rt; !driver.spent());
     assert!(rt; (driver.boots_left(), driver.armed()) == (1, 0));

@@ -5,13 +5,16 @@ use crate::got::{Got, holds, or_flash};
 use flt_flash::{BlockFault, Blocks};
 
 impl<B: Blocks + Drop> Nvm<B> {
-    ghost use Rattle.std.specs.Prelude.{◌≡◌, ◌≢◌, ◌⊎◌, ◌≤◌, ◌-◌, ℕ, length, Some, None, IsFalse, IsErrOf, IfOk, OnOk, OnErr};
+    ghost use Rattle.std.specs.Prelude.{◌≡◌, ◌≢◌, ◌⊎◌, ◌≤◌, ◌-◌, ℕ, length, Some, None, Result, IsFalse, IsErrOf, IfOk, OnOk, OnErr};
     ghost use Rattle.flt_flash.specs.Content.{bytes as holding};
     ghost use Rattle.flt_flash.specs.State.{HasRisenBy};
-    ghost use Rattle.flt_flash.specs.Calls.{Calls, Follows, NeverFull, SameValues};
+    ghost use Rattle.flt_flash.specs.Calls.{Calls, Follows, NeverFull, ReadCosts, SameImage, SameValues};
     ghost use Rattle.flt_flash.specs.declared.blocks.BlockFault.TheVariants.{Flash, Full, SequenceSpent};
     ghost use Rattle.flt_nvm.specs.Table.{number_of, AsKept, HasIndex, Holds, IsRedundant};
-    ghost use Rattle.flt_nvm.specs.Leaves.{FailsThrice, Gives, GotOf, GotOfBoth, GotOfSecond};
+    ghost use Rattle.flt_nvm.specs.Leaves.{FailsThrice, Gives, GotOf, GotOfBoth, GotOfSecond, HasNoBytes};
+    ghost use Rattle.flt_nvm.specs.declared.got.Got.{Got};
+    ghost use Rattle.flt_flash.specs.declared.blocks.BlockFault.{BlockFault};
+    ghost use Rattle.flt_nvm.specs.Reads.{IsUnread, IsUnmended, LooksInAJob, LooksInTwoJobs, MendsInTwoJobs, ReadsBothCosts};
     ghost use Rattle.flt_nvm.specs.Driver.{driver_of, table_of};
 
     /// Reads copy 1 or copy 2 of a redundant block alone, in one job, to the start of `out`. What lies past its bytes, and all of
@@ -20,6 +23,7 @@ impl<B: Blocks + Drop> Nvm<B> {
         requires redundant { IsRedundant (table_of self.old) id }
         requires least { 1 ≤ copy }
         requires most { copy ≤ 2 }
+        ensures job { LooksInAJob (number_of id (copy - 1)) (driver_of self.old) (driver_of self.new) result }
         ensures got { IfOk result (λ got. GotOf copy ((driver_of self.old).value (number_of id (copy - 1))) got out.old out.new) }
         ensures nothing { OnErr result (out.new ≡ out.old) }
         ensures values { SameValues (driver_of self.old) (driver_of self.new) }
@@ -27,6 +31,8 @@ impl<B: Blocks + Drop> Nvm<B> {
         ensures never_full { NeverFull result }
         ensures settled { OnOk result (IsFalse (driver_of self.new).is_stale) }
         ensures stale { IsFalse (driver_of self.old).is_stale → IsFalse (driver_of self.new).is_stale }
+        ensures image { IsFalse (driver_of self.old).is_stale → SameImage (driver_of self.old) (driver_of self.new) }
+        ensures costs { ReadCosts (driver_of self.old) (driver_of self.new) (number_of id (copy - 1)) }
         ensures three { FailsThrice (driver_of self.old) (driver_of self.new) result }
         ensures table { table_of self.new ≡ table_of self.old }
     {
@@ -46,12 +52,15 @@ impl<B: Blocks + Drop> Nvm<B> {
         ensures nothing { OnErr result (out.new ≡ out.old) }
         ensures values { SameValues (driver_of self.old) (driver_of self.new) }
         ensures follows { Follows (driver_of self.old) (driver_of self.new) }
-        ensures flash { IsErrOf result Flash → HasRisenBy 3 (driver_of self.old).device.faults (driver_of self.new).device.faults ⊎ (first ≡ None) }
+        ensures flash { IsErrOf result Flash → HasRisenBy 3 (driver_of self.old).device.faults (driver_of self.new).device.faults ⊎ ((first ≡ None) × HasNoBytes ((driver_of self.old).value (number_of id 1))) }
         ensures damaged { (sector page : ℕ) → IsErrOf result (BlockFault.Damaged sector page) → ((driver_of self.old).damage ≡ Some (sector, page)) × IsFalse (driver_of self.old).has_mounted }
         ensures refuses_damage { OnOk result ((driver_of self.old).damage ≡ None) }
         ensures never_full { NeverFull result }
         ensures settled { OnOk result (IsFalse (driver_of self.new).is_stale) }
         ensures stale { IsFalse (driver_of self.old).is_stale → IsFalse (driver_of self.new).is_stale }
+        ensures image { IsFalse (driver_of self.old).is_stale → SameImage (driver_of self.old) (driver_of self.new) }
+        ensures costs { ReadCosts (driver_of self.old) (driver_of self.new) (number_of id 1) }
+        ensures job { (read : Result Got BlockFault) × LooksInAJob (number_of id 1) (driver_of self.old) (driver_of self.new) read }
         ensures table { table_of self.new ≡ table_of self.old }
     {
         match self.read_copy(id, 2, out) {
@@ -71,6 +80,10 @@ impl<B: Blocks + Drop> Nvm<B> {
         ensures never_full { NeverFull result }
         ensures settled { OnOk result (IsFalse (driver_of self.new).is_stale) }
         ensures stale { IsFalse (driver_of self.old).is_stale → IsFalse (driver_of self.new).is_stale }
+        ensures image { IsFalse (driver_of self.old).is_stale → SameImage (driver_of self.old) (driver_of self.new) }
+        ensures costs { ReadsBothCosts (driver_of self.old) (driver_of self.new) id }
+        ensures jobs { LooksInTwoJobs id (driver_of self.old) (driver_of self.new) result }
+        ensures unread { IsErrOf result Flash → IsUnread (driver_of self.old) (driver_of self.new) id }
         ensures three { FailsThrice (driver_of self.old) (driver_of self.new) result }
         ensures table { table_of self.new ≡ table_of self.old }
     {
@@ -95,7 +108,13 @@ impl<B: Blocks + Drop> Nvm<B> {
         ensures never_full { NeverFull result }
         ensures settled { OnOk result (IsFalse (driver_of self.new).is_stale) }
         ensures stale { IsFalse (driver_of self.old).is_stale → IsFalse (driver_of self.new).is_stale }
+        ensures image { IsFalse (driver_of self.old).is_stale → SameImage (driver_of self.old) (driver_of self.new) }
+        ensures costs { AsKept (table_of self.old) id (ReadCosts (driver_of self.old) (driver_of self.new) (number_of id index)) (ReadsBothCosts (driver_of self.old) (driver_of self.new) id) }
+        ensures jobs { AsKept (table_of self.old) id (LooksInAJob (number_of id index) (driver_of self.old) (driver_of self.new) result) (LooksInTwoJobs id (driver_of self.old) (driver_of self.new) result) }
         ensures three { FailsThrice (driver_of self.old) (driver_of self.new) result }
+
+        // Of a redundant block, `Flash` comes only where neither copy gave its bytes.
+        ensures unread { IsErrOf result Flash → AsKept (table_of self.old) id (HasRisenBy 3 (driver_of self.old).device.faults (driver_of self.new).device.faults) (IsUnread (driver_of self.old) (driver_of self.new) id) }
         ensures table { table_of self.new ≡ table_of self.old }
     {
         if self.is_redundant(id) {
@@ -121,7 +140,11 @@ impl<B: Blocks + Drop> Nvm<B> {
         ensures gives { Gives (driver_of self.old) (driver_of self.new) (number_of id (2 - copy)) (holding bytes.now) (length bytes.now) result }
         ensures calls { Calls (driver_of self.old) (driver_of self.new) result }
         ensures settled { OnOk result (IsFalse (driver_of self.new).is_stale) }
+        ensures jobs { MendsInTwoJobs Got (number_of id (2 - copy)) (holding bytes.now) (length bytes.now) (driver_of self.old) (driver_of self.new) result }
         ensures three { FailsThrice (driver_of self.old) (driver_of self.new) result }
+
+        // `Flash` comes only where the other copy could be neither read nor written, or needs to be written and could not.
+        ensures unmended { IsErrOf result Flash → IsUnmended (driver_of self.old) (driver_of self.new) (number_of id (2 - copy)) (holding bytes.now) }
 
         // A copy that holds the bytes and could be read is not written.
         ensures full { (live needed : ℕ) → IsErrOf result (Full live needed) → ((driver_of self.old).value (number_of id (2 - copy)) ≢ holding bytes.now) ⊎ HasRisenBy 3 (driver_of self.old).device.faults (driver_of self.new).device.faults }

@@ -1,5 +1,5 @@
 // What the definitions tell of images that were damaged, one page at a time.
-use super::worked::{Image, image, piece, prepared, record, word};
+use super::worked::{Image, eight, image, piece, prepared, record, word};
 use crate::{Item, PageFault, blank_from, gates, item};
 use flt_flash::BLANK_PAGE;
 use std::test::Fail;
@@ -95,11 +95,12 @@ fn items_are_told(rt: HostRuntime) -> Result<(), Fail> {
         (5, word([0x48, 1, 0, 8, 0, 33, 0, 5]), 5, damaged(5)),
         (7, no_word(), 8, Ok(Item::End)),
     ];
+    let numbers = eight(rt.alloc())?;
     for (page, bytes, at, want) in table {
         let mut flash = prepared(rt.alloc(), with_page(page, bytes))?;
         assert!(rt; at <= 8);
         assert!(rt;
-            item(&mut flash, 0, 8, at, &[8]) == want,
+            item(&mut flash, 0, 8, at, &numbers) == want,
             "{bytes:?} on page {page}"
         );
     }

@@ -4,9 +4,9 @@ ghost use Rattle.flt_flash.specs.Memory.{state_of};
 ghost use Rattle.flt_flash.specs.State.{CanArm};
 
 use super::assert_blank;
-use super::worked::{Image, image, piece, prepared, record, word};
+use super::worked::{Image, eight, image, piece, prepared, record, word};
 use crate::{
-    Item, activate, append_gate, append_head, append_piece, begin, blank_from, gates, item,
+    Item, Numbers, activate, append_gate, append_head, append_piece, begin, blank_from, gates, item,
 };
 use flt_flash::{Arm, BLANK_PAGE, Bench, Flash, FlashFailed, FlashMem, Pattern};
 use std::alloc::Global;
@@ -80,7 +80,12 @@ fn torn(pattern: Pattern, start: &[u8; 32], asked: &[u8; 32], tail: usize) -> [u
     page
 }
 
-fn run(rt: &impl Abort, flash: &mut FlashMem, call: Call) -> Result<(), FlashFailed>
+fn run(
+    rt: &impl Abort,
+    flash: &mut FlashMem,
+    numbers: &Numbers,
+    call: Call,
+) -> Result<(), FlashFailed>
     requires { (state_of flash.old).pages ≡ 8 }
     ensures pages { (state_of flash.new).pages ≡ 8 }
     ensures boots { (state_of flash.new).bench.boots_left ≡ (state_of flash.old).bench.boots_left }
@@ -91,7 +96,7 @@ fn run(rt: &impl Abort, flash: &mut FlashMem, call: Call) -> Result<(), FlashFai
             Ok(())
         }
         Call::Item => {
-            assert!(rt; item(flash, 0, 8, 2, &[8]) == Ok(record(false)));
+            assert!(rt; item(flash, 0, 8, 2, numbers) == Ok(record(false)));
             Ok(())
         }
         Call::BlankFrom => {
@@ -175,9 +180,10 @@ fn try_case(
 ) -> Result<(), Fail>
     requires { 0 < operation }
 {
+    let numbers = eight(alloc)?;
     let mut flash = prepared(alloc, image())?;
     flash.arm(arm_at(operation, pattern, is_cut));
-    let answer = run(rt, &mut flash, call);
+    let answer = run(rt, &mut flash, &numbers, call);
     let only_reads = matches!(call, Call::Gates | Call::Item | Call::BlankFrom);
     assert!(rt; answer.is_ok() == only_reads, "{call:?} {pattern:?}");
     assert!(rt; (flash.armed() == 1) == only_reads, "{call:?} {pattern:?}");
@@ -196,12 +202,12 @@ fn try_case(
         asked(call, &start)
     };
     compare(rt, &flash, &start, &asked, pattern, is_erase);
-    tells(rt, &mut flash, call, pattern);
+    tells(rt, &mut flash, &numbers, call, pattern);
     Ok(())
 }
 
 // What a look at the flash tells after a call that failed.
-fn tells(rt: &impl Abort, flash: &mut FlashMem, call: Call, pattern: Pattern)
+fn tells(rt: &impl Abort, flash: &mut FlashMem, numbers: &Numbers, call: Call, pattern: Pattern)
     requires { (state_of flash.old).pages ≡ 8 }
 {
     let all = pattern == Pattern::All;
@@ -212,11 +218,11 @@ fn tells(rt: &impl Abort, flash: &mut FlashMem, call: Call, pattern: Pattern)
                 Pattern::All => record(false),
                 _ => Item::Torn,
             };
-            assert!(rt; item(flash, 0, 8, 5, &[8]) == Ok(head), "{pattern:?}");
+            assert!(rt; item(flash, 0, 8, 5, numbers) == Ok(head), "{pattern:?}");
         }
         Call::Gate => {
             assert!(rt;
-                item(flash, 0, 8, 2, &[8]) == Ok(record(all)),
+                item(flash, 0, 8, 2, numbers) == Ok(record(all)),
                 "{pattern:?}"
             );
         }

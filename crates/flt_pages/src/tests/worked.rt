@@ -2,7 +2,7 @@
 ghost use Rattle.std.specs.Prelude.{◌≡◌, IfOk};
 ghost use Rattle.flt_flash.specs.Memory.{state_of};
 
-use crate::Item;
+use crate::{Item, Numbers};
 use flt_flash::{BLANK_PAGE, FlashMem};
 use std::alloc::{AllocError, Global};
 
@@ -19,6 +19,11 @@ pub fn word(front: [u8; 8]) -> [u8; 32] {
         page[16 + byte] = !page[byte];
     }
     page
+}
+
+/// The numbers of a driver of the one block 8.
+pub fn eight(alloc: Global) -> Result<Numbers, AllocError> {
+    Numbers::make(alloc, vec![in alloc; 8]?)
 }
 
 /// The page of one byte, filled up.

@@ -20,8 +20,8 @@ invariant_of-self g c =
       distinct = self.distinct;
       sized = self.sized;
       table = λ fresh. absurd (cc fresh);
-      mounted = stale_mounted self.has_mounted self.used self.numbers.items _ self.sector self.sequence self.end
-          (λ yes. nothing_wrong self.used self.numbers.items (omega (arith, self.least)) (g.F.Flash.state c.set_up_flash.new.flash).image c.set_up_flash.ensures.left);
+      mounted = stale_mounted self.has_mounted self.used self.numbers _ self.sector self.sequence self.end
+          (λ yes. nothing_wrong self.used self.numbers (omega (arith, self.least)) (g.F.Flash.state c.set_up_flash.new.flash).image c.set_up_flash.ensures.left);
     }
 
 pub invariant_of-self-in-Ok : goal.invariant_of-self-in-Ok
@@ -35,26 +35,26 @@ invariant_of-self-in-Ok g c =
       sectors = omega arith;
       distinct = self.distinct;
       sized = ap length same ∙ c.forget.ensures.size ∙ ap length c.deref_mut.ensures.value ∙ self.sized;
-      table = λ fresh. subst (λ (places : List (Option Place)). Tells self.numbers.items places (sector_at after 0) 2 (block_value self.used self.numbers.items after)) (sym same) (tells_nothing self.numbers.items c.forget.new.places (sector_at (g.F.Flash.state c.set_up_flash.new.flash).image 0) 2 (block_value self.used self.numbers.items (g.F.Flash.state c.set_up_flash.new.flash).image)
-          (nothing_held self.used self.numbers.items (omega (arith, self.least)) (g.F.Flash.state c.set_up_flash.new.flash).image c.in-Ok.ensures.left)
+      table = λ fresh. subst (λ (places : List (Option Place)). Tells self.numbers places (sector_at after 0) 2 (block_value self.used self.numbers after)) (sym same) (tells_nothing self.numbers c.forget.new.places (sector_at (g.F.Flash.state c.set_up_flash.new.flash).image 0) 2 (block_value self.used self.numbers (g.F.Flash.state c.set_up_flash.new.flash).image)
+          (nothing_held self.used self.numbers (omega (arith, self.least)) (g.F.Flash.state c.set_up_flash.new.flash).image c.in-Ok.ensures.left)
           (λ k within. c.forget.ensures.none k (omega (arith, within, ap length c.deref_mut.ensures.value, self.sized))));
-      mounted = fresh_mounted self.used self.numbers.items (omega (arith, self.least)) (g.F.Flash.state c.set_up_flash.new.flash).image c.in-Ok.ensures.fresh;
+      mounted = fresh_mounted self.used self.numbers (omega (arith, self.least)) (g.F.Flash.state c.set_up_flash.new.flash).image c.in-Ok.ensures.fresh;
     }
 
 pub returns-in-Err-clause-values : goal.returns-in-Err-clause-values
 returns-in-Err-clause-values g c =
     let self = c.args.self.now in
-    nothing_changes self.used self.numbers.items (omega (arith, self.least)) (g.F.Flash.state self.flash) (g.F.Flash.state c.set_up_flash.new.flash) c.requires c.in-Err.ensures.left
+    nothing_changes self.used self.numbers (omega (arith, self.least)) (g.F.Flash.state self.flash) (g.F.Flash.state c.set_up_flash.new.flash) c.requires c.in-Err.ensures.left
     self.is_stale self.has_mounted true self.has_mounted
 
 pub returns-in-Err-clause-calls : goal.returns-in-Err-clause-calls
 returns-in-Err-clause-calls g c =
     let self = c.args.self.now in
-    formatting_calls self.used self.numbers.items (omega (arith, self.least)) (g.F.Flash.state self.flash) (g.F.Flash.state c.set_up_flash.new.flash) c.requires c.in-Err.ensures.left
+    formatting_calls self.used self.numbers (omega (arith, self.least)) (g.F.Flash.state self.flash) (g.F.Flash.state c.set_up_flash.new.flash) c.requires c.in-Err.ensures.left
     {T = Unit {0}} c.in-Err.ensures.runs self.is_stale self.has_mounted true self.has_mounted (Err Flash) (λ yes. yes) (λ told. c.in-Err.ensures.cause) (λ s p told. cc told)
 
 pub returns-in-Ok-clause-values : goal.returns-in-Ok-clause-values
 returns-in-Ok-clause-values g c =
     let self = c.args.self.now in
-    nothing_changes self.used self.numbers.items (omega (arith, self.least)) (g.F.Flash.state self.flash) (g.F.Flash.state c.set_up_flash.new.flash) c.requires c.in-Ok.ensures.left
+    nothing_changes self.used self.numbers (omega (arith, self.least)) (g.F.Flash.state self.flash) (g.F.Flash.state c.set_up_flash.new.flash) c.requires c.in-Ok.ensures.left
     self.is_stale self.has_mounted false true

@@ -17,18 +17,16 @@ pub invariant_of-self-in-Ok : goal.invariant_of-self-in-Ok
 invariant_of-self-in-Ok g c =
     let self = c.args.self.now in
     let before = g.F.Flash.state self.flash in
-    let tells = subst (λ (numbers : List ℕ). TellsOrFails {T = ℕ} (Ok c.in-Ok.end) (told_end c.args.at.sector (log self.used numbers (sector_at before.image c.args.at.sector)).end (log self.used numbers (sector_at before.image c.args.at.sector)).fault))
-    c.deref.ensures.value c.in-Ok.ensures.end in
     let after = (g.F.Flash.state c.find_places.new.flash).image in
-    let same = with_items_is self.places c.find_places.new.places (omega (arith, c.in-Ok.ensures.size, ap length c.deref.ensures.value, self.sized, self.places.ok.0)) in
+    let same = with_items_is self.places c.find_places.new.places (omega (arith, c.in-Ok.ensures.size, self.sized, self.places.ok.0)) in
     record {
       within = omega (arith, self.within, c.in-Ok.ensures.reads.runs.pages);
       least = self.least;
       sectors = c.requires.sector;
       distinct = self.distinct;
-      sized = ap length same ∙ c.in-Ok.ensures.size ∙ ap length c.deref.ensures.value;
-      table = λ fresh. subst (λ (places : List (Option Place)). Tells self.numbers.items places (sector_at after c.args.at.sector) c.in-Ok.end (block_value self.used self.numbers.items after)) (sym same) (subst (λ (image : List (List (List ℕ))). Tells self.numbers.items c.find_places.new.places (sector_at image c.args.at.sector) c.in-Ok.end (block_value self.used self.numbers.items image)) (sym c.in-Ok.ensures.reads.image)
-          (tells_current self.used self.numbers.items before.image c.args.at.sector c.args.at.sequence c.in-Ok.end c.requires.found c.find_places.new.places
-          (subst (λ (numbers : List ℕ). Tells numbers c.find_places.new.places (sector_at before.image c.args.at.sector) c.in-Ok.end (held_in self.used numbers (sector_at before.image c.args.at.sector))) c.deref.ensures.value c.in-Ok.ensures.places)));
-      mounted = resumed self.used self.numbers.items before (g.F.Flash.state c.find_places.new.flash) c.in-Ok.ensures.reads (place_of c.args.at) c.requires.found c.in-Ok.end tells;
+      sized = ap length same ∙ c.in-Ok.ensures.size;
+      table = λ fresh. subst (λ (places : List (Option Place)). Tells self.numbers places (sector_at after c.args.at.sector) c.in-Ok.end (block_value self.used self.numbers after)) (sym same) (subst (λ (image : List (List (List ℕ))). Tells self.numbers c.find_places.new.places (sector_at image c.args.at.sector) c.in-Ok.end (block_value self.used self.numbers image)) (sym c.in-Ok.ensures.reads.image)
+          (tells_current self.used self.numbers before.image c.args.at.sector c.args.at.sequence c.in-Ok.end c.requires.found c.find_places.new.places
+          c.in-Ok.ensures.places));
+      mounted = resumed self.used self.numbers before (g.F.Flash.state c.find_places.new.flash) c.in-Ok.ensures.reads (place_of c.args.at) c.requires.found c.in-Ok.end c.in-Ok.ensures.end;
     }

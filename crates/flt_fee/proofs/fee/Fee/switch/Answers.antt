@@ -16,41 +16,38 @@ pub switch_sectors-requires-clause-table : goal.switch_sectors-requires-clause-t
 switch_sectors-requires-clause-table g c =
     let self = c.args.self.now in
     let pages = sector_at (g.F.Flash.state self.flash).image self.sector in
-    subst (λ (numbers : List ℕ). Tells numbers c.deref_mut.result.now pages self.used (held_in self.used numbers pages)) (sym c.deref.ensures.value)
-    (subst (λ (places : List (Option Place)). Tells self.numbers.items places pages self.used (held_in self.used self.numbers.items pages)) (sym c.deref_mut.ensures.value)
-    (tells_old self.is_stale self.has_mounted c.requires.settled self.used self.numbers.items (g.F.Flash.state self.flash) (g.met.F.Flash.shape self.flash) self.sector self.sequence self.end self.least self.within self.sectors self.distinct self.mounted self.places.items self.sized (self.table c.requires.settled)))
+    subst (λ (places : List (Option Place)). Tells self.numbers places pages self.used (held_in self.used self.numbers pages)) (sym c.deref_mut.ensures.value)
+    (tells_old self.is_stale self.has_mounted c.requires.settled self.used self.numbers (g.F.Flash.state self.flash) (g.met.F.Flash.shape self.flash) self.sector self.sequence self.end self.least self.within self.sectors self.distinct self.mounted self.places.items self.sized (self.table c.requires.settled))
 
 pub invariant_of-self-in-Ok-clause-table : goal.invariant_of-self-in-Ok-clause-table
 invariant_of-self-in-Ok-clause-table g c =
     let self = c.args.self.now in
     let pages = sector_at (g.F.Flash.state self.flash).image self.sector in
     let after = (g.F.Flash.state c.switch_sectors.new.flash).image in
-    let same = with_items_is self.places c.switch_sectors.new.places (omega (arith, c.in-Ok.ensures.size, ap length c.deref.ensures.value, self.sized, self.places.ok.0)) in
-    λ fresh. subst (λ (places : List (Option Place)). Tells self.numbers.items places (sector_at after (1 - self.sector)) c.in-Ok.end (block_value self.used self.numbers.items after)) (sym same) (tells_image self.used self.numbers.items after (1 - self.sector) (self.sequence + 1) c.in-Ok.end (held_in self.used self.numbers.items pages)
-    (subst (λ (numbers : List ℕ). Stands self.used numbers after (1 - self.sector) (self.sequence + 1) c.in-Ok.end (held_in self.used numbers pages)) c.deref.ensures.value c.in-Ok.ensures.switched)
-    c.switch_sectors.new.places
-    (subst (λ (numbers : List ℕ). Tells numbers c.switch_sectors.new.places (sector_at after (1 - self.sector)) c.in-Ok.end (held_in self.used numbers pages)) c.deref.ensures.value c.in-Ok.ensures.table))
+    let same = with_items_is self.places c.switch_sectors.new.places (omega (arith, c.in-Ok.ensures.size, self.sized, self.places.ok.0)) in
+    λ fresh. subst (λ (places : List (Option Place)). Tells self.numbers places (sector_at after (1 - self.sector)) c.in-Ok.end (block_value self.used self.numbers after)) (sym same) (tells_image self.used self.numbers after (1 - self.sector) (self.sequence + 1) c.in-Ok.end (held_in self.used self.numbers pages)
+    c.in-Ok.ensures.switched c.switch_sectors.new.places c.in-Ok.ensures.table)
 
 pub invariant_of-self-in-Ok-clause-sized : goal.invariant_of-self-in-Ok-clause-sized
 invariant_of-self-in-Ok-clause-sized g c =
     let self = c.args.self.now in
-    let same = with_items_is self.places c.switch_sectors.new.places (omega (arith, c.in-Ok.ensures.size, ap length c.deref.ensures.value, self.sized, self.places.ok.0)) in
-    ap length same ∙ c.in-Ok.ensures.size ∙ ap length c.deref.ensures.value
+    let same = with_items_is self.places c.switch_sectors.new.places (omega (arith, c.in-Ok.ensures.size, self.sized, self.places.ok.0)) in
+    ap length same ∙ c.in-Ok.ensures.size
 
 pub invariant_of-self-clause-sized : goal.invariant_of-self-clause-sized
 invariant_of-self-clause-sized g c =
     let self = c.args.self.now in
-    let same = with_items_is self.places c.switch_sectors.new.places (omega (arith, c.in-Err.ensures.size, ap length c.deref.ensures.value, self.sized, self.places.ok.0)) in
-    ap length same ∙ c.in-Err.ensures.size ∙ ap length c.deref.ensures.value
+    let same = with_items_is self.places c.switch_sectors.new.places (omega (arith, c.in-Err.ensures.size, self.sized, self.places.ok.0)) in
+    ap length same ∙ c.in-Err.ensures.size
 
 pub invariant_of-self-clause-mounted : goal.invariant_of-self-clause-mounted
 invariant_of-self-clause-mounted g c =
     let self = c.args.self.now in
     let pages = sector_at (g.F.Flash.state self.flash).image self.sector in
     let after = (g.F.Flash.state c.switch_sectors.new.flash).image in
-    let keeps = subst (λ (numbers : List ℕ). Keeps self.used numbers after (held_in self.used numbers pages)) c.deref.ensures.value c.in-Err.ensures.left in
-    stale_mounted self.has_mounted self.used self.numbers.items after self.sector self.sequence self.end
-    (λ yes. stands_sound self.used self.numbers.items after keeps.sector keeps.sequence keeps.end (held_in self.used self.numbers.items pages) keeps.stands)
+    let keeps = c.in-Err.ensures.left in
+    stale_mounted self.has_mounted self.used self.numbers after self.sector self.sequence self.end
+    (λ yes. stands_sound self.used self.numbers after keeps.sector keeps.sequence keeps.end (held_in self.used self.numbers pages) keeps.stands)
 
 pub invariant_of-self-clause-table : goal.invariant_of-self-clause-table
 invariant_of-self-clause-table g c = λ fresh. absurd (cc fresh)

@@ -5,5 +5,5 @@ use Rattle.flt_fee.proofs.fee.FeeBlocks.arm.Goals as goal
 pub returns : goal.returns
 returns g c = record {
   bench = c.arm.ensures.bench;
-  rest = ap (state_by c.args.self.now.used c.args.self.now.numbers.items c.args.self.now.is_stale c.args.self.now.has_mounted) c.arm.ensures.rest;
+  rest = ap (state_by c.args.self.now.used c.args.self.now.numbers c.args.self.now.is_stale c.args.self.now.has_mounted) c.arm.ensures.rest;
 }

@@ -17,26 +17,26 @@ returns-in-Ok-clause-calls g c =
     let old = c.args.self.now in
     let middle = c.settle.new.self in
     let new = c.find.new.self in
-    calls_after (state_by old.used old.numbers.items old.is_stale old.has_mounted (g.F.Flash.state old.flash)) (state_by middle.used middle.numbers.items middle.is_stale middle.has_mounted (g.F.Flash.state middle.flash))
-    (state_by new.used new.numbers.items new.is_stale new.has_mounted (g.F.Flash.state new.flash)) c.find.result c.in-Ok.ensures.calls.follows c.find.ensures.calls
+    calls_after (state_by old.used old.numbers old.is_stale old.has_mounted (g.F.Flash.state old.flash)) (state_by middle.used middle.numbers middle.is_stale middle.has_mounted (g.F.Flash.state middle.flash))
+    (state_by new.used new.numbers new.is_stale new.has_mounted (g.F.Flash.state new.flash)) c.find.result c.in-Ok.ensures.calls.follows c.find.ensures.calls
 
 pub returns-in-Ok-clause-costs : goal.returns-in-Ok-clause-costs
 returns-in-Ok-clause-costs g c =
     let old = c.args.self.now in
     let middle = c.settle.new.self in
     let new = c.find.new.self in
-    read_costs old.used new.used old.numbers.items new.numbers.items (g.F.Flash.state old.flash) (g.F.Flash.state new.flash) (byte_pages (size_of (block_value old.used old.numbers.items (g.F.Flash.state old.flash).image c.args.block)))
+    read_costs old.used new.used old.numbers new.numbers (g.F.Flash.state old.flash) (g.F.Flash.state new.flash) (byte_pages (size_of (block_value old.used old.numbers (g.F.Flash.state old.flash).image c.args.block)))
     old.is_stale old.has_mounted new.is_stale new.has_mounted c.find.result old.mounted.mounted c.find.ensures.never_full
-    (calls_after (state_by old.used old.numbers.items old.is_stale old.has_mounted (g.F.Flash.state old.flash)) (state_by middle.used middle.numbers.items middle.is_stale middle.has_mounted (g.F.Flash.state middle.flash))
-    (state_by new.used new.numbers.items new.is_stale new.has_mounted (g.F.Flash.state new.flash)) c.find.result c.in-Ok.ensures.calls.follows c.find.ensures.calls)
-    (λ fresh. subst (λ (fee : Fee g.row.F.Denot g.F.Flash). OnOk c.find.result (Spends (byte_pages (size_of (block_value fee.used fee.numbers.items (g.F.Flash.state fee.flash).image c.args.block))) (g.F.Flash.state fee.flash) (g.F.Flash.state new.flash)))
+    (calls_after (state_by old.used old.numbers old.is_stale old.has_mounted (g.F.Flash.state old.flash)) (state_by middle.used middle.numbers middle.is_stale middle.has_mounted (g.F.Flash.state middle.flash))
+    (state_by new.used new.numbers new.is_stale new.has_mounted (g.F.Flash.state new.flash)) c.find.result c.in-Ok.ensures.calls.follows c.find.ensures.calls)
+    (λ fresh. subst (λ (fee : Fee g.row.F.Denot g.F.Flash). OnOk c.find.result (Spends (byte_pages (size_of (block_value fee.used fee.numbers (g.F.Flash.state fee.flash).image c.args.block))) (g.F.Flash.state fee.flash) (g.F.Flash.state new.flash)))
     (c.in-Ok.ensures.nothing fresh).1 c.find.ensures.spends)
 
 pub returns-in-Err-clause-even : goal.returns-in-Err-clause-even
 returns-in-Err-clause-even g c =
     let old = c.args.self.now in
     let new = c.settle.new.self in
-    unless_fault {T = Unit {0}} (state_by old.used old.numbers.items old.is_stale old.has_mounted (g.F.Flash.state old.flash)) (state_by new.used new.numbers.items new.is_stale new.has_mounted (g.F.Flash.state new.flash)) (Err c.in-Err.fault)
+    unless_fault {T = Unit {0}} (state_by old.used old.numbers old.is_stale old.has_mounted (g.F.Flash.state old.flash)) (state_by new.used new.numbers new.is_stale new.has_mounted (g.F.Flash.state new.flash)) (Err c.in-Err.fault)
     (StaysEven old.used (g.F.Flash.state old.flash) (g.F.Flash.state new.flash)) c.in-Err.ensures.calls c.in-Err.ensures.even
 
 pub returns-in-Ok-clause-even : goal.returns-in-Ok-clause-even

@@ -1,0 +1,61 @@
+-- A job that reads is one whatever the value of its answer is.
+use Rattle.std.proofs.Common.{◌≡◌, ℕ, zero, suc, Result, Ok, Err, inl, inr, ap}
+use Rattle.std.specs.Prelude.{IsErrOf}
+use Rattle.flt_flash.specs.Blocks.{BlocksState}
+use Rattle.flt_flash.specs.declared.blocks.BlockFault.{BlockFault}
+use Rattle.flt_flash.specs.declared.blocks.BlockFault.TheVariants.{Flash, Full, SequenceSpent, Damaged}
+use Rattle.flt_flash.specs.Calls.{Calls, NeverFull}
+use Rattle.flt_nvm.specs.Tries.{Tries, Looks}
+
+no_fault : {T : Type 0} (value : T) (fault : BlockFault) → IsErrOf (Ok value) fault → ⊥
+no_fault value fault is = absurd (cc is)
+
+-- a fault is the same one in an answer of another type
+same_fault : (S T : Type 0) (fault other : BlockFault) → IsErrOf {T = T} (Err fault) other → IsErrOf {T = S} (Err fault) other
+same_fault S T fault other is = let same : fault ≡ other = cc is in ap Err same
+
+module _ (block : ℕ) (before after : BlocksState) where
+  look_ok : {S T : Type 0} (x : S) (y : T) → Looks block before after (Ok x) → Looks block before after (Ok y)
+  look_ok x y looks = record {
+    values = looks.values;
+    calls = record { follows = looks.calls.follows; flash = λ is. absurd (no_fault y Flash is); damaged = λ sector page is. absurd (no_fault y (Damaged sector page) is); refuses_damage = looks.calls.refuses_damage };
+    never_full = record { full = λ live needed. no_fault y (Full live needed); spent = no_fault y SequenceSpent };
+    settled = looks.settled;
+    stale = looks.stale;
+    image = looks.image;
+    costs = looks.costs;
+  }
+
+  look_err : (S T : Type 0) (fault : BlockFault) → Looks {T = S} block before after (Err fault) → Looks {T = T} block before after (Err fault)
+  look_err S T fault looks = record {
+    values = looks.values;
+    calls = record {
+      follows = looks.calls.follows;
+      flash = λ is. looks.calls.flash (same_fault S T fault Flash is);
+      damaged = λ sector page is. looks.calls.damaged sector page (same_fault S T fault (Damaged sector page) is);
+      refuses_damage = looks.calls.refuses_damage;
+    };
+    never_full = record {
+      full = λ live needed is. looks.never_full.full live needed (same_fault S T fault (Full live needed) is);
+      spent = λ is. looks.never_full.spent (same_fault S T fault SequenceSpent is);
+    };
+    settled = looks.settled;
+    stale = looks.stale;
+    image = looks.image;
+    costs = looks.costs;
+  }
+
+pub looks_ok : {S T : Type 0} (block most : ℕ) (before after : BlocksState) (x : S) (y : T) → Tries most (Looks block) before after (Ok x) → Tries most (Looks block) before after (Ok y)
+unfolding Tries
+looks_ok block zero before after x y tries = tries
+looks_ok block (suc zero) before after x y tries = look_ok block before after x y tries
+looks_ok block (suc (suc more)) before after x y (inl ends) = inl (look_ok block before after x y ends.0, no_fault y Flash)
+looks_ok {S} {T} block (suc (suc more)) before after x y (inr (between, failed, rest)) = inr (between, look_err block before between S T Flash failed, looks_ok block (suc more) between after x y rest)
+
+pub looks_err : (S T : Type 0) (block most : ℕ) (before after : BlocksState) (fault : BlockFault) → Tries {T = S} most (Looks block) before after (Err fault) → Tries {T = T} most (Looks block) before after (Err fault)
+unfolding Tries
+looks_err S T block zero before after fault tries = tries
+looks_err S T block (suc zero) before after fault tries = look_err block before after S T fault tries
+looks_err S T block (suc (suc more)) before after fault (inl ends) = inl (look_err block before after S T fault ends.0, λ is. ends.1 (same_fault S T fault Flash is))
+looks_err S T block (suc (suc more)) before after fault (inr (between, failed, rest)) =
+    inr (between, look_err block before between S T Flash failed, looks_err S T block (suc more) between after fault rest)

@@ -1,0 +1,44 @@
+-- What reads of blocks make of a driver, and when one answers that the flash failed it.
+use Rattle.std.specs.Prelude.{◌⊎◌, ◌+◌, ◌≢◌, ℕ, List, Result, IsFalse, IsErrOf}
+use Rattle.flt_flash.specs.Content.{Content, size_of}
+use Rattle.flt_flash.specs.State.{HasRisenBy}
+use Rattle.flt_flash.specs.Blocks.{BlocksState, byte_pages}
+use Rattle.flt_flash.specs.Calls.{CostsAtMost, NoFault}
+use Rattle.flt_flash.specs.declared.blocks.BlockFault.{BlockFault}
+use Rattle.flt_flash.specs.declared.blocks.BlockFault.TheVariants.{Flash}
+use Rattle.flt_nvm.specs.Table.{number_of}
+use Rattle.flt_nvm.specs.Tries.{Tries, Looks}
+use Rattle.flt_nvm.specs.Leaves.{GivesInAJob, HasNoBytes}
+
+-- one job that reads a number, whatever it answers
+abbrev pub LooksInAJob : {T : Type 0} → ℕ → BlocksState → BlocksState → Result T BlockFault → Type 0
+LooksInAJob number before after result = Tries 3 (Looks number) before after result
+
+-- a job that reads the first copy, and one at most that reads the second
+abbrev pub LooksInTwoJobs : {T : Type 0} → ℕ → BlocksState → BlocksState → Result T BlockFault → Type 0
+LooksInTwoJobs {T} id before after result =
+    LooksInAJob (number_of id 0) before after result
+    ⊎ ((between : BlocksState) × (first : Result T BlockFault) × LooksInAJob (number_of id 0) before between first × (second : Result T BlockFault) × LooksInAJob (number_of id 1) between after second)
+
+-- a job that reads a number, and one at most that gives it a content
+abbrev pub MendsInTwoJobs : Type 0 → ℕ → Content → ℕ → BlocksState → BlocksState → Result (Unit {0}) BlockFault → Type 0
+MendsInTwoJobs Read number asked size before after result =
+    ((found : Result Read BlockFault) × LooksInAJob number before after found)
+    ⊎ ((between : BlocksState) × (found : Result Read BlockFault) × LooksInAJob number before between found × GivesInAJob number asked size between after result)
+
+-- what a read of both copies costs at most on a driver that is not stale, where no operation failed: the pages of their bytes
+abbrev pub ReadsBothCosts : BlocksState → BlocksState → ℕ → Type 0
+ReadsBothCosts before after id =
+    IsFalse before.is_stale → NoFault before after
+    → CostsAtMost (byte_pages (size_of (before.value (number_of id 0))) + byte_pages (size_of (before.value (number_of id 1)))) before after
+
+-- neither copy could be read, or one could not and the other has no bytes
+abbrev pub IsUnread : BlocksState → BlocksState → ℕ → Type 0
+IsUnread before after id =
+    HasRisenBy 6 before.device.faults after.device.faults
+    ⊎ (HasRisenBy 3 before.device.faults after.device.faults × (HasNoBytes (before.value (number_of id 0)) ⊎ HasNoBytes (before.value (number_of id 1))))
+
+-- a copy could be neither read nor written, or it holds other bytes and could not be written
+abbrev pub IsUnmended : BlocksState → BlocksState → ℕ → Content → Type 0
+IsUnmended before after number asked =
+    HasRisenBy 6 before.device.faults after.device.faults ⊎ (HasRisenBy 3 before.device.faults after.device.faults × (before.value number ≢ asked))

@@ -1,0 +1,91 @@
+// The block numbers of a driver.
+ghost use Rattle.std.specs.Prelude.{◌≡◌, ◌≢◌, ◌<◌, ◌==◌, ℕ, length, IfOk, IfSome, IfNone, slice_index_or};
+ghost use Rattle.std.specs.List.{list_any};
+
+use std::alloc::{AllocError, Global};
+use std::marker::Model;
+
+/// A block number, and where it stands among those that were given.
+#[derive(Clone, Copy)]
+struct Row {
+    number: u16,
+    index: usize,
+}
+
+/// The block numbers of a driver in the order in which they were given, with an index by which one is found in as many steps as
+/// halvings of the list.
+#[derive(Drop)]
+pub struct Numbers {
+    given: Vec<u16>,
+    rows: Vec<Row>,
+}
+
+impl Model for Numbers {
+    ghost use Rattle.std.specs.Prelude.{List, ℕ};
+
+    ghost Value = { List ℕ };
+
+    ghost use Rattle.flt_pages.specs.Numbers.{given_of, IsIndexed};
+
+    ghost view = { given_of };
+
+    ghost invariant = { IsIndexed };
+}
+
+impl Numbers {
+    ghost use Rattle.flt_pages.specs.Next.{IsNext};
+
+    /// These numbers, with their index. The error is want of memory.
+    pub fn make(alloc: Global, given: Vec<u16>) -> Result<Numbers, AllocError>
+        ensures { IfOk result (λ numbers. numbers ≡ given.items) }
+    {
+        let mut rows = Vec::with_capacity(alloc, given.len())?;
+        for (index, number) in given.iter().enumerate() {
+            rows.push(Row {
+                number: *number,
+                index,
+            })?;
+        }
+        rows.sort_unstable_by_key(|row| row.number);
+        Ok(Numbers { given, rows })
+    }
+
+    /// How many they are.
+    pub fn len(&self) -> usize
+        ensures { result ≡ length self.now }
+    {
+        self.given.len()
+    }
+
+    /// The index of a block among the numbers.
+    pub fn index_of(&self, block: u16) -> Option<usize>
+        ensures found { IfSome result (λ index. (index < length self.now) × (slice_index_or self.now index 0 ≡ block)) }
+        ensures none { IfNone result ((k : ℕ) → k < length self.now → slice_index_or self.now k 0 ≢ block) }
+    {
+        match self.rows.binary_search_by_key(&block, |row| row.number) {
+            Ok(at) => Some(self.rows[at].index),
+            Err(_) => None,
+        }
+    }
+
+    /// Whether a block is one of the numbers.
+    pub fn contains(&self, block: u16) -> bool
+        ensures { result ≡ list_any (λ number. number == block) self.now }
+    {
+        self.index_of(block).is_some()
+    }
+
+    /// The least of the numbers from `from` on.
+    pub fn next_from(&self, from: u32) -> Option<u16>
+        ensures { IsNext from self.now result }
+    {
+        let at = self
+            .rows
+            .partition_point(|row| u32::from(row.number) < from);
+        if at < self.rows.len() {
+            Some(self.rows[at].number)
+        } else {
+            None
+        }
+    }
+}

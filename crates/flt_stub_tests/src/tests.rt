@@ -1,0 +1,2 @@
+// The layers above a driver, over the driver in memory.
+mod kinds;
