@@ -4,6 +4,7 @@ ghost use Rattle.flt_flash.specs.Memory.{state_of as flash_state};
 ghost use Rattle.flt_fee.specs.Fee.{state_of};
 ghost use Rattle.flt_fee_tests.specs.Few.{HasFive};
 
+mod costs;
 mod cuts;
 mod rows;
 

@@ -17,15 +17,17 @@ fn drive<B: Blocks>(rt: &impl Abort, driver: &mut B) -> Result<(), Fail>
     driver.write(8, &[1])?;
     assert!(rt; driver.read(8, &mut out)? == Found::Bytes(1));
     assert!(rt; out[..2] == [1, 0xee]);
+    assert!(rt; driver.look_up(8) == Found::Bytes(1));
     driver.invalidate(8)?;
     assert!(rt; driver.read(8, &mut out)? == Found::Invalid);
+    assert!(rt; driver.look_up(8) == Found::Invalid);
     assert!(rt; !driver.spent());
     assert!(rt; (driver.boots_left(), driver.armed()) == (2, 0));
     Ok(())
 }
 
 // Writes one byte to block 8, so many times.
-fn fill<B: Blocks>(driver: &mut B, times: u8) -> Result<(), BlockFault>
+pub fn fill<B: Blocks>(driver: &mut B, times: u8) -> Result<(), BlockFault>
     requires { Contains (B.state driver.old).numbers 8 }
     ensures { (B.state driver.new).numbers ≡ (B.state driver.old).numbers }
 {

@@ -1,0 +1,146 @@
+//! Saves of a state of 64 events and a full memory.
+ghost use Rattle.std.specs.Prelude.{◌≡◌, IfSome};
+ghost use Rattle.flt_nvm.specs.Driver.{driver_of as driver_beneath, table_of};
+ghost use Rattle.flt_generation.specs.Layout.{numbers};
+ghost use Rattle.flt_image.specs.Table.{block_table};
+ghost use Rattle.flt_store.specs.Cause.{HasRoom};
+ghost use Rattle.flt_store.specs.Store.{driver_of};
+
+use crate::PAGES;
+use arrayvec::ArrayVec;
+use flt_config::{Config, EntryState, EventCfg, Frame, Persist, ValidConfig, check, fits, initial};
+use flt_fee::Fee;
+use flt_flash::{Blocks, FlashMem};
+use flt_image::{block_table, fee_numbers, laws};
+use flt_nvm::Nvm;
+use flt_store::Store;
+use std::alloc::Global;
+
+// Which blocks of the state change from save to save.
+#[derive(Clone, Copy, PartialEq, Eq)]
+enum Changed {
+    Nothing,
+    One,
+    All,
+}
+
+// 64 events, room for 16 entries, and no application block.
+fn config() -> Option<ValidConfig> {
+    let mut events = ArrayVec::new();
+    for number in 0..64 {
+        if !events.is_full() {
+            events.push(EventCfg {
+                dtc: 1 + number,
+                priority: 1,
+                cycle: 0,
+                confirm: 1,
+                heal: 3,
+                age: 40,
+                indicator: false,
+                debounce: Default::default(),
+                dids: ArrayVec::new(),
+            });
+        }
+    }
+    check(Config {
+        id: 0,
+        memory: 16,
+        pages: PAGES,
+        blocks: 0,
+        events,
+    })
+    .ok()
+}
+
+// A state with an entry of each of the first 16 events.
+fn full_state(config: &ValidConfig) -> Persist {
+    let mut state = initial(config);
+    for event in 0..16 {
+        if !state.entries.is_full() {
+            state.entries.push(EntryState {
+                event,
+                occurrence: 1,
+                first: Frame::new(),
+                recent: Frame::new(),
+            });
+        }
+    }
+    state
+}
+
+// Changes the state as asked, the `turn`th time.
+fn change(state: &mut Persist, changed: Changed, turn: u16) {
+    if changed == Changed::Nothing {
+        return;
+    }
+    let count = 1 + (turn % 255) as u8;
+    for event in state.events.iter_mut() {
+        event.failed = count;
+        if changed == Changed::One {
+            return;
+        }
+    }
+    for entry in state.entries.iter_mut() {
+        entry.occurrence = count;
+    }
+    state.overflow = turn % 2 == 0;
+}
+
+// Saves the state, changed before each save.
+fn save_again<B: Blocks + Drop>(
+    store: &mut Store<B>,
+    config: &ValidConfig,
+    changed: Changed,
+    times: u16,
+) -> Option<()>
+    requires { HasRoom config.now (driver_of store.old).room }
+{
+    let mut found = initial(config);
+    store.start_up(config, &mut found).ok()?;
+    let mut state = full_state(config);
+    if !fits(config, &state) {
+        return None;
+    }
+    store.save(config, &state).ok()?;
+    for turn in 0..times {
+        change(&mut state, changed, turn);
+        if !fits(config, &state) {
+            return None;
+        }
+        store.save(config, &state).ok()?;
+    }
+    Some(())
+}
+
+// Blocks by identifier over a blank flash whose sectors have the configuration's pages.
+fn blocks_over(alloc: Global, config: &ValidConfig) -> Option<Nvm<Fee<FlashMem>>>
+    ensures numbers { IfSome result (λ nvm. (driver_beneath nvm).numbers ≡ numbers) }
+    ensures table { IfSome result (λ nvm. table_of nvm ≡ block_table) }
+    ensures room { IfSome result (λ nvm. HasRoom config.now (driver_beneath nvm).room) }
+{
+    let used = config.config().pages;
+    let flash = FlashMem::blank(alloc, PAGES, 1).ok()?;
+    if used > PAGES {
+        return None;
+    }
+    laws::numbers_are_distinct();
+    laws::numbers_serve_table();
+    match Fee::make(alloc, flash, used, fee_numbers(alloc).ok()?) {
+        Ok(driver) => Some(Nvm::make(driver, block_table(alloc).ok()?)),
+        Err(_) => None,
+    }
+}
+
+/// Starts up on a blank flash, saves a state whose every block is new, and then saves as often as asked what the word names.
+pub fn run_saves(alloc: Global, what: &str, times: u16) -> Option<FlashMem> {
+    let changed = match what {
+        "saves-of-nothing" => Changed::Nothing,
+        "saves-of-one" => Changed::One,
+        "saves-of-all" => Changed::All,
+        _ => return None,
+    };
+    let config = config()?;
+    let mut store = Store::make(blocks_over(alloc, &config)?);
+    save_again(&mut store, &config, changed, times)?;
+    Some(store.retire().retire())
+}
