@@ -1,5 +1,5 @@
 // The driver over two sectors.
-ghost use Rattle.std.specs.Prelude.{◌≡◌, ◌≢◌, ◌+◌, ◌-◌, ◌*◌, ◌^◌, ◌<◌, ◌≤◌, ℕ, length, true, false, Contains, IsFalse, IsTrue, IfOk, IfErr, OnOk, OnErr, IsErrOf, Ok, Some, None};
+ghost use Rattle.std.specs.Prelude.{◌≡◌, ◌≢◌, ◌+◌, ◌-◌, ◌*◌, ◌^◌, ◌<◌, ◌≤◌, ℕ, length, true, false, Contains, IsFalse, IsTrue, IfOk, IfErr, IfSome, OnOk, OnErr, IsErrOf, Ok, Some, None};
 ghost use Rattle.std.specs.List.{AllPairs};
 ghost use Rattle.std.proofs.Props.{props};
 ghost use Rattle.flt_flash.specs.Content.{invalid, bytes as holding, size_of};
@@ -389,9 +389,11 @@ impl<F: Flash> Fee<F> {
         }
     }
 
-    /// The flash, as the driver left it.
+    /// The flash, as the driver left it: what the driver told of its device holds of it, and each sector has the pages that the
+    /// driver used, two more than its room.
     pub fn retire(self) -> F
-        ensures { device_of (F.state result) ≡ (state_of F.state self).device }
+        ensures device { device_of (F.state result) ≡ (state_of F.state self).device }
+        ensures pages { IfSome (state_of F.state self).room (λ room. room + 2 ≤ (F.state result).pages) }
     {
         self.flash
     }

@@ -22,12 +22,14 @@ pub trait Flash {
     fn pages(&self) -> u16
         ensures { result ≡ (state self.now).pages };
 
-    /// Reads a page. A read that fails changes nothing of the flash, and says nothing of `out`.
+    /// Reads a page. A read, one that fails too, changes no bit and turns the flash neither off nor on; one that fails says nothing
+    /// of `out`.
     fn read_page(&mut self, sector: u8, page: u16, out: &mut [u8; 32]) -> Result<(), FlashFailed>
         requires sector { sector < 2 }
         requires page { page < (state self.old).pages }
         ensures read { OnOk result (out.new ≡ page_at (state self.old).image sector page) }
         ensures image { (state self.new).image ≡ (state self.old).image }
+        ensures off { (state self.new).is_off ≡ (state self.old).is_off }
         ensures wear { (state self.new).wear ≡ (state self.old).wear }
         ensures operation { Operates (state self.old) (state self.new) result };
 

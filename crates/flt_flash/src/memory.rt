@@ -148,6 +148,7 @@ impl Flash for FlashMem {
         requires page { page < (state_of self.old).pages }
         ensures read { OnOk result (out.new ≡ page_at (state_of self.old).image sector page) }
         ensures image { (state_of self.new).image ≡ (state_of self.old).image }
+        ensures off { (state_of self.new).is_off ≡ (state_of self.old).is_off }
         ensures wear { (state_of self.new).wear ≡ (state_of self.old).wear }
         ensures operation { Operates (state_of self.old) (state_of self.new) result }
 

@@ -21,7 +21,7 @@ returns-in-Ok-clause-sound g c =
     (is_on_sectors c.args.config.now.pages c.args.fee.used c.args.fee.numbers.items c.args.fee.is_stale c.args.fee.has_mounted (g.B.Flash.state c.args.fee.flash) c.args.fee.least c.requires.numbers c.requires.room))
     (is_on_sectors c.args.config.now.pages last.used last.numbers.items last.is_stale last.has_mounted (g.B.Flash.state last.flash) last.least c.run_lives-lived.new.store.numbers room)
     (sym (ap (λ (d : BlocksState). d.device) made))
-    (c.retire-bench.ensures ∙ ap (λ (d : BlocksState). d.device) c.retire.ensures)
+    (c.retire-bench.ensures.device ∙ ap (λ (d : BlocksState). d.device) c.retire.ensures)
     c.run_lives-lived.ensures.sound
 
 pub returns-in-Err-clause-sound : goal.returns-in-Err-clause-sound
@@ -35,7 +35,7 @@ returns-in-Err-clause-sound g c =
     (is_on_sectors c.args.config.now.pages c.args.fee.used c.args.fee.numbers.items c.args.fee.is_stale c.args.fee.has_mounted (g.B.Flash.state c.args.fee.flash) c.args.fee.least c.requires.numbers c.requires.room))
     (is_on_sectors c.args.config.now.pages last.used last.numbers.items last.is_stale last.has_mounted (g.B.Flash.state last.flash) last.least c.run_lives-lived.new.store.numbers room)
     (sym (ap (λ (d : BlocksState). d.device) made))
-    (c.retire-bench.ensures ∙ ap (λ (d : BlocksState). d.device) c.retire.ensures)
+    (c.retire-bench.ensures.device ∙ ap (λ (d : BlocksState). d.device) c.retire.ensures)
     c.run_lives-lived.ensures.sound
 
 pub returns-in-Ok-clause-linked : goal.returns-in-Ok-clause-linked
@@ -44,7 +44,7 @@ returns-in-Ok-clause-linked g c =
     let linked = c.in-Ok.ensures.linked (sectors c.args.config.now.pages)
     (λ driver numbers room. is_on_sectors c.args.config.now.pages driver.used driver.numbers.items driver.is_stale driver.has_mounted (g.B.Flash.state driver.flash) driver.least numbers room) in
     subst (λ (d : DeviceState). IsLinked c.args.config.now (sectors c.args.config.now.pages) (device_of (g.B.Flash.state c.args.fee.flash)) d (map view_of (reverse c.in-Ok.lives.items)))
-    (sym (c.retire-bench.ensures ∙ ap (λ (d : BlocksState). d.device) c.retire.ensures))
+    (sym (c.retire-bench.ensures.device ∙ ap (λ (d : BlocksState). d.device) c.retire.ensures))
     (subst (λ (d : DeviceState). IsLinked c.args.config.now (sectors c.args.config.now.pages) d (driver_of c.run_lives-lived.new.store).device (map view_of (reverse c.in-Ok.lives.items)))
     (ap (λ (d : BlocksState). d.device) made)
     linked)
