@@ -4,7 +4,12 @@ use Rattle.flt_config.specs.declared.config.Config.{Config}
 use Rattle.flt_config.specs.declared.persist.Persist.{Persist}
 use Rattle.flt_generation.specs.Layout.{first_part, part_of, is_used}
 use Rattle.flt_generation.specs.Form.{block_bytes, part_length}
+use Rattle.flt_image.specs.declared.blocks.TheConstants.{LONGEST}
 use Rattle.flt_image.specs.declared.blocks.StateBlocks.{StateBlocks}
+
+-- the most bytes of a block of a state
+abbrev pub longest : ℕ
+longest = LONGEST
 
 -- the bytes that are kept of a block
 abbrev pub bytes_at : StateBlocks → ℕ → List ℕ

@@ -2,7 +2,7 @@
 ghost use Rattle.std.specs.Prelude.{◌≡◌, ◌≢◌, ℕ, ◌<◌, ◌≤◌, ◌+◌, IfSome, Some, List, length, bytes_eq, IsTrue, IsFalse};
 ghost use Rattle.std.specs.List.{list_all, range_with_len};
 ghost use Rattle.flt_generation.specs.Form.{commit_bytes};
-ghost use Rattle.flt_generation.specs.Layout.{index_in};
+ghost use Rattle.flt_generation.specs.Layout.{first_part, parts, end_part, index_in};
 ghost use Rattle.flt_generation.specs.Reading.{commit_from, commit_in, is_index, is_commit};
 ghost use Rattle.flt_generation.specs.Successor.{IsNext, IsNextIndex, number_in};
 ghost use Rattle.flt_image.specs.Blocks.{bytes_at};
@@ -63,8 +63,8 @@ fn next_index(
     after: &[u8],
     id: u16,
 ) -> u8
-    requires first { 3 ≤ id }
-    requires end { id < 24 }
+    requires first { first_part ≤ id }
+    requires end { id < end_part }
     ensures { IsNextIndex config.now current.now before.now after.now id result }
 {
     if !is_used(config, id) {
@@ -102,7 +102,7 @@ fn is_index(config: &ValidConfig, id: u16, index: u8) -> bool
 }
 
 fn has_indices(config: &ValidConfig, commit: &Commit) -> bool
-    ensures { result ≡ list_all (λ id. is_index config.now id (index_in commit.now id)) (range_with_len 3 21) }
+    ensures { result ≡ list_all (λ id. is_index config.now id (index_in commit.now id)) (range_with_len first_part parts) }
 {
     for id in FIRST_PART..END_PART {
         if !is_index(config, id, commit.index[(id - FIRST_PART) as usize]) {

@@ -1,6 +1,6 @@
 // Which blocks a configuration has, and which part of a generation each of them holds.
 ghost use Rattle.std.specs.Prelude.{◌≡◌, ◌<◌, ◌≤◌, ◌+◌, ◌++◌, [], ◌∷◌, if◌then◌else◌, length};
-ghost use Rattle.flt_generation.specs.Layout.{part_of, has_part, is_used, used_ids};
+ghost use Rattle.flt_generation.specs.Layout.{part_of, parts, has_part, is_used, used_ids};
 
 use arrayvec::ArrayVec;
 use flt_config::ValidConfig;
@@ -54,7 +54,7 @@ pub fn used_ids(config: &ValidConfig) -> ArrayVec<u16, INDICES>
 
 // Puts a block behind the others, if it is used.
 fn push_used(config: &ValidConfig, id: u16, ids: &mut ArrayVec<u16, INDICES>)
-    requires room { length ids.old.items < 21 }
+    requires room { length ids.old.items < parts }
     ensures items { ids.new.items ≡ ids.old.items ++ (if is_used config.now id then id ∷ [] else []) }
     ensures size { length ids.new.items ≤ length ids.old.items + 1 }
 {

@@ -19,7 +19,7 @@ mod summary;
 mod table;
 
 pub use block::{get_block, put_block};
-pub use blocks::StateBlocks;
+pub use blocks::{LONGEST, StateBlocks};
 pub use commit::{get_commit, next_commit, put_commit};
 pub use flt_generation::{Commit, Mark};
 pub use layout::{is_used, used_ids};

@@ -1,10 +1,13 @@
 -- Which blocks of the table have one copy, and that the commit has two.
 use Rattle.std.proofs.Common.{ℕ, ◌+◌, ◌<◌, ◌≤◌, ◌≡◌, Option, refl, sym, subst, arith}
-use Rattle.std.specs.Prelude.{IsSomeAnd}
+use Rattle.std.specs.Prelude.{IsSomeAnd, IsTrue}
 use Rattle.flt_nvm.specs.declared.table.BlockCfg.{BlockCfg}
 use Rattle.flt_nvm.specs.declared.table.Kind.TheVariants.{Redundant}
 use Rattle.flt_nvm.specs.Table.{IsRedundant}
-use Rattle.flt_generation.specs.Layout.{mark_id, commit_id, first_part, end_part, first_application, applications}
+use Rattle.flt_config.specs.declared.config.Config.{Config}
+use Rattle.flt_generation.specs.declared.commit.Commit.{Commit}
+use Rattle.flt_generation.specs.Layout.{mark_id, commit_id, first_part, end_part, first_application, applications, is_used, index_in}
+use Rattle.flt_generation.specs.Form.{IsCommit}
 use Rattle.flt_image.specs.Table.{block_table}
 use Rattle.flt_image.proofs.TableRows.{mark_row, commit_row, part_row, application_row}
 use Rattle.flt_restore.specs.Found.{IsIndexOf, IsSingle}
@@ -17,6 +20,10 @@ mark_is_single = subst (λ (row : Option BlockCfg). IsSomeAnd row (λ block. IsI
 
 pub part_is_single : (id index : ℕ) → first_part ≤ id → id < end_part → index ≤ 1 → IsSingle id index
 part_is_single id index low high small = subst (λ (row : Option BlockCfg). IsSomeAnd row (λ block. IsIndexOf block.kind index)) (sym (part_row id low high)) (omega (arith, small))
+
+-- an index at which a commit names a used block
+pub named_is_single : (c : Config) (commit : Commit) → IsCommit c commit → (id : ℕ) → first_part ≤ id → id < end_part → IsTrue (is_used c id) → IsSingle id (index_in commit id)
+named_is_single c commit form id low high used = part_is_single id (index_in commit id) low high ((form.indices id low high).used used)
 
 pub application_is_single : (block : ℕ) → block < applications → IsSingle (first_application + block) 0
 application_is_single block within = subst (λ (row : Option BlockCfg). IsSomeAnd row (λ block. IsIndexOf block.kind 0)) (sym (application_row block within)) (omega arith)

@@ -1,3 +1,4 @@
 pub mod Found
+pub mod Learning
 pub mod Judging
 pub mod Restored

@@ -4,7 +4,7 @@ ghost use Rattle.flt_config.specs.Validity.{needed_pages as needed_of};
 ghost use Rattle.flt_flash.specs.State.{HasRisenBy};
 ghost use Rattle.flt_nvm.specs.Driver.{driver_of, table_of};
 ghost use Rattle.flt_image.specs.Table.{block_table};
-ghost use Rattle.flt_generation.specs.Layout.{number_of, parts};
+ghost use Rattle.flt_generation.specs.Layout.{number_of, first_part, end_part, parts};
 ghost use Rattle.flt_restore.specs.Found.{IsSingle, Reads};
 ghost use Rattle.flt_flash.specs.Content.{Content};
 ghost use Rattle.flt_generation.specs.declared.place.Place.TheVariants.{Block};
@@ -25,8 +25,8 @@ use flt_nvm::Nvm;
 
 // Whether the commit that was read names this index of a part.
 fn is_named(commit: &Option<CommitCopy>, id: u16, index: u8) -> bool
-    requires first { 3 ≤ id }
-    requires end { id < 24 }
+    requires first { first_part ≤ id }
+    requires end { id < end_part }
     ensures { result ≡ is_named commit.now id index }
 {
     match commit {
@@ -46,8 +46,8 @@ fn read_index<B: Blocks + Drop>(
     requires own { NamesOwn config.now (driver_of nvm.old).value commit.now }
     requires table { table_of nvm.old ≡ block_table }
     requires mounted { IsTrue (driver_of nvm.old).has_mounted }
-    requires first { 3 ≤ id }
-    requires end { id < 24 }
+    requires first { first_part ≤ id }
+    requires end { id < end_part }
     requires index { index ≤ 1 }
     ensures pages { IfOk result (λ pages. pages ≡ beyond config.now (driver_of nvm.old).value (number_of id index)) }
     ensures most { IfOk result (λ pages. pages ≤ 6) }
@@ -71,8 +71,8 @@ fn read_indices<B: Blocks + Drop>(
     requires own { NamesOwn config.now (driver_of nvm.old).value commit.now }
     requires table { table_of nvm.old ≡ block_table }
     requires mounted { IsTrue (driver_of nvm.old).has_mounted }
-    requires first { 3 ≤ id }
-    requires end { id < 24 }
+    requires first { first_part ≤ id }
+    requires end { id < end_part }
     ensures pages { IfOk result (λ pages. pages ≡ beyond_of_part config.now (driver_of nvm.old).value id) }
     ensures most { IfOk result (λ pages. pages ≤ 12) }
     ensures flash { OnErr result (HasRisenBy 3 (driver_of nvm.old).device.faults (driver_of nvm.new).device.faults) }

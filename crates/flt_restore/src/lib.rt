@@ -12,6 +12,7 @@ mod excess;
 mod fault;
 mod generation;
 mod judging;
+mod named;
 mod pages;
 mod parts;
 mod reading;
@@ -19,6 +20,7 @@ mod restoring;
 
 pub use commit::CommitCopy;
 pub use fault::StartFault;
+pub use named::read_blocks;
 pub use restoring::restore;
 
 #[cfg(test)]

@@ -2,7 +2,7 @@
 ghost use Rattle.std.specs.Prelude.{◌≡◌, ◌≤◌, ◌<◌, length, Ok, IfErr, OnOk, IsTrue, IsFalse};
 ghost use Rattle.flt_nvm.specs.Driver.{driver_of, table_of};
 ghost use Rattle.flt_image.specs.Table.{block_table};
-ghost use Rattle.flt_generation.specs.Layout.{parts};
+ghost use Rattle.flt_generation.specs.Layout.{first_part, end_part, parts};
 ghost use Rattle.flt_generation.specs.Form.{IsCommit};
 ghost use Rattle.flt_generation.specs.Holding.{parts_read, with_named};
 ghost use Rattle.flt_restore.specs.Found.{Reads};
@@ -29,8 +29,8 @@ fn read_part<B: Blocks + Drop>(
     requires table { table_of nvm.old ≡ block_table }
     requires mounted { IsTrue (driver_of nvm.old).has_mounted }
     requires form { IsCommit config.now commit.now }
-    requires first { 3 ≤ id }
-    requires end { id < 24 }
+    requires first { first_part ≤ id }
+    requires end { id < end_part }
     requires states { length out.old.events.items ≡ length config.now.events.items }
     ensures told { OnOk result (with_named config.now (driver_of nvm.old).value commit.now id out.old ≡ Ok out.new) }
     ensures refused { IfErr result (Tells config.now (driver_of nvm.old) (driver_of nvm.new) (with_named config.now (driver_of nvm.old).value commit.now id out.old)) }

@@ -1,5 +1,5 @@
 -- What a start-up makes of the generation that it judged.
-use Rattle.std.proofs.Common.{◌≡◌, ◌≢◌, inl, inr, ⊎_elim, ℕ, ◌-◌, Bool, true, false, Option, Some, None, Result, Ok, refl, sym, ◌∙◌, ap, subst, arith}
+use Rattle.std.proofs.Common.{◌≡◌, ◌≢◌, inl, inr, ⊎_elim, ℕ, ◌-◌, Bool, true, false, Option, Some, None, Result, Ok, refl, sym, ◌∙◌, ap, subst, arith, rules}
 use Rattle.std.specs.Prelude.{IsFalse}
 use Rattle.std.proofs.lemmas.Bool.{cases_eq}
 use Rattle.flt_flash.specs.Content.{Content, missing, invalid, bytes}
@@ -8,9 +8,11 @@ use Rattle.flt_flash.specs.Blocks.{BlocksState}
 use Rattle.flt_flash.specs.Calls.{Follows, SameValues}
 use Rattle.flt_config.specs.declared.config.Config.{Config}
 use Rattle.flt_config.specs.declared.persist.Persist.{Persist}
+use Rattle.flt_config.specs.Durable.{Fits, initial_state}
 use Rattle.flt_generation.specs.Layout.{commit_id, number_of, mark_number, first_commit, second_commit}
 use Rattle.flt_generation.specs.Laws.{IsGiven}
 use Rattle.flt_generation.specs.Holding.{Generation, Fault, Holds, IsSound, OldOrNew, either_copy, only_bytes, held, spare}
+use Rattle.flt_generation.proofs.Sofar.{initial_states}
 use Rattle.flt_generation.proofs.ImageLaws.{held_stands, spare_stands}
 use Rattle.flt_restore.specs.declared.commit.CommitCopy.{CommitCopy}
 use Rattle.flt_restore.specs.Restored.{HasBytes, IsJudged, IsCopy, IsRestored, generation}
@@ -96,6 +98,26 @@ pub begins_of : (c : Config) → IsGiven c → (before after : BlocksState) (fou
 begins_of c given before after found state same restored =
     let values : before.value ≡ after.value = λ i number. sym (same number) i in
     subst (λ (value : ℕ → Content). Begins c value found (generation found state)) values (begins_at c given before after found state restored)
+
+initial_fits : (c : Config) → Fits c (initial_state c)
+initial_fits c = record {
+  states = initial_states c;
+  room = omega arith;
+  entries = search rules;
+  distinct = search rules;
+  first_failed = tt;
+  first_confirmed = tt;
+  recent_failed = tt;
+  recent_confirmed = tt;
+}
+
+-- the state from which a start-up begins fits
+begun_fits : (c : Config) (value : ℕ → Content) (found : Option CommitCopy) (state : Persist) → Begins c value found (generation found state) → Fits c state
+begun_fits c value None state begins = subst (λ (g : Generation). Fits c g.state) (sym begins.0.names) (initial_fits c)
+begun_fits c value (Some found) state begins = begins.0.names.2.fits
+
+pub restored_fits : (c : Config) → IsGiven c → (before after : BlocksState) (found : Option CommitCopy) (state : Persist) → SameValues before after → IsRestored c before after found state → Fits c state
+restored_fits c given before after found state same restored = begun_fits c after.value found state (begins_of c given before after found state same restored)
 
 pub found_in : (value : ℕ → Content) (found : Option CommitCopy) (c : Config) (g : Generation) → Begins c value found g → IsFoundIn value found
 found_in value None c g begins = tt

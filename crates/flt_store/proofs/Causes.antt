@@ -13,9 +13,6 @@ use Rattle.flt_config.specs.declared.config.Config.{Config}
 use Rattle.flt_nvm.specs.Table.{number_of}
 use Rattle.flt_nvm.specs.Leaves.{FailsThrice as FailsInThree, Gives, GivesBoth}
 use Rattle.flt_generation.specs.Layout.{numbers, commit_id, first_commit, second_commit}
-use Rattle.flt_generation.specs.Form.{part_length}
-use Rattle.flt_generation.specs.declared.part.Part.{Part}
-use Rattle.flt_generation.specs.declared.part.Part.TheVariants.{Summary, States, Entry}
 use Rattle.flt_generation.specs.Excess.{own_pages, excess, IsBorne}
 use Rattle.flt_generation.specs.Laws.{IsGiven}
 use Rattle.flt_generation.proofs.Pages.{borne_has_room}
@@ -135,11 +132,6 @@ own_first c = refl
 pub own_second : (c : Config) → own_pages c second_commit ≡ 3
 unfolding own_pages
 own_second c = refl
-
-pub part_short : (part : Part) → part_length part ≤ 68
-part_short Summary = omega arith
-part_short (States first) = omega arith
-part_short (Entry place) = omega arith
 
 -- one number was written with no more than the configuration may write there
 pub given_within : (c : Config) (before after : BlocksState) (number : ℕ) (asked : Content) (size : ℕ) (result : Result (Unit {0}) BlockFault) → Gives before after number asked size result

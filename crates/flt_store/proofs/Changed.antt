@@ -9,7 +9,7 @@ use Rattle.flt_flash.specs.Blocks.{record_pages}
 use Rattle.flt_config.specs.declared.config.Config.{Config}
 use Rattle.flt_config.specs.declared.persist.Persist.{Persist}
 use Rattle.flt_generation.specs.declared.commit.Commit.{Commit}
-use Rattle.flt_generation.specs.Layout.{first_part, is_used, part_of}
+use Rattle.flt_generation.specs.Layout.{first_part, parts, is_used, part_of}
 use Rattle.flt_generation.specs.Form.{block_bytes}
 use Rattle.flt_generation.specs.Reading.{commit_in}
 use Rattle.flt_generation.specs.Holding.{Generation}
@@ -19,14 +19,14 @@ use Rattle.flt_generation.proofs.Commits.{commit_read}
 use Rattle.flt_generation.proofs.Pages.{used_range}
 use Rattle.flt_image.specs.Blocks.{AreBlocksOf}
 use Rattle.flt_store.specs.Cost.{written_sum, pages_to_write}
-use Rattle.flt_store.specs.Keeping.{HasCommit, KeepsPlaces}
-use Rattle.flt_store.specs.Known.{Knows}
+use Rattle.flt_store.specs.Keeping.{HasCommit, KeepsFrom}
+use Rattle.flt_store.specs.Known.{Knows, KnowsNamed}
 use Rattle.flt_store.specs.Started.{IsStarted}
 use Rattle.flt_store.proofs.Costs.{sum_below}
 use Rattle.flt_store.proofs.Successors.{used_of, moved_of, some_length}
 
 -- the commit that a started image has is the one by which it was started
-same_commit : (c : Config) (value : ℕ → Content) (started_by : Option Commit) (g : Generation) → IsStarted c value started_by g → (commit : Commit) → HasCommit c value commit → started_by ≡ Some commit
+pub same_commit : (c : Config) (value : ℕ → Content) (started_by : Option Commit) (g : Generation) → IsStarted c value started_by g → (commit : Commit) → HasCommit c value commit → started_by ≡ Some commit
 same_commit c value None g started commit has = (let none = started.first in let some = has.1 in absurd (cc (none, some)))
 same_commit c value (Some by) g started commit has =
     let raw : started.first.0 ≡ has.0 = bytes_same (started.first.0) (has.0) (sym started.first.1 ∙ has.1) in
@@ -36,22 +36,21 @@ same_commit c value (Some by) g started commit has =
     bytes_same : (one two : List ℕ) → bytes one ≡ bytes two → one ≡ two
     bytes_same one two same = cc same
 
-module _ (c : Config) (kept bytes_of : ℕ → List ℕ) (old new : Persist) (knows : Knows c kept old) (told : AreBlocksOf c new bytes_of) where
-  indices : (commit next : Commit) → IsNext c (Some commit) kept bytes_of next → KeepsIndices c old new commit next
-  indices commit next follows id used same =
+module _ (c : Config) (kept bytes_of : ℕ → List ℕ) (old new : Persist) (told : AreBlocksOf c new bytes_of) where
+  indices : (commit next : Commit) → Knows c kept old → IsNext c (Some commit) kept bytes_of next → KeepsIndices c old new commit next
+  indices commit next knows follows id used same =
       let range = used_range c id used in
       ⊎_elim
       (λ stays. stays.1)
       (λ moves. absurd (moves.0 (knows id used ∙ same ∙ sym (told.bytes id used))))
       ((follows.blocks id range.0 range.1).used used)
 
-  pub keeps_places : (before after : ℕ → Content) (current : Option Commit) (next : Commit) (g h : Generation) → IsStarted c before current g → IsStarted c after (Some next) h → IsNext c current kept bytes_of next
-      → KeepsPlaces c old new before after
-  keeps_places before after current next g h started ended follows one two has_one has_two =
-      let by_one : current ≡ Some one = same_commit c before current g started one has_one in
-      let by_two : next ≡ two = some_same next two (same_commit c after (Some next) h ended two has_two) in
+  pub keeps_from : (after : ℕ → Content) (from : Option Commit) (next : Commit) (g : Generation) → KnowsNamed c from kept old → IsStarted c after (Some next) g → IsNext c from kept bytes_of next
+      → KeepsFrom c old new from after
+  keeps_from after from next g knows ended follows one two is has_two =
+      let by_two : next ≡ two = some_same next two (same_commit c after (Some next) g ended two has_two) in
       subst (λ (commit : Commit). KeepsIndices c old new one commit) by_two
-      (indices one next (subst (λ (commit : Option Commit). IsNext c commit kept bytes_of next) by_one follows))
+      (indices one next (subst (λ (commit : Option Commit). KnowsNamed c commit kept old) is knows) (subst (λ (commit : Option Commit). IsNext c commit kept bytes_of next) is follows))
     where
       some_same : (x y : Commit) → Some x ≡ Some y → x ≡ y
       some_same x y same = cc same
@@ -78,12 +77,12 @@ module _ (c : Config) (current : Option Commit) (next : Commit) (bytes_of before
     | inr left ↦ (let here = not_chosen (is_written c current next id) (record_pages (length (bytes_of id))) 0 left in omega (arith, here))
   ]
 
-  sum_written : written_sum c current next (λ id. record_pages (length (bytes_of id))) 21 ≤ changed_pages c before (block_bytes state)
+  sum_written : written_sum c current next (λ id. record_pages (length (bytes_of id))) parts ≤ changed_pages c before (block_bytes state)
   unfolding written_sum changed_pages
-  sum_written = sum_below (λ id. if is_written c current next id then record_pages (length (bytes_of id)) else 0) (pages_changed c before (block_bytes state)) each_written (range_with_len first_part 21)
+  sum_written = sum_below (λ id. if is_written c current next id then record_pages (length (bytes_of id)) else 0) (pages_changed c before (block_bytes state)) each_written (range_with_len first_part parts)
 
 pub written_pages : (c : Config) (current : Option Commit) (next : Commit) (kept bytes_of : ℕ → List ℕ) (state : Persist) → IsNext c current kept bytes_of next → AreBlocksOf c state bytes_of
-    → written_sum c current next (λ id. record_pages (length (bytes_of id))) 21 ≤ pages_to_write c current kept (block_bytes state)
+    → written_sum c current next (λ id. record_pages (length (bytes_of id))) parts ≤ pages_to_write c current kept (block_bytes state)
 written_pages c None next kept bytes_of state follows told = sum_written c None next bytes_of (λ id. []) state told some
   where
     some : (id : ℕ) → IsTrue (is_written c None next id) → [] ≢ block_bytes state id
@@ -116,7 +115,7 @@ module _ (c : Config) (one two after : ℕ → List ℕ) (same : (id : ℕ) → 
 
   same_pages : changed_pages c one after ≤ changed_pages c two after
   unfolding changed_pages
-  same_pages = sum_below (pages_changed c one after) (pages_changed c two after) each_same (range_with_len first_part 21)
+  same_pages = sum_below (pages_changed c one after) (pages_changed c two after) each_same (range_with_len first_part parts)
 
   pub pages_by : (current : Option Commit) → pages_to_write c current one after ≤ pages_to_write c current two after
   pages_by None = omega arith

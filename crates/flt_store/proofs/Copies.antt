@@ -10,9 +10,11 @@ use Rattle.flt_nvm.specs.declared.got.Got.TheVariants.{Bytes, Missing, Invalid}
 use Rattle.flt_nvm.specs.Leaves.{HasNoBytes, IsEither, GotOf, GotOfBoth}
 use Rattle.flt_generation.specs.declared.commit.Commit.{Commit}
 use Rattle.flt_generation.specs.Layout.{commit_id, number_of, first_commit, second_commit}
+use Rattle.flt_generation.specs.Reading.{commit_in}
 use Rattle.flt_generation.specs.Excess.{IsBorne}
 use Rattle.flt_generation.specs.Holding.{Generation, Holds, IsSound, OldOrNew}
 use Rattle.flt_store.specs.Cause.{FailsThrice, IsWithinOwn}
+use Rattle.flt_store.specs.Keeping.{IsOfFirst}
 use Rattle.flt_store.specs.Started.{IsStarted, StartsEither}
 use Rattle.flt_store.proofs.Causes.{borne_stays}
 use Rattle.flt_store.proofs.Repairing.{content_read, held_of_first, spare_of_second, spare_is_held, sound_kept, second_tried, first_tried, but_for_copy}
@@ -113,3 +115,22 @@ invalid_read (bytes held) before after got = absurd got
 
 pub stays_started : (c : Config) (before after : ℕ → Content) → ((number : ℕ) → after number ≡ before number) → (g : Generation) → IsStarted c before None g → IsStarted c after None g
 stays_started c before after same g started = let values : before ≡ after = λ i number. sym (same number) i in subst (λ (value : ℕ → Content). IsStarted c value None g) values started
+
+-- the commit of the bytes that were read is that of the first copy, or the flash failed three times
+module _ (c : Config) (before : BlocksState) where
+  bytes_same : (one two : List ℕ) → bytes one ≡ bytes two → one ≡ two
+  bytes_same one two same = cc same
+
+  none_held : (raw : List ℕ) (content : Content) → content ≡ bytes raw → HasNoBytes content → ⊥
+  none_held raw content is none = subst HasNoBytes is none
+
+  pub of_first : (middle after : BlocksState) (raw : List ℕ) (copy : ℕ) (found : Commit) → IsCopyRead before middle raw copy → HasRisenBy 0 middle.device.faults after.device.faults → commit_in c raw ≡ Some found
+      → IsOfFirst c before after (Some found)
+  of_first middle after raw copy found read counts is commit has =
+      ⊎_elim
+      (λ one. inl (sym is ∙ ap (commit_in c) (bytes_same raw has.0 (sym one.1 ∙ has.1)) ∙ has.2))
+      (λ two. ⊎_elim (λ none. absurd (none_held has.0 (before.value first_commit) has.1 none)) (λ rose. inr (omega (arith, rose, counts))) two.2)
+      read
+
+  pub none_of_first : (after : BlocksState) → HasNoBytes (before.value first_commit) → IsOfFirst c before after None
+  none_of_first after none commit has = absurd (none_held has.0 (before.value first_commit) has.1 none)

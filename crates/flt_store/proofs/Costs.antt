@@ -14,7 +14,7 @@ use Rattle.flt_config.specs.declared.config.Config.{Config}
 use Rattle.flt_nvm.specs.Tries.{Tries, Changing}
 use Rattle.flt_nvm.specs.Leaves.{GivesInAJob, GivesInTwoJobs}
 use Rattle.flt_generation.specs.declared.commit.Commit.{Commit}
-use Rattle.flt_generation.specs.Layout.{first_part, is_used, used_ids}
+use Rattle.flt_generation.specs.Layout.{first_part, parts, is_used, used_ids}
 use Rattle.flt_generation.specs.Laws.{IsGiven}
 use Rattle.flt_generation.specs.Successor.{is_written}
 use Rattle.flt_generation.proofs.Choices.{chosen, not_chosen, range_more}
@@ -188,15 +188,15 @@ spends_through most before middle after first then_ c current next pages id leas
         omega (arith, step, count, place)
 
 -- where the row ended early
-pub spends_to_the_end : (most : ℕ) (before after : BlocksState) (c : Config) (current : Option Commit) (next : Commit) (pages : ℕ → ℕ) (count : ℕ) → count ≤ 21
+pub spends_to_the_end : (most : ℕ) (before after : BlocksState) (c : Config) (current : Option Commit) (next : Commit) (pages : ℕ → ℕ) (count : ℕ) → count ≤ parts
     → Spends most before after (written_sum c current next pages count) (written_sum c current next (λ id. most) count)
-    → Spends most before after (written_sum c current next pages 21) (written_sum c current next (λ id. most) 21)
+    → Spends most before after (written_sum c current next pages parts) (written_sum c current next (λ id. most) parts)
 spends_to_the_end most before after c current next pages count below spends = spends_less most before after _ _ _ _ (grown pages) (grown (λ id. most)) spends
   where
-    grown : (weight : ℕ → ℕ) → written_sum c current next weight count ≤ written_sum c current next weight 21
+    grown : (weight : ℕ → ℕ) → written_sum c current next weight count ≤ written_sum c current next weight parts
     grown weight =
-        let grows = sum_grows c current next weight count (21 - count) in
-        let whole : written_sum c current next weight (count + (21 - count)) ≡ written_sum c current next weight 21 = ap (written_sum c current next weight) (omega (arith, below)) in
+        let grows = sum_grows c current next weight count (parts - count) in
+        let whole : written_sum c current next weight (count + (parts - count)) ≡ written_sum c current next weight parts = ap (written_sum c current next weight) (omega (arith, below)) in
         omega (arith, grows, whole)
 
 -- each block that is written weighs no more than what it is given
@@ -242,9 +242,9 @@ module _ (c : Config) (current : Option Commit) (next : Commit) (most : ℕ) whe
             omega (arith, rest, sum, count, here)
       ]
 
-  pub limit_of_used : written_sum c current next (λ id. most) 21 ≤ length (used_ids c) * most
+  pub limit_of_used : written_sum c current next (λ id. most) parts ≤ length (used_ids c) * most
   unfolding written_sum used_ids
-  limit_of_used = weighs_used (range_with_len first_part 21)
+  limit_of_used = weighs_used (range_with_len first_part parts)
 
 -- a switch and a record within the pages of a sector
 pub switch_within : (c : Config) → IsGiven c → (room : Option ℕ) → HasRoom c room → SwitchesWithin room (2 * c.pages + 4)

@@ -1,6 +1,6 @@
 -- What keeps a store running.
-use Rattle.std.proofs.Common.{◌≡◌, ◌⊎◌, inl, inr, ⊎_elim, ℕ, ◌≤◌, Result, Ok, Err, sym, ap, subst, arith}
-use Rattle.std.specs.Prelude.{IfOk, OnOk, OnErr}
+use Rattle.std.proofs.Common.{◌≡◌, ◌⊎◌, inl, inr, ⊎_elim, ℕ, ◌≤◌, Bool, false, Result, Ok, Err, sym, ap, subst, arith}
+use Rattle.std.specs.Prelude.{IsTrue, IsFalse, IfOk, OnOk, OnErr}
 use Rattle.flt_flash.specs.Blocks.{BlocksState}
 use Rattle.flt_flash.specs.Calls.{Follows}
 use Rattle.flt_config.specs.declared.config.Config.{Config}
@@ -31,6 +31,26 @@ module _ (h s new : Generation) where
 -- later calls leave the choice
 pub chosen_on : {P Q R : Type 0} (first second third : BlocksState) → Follows second third → P ⊎ (Q × R × FailsThrice first second) → P ⊎ (Q × R × FailsThrice first third)
 chosen_on first second third follows = ⊎_elim (λ p. inl p) (λ more. inr (more.0, more.1, (let rose = more.2 in let counts = follows.counts in omega (arith, rose, counts))))
+
+-- later calls leave three faults, and fewer than three
+pub failed_on : (first second third : BlocksState) → Follows second third → FailsThrice first second → FailsThrice first third
+failed_on first second third follows rose = let counts = follows.counts in omega (arith, rose, counts)
+
+pub failed_later : (first second third : BlocksState) → Follows first second → FailsThrice second third → FailsThrice first third
+failed_later first second third follows rose = let counts = follows.counts in omega (arith, rose, counts)
+
+-- where a save failed before, the flash did not fail three times
+pub unfailed : (first second : BlocksState) (settled : Bool) → settled ≡ false → IsTrue settled ⊎ (FailsThrice first second → ⊥) → FailsThrice first second → ⊥
+unfailed first second settled failed undisturbed rose = ⊎_elim (λ settles. absurd (cc (settles, failed))) (λ never. never rose) undisturbed
+
+-- what holds to the end of a call holds until a moment in it
+pub undisturbed_until : {P : Type 0} (first second third : BlocksState) → Follows second third → P ⊎ (FailsThrice first third → ⊥) → P ⊎ (FailsThrice first second → ⊥)
+undisturbed_until first second third follows = ⊎_elim (λ p. inl p) (λ never. inr (λ rose. never (failed_on first second third follows rose)))
+
+-- an undisturbed save goes on from the held generation
+pub held_is_chosen : (first second : BlocksState) (settled : Bool) (h s chosen : Generation) → IsTrue settled ⊎ (FailsThrice first second → ⊥)
+    → (chosen ≡ h) ⊎ ((chosen ≡ s) × IsFalse settled × FailsThrice first second) → chosen ≡ h
+held_is_chosen first second settled h s chosen undisturbed = ⊎_elim (λ by_held. by_held) (λ by_spare. absurd (unfailed first second settled by_spare.1 undisturbed by_spare.2))
 
 -- each old generation, by the one from which a save went on
 pub one_of_chosen : {Q R : Type 0} (h s chosen new g : Generation) → (chosen ≡ h) ⊎ ((chosen ≡ s) × Q × R) → IsOneOf g chosen chosen new → IsOneOf g h s new

@@ -1,7 +1,6 @@
 pub mod Cause
 pub mod Started
 pub mod Known
-pub mod Reading
 pub mod Writing
 pub mod Cost
 pub mod Keeping

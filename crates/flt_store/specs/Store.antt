@@ -1,5 +1,5 @@
 -- A store that was started, and what its calls leave.
-use Rattle.std.specs.Prelude.{◌≡◌, ◌⊎◌, ℕ, ◌+◌, ◌≤◌, Bool, IsTrue, IsFalse, List, [], Option}
+use Rattle.std.specs.Prelude.{◌≡◌, ◌⊎◌, ℕ, ◌+◌, ◌≤◌, Bool, IsTrue, IsFalse, List, [], Option, Some}
 use Rattle.flt_flash.specs.Content.{Content, missing, invalid, bytes}
 use Rattle.flt_flash.specs.Blocks.{BlocksState}
 use Rattle.flt_flash.specs.declared.blocks.Blocks.{Ghosts}
@@ -12,7 +12,8 @@ use Rattle.flt_generation.specs.Holding.{Generation, IsSound, IsOneOf}
 use Rattle.flt_store.specs.declared.store.Store.{Store}
 use Rattle.flt_store.specs.Cause.{FailsThrice, HasRoom}
 use Rattle.flt_store.specs.Started.{HasMark, IsStarted}
-use Rattle.flt_store.specs.Known.{Knows, MayKnow}
+use Rattle.flt_store.specs.Known.{Knows, KnowsNamed, MayKnow}
+use Rattle.flt_store.specs.Keeping.{HasCommit}
 use Rattle.flt_image.specs.Blocks.{bytes_at}
 
 -- the state under this number
@@ -68,11 +69,21 @@ module _ {B : Type 0} {b : Ghosts B} where
   IsChosen held spare chosen before after =
       (chosen ≡ held) ⊎ ((chosen ≡ spare) × IsFalse (is_settled before) × FailsThrice (driver_of before) (driver_of after))
 
+  -- no save failed before, or the flash did not fail three times since then
+  abbrev pub IsUndisturbed : Store B b → Store B b → Type 0
+  IsUndisturbed before after = IsTrue (is_settled before) ⊎ (FailsThrice (driver_of before) (driver_of after) → ⊥)
+
+  -- the store keeps the commit that the first copy had, and the bytes of the generation that it names
+  pub record Learns (c : Config) (held : Generation) (before after : Store B b) : Type 0 where
+    pub commit : (commit : Commit) → HasCommit c (driver_of before).value commit → commit_of after ≡ Some commit
+    pub known : KnowsNamed c (commit_of after) (kept_of after) held.state
+
   -- a start-up after a save that failed: both copies name the generation from which the next save goes on
   pub record Settles (c : Config) (held spare : Generation) (before after : Store B b) : Type 0 where
     pub chosen : Generation
     pub is : IsChosen held spare chosen before after
     pub ready : IsReady c chosen after
+    pub learns : IsUndisturbed before after → Learns c held before after
 
   -- a save that answered this number, one more than that of the generation from which it went on: both copies name the state under it
   pub record Saves (c : Config) (held spare : Generation) (state : Persist) (number : ℕ) (before after : Store B b) : Type 0 where

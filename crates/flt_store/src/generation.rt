@@ -6,7 +6,7 @@ ghost use Rattle.flt_flash.specs.Calls.{Follows};
 ghost use Rattle.flt_nvm.specs.Driver.{driver_of, table_of};
 ghost use Rattle.flt_nvm.specs.Leaves.{Gives};
 ghost use Rattle.flt_config.specs.Durable.{Fits};
-ghost use Rattle.flt_generation.specs.Layout.{number_of, mark_number, index_in, part_of, used_ids};
+ghost use Rattle.flt_generation.specs.Layout.{first_part, parts, end_part, number_of, mark_number, index_in, part_of, used_ids};
 ghost use Rattle.flt_generation.specs.Form.{block_bytes, part_length};
 ghost use Rattle.flt_generation.specs.Holding.{Generation, OldOrNew, SameApplications};
 ghost use Rattle.flt_generation.specs.Successor.{IsNext, OnlyNewBlock, OnlyNewBlocks, WritesWithin, is_moved, is_written, number_in};
@@ -32,8 +32,8 @@ fn write_block<B: Blocks + Drop>(
     bytes: &[u8],
 ) -> Result<(), BlockFault>
     requires table { table_of nvm.old ≡ block_table }
-    requires first { 3 ≤ id }
-    requires end { id < 24 }
+    requires first { first_part ≤ id }
+    requires end { id < end_part }
     requires index { index ≤ 1 }
     requires size { length bytes.now ≡ part_length (part_of id) }
     ensures spends { (most : ℕ) → Spends most (driver_of nvm.old) (driver_of nvm.new) (record_pages (length bytes.now)) most }
@@ -47,8 +47,8 @@ fn write_block<B: Blocks + Drop>(
 
 // The next commit names the block at another index than the current one.
 fn is_moved(current: &Option<Commit>, next: &Commit, id: u16) -> bool
-    requires first { 3 ≤ id }
-    requires end { id < 24 }
+    requires first { first_part ≤ id }
+    requires end { id < end_part }
     ensures { result ≡ is_moved current.now next.now id }
 {
     match current {
@@ -61,8 +61,8 @@ fn is_moved(current: &Option<Commit>, next: &Commit, id: u16) -> bool
 }
 
 fn is_written(config: &ValidConfig, current: &Option<Commit>, next: &Commit, id: u16) -> bool
-    requires first { 3 ≤ id }
-    requires end { id < 24 }
+    requires first { first_part ≤ id }
+    requires end { id < end_part }
     ensures { result ≡ is_written config.now current.now next.now id }
 {
     is_used(config, id) && is_moved(current, next, id)
@@ -80,8 +80,8 @@ fn write_moved<B: Blocks + Drop>(
     requires table { table_of nvm.old ≡ block_table }
     requires moves { WritesWithin config.now current.now next.now }
     requires sizes { AreSized config.now (bytes_at blocks.now) }
-    requires first { 3 ≤ id }
-    requires end { id < 24 }
+    requires first { first_part ≤ id }
+    requires end { id < end_part }
     ensures written { OnOk result (IsTrue (is_written config.now current.now next.now id) → (driver_of nvm.new).value (number_of id (index_in next.now id)) ≡ holding (bytes_at blocks.now id)) }
     ensures only { OnlyNewBlock config.now current.now next.now (bytes_at blocks.now) id (driver_of nvm.old).value (driver_of nvm.new).value }
     ensures within { IsWithinOwn config.now (driver_of nvm.old).value (driver_of nvm.new).value }
@@ -118,7 +118,7 @@ fn write_blocks<B: Blocks + Drop>(
     ensures only { OnlyNewBlocks config.now current.now next.now (bytes_at blocks.now) (driver_of nvm.old).value (driver_of nvm.new).value }
     ensures within { IsWithinOwn config.now (driver_of nvm.old).value (driver_of nvm.new).value }
     ensures spends { (most : ℕ) → IsFalse (driver_of nvm.old).is_stale → Spends most (driver_of nvm.old) (driver_of nvm.new)
-        (written_sum config.now current.now next.now (λ id. record_pages (length (bytes_at blocks.now id))) 21) (written_sum config.now current.now next.now (λ id. most) 21) }
+        (written_sum config.now current.now next.now (λ id. record_pages (length (bytes_at blocks.now id))) parts) (written_sum config.now current.now next.now (λ id. most) parts) }
     ensures fresh { IsFalse (driver_of nvm.old).is_stale → OnOk result (IsFalse (driver_of nvm.new).is_stale) }
     ensures writes { Writes (driver_of nvm.old) (driver_of nvm.new) result }
     ensures table { table_of nvm.new ≡ table_of nvm.old }

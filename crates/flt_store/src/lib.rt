@@ -7,7 +7,6 @@
 
 mod fault;
 mod generation;
-mod knowing;
 mod marking;
 mod restarting;
 mod store;

@@ -6,9 +6,11 @@ ghost use Rattle.flt_nvm.specs.Driver.{driver_of, table_of};
 ghost use Rattle.flt_nvm.specs.Leaves.{IsEither};
 ghost use Rattle.flt_generation.specs.Layout.{commit_id, number_of};
 ghost use Rattle.flt_generation.specs.Form.{IsCommit};
+ghost use Rattle.flt_generation.specs.Reading.{commit_in};
 ghost use Rattle.flt_generation.specs.Holding.{Generation, Holds, IsSound, OldOrNew};
 ghost use Rattle.flt_image.specs.Table.{block_table};
 ghost use Rattle.flt_store.specs.Cause.{IsWithinOwn, Writes};
+ghost use Rattle.flt_store.specs.Keeping.{IsOfFirst};
 ghost use Rattle.flt_store.specs.Started.{HasMark, IsStarted, AgreeButForCommit, StartsEither};
 
 use flt_config::ValidConfig;
@@ -30,6 +32,8 @@ pub(crate) fn restart<B: Blocks + Drop>(
     ensures writes { (held spare : Generation) → IsSound config.now (driver_of nvm.old).value held spare → Writes (driver_of nvm.old) (driver_of nvm.new) result }
     ensures kept { AgreeButForCommit (driver_of nvm.old).value (driver_of nvm.new).value }
     ensures form { IfOk result (λ commit. IfSome commit (IsCommit config.now)) }
+    ensures first { IfOk result (IsOfFirst config.now (driver_of nvm.old) (driver_of nvm.new)) }
+    ensures fresh { OnOk result (IsFalse (driver_of nvm.new).is_stale) }
     ensures follows { Follows (driver_of nvm.old) (driver_of nvm.new) }
     ensures table { table_of nvm.new ≡ table_of nvm.old }
 {
@@ -57,6 +61,7 @@ pub(crate) fn repair_by<B: Blocks + Drop>(
     requires most { copy ≤ 2 }
     requires held { (driver_of nvm.old).value (number_of commit_id (copy - 1)) ≡ holding bytes.now }
     ensures started { (g : Generation) → Holds config.now (driver_of nvm.old).value (holding bytes.now) g → IfOk result (λ commit. IsStarted config.now (driver_of nvm.new).value (Some commit) g) }
+    ensures read { IfOk result (λ commit. commit_in config.now bytes.now ≡ Some commit) }
     ensures form { IfOk result (IsCommit config.now) }
     ensures fresh { OnOk result (IsFalse (driver_of nvm.new).is_stale) }
     ensures other { IsEither (driver_of nvm.old) (driver_of nvm.new) (number_of commit_id (2 - copy)) (holding bytes.now) }

@@ -11,8 +11,8 @@ ghost use Rattle.flt_generation.specs.Successor.{changed_pages, number_in};
 ghost use Rattle.flt_image.specs.Table.{block_table};
 ghost use Rattle.flt_store.specs.Cause.{FailsThrice, IsStuck};
 ghost use Rattle.flt_store.specs.Cost.{Spends, pages_to_write};
-ghost use Rattle.flt_store.specs.Keeping.{KeepsPlaces};
-ghost use Rattle.flt_store.specs.Known.{Knows};
+ghost use Rattle.flt_store.specs.Keeping.{KeepsFrom, KeepsPlaces};
+ghost use Rattle.flt_store.specs.Known.{Knows, KnowsNamed};
 ghost use Rattle.flt_store.specs.Started.{HasMark, IsStarted};
 
 mod applications;
@@ -21,13 +21,13 @@ mod starting;
 
 use crate::fault::{SaveFault, save_fault};
 use crate::generation::{Written, write_generation};
-use crate::knowing::read_blocks;
 use crate::restarting::restart;
 pub use applications::APPLICATION;
 use flt_config::{Persist, ValidConfig};
 use flt_flash::Blocks;
 use flt_image::{Commit, StateBlocks};
 use flt_nvm::Nvm;
+use flt_restore::read_blocks;
 
 /// The saved generations of a durable state, and the application blocks, in the blocks of a driver.
 #[derive(Drop)]
@@ -50,7 +50,7 @@ fn number_in(commit: &Option<Commit>) -> u32
 }
 
 impl<B: Blocks + Drop> Store<B> {
-    ghost use Rattle.flt_store.specs.Store.{driver_of, commit_of, kept_of, is_settled, numbered, IsReady, IsRunning, IsLast, Leaves, Saves, Settles};
+    ghost use Rattle.flt_store.specs.Store.{driver_of, commit_of, kept_of, is_settled, numbered, IsReady, IsRunning, IsLast, IsUndisturbed, Leaves, Saves, Settles};
 
     /// A store over the blocks of an image: the table is `block_table`'s, over a driver that was made with `fee_numbers`. It is
     /// not started.
@@ -67,7 +67,7 @@ impl<B: Blocks + Drop> Store<B> {
         }
     }
 
-    // Finds out which generation stands, where a save failed.
+    // Finds out which generation stands, and what its blocks have, where a save failed.
     fn settle(&mut self, config: &ValidConfig) -> Result<(), SaveFault>
         ensures settles { (held spare : Generation) → IsRunning config.now held spare self.old → OnOk result (Settles config.now held spare self.old self.new) }
         ensures failed { (held spare : Generation) (state : Persist) → IsRunning config.now held spare self.old → OnErr result (Leaves config.now held spare state self.old self.new) }
@@ -110,7 +110,8 @@ impl<B: Blocks + Drop> Store<B> {
         ensures applications { SameApplications (driver_of self.old).value (driver_of self.new).value }
         ensures settled { OnOk result (IsTrue (is_settled self.new)) }
         ensures unsettled { OnErr result (IsFalse (is_settled self.new)) }
-        ensures places { (g : Generation) → IsReady config.now g self.old → Knows config.now (kept_of self.old) g.state → OnOk result (KeepsPlaces config.now g.state state.now (driver_of self.old).value (driver_of self.new).value) }
+        ensures places { (g : Generation) → IsReady config.now g self.old → KnowsNamed config.now (commit_of self.old) (kept_of self.old) g.state
+            → OnOk result (KeepsFrom config.now g.state state.now (commit_of self.old) (driver_of self.new).value) }
         ensures spends { (g : Generation) (most : ℕ) → Knows config.now (kept_of self.old) g.state → IsFalse (driver_of self.old).is_stale
             → Spends most (driver_of self.old) (driver_of self.new) (6 + pages_to_write config.now (commit_of self.old) (block_bytes g.state) (block_bytes state.now)) ((length (used_ids config.now) + 2) * most) }
         ensures fresh { OnOk result (IsFalse (driver_of self.new).is_stale) }
@@ -132,9 +133,10 @@ impl<B: Blocks + Drop> Store<B> {
     }
 
     /// Saves a state that fits as the next generation, and answers its number. Where an earlier save of this life failed, it first
-    /// finds out which generation stands, and makes both copies of its commit equal.
+    /// finds out which generation stands, makes both copies of its commit equal, and reads the blocks that this commit names.
     ///
-    /// A used block whose bytes are those of the generation before is not written, and keeps its index; the first save writes all.
+    /// A used block whose bytes are those of the generation before is not written, and keeps its index. The first save writes all, and
+    /// a save after a failed one those that could not be read in three tries.
     ///
     /// After `Ok` the image names the new generation, by both copies. After an error it names the generation before or the new one.
     /// `Spent` comes where the generation before has the number 2^32 - 1.
@@ -150,8 +152,11 @@ impl<B: Blocks + Drop> Store<B> {
         ensures settled { OnOk result (IsTrue (is_settled self.new)) }
         ensures unsettled { OnErr result (IsFalse (is_settled self.new)) }
 
-        // Where no earlier save failed: a block whose bytes stayed stands where it stood, and only the others are written.
-        ensures places { (held spare : Generation) → IsRunning config.now held spare self.old → IsTrue (is_settled self.old) → OnOk result (KeepsPlaces config.now held.state state.now (driver_of self.old).value (driver_of self.new).value) }
+        // A block whose bytes stayed stands where it stood; where a save failed before, unless the flash failed three times in this one.
+        ensures places { (held spare : Generation) → IsRunning config.now held spare self.old → IsUndisturbed self.old self.new
+            → OnOk result (KeepsPlaces config.now held.state state.now (driver_of self.old).value (driver_of self.new).value) }
+
+        // What a save costs that follows no failed one.
         ensures by_changes { (held spare : Generation) → IsRunning config.now held spare self.old → IsTrue (is_settled self.old) → held.number ≢ 0 → IsFalse (driver_of self.old).is_stale
             → NoFault (driver_of self.old) (driver_of self.new) → NoErase (driver_of self.old) (driver_of self.new)
             → CostsAtMost (6 + changed_pages config.now (block_bytes held.state) (block_bytes state.now)) (driver_of self.old) (driver_of self.new) }

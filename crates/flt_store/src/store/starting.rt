@@ -2,6 +2,7 @@
 ghost use Rattle.std.specs.Prelude.{◌≡◌, IfOk, IfErr, OnOk, OnErr, IsTrue, IsFalse};
 ghost use Rattle.flt_flash.specs.Calls.{Follows};
 ghost use Rattle.flt_nvm.specs.Driver.{driver_of as driver_beneath, table_of};
+ghost use Rattle.flt_config.specs.Durable.{Fits};
 ghost use Rattle.flt_generation.specs.Holding.{Generation, IsSound, OldOrNew, SameApplications};
 ghost use Rattle.flt_generation.specs.Excess.{IsBorne};
 ghost use Rattle.flt_generation.specs.Form.{mark_of};
@@ -83,6 +84,7 @@ impl<B: Blocks + Drop> Store<B> {
         ensures started { IfOk result (λ number. Starts config.now number out.new self.old self.new) }
         ensures refused { IfErr result (RefusedFor config.now self.old self.new) }
         ensures left { (held spare : Generation) → IsSound config.now (driver_of self.old).value held spare → OnErr result (OldOrNew config.now (driver_of self.new).value held spare held) }
+        ensures fits { OnOk result (Fits config.now out.new) }
         ensures fresh { OnOk result (IsFalse (driver_of self.new).is_stale) }
         ensures applications { SameApplications (driver_of self.old).value (driver_of self.new).value }
         ensures follows { Follows (driver_of self.old) (driver_of self.new) }
@@ -115,6 +117,7 @@ impl<B: Blocks + Drop> Store<B> {
         ensures started { IfOk result (λ number. Starts config.now number out.new self.old self.new) }
         ensures refused { IfErr result (RefusedFor config.now self.old self.new) }
         ensures left { (held spare : Generation) → IsSound config.now (driver_of self.old).value held spare → OnErr result (OldOrNew config.now (driver_of self.new).value held spare held) }
+        ensures fits { OnOk result (Fits config.now out.new) }
         ensures fresh { OnOk result (IsFalse (driver_of self.new).is_stale) }
         ensures applications { SameApplications (driver_of self.old).value (driver_of self.new).value }
         ensures follows { Follows (driver_of self.old) (driver_of self.new) }

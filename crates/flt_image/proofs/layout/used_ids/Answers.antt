@@ -1,7 +1,7 @@
 use Rattle.std.proofs.Common.{◌≡◌, ℕ, ◌+◌, ◌-◌, ◌++◌, [], ◌∷◌, List, ◌∙◌, ap, subst, arith}
 use Rattle.std.specs.Prelude.{filter}
 use Rattle.std.specs.List.{range_with_len}
-use Rattle.flt_generation.specs.Layout.{is_used, used_ids}
+use Rattle.flt_generation.specs.Layout.{parts, is_used, used_ids}
 use Rattle.flt_image.proofs.Ranges.{one_more}
 use Rattle.flt_image.proofs.layout.used_ids.Goals as goal
 
@@ -20,5 +20,5 @@ loop-id-preserved c =
 pub returns : goal.returns
 unfolding used_ids
 returns c =
-    let end : c.loop-id.id - 3 ≡ 21 = omega (arith, c.loop-id.auto.id-end, c.loop-id-test.false) in
+    let end : c.loop-id.id - 3 ≡ parts = omega (arith, c.loop-id.auto.id-end, c.loop-id-test.false) in
     subst (λ (n : ℕ). c.loop-id.ids.items ≡ filter (is_used c.args.config.now) (range_with_len 3 n)) end c.loop-id.invariant.items

@@ -2,7 +2,8 @@ use Rattle.std.proofs.Common.{arith}
 use Rattle.flt_nvm.specs.Driver.{driver_of}
 use Rattle.flt_generation.specs.Layout.{part_of}
 use Rattle.flt_store.proofs.TableUse.{part_index, part_fits, part_alone}
-use Rattle.flt_store.proofs.Causes.{one_write, part_short}
+use Rattle.flt_image.proofs.Sizing.{part_short}
+use Rattle.flt_store.proofs.Causes.{one_write}
 use Rattle.flt_store.proofs.Costs.{job_spends}
 use Rattle.flt_store.proofs.Successors.{some_length}
 use Rattle.flt_store.proofs.generation.write_block.Goals as goal

@@ -44,49 +44,49 @@ write-requires-clause-fits g c =
 pub returns-in-Ok-clause-done : goal.returns-in-Ok-clause-done
 returns-in-Ok-clause-done g c = λ h started known.
     taken c.write.result c.in-Ok.is
-    (commit_written c.args.config.now c.args.state.now c.args.current.now (bytes_at c.args.saved.now) (bytes_at c.of-blocks.result) c.next_commit-commit.result c.next_commit-commit.ensures
+    (commit_written c.args.config.now c.args.state.now c.args.current.now _ (bytes_at c.of-blocks.result) c.next_commit-commit.result c.next_commit-commit.ensures
     (let most = c.requires.number in omega (arith, most)) c.requires.fits c.of-blocks.ensures (driver_of c.args.nvm.now) (driver_of c.write_blocks.new.nvm) (driver_of c.write.new.self)
     c.write_blocks.ensures.only c.write_blocks.ensures.within c.in_ok-write_blocks.ensures.written c.put_commit.result c.put_commit.ensures c.write.result
     (commit_both _ (c.write_blocks.ensures.table ∙ c.requires.table) _ _ c.write.ensures.gives) h started known)
 
 pub returns-in-Ok-clause-either : goal.returns-in-Ok-clause-either
 returns-in-Ok-clause-either g c = λ h started known.
-    commit_tried c.args.config.now c.args.state.now c.args.current.now (bytes_at c.args.saved.now) (bytes_at c.of-blocks.result) c.next_commit-commit.result c.next_commit-commit.ensures
+    commit_tried c.args.config.now c.args.state.now c.args.current.now _ (bytes_at c.of-blocks.result) c.next_commit-commit.result c.next_commit-commit.ensures
     (let most = c.requires.number in omega (arith, most)) c.requires.fits c.of-blocks.ensures (driver_of c.args.nvm.now) (driver_of c.write_blocks.new.nvm) (driver_of c.write.new.self)
     c.write_blocks.ensures.only c.write_blocks.ensures.within c.in_ok-write_blocks.ensures.written c.put_commit.result c.put_commit.ensures c.write.result
     (commit_both _ (c.write_blocks.ensures.table ∙ c.requires.table) _ _ c.write.ensures.gives) h started known
 
 pub returns-in-Ok-clause-applications : goal.returns-in-Ok-clause-applications
 returns-in-Ok-clause-applications g c =
-    same_applications c.args.config.now c.args.state.now c.args.current.now (bytes_at c.args.saved.now) (bytes_at c.of-blocks.result) c.next_commit-commit.result c.next_commit-commit.ensures
+    same_applications c.args.config.now c.args.state.now c.args.current.now _ (bytes_at c.of-blocks.result) c.next_commit-commit.result c.next_commit-commit.ensures
     (let most = c.requires.number in omega (arith, most)) c.requires.fits c.of-blocks.ensures (driver_of c.args.nvm.now) (driver_of c.write_blocks.new.nvm) (driver_of c.write.new.self)
     c.write_blocks.ensures.only c.write_blocks.ensures.within c.in_ok-write_blocks.ensures.written c.put_commit.result c.put_commit.ensures c.write.result
     (commit_both _ (c.write_blocks.ensures.table ∙ c.requires.table) _ _ c.write.ensures.gives)
 
 pub returns-in-Ok-clause-mark : goal.returns-in-Ok-clause-mark
 returns-in-Ok-clause-mark g c =
-    same_mark c.args.config.now c.args.state.now c.args.current.now (bytes_at c.args.saved.now) (bytes_at c.of-blocks.result) c.next_commit-commit.result c.next_commit-commit.ensures
+    same_mark c.args.config.now c.args.state.now c.args.current.now _ (bytes_at c.of-blocks.result) c.next_commit-commit.result c.next_commit-commit.ensures
     (let most = c.requires.number in omega (arith, most)) c.requires.fits c.of-blocks.ensures (driver_of c.args.nvm.now) (driver_of c.write_blocks.new.nvm) (driver_of c.write.new.self)
     c.write_blocks.ensures.only c.write_blocks.ensures.within c.in_ok-write_blocks.ensures.written c.put_commit.result c.put_commit.ensures c.write.result
     (commit_both _ (c.write_blocks.ensures.table ∙ c.requires.table) _ _ c.write.ensures.gives)
 
 pub returns-in-Err-clause-either : goal.returns-in-Err-clause-either
 returns-in-Err-clause-either g c = λ h started known.
-    commit_tried c.args.config.now c.args.state.now c.args.current.now (bytes_at c.args.saved.now) (bytes_at c.of-blocks.result) c.next_commit-commit.result c.next_commit-commit.ensures
+    commit_tried c.args.config.now c.args.state.now c.args.current.now _ (bytes_at c.of-blocks.result) c.next_commit-commit.result c.next_commit-commit.ensures
     (let most = c.requires.number in omega (arith, most)) c.requires.fits c.of-blocks.ensures (driver_of c.args.nvm.now) (driver_of c.write_blocks.new.nvm) (driver_of c.write.new.self)
     c.write_blocks.ensures.only c.write_blocks.ensures.within c.in_ok-write_blocks.ensures.written c.put_commit.result c.put_commit.ensures c.write.result
     (commit_both _ (c.write_blocks.ensures.table ∙ c.requires.table) _ _ c.write.ensures.gives) h started known
 
 pub returns-in-Err-clause-applications : goal.returns-in-Err-clause-applications
 returns-in-Err-clause-applications g c =
-    same_applications c.args.config.now c.args.state.now c.args.current.now (bytes_at c.args.saved.now) (bytes_at c.of-blocks.result) c.next_commit-commit.result c.next_commit-commit.ensures
+    same_applications c.args.config.now c.args.state.now c.args.current.now _ (bytes_at c.of-blocks.result) c.next_commit-commit.result c.next_commit-commit.ensures
     (let most = c.requires.number in omega (arith, most)) c.requires.fits c.of-blocks.ensures (driver_of c.args.nvm.now) (driver_of c.write_blocks.new.nvm) (driver_of c.write.new.self)
     c.write_blocks.ensures.only c.write_blocks.ensures.within c.in_ok-write_blocks.ensures.written c.put_commit.result c.put_commit.ensures c.write.result
     (commit_both _ (c.write_blocks.ensures.table ∙ c.requires.table) _ _ c.write.ensures.gives)
 
 pub returns-in-Err-clause-mark : goal.returns-in-Err-clause-mark
 returns-in-Err-clause-mark g c =
-    same_mark c.args.config.now c.args.state.now c.args.current.now (bytes_at c.args.saved.now) (bytes_at c.of-blocks.result) c.next_commit-commit.result c.next_commit-commit.ensures
+    same_mark c.args.config.now c.args.state.now c.args.current.now _ (bytes_at c.of-blocks.result) c.next_commit-commit.result c.next_commit-commit.ensures
     (let most = c.requires.number in omega (arith, most)) c.requires.fits c.of-blocks.ensures (driver_of c.args.nvm.now) (driver_of c.write_blocks.new.nvm) (driver_of c.write.new.self)
     c.write_blocks.ensures.only c.write_blocks.ensures.within c.in_ok-write_blocks.ensures.written c.put_commit.result c.put_commit.ensures c.write.result
     (commit_both _ (c.write_blocks.ensures.table ∙ c.requires.table) _ _ c.write.ensures.gives)
@@ -103,7 +103,7 @@ returns-in-Ok-clause-spends g c = λ most settled.
     let jobs = commit_both _ (c.write_blocks.ensures.table ∙ c.requires.table) _ _ c.write.ensures.jobs in
     let size : length c.put_commit.result ≡ 26 = ap (λ (raw : List ℕ). length raw) c.put_commit.ensures ∙ commit_size c.next_commit-commit.result c.next_commit-commit.ensures.size in
     let pages = ap record_pages size in
-    let written = written_pages c.args.config.now c.args.current.now c.next_commit-commit.result (bytes_at c.args.saved.now) (bytes_at c.of-blocks.result) c.args.state.now c.next_commit-commit.ensures c.of-blocks.ensures in
+    let written = written_pages c.args.config.now c.args.current.now c.next_commit-commit.result _ (bytes_at c.of-blocks.result) c.args.state.now c.next_commit-commit.ensures c.of-blocks.ensures in
     let limit = limit_of_used c.args.config.now c.args.current.now c.next_commit-commit.result most in
     let times = add-mul (length (used_ids c.args.config.now)) 2 most in
     spends_less most (driver_of c.args.nvm.now) (driver_of c.write.new.self) _ _ _ _ (omega (arith, pages, written)) (omega (arith, limit, times))
@@ -116,7 +116,7 @@ returns-in-Err-clause-spends g c = λ most settled.
     let jobs = commit_both _ (c.write_blocks.ensures.table ∙ c.requires.table) _ _ c.write.ensures.jobs in
     let size : length c.put_commit.result ≡ 26 = ap (λ (raw : List ℕ). length raw) c.put_commit.ensures ∙ commit_size c.next_commit-commit.result c.next_commit-commit.ensures.size in
     let pages = ap record_pages size in
-    let written = written_pages c.args.config.now c.args.current.now c.next_commit-commit.result (bytes_at c.args.saved.now) (bytes_at c.of-blocks.result) c.args.state.now c.next_commit-commit.ensures c.of-blocks.ensures in
+    let written = written_pages c.args.config.now c.args.current.now c.next_commit-commit.result _ (bytes_at c.of-blocks.result) c.args.state.now c.next_commit-commit.ensures c.of-blocks.ensures in
     let limit = limit_of_used c.args.config.now c.args.current.now c.next_commit-commit.result most in
     let times = add-mul (length (used_ids c.args.config.now)) 2 most in
     spends_less most (driver_of c.args.nvm.now) (driver_of c.write.new.self) _ _ _ _ (omega (arith, pages, written)) (omega (arith, limit, times))
@@ -126,7 +126,7 @@ returns-in-Err-clause-spends g c = λ most settled.
 
 pub returns-in_err-write_blocks-clause-spends : goal.returns-in_err-write_blocks-clause-spends
 returns-in_err-write_blocks-clause-spends g c = λ most settled.
-    let written = written_pages c.args.config.now c.args.current.now c.next_commit-commit.result (bytes_at c.args.saved.now) (bytes_at c.of-blocks.result) c.args.state.now c.next_commit-commit.ensures c.of-blocks.ensures in
+    let written = written_pages c.args.config.now c.args.current.now c.next_commit-commit.result _ (bytes_at c.of-blocks.result) c.args.state.now c.next_commit-commit.ensures c.of-blocks.ensures in
     let limit = limit_of_used c.args.config.now c.args.current.now c.next_commit-commit.result most in
     let times = add-mul (length (used_ids c.args.config.now)) 2 most in
     spends_less most (driver_of c.args.nvm.now) (driver_of c.write_blocks.new.nvm) _ _ _ _ (omega (arith, written)) (omega (arith, limit, times)) (c.write_blocks.ensures.spends most settled)

@@ -1,10 +1,11 @@
-use Rattle.std.proofs.Common.{◌∙◌, inl, take, sym}
+use Rattle.std.proofs.Common.{◌∙◌, inl, take, sym, subst}
+use Rattle.flt_nvm.specs.Leaves.{HasNoBytes}
 use Rattle.std.proofs.lemmas.List.{length-take-le}
 use Rattle.flt_nvm.specs.Driver.{driver_of}
 use Rattle.flt_store.proofs.TableUse.{commit_index, commit_both}
 use Rattle.flt_store.proofs.Causes.{writes_on, writes_as}
 use Rattle.flt_store.proofs.Repairing.{sound_kept, both_old, no_commit, not_invalid, but_for_copy}
-use Rattle.flt_store.proofs.Copies.{copy_read, at_of, bytes_short, copy_range, held_at, some_holds, started_by, tried_by, missing_read, invalid_read, stays_started}
+use Rattle.flt_store.proofs.Copies.{copy_read, at_of, bytes_short, copy_range, held_at, some_holds, started_by, tried_by, missing_read, invalid_read, stays_started, of_first, none_of_first}
 use Rattle.flt_store.proofs.restarting.restart.Goals as goal
 
 pub read-requires : goal.read-requires
@@ -98,3 +99,22 @@ returns-in-Ok-Invalid-clause-started g c = λ h s sound mark.
 
 pub returns-in-Err-clause-failed : goal.returns-in-Err-clause-failed
 returns-in-Err-clause-failed g c = λ h s new sound. both_old c.args.config.now (driver_of c.read.new.self).value h s new (sound_kept c.args.config.now (driver_of c.args.nvm.now).value (driver_of c.read.new.self).value h s c.read.ensures.values sound)
+
+pub returns-in-Ok-clause-first : goal.returns-in-Ok-clause-first
+returns-in-Ok-clause-first g c =
+    let got = commit_both _ c.requires _ _ (rw c.in-Ok-Bytes.field-0-is at c.in-Ok-Bytes.ensures.got) in
+    let found = copy_read (driver_of c.args.nvm.now) (driver_of c.read.new.self) c.in-Ok-Bytes.length c.in-Ok-Bytes.copy _ c.read.new.out got in
+    of_first c.args.config.now (driver_of c.args.nvm.now) (driver_of c.read.new.self) (driver_of c.repair_by.new.nvm) (take c.in-Ok-Bytes.length c.read.new.out) c.in-Ok-Bytes.copy c.in-Ok.commit found
+    c.repair_by.ensures.follows.counts c.in-Ok.ensures.read
+
+pub returns-in-Ok-Missing-clause-first : goal.returns-in-Ok-Missing-clause-first
+returns-in-Ok-Missing-clause-first g c =
+    let got = commit_both _ c.requires _ _ (rw c.in-Ok-Missing.field-0-is at c.in-Ok-Missing.ensures.got) in
+    let first = missing_read ((driver_of c.args.nvm.now).value 16) _ _ got.0 in
+    none_of_first c.args.config.now (driver_of c.args.nvm.now) (driver_of c.read.new.self) (subst HasNoBytes (sym first) tt)
+
+pub returns-in-Ok-Invalid-clause-first : goal.returns-in-Ok-Invalid-clause-first
+returns-in-Ok-Invalid-clause-first g c =
+    let got = commit_both _ c.requires _ _ (rw c.in-Ok-Invalid.field-0-is at c.in-Ok-Invalid.ensures.got) in
+    let first = invalid_read ((driver_of c.args.nvm.now).value 16) _ _ got.0 in
+    none_of_first c.args.config.now (driver_of c.args.nvm.now) (driver_of c.read.new.self) (subst HasNoBytes (sym first) tt)

@@ -1,19 +1,17 @@
 use Rattle.std.proofs.Common.{◌≡◌, ◌+◌, ◌*◌, ◌∙◌, ⊎_elim, length, sym, subst, ap, refl, arith}
-use Rattle.std.specs.Prelude.{IsFalse, OnOk}
+use Rattle.std.specs.Prelude.{IsFalse}
 use Rattle.flt_flash.specs.Calls.{CostsAtMost}
 use Rattle.flt_generation.specs.Form.{block_bytes}
 use Rattle.flt_generation.specs.Layout.{used_ids}
 use Rattle.flt_store.specs.Cost.{Spends, pages_to_write}
-use Rattle.flt_store.specs.Keeping.{KeepsPlaces}
 use Rattle.flt_store.specs.Known.{Knows}
 use Rattle.flt_store.proofs.Changed.{pages_of_later}
 use Rattle.flt_store.proofs.Costs.{switch_within}
-use Rattle.flt_store.proofs.Known.{knows_may}
 use Rattle.flt_store.proofs.Started.{numbered as number_of_started}
 use Rattle.flt_generation.specs.Holding.{Generation}
-use Rattle.flt_store.specs.Store.{driver_of, commit_of, kept_of, numbered, IsReady}
+use Rattle.flt_store.specs.Store.{driver_of, commit_of, kept_of, is_settled, numbered, IsReady}
 use Rattle.flt_store.proofs.Started.{sound_started}
-use Rattle.flt_store.proofs.Running.{served_on, ok_map, err_taken, err_both, chosen_on, one_of_chosen, rises_from}
+use Rattle.flt_store.proofs.Running.{served_on, undisturbed_until, held_is_chosen, ok_map, on_ok, err_taken, err_both, chosen_on, one_of_chosen, rises_from}
 use Rattle.flt_store.proofs.store.Store.save.Goals as goal
 
 pub returns-in-Ok-clause-saved : goal.returns-in-Ok-clause-saved
@@ -80,15 +78,15 @@ pub returns-in-Err-clause-last : goal.returns-in-Err-clause-last
 returns-in-Err-clause-last g c = λ h s running yes last. absurd (c.in-Err.ensures.at_once yes refl)
 
 pub returns-in-Ok-clause-places : goal.returns-in-Ok-clause-places
-returns-in-Ok-clause-places g c = λ h s running yes.
-    let same = c.settle.ensures.still yes in
-    let ready : IsReady c.args.config.now h c.args.self.now = record {
-      served = running.served;
-      started = running.settled yes;
-      known = knows_may c.args.config.now (commit_of c.args.self.now) (kept_of c.args.self.now) h.state (running.known yes);
-    } in
-    subst (λ before. OnOk c.save_next.result (KeepsPlaces c.args.config.now h.state c.args.state.now (driver_of before).value (driver_of c.save_next.new.self).value)) same
-    (c.save_next.ensures.places h (subst (λ before. IsReady c.args.config.now h before) (sym same) ready) (subst (λ before. Knows c.args.config.now (kept_of before) h.state) (sym same) (running.known yes)))
+returns-in-Ok-clause-places g c = λ h s running undisturbed.
+    let before = driver_of c.args.self.now in
+    let middle = driver_of c.settle.new.self in
+    let settled = c.in-Ok.ensures.settles h s running in
+    let then_ = undisturbed_until before middle (driver_of c.save_next.new.self) c.save_next.ensures.follows undisturbed in
+    let learns = settled.learns then_ in
+    let held = held_is_chosen before middle (is_settled c.args.self.now) h s settled.chosen then_ settled.is in
+    let ready = subst (λ (d : Generation). IsReady c.args.config.now d c.settle.new.self) held settled.ready in
+    on_ok c.save_next.result (λ keeps. λ current next first now. keeps current next (learns.commit current first) now) (c.save_next.ensures.places h ready learns.known)
 
 pub returns-in-Ok-clause-by_changes : goal.returns-in-Ok-clause-by_changes
 returns-in-Ok-clause-by_changes g c = λ h s running yes some settled unfailed none.

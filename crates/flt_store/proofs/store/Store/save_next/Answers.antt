@@ -4,7 +4,7 @@ use Rattle.flt_store.specs.declared.fault.SaveFault.TheVariants.{Flash}
 use Rattle.flt_generation.specs.Form.{block_bytes}
 use Rattle.flt_image.specs.Blocks.{bytes_at}
 use Rattle.flt_store.specs.Store.{driver_of, commit_of, kept_of, numbered}
-use Rattle.flt_store.proofs.Changed.{keeps_places, pages_by}
+use Rattle.flt_store.proofs.Changed.{keeps_from, pages_by}
 use Rattle.flt_store.proofs.Costs.{spends_less, spends_nothing}
 use Rattle.flt_generation.specs.Successor.{number_in}
 use Rattle.flt_store.specs.Started.{IsStarted}
@@ -54,8 +54,8 @@ returns-in-Err-clause-last g c = λ h ready last.
 
 pub returns-in-Ok-clause-places : goal.returns-in-Ok-clause-places
 returns-in-Ok-clause-places g c = λ h ready knows.
-    keeps_places c.args.config.now (kept_of c.args.self.now) (bytes_at c.in-Ok.field-0.saved) h.state c.args.state.now knows c.in-Ok.ensures.encodes (driver_of c.args.self.now).value (driver_beneath c.write_generation.new.nvm).value
-    (commit_of c.args.self.now) c.in-Ok.field-0.commit h _ ready.started (c.in-Ok.ensures.done h ready.started ready.known) c.in-Ok.ensures.next
+    keeps_from c.args.config.now (kept_of c.args.self.now) (bytes_at c.in-Ok.field-0.saved) h.state c.args.state.now c.in-Ok.ensures.encodes (driver_beneath c.write_generation.new.nvm).value
+    (commit_of c.args.self.now) c.in-Ok.field-0.commit _ knows (c.in-Ok.ensures.done h ready.started ready.known) c.in-Ok.ensures.next
 
 pub returns-then-number_in-clause-spends : goal.returns-then-number_in-clause-spends
 returns-then-number_in-clause-spends g c = λ h most knows settled.

@@ -1,5 +1,5 @@
 use Rattle.std.specs.Prelude.{IsTrue}
-use Rattle.std.proofs.Common.{rules, ◌≡◌, ◌+◌, inl, inr, ⊎_elim, refl, arith}
+use Rattle.std.proofs.Common.{rules, ◌≡◌, ◌+◌, ◌∙◌, inl, inr, ⊎_elim, refl}
 use Rattle.flt_nvm.specs.Driver.{driver_of as driver_beneath}
 use Rattle.flt_store.specs.declared.fault.SaveFault.TheVariants.{Flash}
 use Rattle.flt_store.specs.Started.{IsStarted}
@@ -7,10 +7,11 @@ use Rattle.flt_flash.proofs.CallsInARow.{more_calls}
 use Rattle.flt_generation.specs.Holding.{Generation}
 use Rattle.flt_image.specs.Blocks.{bytes_at}
 use Rattle.flt_store.specs.Store.{driver_of, commit_of, kept_of, is_settled, numbered}
-use Rattle.flt_store.proofs.Known.{knows_may, read_may, started_kept}
+use Rattle.flt_store.proofs.Changed.{same_commit}
+use Rattle.flt_store.proofs.Known.{knows_may, knows_named, learned_may, learned_all, started_kept}
 use Rattle.flt_store.proofs.Causes.{resolved}
 use Rattle.flt_store.proofs.Started.{mark_kept}
-use Rattle.flt_store.proofs.Running.{served_on}
+use Rattle.flt_store.proofs.Running.{served_on, failed_on, failed_later, unfailed}
 use Rattle.flt_store.proofs.store.Store.settle.Goals as goal
 
 pub returns-then-self-clause-settles : goal.returns-then-self-clause-settles
@@ -24,24 +25,42 @@ returns-then-self-clause-settles g c = λ h s running.
         started = running.settled settled;
         known = knows_may c.args.config.now (commit_of c.args.self.now) (kept_of c.args.self.now) h.state (running.known settled);
       };
+      learns = λ undisturbed. record {
+        commit = same_commit c.args.config.now (driver_of c.args.self.now).value (commit_of c.args.self.now) h (running.settled settled);
+        known = knows_named c.args.config.now (commit_of c.args.self.now) (kept_of c.args.self.now) h.state (running.known settled);
+      };
     }
+
+pub read_blocks-self-requires-clause-table : goal.read_blocks-self-requires-clause-table
+read_blocks-self-requires-clause-table g c = c.restart.ensures.table ∙ c.args.self.now.table
 
 pub returns-in-Ok-clause-settles : goal.returns-in-Ok-clause-settles
 returns-in-Ok-clause-settles g c = λ h s running.
     let before = driver_of c.args.self.now in
     let middle = driver_beneath c.restart.new.nvm in
     let after = driver_beneath c.read_blocks-self.new.nvm in
-    let later = c.read_blocks-self.ensures.follows in
+    let later = c.read_blocks-self.ensures.reads.follows in
     let served = served_on c.args.config.now before after (more_calls before middle after c.restart.ensures.follows later) running.served in
-    let kept = started_kept c.args.config.now middle.value after.value c.read_blocks-self.ensures.values c.in-Ok.commit in
+    let kept = started_kept c.args.config.now middle.value after.value c.read_blocks-self.ensures.reads.values c.in-Ok.commit in
     let known = λ (h : Generation) (started : IsStarted c.args.config.now middle.value c.in-Ok.commit h).
-    read_may c.args.config.now middle.value c.in-Ok.commit h (bytes_at c.read_blocks-self.result) started.names c.read_blocks-self.ensures.read in
+    learned_may c.args.config.now running.served.given middle after h (bytes_at c.read_blocks-self.result) c.in-Ok.commit started.names c.read_blocks-self.ensures.learned in
     ⊎_elim {A = IsStarted c.args.config.now middle.value c.in-Ok.commit h}
-    (λ by_held. record { chosen = h; is = inl refl; ready = record { served = served; started = kept h by_held; known = known h by_held } })
-    (λ by_spare. record {
+    (λ by_held. record {
+      chosen = h;
+      is = inl refl;
+      ready = record { served = served; started = kept h by_held; known = known h by_held };
+      learns = λ undisturbed. (let never = unfailed before after c.args.self.now.is_settled c.if-self.false undisturbed in record {
+        commit = λ commit has. ⊎_elim (λ is. is) (λ rose. absurd (never (failed_on before middle after later rose))) (c.in-Ok.ensures.first commit has);
+        known = learned_all c.args.config.now running.served.given middle after h (bytes_at c.read_blocks-self.result) (λ rose. never (failed_later before middle after c.restart.ensures.follows rose))
+            c.in-Ok.commit by_held.names c.read_blocks-self.ensures.learned;
+      });
+    })
+    (λ by_spare.
+    let rose = failed_on before middle after later by_spare.1 in record {
       chosen = s;
-      is = inr (refl, c.if-self.false, (let rose = by_spare.1 in let counts = later.counts in omega (arith, rose, counts)));
+      is = inr (refl, c.if-self.false, rose);
       ready = record { served = served; started = kept s by_spare.0; known = known s by_spare.0 };
+      learns = λ undisturbed. absurd (unfailed before after c.args.self.now.is_settled c.if-self.false undisturbed rose);
     })
     (c.in-Ok.ensures.started h s running.sound running.mark)
 

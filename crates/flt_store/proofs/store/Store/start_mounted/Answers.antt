@@ -11,8 +11,7 @@ use Rattle.flt_store.proofs.Started.{sound_started}
 use Rattle.flt_store.proofs.Started.{numbered as number_of_started}
 use Rattle.flt_store.proofs.Repairing.{sound_kept, both_old}
 use Rattle.flt_store.proofs.Running.{served_on}
-use Rattle.flt_store.proofs.Known.{begun_fits}
-use Rattle.flt_store.proofs.Beginning.{begins_of, judged_of, judged_in, same_generation, not_spent}
+use Rattle.flt_store.proofs.Beginning.{begins_of, restored_fits, judged_of, judged_in, same_generation, not_spent}
 use Rattle.flt_store.proofs.Faults.{refused_by_reading, refused_by_writing}
 use Rattle.flt_store.proofs.store.Store.start_mounted.Goals as goal
 
@@ -78,7 +77,8 @@ returns-in-Err-clause-left g c = λ h s sound.
 
 pub of-self-requires : goal.of-self-requires
 of-self-requires g c =
-    let first = driver_of c.args.self.now in
-    let second = driver_beneath c.restore.new.nvm in
-    begun_fits c.args.config.now second.value c.in-Ok.found c.restore.new.out
-    (begins_of c.args.config.now c.mark_of-mark.ensures.given first second c.in-Ok.found c.restore.new.out c.restore.ensures.values c.in-Ok.ensures.restored.restored)
+    restored_fits c.args.config.now c.mark_of-mark.ensures.given (driver_of c.args.self.now) (driver_beneath c.restore.new.nvm) c.in-Ok.found c.restore.new.out c.restore.ensures.values c.in-Ok.ensures.restored.restored
+
+pub returns-in-Ok-begin_by-clause-fits : goal.returns-in-Ok-begin_by-clause-fits
+returns-in-Ok-begin_by-clause-fits g c =
+    restored_fits c.args.config.now c.mark_of-mark.ensures.given (driver_of c.args.self.now) (driver_beneath c.restore.new.nvm) c.in-Ok.found c.restore.new.out c.restore.ensures.values c.in-Ok.ensures.restored.restored

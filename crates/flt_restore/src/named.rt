@@ -1,0 +1,95 @@
+//! The bytes of the blocks that a commit names.
+ghost use Rattle.std.specs.Prelude.{◌≡◌, ◌≢◌, ◌<◌, ◌≤◌, ℕ, length, IfSome, IsTrue};
+ghost use Rattle.flt_nvm.specs.Driver.{driver_of, table_of};
+ghost use Rattle.flt_image.specs.Table.{block_table};
+ghost use Rattle.flt_image.specs.Blocks.{bytes_at};
+ghost use Rattle.flt_generation.specs.Layout.{first_part, end_part, is_used};
+ghost use Rattle.flt_generation.specs.Form.{IsCommit};
+ghost use Rattle.flt_restore.specs.Found.{content_of, Reads};
+ghost use Rattle.flt_restore.specs.Learning.{AreLearned, IsLearned, part_in};
+
+use crate::content::Held;
+use crate::reading::read_content;
+use flt_config::ValidConfig;
+use flt_flash::Blocks;
+use flt_generation::{Commit, END_PART, FIRST_PART};
+use flt_image::{LONGEST, StateBlocks, is_used};
+use flt_nvm::Nvm;
+
+// The bytes that a block of a state may have; none where there are none or more.
+fn part_in(held: &Held) -> &[u8]
+    ensures bytes { result.now ≡ part_in (content_of held.now) }
+    ensures short { length result.now ≤ LONGEST }
+{
+    match held {
+        Held::Missing => &[],
+        Held::Invalid => &[],
+        Held::Bytes(bytes) => { if bytes.len() <= LONGEST { bytes } else { &[] } }
+    }
+}
+
+// Reads a used block at the index at which the commit names it.
+fn read_block<B: Blocks + Drop>(
+    nvm: &mut Nvm<B>,
+    config: &ValidConfig,
+    commit: &Commit,
+    id: u16,
+    blocks: &mut StateBlocks,
+)
+    requires table { table_of nvm.old ≡ block_table }
+    requires mounted { IsTrue (driver_of nvm.old).has_mounted }
+    requires form { IsCommit config.now commit.now }
+    requires first { first_part ≤ id }
+    requires end { id < end_part }
+    ensures learned { IsLearned config.now (driver_of nvm.old) (driver_of nvm.new) commit.now id (bytes_at blocks.new id) }
+    ensures others { (other : ℕ) → first_part ≤ other → other ≢ id → bytes_at blocks.new other ≡ bytes_at blocks.old other }
+    ensures reads { Reads (driver_of nvm.old) (driver_of nvm.new) }
+    ensures table { table_of nvm.new ≡ table_of nvm.old }
+{
+    if !is_used(config, id) {
+        return;
+    }
+    match read_content(nvm, id, commit.index[(id - FIRST_PART) as usize]) {
+        Ok(held) => blocks.set(id, part_in(&held)),
+        Err(_) => blocks.set(id, &[]),
+    }
+}
+
+fn read_named_blocks<B: Blocks + Drop>(
+    nvm: &mut Nvm<B>,
+    config: &ValidConfig,
+    commit: &Commit,
+) -> StateBlocks
+    requires table { table_of nvm.old ≡ block_table }
+    requires mounted { IsTrue (driver_of nvm.old).has_mounted }
+    requires form { IsCommit config.now commit.now }
+    ensures learned { AreLearned config.now (driver_of nvm.old) (driver_of nvm.new) commit.now (bytes_at result) }
+    ensures reads { Reads (driver_of nvm.old) (driver_of nvm.new) }
+    ensures table { table_of nvm.new ≡ table_of nvm.old }
+{
+    let mut blocks = StateBlocks::unknown();
+    for id in FIRST_PART..END_PART {
+        read_block(nvm, config, commit, id, &mut blocks);
+    }
+    blocks
+}
+
+/// The bytes of the used blocks that a commit names. A block that can't be read in three tries is not known; where there is no commit,
+/// none is read.
+pub fn read_blocks<B: Blocks + Drop>(
+    nvm: &mut Nvm<B>,
+    config: &ValidConfig,
+    commit: &Option<Commit>,
+) -> StateBlocks
+    requires table { table_of nvm.old ≡ block_table }
+    requires mounted { IsTrue (driver_of nvm.old).has_mounted }
+    requires form { IfSome commit.now (IsCommit config.now) }
+    ensures learned { IfSome commit.now (λ commit. AreLearned config.now (driver_of nvm.old) (driver_of nvm.new) commit (bytes_at result)) }
+    ensures reads { Reads (driver_of nvm.old) (driver_of nvm.new) }
+    ensures table { table_of nvm.new ≡ table_of nvm.old }
+{
+    match commit {
+        None => StateBlocks::unknown(),
+        Some(commit) => read_named_blocks(nvm, config, commit),
+    }
+}
