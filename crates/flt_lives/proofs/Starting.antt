@@ -1,17 +1,14 @@
 -- What a start-up finds, and what it leaves where it fails.
-use Rattle.std.proofs.Common.{◌≡◌, inl, inr, ⊎_elim, ℕ, ◌+◌, [], ◌∷◌, length, Option, Some, None, Result, Ok, Err, refl, sym, ap, subst, arith, ◌∙◌, rules}
-use Rattle.std.specs.Prelude.{slice_index_or, IfOk}
-use Rattle.std.proofs.lemmas.List.{length-append, length-replicate, get_or-replicate}
+use Rattle.std.proofs.Common.{◌≡◌, inl, inr, ⊎_elim, ℕ, ◌+◌, [], ◌∷◌, length, Option, Some, None, Result, Ok, Err, refl, sym, ap, subst, arith, ◌∙◌}
+use Rattle.std.specs.Prelude.{IfOk}
+use Rattle.std.proofs.lemmas.List.{length-append}
 use Rattle.flt_flash.specs.Blocks.{BlocksState}
 use Rattle.flt_flash.specs.Calls.{Follows, SameValues, PowersUpDriver}
 use Rattle.flt_flash.specs.declared.blocks.Blocks.{Ghosts}
 use Rattle.flt_config.specs.declared.config.Config.{Config}
 use Rattle.flt_config.specs.declared.persist.Persist.{Persist}
-use Rattle.flt_config.specs.Durable.{Fits, AreStatesOf, IsStateOf, initial_state, start_state}
-use Rattle.flt_flash.specs.Content.{Content, missing, invalid, bytes}
-use Rattle.flt_config.specs.declared.config.EventCfg.{EventCfg}
 use Rattle.flt_generation.specs.declared.place.Place.TheVariants.{Page, Block}
-use Rattle.flt_generation.specs.Holding.{Generation, Fault, IsSound, OldOrNew, Names}
+use Rattle.flt_generation.specs.Holding.{Generation, Fault, IsSound, OldOrNew}
 use Rattle.flt_restore.specs.Restored.{IsJudged}
 use Rattle.flt_restore.specs.declared.fault.StartFault.{StartFault}
 use Rattle.flt_restore.specs.declared.fault.StartFault.TheVariants as faults
@@ -61,40 +58,6 @@ module _ {B : Type 0} {b : Ghosts B} (c : Config) (before after : Store B b) whe
       (told.0.undamaged, found_of c (driver_of before) (driver_of after) _ told.0.is, told.1, unchanged (driver_of before) (driver_of after) follows told.2)
   refused_is faults.SequenceSpent refuses follows told kept =
       ((told.0.0, record { undamaged = told.0.1.undamaged; found = found_of c (driver_of before) (driver_of after) _ told.0.1.is }), kept, told.1)
-
--- ---- a state that was restored fits
-
-start_fits : (event : EventCfg) → IsStateOf event start_state
-start_fits event = record {
-  status = omega arith;
-  failed = omega arith;
-  clean = omega arith;
-  warning = (λ set. absurd (set refl), λ both. absurd (let no = both.0 in cc));
-  lit = λ is. absurd (cc);
-}
-
-initial_states : (c : Config) → AreStatesOf c.events.items (initial_state c).events.items
-initial_states c = record {
-  one_each = length-replicate (length c.events.items) start_state;
-  fitting = λ k event state below. subst (IsStateOf (slice_index_or c.events.items k event)) (sym (get_or-replicate (length c.events.items) k start_state state below)) (start_fits (slice_index_or c.events.items k event));
-}
-
-initial_fits : (c : Config) → Fits c (initial_state c)
-initial_fits c = record {
-  states = initial_states c;
-  room = omega arith;
-  entries = search rules;
-  distinct = search rules;
-  first_failed = tt;
-  first_confirmed = tt;
-  recent_failed = tt;
-  recent_confirmed = tt;
-}
-
-pub named_fits : (c : Config) (value : ℕ → Content) (commit : Content) (g : Generation) → Names c value commit g → Fits c g.state
-named_fits c value missing g names = subst (λ (d : Generation). Fits c d.state) (sym names) (initial_fits c)
-named_fits c value invalid g names = absurd names
-named_fits c value (bytes held) g names = names.2.fits
 
 -- ---- what stays
 

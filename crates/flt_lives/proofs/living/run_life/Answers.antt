@@ -5,11 +5,8 @@ use Rattle.flt_store.specs.Start.{RefusedFor}
 use Rattle.flt_lives.specs.Moment.{Moment, moment_of}
 use Rattle.flt_lives.specs.Chain.{LifeView}
 use Rattle.flt_lives.specs.Living.{IsLived, StaysSound, view_of}
-use Rattle.flt_lives.proofs.Starting.{named_fits, keeps, stays_by_keeping, lived_refused, lived_started, all_ok}
+use Rattle.flt_lives.proofs.Starting.{keeps, stays_by_keeping, lived_refused, lived_started, all_ok}
 use Rattle.flt_lives.proofs.living.run_life.Goals as goal
-
-pub live-requires-clause-fits : goal.live-requires-clause-fits
-live-requires-clause-fits g c = named_fits c.args.config.now (driver_of c.start_up.new.self).value _ _ c.in-Ok.ensures.started.running.sound.holds.names
 
 pub returns-in_err-answers-in-Err-Flash-clause-sound : goal.returns-in_err-answers-in-Err-Flash-clause-sound
 returns-in_err-answers-in-Err-Flash-clause-sound g c =
