@@ -2,3 +2,9 @@ pub mod Page
 pub mod Gates
 pub mod Log
 pub mod Blocks
+pub mod Says
+pub mod Reached
+pub mod Faults
+pub mod Laws
+pub mod Example
+pub mod Examples

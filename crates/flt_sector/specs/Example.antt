@@ -1,0 +1,50 @@
+-- How a worked image is written.
+use Rattle.std.specs.Prelude.{◌≡◌, ℕ, ◌-◌, List, [], ◌∷◌, ◌++◌, length, replicate, map, Option}
+use Rattle.flt_flash.specs.Image.{blank_page}
+use Rattle.flt_code.specs.Seal.{sealed}
+use Rattle.flt_code.specs.Word.{word_bytes}
+use Rattle.flt_code.specs.declared.words.Word.{Word}
+use Rattle.flt_code.specs.declared.words.Word.TheVariants.{Start, Active}
+use Rattle.flt_sector.specs.Blocks.{first_fault}
+
+-- The page of a word.
+abbrev pub says : Word → List ℕ
+says word = sealed (word_bytes word)
+
+-- A page of plain bytes, filled up with FF.
+abbrev pub piece : List ℕ → List ℕ
+piece bytes = bytes ++ replicate (32 - length bytes) 0xFF
+
+-- A page of which the two first bytes were programmed before the power was cut.
+abbrev pub torn : List ℕ
+torn = piece (0x48 ∷ 0x01 ∷ [])
+
+-- A page of which a bit and its complement are both 0.
+abbrev pub spoiled : List ℕ
+spoiled = replicate 32 0
+
+-- A sector of so many pages, with these first ones.
+abbrev pub begun : ℕ → List (List ℕ) → List (List ℕ)
+begun used pages = pages ++ replicate (used - length pages) blank_page
+
+-- A valid sector of so many pages, of this number and with this log.
+abbrev pub sector : ℕ → ℕ → List (List ℕ) → List (List ℕ)
+sector used sequence log = begun used (says (Start sequence used) ∷ says (Active sequence) ∷ log)
+
+-- An image of two sectors.
+abbrev pub two : List (List ℕ) → List (List ℕ) → List (List (List ℕ))
+two first second = first ∷ second ∷ []
+
+-- An image, and where its first fault is told.
+pub record Faulty : Type 0 where
+  pub image : List (List (List ℕ))
+  pub place : Option (ℕ × ℕ)
+
+infix 70 ◌⇒◌
+-- An image has its first fault here.
+abbrev pub ◌⇒◌ : List (List (List ℕ)) → Option (ℕ × ℕ) → Faulty
+image ⇒ place = record { image = image; place = place }
+
+-- The faults are told so.
+abbrev pub Tells : ℕ → List ℕ → List Faulty → Type 0
+Tells used numbers rows = map (λ row. first_fault used numbers row.image) rows ≡ map (λ row. row.place) rows

@@ -1,0 +1,125 @@
+-- The faults of an image, each by itself, and the order in which a mount looks for them.
+use Rattle.std.specs.Prelude.{◌≡◌, ◌≢◌, ◌⊎◌, ℕ, ◌+◌, ◌*◌, ◌≤◌, ◌<◌, Bool, List, [], Some, IsTrue, IsFalse, slice_index_or}
+use Rattle.flt_flash.specs.Blocks.{byte_pages}
+use Rattle.flt_flash.specs.Image.{sector_at}
+use Rattle.flt_code.specs.Spoiled.{is_spoiled}
+use Rattle.flt_code.specs.Seal.{unsealed}
+use Rattle.flt_code.specs.declared.words.Word.{Word}
+use Rattle.flt_code.specs.declared.words.Word.TheVariants.{Start, Active, Head, Gate}
+use Rattle.flt_sector.specs.Page.{is_blank}
+use Rattle.flt_sector.specs.Says.{Says, SaysOther}
+use Rattle.flt_sector.specs.Reached.{IsHead, IsReached, gate_page}
+
+-- ---- the gates
+
+-- a start gate of so many used pages
+abbrev pub IsStart : ℕ → Word → Type 0
+IsStart used (Start sequence pages) = pages ≡ used
+IsStart used (Active sequence) = ⊥
+IsStart used (Head block length valid page) = ⊥
+IsStart used (Gate block page) = ⊥
+
+-- an active gate
+abbrev pub IsActive : Word → Type 0
+IsActive (Active sequence) = Unit {0}
+IsActive (Start sequence pages) = ⊥
+IsActive (Head block length valid page) = ⊥
+IsActive (Gate block page) = ⊥
+
+-- page 0 is spoiled, or a code word but no start gate of the used pages
+abbrev pub HasWrongStart : ℕ → List (List ℕ) → Type 0
+HasWrongStart used pages = IsTrue (is_spoiled (slice_index_or pages 0 [])) ⊎ SaysOther (IsStart used) (slice_index_or pages 0 [])
+
+-- the two gates name two numbers
+pub record NamesTwo (used : ℕ) (pages : List (List ℕ)) : Type 0 where
+  pub first : ℕ
+  pub second : ℕ
+  pub start : Says (Start first used) (slice_index_or pages 0 [])
+  pub active : Says (Active second) (slice_index_or pages 1 [])
+  pub differ : first ≢ second
+
+-- page 1 is spoiled, or a code word but no active gate, or names another number than page 0
+abbrev pub HasWrongActive : ℕ → List (List ℕ) → Type 0
+HasWrongActive used pages =
+    IsTrue (is_spoiled (slice_index_or pages 1 [])) ⊎ SaysOther IsActive (slice_index_or pages 1 []) ⊎ NamesTwo used pages
+
+-- both gates stand and name this number
+pub record IsValidSector (used : ℕ) (pages : List (List ℕ)) (sequence : ℕ) : Type 0 where
+  pub start : Says (Start sequence used) (slice_index_or pages 0 [])
+  pub active : Says (Active sequence) (slice_index_or pages 1 [])
+
+-- of the two sectors this one is valid, and the other one is not or has a lesser number
+pub record IsCurrent (used : ℕ) (image : List (List (List ℕ))) (sector sequence : ℕ) : Type 0 where
+  pub within : sector < 2
+  pub valid : IsValidSector used (sector_at image sector) sequence
+  pub greatest : (other number : ℕ) → other < 2 → other ≢ sector → IsValidSector used (sector_at image other) number → number < sequence
+
+-- ---- the log
+
+module _ (used : ℕ) (numbers : List ℕ) (pages : List (List ℕ)) where
+  -- a code word that begins no record
+  pub record BeginsNothing (page : ℕ) : Type 0 where
+    pub within : page < used
+    pub code : List ℕ
+    pub is_code : unsealed (slice_index_or pages page []) ≡ Some code
+    pub no_head : (block length : ℕ) (valid : Bool) → IsHead used numbers pages page block length valid → ⊥
+
+  -- a record in the place of whose gate another code word stands
+  pub record HasOtherGate (page block length : ℕ) (valid : Bool) : Type 0 where
+    pub head : IsHead used numbers pages page block length valid
+    pub other : SaysOther (λ word. word ≡ Gate block page) (gate_page pages page length)
+
+  -- the log ends at a blank page, and this is the first one behind it that is not blank
+  pub record IsBehindEnd (end page : ℕ) : Type 0 where
+    pub behind : end < page
+    pub within : page < used
+    pub blank : (k : ℕ) → end ≤ k → k < page → IsTrue (is_blank (slice_index_or pages k []))
+    pub written : IsFalse (is_blank (slice_index_or pages page []))
+
+  -- what is wrong at a page of the log, as far as it goes
+  pub data IsWrongAt (wrong : ℕ) : Type 0 where
+    begins_nothing : IsReached used numbers pages wrong → BeginsNothing wrong → IsWrongAt wrong
+    other_gate : (page block length : ℕ) (valid : Bool) → IsReached used numbers pages page → HasOtherGate page block length valid
+        → page + 1 + byte_pages length ≡ wrong → IsWrongAt wrong
+    behind_end : (end : ℕ) → IsReached used numbers pages end → IsBehindEnd end wrong → IsWrongAt wrong
+
+-- ---- their order
+
+-- what a mount looks at: a gate of a sector, the numbers of both sectors, a page of the current sector's log
+pub data Look : Type 0 where
+  start_gate : ℕ → Look
+  active_gate : ℕ → Look
+  both_numbers : Look
+  log_page : ℕ → ℕ → Look
+
+-- its place in the order of the mount
+abbrev pub rank_of : Look → ℕ
+rank_of (start_gate sector) = 2 * sector
+rank_of (active_gate sector) = 2 * sector + 1
+rank_of both_numbers = 4
+rank_of (log_page sector page) = 5 + page
+
+-- the sector and the page at which a fault found there is told
+abbrev pub place_of : Look → ℕ × ℕ
+place_of (start_gate sector) = (sector, 0)
+place_of (active_gate sector) = (sector, 1)
+place_of both_numbers = (1, 0)
+place_of (log_page sector page) = (sector, page)
+
+-- an image has a fault there
+abbrev pub HasFault : ℕ → List ℕ → List (List (List ℕ)) → Look → Type 0
+HasFault used numbers image (start_gate sector) = (sector < 2) × HasWrongStart used (sector_at image sector)
+HasFault used numbers image (active_gate sector) = (sector < 2) × HasWrongActive used (sector_at image sector)
+HasFault used numbers image both_numbers =
+    (sequence : ℕ) × IsValidSector used (sector_at image 0) sequence × IsValidSector used (sector_at image 1) sequence
+HasFault used numbers image (log_page sector page) =
+    ((sequence : ℕ) × IsCurrent used image sector sequence) × IsWrongAt used numbers (sector_at image sector) page
+
+-- an image has a fault there, and none that a mount finds earlier
+pub record HasFirstFault (used : ℕ) (numbers : List ℕ) (image : List (List (List ℕ))) (look : Look) : Type 0 where
+  pub is : HasFault used numbers image look
+  pub first : (earlier : Look) → rank_of earlier < rank_of look → HasFault used numbers image earlier → ⊥
+
+-- no gate is wrong, and the sectors have two numbers
+abbrev pub HasSoundGates : ℕ → List ℕ → List (List (List ℕ)) → Type 0
+HasSoundGates used numbers image = (look : Look) → rank_of look ≤ 4 → HasFault used numbers image look → ⊥
