@@ -7,7 +7,7 @@ use Rattle.flt_code.specs.declared.words.Word.TheVariants.{Active}
 use Rattle.flt_sector.specs.Log.{log}
 use Rattle.flt_sector.specs.Gates.{gates_of}
 use Rattle.flt_sector.specs.Blocks.{Current, greater_of, current_by, current, place_in, fault_by, first_fault}
-use Rattle.flt_sector.specs.Faults.{HasWrongStart, HasWrongActive, IsValidSector, IsCurrent, IsWrongAt, Look, start_gate, active_gate, both_numbers, log_page, rank_of, place_of, HasFault, HasFirstFault, HasSoundGates}
+use Rattle.flt_sector.specs.Damage.{HasWrongStart, HasWrongActive, IsValidSector, IsCurrent, IsWrongAt, Look, start_gate, active_gate, both_numbers, log_page, rank_of, place_of, HasDamage, HasFirstDamage, HasSoundGates}
 use Rattle.flt_sector.specs.Laws.{FirstFaultIsTold, NoFaultIsTold, GreaterIsCurrent, NoneIsCurrent}
 use Rattle.flt_sector.proofs.Items.{says_one}
 use Rattle.flt_sector.proofs.GateCases.{GatesAre, start_wrong, active_wrong, valid, not_valid, gates_are}
@@ -19,7 +19,7 @@ one_number used pages first second one two = let same : Active first ≡ Active 
 
 module _ (used : ℕ) (numbers : List ℕ) (image : List (List (List ℕ))) where
   abbrev Wrong : Look → Type 0
-  Wrong = HasFault used numbers image
+  Wrong = HasDamage used numbers image
 
   -- no gate below a rank is wrong
   none_below : (bound : ℕ) → bound ≤ 5 → ((sector : ℕ) → sector < 2 → rank_of (start_gate sector) < bound → HasWrongStart used (sector_at image sector) → ⊥)
@@ -40,7 +40,7 @@ module _ (used : ℕ) (numbers : List ℕ) (image : List (List (List ℕ))) wher
 
   -- what the gates of both sectors come to
   pub data CurrentIs (found : Result (Option Current) (ℕ × ℕ)) : Type 0 where
-    gates_wrong : (look : Look) → rank_of look ≤ 4 → HasFirstFault used numbers image look → found ≡ Err (place_of look) → CurrentIs found
+    gates_wrong : (look : Look) → rank_of look ≤ 4 → HasFirstDamage used numbers image look → found ≡ Err (place_of look) → CurrentIs found
     is_current : HasSoundGates used numbers image → (at : Current) → IsCurrent used image at.sector at.sequence → found ≡ Ok (Some at) → CurrentIs found
     is_none : HasSoundGates used numbers image → ((sector sequence : ℕ) → sector < 2 → IsValidSector used (sector_at image sector) sequence → ⊥) → found ≡ Ok None → CurrentIs found
 
@@ -111,13 +111,13 @@ module _ (used : ℕ) (numbers : List ℕ) (image : List (List (List ℕ))) wher
       both_valid = by_equal (n == m) refl
 
   -- a fault of the gates, where none below it is wrong
-  wrong_start : (sector : ℕ) → sector < 2 → ((s : ℕ) → s < sector → RightStart s) → ((s : ℕ) → s < sector → RightActive s) → HasWrongStart used (sector_at image sector) → HasFirstFault used numbers image (start_gate sector)
+  wrong_start : (sector : ℕ) → sector < 2 → ((s : ℕ) → s < sector → RightStart s) → ((s : ℕ) → s < sector → RightActive s) → HasWrongStart used (sector_at image sector) → HasFirstDamage used numbers image (start_gate sector)
   wrong_start sector within starts actives is = record {
     is = (within, is);
     first = none_below (2 * sector) (omega (arith, within)) (λ s _ below. starts s (omega (arith, below))) (λ s _ below. actives s (omega (arith, below))) (λ past. absurd (omega (arith, past, within)));
   }
 
-  wrong_active : (sector : ℕ) → sector < 2 → ((s : ℕ) → s ≤ sector → RightStart s) → ((s : ℕ) → s < sector → RightActive s) → HasWrongActive used (sector_at image sector) → HasFirstFault used numbers image (active_gate sector)
+  wrong_active : (sector : ℕ) → sector < 2 → ((s : ℕ) → s ≤ sector → RightStart s) → ((s : ℕ) → s < sector → RightActive s) → HasWrongActive used (sector_at image sector) → HasFirstDamage used numbers image (active_gate sector)
   wrong_active sector within starts actives is = record {
     is = (within, is);
     first = none_below (2 * sector + 1) (omega (arith, within)) (λ s _ below. starts s (omega (arith, below))) (λ s _ below. actives s (omega (arith, below))) (λ past. absurd (omega (arith, past, within)));
@@ -170,7 +170,7 @@ module _ (used : ℕ) (numbers : List ℕ) (image : List (List (List ℕ))) wher
 
   -- what the first fault comes to
   pub data FirstIs (fault : Option (ℕ × ℕ)) : Type 0 where
-    has_fault : (look : Look) → HasFirstFault used numbers image look → fault ≡ Some (place_of look) → FirstIs fault
+    has_fault : (look : Look) → HasFirstDamage used numbers image look → fault ≡ Some (place_of look) → FirstIs fault
     has_none : ((look : Look) → Wrong look → ⊥) → fault ≡ None → FirstIs fault
 
   module _ (least : 2 ≤ used) where
@@ -238,7 +238,7 @@ module _ (used : ℕ) (numbers : List ℕ) (image : List (List (List ℕ))) wher
     same_place (log_page t page) both_numbers rank one two = absurd (omega (arith, rank))
 
     -- the first fault is told
-    pub told_first : (look : Look) → HasFirstFault used numbers image look → first_fault used numbers image ≡ Some (place_of look)
+    pub told_first : (look : Look) → HasFirstDamage used numbers image look → first_fault used numbers image ≡ Some (place_of look)
     told_first look is = elim first_is [
       | has_fault other also told ↦ told ∙ ap Some (elim (cases_order (rank_of look) (rank_of other)) [
         | inl same ↦ sym (same_place look other same is.is also.is)
@@ -248,7 +248,7 @@ module _ (used : ℕ) (numbers : List ℕ) (image : List (List (List ℕ))) wher
       | has_none none told ↦ absurd (none look is.is)
     ]
 
-    pub where_told : (place : ℕ × ℕ) → first_fault used numbers image ≡ Some place → (look : Look) × HasFirstFault used numbers image look × (place_of look ≡ place)
+    pub where_told : (place : ℕ × ℕ) → first_fault used numbers image ≡ Some place → (look : Look) × HasFirstDamage used numbers image look × (place_of look ≡ place)
     where_told place is = elim first_is [
       | has_fault look also told ↦ (look, also, (let same : place_of look ≡ place = cc in same))
       | has_none none told ↦ absurd (cc)
@@ -261,13 +261,13 @@ first_fault_is_told used numbers image place least =
 pub no_fault_is_told : NoFaultIsTold
 no_fault_is_told used numbers image least = (none_where, told_none)
   where
-    none_where : first_fault used numbers image ≡ None → (look : Look) → HasFault used numbers image look → ⊥
+    none_where : first_fault used numbers image ≡ None → (look : Look) → HasDamage used numbers image look → ⊥
     none_where is look wrong = elim (first_is used numbers image least) [
       | has_fault other also told ↦ cc
       | has_none none told ↦ none look wrong
     ]
 
-    told_none : ((look : Look) → HasFault used numbers image look → ⊥) → first_fault used numbers image ≡ None
+    told_none : ((look : Look) → HasDamage used numbers image look → ⊥) → first_fault used numbers image ≡ None
     told_none none = elim (first_is used numbers image least) [
       | has_fault other also told ↦ absurd (none other also.is)
       | has_none same told ↦ told

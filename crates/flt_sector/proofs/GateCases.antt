@@ -9,7 +9,7 @@ use Rattle.flt_code.specs.declared.words.Word.{Word}
 use Rattle.flt_code.specs.declared.words.Word.TheVariants.{Start, Active, Head, Gate}
 use Rattle.flt_sector.specs.Gates.{started_by, activated_by, gate_by_code, gate_by, both_gates, gates_of}
 use Rattle.flt_sector.specs.Says.{Says, SaysOther, IsNoCode}
-use Rattle.flt_sector.specs.Faults.{IsStart, IsActive, HasWrongStart, HasWrongActive, IsValidSector}
+use Rattle.flt_sector.specs.Damage.{IsStart, IsActive, HasWrongStart, HasWrongActive, IsValidSector}
 use Rattle.flt_sector.proofs.Items.{says_one}
 
 -- one gate page: wrong, no code word, or the gate of a number

@@ -18,7 +18,7 @@ use Rattle.flt_sector.specs.declared.log.Item.{Item}
 use Rattle.flt_sector.specs.declared.log.Item.TheVariants.{End, Torn, Kept}
 use Rattle.flt_sector.specs.Says.{Says, IsNoCode}
 use Rattle.flt_sector.specs.Reached.{IsTornHead, IsHead, IsRecord, gate_page}
-use Rattle.flt_sector.specs.Faults.{BeginsNothing, HasOtherGate}
+use Rattle.flt_sector.specs.Damage.{BeginsNothing, HasOtherGate}
 
 -- a page says one thing
 pub says_one : {first second : Word} {page : List ℕ} → Says first page → Says second page → first ≡ second

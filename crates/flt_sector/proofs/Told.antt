@@ -9,7 +9,7 @@ use Rattle.flt_sector.specs.Log.{item_at}
 use Rattle.flt_sector.specs.declared.log.Item.TheVariants.{End, Torn, Kept}
 use Rattle.flt_sector.specs.Says.{SaysOther}
 use Rattle.flt_sector.specs.Reached.{IsTornHead, IsHead, IsGated, IsRecord, gate_page}
-use Rattle.flt_sector.specs.Faults.{BeginsNothing, HasOtherGate}
+use Rattle.flt_sector.specs.Damage.{BeginsNothing, HasOtherGate}
 use Rattle.flt_sector.proofs.Items.{ends, torn, kept, nothing, other, stands, says_one, blank_no_code}
 
 module _ (used : ℕ) (numbers : List ℕ) (pages : List (List ℕ)) (page : ℕ) where

@@ -7,7 +7,7 @@ use Rattle.flt_sector.specs.Log.{LogFrom, item_at, log_after, log_from, log}
 use Rattle.flt_sector.specs.declared.log.Item.{Item}
 use Rattle.flt_sector.specs.declared.log.Item.TheVariants.{End, Torn, Kept}
 use Rattle.flt_sector.specs.Reached.{IsReached, begins, behind_torn, behind_record}
-use Rattle.flt_sector.specs.Faults.{IsWrongAt, begins_nothing, other_gate, behind_end}
+use Rattle.flt_sector.specs.Damage.{IsWrongAt, begins_nothing, other_gate, behind_end}
 use Rattle.flt_sector.proofs.Items.{ends, torn, kept, nothing, other, stands}
 use Rattle.flt_sector.proofs.Told.{at_nothing, at_other, at_blank}
 use Rattle.flt_sector.proofs.Logged.{log_on, log_step, goes_on, written_found, IsFirstWritten, found_written}

@@ -5,7 +5,7 @@ use Rattle.flt_flash.specs.Image.{sector_at, page_at, blank_page}
 use Rattle.flt_sector.specs.Log.{log_from, log}
 use Rattle.flt_sector.specs.Blocks.{Current, current, first_fault, bytes_behind, block_value}
 use Rattle.flt_sector.specs.Reached.{IsReached, IsRecord}
-use Rattle.flt_sector.specs.Faults.{Look, place_of, HasFault, HasFirstFault, HasSoundGates, IsCurrent, IsValidSector}
+use Rattle.flt_sector.specs.Damage.{Look, place_of, HasDamage, HasFirstDamage, HasSoundGates, IsCurrent, IsValidSector}
 
 -- as many items as there are used pages are enough: the log goes no further with more
 abbrev pub LogIsWhole : Type 0
@@ -23,12 +23,12 @@ LogEndsWithin = (used : ℕ) (numbers : List ℕ) (pages : List (List ℕ)) → 
 -- the fault that is told is the first that a mount finds
 abbrev pub FirstFaultIsTold : Type 0
 FirstFaultIsTold = (used : ℕ) (numbers : List ℕ) (image : List (List (List ℕ))) (place : ℕ × ℕ) → 2 ≤ used
-    → (first_fault used numbers image ≡ Some place) ↔ ((look : Look) × HasFirstFault used numbers image look × (place_of look ≡ place))
+    → (first_fault used numbers image ≡ Some place) ↔ ((look : Look) × HasFirstDamage used numbers image look × (place_of look ≡ place))
 
 -- none is told exactly where there is none
 abbrev pub NoFaultIsTold : Type 0
 NoFaultIsTold = (used : ℕ) (numbers : List ℕ) (image : List (List (List ℕ))) → 2 ≤ used
-    → (first_fault used numbers image ≡ None) ↔ ((look : Look) → HasFault used numbers image look → ⊥)
+    → (first_fault used numbers image ≡ None) ↔ ((look : Look) → HasDamage used numbers image look → ⊥)
 
 -- where the gates are sound, the current sector is the valid one of the greater number
 abbrev pub GreaterIsCurrent : Type 0

@@ -4,7 +4,7 @@ pub mod Log
 pub mod Blocks
 pub mod Says
 pub mod Reached
-pub mod Faults
+pub mod Damage
 pub mod Laws
 pub mod Example
 pub mod Examples

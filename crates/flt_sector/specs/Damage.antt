@@ -106,20 +106,20 @@ place_of (active_gate sector) = (sector, 1)
 place_of both_numbers = (1, 0)
 place_of (log_page sector page) = (sector, page)
 
--- an image has a fault there
-abbrev pub HasFault : ℕ → List ℕ → List (List (List ℕ)) → Look → Type 0
-HasFault used numbers image (start_gate sector) = (sector < 2) × HasWrongStart used (sector_at image sector)
-HasFault used numbers image (active_gate sector) = (sector < 2) × HasWrongActive used (sector_at image sector)
-HasFault used numbers image both_numbers =
+-- an image is damaged there
+abbrev pub HasDamage : ℕ → List ℕ → List (List (List ℕ)) → Look → Type 0
+HasDamage used numbers image (start_gate sector) = (sector < 2) × HasWrongStart used (sector_at image sector)
+HasDamage used numbers image (active_gate sector) = (sector < 2) × HasWrongActive used (sector_at image sector)
+HasDamage used numbers image both_numbers =
     (sequence : ℕ) × IsValidSector used (sector_at image 0) sequence × IsValidSector used (sector_at image 1) sequence
-HasFault used numbers image (log_page sector page) =
+HasDamage used numbers image (log_page sector page) =
     ((sequence : ℕ) × IsCurrent used image sector sequence) × IsWrongAt used numbers (sector_at image sector) page
 
--- an image has a fault there, and none that a mount finds earlier
-pub record HasFirstFault (used : ℕ) (numbers : List ℕ) (image : List (List (List ℕ))) (look : Look) : Type 0 where
-  pub is : HasFault used numbers image look
-  pub first : (earlier : Look) → rank_of earlier < rank_of look → HasFault used numbers image earlier → ⊥
+-- an image is damaged there, and nowhere that a mount looks earlier
+pub record HasFirstDamage (used : ℕ) (numbers : List ℕ) (image : List (List (List ℕ))) (look : Look) : Type 0 where
+  pub is : HasDamage used numbers image look
+  pub first : (earlier : Look) → rank_of earlier < rank_of look → HasDamage used numbers image earlier → ⊥
 
--- no gate is wrong, and the sectors have two numbers
+-- no gate is wrong, and the two sectors do not have one number
 abbrev pub HasSoundGates : ℕ → List ℕ → List (List (List ℕ)) → Type 0
-HasSoundGates used numbers image = (look : Look) → rank_of look ≤ 4 → HasFault used numbers image look → ⊥
+HasSoundGates used numbers image = (look : Look) → rank_of look ≤ 4 → HasDamage used numbers image look → ⊥
