@@ -23,7 +23,7 @@ use Rattle.flt_generation.proofs.Sofar.{sofar, read_fits, read_blocks}
 use Rattle.flt_generation.proofs.Whole.{HasSizes, whole_read}
 
 -- ---- the mark
-same_mark : (first second : Mark) → is_same_mark first second ≡ true → first ≡ second
+pub same_mark : (first second : Mark) → is_same_mark first second ≡ true → first ≡ second
 same_mark first second is =
     let a = and_parts _ _ is in
     let b = and_parts _ _ a.0 in
@@ -32,7 +32,7 @@ same_mark first second is =
     let entries = eqb-true first.entries second.entries a.1 in
     λ i. record { id = id i; events = events i; entries = entries i }
 
-mark_same : (mark : Mark) → is_same_mark mark mark ≡ true
+pub mark_same : (mark : Mark) → is_same_mark mark mark ≡ true
 mark_same mark = and_from _ _ (and_from _ _ (eq-eqb mark.id mark.id refl) (eq-eqb mark.events mark.events refl)) (eq-eqb mark.entries mark.entries refl)
 
 judged_as_own : (c : Config) (o : Option Mark) → judged_mark c o ≡ Ok tt → o ≡ Some (mark_of c)
@@ -130,7 +130,7 @@ no_fault : (o : Option ℕ) → application_fault o ≡ Ok tt → o ≡ None
 no_fault None is = refl
 no_fault (Some block) is = absurd (cc)
 
-applications_fine : (value : ℕ → Content) → applications_judged value ≡ Ok tt → (block : ℕ) → block < 40 → is_application (value (application_number block)) ≡ true
+pub applications_fine : (value : ℕ → Content) → applications_judged value ≡ Ok tt → (block : ℕ) → block < 40 → is_application (value (application_number block)) ≡ true
 unfolding applications_judged
 applications_fine value is block below =
     let test : ℕ → Bool = λ b. not (is_application (value (application_number b))) in

@@ -15,13 +15,11 @@ use Rattle.flt_generation.specs.Form.{summary_bytes, states_bytes, place_bytes, 
 use Rattle.flt_generation.specs.Fit.{states_fit, entry_fits_at, is_alone, place_fits, summary_fits, part_fits}
 use Rattle.flt_generation.specs.Reading.{with_part, with_summary, with_states, entry_from, untaken_entry, taken, if_holds}
 use Rattle.flt_generation.specs.Laws.{KeepsRest, IsTakenAs}
-use Rattle.flt_generation.proofs.Fitting.{entry_by_test, noted_by_test}
+use Rattle.flt_generation.proofs.Fitting.{entry_by_test}
 use Rattle.flt_generation.proofs.States.{state_set, state_kept, length-with_states}
 use Rattle.flt_generation.proofs.Sizes.{accepted, taken_holds}
-use Rattle.flt_generation.proofs.Parts.{state_passes}
-use Rattle.flt_generation.proofs.Decoding.{HasShortSummary, summary_of, summary_read, state_read, entry_read}
-use Rattle.flt_generation.proofs.Sofar.{room_of, notes_of}
-use Rattle.flt_generation.proofs.Whole.{HasSizes, noted_short_of, entry_sizes}
+use Rattle.flt_generation.proofs.Decoding.{summary_of, summary_read, state_read, entry_read}
+use Rattle.flt_generation.proofs.Whole.{HasSizes, entry_sizes, short_summary, clean_short}
 
 -- what is taken differs in its part alone
 rest_kept : (part : Part) (held : List ℕ) (p : Persist) → KeepsRest part p (with_part part held p)
@@ -39,18 +37,10 @@ module _ (c : Config) (sizes : HasSizes c) (p q : Persist) (one_each : length p.
   again_summary : summary_fits c q ≡ true → KeepsRest Summary p q → with_part Summary (summary_bytes q) p ≡ q
   unfolding with_part
   again_summary fits rest =
-      let notes = notes_of c q fits in
-      let short : HasShortSummary q = record {
-        entries = omega (arith, room_of c q fits, sizes.memory);
-        first_failed = noted_short_of c sizes q.first_failed (noted_by_test c.events.items q.first_failed notes.0);
-        first_confirmed = noted_short_of c sizes q.first_confirmed (noted_by_test c.events.items q.first_confirmed notes.1);
-        recent_failed = noted_short_of c sizes q.recent_failed (noted_by_test c.events.items q.recent_failed notes.2);
-        recent_confirmed = noted_short_of c sizes q.recent_confirmed (noted_by_test c.events.items q.recent_confirmed notes.3);
-      } in
       let entries = sym rest.1 in
       let whole : summary_of q p ≡ record p { overflow = q.overflow; entries = q.entries; first_failed = q.first_failed; first_confirmed = q.first_confirmed; recent_failed = q.recent_failed; recent_confirmed = q.recent_confirmed } =
       λ i. record p { overflow = q.overflow; entries = record { items = entries i }; first_failed = q.first_failed; first_confirmed = q.first_confirmed; recent_failed = q.recent_failed; recent_confirmed = q.recent_confirmed } in
-      summary_read q p short ∙ whole ∙ sym rest.0
+      summary_read q p (short_summary c sizes q fits) ∙ whole ∙ sym rest.0
 
   again_states : (first : ℕ) → states_fit c.events.items q.events.items first 16 ≡ true → KeepsRest (States first) p q → with_part (States first) (states_bytes q.events.items first) p ≡ q
   unfolding with_part
@@ -71,18 +61,11 @@ module _ (c : Config) (sizes : HasSizes c) (p q : Persist) (one_each : length p.
               get_or_default (with_states held first 16 p.events.items) k d start_state below
               ∙ subst (λ (n : ℕ). slice_index_or (with_states held first 16 p.events.items) n start_state ≡ slice_index_or q.events.items n start_state) here
               (state_set held first p.events.items 16 (k - first) start_state place there
-              ∙ state_read q.events.items first 16 (k - first) place (clean_short first fits (k - first) place (omega (arith, there, one_each))))
+              ∙ state_read q.events.items first 16 (k - first) place (clean_short c q.events.items first fits (k - first) place (omega (arith, there, one_each))))
               ∙ get_or_default q.events.items k start_state d (omega (arith, within, rest.1))
         ]
       ]) in
       (λ i. record p { events = record { items = same i } }) ∙ sym rest.0
-    where
-      clean_short : (first : ℕ) → states_fit c.events.items q.events.items first 16 ≡ true → (place : ℕ) → place < 16 → first + place < length c.events.items
-          → (slice_index_or q.events.items (first + place) start_state).clean < 0x8000
-      clean_short first fits place below within = elim (slice_get_cases c.events.items (first + place)).1 [
-        | inl found ↦ omega (arith, (state_passes c.events.items q.events.items first 16 fits place below found.0 within).clean)
-        | inr past ↦ absurd (omega (arith, within, past.0))
-      ]
 
   again_entry : (place : ℕ) → place_fits c.events.items q.entries.items place (slice_get q.entries.items place) ≡ true → KeepsRest (Entry place) p q
       → with_part (Entry place) (place_bytes (slice_get q.entries.items place)) p ≡ q

@@ -1,15 +1,18 @@
 -- The tests of a part, and what they say.
-use Rattle.std.proofs.Common.{inl, inr, ◌≡◌, ℕ, ◌^◌, ◌<◌, Bool, true, false, not, ◌&&◌, List, length, refl, sym, ◌∙◌, ap, subst, Option, Some, None, arith}
-use Rattle.std.specs.Prelude.{IsTrue, IsBitSet, bit_and, nat_lt, if◌then◌else◌, slice_get, slice_index_or, ◌↔◌}
-use Rattle.std.proofs.lemmas.Bool.{and_parts, and_from, leb-true, le-leb, ltb-true, lt-ltb, eqb-true, eqb-false, eq-eqb, ne_eqb, not-true, not-false, not_from_false, false_from_ne_true}
+use Rattle.std.proofs.Common.{inl, inr, ◌≡◌, ℕ, ◌^◌, ◌<◌, Bool, true, false, not, ◌&&◌, List, length, refl, sym, ◌∙◌, ap, subst, Option, Some, None, arith, ◌≢◌, ◌+◌, [], ◌∷◌, take, drop, position, length-take, length-drop}
+use Rattle.std.specs.Prelude.{IsTrue, IsBitSet, bit_and, nat_lt, if◌then◌else◌, slice_get, slice_index_or, ◌↔◌, is_none}
+use Rattle.std.proofs.lemmas.Bool.{and_parts, and_from, leb-true, le-leb, ltb-true, lt-ltb, eqb-true, eqb-false, eq-eqb, ne_eqb, not-true, not-false, not_from_false, false_from_ne_true, le-ltb}
 use Rattle.flt_config.specs.declared.config.EventCfg.{EventCfg}
 use Rattle.flt_config.specs.declared.persist.EventState.{EventState}
 use Rattle.flt_config.specs.declared.persist.EntryState.{EntryState}
 use Rattle.flt_config.specs.Ranges.{frame_width}
-use Rattle.flt_config.specs.Durable.{IsStateOf, IsEntryOf, IsNoted}
+use Rattle.flt_config.specs.Durable.{IsStateOf, IsEntryOf, IsNoted, is_of_event}
 use Rattle.std.proofs.lemmas.Option.{slice_get_cases, get_or_from_slice_get}
-use Rattle.flt_generation.specs.Fit.{has_bit, state_fits, note_fits, entry_fits_at}
-use Rattle.flt_generation.proofs.Choices.{chosen}
+use Rattle.flt_generation.specs.Fit.{has_bit, state_fits, note_fits, entry_fits_at, is_alone}
+use Rattle.flt_generation.proofs.Choices.{chosen, not_chosen}
+use Rattle.std.specs.List.{position_or_len}
+use Rattle.std.proofs.lemmas.List.{get_or-take, get_or-drop}
+use Rattle.std.proofs.lemmas.List.Sums.{position_or_len_is}
 
 bit_is : (status k worth : ℕ) → worth ≡ 2 ^ k → has_bit status worth ≡ true → IsBitSet status k
 bit_is status k worth is set = λ none. eqb-false (bit_and status worth) 0 (not-true _ set) (ap (bit_and status) is ∙ none)
@@ -105,3 +108,24 @@ test_of_entry events entry is = elim (slice_get_cases events entry.event).1 [
       (eq-eqb _ _ (is.recent event ∙ ap (λ (x : EventCfg). frame_width x.dids.items) here)))
   | inr past ↦ absurd (omega (arith, is.event, past.0))
 ]
+
+-- no element passes
+pub none_passes : {X : Type 0} (test : X → Bool) (xs : List X) → ((k : ℕ) (d : X) → k < length xs → test (slice_index_or xs k d) ≡ false) → position test xs ≡ None
+none_passes test [] fails = refl
+none_passes test (x ∷ xs) fails =
+    let end = position_or_len_is test (x ∷ xs) (length (x ∷ xs)) x (omega arith) (λ k below. fails k x below) (λ past. absurd (omega (arith, past))) in
+    not_chosen (nat_lt (position_or_len test (x ∷ xs)) (length (x ∷ xs))) (Some (position_or_len test (x ∷ xs))) None (le-ltb (position_or_len test (x ∷ xs)) (length (x ∷ xs)) (omega (arith, end)))
+
+-- an entry is the only one of its event, where each other one is of another
+pub alone_by : (entries : List EntryState) (place event : ℕ) → ((k : ℕ) (d : EntryState) → k < length entries → k ≢ place → (slice_index_or entries k d).event ≢ event) → is_alone entries place event ≡ true
+alone_by entries place event others = and_from _ _ (ap is_none (none_passes (is_of_event event) (take place entries) front)) (ap is_none (none_passes (is_of_event event) (drop (place + 1) entries) back))
+  where
+    front : (k : ℕ) (d : EntryState) → k < length (take place entries) → is_of_event event (slice_index_or (take place entries) k d) ≡ false
+    front k d below =
+        let before : k < place = omega (arith, below, length-take place entries) in
+        ap (is_of_event event) (get_or-take place entries k d before) ∙ ne_eqb _ _ (others k d (omega (arith, below, length-take place entries)) (λ e. omega (arith, e, before)))
+
+    back : (k : ℕ) (d : EntryState) → k < length (drop (place + 1) entries) → is_of_event event (slice_index_or (drop (place + 1) entries) k d) ≡ false
+    back k d below =
+        ap (is_of_event event) (get_or-drop (place + 1) entries k d)
+        ∙ ne_eqb _ _ (others (place + 1 + k) d (omega (arith, below, length-drop (place + 1) entries)) (λ e. omega (arith, e)))

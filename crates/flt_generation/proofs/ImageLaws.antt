@@ -1,23 +1,24 @@
 -- The laws of stored generations.
-use Rattle.std.proofs.Common.{◌≡◌, ℕ, ◌+◌, ◌-◌, ◌*◌, ◌/◌, ◌<◌, ◌≤◌, List, [], ◌∷◌, refl, sym, ◌∙◌, ap, subst, arith, replicate}
+use Rattle.std.proofs.Common.{◌≡◌, ℕ, ◌+◌, ◌-◌, ◌*◌, ◌/◌, ◌<◌, ◌≤◌, List, [], ◌∷◌, refl, sym, ◌∙◌, ap, subst, arith, replicate, ◌⊎◌, inl, inr}
 use Rattle.std.specs.Prelude.{Ok, IsTrue, slice_index, sum_by}
-use Rattle.std.proofs.lemmas.Bool.{and_parts, leb-true, ltb-true}
+use Rattle.std.proofs.lemmas.Bool.{and_parts, leb-true, ltb-true, cases_eq}
 use Rattle.std.proofs.lemmas.List.{get_or-replicate}
-use Rattle.flt_flash.specs.Content.{Content, missing, bytes}
+use Rattle.flt_flash.specs.Content.{Content, missing, bytes, invalid}
 use Rattle.flt_config.specs.declared.config.Config.{Config}
 use Rattle.flt_config.specs.declared.persist.Persist.{Persist}
 use Rattle.flt_generation.specs.declared.commit.Commit.{Commit}
 use Rattle.flt_generation.specs.Layout.{numbers, is_used, first_commit, second_commit}
 use Rattle.flt_generation.specs.Form.{IsMark, mark_of, block_bytes}
 use Rattle.flt_generation.specs.Excess.{own_pages}
-use Rattle.flt_generation.specs.Holding.{first_generation, parts_read, BlocksHold, Holds, IsSound, either_copy, only_bytes}
-use Rattle.flt_generation.specs.Laws.{IsGiven, MarksAreRead, CommitsAreRead, PartsAreTaken, BlocksDetermineState, HeldStands, SpareStands, BlankIsSound}
+use Rattle.flt_generation.specs.Holding.{first_generation, parts_read, BlocksHold, Holds, IsSound, either_copy, only_bytes, Generation, held_by, IsHeld, IsSpare}
+use Rattle.flt_generation.specs.Laws.{IsGiven, MarksAreRead, CommitsAreRead, PartsAreTaken, BlocksDetermineState, HeldStands, SpareStands, BlankIsSound, TellsFirstFault, HoldsWithoutFault, Counts, EitherCopyCounts, OnlyBytesCount, SoundIsOneOrNext, IsBytes}
 use Rattle.flt_generation.proofs.Marks.{read_mark, mark_read}
 use Rattle.flt_generation.proofs.Commits.{read_commit, commit_read}
 use Rattle.flt_generation.proofs.Exactly.{taken_as, as_taken}
 use Rattle.flt_generation.proofs.Whole.{HasSizes, whole_read}
 use Rattle.flt_generation.proofs.Pages.{sum_more}
 use Rattle.flt_generation.proofs.Bridge.{held_holds, holds_held}
+use Rattle.flt_generation.proofs.FirstFault.{fault_is_first, holds_without_fault}
 
 pub marks_are_read : MarksAreRead
 marks_are_read held mark = (read_mark held mark, λ both. mark_read held mark both.0 both.1)
@@ -99,3 +100,49 @@ blank_is_sound c given value blank =
       applications = λ block below. refl;
       excess = (let none = nothing_beyond c numbers in let room = given.valid.room in omega (arith, none, room));
     }
+
+pub first_fault_is_told : (commit_of : (ℕ → Content) → Content) → TellsFirstFault (λ c value. held_by c value (commit_of value)) commit_of
+first_fault_is_told commit_of c given value fault = fault_is_first c value (commit_of value) (sizes_of c given) fault
+
+pub holds_where_no_fault : (commit_of : (ℕ → Content) → Content) → HoldsWithoutFault (λ c value. held_by c value (commit_of value)) commit_of
+holds_where_no_fault commit_of c given value = holds_without_fault c value (commit_of value) (sizes_of c given)
+
+-- the copies that count
+by_second : (first : Content) (held : List ℕ) → (IsBytes first → ⊥) → Counts first (bytes held) (bytes held)
+by_second first held none = record { by_first = λ is. absurd (none is); by_second = λ _ _. refl; by_neither = λ _ no. absurd (no (held, refl)) }
+
+by_neither : (first second : Content) → (IsBytes first → ⊥) → (IsBytes second → ⊥) → Counts first second first
+by_neither first second none nor = record { by_first = λ is. absurd (none is); by_second = λ _ is. absurd (nor is); by_neither = λ _ _. refl }
+
+pub either_copy_counts : EitherCopyCounts
+either_copy_counts (bytes own) second = record { by_first = λ _. refl; by_second = λ no _. absurd (no (own, refl)); by_neither = λ no _. absurd (no (own, refl)) }
+either_copy_counts missing (bytes held) = by_second missing held (λ is. cc is.1)
+either_copy_counts invalid (bytes held) = by_second invalid held (λ is. cc is.1)
+either_copy_counts missing missing = by_neither missing missing (λ is. cc is.1) (λ is. cc is.1)
+either_copy_counts missing invalid = by_neither missing invalid (λ is. cc is.1) (λ is. cc is.1)
+either_copy_counts invalid missing = by_neither invalid missing (λ is. cc is.1) (λ is. cc is.1)
+either_copy_counts invalid invalid = by_neither invalid invalid (λ is. cc is.1) (λ is. cc is.1)
+
+pub only_bytes_count : OnlyBytesCount
+only_bytes_count missing = (λ _. refl, λ _. refl)
+only_bytes_count invalid = (λ no. absurd (cc no.1), λ _. refl)
+only_bytes_count (bytes held) = (λ _. refl, λ no. absurd (no (held, refl)))
+
+pub sound_is_one_or_next : SoundIsOneOrNext
+sound_is_one_or_next c value held spare = (one_or_next, sound)
+  where
+    one_or_next : IsSound c value held spare → IsHeld c value held × IsSpare c value spare × ((held ≡ spare) ⊎ (held.number ≡ spare.number + 1))
+    one_or_next is = (
+      is.holds,
+      is.spares,
+      elim (cases_eq held.number spare.number) [
+        | inl same ↦ inl (let state = is.same same in λ i. record { number = same i; state = state i })
+        | inr apart ↦ inr (omega (arith, is.order, is.step, apart))
+      ],
+    )
+
+    sound : IsHeld c value held × IsSpare c value spare × ((held ≡ spare) ⊎ (held.number ≡ spare.number + 1)) → IsSound c value held spare
+    sound (holds, spares, inl same) =
+        let number = ap (λ (g : Generation). g.number) same in
+        record { holds = holds; spares = spares; order = omega (arith, number); step = omega (arith, number); same = λ _. ap (λ (g : Generation). g.state) same }
+    sound (holds, spares, inr next) = record { holds = holds; spares = spares; order = omega (arith, next); step = omega (arith, next); same = λ no. absurd (omega (arith, no, next)) }

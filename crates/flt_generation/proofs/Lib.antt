@@ -9,7 +9,10 @@ pub mod Decoding
 pub mod Steps
 pub mod Sofar
 pub mod Whole
+pub mod Below
 pub mod Bridge
+pub mod FaultCases
+pub mod FirstFault
 pub mod Exactly
 pub mod Pages
 pub mod ImageLaws

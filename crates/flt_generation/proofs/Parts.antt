@@ -1,7 +1,7 @@
 -- Which parts fit, by their tests: beside the rest of any state with one state for each event.
-use Rattle.std.proofs.Common.{◌≡◌, ◌⊎◌, ℕ, zero, suc, ◌+◌, ◌-◌, ◌<◌, ◌≤◌, [], ◌∷◌, true, List, length, refl, sym, ◌∙◌, subst, arith, inl, inr}
+use Rattle.std.proofs.Common.{◌≡◌, ◌⊎◌, ℕ, zero, suc, ◌+◌, ◌-◌, ◌<◌, ◌≤◌, [], ◌∷◌, true, List, length, refl, sym, ◌∙◌, subst, arith, inl, inr, ap, ◌&&◌}
 use Rattle.std.specs.Prelude.{slice_index_or, slice_get, Option, All}
-use Rattle.std.proofs.lemmas.Bool.{cases_lt}
+use Rattle.std.proofs.lemmas.Bool.{cases_lt, and_from, le-leb}
 use Rattle.std.proofs.lemmas.List.{get_or_default, get_or_past}
 use Rattle.std.proofs.lemmas.Option.{slice_get-get_or, slice_get_cases, get_or_from_slice_get}
 use Rattle.flt_config.specs.declared.config.Config.{Config}
@@ -10,11 +10,13 @@ use Rattle.flt_config.specs.declared.persist.Persist.{Persist}
 use Rattle.flt_config.specs.declared.persist.EventState.{EventState}
 use Rattle.flt_config.specs.declared.persist.EntryState.{EntryState}
 use Rattle.flt_config.specs.Durable.{Fits, AreStatesOf, IsStateOf, IsEntryOf, start_state}
-use Rattle.flt_generation.specs.Fit.{state_fits_at, states_fit}
+use Rattle.flt_generation.specs.Fit.{state_fits_at, states_fit, part_fits, place_fits, entry_fits_at, is_alone}
 use Rattle.flt_generation.specs.Reading.{with_states}
 use Rattle.flt_generation.proofs.Choices.{all_at, all_from}
-use Rattle.flt_generation.proofs.Fitting.{state_by_test, test_of_state}
+use Rattle.flt_generation.proofs.Fitting.{state_by_test, test_of_state, test_of_noted, test_of_entry, alone_by}
 use Rattle.flt_generation.proofs.States.{state_kept, length-with_states}
+use Rattle.flt_generation.specs.declared.part.Part.{Part}
+use Rattle.flt_generation.specs.declared.part.Part.TheVariants.{Summary, States, Entry}
 
 -- states that fit pass, in each block
 pub states_pass : (events : List EventCfg) (states : List EventState) (first count : ℕ) → AreStatesOf events states → states_fit events states first count ≡ true
@@ -112,3 +114,24 @@ states_short events states are k = elim (cases_lt k (length events)) [
     inside : (given : List EventCfg) → AreStatesOf given states → (k : ℕ) → k < length given → (slice_index_or states k start_state).clean < 0x8000
     inside [] given k within = absurd (omega (arith, within))
     inside (event ∷ rest) given k within = omega (arith, (given.fitting k event start_state within).clean)
+
+-- each part of a state that fits does
+pub part_of_fitting : (c : Config) (p : Persist) → Fits c p → (part : Part) → part_fits c p part ≡ true
+part_of_fitting c p fits Summary =
+    and_from _ _ (and_from _ _ (and_from _ _ (and_from _ _ (le-leb _ c.memory fits.room) (test_of_noted c.events.items p.first_failed fits.first_failed))
+    (test_of_noted c.events.items p.first_confirmed fits.first_confirmed)) (test_of_noted c.events.items p.recent_failed fits.recent_failed)) (test_of_noted c.events.items p.recent_confirmed fits.recent_confirmed)
+part_of_fitting c p fits (States first) = states_pass c.events.items p.events.items first 16 fits.states
+part_of_fitting c p fits (Entry place) = elim (slice_get_cases p.entries.items place).1 [
+  | inl found ↦ subst (λ (o : Option EntryState). place_fits c.events.items p.entries.items place o ≡ true) (sym found.2) (there found.0 found.1 found.3)
+  | inr past ↦ subst (λ (o : Option EntryState). place_fits c.events.items p.entries.items place o ≡ true) (sym past.1) refl
+]
+  where
+    there : (entry : EntryState) → place < length p.entries.items → slice_index_or p.entries.items place entry ≡ entry → (entry_fits_at (slice_get c.events.items entry.event) entry && is_alone p.entries.items place entry.event) ≡ true
+    there entry within here =
+        and_from _ _ (test_of_entry c.events.items entry (subst (IsEntryOf c.events.items) here (fits.entries place entry within)))
+        (alone_by p.entries.items place entry.event (λ k d below apart.
+        let same : (slice_index_or p.entries.items place d).event ≡ entry.event = ap (λ (e : EntryState). e.event) (get_or_default p.entries.items place d entry within ∙ here) in
+        elim (cases_lt k place) [
+          | inl before ↦ (λ e. fits.distinct k place d before within (e ∙ sym same))
+          | inr behind ↦ (λ e. fits.distinct place k d (omega (arith, behind, apart)) below (same ∙ sym e))
+        ]))

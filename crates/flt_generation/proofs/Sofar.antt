@@ -1,6 +1,6 @@
 -- What the blocks that were read so far say of the state that they gave.
-use Rattle.std.proofs.Common.{◌≡◌, ℕ, zero, suc, ◌+◌, ◌-◌, ◌*◌, ◌<◌, ◌≤◌, ◌==◌, ◌&&◌, true, false, List, length, refl, sym, ◌∙◌, ap, subst, arith, inl, inr, set, take, drop, position, length-set, length-take}
-use Rattle.std.specs.Prelude.{slice_index_or, slice_get, nat_lt, nat_le, is_none, Option, Some, None, Ok, IsTrue}
+use Rattle.std.proofs.Common.{◌≡◌, ℕ, zero, suc, ◌+◌, ◌-◌, ◌*◌, ◌<◌, ◌≤◌, ◌==◌, ◌&&◌, true, false, List, length, refl, sym, ◌∙◌, ap, subst, arith, inl, inr, set, take, drop, position, length-set, length-take, min}
+use Rattle.std.specs.Prelude.{slice_index_or, slice_get, nat_lt, nat_le, is_none, Option, Some, None, Ok, IsTrue, slice_index}
 use Rattle.std.proofs.lemmas.Bool.{cases_lt, cases_eq, cases_Bool, and_parts, and_from, leb-true, le-leb, lt-ltb, ltb-true, eqb-false}
 use Rattle.std.proofs.lemmas.List.{get_or-set_same, get_or-set_other, get_or-take, length-replicate, get_or-replicate}
 use Rattle.flt_flash.specs.Content.{Content, bytes}
@@ -16,7 +16,7 @@ use Rattle.flt_generation.specs.declared.part.Part.TheVariants.{Summary, States,
 use Rattle.flt_generation.specs.Layout.{number_of, part_of, has_part, is_used, index_in}
 use Rattle.flt_generation.specs.Form.{part_bytes, part_length}
 use Rattle.flt_generation.specs.Fit.{states_fit, entry_fits_at, is_alone, place_fits, note_fits, summary_fits, part_fits}
-use Rattle.flt_generation.specs.Reading.{with_part, with_summary, entry_from, with_states, taken}
+use Rattle.flt_generation.specs.Reading.{with_part, with_summary, entry_from, with_states, taken, untaken_entry}
 use Rattle.flt_generation.specs.Holding.{with_named, parts_read, BlocksHold}
 use Rattle.flt_generation.proofs.Fitting.{entry_by_test, noted_by_test}
 use Rattle.flt_generation.proofs.Parts.{set_states_fit}
@@ -27,7 +27,7 @@ use Rattle.flt_generation.proofs.Steps.{gave, both_ok, is_summary, are_states, i
 pub used_from : (c : Config) (id : ℕ) → 3 ≤ id → id < 24 → has_part c (part_of id) ≡ true → IsTrue (is_used c id)
 used_from c id low high has = and_from _ _ (and_from _ _ (le-leb 3 id low) (lt-ltb id 24 high)) has
 
-none_from : (o : Option ℕ) → is_none o ≡ true → o ≡ None
+pub none_from : (o : Option ℕ) → is_none o ≡ true → o ≡ None
 none_from None is = refl
 none_from (Some k) is = absurd (cc)
 
@@ -38,6 +38,7 @@ pub record Sofar (c : Config) (value : ℕ → Content) (commit : Commit) (count
   pub summary_is : 0 < count → summary_fits c p ≡ true
   pub entries_are : (k : ℕ) (d : EntryState) → k + 5 < count → k < length p.entries.items → IsEntryOf c.events.items (slice_index_or p.entries.items k d)
   pub distinct : (i j : ℕ) (d : EntryState) → i < j → j + 5 < count → j < length p.entries.items → IsOfOtherEvent (slice_index_or p.entries.items i d) (slice_index_or p.entries.items j d)
+  pub untaken : (k : ℕ) (d : EntryState) → 0 < count → count ≤ k + 5 → k < length p.entries.items → slice_index_or p.entries.items k d ≡ untaken_entry
 
 -- the entries of a state whose summary fits have room
 pub room_of : (c : Config) (p : Persist) → summary_fits c p ≡ true → length p.entries.items ≤ c.memory
@@ -75,6 +76,7 @@ module _ (c : Config) (value : ℕ → Content) (commit : Commit) (count : ℕ) 
     summary_is = λ _. fits;
     entries_are = λ k d below within. absurd (omega (arith, below, at));
     distinct = λ i j d order below within. absurd (omega (arith, below, at));
+    untaken = λ k d some past within. get_or-replicate (min (slice_index held 2) 16) k untaken_entry d (omega (arith, within, length-replicate (min (slice_index held 2) 16) untaken_entry));
   }
 
   -- states of sixteen events
@@ -88,6 +90,7 @@ module _ (c : Config) (value : ℕ → Content) (commit : Commit) (count : ℕ) 
     summary_is = λ _. known.summary_is some;
     entries_are = λ k d below within. absurd (omega (arith, below, few));
     distinct = λ i j d order below within. absurd (omega (arith, below, few));
+    untaken = λ k d _ past within. known.untaken k d some (omega (arith, past)) within;
   }
 
   -- an entry
@@ -117,6 +120,8 @@ module _ (c : Config) (value : ℕ → Content) (commit : Commit) (count : ℕ) 
           | inr other ↦ λ equal. known.distinct i j d order (omega (arith, below, at, other)) size
               (ap (λ (x : EntryState). x.event) (sym left) ∙ equal ∙ ap (λ (x : EntryState). x.event) (get_or-set_other p.entries.items place j e d other))
         ];
+    untaken = λ k d _ past within.
+        get_or-set_other p.entries.items place k e d (λ x. omega (arith, x, past, at)) ∙ known.untaken k d (omega (arith, at)) (omega (arith, past)) (omega (arith, length-set p.entries.items place e, within));
   }
     where
       e : EntryState
@@ -193,6 +198,7 @@ module _ (c : Config) (value : ℕ → Content) (commit : Commit) (count : ℕ) 
     summary_is = λ _. known.summary_is some;
     entries_are = λ k d before within. known.entries_are k d (earlier k before within) within;
     distinct = λ i j d order before within. known.distinct i j d order (earlier j before within) within;
+    untaken = λ k d _ past within. known.untaken k d some (omega (arith, past)) within;
   }
     where
       some : 0 < count
@@ -248,6 +254,7 @@ at_start c value commit = record {
   summary_is = λ some. absurd (omega (arith, some));
   entries_are = λ k d before within. absurd (omega (arith, before));
   distinct = λ i j d order before within. absurd (omega (arith, before));
+  untaken = λ k d some past within. absurd (omega (arith, some));
 }
 
 pub sofar : (c : Config) (value : ℕ → Content) (commit : Commit) (count : ℕ) (p : Persist) → count ≤ 21 → parts_read c value commit count ≡ Ok p → Sofar c value commit count p

@@ -1,10 +1,8 @@
 -- The blocks of a state that fits are read as that state.
-use Rattle.std.proofs.Common.{◌≡◌, ℕ, zero, suc, ◌+◌, ◌-◌, ◌*◌, ◌<◌, ◌≤◌, [], ◌∷◌, Bool, true, false, List, length, refl, sym, ◌∙◌, ap, subst, arith, inl, inr, set, take, drop, position, replicate, length-set, length-take, length-drop}
-use Rattle.std.specs.Prelude.{slice_index_or, slice_get, nat_lt, is_none, Option, Some, None, Result, Ok, IfSome}
-use Rattle.std.specs.List.{position_or_len}
-use Rattle.std.proofs.lemmas.Bool.{cases_lt, cases_eq, cases_Bool, and_from, le-leb, lt-ltb, le-ltb, ne_eqb}
+use Rattle.std.proofs.Common.{◌≡◌, ℕ, zero, suc, ◌+◌, ◌-◌, ◌*◌, ◌<◌, ◌≤◌, true, false, List, length, refl, sym, ◌∙◌, ap, subst, arith, inl, inr, set, take, drop, position, replicate, length-set, length-take, length-drop, ◌&&◌}
+use Rattle.std.specs.Prelude.{slice_index_or, slice_get, is_none, Option, Some, None, Result, Ok, IfSome, nat_le}
+use Rattle.std.proofs.lemmas.Bool.{cases_lt, cases_eq, cases_Bool, and_from, lt-ltb, ne_eqb, and_parts}
 use Rattle.std.proofs.lemmas.List.{get_or-set_same, get_or-set_other, get_or_default, get_or_past, get_or-take, get_or-drop, set_past, length-replicate, get_or-replicate, same_lists}
-use Rattle.std.proofs.lemmas.List.Sums.{position_or_len_is}
 use Rattle.std.proofs.lemmas.Option.{slice_get_cases}
 use Rattle.std.proofs.lemmas.Slice.Eq.{bytes_eq-Decides}
 use Rattle.flt_flash.specs.Content.{Content}
@@ -20,30 +18,25 @@ use Rattle.flt_generation.specs.declared.part.Part.{Part}
 use Rattle.flt_generation.specs.declared.part.Part.TheVariants.{Summary, States, Entry}
 use Rattle.flt_generation.specs.Layout.{number_of, part_of, has_part, is_used, index_in}
 use Rattle.flt_generation.specs.Form.{summary_bytes, states_bytes, entry_bytes, place_bytes, part_bytes}
-use Rattle.flt_generation.specs.Fit.{is_alone, place_fits, summary_fits}
+use Rattle.flt_generation.specs.Fit.{is_alone, place_fits, summary_fits, states_fit, entry_fits_at, note_fits, part_fits}
 use Rattle.flt_generation.specs.Reading.{with_part, with_summary, entry_from, with_states, untaken_entry, taken, if_holds}
 use Rattle.flt_generation.specs.Holding.{Fault, ◌>>=◌, or_damaged, with_content, with_named, parts_read, BlocksHold}
 use Rattle.flt_generation.proofs.Choices.{chosen, not_chosen}
-use Rattle.flt_generation.proofs.Fitting.{test_of_entry, test_of_noted}
+use Rattle.flt_generation.proofs.Fitting.{entry_by_test, noted_by_test, none_passes}
 use Rattle.flt_generation.proofs.States.{state_set, state_kept, length-with_states, same_states, pass_together}
 use Rattle.flt_generation.proofs.Sizes.{accepted, set_here, none_here}
-use Rattle.flt_generation.proofs.Parts.{states_pass, states_short}
+use Rattle.flt_generation.proofs.Parts.{state_passes, part_of_fitting}
 use Rattle.flt_generation.proofs.Decoding.{HasShortSummary, summary_of, summary_read, state_read, entry_read}
 use Rattle.flt_generation.proofs.Steps.{is_summary, are_states, is_entry, kind_of}
-use Rattle.flt_generation.proofs.Sofar.{used_from}
+use Rattle.flt_generation.proofs.Sofar.{used_from, notes_of, room_of, none_from}
+use Rattle.flt_config.proofs.DistinctLemmas.{position-None}
+use Rattle.flt_generation.specs.Faults.{HoldBelow}
 
 -- what the calls on a configuration keep of its sizes
 pub record HasSizes (c : Config) : Type 0 where
   pub memory : c.memory ≤ 16
   pub events : length c.events.items ≤ 64
   pub frames : (k : ℕ) (event : EventCfg) → k < length c.events.items → frame_width (slice_index_or c.events.items k event).dids.items ≤ 32
-
--- no element passes
-none_passes : {X : Type 0} (test : X → Bool) (xs : List X) → ((k : ℕ) (d : X) → k < length xs → test (slice_index_or xs k d) ≡ false) → position test xs ≡ None
-none_passes test [] fails = refl
-none_passes test (x ∷ xs) fails =
-    let end = position_or_len_is test (x ∷ xs) (length (x ∷ xs)) x (omega arith) (λ k below. fails k x below) (λ past. absurd (omega (arith, past))) in
-    not_chosen (nat_lt (position_or_len test (x ∷ xs)) (length (x ∷ xs))) (Some (position_or_len test (x ∷ xs))) None (le-ltb (position_or_len test (x ∷ xs)) (length (x ∷ xs)) (omega (arith, end)))
 
 -- the parts that were read so far are those of a state, and the others are still those of none
 pub record Agrees (count : ℕ) (q p : Persist) : Type 0 where
@@ -66,28 +59,39 @@ entry_sizes c sizes entry is = elim (slice_get_cases c.events.items entry.event)
   | inr past ↦ absurd (omega (arith, is.event, past.0))
 ]
 
-module _ (c : Config) (sizes : HasSizes c) (p : Persist) (fits : Fits c p) where
-  short : HasShortSummary p
-  short = record {
-    entries = omega (arith, fits.room, sizes.memory);
-    first_failed = noted_short_of c sizes p.first_failed fits.first_failed;
-    first_confirmed = noted_short_of c sizes p.first_confirmed fits.first_confirmed;
-    recent_failed = noted_short_of c sizes p.recent_failed fits.recent_failed;
-    recent_confirmed = noted_short_of c sizes p.recent_confirmed fits.recent_confirmed;
-  }
+-- a summary that fits has short numbers
+pub short_summary : (c : Config) → HasSizes c → (p : Persist) → summary_fits c p ≡ true → HasShortSummary p
+short_summary c sizes p fits =
+    let notes = notes_of c p fits in
+    record {
+      entries = omega (arith, room_of c p fits, sizes.memory);
+      first_failed = noted_short_of c sizes p.first_failed (noted_by_test c.events.items p.first_failed notes.0);
+      first_confirmed = noted_short_of c sizes p.first_confirmed (noted_by_test c.events.items p.first_confirmed notes.1);
+      recent_failed = noted_short_of c sizes p.recent_failed (noted_by_test c.events.items p.recent_failed notes.2);
+      recent_confirmed = noted_short_of c sizes p.recent_confirmed (noted_by_test c.events.items p.recent_confirmed notes.3);
+    }
 
+-- the clean counts of a block of states that fits are within fifteen bits
+pub clean_short : (c : Config) (states : List EventState) (first : ℕ) → states_fit c.events.items states first 16 ≡ true → (place : ℕ) → place < 16 → first + place < length c.events.items
+    → (slice_index_or states (first + place) start_state).clean < 0x8000
+clean_short c states first fits place below within = elim (slice_get_cases c.events.items (first + place)).1 [
+  | inl found ↦ omega (arith, (state_passes c.events.items states first 16 fits place below found.0 within).clean)
+  | inr past ↦ absurd (omega (arith, within, past.0))
+]
+
+module _ (c : Config) (sizes : HasSizes c) (p : Persist) (one_each : length p.events.items ≡ length c.events.items) where
   few_states : length p.events.items ≤ 64
-  few_states = omega (arith, fits.states.one_each, sizes.events)
+  few_states = omega (arith, one_each, sizes.events)
 
   -- ---- the summary
   bytes_of_summary_of : (q : Persist) → summary_bytes (summary_of p q) ≡ summary_bytes p
   unfolding summary_bytes
   bytes_of_summary_of q = ap (set (summary_bytes p) 2) (length-replicate (length p.entries.items) untaken_entry)
 
-  summary_given : (q : Persist) → taken c Summary (summary_bytes p) q ≡ Some (summary_of p q)
+  summary_given : (q : Persist) → summary_fits c p ≡ true → taken c Summary (summary_bytes p) q ≡ Some (summary_of p q)
   unfolding with_part
-  summary_given q =
-      let read : with_summary (summary_bytes p) q ≡ summary_of p q = summary_read p q short in
+  summary_given q fits =
+      let read : with_summary (summary_bytes p) q ≡ summary_of p q = summary_read p q (short_summary c sizes p fits) in
       subst (λ (r : Persist). if_holds c Summary (summary_bytes p) r ≡ Some (summary_of p q)) (sym read)
       (accepted c Summary (summary_bytes p) (summary_of p q) ((bytes_eq-Decides (summary_bytes p) (summary_bytes (summary_of p q))).1 same) passes)
     where
@@ -99,8 +103,8 @@ module _ (c : Config) (sizes : HasSizes c) (p : Persist) (fits : Fits c p) where
 
       passes : summary_fits c (summary_of p q) ≡ true
       passes =
-          and_from _ _ (and_from _ _ (and_from _ _ (and_from _ _ (le-leb _ c.memory (omega (arith, count, fits.room))) (test_of_noted c.events.items p.first_failed fits.first_failed))
-          (test_of_noted c.events.items p.first_confirmed fits.first_confirmed)) (test_of_noted c.events.items p.recent_failed fits.recent_failed)) (test_of_noted c.events.items p.recent_confirmed fits.recent_confirmed)
+          ap (λ (n : ℕ). nat_le n c.memory && note_fits c.events.items p.first_failed && note_fits c.events.items p.first_confirmed && note_fits c.events.items p.recent_failed && note_fits c.events.items p.recent_confirmed) count
+          ∙ fits
 
   summary_agrees : (q : Persist) → Agrees 0 q p → Agrees 1 (summary_of p q) p
   summary_agrees q agrees = record {
@@ -113,7 +117,7 @@ module _ (c : Config) (sizes : HasSizes c) (p : Persist) (fits : Fits c p) where
   }
 
   -- ---- the states of sixteen events
-  module _ (q : Persist) (first : ℕ) (size : length q.events.items ≡ length p.events.items) where
+  module _ (q : Persist) (first : ℕ) (size : length q.events.items ≡ length p.events.items) (fits : states_fit c.events.items p.events.items first 16 ≡ true) where
     abbrev own : List ℕ
     own = states_bytes p.events.items first
 
@@ -124,7 +128,7 @@ module _ (c : Config) (sizes : HasSizes c) (p : Persist) (fits : Fits c p) where
     block_same place below = elim (cases_lt (first + place) (length p.events.items)) [
       | inl within ↦
           state_set own first q.events.items 16 place start_state below (omega (arith, size, within))
-          ∙ state_read p.events.items first 16 place below (states_short c.events.items p.events.items fits.states (first + place))
+          ∙ state_read p.events.items first 16 place below (clean_short c p.events.items first fits place below (omega (arith, within, one_each)))
       | inr past ↦
           get_or_past after (first + place) start_state (omega (arith, length-with_states own first q.events.items 16, size, past))
           ∙ sym (get_or_past p.events.items (first + place) start_state past)
@@ -135,7 +139,7 @@ module _ (c : Config) (sizes : HasSizes c) (p : Persist) (fits : Fits c p) where
     states_given =
         accepted c (States first) own (with_part (States first) own q)
         ((bytes_eq-Decides own (states_bytes after first)).1 (same_states p.events.items after first 16 (λ place below. sym (block_same place below))))
-        (pass_together c.events.items p.events.items after first 16 (λ place below. sym (block_same place below)) (states_pass c.events.items p.events.items first 16 fits.states))
+        (pass_together c.events.items p.events.items after first 16 (λ place below. sym (block_same place below)) fits)
 
     pub states_agree : (count : ℕ) → first ≡ 16 * (count - 1) → 0 < count → count < 5 → Agrees count q p → Agrees (count + 1) (record q { events = record { items = after } }) p
     states_agree count at some few agrees = record {
@@ -160,9 +164,16 @@ module _ (c : Config) (sizes : HasSizes c) (p : Persist) (fits : Fits c p) where
     same_count : length q.entries.items ≡ length p.entries.items
     same_count = agrees.entries_count (omega (arith, at))
 
-    module _ (entry : EntryState) (within : place < length p.entries.items) (here : slice_index_or p.entries.items place entry ≡ entry) where
+    module _ (entry : EntryState) (within : place < length p.entries.items) (here : slice_index_or p.entries.items place entry ≡ entry)
+        (fits : (entry_fits_at (slice_get c.events.items entry.event) entry && is_alone p.entries.items place entry.event) ≡ true) where
       is : IsEntryOf c.events.items entry
-      is = subst (IsEntryOf c.events.items) here (fits.entries place entry within)
+      is = entry_by_test c.events.items entry (and_parts (entry_fits_at (slice_get c.events.items entry.event) entry) (is_alone p.entries.items place entry.event) fits).0
+
+      none_before : position (is_of_event entry.event) (take place p.entries.items) ≡ None
+      none_before =
+          none_from (position (is_of_event entry.event) (take place p.entries.items))
+          (and_parts (is_none (position (is_of_event entry.event) (take place p.entries.items))) (is_none (position (is_of_event entry.event) (drop (place + 1) p.entries.items)))
+          (and_parts (entry_fits_at (slice_get c.events.items entry.event) entry) (is_alone p.entries.items place entry.event) fits).1).0
 
       read : entry_from (entry_bytes entry) ≡ entry
       read = let sized = entry_sizes c sizes entry is in entry_read entry (omega (arith, is.event, sizes.events)) sized.0 sized.1
@@ -179,10 +190,8 @@ module _ (c : Config) (sizes : HasSizes c) (p : Persist) (fits : Fits c p) where
           let known : slice_index_or (take place after_entry) k d ≡ slice_index_or p.entries.items k d =
           get_or-take place after_entry k d size ∙ get_or-set_other q.entries.items place k (entry_from (entry_bytes entry)) d (λ e. omega (arith, e, size))
           ∙ agrees.entries_same k d (omega (arith, size, at)) (omega (arith, size, within)) in
-          let other = fits.distinct k place d size within in
-          let same_place : slice_index_or p.entries.items place d ≡ entry = get_or_default p.entries.items place d entry within ∙ here in
-          ap (is_of_event entry.event) known
-          ∙ ne_eqb _ _ (λ equal. other (equal ∙ sym (ap (λ (x : EntryState). x.event) same_place)))
+          ap (is_of_event entry.event) (known ∙ sym (get_or-take place p.entries.items k d size))
+          ∙ position-None (is_of_event entry.event) (take place p.entries.items) k d none_before (omega (arith, size, within, length-take place p.entries.items))
 
       back : (k : ℕ) (d : EntryState) → k < length (drop (place + 1) after_entry) → is_of_event entry.event (slice_index_or (drop (place + 1) after_entry) k d) ≡ false
       back k d below =
@@ -203,7 +212,7 @@ module _ (c : Config) (sizes : HasSizes c) (p : Persist) (fits : Fits c p) where
           accepted c (Entry place) (entry_bytes entry) (with_part (Entry place) (entry_bytes entry) q)
           ((bytes_eq-Decides (entry_bytes entry) (place_bytes (slice_get after_entry place))).1 (sym (ap place_bytes found)))
           (subst (λ (o : Option EntryState). place_fits c.events.items after_entry place o ≡ true) (sym found)
-          (and_from _ _ (test_of_entry c.events.items entry is) alone))
+          (and_from _ _ (and_parts (entry_fits_at (slice_get c.events.items entry.event) entry) (is_alone p.entries.items place entry.event) fits).0 alone))
 
       pub entry_agrees : Agrees (count + 1) (record q { entries = record { items = after_entry } }) p
       entry_agrees = record {
@@ -247,8 +256,8 @@ module _ (c : Config) (sizes : HasSizes c) (p : Persist) (fits : Fits c p) where
       }
 
   -- ---- a block that is not used
-  pub unused_agrees : (count : ℕ) (q : Persist) → count < 21 → is_used c (3 + count) ≡ false → Agrees count q p → Agrees (count + 1) q p
-  unused_agrees count q below unused agrees = elim (kind_of (3 + count) (omega arith)) [
+  pub unused_agrees : (count : ℕ) (q : Persist) → count < 21 → is_used c (3 + count) ≡ false → (0 < count → length p.entries.items ≤ c.memory) → Agrees count q p → Agrees (count + 1) q p
+  unused_agrees count q below unused room agrees = elim (kind_of (3 + count) (omega arith)) [
     | is_summary at of ↦ absurd (let here : count ≡ 0 = omega (arith, at) in let no = subst (λ (n : ℕ). is_used c (3 + n) ≡ false) here unused in cc)
     | are_states low high of ↦
         let last : length c.events.items ≤ 16 * (3 + count - 4) = elim (cases_lt (16 * (3 + count - 4)) (length c.events.items)) [
@@ -261,7 +270,7 @@ module _ (c : Config) (sizes : HasSizes c) (p : Persist) (fits : Fits c p) where
           summary_same = λ _. agrees.summary_same (omega (arith, low));
           entries_count = λ _. agrees.entries_count (omega (arith, low));
           states_count = agrees.states_count;
-          states_same = λ k d _ inside. agrees.states_same k d (omega (arith, inside, fits.states.one_each, last, low)) inside;
+          states_same = λ k d _ inside. agrees.states_same k d (omega (arith, inside, one_each, last, low)) inside;
           entries_same = λ k d before inside. absurd (omega (arith, before, high));
           untaken = λ k d some from inside. agrees.untaken k d (omega (arith, low)) (omega (arith, from)) inside;
         }
@@ -277,27 +286,27 @@ module _ (c : Config) (sizes : HasSizes c) (p : Persist) (fits : Fits c p) where
           entries_count = λ _. agrees.entries_count (omega (arith, low));
           states_count = agrees.states_count;
           states_same = λ k d _ inside. agrees.states_same k d (omega (arith, inside, few_states, low)) inside;
-          entries_same = λ k d before inside. agrees.entries_same k d (omega (arith, inside, fits.room, last, low)) inside;
+          entries_same = λ k d before inside. agrees.entries_same k d (omega (arith, inside, room (omega (arith, low)), last, low)) inside;
           untaken = λ k d some from inside. agrees.untaken k d (omega (arith, low)) (omega (arith, from)) inside;
         }
   ]
 
   -- ---- a block that holds its bytes of the state
-  pub block_given : (count : ℕ) (q : Persist) → count < 21 → Agrees count q p
+  pub block_given : (count : ℕ) (q : Persist) → count < 21 → part_fits c p (part_of (3 + count)) ≡ true → Agrees count q p
       → (r : Persist) × (taken c (part_of (3 + count)) (part_bytes p (part_of (3 + count))) q ≡ Some r) × Agrees (count + 1) r p
-  block_given count q below agrees = elim (kind_of (3 + count) (omega arith)) [
+  block_given count q below fits agrees = elim (kind_of (3 + count) (omega arith)) [
     | is_summary at of ↦
         let here : count ≡ 0 = omega (arith, at) in (
           summary_of p q,
-          of_part Summary (summary_of p q) of (summary_given q),
+          of_part Summary (summary_of p q) of (summary_given q (fits_of Summary of)),
           subst (λ (n : ℕ). Agrees (n + 1) (summary_of p q) p) (sym here) (summary_agrees q (subst (λ (n : ℕ). Agrees n q p) here agrees)),
         )
     | are_states low high of ↦
         let first = 16 * (3 + count - 4) in
         let r = record q { events = record { items = with_states (states_bytes p.events.items first) first 16 q.events.items } } in (
           r,
-          of_part (States first) r of (states_given q first agrees.states_count),
-          states_agree q first agrees.states_count count (omega (arith, low)) (omega (arith, low)) (omega (arith, high)) agrees,
+          of_part (States first) r of (states_given q first agrees.states_count (fits_of (States first) of)),
+          states_agree q first agrees.states_count (fits_of (States first) of) count (omega (arith, low)) (omega (arith, low)) (omega (arith, high)) agrees,
         )
     | is_entry low of ↦
         let place = 3 + count - 8 in
@@ -307,8 +316,8 @@ module _ (c : Config) (sizes : HasSizes c) (p : Persist) (fits : Fits c p) where
               let r = record q { entries = record { items = set q.entries.items place (entry_from (entry_bytes found.0)) } } in (
                 r,
                 of_part (Entry place) r of
-                    (subst (λ (o : Option EntryState). taken c (Entry place) (place_bytes o) q ≡ Some r) (sym found.2) (entry_given q count place at agrees found.0 found.1 found.3)),
-                entry_agrees q count place at agrees found.0 found.1 found.3,
+                    (subst (λ (o : Option EntryState). taken c (Entry place) (place_bytes o) q ≡ Some r) (sym found.2) (entry_given q count place at agrees found.0 found.1 found.3 (entry_fit place found.0 found.2 of))),
+                entry_agrees q count place at agrees found.0 found.1 found.3 (entry_fit place found.0 found.2 of),
               )
           | inr past ↦ (
             q,
@@ -321,22 +330,33 @@ module _ (c : Config) (sizes : HasSizes c) (p : Persist) (fits : Fits c p) where
       of_part : (part : Part) (r : Persist) → part_of (3 + count) ≡ part → taken c part (part_bytes p part) q ≡ Some r → taken c (part_of (3 + count)) (part_bytes p (part_of (3 + count))) q ≡ Some r
       of_part part r of is = subst (λ (x : Part). taken c x (part_bytes p x) q ≡ Some r) (sym of) is
 
-  module _ (value : ℕ → Content) (commit : Commit) (blocks : BlocksHold c value commit p) where
-    one_given : (count : ℕ) (q : Persist) → count < 21 → Agrees count q p → (r : Persist) × (with_named c value commit (3 + count) q ≡ Ok r) × Agrees (count + 1) r p
+      fits_of : (part : Part) → part_of (3 + count) ≡ part → part_fits c p part ≡ true
+      fits_of part of = subst (λ (x : Part). part_fits c p x ≡ true) of fits
+
+      entry_fit : (place : ℕ) (entry : EntryState) → slice_get p.entries.items place ≡ Some entry → part_of (3 + count) ≡ Entry place
+          → (entry_fits_at (slice_get c.events.items entry.event) entry && is_alone p.entries.items place entry.event) ≡ true
+      entry_fit place entry found of = subst (λ (o : Option EntryState). place_fits c.events.items p.entries.items place o ≡ true) found (fits_of (Entry place) of)
+
+  module _ (value : ℕ → Content) (commit : Commit) (bound : ℕ) (most : bound ≤ 24) (stands : HoldBelow c value commit bound p) where
+    -- the entries have room, once the summary was read
+    room : 3 < bound → length p.entries.items ≤ c.memory
+    room some = room_of c p (stands.fits 3 refl some)
+
+    one_given : (count : ℕ) (q : Persist) → 3 + count < bound → Agrees count q p → (r : Persist) × (with_named c value commit (3 + count) q ≡ Ok r) × Agrees (count + 1) r p
     one_given count q below agrees = elim (cases_Bool (is_used c (3 + count))) [
       | inl used ↦
-          let given = block_given count q below agrees in
+          let given = block_given count q (omega (arith, below, most)) (stands.fits (3 + count) used below) agrees in
           let id = 3 + count in (
             given.0,
             chosen (is_used c id) (with_content c id (value (number_of id (index_in commit id))) q) (Ok q) used
-                ∙ ap (λ (content : Content). with_content c id content q) (blocks id used)
+                ∙ ap (λ (content : Content). with_content c id content q) (stands.blocks id used below)
                 ∙ ap (or_damaged id) given.1,
             given.2,
           )
       | inr unused ↦ (
         q,
         not_chosen (is_used c (3 + count)) (with_content c (3 + count) (value (number_of (3 + count) (index_in commit (3 + count)))) q) (Ok q) unused,
-        unused_agrees count q below unused agrees,
+        unused_agrees count q (omega (arith, below, most)) unused (λ some. room (omega (arith, some, below))) agrees,
       )
     ]
 
@@ -344,42 +364,47 @@ module _ (c : Config) (sizes : HasSizes c) (p : Persist) (fits : Fits c p) where
     start_agrees = record {
       summary_same = λ some. absurd (omega (arith, some));
       entries_count = λ some. absurd (omega (arith, some));
-      states_count = length-replicate (length c.events.items) start_state ∙ sym fits.states.one_each;
+      states_count = length-replicate (length c.events.items) start_state ∙ sym one_each;
       states_same = λ k d low within. absurd (omega (arith, low));
       entries_same = λ k d low within. absurd (omega (arith, low));
       untaken = λ k d some from within. absurd (omega (arith, some));
     }
 
-    blocks_read : (count : ℕ) → count ≤ 21 → (q : Persist) × (parts_read c value commit count ≡ Ok q) × Agrees count q p
+    pub blocks_read : (count : ℕ) → 3 + count ≤ bound → (q : Persist) × (parts_read c value commit count ≡ Ok q) × Agrees count q p
     unfolding parts_read
-    blocks_read zero most = (initial_state c, refl, start_agrees)
-    blocks_read (suc count) most =
-        let before = blocks_read count (omega (arith, most)) in
-        let given = one_given count before.0 (omega (arith, most)) before.2 in
+    blocks_read zero within = (initial_state c, refl, start_agrees)
+    blocks_read (suc count) within =
+        let before = blocks_read count (omega (arith, within)) in
+        let given = one_given count before.0 (omega (arith, within)) before.2 in
         let more : count + 1 ≡ suc count = omega arith in
         (given.0, ap (λ (r : Result Persist Fault). r >>= with_named c value commit (3 + count)) before.1 ∙ given.1, subst (λ (n : ℕ). Agrees n given.0 p) more given.2)
 
-    all_agree : (q : Persist) → Agrees 21 q p → q ≡ p
-    all_agree q agrees =
-        let s = agrees.summary_same (omega arith) in
-        let events = same_lists q.events.items p.events.items agrees.states_count (λ k d below.
-        agrees.states_same k d (omega (arith, below, agrees.states_count, few_states)) (omega (arith, below, agrees.states_count))) in
-        let count = agrees.entries_count (omega arith) in
-        let entries = same_lists q.entries.items p.entries.items count (λ k d below.
-        agrees.entries_same k d (omega (arith, below, count, fits.room, sizes.memory)) (omega (arith, below, count))) in
-        λ i. record {
-          events = record { items = events i };
-          entries = record { items = entries i };
-          overflow = s.0 i;
-          first_failed = s.1 i;
-          first_confirmed = s.2 i;
-          recent_failed = s.3 i;
-          recent_confirmed = s.4 i;
-        }
-
-    pub all_read : parts_read c value commit 21 ≡ Ok p
-    all_read = let whole = blocks_read 21 (omega arith) in whole.1 ∙ ap Ok (all_agree whole.0 whole.2)
+  -- a state whose parts were all read
+  all_agree : (q : Persist) → length p.entries.items ≤ c.memory → Agrees 21 q p → q ≡ p
+  all_agree q room agrees =
+      let s = agrees.summary_same (omega arith) in
+      let events = same_lists q.events.items p.events.items agrees.states_count (λ k d below.
+      agrees.states_same k d (omega (arith, below, agrees.states_count, few_states)) (omega (arith, below, agrees.states_count))) in
+      let count = agrees.entries_count (omega arith) in
+      let entries = same_lists q.entries.items p.entries.items count (λ k d below.
+      agrees.entries_same k d (omega (arith, below, count, room, sizes.memory)) (omega (arith, below, count))) in
+      λ i. record {
+        events = record { items = events i };
+        entries = record { items = entries i };
+        overflow = s.0 i;
+        first_failed = s.1 i;
+        first_confirmed = s.2 i;
+        recent_failed = s.3 i;
+        recent_confirmed = s.4 i;
+      }
 
 -- the blocks of a state that fits are read as that state
 pub whole_read : (c : Config) → HasSizes c → (value : ℕ → Content) (commit : Commit) (p : Persist) → Fits c p → BlocksHold c value commit p → parts_read c value commit 21 ≡ Ok p
-whole_read c sizes value commit p fits blocks = all_read c sizes p fits value commit blocks
+whole_read c sizes value commit p fits blocks =
+    let stands : HoldBelow c value commit 24 p = record {
+      one_each = fits.states.one_each;
+      blocks = λ id used below. blocks id used;
+      fits = λ id used below. part_of_fitting c p fits (part_of id);
+    } in
+    let whole = blocks_read c sizes p fits.states.one_each value commit 24 (omega arith) stands 21 (omega arith) in
+    whole.1 ∙ ap Ok (all_agree c sizes p fits.states.one_each whole.0 fits.room whole.2)

@@ -5,7 +5,7 @@ use Rattle.flt_config.specs.Validity.{needed_pages}
 use Rattle.flt_flash.specs.Content.{Content}
 use Rattle.flt_flash.specs.Blocks.{pages_of, record_pages}
 use Rattle.flt_generation.specs.Layout.{numbers, mark_number, first_commit, second_commit, first_application, is_used, part_of}
-use Rattle.flt_generation.specs.Form.{part_length}
+use Rattle.flt_generation.specs.Form.{part_length, mark_length, commit_length, application_length}
 
 -- a number of a block of this configuration: an index of a used one, or an application block
 abbrev pub is_own_part : Config → ℕ → Bool
@@ -17,10 +17,10 @@ is_own_application c number = (number % 8 == 0) && nat_le first_application (num
 -- the pages of the longest record that this configuration keeps under a number, 0 where it keeps none
 unfoldable pub own_pages : Config → ℕ → ℕ
 own_pages c number =
-    if number == mark_number then record_pages 8
-    else if (number == first_commit) || (number == second_commit) then record_pages 26
+    if number == mark_number then record_pages mark_length
+    else if (number == first_commit) || (number == second_commit) then record_pages commit_length
     else if is_own_part c number then record_pages (part_length (part_of (number / 8)))
-    else if is_own_application c number then record_pages 32
+    else if is_own_application c number then record_pages application_length
     else 0
 
 -- the pages of the records beyond those, over all numbers

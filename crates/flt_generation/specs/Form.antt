@@ -123,3 +123,13 @@ abbrev pub part_length : Part → ℕ
 part_length Summary = 32
 part_length (States first) = 64
 part_length (Entry place) = 68
+
+-- how many bytes the mark and a commit have, and how many an application block may have
+abbrev pub mark_length : ℕ
+mark_length = 8
+
+abbrev pub commit_length : ℕ
+commit_length = 26
+
+abbrev pub application_length : ℕ
+application_length = 32

@@ -11,7 +11,7 @@ use Rattle.flt_generation.specs.declared.commit.Commit.{Commit}
 use Rattle.flt_generation.specs.declared.place.Place.{Place}
 use Rattle.flt_generation.specs.declared.place.Place.TheVariants.{Block}
 use Rattle.flt_generation.specs.Layout.{mark_id, commit_id, first_part, parts, first_application, applications, number_of, mark_number, first_commit, second_commit, application_number, part_of, is_used, index_in}
-use Rattle.flt_generation.specs.Form.{mark_of, block_bytes, IsCommit, IsBytesOfCommit, IsBytesOfMark}
+use Rattle.flt_generation.specs.Form.{mark_of, application_length, block_bytes, IsCommit, IsBytesOfCommit, IsBytesOfMark}
 use Rattle.flt_generation.specs.Reading.{mark_in, commit_in, taken}
 use Rattle.flt_generation.specs.Excess.{excess, IsBorne}
 
@@ -86,11 +86,11 @@ named c value missing = Ok (first_generation c)
 named c value invalid = damaged_at commit_id
 named c value (bytes held) = generation_of c value (commit_in c held)
 
--- an application block has at most 32 bytes, or was never written
+-- an application block has no more bytes than one may have, or was never written
 abbrev pub is_application : Content → Bool
 is_application missing = true
 is_application invalid = false
-is_application (bytes held) = nat_le (length held) 32
+is_application (bytes held) = nat_le (length held) application_length
 
 -- the first application block that is at fault
 abbrev pub application_fault : Option ℕ → Result (Unit {0}) Fault

@@ -1,6 +1,6 @@
 -- What the definitions of a stored generation come to.
-use Rattle.std.specs.Prelude.{max, sum_by, ◌≡◌, ◌≢◌, ◌↔◌, ◌⊎◌, ℕ, ◌+◌, ◌≤◌, ◌<◌, ◌^◌, List, length, replicate, slice_index_or, Some, Ok, IsTrue, true}
-use Rattle.flt_flash.specs.Content.{Content, missing}
+use Rattle.std.specs.Prelude.{max, sum_by, ◌≡◌, ◌≢◌, ◌↔◌, ◌⊎◌, ℕ, ◌+◌, ◌≤◌, ◌<◌, ◌^◌, List, length, replicate, slice_index_or, Some, Ok, IsTrue, true, Err, Result, IsOk}
+use Rattle.flt_flash.specs.Content.{Content, missing, bytes}
 use Rattle.flt_flash.specs.Blocks.{pages_of}
 use Rattle.flt_config.specs.declared.config.Config.{Config}
 use Rattle.flt_config.specs.declared.persist.Persist.{Persist}
@@ -12,12 +12,13 @@ use Rattle.flt_generation.specs.declared.mark.Mark.{Mark}
 use Rattle.flt_generation.specs.declared.commit.Commit.{Commit}
 use Rattle.flt_generation.specs.declared.part.Part.{Part}
 use Rattle.flt_generation.specs.declared.part.Part.TheVariants.{Summary, States, Entry}
-use Rattle.flt_generation.specs.Layout.{numbers, is_used}
+use Rattle.flt_generation.specs.Layout.{numbers, is_used, first_commit, second_commit}
 use Rattle.flt_generation.specs.Form.{IsMark, IsCommit, IsBytesOfMark, IsBytesOfCommit, part_bytes, block_bytes}
 use Rattle.flt_generation.specs.Fit.{part_fits}
 use Rattle.flt_generation.specs.Reading.{mark_in, commit_in, untaken_entry, taken}
 use Rattle.flt_generation.specs.Excess.{own_pages, IsBorne}
-use Rattle.flt_generation.specs.Holding.{Generation, first_generation, held, spare, IsHeld, IsSpare, IsSound}
+use Rattle.flt_generation.specs.Holding.{Generation, first_generation, held, spare, IsHeld, IsSpare, IsSound, Fault, either_copy, only_bytes}
+use Rattle.flt_generation.specs.Faults.{HasFirstFault, HasFault}
 
 -- a valid configuration whose numbers are those of its type
 pub record IsGiven (c : Config) : Type 0 where
@@ -78,3 +79,48 @@ BorneHasRoom = (c : Config) → IsGiven c → (value : ℕ → Content) → IsBo
 -- an image in which nothing was ever written is sound, and holds the first generation
 abbrev pub BlankIsSound : Type 0
 BlankIsSound = (c : Config) → IsGiven c → (value : ℕ → Content) → ((number : ℕ) → value number ≡ missing) → IsSound c value (first_generation c) (first_generation c)
+
+-- the fault that is told of an image, by a commit, is the first in the order of judging
+abbrev pub TellsFirstFault : (Config → (ℕ → Content) → Result Generation Fault) → ((ℕ → Content) → Content) → Type 0
+TellsFirstFault judged commit_of =
+    (c : Config) → IsGiven c → (value : ℕ → Content) (fault : Fault) → (judged c value ≡ Err fault) ↔ HasFirstFault c value (commit_of value) fault
+
+-- it holds a generation exactly where it has no fault
+abbrev pub HoldsWithoutFault : (Config → (ℕ → Content) → Result Generation Fault) → ((ℕ → Content) → Content) → Type 0
+HoldsWithoutFault judged commit_of =
+    (c : Config) → IsGiven c → (value : ℕ → Content) → IsOk (judged c value) ↔ ((fault : Fault) → HasFault c value (commit_of value) fault → ⊥)
+
+-- so it is by either copy of the commit
+abbrev pub HeldTellsFirstFault : Type 0
+HeldTellsFirstFault = TellsFirstFault held (λ value. either_copy (value first_commit) (value second_commit))
+
+abbrev pub SpareTellsFirstFault : Type 0
+SpareTellsFirstFault = TellsFirstFault spare (λ value. only_bytes (value second_commit))
+
+abbrev pub HeldWithoutFault : Type 0
+HeldWithoutFault = HoldsWithoutFault held (λ value. either_copy (value first_commit) (value second_commit))
+
+abbrev pub SpareWithoutFault : Type 0
+SpareWithoutFault = HoldsWithoutFault spare (λ value. only_bytes (value second_commit))
+
+-- the content is bytes
+abbrev pub IsBytes : Content → Type 0
+IsBytes content = (held : List ℕ) × (content ≡ bytes held)
+
+-- the copy that counts: the first where it has bytes, else the second where that has bytes, else the first
+pub record Counts (first second content : Content) : Type 0 where
+  pub by_first : IsBytes first → content ≡ first
+  pub by_second : (IsBytes first → ⊥) → IsBytes second → content ≡ second
+  pub by_neither : (IsBytes first → ⊥) → (IsBytes second → ⊥) → content ≡ first
+
+abbrev pub EitherCopyCounts : Type 0
+EitherCopyCounts = (first second : Content) → Counts first second (either_copy first second)
+
+-- a copy alone counts as missing where it has no bytes
+abbrev pub OnlyBytesCount : Type 0
+OnlyBytesCount = (content : Content) → (IsBytes content → only_bytes content ≡ content) × ((IsBytes content → ⊥) → only_bytes content ≡ missing)
+
+-- an image is sound exactly where its two generations are one, or the spare one is followed by the other
+abbrev pub SoundIsOneOrNext : Type 0
+SoundIsOneOrNext = (c : Config) (value : ℕ → Content) (held spare : Generation)
+    → IsSound c value held spare ↔ (IsHeld c value held × IsSpare c value spare × ((held ≡ spare) ⊎ (held.number ≡ spare.number + 1)))

@@ -4,5 +4,8 @@ pub mod Fit
 pub mod Reading
 pub mod Excess
 pub mod Holding
+pub mod Faults
 pub mod Successor
 pub mod Laws
+pub mod Example
+pub mod Examples

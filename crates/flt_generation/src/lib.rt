@@ -13,6 +13,7 @@ pub mod laws;
 mod mark;
 mod part;
 mod place;
+pub mod worked;
 
 pub use commit::{Commit, INDICES};
 pub use identifier::{APPLICATIONS, COMMIT_ID, END_PART, FIRST_APPLICATION, FIRST_PART, MARK_ID};

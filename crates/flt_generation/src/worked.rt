@@ -1,0 +1,12 @@
+//! Worked examples, which the check computes.
+ghost use Rattle.flt_generation.specs.Examples.{CopiesOfCommit, FaultsInOrder};
+
+/// Which generations the copies of a commit name, before, in and after a save, and where a copy has no bytes.
+pub fn copies_of_commit()
+    ensures { CopiesOfCommit }
+{}
+
+/// Where each block is wrong, the first is told, and the next one once that is mended.
+pub fn faults_in_order()
+    ensures { FaultsInOrder }
+{}
