@@ -20,7 +20,8 @@ use Rattle.flt_generation.proofs.Fitting.{test_of_entry, alone_by}
 use Rattle.flt_generation.proofs.Parts.{states_pass}
 use Rattle.flt_generation.proofs.Steps.{is_summary, are_states, is_entry, kind_of}
 use Rattle.flt_generation.proofs.Sofar.{Sofar, sofar}
-use Rattle.flt_generation.proofs.Whole.{HasSizes, blocks_read}
+use Rattle.flt_generation.proofs.Short.{HasSizes}
+use Rattle.flt_generation.proofs.Whole.{blocks_read}
 
 module _ (c : Config) (sizes : HasSizes c) (value : ℕ → Content) (commit : Commit) (count : ℕ) (most : count ≤ 21) where
   module _ (p : Persist) (known : Sofar c value commit count p) where

@@ -20,7 +20,8 @@ use Rattle.flt_generation.proofs.Marks.{read_mark, mark_read}
 use Rattle.flt_generation.proofs.Commits.{read_commit, commit_read}
 use Rattle.flt_generation.proofs.Steps.{both_ok}
 use Rattle.flt_generation.proofs.Sofar.{sofar, read_fits, read_blocks}
-use Rattle.flt_generation.proofs.Whole.{HasSizes, whole_read}
+use Rattle.flt_generation.proofs.Short.{HasSizes}
+use Rattle.flt_generation.proofs.Whole.{whole_read}
 
 -- ---- the mark
 pub same_mark : (first second : Mark) → is_same_mark first second ≡ true → first ≡ second

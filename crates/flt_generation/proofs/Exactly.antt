@@ -19,7 +19,7 @@ use Rattle.flt_generation.proofs.Fitting.{entry_by_test}
 use Rattle.flt_generation.proofs.States.{state_set, state_kept, length-with_states}
 use Rattle.flt_generation.proofs.Sizes.{accepted, taken_holds}
 use Rattle.flt_generation.proofs.Decoding.{summary_of, summary_read, state_read, entry_read}
-use Rattle.flt_generation.proofs.Whole.{HasSizes, entry_sizes, short_summary, clean_short}
+use Rattle.flt_generation.proofs.Short.{HasSizes, entry_sizes, short_summary, clean_short}
 
 -- what is taken differs in its part alone
 rest_kept : (part : Part) (held : List ℕ) (p : Persist) → KeepsRest part p (with_part part held p)

@@ -15,7 +15,7 @@ use Rattle.flt_generation.specs.Holding.{Generation, first_generation, Fault, da
 use Rattle.flt_generation.specs.Faults.{IsMarkDamaged, IsOthers, IsCommitDamaged, HoldBelow, IsPartDamaged, IsApplicationDamaged, HasFault, rank_of, HasFirstFault}
 use Rattle.flt_generation.proofs.Marks.{mark_read}
 use Rattle.flt_generation.proofs.Commits.{read_commit}
-use Rattle.flt_generation.proofs.Whole.{HasSizes}
+use Rattle.flt_generation.proofs.Short.{HasSizes}
 use Rattle.flt_generation.proofs.Below.{read_below, below_read}
 use Rattle.flt_generation.proofs.FaultCases.{MarkIs, mark_fine, mark_damaged, mark_others, mark_is, CommitIs, is_first, commit_damaged, is_commit_of, commit_is, first_fine, commit_fine, named_alone, PartsAre, all_read, failed, parts_are, ApplicationsAre, all_fine, one_damaged, applications_are, ExcessIs, is_borne, too_great, excess_is}
 

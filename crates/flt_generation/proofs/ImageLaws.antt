@@ -15,7 +15,8 @@ use Rattle.flt_generation.specs.Laws.{IsGiven, MarksAreRead, CommitsAreRead, Par
 use Rattle.flt_generation.proofs.Marks.{read_mark, mark_read}
 use Rattle.flt_generation.proofs.Commits.{read_commit, commit_read}
 use Rattle.flt_generation.proofs.Exactly.{taken_as, as_taken}
-use Rattle.flt_generation.proofs.Whole.{HasSizes, whole_read}
+use Rattle.flt_generation.proofs.Short.{HasSizes}
+use Rattle.flt_generation.proofs.Whole.{whole_read}
 use Rattle.flt_generation.proofs.Pages.{sum_more}
 use Rattle.flt_generation.proofs.Bridge.{held_holds, holds_held}
 use Rattle.flt_generation.proofs.FirstFault.{fault_is_first, holds_without_fault}

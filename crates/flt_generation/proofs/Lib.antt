@@ -8,6 +8,7 @@ pub mod Parts
 pub mod Decoding
 pub mod Steps
 pub mod Sofar
+pub mod Short
 pub mod Whole
 pub mod Below
 pub mod Bridge

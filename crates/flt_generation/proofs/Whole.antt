@@ -1,18 +1,16 @@
 -- The blocks of a state that fits are read as that state.
 use Rattle.std.proofs.Common.{◌≡◌, ℕ, zero, suc, ◌+◌, ◌-◌, ◌*◌, ◌<◌, ◌≤◌, true, false, List, length, refl, sym, ◌∙◌, ap, subst, arith, inl, inr, set, take, drop, position, replicate, length-set, length-take, length-drop, ◌&&◌}
-use Rattle.std.specs.Prelude.{slice_index_or, slice_get, is_none, Option, Some, None, Result, Ok, IfSome, nat_le}
+use Rattle.std.specs.Prelude.{slice_index_or, slice_get, is_none, Option, Some, None, Result, Ok, nat_le}
 use Rattle.std.proofs.lemmas.Bool.{cases_lt, cases_eq, cases_Bool, and_from, lt-ltb, ne_eqb, and_parts}
 use Rattle.std.proofs.lemmas.List.{get_or-set_same, get_or-set_other, get_or_default, get_or_past, get_or-take, get_or-drop, set_past, length-replicate, get_or-replicate, same_lists}
 use Rattle.std.proofs.lemmas.Option.{slice_get_cases}
 use Rattle.std.proofs.lemmas.Slice.Eq.{bytes_eq-Decides}
 use Rattle.flt_flash.specs.Content.{Content}
 use Rattle.flt_config.specs.declared.config.Config.{Config}
-use Rattle.flt_config.specs.declared.config.EventCfg.{EventCfg}
 use Rattle.flt_config.specs.declared.persist.Persist.{Persist}
 use Rattle.flt_config.specs.declared.persist.EventState.{EventState}
 use Rattle.flt_config.specs.declared.persist.EntryState.{EntryState}
-use Rattle.flt_config.specs.Durable.{Fits, IsEntryOf, IsNoted, initial_state, is_of_event, start_state}
-use Rattle.flt_config.specs.Ranges.{frame_width}
+use Rattle.flt_config.specs.Durable.{Fits, IsEntryOf, initial_state, is_of_event, start_state}
 use Rattle.flt_generation.specs.declared.commit.Commit.{Commit}
 use Rattle.flt_generation.specs.declared.part.Part.{Part}
 use Rattle.flt_generation.specs.declared.part.Part.TheVariants.{Summary, States, Entry}
@@ -22,21 +20,16 @@ use Rattle.flt_generation.specs.Fit.{is_alone, place_fits, summary_fits, states_
 use Rattle.flt_generation.specs.Reading.{with_part, with_summary, entry_from, with_states, untaken_entry, taken, if_holds}
 use Rattle.flt_generation.specs.Holding.{Fault, ◌>>=◌, or_damaged, with_content, with_named, parts_read, BlocksHold}
 use Rattle.flt_generation.proofs.Choices.{chosen, not_chosen}
-use Rattle.flt_generation.proofs.Fitting.{entry_by_test, noted_by_test, none_passes}
+use Rattle.flt_generation.proofs.Fitting.{entry_by_test, none_passes}
 use Rattle.flt_generation.proofs.States.{state_set, state_kept, length-with_states, same_states, pass_together}
 use Rattle.flt_generation.proofs.Sizes.{accepted, set_here, none_here}
-use Rattle.flt_generation.proofs.Parts.{state_passes, part_of_fitting}
-use Rattle.flt_generation.proofs.Decoding.{HasShortSummary, summary_of, summary_read, state_read, entry_read}
+use Rattle.flt_generation.proofs.Parts.{part_of_fitting}
+use Rattle.flt_generation.proofs.Decoding.{summary_of, summary_read, state_read, entry_read}
 use Rattle.flt_generation.proofs.Steps.{is_summary, are_states, is_entry, kind_of}
-use Rattle.flt_generation.proofs.Sofar.{used_from, notes_of, room_of, none_from}
+use Rattle.flt_generation.proofs.Sofar.{used_from, room_of, none_from}
 use Rattle.flt_config.proofs.DistinctLemmas.{position-None}
 use Rattle.flt_generation.specs.Faults.{HoldBelow}
-
--- what the calls on a configuration keep of its sizes
-pub record HasSizes (c : Config) : Type 0 where
-  pub memory : c.memory ≤ 16
-  pub events : length c.events.items ≤ 64
-  pub frames : (k : ℕ) (event : EventCfg) → k < length c.events.items → frame_width (slice_index_or c.events.items k event).dids.items ≤ 32
+use Rattle.flt_generation.proofs.Short.{HasSizes, entry_sizes, short_summary, clean_short}
 
 -- the parts that were read so far are those of a state, and the others are still those of none
 pub record Agrees (count : ℕ) (q p : Persist) : Type 0 where
@@ -46,38 +39,6 @@ pub record Agrees (count : ℕ) (q p : Persist) : Type 0 where
   pub states_same : (k : ℕ) (d : EventState) → k < 16 * (count - 1) → k < length p.events.items → slice_index_or q.events.items k d ≡ slice_index_or p.events.items k d
   pub entries_same : (k : ℕ) (d : EntryState) → k + 5 < count → k < length p.entries.items → slice_index_or q.entries.items k d ≡ slice_index_or p.entries.items k d
   pub untaken : (k : ℕ) (d : EntryState) → 0 < count → count ≤ k + 5 → k < length p.entries.items → slice_index_or q.entries.items k d ≡ untaken_entry
-
--- a noted event is within two bytes
-pub noted_short_of : (c : Config) → HasSizes c → (note : Option ℕ) → IsNoted c.events.items note → IfSome note (λ event. event < 65535)
-noted_short_of c sizes None is = tt
-noted_short_of c sizes (Some event) is = omega (arith, is, sizes.events)
-
--- the frames of an entry of a configured event are of one length, and within 32 bytes
-pub entry_sizes : (c : Config) → HasSizes c → (entry : EntryState) → IsEntryOf c.events.items entry → (length entry.first.items ≤ 32) × (length entry.recent.items ≡ length entry.first.items)
-entry_sizes c sizes entry is = elim (slice_get_cases c.events.items entry.event).1 [
-  | inl found ↦ (omega (arith, is.first found.0, sizes.frames entry.event found.0 found.1), is.recent found.0 ∙ sym (is.first found.0))
-  | inr past ↦ absurd (omega (arith, is.event, past.0))
-]
-
--- a summary that fits has short numbers
-pub short_summary : (c : Config) → HasSizes c → (p : Persist) → summary_fits c p ≡ true → HasShortSummary p
-short_summary c sizes p fits =
-    let notes = notes_of c p fits in
-    record {
-      entries = omega (arith, room_of c p fits, sizes.memory);
-      first_failed = noted_short_of c sizes p.first_failed (noted_by_test c.events.items p.first_failed notes.0);
-      first_confirmed = noted_short_of c sizes p.first_confirmed (noted_by_test c.events.items p.first_confirmed notes.1);
-      recent_failed = noted_short_of c sizes p.recent_failed (noted_by_test c.events.items p.recent_failed notes.2);
-      recent_confirmed = noted_short_of c sizes p.recent_confirmed (noted_by_test c.events.items p.recent_confirmed notes.3);
-    }
-
--- the clean counts of a block of states that fits are within fifteen bits
-pub clean_short : (c : Config) (states : List EventState) (first : ℕ) → states_fit c.events.items states first 16 ≡ true → (place : ℕ) → place < 16 → first + place < length c.events.items
-    → (slice_index_or states (first + place) start_state).clean < 0x8000
-clean_short c states first fits place below within = elim (slice_get_cases c.events.items (first + place)).1 [
-  | inl found ↦ omega (arith, (state_passes c.events.items states first 16 fits place below found.0 within).clean)
-  | inr past ↦ absurd (omega (arith, within, past.0))
-]
 
 module _ (c : Config) (sizes : HasSizes c) (p : Persist) (one_each : length p.events.items ≡ length c.events.items) where
   few_states : length p.events.items ≤ 64
