@@ -11,10 +11,10 @@ use Rattle.flt_lives.specs.Living.{StaysSound}
 use Rattle.flt_lives.specs.Sectors.{sectors}
 use Rattle.flt_lives.proofs.Linking.{at_moment}
 
-pub is_on_sectors : (pages used : ℕ) (given : List ℕ) (is_stale has_mounted : Bool) (flash : FlashState) → 4 ≤ used → given ≡ numbers → used - 2 ≡ pages - 2
-    → IsOn (sectors pages) (state_by used given is_stale has_mounted flash)
-is_on_sectors pages used given is_stale has_mounted flash least given_is room =
-    let same : pages ≡ used = omega (arith, least, room) in
+pub is_on_sectors : (c : Config) (used : ℕ) (given : List ℕ) (is_stale has_mounted : Bool) (flash : FlashState) → 4 ≤ used → given ≡ numbers → used - 2 ≡ c.pages - 2
+    → IsOn (sectors c) (state_by used given is_stale has_mounted flash)
+is_on_sectors c used given is_stale has_mounted flash least given_is room =
+    let same : c.pages ≡ used = omega (arith, least, room) in
     record {
       value = λ i. block_value (same i) (sym given_is i) flash.image;
       damage = λ i. first_fault (same i) (sym given_is i) flash.image;

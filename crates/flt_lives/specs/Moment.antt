@@ -1,10 +1,11 @@
 -- What a power-up finds.
-use Rattle.std.specs.Prelude.{◌≡◌, ℕ, Bool, List, Option, None}
+use Rattle.std.specs.Prelude.{◌≡◌, ℕ, Bool, List, Option}
 use Rattle.flt_flash.specs.Content.{Content}
 use Rattle.flt_flash.specs.State.{Boot}
 use Rattle.flt_flash.specs.Blocks.{BlocksState, DeviceState}
 use Rattle.flt_config.specs.declared.config.Config.{Config}
-use Rattle.flt_generation.specs.Holding.{Generation, IsSound}
+use Rattle.flt_generation.specs.Holding.{Generation}
+use Rattle.flt_whole.specs.Judged.{IsSoundHere}
 
 -- what each block of the image holds, the place of its first fault, whether the last sequence number is in use, and the count of the
 -- device's faults
@@ -43,6 +44,5 @@ pub record IsOn (medium : Medium) (driver : BlocksState) : Type 0 where
   pub is_spent : medium.is_spent driver.device.image ≡ driver.is_spent
 
 -- the image has no fault, and holds these two generations, the second by the second copy of its commit
-pub record IsSoundAt (c : Config) (moment : Moment) (held spare : Generation) : Type 0 where
-  pub undamaged : moment.damage ≡ None
-  pub sound : IsSound c moment.value held spare
+abbrev pub IsSoundAt : Config → Moment → Generation → Generation → Type 0
+IsSoundAt c moment = IsSoundHere c moment.damage moment.value

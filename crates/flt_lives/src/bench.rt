@@ -83,10 +83,10 @@ fn live_on<B: Bench + Drop>(
     requires boots { length lives.now ≤ (state_of B.state fee).device.bench.boots_left }
     requires possible { All (λ steps. All (IsPossible config.now) steps.items) lives.now }
     requires arms { (state_of B.state fee).device.bench.armed + sum_by (λ steps. sum_by arms_of steps.items) lives.now ≤ 64 }
-    ensures linked { IfSome result.lives (λ lived. IsLinked config.now (sectors config.now.pages) (state_of B.state fee).device (device_of (B.state result.bench)) (map view_of (reverse lived.items))) }
+    ensures linked { IfSome result.lives (λ lived. IsLinked config.now (sectors config.now) (state_of B.state fee).device (device_of (B.state result.bench)) (map view_of (reverse lived.items))) }
     ensures played { IfSome result.lives (λ lived. ArePlayed config.now (first_lives (length lived.items) lives.now) (map view_of (reverse lived.items))) }
     ensures ended { IfSome result.lives (λ lived. AreEnded (length lives.now) (map view_of (reverse lived.items))) }
-    ensures sound { StaysSound config.now (moment_at (sectors config.now.pages) (boot_in (state_of B.state fee).device)) (moment_at (sectors config.now.pages) (boot_in (device_of (B.state result.bench)))) }
+    ensures sound { StaysSound config.now (moment_at (sectors config.now) (boot_in (state_of B.state fee).device)) (moment_at (sectors config.now) (boot_in (device_of (B.state result.bench)))) }
 {
     laws::numbers_serve_table();
     let mut unit = Unit::make(Dem::make(config.twin(), dids));

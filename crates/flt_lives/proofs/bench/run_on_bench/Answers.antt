@@ -8,6 +8,6 @@ use Rattle.flt_lives.proofs.bench.run_on_bench.Goals as goal
 
 pub returns-in-Ok-make-clause-sound : goal.returns-in-Ok-make-clause-sound
 returns-in-Ok-make-clause-sound g c =
-    subst (λ (d : DeviceState). StaysSound c.args.config.now (moment_at (sectors c.args.config.now.pages) (boot_in d)) (moment_at (sectors c.args.config.now.pages) (boot_in (device_of (g.B.Flash.state c.live_on.result.bench)))))
+    subst (λ (d : DeviceState). StaysSound c.args.config.now (moment_at (sectors c.args.config.now) (boot_in d)) (moment_at (sectors c.args.config.now) (boot_in (device_of (g.B.Flash.state c.live_on.result.bench)))))
     (ap (λ (d : BlocksState). d.device) c.in-Ok-make.ensures.made)
     c.live_on.ensures.sound
