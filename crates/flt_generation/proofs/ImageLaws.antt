@@ -11,7 +11,7 @@ use Rattle.flt_generation.specs.Layout.{numbers, is_used, first_commit, second_c
 use Rattle.flt_generation.specs.Form.{IsMark, mark_of, block_bytes}
 use Rattle.flt_generation.specs.Excess.{own_pages}
 use Rattle.flt_generation.specs.Holding.{first_generation, parts_read, BlocksHold, Holds, IsSound, either_copy, only_bytes, Generation, held_by, IsHeld, IsSpare}
-use Rattle.flt_generation.specs.Laws.{IsGiven, MarksAreRead, CommitsAreRead, PartsAreTaken, BlocksDetermineState, HeldStands, SpareStands, BlankIsSound, TellsFirstFault, HoldsWithoutFault, Counts, EitherCopyCounts, OnlyBytesCount, SoundIsOneOrNext, IsBytes}
+use Rattle.flt_generation.specs.Laws.{IsGiven, MarksAreRead, CommitsAreRead, PartsAreTaken, BlocksDetermineState, HeldStands, SpareStands, BlankIsSound, TellsFirstFault, HoldsWithoutFault, CopyCounts, EitherCopyCounts, OnlyBytesCount, SoundIsOneOrNext, IsBytes}
 use Rattle.flt_generation.proofs.Marks.{read_mark, mark_read}
 use Rattle.flt_generation.proofs.Commits.{read_commit, commit_read}
 use Rattle.flt_generation.proofs.Exactly.{taken_as, as_taken}
@@ -109,10 +109,10 @@ pub holds_where_no_fault : (commit_of : (ℕ → Content) → Content) → Holds
 holds_where_no_fault commit_of c given value = holds_without_fault c value (commit_of value) (sizes_of c given)
 
 -- the copies that count
-by_second : (first : Content) (held : List ℕ) → (IsBytes first → ⊥) → Counts first (bytes held) (bytes held)
+by_second : (first : Content) (held : List ℕ) → (IsBytes first → ⊥) → CopyCounts first (bytes held) (bytes held)
 by_second first held none = record { by_first = λ is. absurd (none is); by_second = λ _ _. refl; by_neither = λ _ no. absurd (no (held, refl)) }
 
-by_neither : (first second : Content) → (IsBytes first → ⊥) → (IsBytes second → ⊥) → Counts first second first
+by_neither : (first second : Content) → (IsBytes first → ⊥) → (IsBytes second → ⊥) → CopyCounts first second first
 by_neither first second none nor = record { by_first = λ is. absurd (none is); by_second = λ _ is. absurd (nor is); by_neither = λ _ _. refl }
 
 pub either_copy_counts : EitherCopyCounts

@@ -108,13 +108,13 @@ abbrev pub IsBytes : Content → Type 0
 IsBytes content = (held : List ℕ) × (content ≡ bytes held)
 
 -- the copy that counts: the first where it has bytes, else the second where that has bytes, else the first
-pub record Counts (first second content : Content) : Type 0 where
+pub record CopyCounts (first second content : Content) : Type 0 where
   pub by_first : IsBytes first → content ≡ first
   pub by_second : (IsBytes first → ⊥) → IsBytes second → content ≡ second
   pub by_neither : (IsBytes first → ⊥) → (IsBytes second → ⊥) → content ≡ first
 
 abbrev pub EitherCopyCounts : Type 0
-EitherCopyCounts = (first second : Content) → Counts first second (either_copy first second)
+EitherCopyCounts = (first second : Content) → CopyCounts first second (either_copy first second)
 
 -- a copy alone counts as missing where it has no bytes
 abbrev pub OnlyBytesCount : Type 0

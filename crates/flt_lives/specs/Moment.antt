@@ -5,7 +5,7 @@ use Rattle.flt_flash.specs.State.{Boot}
 use Rattle.flt_flash.specs.Blocks.{BlocksState, DeviceState}
 use Rattle.flt_config.specs.declared.config.Config.{Config}
 use Rattle.flt_generation.specs.Holding.{Generation}
-use Rattle.flt_whole.specs.Judged.{IsSoundHere}
+use Rattle.flt_whole.specs.Whole.{IsSoundWhole}
 
 -- what each block of the image holds, the place of its first fault, whether the last sequence number is in use, and the count of the
 -- device's faults
@@ -45,4 +45,4 @@ pub record IsOn (medium : Medium) (driver : BlocksState) : Type 0 where
 
 -- the image has no fault, and holds these two generations, the second by the second copy of its commit
 abbrev pub IsSoundAt : Config → Moment → Generation → Generation → Type 0
-IsSoundAt c moment = IsSoundHere c moment.damage moment.value
+IsSoundAt c moment = IsSoundWhole c moment.damage moment.value

@@ -92,12 +92,12 @@ pub data Look : Type 0 where
   both_numbers : Look
   log_page : ℕ → ℕ → Look
 
--- its place in the order of the mount
-abbrev pub rank_of : Look → ℕ
-rank_of (start_gate sector) = 2 * sector
-rank_of (active_gate sector) = 2 * sector + 1
-rank_of both_numbers = 4
-rank_of (log_page sector page) = 5 + page
+-- at which step of the mount it is looked at
+abbrev pub step_of : Look → ℕ
+step_of (start_gate sector) = 2 * sector
+step_of (active_gate sector) = 2 * sector + 1
+step_of both_numbers = 4
+step_of (log_page sector page) = 5 + page
 
 -- the sector and the page at which a fault found there is told
 abbrev pub place_of : Look → ℕ × ℕ
@@ -118,8 +118,8 @@ HasDamage used numbers image (log_page sector page) =
 -- an image is damaged there, and nowhere that a mount looks earlier
 pub record HasFirstDamage (used : ℕ) (numbers : List ℕ) (image : List (List (List ℕ))) (look : Look) : Type 0 where
   pub is : HasDamage used numbers image look
-  pub first : (earlier : Look) → rank_of earlier < rank_of look → HasDamage used numbers image earlier → ⊥
+  pub first : (earlier : Look) → step_of earlier < step_of look → HasDamage used numbers image earlier → ⊥
 
 -- no gate is wrong, and the two sectors do not have one number
 abbrev pub HasSoundGates : ℕ → List ℕ → List (List (List ℕ)) → Type 0
-HasSoundGates used numbers image = (look : Look) → rank_of look ≤ 4 → HasDamage used numbers image look → ⊥
+HasSoundGates used numbers image = (look : Look) → step_of look ≤ 4 → HasDamage used numbers image look → ⊥

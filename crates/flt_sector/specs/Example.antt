@@ -24,16 +24,16 @@ abbrev pub spoiled : List ℕ
 spoiled = replicate 32 0
 
 -- A sector of so many pages, with these first ones.
-abbrev pub begun : ℕ → List (List ℕ) → List (List ℕ)
-begun used pages = pages ++ replicate (used - length pages) blank_page
+abbrev pub sector_of : ℕ → List (List ℕ) → List (List ℕ)
+sector_of used pages = pages ++ replicate (used - length pages) blank_page
 
 -- A valid sector of so many pages, of this number and with this log.
-abbrev pub sector : ℕ → ℕ → List (List ℕ) → List (List ℕ)
-sector used sequence log = begun used (says (Start sequence used) ∷ says (Active sequence) ∷ log)
+abbrev pub valid_sector : ℕ → ℕ → List (List ℕ) → List (List ℕ)
+valid_sector used sequence log = sector_of used (says (Start sequence used) ∷ says (Active sequence) ∷ log)
 
 -- An image of two sectors.
-abbrev pub two : List (List ℕ) → List (List ℕ) → List (List (List ℕ))
-two first second = first ∷ second ∷ []
+abbrev pub image_of : List (List ℕ) → List (List ℕ) → List (List (List ℕ))
+image_of first second = first ∷ second ∷ []
 
 -- An image, and where its first fault is told.
 pub record Faulty : Type 0 where

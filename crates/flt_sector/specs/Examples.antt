@@ -5,7 +5,7 @@ use Rattle.flt_flash.specs.Content.{missing, invalid, bytes}
 use Rattle.flt_code.specs.declared.words.Word.TheVariants.{Start, Active, Head, Gate}
 use Rattle.flt_sector.specs.Log.{log}
 use Rattle.flt_sector.specs.Blocks.{first_fault, block_value}
-use Rattle.flt_sector.specs.Example.{says, piece, torn, spoiled, begun, sector, two, ◌⇒◌, Tells}
+use Rattle.flt_sector.specs.Example.{says, piece, torn, spoiled, sector_of, valid_sector, image_of, ◌⇒◌, Tells}
 
 -- ---- every kind of item
 
@@ -30,20 +30,20 @@ abbrev pub older_log : List (List ℕ)
 older_log = says (Head 11 1 true 2) ∷ piece (4 ∷ []) ∷ says (Gate 11 2) ∷ []
 
 abbrev pub every_image : List (List (List ℕ))
-every_image = two (sector 24 7 every_log) (sector 24 6 older_log)
+every_image = image_of (valid_sector 24 7 every_log) (valid_sector 24 6 older_log)
 
 -- Block 8 has 40 bytes, 9 the byte of its one complete record, 10 is invalid since its last one, 11 is missing in the newer sector.
 -- The log ends behind a torn head, and has no fault.
 pub record EveryItem : Type 0 where
   pub contents : map (block_value 24 blocks every_image) blocks ≡ bytes (replicate 40 7) ∷ bytes (5 ∷ []) ∷ invalid ∷ missing ∷ []
-  pub end : (log 24 blocks (sector 24 7 every_log)).end ≡ 22
+  pub end : (log 24 blocks (valid_sector 24 7 every_log)).end ≡ 22
   pub undamaged : first_fault 24 blocks every_image ≡ None
 
 -- ---- the faults of the gates, in the order in which a mount looks
 
 -- A sector of 8 pages of which these two are the first.
 abbrev pub gated : List ℕ → List ℕ → List (List ℕ)
-gated start active = begun 8 (start ∷ active ∷ [])
+gated start active = sector_of 8 (start ∷ active ∷ [])
 
 -- A start gate of 8 pages, and an active gate.
 abbrev pub start : ℕ → List ℕ
@@ -56,26 +56,26 @@ active sequence = says (Active sequence)
 abbrev pub GatesInOrder : Type 0
 GatesInOrder =
     Tells 8 blocks
-    (two (gated spoiled spoiled) (gated spoiled spoiled) ⇒ Some (0, 0)
-    ∷ two (gated (active 5) spoiled) (gated spoiled spoiled) ⇒ Some (0, 0)
-    ∷ two (gated (says (Start 5 9)) spoiled) (gated spoiled spoiled) ⇒ Some (0, 0)
-    ∷ two (gated (start 5) spoiled) (gated spoiled spoiled) ⇒ Some (0, 1)
-    ∷ two (gated (start 5) (start 5)) (gated spoiled spoiled) ⇒ Some (0, 1)
-    ∷ two (gated (start 5) (active 4)) (gated spoiled spoiled) ⇒ Some (0, 1)
-    ∷ two (gated (start 5) (active 5)) (gated spoiled spoiled) ⇒ Some (1, 0)
-    ∷ two (gated (start 5) (active 5)) (gated (says (Gate 8 0)) spoiled) ⇒ Some (1, 0)
-    ∷ two (gated (start 5) (active 5)) (gated (start 5) spoiled) ⇒ Some (1, 1)
-    ∷ two (gated (start 5) (active 5)) (gated (start 5) (says (Head 8 0 false 1))) ⇒ Some (1, 1)
-    ∷ two (gated (start 5) (active 5)) (gated (start 5) (active 5)) ⇒ Some (1, 0)
-    ∷ two (gated (start 5) (active 5)) (gated (start 5) torn) ⇒ None
-    ∷ two (gated blank_page (active 5)) (gated torn blank_page) ⇒ None
+    (image_of (gated spoiled spoiled) (gated spoiled spoiled) ⇒ Some (0, 0)
+    ∷ image_of (gated (active 5) spoiled) (gated spoiled spoiled) ⇒ Some (0, 0)
+    ∷ image_of (gated (says (Start 5 9)) spoiled) (gated spoiled spoiled) ⇒ Some (0, 0)
+    ∷ image_of (gated (start 5) spoiled) (gated spoiled spoiled) ⇒ Some (0, 1)
+    ∷ image_of (gated (start 5) (start 5)) (gated spoiled spoiled) ⇒ Some (0, 1)
+    ∷ image_of (gated (start 5) (active 4)) (gated spoiled spoiled) ⇒ Some (0, 1)
+    ∷ image_of (gated (start 5) (active 5)) (gated spoiled spoiled) ⇒ Some (1, 0)
+    ∷ image_of (gated (start 5) (active 5)) (gated (says (Gate 8 0)) spoiled) ⇒ Some (1, 0)
+    ∷ image_of (gated (start 5) (active 5)) (gated (start 5) spoiled) ⇒ Some (1, 1)
+    ∷ image_of (gated (start 5) (active 5)) (gated (start 5) (says (Head 8 0 false 1))) ⇒ Some (1, 1)
+    ∷ image_of (gated (start 5) (active 5)) (gated (start 5) (active 5)) ⇒ Some (1, 0)
+    ∷ image_of (gated (start 5) (active 5)) (gated (start 5) torn) ⇒ None
+    ∷ image_of (gated blank_page (active 5)) (gated torn blank_page) ⇒ None
     ∷ [])
 
 -- ---- the faults of a log
 
 -- Sector 1 is the current one, and has this log; what stands in the log of the other one is not looked at.
 abbrev pub with_log : List (List ℕ) → List (List (List ℕ))
-with_log log = two (sector 8 5 (says (Gate 8 2) ∷ [])) (sector 8 6 log)
+with_log log = image_of (valid_sector 8 5 (says (Gate 8 2) ∷ [])) (valid_sector 8 6 log)
 
 -- A head of another page, of an unknown block, of a record that passes the used pages; words that are no head; another word in the place of
 -- a gate; pages that are written behind the end. A log may fill the sector.

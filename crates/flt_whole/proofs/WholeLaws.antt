@@ -12,7 +12,7 @@ use Rattle.flt_generation.specs.Holding.{Generation, Fault, damaged, other, held
 use Rattle.flt_generation.specs.Faults.{HasFault, rank_of, HasFirstFault}
 use Rattle.flt_generation.specs.Laws.{IsGiven}
 use Rattle.flt_generation.proofs.ImageLaws as laws
-use Rattle.flt_whole.specs.Judged.{unless_damaged}
+use Rattle.flt_whole.specs.Whole.{unless_damaged}
 use Rattle.flt_whole.specs.Image.{image_damage, image_blocks}
 use Rattle.flt_whole.specs.Laws.{HasImageFault, HasFirstImageFault, TellsFirstImageFault, HeldStandsInImage, SpareStandsInImage, SoundImageHoldsBoth, HoldsFirst, UnwrittenHoldsFirst, BlankHoldsFirst}
 

@@ -1,6 +1,6 @@
 -- Worked images.
 use Rattle.std.specs.Prelude.{ℕ, List, [], ◌∷◌, ◌++◌, Ok, Err}
-use Rattle.flt_sector.specs.Example.{torn, begun, sector, two}
+use Rattle.flt_sector.specs.Example.{torn, sector_of, valid_sector, image_of}
 use Rattle.flt_generation.specs.declared.place.Place.TheVariants.{Page, Block}
 use Rattle.flt_generation.specs.Holding.{first_generation, damaged, other, Fault}
 use Rattle.flt_generation.specs.Example.{small, own_mark, summary, states, entry, Kept, block, other_mark}
@@ -24,17 +24,17 @@ second_copies = block 2 0 second_commit ∷ block 2 1 second_commit ∷ []
 
 -- A sector that was never written, and an image of which sector 0 has these records.
 abbrev pub erased : List (List ℕ)
-erased = begun 64 []
+erased = sector_of 64 []
 
 abbrev pub saved : List Kept → List (List (List ℕ))
-saved kept = two (sector 64 1 (records 2 kept)) erased
+saved kept = image_of (valid_sector 64 1 (records 2 kept)) erased
 
 -- What an image holds before the first save, after each step of two saves, and after a switch of the sectors.
 abbrev pub Saves : Type 0
 Saves =
     AreJudged small
-    (judged (two erased erased) (Ok (first_generation small)) (Ok (first_generation small))
-    ∷ judged (two (begun 64 (torn ∷ torn ∷ torn ∷ [])) erased) (Ok (first_generation small)) (Ok (first_generation small))
+    (judged (image_of erased erased) (Ok (first_generation small)) (Ok (first_generation small))
+    ∷ judged (image_of (sector_of 64 (torn ∷ torn ∷ torn ∷ [])) erased) (Ok (first_generation small)) (Ok (first_generation small))
     ∷ judged (saved []) (Ok (first_generation small)) (Ok (first_generation small))
     ∷ judged (saved first_blocks) (Ok (first_generation small)) (Ok (first_generation small))
     ∷ judged (saved (first_blocks ++ block 2 0 first_commit ∷ [])) (Ok first) (Ok (first_generation small))
@@ -42,7 +42,7 @@ Saves =
     ∷ judged (saved second_blocks) (Ok first) (Ok first)
     ∷ judged (saved (second_blocks ++ block 2 0 second_commit ∷ [])) (Ok second) (Ok first)
     ∷ judged (saved (second_blocks ++ second_copies)) (Ok second) (Ok second)
-    ∷ judged (two (sector 64 1 (records 2 (first_blocks ++ first_copies))) (sector 64 2 (records 2 (second_blocks ++ second_copies)))) (Ok second) (Ok second)
+    ∷ judged (image_of (valid_sector 64 1 (records 2 (first_blocks ++ first_copies))) (valid_sector 64 2 (records 2 (second_blocks ++ second_copies)))) (Ok second) (Ok second)
     ∷ [])
 
 -- One fault by both copies.
@@ -54,8 +54,8 @@ faulty image fault = judged image (Err fault) (Err fault)
 abbrev pub PagesBeforeBlocks : Type 0
 PagesBeforeBlocks =
     AreJudged small
-    (faulty (two (sector 64 1 (records 2 (block 1 0 other_mark ∷ []) ++ blank_page ∷ torn ∷ [])) erased) (damaged (Page 0 6))
+    (faulty (image_of (valid_sector 64 1 (records 2 (block 1 0 other_mark ∷ []) ++ blank_page ∷ torn ∷ [])) erased) (damaged (Page 0 6))
     ∷ faulty (saved (block 1 0 other_mark ∷ [])) (other (record { id = 8; events = 1; entries = 1 }))
-    ∷ faulty (two (sector 64 1 (records 2 first_copies)) (sector 64 1 [])) (damaged (Page 1 0))
+    ∷ faulty (image_of (valid_sector 64 1 (records 2 first_copies)) (valid_sector 64 1 [])) (damaged (Page 1 0))
     ∷ faulty (saved first_copies) (damaged (Block 1))
     ∷ [])

@@ -1,4 +1,4 @@
-pub mod Judged
+pub mod Whole
 pub mod Image
 pub mod Laws
 pub mod Example

@@ -12,14 +12,14 @@ unless_damaged (Some place) judged = Err (damaged (Page place.0 place.1))
 
 module _ (c : Config) (damage : Option (ℕ × ℕ)) (value : ℕ → Content) where
   -- the generation that is held
-  abbrev pub judged_held : Result Generation Fault
-  judged_held = unless_damaged damage (held c value)
+  abbrev pub whole_held : Result Generation Fault
+  whole_held = unless_damaged damage (held c value)
 
   -- the generation that is held where the first copy of the commit can't be read
-  abbrev pub judged_spare : Result Generation Fault
-  judged_spare = unless_damaged damage (spare c value)
+  abbrev pub whole_spare : Result Generation Fault
+  whole_spare = unless_damaged damage (spare c value)
 
   -- no page is at fault, and the two generations are one or follow each other
-  pub record IsSoundHere (held_now spare_now : Generation) : Type 0 where
+  pub record IsSoundWhole (held_now spare_now : Generation) : Type 0 where
     pub undamaged : damage ≡ None
     pub sound : IsSound c value held_now spare_now
