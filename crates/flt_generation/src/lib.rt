@@ -4,7 +4,8 @@
 //! byte forms of `flt_image` and the generations of the store state their contracts by these definitions. Read
 //! `specs/Layout` first (which block holds what), then `specs/Form` (its bytes), `specs/Reading` (what bytes are taken) and
 //! `specs/Holding` (which generation an image holds, and where it is damaged); `specs/Successor` has what a save writes. That
-//! what is read is what stands is a law (`laws`).
+//! what is read is what stands is a law (`laws`), and that the fault which is told is the first of all that there are, each of
+//! which stands by itself in `specs/Faults`. The examples of `worked` are maps of blocks with what they hold.
 #![tactic(auto)]
 
 mod commit;
