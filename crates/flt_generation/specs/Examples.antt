@@ -1,5 +1,5 @@
 -- Worked maps of blocks.
-use Rattle.std.specs.Prelude.{List, [], ◌∷◌, replicate, Ok, Err}
+use Rattle.std.specs.Prelude.{List, [], ◌∷◌, replicate, Ok, Err, map}
 use Rattle.flt_flash.specs.Content.{Content, missing, invalid, bytes}
 use Rattle.flt_generation.specs.declared.place.Place.TheVariants.{Block}
 use Rattle.flt_generation.specs.Holding.{Generation, Fault, damaged, other, first_generation}
@@ -12,9 +12,15 @@ first = record { number = 1; state = failed_state 0x2F 1 (0x01 ∷ 0x02 ∷ []) 
 abbrev pub second : Generation
 second = record { number = 2; state = failed_state 0x2F 2 (0x03 ∷ 0x04 ∷ []) }
 
+-- The entry of generation 1.
+abbrev pub first_entry : Content
+first_entry = entry 0 1 (0x01 ∷ 0x02 ∷ [])
+
 -- Its blocks, where the summary and the states stayed and the entry changed.
 abbrev pub blocks : List Kept
-blocks = block 1 0 own_mark ∷ block 3 0 summary ∷ block 4 0 (states 0x2F) ∷ block 8 0 (entry 0 1 (0x01 ∷ 0x02 ∷ [])) ∷ block 8 1 (entry 0 2 (0x03 ∷ 0x04 ∷ [])) ∷ []
+blocks =
+    block 1 0 own_mark ∷ block 3 0 summary ∷ block 4 0 (states 0x2F)
+    ∷ block 8 0 first_entry ∷ block 8 1 (entry 0 2 (0x03 ∷ 0x04 ∷ [])) ∷ []
 
 -- With these copies of the commit.
 abbrev pub with_copies : Content → Content → List Kept
@@ -44,7 +50,7 @@ CopiesOfCommit =
 
 -- Four records of 128 bytes that no generation of this configuration has; their 24 pages are what it leaves.
 abbrev pub beyond : List Kept
-beyond = block 9 0 (bytes (replicate 128 0)) ∷ block 10 0 (bytes (replicate 128 0)) ∷ block 11 0 (bytes (replicate 128 0)) ∷ block 12 0 (bytes (replicate 128 0)) ∷ []
+beyond = map (λ id. block id 0 (bytes (replicate 128 0))) (9 ∷ 10 ∷ 11 ∷ 12 ∷ [])
 
 -- And one more.
 abbrev pub much_beyond : List Kept
@@ -60,7 +66,8 @@ faulty kept fault = judged kept (Err fault) (Err fault)
 
 -- A mark, both copies of the commit, the summary, the states, the entry and what stands beside them.
 abbrev pub standing : Content → Content → Content → Content → Content → List Kept → List Kept
-standing mark both third fourth eighth rest = block 1 0 mark ∷ block 2 0 both ∷ block 2 1 both ∷ block 3 0 third ∷ block 4 0 fourth ∷ block 8 0 eighth ∷ rest
+standing mark both third fourth eighth rest =
+    block 1 0 mark ∷ block 2 0 both ∷ block 2 1 both ∷ block 3 0 third ∷ block 4 0 fourth ∷ block 8 0 eighth ∷ rest
 
 -- Each block is wrong, and they are mended one after the other: the mark, the commit, the summary, the states, the entry, the application
 -- blocks, the excess.
@@ -79,8 +86,8 @@ FaultsInOrder =
     ∷ faulty (standing own_mark first_commit summary (states 0xAF) missing bad_applications) (damaged (Block 4))
     ∷ faulty (standing own_mark first_commit summary (states 0x2F) missing bad_applications) (damaged (Block 8))
     ∷ faulty (standing own_mark first_commit summary (states 0x2F) (entry 1 1 (0x01 ∷ 0x02 ∷ [])) bad_applications) (damaged (Block 8))
-    ∷ faulty (standing own_mark first_commit summary (states 0x2F) (entry 0 1 (0x01 ∷ 0x02 ∷ [])) bad_applications) (damaged (Block 64))
-    ∷ faulty (standing own_mark first_commit summary (states 0x2F) (entry 0 1 (0x01 ∷ 0x02 ∷ [])) (block 64 0 missing ∷ bad_applications)) (damaged (Block 65))
-    ∷ faulty (standing own_mark first_commit summary (states 0x2F) (entry 0 1 (0x01 ∷ 0x02 ∷ [])) much_beyond) (damaged (Block 0))
-    ∷ judged (standing own_mark first_commit summary (states 0x2F) (entry 0 1 (0x01 ∷ 0x02 ∷ [])) beyond) (Ok first) (Ok first)
+    ∷ faulty (standing own_mark first_commit summary (states 0x2F) first_entry bad_applications) (damaged (Block 64))
+    ∷ faulty (standing own_mark first_commit summary (states 0x2F) first_entry (block 64 0 missing ∷ bad_applications)) (damaged (Block 65))
+    ∷ faulty (standing own_mark first_commit summary (states 0x2F) first_entry much_beyond) (damaged (Block 0))
+    ∷ judged (standing own_mark first_commit summary (states 0x2F) first_entry beyond) (Ok first) (Ok first)
     ∷ [])

@@ -78,7 +78,8 @@ BorneHasRoom = (c : Config) → IsGiven c → (value : ℕ → Content) → IsBo
 
 -- an image in which nothing was ever written is sound, and holds the first generation
 abbrev pub BlankIsSound : Type 0
-BlankIsSound = (c : Config) → IsGiven c → (value : ℕ → Content) → ((number : ℕ) → value number ≡ missing) → IsSound c value (first_generation c) (first_generation c)
+BlankIsSound = (c : Config) → IsGiven c → (value : ℕ → Content) → ((number : ℕ) → value number ≡ missing)
+    → IsSound c value (first_generation c) (first_generation c)
 
 -- the fault that is told of an image, by a commit, is the first in the order of judging
 abbrev pub TellsFirstFault : (Config → (ℕ → Content) → Result Generation Fault) → ((ℕ → Content) → Content) → Type 0

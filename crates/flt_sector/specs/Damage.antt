@@ -48,6 +48,10 @@ pub record IsValidSector (used : ℕ) (pages : List (List ℕ)) (sequence : ℕ)
   pub start : Says (Start sequence used) (slice_index_or pages 0 [])
   pub active : Says (Active sequence) (slice_index_or pages 1 [])
 
+-- no sector of the two is valid
+abbrev pub HasNoSector : ℕ → List (List (List ℕ)) → Type 0
+HasNoSector used image = (sector sequence : ℕ) → sector < 2 → IsValidSector used (sector_at image sector) sequence → ⊥
+
 -- of the two sectors this one is valid, and the other one is not or has a lesser number
 pub record IsCurrent (used : ℕ) (image : List (List (List ℕ))) (sector sequence : ℕ) : Type 0 where
   pub within : sector < 2

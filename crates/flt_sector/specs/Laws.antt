@@ -5,11 +5,12 @@ use Rattle.flt_flash.specs.Image.{sector_at, page_at, blank_page}
 use Rattle.flt_sector.specs.Log.{log_from, log}
 use Rattle.flt_sector.specs.Blocks.{Current, current, first_fault, bytes_behind, block_value}
 use Rattle.flt_sector.specs.Reached.{IsReached, IsRecord}
-use Rattle.flt_sector.specs.Damage.{Look, place_of, HasDamage, HasFirstDamage, HasSoundGates, IsCurrent, IsValidSector}
+use Rattle.flt_sector.specs.Damage.{Look, place_of, HasDamage, HasFirstDamage, HasSoundGates, HasNoSector, IsCurrent}
 
 -- as many items as there are used pages are enough: the log goes no further with more
 abbrev pub LogIsWhole : Type 0
-LogIsWhole = (used : ℕ) (numbers : List ℕ) (pages : List (List ℕ)) (left : ℕ) → 2 ≤ used → used < 2 + left → log_from used numbers pages 2 left ≡ log used numbers pages
+LogIsWhole = (used : ℕ) (numbers : List ℕ) (pages : List (List ℕ)) (left : ℕ) → 2 ≤ used → used < 2 + left
+    → log_from used numbers pages 2 left ≡ log used numbers pages
 
 -- the log ends behind the gates and within the used pages, and a fault of it is told at one of them
 pub record EndsWithin (used end : ℕ) (fault : Option ℕ) : Type 0 where
@@ -18,7 +19,8 @@ pub record EndsWithin (used end : ℕ) (fault : Option ℕ) : Type 0 where
   pub there : IfSome fault (λ page. (2 ≤ page) × (page < used))
 
 abbrev pub LogEndsWithin : Type 0
-LogEndsWithin = (used : ℕ) (numbers : List ℕ) (pages : List (List ℕ)) → 2 ≤ used → EndsWithin used (log used numbers pages).end (log used numbers pages).fault
+LogEndsWithin = (used : ℕ) (numbers : List ℕ) (pages : List (List ℕ)) → 2 ≤ used
+    → EndsWithin used (log used numbers pages).end (log used numbers pages).fault
 
 -- the fault that is told is the first that a mount finds
 abbrev pub FirstFaultIsTold : Type 0
@@ -38,7 +40,7 @@ GreaterIsCurrent = (used : ℕ) (numbers : List ℕ) (image : List (List (List �
 -- and there is none exactly where no sector is valid
 abbrev pub NoneIsCurrent : Type 0
 NoneIsCurrent = (used : ℕ) (numbers : List ℕ) (image : List (List (List ℕ)))
-    → (current used image ≡ Ok None) ↔ (HasSoundGates used numbers image × ((sector sequence : ℕ) → sector < 2 → IsValidSector used (sector_at image sector) sequence → ⊥))
+    → (current used image ≡ Ok None) ↔ (HasSoundGates used numbers image × HasNoSector used image)
 
 -- a complete record of a block stands at this page of the log
 pub record IsCompleteAt (used : ℕ) (numbers : List ℕ) (pages : List (List ℕ)) (block page length : ℕ) (valid : Bool) : Type 0 where
@@ -63,8 +65,8 @@ pub record HoldsLast (used : ℕ) (numbers : List ℕ) (image : List (List (List
       → block_value used numbers image block ≡ missing
 
 abbrev pub LastRecordCounts : Type 0
-LastRecordCounts = (used : ℕ) (numbers : List ℕ) (image : List (List (List ℕ))) (at : Current) (block : ℕ) → 2 ≤ used → current used image ≡ Ok (Some at)
-    → HoldsLast used numbers image at.sector block
+LastRecordCounts = (used : ℕ) (numbers : List ℕ) (image : List (List (List ℕ))) (at : Current) (block : ℕ) → 2 ≤ used
+    → current used image ≡ Ok (Some at) → HoldsLast used numbers image at.sector block
 
 -- every used page of both sectors is blank
 abbrev pub IsBlankImage : ℕ → List (List (List ℕ)) → Type 0

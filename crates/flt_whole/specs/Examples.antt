@@ -4,13 +4,13 @@ use Rattle.flt_sector.specs.Example.{torn, sector_of, valid_sector, image_of}
 use Rattle.flt_generation.specs.declared.place.Place.TheVariants.{Page, Block}
 use Rattle.flt_generation.specs.Holding.{first_generation, damaged, other, Fault}
 use Rattle.flt_generation.specs.Example.{small, own_mark, summary, states, entry, Kept, block, other_mark}
-use Rattle.flt_generation.specs.Examples.{first, second, first_commit, second_commit}
+use Rattle.flt_generation.specs.Examples.{first, second, first_entry, first_commit, second_commit}
 use Rattle.flt_whole.specs.Example.{records, judged, AreJudged, Judged}
 use Rattle.flt_flash.specs.Image.{blank_page}
 
 -- The records of the first save: the mark, the blocks at index 0, then both copies of the commit.
 abbrev pub first_blocks : List Kept
-first_blocks = block 1 0 own_mark ∷ block 3 0 summary ∷ block 4 0 (states 0x2F) ∷ block 8 0 (entry 0 1 (0x01 ∷ 0x02 ∷ [])) ∷ []
+first_blocks = block 1 0 own_mark ∷ block 3 0 summary ∷ block 4 0 (states 0x2F) ∷ block 8 0 first_entry ∷ []
 
 abbrev pub first_copies : List Kept
 first_copies = block 2 0 first_commit ∷ block 2 1 first_commit ∷ []
@@ -29,6 +29,10 @@ erased = sector_of 64 []
 abbrev pub saved : List Kept → List (List (List ℕ))
 saved kept = image_of (valid_sector 64 1 (records 2 kept)) erased
 
+-- An image whose older sector was left behind the first save.
+abbrev pub switched : List (List (List ℕ))
+switched = image_of (valid_sector 64 1 (records 2 (first_blocks ++ first_copies))) (valid_sector 64 2 (records 2 (second_blocks ++ second_copies)))
+
 -- What an image holds before the first save, after each step of two saves, and after a switch of the sectors.
 abbrev pub Saves : Type 0
 Saves =
@@ -42,7 +46,7 @@ Saves =
     ∷ judged (saved second_blocks) (Ok first) (Ok first)
     ∷ judged (saved (second_blocks ++ block 2 0 second_commit ∷ [])) (Ok second) (Ok first)
     ∷ judged (saved (second_blocks ++ second_copies)) (Ok second) (Ok second)
-    ∷ judged (image_of (valid_sector 64 1 (records 2 (first_blocks ++ first_copies))) (valid_sector 64 2 (records 2 (second_blocks ++ second_copies)))) (Ok second) (Ok second)
+    ∷ judged switched (Ok second) (Ok second)
     ∷ [])
 
 -- One fault by both copies.

@@ -1,8 +1,7 @@
 -- What the definitions of a whole image come to.
 use Rattle.std.specs.Prelude.{◌≡◌, ◌↔◌, ◌⊎◌, ℕ, ◌+◌, ◌<◌, List, None, Result, Ok, Err}
 use Rattle.flt_flash.specs.Content.{Content, missing}
-use Rattle.flt_flash.specs.Image.{sector_at}
-use Rattle.flt_sector.specs.Damage.{IsValidSector, Look, place_of, HasDamage, HasFirstDamage}
+use Rattle.flt_sector.specs.Damage.{HasNoSector, Look, place_of, HasDamage, HasFirstDamage}
 use Rattle.flt_sector.specs.Laws.{IsBlankImage}
 use Rattle.flt_config.specs.declared.config.Config.{Config}
 use Rattle.flt_generation.specs.declared.place.Place.TheVariants.{Page, Block}
@@ -46,7 +45,8 @@ SpareStandsInImage = (c : Config) → IsGiven c → (image : List (List (List �
 -- an image is sound exactly where it holds two generations that are one, or of which the spare one is followed by the other
 abbrev pub SoundImageHoldsBoth : Type 0
 SoundImageHoldsBoth = (c : Config) → IsGiven c → (image : List (List (List ℕ))) (held spare : Generation)
-    → IsSoundImage c image held spare ↔ ((image_held c image ≡ Ok held) × (image_spare c image ≡ Ok spare) × ((held ≡ spare) ⊎ (held.number ≡ spare.number + 1)))
+    → IsSoundImage c image held spare
+    ↔ ((image_held c image ≡ Ok held) × (image_spare c image ≡ Ok spare) × ((held ≡ spare) ⊎ (held.number ≡ spare.number + 1)))
 
 -- the image is sound, holds the first generation, and has no mark and no application block, nor any other
 pub record HoldsFirst (c : Config) (image : List (List (List ℕ))) : Type 0 where
@@ -56,7 +56,7 @@ pub record HoldsFirst (c : Config) (image : List (List (List ℕ))) : Type 0 whe
 -- so is each image without a fault of which no sector is valid
 abbrev pub UnwrittenHoldsFirst : Type 0
 UnwrittenHoldsFirst = (c : Config) → IsGiven c → (image : List (List (List ℕ))) → ((look : Look) → HasDamage c.pages numbers image look → ⊥)
-    → ((sector sequence : ℕ) → sector < 2 → IsValidSector c.pages (sector_at image sector) sequence → ⊥) → HoldsFirst c image
+    → HasNoSector c.pages image → HoldsFirst c image
 
 -- and each image whose used pages are blank
 abbrev pub BlankHoldsFirst : Type 0
