@@ -11,7 +11,7 @@ use Rattle.flt_generation.specs.Form.{place_bytes, part_bytes, part_length}
 use Rattle.flt_generation.specs.Laws.{IsGiven}
 use Rattle.flt_image.specs.Blocks.{longest}
 use Rattle.flt_generation.proofs.Sizes.{summary_size, states_size, entry_size, no_entry_size}
-use Rattle.flt_generation.proofs.Whole.{HasSizes, entry_sizes}
+use Rattle.flt_generation.proofs.Short.{HasSizes, entry_sizes}
 
 -- no part is longer than an entry
 pub part_short : (part : Part) → part_length part ≤ longest
