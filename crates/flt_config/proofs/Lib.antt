@@ -3,3 +3,4 @@ pub mod DistinctLemmas
 pub mod InRange
 pub mod WithinRange
 pub mod CheckLaws
+pub mod InitialFits

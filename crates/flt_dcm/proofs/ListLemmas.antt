@@ -8,6 +8,7 @@ use Rattle.std.specs.Prelude.{is_some}
 use Rattle.flt_config.specs.declared.persist.EntryState.{EntryState}
 use Rattle.flt_config.specs.Durable.{is_of_event}
 use Rattle.flt_model.specs.Durable.{below}
+use Rattle.flt_model.proofs.Common.{length_below, at_below}
 use Rattle.flt_model.specs.Response.{EventView, is_masked, is_prefailed, dtc_bytes, with_status, with_counter, records_of, noted_bytes}
 use Rattle.flt_dem.specs.Manager.{Manager}
 use Rattle.flt_dem.specs.View.{rules_of, event_seen}
@@ -192,20 +193,6 @@ filtered_more p manager n = ap (λ xs. length (filter p xs)) (seen_more manager 
         ∙ ap (λ k. cond (p (event_seen manager n)) (k + 1) k) (sym (sized (p x) x xs))
 
 -- ---- one of them
-
-length_below : (n : ℕ) → length (below n) ≡ n
-length_below zero = refl
-length_below (suc n) = let before = length_below n in let more = length-append (below n) (n ∷ []) in omega (arith, before, more)
-
-at_below : (n k d : ℕ) → k < n → get_or (below n) k d ≡ k
-at_below zero k d h = absurd (omega (arith, h))
-at_below (suc n) k d h =
-    ⊎_elim
-    (λ same. rw same (get_or_push (below n) n d n (length_below n)))
-    (λ ne.
-    let within : k < length (below n) = let size = length_below n in omega (arith, h, ne, size) in
-    get_or_append_left (below n) (n ∷ []) d k within ∙ at_below n k d (omega (arith, h, ne)))
-    (cases_eq k n)
 
 length_seen : (manager : Manager) (n : ℕ) → length (seen_to manager n) ≡ n
 length_seen manager n = length-map (below n) (event_seen manager) ∙ length_below n

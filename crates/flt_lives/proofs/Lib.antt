@@ -5,8 +5,4 @@ pub mod Starting
 pub mod Linking
 pub mod Bridge
 pub mod Soundness
-pub mod EventFits
-pub mod EntryFits
-pub mod RecentFits
-pub mod StatesFitting
 pub mod Causing

@@ -3,10 +3,6 @@ use Rattle.std.specs.Prelude.{ℕ, List, [], ◌∷◌, All, Option}
 use Rattle.flt_flash.specs.declared.arm.ArmMade.{ArmMade}
 use Rattle.flt_flash.specs.State.{Boot as PowerUp}
 use Rattle.flt_config.specs.declared.config.Config.{Config}
-use Rattle.flt_config.specs.Validity.{IsValid}
-use Rattle.flt_config.specs.Durable.{Fits}
-use Rattle.flt_model.specs.Life.{Life, History}
-use Rattle.flt_model.specs.Durable.{saved_after}
 use Rattle.flt_generation.specs.Holding.{Generation}
 use Rattle.flt_generation.specs.Laws.{IsGiven}
 use Rattle.flt_restore.specs.declared.fault.StartFault.TheVariants as faults
@@ -38,7 +34,3 @@ abbrev pub SoundRunsStaySound : Type 0
 SoundRunsStaySound = (c : Config) → IsGiven c → (medium : Medium) (arms : Option (List ArmMade)) (earlier : ℕ) (next : PowerUp) (boots : List PowerUp) (lives : List LifeView)
     → AreLinked c medium arms earlier next boots lives → IsSoundIn c (moment_at medium (first_boot next boots))
     → IsSoundIn c (moment_at medium next) × All (λ boot. IsSoundIn c (moment_at medium boot)) boots × All (λ life. IsUndamaged life.boot) lives
-
--- the state after any calls from a state that fits is one that fits
-abbrev pub SavedStatesFit : Type 0
-SavedStatesFit = (life : Life) (past : History) → IsValid life.config → Fits life.config life.base → Fits life.config (saved_after life past)

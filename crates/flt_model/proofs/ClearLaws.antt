@@ -43,7 +43,7 @@ within_pushed : (low high event : ℕ) (events : List ℕ) → AllWithin low hig
 within_pushed low high event [] all least less = ((least, less), tt)
 within_pushed low high event (first ∷ events) all least less = (all.0, within_pushed low high event events all.1 least less)
 
-within_at : (low high : ℕ) (events : List ℕ) (place : ℕ) → AllWithin low high events → place < length events → get_or events place 0 < high
+pub within_at : (low high : ℕ) (events : List ℕ) (place : ℕ) → AllWithin low high events → place < length events → get_or events place 0 < high
 within_at low high [] place all h = absurd (omega (arith, h))
 within_at low high (event ∷ events) zero all h = all.0.1
 within_at low high (event ∷ events) (suc place) all h = within_at low high events place all.1 (omega (arith, h))
@@ -78,7 +78,7 @@ base_within life (entry ∷ entries) all =
     ((omega arith, here.event), base_within life entries (All-tail (IsEntryOf life.config.events.items) entry entries all))
 
 module _ (life : Life) (fits : Fits life.config life.base) where
-  holders_within : (marks : Trace) → TraceBelow (count life) marks → AllWithin 0 (count life) (holders life marks)
+  pub holders_within : (marks : Trace) → TraceBelow (count life) marks → AllWithin 0 (count life) (holders life marks)
   holders_within [] b = base_within life life.base.entries.items fits.entries
   holders_within (AllCleared ∷ marks) b = holders_within marks b
   holders_within (Of event Added signals ∷ marks) b = within_pushed 0 (count life) event (holders life marks) (holders_within marks b.1) (omega arith) b.0
@@ -170,7 +170,7 @@ none_noted : (n : ℕ) (noted_event : Option ℕ) → NoteWithin n n noted_event
 none_noted n None noted_event = refl
 none_noted n (Some event) noted_event = absurd (omega (arith, noted_event.0, noted_event.1))
 
-base_noted : (events : List EventCfg) (noted_event : Option ℕ) → IsNoted events noted_event → NoteWithin 0 (length events) noted_event
+pub base_noted : (events : List EventCfg) (noted_event : Option ℕ) → IsNoted events noted_event → NoteWithin 0 (length events) noted_event
 base_noted events None n = tt
 base_noted events (Some event) n = (omega arith, n)
 
@@ -184,7 +184,7 @@ first_noted n true event (Some other) less within = within
 first_noted n false event noted_event less within = within
 
 module _ (n : ℕ) (notable : Notable) (base : Option ℕ) (noted : NoteWithin 0 n base) where
-  recent_within : (marks : Trace) → TraceBelow n marks → NoteWithin 0 n (recent notable base marks)
+  pub recent_within : (marks : Trace) → TraceBelow n marks → NoteWithin 0 n (recent notable base marks)
   recent_within [] b = noted
   recent_within (AllCleared ∷ marks) b = recent_within marks b
   recent_within (Of event Failed signals ∷ marks) b = recent_noted n (notable event marks) event (recent notable base marks) b.0 (recent_within marks b.1)
@@ -196,7 +196,7 @@ module _ (n : ℕ) (notable : Notable) (base : Option ℕ) (noted : NoteWithin 0
   recent_within (Of event Added signals ∷ marks) b = recent_within marks b.1
   recent_within (Of event Refused signals ∷ marks) b = recent_within marks b.1
 
-  first_within : (marks : Trace) → TraceBelow n marks → NoteWithin 0 n (first notable base marks)
+  pub first_within : (marks : Trace) → TraceBelow n marks → NoteWithin 0 n (first notable base marks)
   first_within [] b = noted
   first_within (AllCleared ∷ marks) b = first_within marks b
   first_within (Of event Failed signals ∷ marks) b = first_noted n (notable event marks) event (first notable base marks) b.0 (first_within marks b.1)

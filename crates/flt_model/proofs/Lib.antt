@@ -11,3 +11,7 @@ pub mod EntryLemmas
 pub mod RoomLaws
 pub mod AloneLaws
 pub mod ClearLaws
+pub mod EventFits
+pub mod EntryFits
+pub mod RecentFits
+pub mod SavedFits

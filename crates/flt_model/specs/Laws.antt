@@ -1,5 +1,6 @@
--- What holds of entries and noted events after every list of calls.
+-- What holds of entries, noted events and the saved state after every list of calls.
 use Rattle.std.specs.Prelude.{◌≡◌, ℕ, ◌<◌, ◌⊎◌, slice_index, ◌≤◌, Bool, true, false, List, [], ◌∷◌, length, Option, Some, None}
+use Rattle.flt_config.specs.Validity.{IsValid}
 use Rattle.flt_config.specs.Durable.{Fits}
 use Rattle.flt_model.specs.Life.{Life, History}
 use Rattle.flt_model.specs.Mark.{Row, decided, Trace, marks_of}
@@ -8,6 +9,7 @@ use Rattle.flt_model.specs.Noted.{Notable, recent, first}
 use Rattle.flt_model.specs.Entry.{has_entry, holders, is_among, worst, IsWorse}
 use Rattle.flt_model.specs.declared.status.Rank.{Rank}
 use Rattle.flt_model.specs.Trace.{trace}
+use Rattle.flt_model.specs.Durable.{saved_after}
 
 -- A clear, with no failure since.
 abbrev pub cleared_row : Row
@@ -62,3 +64,7 @@ FittingBaseHasRoom = (life : Life) → Fits life.config life.base → HasRoom li
 -- The calls keep the entries so.
 abbrev pub EntriesKeepRoom : Type 0
 EntriesKeepRoom = (life : Life) (past : History) → HasRoom life [] → HasRoom life (trace life past)
+
+-- From a state that fits the configuration, every list of calls leaves one that fits it.
+abbrev pub SavedStatesFit : Type 0
+SavedStatesFit = (life : Life) (past : History) → IsValid life.config → Fits life.config life.base → Fits life.config (saved_after life past)

@@ -4,7 +4,7 @@ ghost use Rattle.flt_model.specs.StatusLaws.{ByteTellsBits, LitIsConfirmed, Indi
 ghost use Rattle.flt_model.specs.DebounceLaws.{DebouncingStaysInRange, DetectionCounterTellsThresholds};
 ghost use Rattle.flt_model.specs.CodeLaws.{CodesComeInOrder};
 ghost use Rattle.flt_model.specs.CallLaws.{ClearOfAllLeavesFirstState, ReportIsAboutItsEvent, ClearIsAboutItsEvent, OthersAreLeftAlone, DisplacementLeavesOtherBits};
-ghost use Rattle.flt_model.specs.Laws.{NotedIsNotCleared, FirstIsNotCleared, HoldersHaveEntries, WorstIsUnique, FittingBaseHasRoom, EntriesKeepRoom};
+ghost use Rattle.flt_model.specs.Laws.{NotedIsNotCleared, FirstIsNotCleared, HoldersHaveEntries, WorstIsUnique, FittingBaseHasRoom, EntriesKeepRoom, SavedStatesFit};
 
 /// The bits of a status byte are read as they were put there.
 pub fn byte_tells_bits()
@@ -61,6 +61,11 @@ pub fn worst_is_unique()
 pub fn entries_keep_room()
     ensures base { FittingBaseHasRoom }
     ensures calls { EntriesKeepRoom }
+{}
+
+/// What is saved fits the configuration again: each saved state can be the one that a later life starts from.
+pub fn saved_states_fit()
+    ensures { SavedStatesFit }
 {}
 
 /// A request is refused with a code exactly where the code's condition holds and no earlier one does.

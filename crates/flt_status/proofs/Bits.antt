@@ -1,18 +1,20 @@
 -- The bits of a byte that is a sum of bits.
-use Rattle.std.proofs.Common.{◌≡◌, ℕ, ◌*◌, ◌^◌, Bool, true, false, not, refl, arith}
-use Rattle.std.proofs.lemmas.Bool.{ne_eqb, eq-eqb}
+use Rattle.std.proofs.Common.{◌≡◌, ◌∙◌, ℕ, ◌*◌, ◌^◌, true, false, not, refl, arith, ⊎_elim}
+use Rattle.std.proofs.lemmas.Bool.{ne_eqb, eq-eqb, cases_eq}
 use Rattle.std.proofs.lemmas.Nat.Bits.{and_pow}
 use Rattle.std.proofs.lemmas.Nat.{pow_pos}
 use Rattle.std.specs.Prelude.{bit_and, nat_eq}
 use Rattle.std.specs.Int.{bit_at}
-use Rattle.flt_model.specs.Byte.{value_of, byte_of}
+use Rattle.flt_model.specs.Byte.{byte_of, status_of, is_bit_set}
 use Rattle.flt_model.specs.declared.status.Status.{Status}
-use Rattle.flt_model.proofs.Common.{value_of-le}
+use Rattle.flt_model.proofs.StatusLaws.{byte_tells_bits}
 
--- the test of one bit, by its value
-test_of_bit : (n k : ℕ) (b : Bool) → bit_at n k ≡ value_of b → not (nat_eq (bit_and n (2 ^ k)) 0) ≡ b
-test_of_bit n k true e = rw (and_pow, e) (rw (ne_eqb (1 * 2 ^ k) 0 (omega (arith, pow_pos k))) refl)
-test_of_bit n k false e = rw (and_pow, e) (rw (eq-eqb (0 * 2 ^ k) 0 (omega arith)) refl)
+-- a bit is tested by the byte that has it alone
+test_of_bit : (n k : ℕ) → not (nat_eq (bit_and n (2 ^ k)) 0) ≡ is_bit_set n k
+test_of_bit n k =
+    ⊎_elim (λ one. rw (and_pow, one) (rw (ne_eqb (1 * 2 ^ k) 0 (omega (arith, pow_pos k))) refl))
+    (λ ne. let zero : bit_at n k ≡ 0 = omega arith in rw (and_pow, zero) (rw (eq-eqb (0 * 2 ^ k) 0 (omega arith)) refl))
+    (cases_eq (bit_at n k) 1)
 
 -- the tests of the bits of a byte
 abbrev pub tests_of : ℕ → Status
@@ -27,22 +29,26 @@ tests_of n = record {
   indicator_requested = not (nat_eq (bit_and n 128) 0);
 }
 
+tests_are : (n : ℕ) → tests_of n ≡ status_of n
+tests_are n =
+    let t0 = test_of_bit n 0 in
+    let t1 = test_of_bit n 1 in
+    let t2 = test_of_bit n 2 in
+    let t3 = test_of_bit n 3 in
+    let t4 = test_of_bit n 4 in
+    let t5 = test_of_bit n 5 in
+    let t6 = test_of_bit n 6 in
+    let t7 = test_of_bit n 7 in
+    λ i. record {
+      test_failed = t0 i;
+      failed_this_cycle = t1 i;
+      pending = t2 i;
+      confirmed = t3 i;
+      not_completed_since_clear = t4 i;
+      failed_since_clear = t5 i;
+      not_completed_this_cycle = t6 i;
+      indicator_requested = t7 i;
+    }
+
 pub tests_of_byte : (s : Status) → tests_of (byte_of s) ≡ s
-tests_of_byte s =
-    let b0 = value_of-le s.test_failed in
-    let b1 = value_of-le s.failed_this_cycle in
-    let b2 = value_of-le s.pending in
-    let b3 = value_of-le s.confirmed in
-    let b4 = value_of-le s.not_completed_since_clear in
-    let b5 = value_of-le s.failed_since_clear in
-    let b6 = value_of-le s.not_completed_this_cycle in
-    let b7 = value_of-le s.indicator_requested in
-    let t0 = test_of_bit (byte_of s) 0 s.test_failed (omega arith) in
-    let t1 = test_of_bit (byte_of s) 1 s.failed_this_cycle (omega arith) in
-    let t2 = test_of_bit (byte_of s) 2 s.pending (omega arith) in
-    let t3 = test_of_bit (byte_of s) 3 s.confirmed (omega arith) in
-    let t4 = test_of_bit (byte_of s) 4 s.not_completed_since_clear (omega arith) in
-    let t5 = test_of_bit (byte_of s) 5 s.failed_since_clear (omega arith) in
-    let t6 = test_of_bit (byte_of s) 6 s.not_completed_this_cycle (omega arith) in
-    let t7 = test_of_bit (byte_of s) 7 s.indicator_requested (omega arith) in
-    rw (t0, t1, t2, t3, t4, t5, t6, t7) refl
+tests_of_byte s = tests_are (byte_of s) ∙ byte_tells_bits s

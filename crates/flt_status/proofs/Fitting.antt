@@ -1,6 +1,6 @@
 -- A state that fits stands for itself.
 use Rattle.std.proofs.Common.{◌≡◌, ◌∙◌, ℕ, ◌<◌, ◌^◌, ◌*◌, min, nat_eq, nat_lt, Bool, true, false, ◌&&◌, inl, inr, refl, sym, ap, arith, ⊎_elim, eq-eqb, eqb-true}
-use Rattle.std.proofs.lemmas.Bool.{cases_eq, cases_Bool, ne_eqb, lt-ltb, ltb-true, false_from_ne_true}
+use Rattle.std.proofs.lemmas.Bool.{and_parts, cases_eq, cases_Bool, ne_eqb, lt-ltb, ltb-true, false_from_ne_true}
 use Rattle.std.proofs.lemmas.Nat.{pow_pos}
 use Rattle.std.proofs.lemmas.Nat.Bits.{and_pow}
 use Rattle.std.specs.Int.{bit_at}
@@ -9,6 +9,7 @@ use Rattle.flt_config.specs.declared.config.EventCfg.{EventCfg}
 use Rattle.flt_config.specs.declared.persist.EventState.{EventState}
 use Rattle.flt_config.specs.Durable.{IsStateOf}
 use Rattle.flt_model.specs.Byte.{value_of, byte_of, status_of, is_bit_set}
+use Rattle.flt_model.proofs.Common.{bit_is_set, set_bit_is}
 use Rattle.flt_status.specs.Standing.{FittingStateLaw}
 
 bit_value : (x : ℕ) → x < 2 → value_of (nat_eq x 1) ≡ x
@@ -21,28 +22,13 @@ byte_again : (byte : ℕ) → byte < 256 → byte_of (status_of byte) ≡ byte
 byte_again byte h =
     omega (arith, bit_of byte 0, bit_of byte 1, bit_of byte 2, bit_of byte 3, bit_of byte 4, bit_of byte 5, bit_of byte 6, bit_of byte 7)
 
--- the test of a bit, as a fact
-bit_is_set : (byte k : ℕ) → is_bit_set byte k ≡ true → IsBitSet byte k
-bit_is_set byte k e = rw (and_pow byte k, eqb-true (bit_at byte k) 1 e) (λ zero. omega (arith, pow_pos k, zero))
-
-set_bit_is : (byte k : ℕ) → IsBitSet byte k → is_bit_set byte k ≡ true
-set_bit_is byte k set =
-    ⊎_elim (λ e. eq-eqb (bit_at byte k) 1 e)
-    (λ ne. let zero : bit_at byte k ≡ 0 = omega arith in absurd (set (and_pow byte k ∙ ap (λ b. b * 2 ^ k) zero ∙ omega arith)))
-    (cases_eq (bit_at byte k) 1)
-
-both : (a b : Bool) → (a && b) ≡ true → (a ≡ true) × (b ≡ true)
-both true true e = (refl, refl)
-both true false e = absurd (cc)
-both false b e = absurd (cc)
-
 requested : (rules : EventCfg) (state : EventState) → IsStateOf rules state → is_bit_set state.status 7 ≡ (state.lit && nat_lt state.clean rules.heal)
 requested rules state fits =
     elim (cases_Bool (is_bit_set state.status 7)) [
       | inl set ↦ let parts = fits.warning.0 (bit_is_set state.status 7 set) in
           set ∙ sym (ap (λ b. b && nat_lt state.clean rules.heal) parts.0 ∙ lt-ltb state.clean rules.heal parts.1)
       | inr clear ↦ clear ∙ sym (false_from_ne_true (state.lit && nat_lt state.clean rules.heal) (λ e.
-          let parts = both state.lit (nat_lt state.clean rules.heal) e in
+          let parts = and_parts state.lit (nat_lt state.clean rules.heal) e in
           let set = set_bit_is state.status 7 (fits.warning.1 (parts.0, ltb-true state.clean rules.heal parts.1)) in
           absurd (cc)))
     ]

@@ -14,7 +14,7 @@ use Rattle.flt_model.specs.Trace.{trace, with_clear, in_order, event_part, with_
 use Rattle.flt_model.specs.declared.call.Op.{Op}
 use Rattle.flt_model.specs.declared.call.Qualified.{Qualified}
 use Rattle.flt_model.specs.declared.call.Qualified.TheVariants as results
-use Rattle.flt_lives.proofs.EntryFits.{AreNarrow, IsNotAdded, still, own_frame}
+use Rattle.flt_model.proofs.EntryFits.{AreNarrow, IsNotAdded, still, own_frame}
 
 module _ (life : Life) (narrow : (event : ℕ) → AreNarrow (event_of life event).dids.items) where
   -- the recent frame of an event has its width

@@ -14,17 +14,9 @@ use Rattle.flt_model.specs.Mark.{Past}
 use Rattle.flt_model.specs.Mark.Mark.{Failed, Passed, Cycle, Clear, Aged, Displaced, Added, Refused}
 use Rattle.flt_model.specs.Status.{confirmed, lit, clean_count, status, durable}
 use Rattle.flt_model.proofs.StatusLaws.{indicator_is_lit, lit_is_confirmed}
-use Rattle.flt_model.proofs.Common.{value_of-le}
+use Rattle.flt_model.proofs.Common.{value_of-le, bit_is_set, set_bit_is}
 
-bit_is_set : (byte k : ℕ) → is_bit_set byte k ≡ true → IsBitSet byte k
-bit_is_set byte k e = rw (and_pow byte k, eqb-true (bit_at byte k) 1 e) (λ zero. omega (arith, pow_pos k, zero))
-
-set_bit_is : (byte k : ℕ) → IsBitSet byte k → is_bit_set byte k ≡ true
-set_bit_is byte k set =
-    ⊎_elim (λ e. eq-eqb (bit_at byte k) 1 e)
-    (λ ne. let zero : bit_at byte k ≡ 0 = omega arith in absurd (set (and_pow byte k ∙ ap (λ b. b * 2 ^ k) zero ∙ omega arith)))
-    (cases_eq (bit_at byte k) 1)
-
+-- the byte is one byte
 byte_small : (s : Status) → byte_of s ≤ 255
 byte_small s =
     let b0 = value_of-le s.test_failed in
@@ -38,6 +30,7 @@ byte_small s =
     omega arith
 
 module _ (rules : EventCfg) (base : EventState) (fits : IsStateOf rules base) where
+  -- an event that is lit has an indicator
   lit_indicated : (past : Past) → lit base rules past ≡ true → rules.indicator ≡ true
   lit_indicated [] on = (fits.lit on).1
   lit_indicated (Failed ∷ past) on = (and_parts rules.indicator (confirmed base rules (Failed ∷ past)) on).0

@@ -18,37 +18,15 @@ use Rattle.flt_model.specs.Noted.{Notable, is_entering as is_entering_event, is_
 use Rattle.flt_model.specs.Entry.{holders, has_entry, is_other, entry_of, base_entry, base_occurrence, is_entering}
 use Rattle.flt_model.specs.Trace.{trace}
 use Rattle.flt_model.specs.Durable.{below, state_at, saved}
-use Rattle.flt_model.specs.Laws.{Distinct}
-use Rattle.flt_model.proofs.ClearLaws.{TraceBelow, trace_below}
+use Rattle.flt_model.specs.Laws.{Distinct, SavedStatesFit}
+use Rattle.flt_model.proofs.ClearLaws.{TraceBelow, trace_below, NoteWithin, within_at, holders_within, base_noted, recent_within, first_within}
+use Rattle.flt_model.proofs.Common.{length_below, at_below}
 use Rattle.flt_model.proofs.EntryLaws.{holders_have_entries}
-use Rattle.flt_model.proofs.EntryLemmas.{among_at}
+use Rattle.flt_model.proofs.EntryLemmas.{among_at, places_differ}
 use Rattle.flt_model.proofs.RoomLaws.{entries_keep_room, fitting_base_has_room}
-use Rattle.flt_lives.proofs.EventFits.{event_fits}
-use Rattle.flt_lives.proofs.EntryFits.{AreNarrow, IsOwn, found, counted, first_wide}
-use Rattle.flt_lives.proofs.RecentFits.{AreFramed, frames_stay}
-
--- ---- lists
-
-length_below : (n : ℕ) → length (below n) ≡ n
-length_below zero = refl
-length_below (suc n) = let before = length_below n in let more = length-append (below n) (n ∷ []) in omega (arith, before, more)
-
-at_below : (n k d : ℕ) → k < n → get_or (below n) k d ≡ k
-at_below zero k d h = absurd (omega (arith, h))
-at_below (suc n) k d h =
-    ⊎_elim
-    (λ same. rw same (get_or_push (below n) n d n (length_below n)))
-    (λ ne.
-    let within : k < length (below n) = let size = length_below n in omega (arith, h, ne, size) in
-    get_or_append_left (below n) (n ∷ []) d k within ∙ at_below n k d (omega (arith, h, ne)))
-    (cases_eq k n)
-
-places_differ : (events : List ℕ) → Distinct events → (i j : ℕ) → i < j → j < length events → get_or events i 0 ≢ get_or events j 0
-places_differ [] distinct i j less within = absurd (omega (arith, within))
-places_differ (event ∷ events) distinct i zero less within = absurd (omega (arith, less))
-places_differ (event ∷ events) distinct zero (suc j) less within =
-    λ same. (let among = among_at events j (omega (arith, within)) in let none = distinct.0 in absurd (cc (same, among, none)))
-places_differ (event ∷ events) distinct (suc i) (suc j) less within = places_differ events distinct.1 i j (omega (arith, less)) (omega (arith, within))
+use Rattle.flt_model.proofs.EventFits.{event_fits}
+use Rattle.flt_model.proofs.EntryFits.{AreNarrow, IsOwn, found, counted, first_wide}
+use Rattle.flt_model.proofs.RecentFits.{AreFramed, frames_stay}
 
 narrow_at : (events : List EventCfg) → All IsEventInRange events → (k : ℕ) → AreNarrow (unwrap_or (slice_get events k) no_event).dids.items
 narrow_at [] all k = All-nil _
@@ -56,48 +34,9 @@ narrow_at (event ∷ events) all zero =
     All-weaker (λ did. IsFromTo 1 8 did.width) (λ did. did.width ≤ 8) (λ did is. is.1) event.dids.items (All-head IsEventInRange event events all).did_widths
 narrow_at (event ∷ events) all (suc k) = narrow_at events (All-tail IsEventInRange event events all) k
 
--- ---- notes
-
-abbrev IsBelow : ℕ → Option ℕ → Type 0
-IsBelow n note = IfSome note (λ event. event < n)
-
-note_without : (n event : ℕ) (note : Option ℕ) → IsBelow n note → IsBelow n (without event note)
-note_without n event None is = tt
-note_without n event (Some other) is = elim (cases_Bool (nat_eq other event)) [ inl same ↦ rw same tt | inr apart ↦ rw apart is ]
-
-recent_noted : (n : ℕ) (notable : Bool) (event : ℕ) (note : Option ℕ) → event < n → IsBelow n note → IsBelow n (recent_after notable event note)
-recent_noted n true event note less is = less
-recent_noted n false event note less is = is
-
-first_noted : (n : ℕ) (notable : Bool) (event : ℕ) (note : Option ℕ) → event < n → IsBelow n note → IsBelow n (first_after notable event note)
-first_noted n true event None less is = less
-first_noted n true event (Some other) less is = is
-first_noted n false event note less is = is
-
-module _ (n : ℕ) (notable : Notable) (base : Option ℕ) (noted : IsBelow n base) where
-  recent_below : (marks : Trace) → TraceBelow n marks → IsBelow n (recent notable base marks)
-  recent_below [] b = noted
-  recent_below (AllCleared ∷ marks) b = recent_below marks b
-  recent_below (Of event Failed sent ∷ marks) b = recent_noted n (notable event marks) event (recent notable base marks) b.0 (recent_below marks b.1)
-  recent_below (Of event Clear sent ∷ marks) b = note_without n event (recent notable base marks) (recent_below marks b.1)
-  recent_below (Of event Passed sent ∷ marks) b = recent_below marks b.1
-  recent_below (Of event Cycle sent ∷ marks) b = recent_below marks b.1
-  recent_below (Of event Aged sent ∷ marks) b = recent_below marks b.1
-  recent_below (Of event Displaced sent ∷ marks) b = recent_below marks b.1
-  recent_below (Of event Added sent ∷ marks) b = recent_below marks b.1
-  recent_below (Of event Refused sent ∷ marks) b = recent_below marks b.1
-
-  first_below : (marks : Trace) → TraceBelow n marks → IsBelow n (first notable base marks)
-  first_below [] b = noted
-  first_below (AllCleared ∷ marks) b = first_below marks b
-  first_below (Of event Failed sent ∷ marks) b = first_noted n (notable event marks) event (first notable base marks) b.0 (first_below marks b.1)
-  first_below (Of event Clear sent ∷ marks) b = note_without n event (first notable base marks) (first_below marks b.1)
-  first_below (Of event Passed sent ∷ marks) b = first_below marks b.1
-  first_below (Of event Cycle sent ∷ marks) b = first_below marks b.1
-  first_below (Of event Aged sent ∷ marks) b = first_below marks b.1
-  first_below (Of event Displaced sent ∷ marks) b = first_below marks b.1
-  first_below (Of event Added sent ∷ marks) b = first_below marks b.1
-  first_below (Of event Refused sent ∷ marks) b = first_below marks b.1
+noted_within : (n : ℕ) (note : Option ℕ) → NoteWithin 0 n note → IfSome note (λ event. event < n)
+noted_within n None within = tt
+noted_within n (Some event) within = within.1
 
 -- ---- what the base's entry says of an event
 
@@ -134,20 +73,6 @@ module _ (life : Life) (valid : IsValid life.config) (fits : Fits life.config li
   framed_base : AreFramed life narrow []
   framed_base event held = recent_of life.config.events.items event (base_entry life event) (owned event) held ∙ width_is event
 
-  holders_below : (marks : Trace) → TraceBelow (count life) marks → All (λ event. event < count life) (holders life marks)
-  holders_below [] b =
-      All-map (λ event. event < count life) (λ (entry : EntryState). entry.event) life.base.entries.items
-      (All-weaker (IsEntryOf life.config.events.items) (λ entry. entry.event < count life) (λ entry is. is.event) life.base.entries.items fits.entries)
-  holders_below (AllCleared ∷ marks) b = holders_below marks b
-  holders_below (Of event Added sent ∷ marks) b = All-push (λ e. e < count life) (holders life marks) event (holders_below marks b.1) b.0
-  holders_below (Of event Aged sent ∷ marks) b = All-filter (is_other event) (λ e. e < count life) (holders life marks) (holders_below marks b.1)
-  holders_below (Of event Displaced sent ∷ marks) b = All-filter (is_other event) (λ e. e < count life) (holders life marks) (holders_below marks b.1)
-  holders_below (Of event Clear sent ∷ marks) b = All-filter (is_other event) (λ e. e < count life) (holders life marks) (holders_below marks b.1)
-  holders_below (Of event Failed sent ∷ marks) b = holders_below marks b.1
-  holders_below (Of event Passed sent ∷ marks) b = holders_below marks b.1
-  holders_below (Of event Cycle sent ∷ marks) b = holders_below marks b.1
-  holders_below (Of event Refused sent ∷ marks) b = holders_below marks b.1
-
   other_width : (event : ℕ) (d : EventCfg) → event < count life → frame_width (event_of life event).dids.items ≡ frame_width (get_or life.config.events.items event d).dids.items
   other_width event d within = ap (λ (r : EventCfg). frame_width r.dids.items) (rules_are event ∙ get_or_default life.config.events.items event no_event d within)
 
@@ -169,7 +94,7 @@ module _ (life : Life) (valid : IsValid life.config) (fits : Fits life.config li
       All-map (IsEntryOf life.config.events.items) (λ event. entry_of life event marks) (holders life marks)
       (All-from_get_or (λ event. IsEntryOf life.config.events.items (entry_of life event marks)) (holders life marks) 0 (λ place within.
       (let event = get_or (holders life marks) place 0 in
-      let less = All-get_or (λ e. e < count life) (holders life marks) place 0 within (holders_below marks b) in
+      let less = within_at 0 (count life) (holders life marks) place (holders_within life fits marks b) within in
       entry_is marks event framed less (sym (holders_have_entries life marks event) ∙ among_at (holders life marks) place within))))
 
   apart : (marks : Trace) → Distinct (holders life marks) → AllPairs IsOfOtherEvent (map (λ event. entry_of life event marks) (holders life marks))
@@ -202,7 +127,17 @@ module _ (life : Life) (valid : IsValid life.config) (fits : Fits life.config li
         (subst (λ (r : EventCfg). IsStateOf r (state_at life marks k)) rules (state_is marks k within)));
   }
 
-  pub saved_fits : (past : History) → Fits life.config (saved life (trace life past))
+  first_configured : (marks : Trace) → TraceBelow (count life) marks → (notable : Notable) (base : Option ℕ) → IsNoted life.config.events.items base
+      → IsNoted life.config.events.items (first notable base marks)
+  first_configured marks b notable base noted =
+      noted_within (count life) (first notable base marks) (first_within (count life) notable base (base_noted life.config.events.items base noted) marks b)
+
+  recent_configured : (marks : Trace) → TraceBelow (count life) marks → (notable : Notable) (base : Option ℕ) → IsNoted life.config.events.items base
+      → IsNoted life.config.events.items (recent notable base marks)
+  recent_configured marks b notable base noted =
+      noted_within (count life) (recent notable base marks) (recent_within (count life) notable base (base_noted life.config.events.items base noted) marks b)
+
+  saved_fits : (past : History) → Fits life.config (saved life (trace life past))
   saved_fits past =
       let marks = trace life past in
       let b = trace_below life fits past in
@@ -215,8 +150,11 @@ module _ (life : Life) (valid : IsValid life.config) (fits : Fits life.config li
         room = omega (arith, size, most);
         entries = entries_are marks framed b;
         distinct = apart marks room.distinct;
-        first_failed = first_below (count life) (is_entering_event life) life.base.first_failed fits.first_failed marks b;
-        first_confirmed = first_below (count life) (is_confirming life) life.base.first_confirmed fits.first_confirmed marks b;
-        recent_failed = recent_below (count life) (is_entering_event life) life.base.recent_failed fits.recent_failed marks b;
-        recent_confirmed = recent_below (count life) (is_confirming life) life.base.recent_confirmed fits.recent_confirmed marks b;
+        first_failed = first_configured marks b (is_entering_event life) life.base.first_failed fits.first_failed;
+        first_confirmed = first_configured marks b (is_confirming life) life.base.first_confirmed fits.first_confirmed;
+        recent_failed = recent_configured marks b (is_entering_event life) life.base.recent_failed fits.recent_failed;
+        recent_confirmed = recent_configured marks b (is_confirming life) life.base.recent_confirmed fits.recent_confirmed;
       }
+
+pub saved_states_fit : SavedStatesFit
+saved_states_fit life past valid fits = saved_fits life valid fits past
