@@ -1,5 +1,5 @@
 -- Worked examples of debouncing.
-use Rattle.std.specs.Prelude.{false, [], ◌∷◌, pos, negsuc, None, Some}
+use Rattle.std.specs.Prelude.{true, false, [], ◌∷◌, map, pos, negsuc, None, Some}
 use Rattle.flt_config.specs.declared.config.Debounce.TheVariants as kinds
 use Rattle.flt_model.specs.Life.{fresh}
 use Rattle.flt_model.specs.declared.call.Op.TheVariants.{Tick, Cycle, Show}
@@ -26,7 +26,7 @@ CounterWithJump =
     ∷ Show 0 ⇒ shows 0x2F (pos 101) 1 0 1 false
     ∷ [])
 
--- A counter jumps down before it steps down.
+-- A counter jumps down before it steps down, and does not jump where it is below already.
 abbrev pub CounterJumpsDown : Type 0
 CounterJumpsDown =
     Replays (fresh (configured 16 (record (event 0x000001) { debounce = kinds.Counter (pos 10) (negsuc 9) (pos 3) (pos 2) None (Some (pos 0)) } ∷ [])))
@@ -35,8 +35,21 @@ CounterJumpsDown =
     ∷ Show 0 ⇒ shows 0x2F (pos 127) 1 0 1 false
     ∷ prepass 0 ⇒ Taken
     ∷ Show 0 ⇒ shows 0x2F (minus 25) 1 0 1 false
+    ∷ prepass 0 ⇒ Taken
+    ∷ Show 0 ⇒ shows 0x2F (minus 51) 1 0 1 false
     ∷ prefail 0 ⇒ Taken
-    ∷ Show 0 ⇒ shows 0x2F (pos 12) 1 0 1 false
+    ∷ Show 0 ⇒ shows 0x2F (minus 12) 1 0 1 false
+    ∷ [])
+
+-- Only counters on their way to failed are listed: none at 127, at 0 or below.
+abbrev pub CountersOnTheirWay : Type 0
+CountersOnTheirWay =
+    Replays (fresh (configured 16 (map (λ dtc. record (event dtc) { debounce = kinds.Counter (pos 10) (negsuc 9) (pos 3) (pos 2) None None }) (1 ∷ 2 ∷ 3 ∷ 4 ∷ []))))
+    (Cycle 0 ⇒ Taken
+    ∷ fail 0 ⇒ Taken
+    ∷ prefail 1 ⇒ Taken
+    ∷ prepass 2 ⇒ Taken
+    ∷ asks 0 (0x19 ∷ 0x14 ∷ []) ⇒ responds (0x59 ∷ 0x14 ∷ 0x00 ∷ 0x00 ∷ 0x02 ∷ 0x26 ∷ [])
     ∷ [])
 
 -- A timer qualifies once, and a repeated report does not restart it.
@@ -52,6 +65,52 @@ TimerQualifiesOnce =
     ∷ Show 0 ⇒ shows 0x2F (pos 127) 1 0 1 false
     ∷ Tick 50 ⇒ Taken
     ∷ Show 0 ⇒ shows 0x2F (pos 127) 1 0 1 false
+    ∷ [])
+
+-- A timer that came to its threshold, or beyond, does not qualify again: the event that was displaced stays unconfirmed.
+abbrev pub TimerAtItsThreshold : Type 0
+TimerAtItsThreshold =
+    Replays (fresh (configured 1 (record (event 0x000001) { priority = 5; debounce = kinds.Time 10 5 } ∷ event 0x000002 ∷ [])))
+    (Cycle 0 ⇒ Taken
+    ∷ prefail 0 ⇒ Taken
+    ∷ Tick 12 ⇒ Taken
+    ∷ Show 0 ⇒ shows 0x2F (pos 127) 1 0 1 false
+    ∷ fail 1 ⇒ Taken
+    ∷ Show 0 ⇒ shows 0x27 (pos 127) 1 0 0 true
+    ∷ Tick 1 ⇒ Taken
+    ∷ prefail 0 ⇒ Taken
+    ∷ Tick 20 ⇒ Taken
+    ∷ Show 0 ⇒ shows 0x27 (pos 127) 1 0 0 true
+    ∷ [])
+
+-- A report that needs no debouncing qualifies at once, by time too.
+abbrev pub TimerIsPassedAtOnce : Type 0
+TimerIsPassedAtOnce =
+    Replays (fresh (configured 16 (record (event 0x000001) { debounce = kinds.Time 10 5 } ∷ [])))
+    (Cycle 0 ⇒ Taken
+    ∷ pass 0 ⇒ Taken
+    ∷ Show 0 ⇒ shows 0x00 (minus 128) 0 0 0 false
+    ∷ fail 0 ⇒ Taken
+    ∷ Show 0 ⇒ shows 0x2F (pos 127) 1 0 1 false
+    ∷ pass 0 ⇒ Taken
+    ∷ Show 0 ⇒ shows 0x2E (minus 128) 1 0 1 false
+    ∷ [])
+
+-- The end of a cycle and a clear put a timer at rest.
+abbrev pub RestStopsTimers : Type 0
+RestStopsTimers =
+    Replays (fresh (configured 16 (record (event 0x000001) { debounce = kinds.Time 10 5 } ∷ [])))
+    (Cycle 0 ⇒ Taken
+    ∷ prefail 0 ⇒ Taken
+    ∷ Tick 5 ⇒ Taken
+    ∷ Cycle 0 ⇒ Taken
+    ∷ Tick 10 ⇒ Taken
+    ∷ Show 0 ⇒ shows 0x50 (pos 0) 0 0 0 false
+    ∷ prefail 0 ⇒ Taken
+    ∷ Tick 5 ⇒ Taken
+    ∷ asks 0 (0x14 ∷ 0x00 ∷ 0x00 ∷ 0x01 ∷ []) ⇒ responds (0x54 ∷ [])
+    ∷ Tick 10 ⇒ Taken
+    ∷ Show 0 ⇒ shows 0x50 (pos 0) 0 0 0 false
     ∷ [])
 
 -- A report of the other direction starts a timer anew.
@@ -83,5 +142,21 @@ SettingOffStopsTimers =
     ∷ Show 0 ⇒ shows 0x50 (pos 50) 0 0 0 false
     ∷ asks 0 (0x85 ∷ 0x01 ∷ []) ⇒ responds (0xC5 ∷ 0x01 ∷ [])
     ∷ Tick 6 ⇒ Taken
+    ∷ Show 0 ⇒ shows 0x2F (pos 127) 1 0 1 false
+    ∷ [])
+
+-- Ticks that begin with the setting off do not count, even where they end the session that holds it off.
+abbrev pub SilentTicksDoNotCount : Type 0
+SilentTicksDoNotCount =
+    Replays (fresh (configured 16 (record (event 0x000001) { debounce = kinds.Time 10 5 } ∷ [])))
+    (Cycle 0 ⇒ Taken
+    ∷ prefail 0 ⇒ Taken
+    ∷ asks 0 (0x10 ∷ 0x03 ∷ []) ⇒ extended
+    ∷ asks 0 (0x85 ∷ 0x02 ∷ []) ⇒ responds (0xC5 ∷ 0x02 ∷ [])
+    ∷ Tick 500 ⇒ Taken
+    ∷ Show 0 ⇒ shows 0x50 (pos 0) 0 0 0 false
+    ∷ Tick 9 ⇒ Taken
+    ∷ Show 0 ⇒ shows 0x50 (pos 114) 0 0 0 false
+    ∷ Tick 1 ⇒ Taken
     ∷ Show 0 ⇒ shows 0x2F (pos 127) 1 0 1 false
     ∷ [])

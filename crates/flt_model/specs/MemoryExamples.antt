@@ -1,13 +1,14 @@
 -- Worked examples of entries, frames and noted events.
 use Rattle.std.specs.Prelude.{◌≡◌, ℕ, ◌+◌, ◌++◌, map, reverse, replicate, true, false, List, [], ◌∷◌, pos}
 use Rattle.flt_config.specs.declared.config.EventCfg.{EventCfg}
+use Rattle.flt_config.specs.declared.config.Debounce.TheVariants as kinds
 use Rattle.flt_model.specs.Answer.{answers}
 use Rattle.flt_model.specs.Life.{History, fresh}
 use Rattle.flt_model.specs.Durable.{below}
-use Rattle.flt_model.specs.declared.call.Op.TheVariants.{Signal, Cycle, Show}
+use Rattle.flt_model.specs.declared.call.Op.TheVariants.{Signal, Tick, Cycle, Show}
 use Rattle.flt_model.specs.declared.call.Reply.TheVariants.{Taken, Ignored}
 use Rattle.flt_model.specs.declared.call.Cause.TheVariants.{NotStarted}
-use Rattle.flt_model.specs.Example.{event, configured, restarted, ◌⇒◌, Replays, fail, pass, asks, responds, minus, shows}
+use Rattle.flt_model.specs.Example.{event, configured, restarted, ◌⇒◌, Replays, fail, pass, prefail, asks, responds, minus, shows}
 
 -- A full memory keeps active entries and gives up a passive one.
 abbrev pub PassiveGivesWay : Type 0
@@ -80,6 +81,32 @@ NotedEvents =
     ∷ asks 0 (0x19 ∷ 0x0B ∷ []) ⇒ responds (0x59 ∷ 0x0B ∷ 0xFF ∷ 0x00 ∷ 0x00 ∷ 0x02 ∷ 0x27 ∷ [])
     ∷ [])
 
+-- The most recent events stay where another event is cleared.
+abbrev pub ClearOfAnotherEvent : Type 0
+ClearOfAnotherEvent =
+    Replays (fresh (configured 16 (event 0x000001 ∷ event 0x000002 ∷ [])))
+    (Cycle 0 ⇒ Taken
+    ∷ fail 0 ⇒ Taken
+    ∷ fail 1 ⇒ Taken
+    ∷ asks 0 (0x14 ∷ 0x00 ∷ 0x00 ∷ 0x01 ∷ []) ⇒ responds (0x54 ∷ [])
+    ∷ asks 0 (0x19 ∷ 0x0B ∷ []) ⇒ responds (0x59 ∷ 0x0B ∷ 0xFF ∷ [])
+    ∷ asks 0 (0x19 ∷ 0x0C ∷ []) ⇒ responds (0x59 ∷ 0x0C ∷ 0xFF ∷ [])
+    ∷ asks 0 (0x19 ∷ 0x0D ∷ []) ⇒ responds (0x59 ∷ 0x0D ∷ 0xFF ∷ 0x00 ∷ 0x00 ∷ 0x02 ∷ 0x2F ∷ [])
+    ∷ asks 0 (0x19 ∷ 0x0E ∷ []) ⇒ responds (0x59 ∷ 0x0E ∷ 0xFF ∷ 0x00 ∷ 0x00 ∷ 0x02 ∷ 0x2F ∷ [])
+    ∷ [])
+
+-- Two timers that come due in one tick, with room for one entry: the event of the smaller number gets it.
+abbrev pub TimersComeDueInOrder : Type 0
+TimersComeDueInOrder =
+    Replays (fresh (configured 1 (map (λ dtc. record (event dtc) { debounce = kinds.Time 10 5 }) (1 ∷ 2 ∷ []))))
+    (Cycle 0 ⇒ Taken
+    ∷ prefail 1 ⇒ Taken
+    ∷ prefail 0 ⇒ Taken
+    ∷ Tick 10 ⇒ Taken
+    ∷ Show 0 ⇒ shows 0x2F (pos 127) 1 0 1 true
+    ∷ Show 1 ⇒ shows 0x2F (pos 127) 1 0 0 true
+    ∷ [])
+
 -- The frames and extended data of an entry.
 abbrev pub Snapshots : Type 0
 Snapshots =
@@ -114,6 +141,20 @@ FrameOfIdentifiers =
     ∷ Cycle 0 ⇒ Taken
     ∷ fail 0 ⇒ Taken
     ∷ asks 0 (0x19 ∷ 0x04 ∷ 0x12 ∷ 0x34 ∷ 0x56 ∷ 0x01 ∷ []) ⇒ responds (0x59 ∷ 0x04 ∷ 0x12 ∷ 0x34 ∷ 0x56 ∷ 0x2F ∷ 0x01 ∷ 0x06 ∷ 0x01 ∷ 0x02 ∷ 0x00 ∷ 0x02 ∷ 0x01 ∷ 0x03 ∷ 0xFF ∷ 0x01 ∷ 0x04 ∷ 0x00 ∷ 0x04 ∷ 0x00 ∷ 0x05 ∷ 0x01 ∷ 0x05 ∷ 0x7F ∷ 0x01 ∷ 0x06 ∷ 0xFF ∷ 0xFF ∷ 0x01 ∷ 0x07 ∷ 0x00 ∷ 0x01 ∷ 0x00 ∷ 0x02 ∷ 0x01 ∷ 0x2C ∷ 0x00 ∷ 0x04 ∷ [])
+    ∷ [])
+
+-- The entries, the noted events and the overflow flag go on in the next life.
+abbrev pub SavedMemoryGoesOn : Type 0
+SavedMemoryGoesOn =
+    Replays (restarted (fresh (configured 2 (record (event 0x000001) { dids = record { items = record { id = 0x0101; width = 2 } ∷ [] } } ∷ event 0x000002 ∷ record (event 0x000003) { confirm = 2 } ∷ record (event 0x000004) { confirm = 2 } ∷ [])))
+    (fail 3 ∷ fail 1 ∷ fail 0 ∷ pass 0 ∷ Signal 0 3 ∷ fail 0 ∷ fail 2 ∷ Cycle 0 ∷ Signal 0 258 ∷ []))
+    (asks 0 (0x19 ∷ 0x04 ∷ 0x00 ∷ 0x00 ∷ 0x01 ∷ 0xFF ∷ []) ⇒ responds (0x59 ∷ 0x04 ∷ 0x00 ∷ 0x00 ∷ 0x01 ∷ 0x2F ∷ 0x01 ∷ 0x01 ∷ 0x01 ∷ 0x01 ∷ 0x01 ∷ 0x02 ∷ 0x02 ∷ 0x01 ∷ 0x01 ∷ 0x01 ∷ 0x00 ∷ 0x03 ∷ [])
+    ∷ asks 0 (0x19 ∷ 0x06 ∷ 0x00 ∷ 0x00 ∷ 0x01 ∷ 0x01 ∷ []) ⇒ responds (0x59 ∷ 0x06 ∷ 0x00 ∷ 0x00 ∷ 0x01 ∷ 0x2F ∷ 0x01 ∷ 0x02 ∷ [])
+    ∷ asks 0 (0x19 ∷ 0x0B ∷ []) ⇒ responds (0x59 ∷ 0x0B ∷ 0xFF ∷ 0x00 ∷ 0x00 ∷ 0x03 ∷ 0x27 ∷ [])
+    ∷ asks 0 (0x19 ∷ 0x0C ∷ []) ⇒ responds (0x59 ∷ 0x0C ∷ 0xFF ∷ 0x00 ∷ 0x00 ∷ 0x01 ∷ 0x2F ∷ [])
+    ∷ asks 0 (0x19 ∷ 0x0D ∷ []) ⇒ responds (0x59 ∷ 0x0D ∷ 0xFF ∷ 0x00 ∷ 0x00 ∷ 0x04 ∷ 0x27 ∷ [])
+    ∷ asks 0 (0x19 ∷ 0x0E ∷ []) ⇒ responds (0x59 ∷ 0x0E ∷ 0xFF ∷ 0x00 ∷ 0x00 ∷ 0x02 ∷ 0x2F ∷ [])
+    ∷ Show 1 ⇒ shows 0x2F (pos 0) 1 0 0 true
     ∷ [])
 
 -- Events with the DTCs 0x010000, 0x010001 and so on, of one priority.

@@ -63,6 +63,56 @@ RepeatedSessionKeepsTheHold =
     ∷ fail 0 ⇒ Taken
     ∷ [])
 
+-- The requests of another tester leave a tester's silence.
+abbrev pub OthersDoNotBreakSilence : Type 0
+OthersDoNotBreakSilence =
+    Replays (fresh (configured 16 (event 0x000001 ∷ [])))
+    (Cycle 0 ⇒ Taken
+    ∷ asks 0 (0x10 ∷ 0x03 ∷ []) ⇒ extended
+    ∷ asks 0 (0x85 ∷ 0x02 ∷ []) ⇒ responds (0xC5 ∷ 0x02 ∷ [])
+    ∷ Tick 300 ⇒ Taken
+    ∷ asks 1 (0x3E ∷ 0x00 ∷ []) ⇒ responds (0x7E ∷ 0x00 ∷ [])
+    ∷ Tick 199 ⇒ Taken
+    ∷ fail 0 ⇒ Ignored SettingOff
+    ∷ Tick 1 ⇒ Taken
+    ∷ fail 0 ⇒ Taken
+    ∷ [])
+
+-- A request that is refused is heard: the silent time begins anew.
+abbrev pub RefusedRequestIsHeard : Type 0
+RefusedRequestIsHeard =
+    Replays (fresh (configured 16 (event 0x000001 ∷ [])))
+    (Cycle 0 ⇒ Taken
+    ∷ asks 0 (0x10 ∷ 0x03 ∷ []) ⇒ extended
+    ∷ asks 0 (0x85 ∷ 0x02 ∷ []) ⇒ responds (0xC5 ∷ 0x02 ∷ [])
+    ∷ Tick 300 ⇒ Taken
+    ∷ asks 0 (0x22 ∷ 0xF1 ∷ 0x90 ∷ []) ⇒ responds (0x7F ∷ 0x22 ∷ 0x11 ∷ [])
+    ∷ Tick 300 ⇒ Taken
+    ∷ fail 0 ⇒ Ignored SettingOff
+    ∷ Tick 200 ⇒ Taken
+    ∷ fail 0 ⇒ Taken
+    ∷ [])
+
+-- Each of the four testers may hold the setting off, and asks anew for the session that it is in without giving the hold up.
+abbrev pub LastTestersHold : Type 0
+LastTestersHold =
+    Replays (fresh (configured 16 (event 0x000001 ∷ [])))
+    (Cycle 0 ⇒ Taken
+    ∷ asks 2 (0x10 ∷ 0x03 ∷ []) ⇒ extended
+    ∷ asks 2 (0x85 ∷ 0x02 ∷ []) ⇒ responds (0xC5 ∷ 0x02 ∷ [])
+    ∷ fail 0 ⇒ Ignored SettingOff
+    ∷ asks 3 (0x10 ∷ 0x03 ∷ []) ⇒ extended
+    ∷ asks 3 (0x85 ∷ 0x02 ∷ []) ⇒ responds (0xC5 ∷ 0x02 ∷ [])
+    ∷ asks 2 (0x10 ∷ 0x01 ∷ []) ⇒ default_session
+    ∷ fail 0 ⇒ Ignored SettingOff
+    ∷ Tick 499 ⇒ Taken
+    ∷ asks 3 (0x10 ∷ 0x03 ∷ []) ⇒ extended
+    ∷ Tick 499 ⇒ Taken
+    ∷ fail 0 ⇒ Ignored SettingOff
+    ∷ asks 3 (0x85 ∷ 0x01 ∷ []) ⇒ responds (0xC5 ∷ 0x01 ∷ [])
+    ∷ fail 0 ⇒ Taken
+    ∷ [])
+
 -- Requests that are refused, each with the first code whose condition holds.
 abbrev pub NegativeCodes : Type 0
 NegativeCodes =

@@ -1,6 +1,7 @@
 -- Worked examples of status bits, counts, healing and aging.
-use Rattle.std.specs.Prelude.{true, false, [], ◌∷◌, pos}
-use Rattle.flt_model.specs.Life.{fresh}
+use Rattle.std.specs.Prelude.{ℕ, true, false, [], ◌∷◌, pos}
+use Rattle.flt_config.specs.Durable.{initial_state}
+use Rattle.flt_model.specs.Life.{Life, fresh}
 use Rattle.flt_model.specs.declared.call.Op.TheVariants.{Cycle, Show}
 use Rattle.flt_model.specs.declared.call.Reply.TheVariants.{Taken, Ignored}
 use Rattle.flt_model.specs.declared.call.Cause.TheVariants.{SettingOff, NotStarted}
@@ -126,4 +127,48 @@ NextLife =
     ∷ Cycle 0 ⇒ Taken
     ∷ fail 0 ⇒ Taken
     ∷ Show 0 ⇒ shows 0x2F (pos 127) 2 0 1 false
+    ∷ [])
+
+-- A confirmed event that is lit, with an entry, as it was saved: its status, its counts and the occurrences of its entry.
+abbrev pub saved_once : ℕ → ℕ → ℕ → ℕ → Life
+saved_once status failed clean occurrence = record {
+  config = configured 16 (record (event 0x123456) { indicator = true; heal = 255; age = 255 } ∷ []);
+  base = record (initial_state (configured 16 (event 0x123456 ∷ []))) {
+    events = record { items = record { status = status; failed = failed; clean = clean; lit = true } ∷ [] };
+    entries = record { items = record { event = 0; occurrence = occurrence; first = record { items = [] }; recent = record { items = [] } } ∷ [] };
+  };
+}
+
+-- The failed count and the occurrences stop at 255.
+abbrev pub FailuresStopAtMost : Type 0
+FailuresStopAtMost =
+    Replays (saved_once 0xAF 254 0 254)
+    (Cycle 0 ⇒ Taken
+    ∷ fail 0 ⇒ Taken
+    ∷ Show 0 ⇒ shows 0xAF (pos 127) 255 0 254 false
+    ∷ Cycle 0 ⇒ Taken
+    ∷ pass 0 ⇒ Taken
+    ∷ fail 0 ⇒ Taken
+    ∷ Show 0 ⇒ shows 0xAF (pos 127) 255 0 255 false
+    ∷ Cycle 0 ⇒ Taken
+    ∷ pass 0 ⇒ Taken
+    ∷ fail 0 ⇒ Taken
+    ∷ Show 0 ⇒ shows 0xAF (pos 127) 255 0 255 false
+    ∷ [])
+
+-- The clean count is told to a tester up to 255, ages the event at 510, which is the most that heal and age come to, and stops there.
+abbrev pub CleanCyclesStopAtMost : Type 0
+CleanCyclesStopAtMost =
+    Replays (saved_once 0x68 0 508 1)
+    (Cycle 0 ⇒ Taken
+    ∷ pass 0 ⇒ Taken
+    ∷ Cycle 0 ⇒ Taken
+    ∷ asks 0 (0x19 ∷ 0x06 ∷ 0x12 ∷ 0x34 ∷ 0x56 ∷ 0x02 ∷ []) ⇒ responds (0x59 ∷ 0x06 ∷ 0x12 ∷ 0x34 ∷ 0x56 ∷ 0x68 ∷ 0x02 ∷ 0xFF ∷ [])
+    ∷ Show 0 ⇒ shows 0x68 (pos 0) 0 509 1 false
+    ∷ pass 0 ⇒ Taken
+    ∷ Cycle 0 ⇒ Taken
+    ∷ Show 0 ⇒ shows 0x60 (pos 0) 0 510 0 false
+    ∷ pass 0 ⇒ Taken
+    ∷ Cycle 0 ⇒ Taken
+    ∷ Show 0 ⇒ shows 0x60 (pos 0) 0 510 0 false
     ∷ [])
