@@ -12,7 +12,7 @@ use Rattle.flt_model.specs.Response.{is_of_dtc}
 use Rattle.flt_model.specs.declared.call.Op.TheVariants as ops
 use Rattle.flt_model.specs.declared.request.Request.{Request}
 use Rattle.flt_model.specs.declared.request.Request.TheVariants as requests
-use Rattle.flt_dem.specs.Calls.{RequestBytes}
+use Rattle.flt_model.specs.Request.{RequestBytes}
 use Rattle.flt_dem.specs.Laws.{ClearsNothing}
 use Rattle.flt_dem.specs.Manager.{Manager, StandsFor}
 use Rattle.flt_dem.specs.View.{rules_of, event_seen, view_of}

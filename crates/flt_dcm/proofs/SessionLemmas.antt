@@ -14,7 +14,7 @@ use Rattle.flt_model.specs.declared.request.Negative.{Negative}
 use Rattle.flt_model.specs.declared.request.Request.{Request}
 use Rattle.flt_model.specs.declared.request.Request.TheVariants as requests
 use Rattle.flt_model.proofs.Common.{slice_get-set_same, slice_get-set_other}
-use Rattle.flt_dem.specs.Calls.{RequestBytes}
+use Rattle.flt_model.specs.Request.{RequestBytes}
 use Rattle.flt_dcm.specs.Session.{is_extended_one, has_hold, IsSilentFor, heard, after, after_asked, ticked, SessionStands}
 use Rattle.flt_dcm.specs.Unit.{session_at, SessionsStand}
 use Rattle.flt_dcm.specs.declared.session.Session.{Session}

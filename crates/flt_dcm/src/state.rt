@@ -11,7 +11,7 @@ ghost use Rattle.flt_model.specs.declared.call.Op.TheVariants as ops;
 ghost use Rattle.flt_model.specs.declared.call.Reply.TheVariants as replies;
 ghost use Rattle.flt_did.specs.Table.{dids_of};
 ghost use Rattle.flt_did.specs.Serves.{Serves};
-ghost use Rattle.flt_dem.specs.Calls.{RequestBytes};
+ghost use Rattle.flt_model.specs.Request.{RequestBytes};
 ghost use Rattle.flt_dem.specs.Manager.{StandsFor, reply_of as cause_reply};
 ghost use Rattle.flt_dem.specs.View.{view_of};
 ghost use Rattle.flt_dcm.specs.Session.{is_extended_one, has_hold, heard, after, after_asked, ticked};

@@ -9,7 +9,7 @@ ghost use Rattle.flt_model.specs.declared.call.Op.TheVariants as ops;
 ghost use Rattle.flt_model.specs.declared.call.Reply.TheVariants as replies;
 ghost use Rattle.flt_did.specs.Table.{dids_of};
 ghost use Rattle.flt_did.specs.Serves.{Serves};
-ghost use Rattle.flt_dem.specs.Calls.{RequestBytes};
+ghost use Rattle.flt_model.specs.Request.{RequestBytes};
 ghost use Rattle.flt_dem.specs.Dem.{config_of as dem_config, table_of as dem_table};
 ghost use Rattle.flt_dem.specs.Manager.{reply_of as cause_reply};
 ghost use Rattle.flt_dcm.specs.Session.{heard};

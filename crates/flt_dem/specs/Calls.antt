@@ -1,6 +1,5 @@
 -- A call of which each event takes its part, in order of number.
 use Rattle.std.specs.Prelude.{◌≡◌, ℕ, nat_lt, if◌then◌else◌, List, ◌∷◌}
-use Rattle.arrayvec.specs.ArrayVec.{ArrayVec}
 use Rattle.flt_model.specs.Life.{Life, History}
 use Rattle.flt_model.specs.Mark.{Trace}
 use Rattle.flt_model.specs.Debounce.{Happenings}
@@ -11,10 +10,6 @@ use Rattle.flt_model.specs.declared.call.Op.{Op}
 use Rattle.flt_dem.specs.Faults.{FaultsView}
 use Rattle.flt_dem.specs.Standing.{FaultsStand}
 use Rattle.flt_dem.specs.Debounces.{DebouncesStand, and_then}
-
--- the bytes of a tester's request
-abbrev pub RequestBytes : Type 0
-RequestBytes = ArrayVec ℕ
 
 -- events with these happenings, and these marks of all
 pub record StandsWith (life : Life) (items : ℕ → Happenings) (marks : Trace) (debounces : List DebState) (faults : FaultsView) : Type 0 where

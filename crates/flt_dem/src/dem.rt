@@ -15,7 +15,7 @@ ghost use Rattle.flt_model.specs.declared.call.Op.TheVariants as ops;
 ghost use Rattle.flt_model.specs.declared.call.Reply.TheVariants as replies;
 ghost use Rattle.flt_did.specs.Table.{dids_of};
 ghost use Rattle.flt_did.specs.Serves.{Serves};
-ghost use Rattle.flt_dem.specs.Calls.{RequestBytes};
+ghost use Rattle.flt_model.specs.Request.{RequestBytes};
 ghost use Rattle.flt_dem.specs.Standing.{notes_of};
 ghost use Rattle.flt_dem.specs.Manager.{StandsFor, IsUntouched, IsOfOtherCycle, is_cycle_started, cause_of, reply_of};
 

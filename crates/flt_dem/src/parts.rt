@@ -10,7 +10,8 @@ ghost use Rattle.flt_model.specs.declared.call.Op.TheVariants as ops;
 ghost use Rattle.flt_did.specs.Table.{dids_of};
 ghost use Rattle.flt_did.specs.Serves.{Serves};
 ghost use Rattle.flt_dem.specs.Debounces.{AreOfKind};
-ghost use Rattle.flt_dem.specs.Calls.{RequestBytes, StandsAfter, TakesPart};
+ghost use Rattle.flt_model.specs.Request.{RequestBytes};
+ghost use Rattle.flt_dem.specs.Calls.{StandsAfter, TakesPart};
 ghost use Rattle.flt_dem.specs.Manager.{IsOfOtherCycle};
 
 use crate::debounces;

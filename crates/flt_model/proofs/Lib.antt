@@ -15,3 +15,7 @@ pub mod EventFits
 pub mod EntryFits
 pub mod RecentFits
 pub mod SavedFits
+pub mod RecentLaws
+pub mod FirstLaws
+pub mod SessionLaws
+pub mod TickLaws

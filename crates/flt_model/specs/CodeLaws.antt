@@ -1,5 +1,5 @@
 -- When a request is refused, and with which code (ISO 14229-1; the conditions and their order are this profile's).
-use Rattle.std.specs.Prelude.{◌≡◌, ℕ, ◌+◌, ◌%◌, ◌==◌, Bool, false, not, ◌&&◌, ◌||◌, if◌then◌else◌, List, [], ◌∷◌, length, find, slice_get, Option, Some, None, option_map, is_none, MatchOption}
+use Rattle.std.specs.Prelude.{◌≡◌, ◌≢◌, ◌↔◌, ℕ, ◌+◌, ◌%◌, ◌<◌, IsBitSet, ◌==◌, Bool, false, not, ◌&&◌, ◌||◌, if◌then◌else◌, List, [], ◌∷◌, length, find, slice_get, Option, Some, None, option_map, is_none, MatchOption}
 use Rattle.std.specs.List.{list_any}
 use Rattle.flt_model.specs.Happening.{all_dtcs}
 use Rattle.flt_model.specs.NegativeCode.{service_not_supported, sub_function_not_supported, incorrect_length, request_out_of_range, service_not_supported_in_session}
@@ -104,3 +104,13 @@ CodesComeInOrder = (view : View) (extended : Bool) (service : ℕ) (rest : List 
     MatchOption (first_code (conditions view extended (service ∷ rest)))
     (IsPositive service (response view extended (service ∷ rest)))
     (λ code. response view extended (service ∷ rest) ≡ negative service code)
+
+-- No condition holds under which a request is refused.
+abbrev pub IsAccepted : View → Bool → List ℕ → Type 0
+IsAccepted view extended bytes = first_code (conditions view extended bytes) ≡ None
+
+-- A response is suppressed exactly where it is positive and bit 7 of the sub-function is set; a clear has no sub-function.
+abbrev pub SilentWhereAsked : Type 0
+SilentWhereAsked = (view : View) (extended : Bool) (service second : ℕ) (rest : List ℕ) → second < 256 →
+    (response view extended (service ∷ second ∷ rest) ≡ Silent)
+    ↔ (IsAccepted view extended (service ∷ second ∷ rest) × (service ≢ 0x14) × IsBitSet second 7)

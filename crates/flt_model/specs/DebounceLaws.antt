@@ -1,5 +1,5 @@
 -- What holds of debouncing and of the fault detection counter (AUTOSAR Dem, in outline).
-use Rattle.std.specs.Prelude.{◌≡◌, ◌↔◌, pos, negsuc, ◌≤ℤ◌}
+use Rattle.std.specs.Prelude.{◌≡◌, ◌↔◌, ℕ, pos, negsuc, ◌≤ℤ◌, Bool, true, false, not, ◌||◌, [], ◌∷◌, ◌++◌, Some}
 use Rattle.flt_config.specs.declared.config.Debounce.{Debounce}
 use Rattle.flt_config.specs.declared.config.Debounce.TheVariants.{Counter, Time}
 use Rattle.flt_config.specs.Validity.{IsDebounceInRange}
@@ -7,7 +7,7 @@ use Rattle.flt_model.specs.declared.call.DebState.{DebState}
 use Rattle.flt_model.specs.declared.call.DebState.TheVariants.{Count}
 use Rattle.flt_model.specs.declared.call.Qualified.{Qualified}
 use Rattle.flt_model.specs.declared.call.Qualified.TheVariants.{Passed, Failed}
-use Rattle.flt_model.specs.Debounce.{Happenings, IsStateOf, debounced, reached, detection_counter}
+use Rattle.flt_model.specs.Debounce.{Happenings, Ticked, IsStateOf, is_of, debounced, qualified, reached, detection_counter}
 
 -- A counter stays between its thresholds, and a timer below its own.
 abbrev pub DebouncingStaysInRange : Type 0
@@ -28,3 +28,14 @@ pub record TellsThresholds (rules : Debounce) (state : DebState) : Type 0 where
 
 abbrev pub DetectionCounterTellsThresholds : Type 0
 DetectionCounterTellsThresholds = (rules : Debounce) (state : DebState) → IsDebounceInRange rules → IsStateOf rules state → TellsThresholds rules state
+
+-- A run of this direction was broken off among these: by a rest, or by a report of the other direction.
+abbrev pub is_broken_off : Qualified → Happenings → Bool
+is_broken_off way [] = false
+is_broken_off way (happening ∷ past) = not (is_of way happening) || is_broken_off way past
+
+-- Between two results that ticks qualify there is a rest, or a report of the other direction than the first result's.
+abbrev pub TicksQualifyOnce : Type 0
+TicksQualifyOnce = (rules : Debounce) (before between : Happenings) (ticks later : ℕ) (first second : Qualified) →
+    qualified rules before (Ticked ticks) ≡ Some first → qualified rules (between ++ Ticked ticks ∷ before) (Ticked later) ≡ Some second →
+    is_broken_off first between ≡ true

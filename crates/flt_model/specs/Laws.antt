@@ -1,35 +1,13 @@
--- What holds of entries, noted events and the saved state after every list of calls.
-use Rattle.std.specs.Prelude.{◌≡◌, ℕ, ◌<◌, ◌⊎◌, slice_index, ◌≤◌, Bool, true, false, List, [], ◌∷◌, length, Option, Some, None}
+-- What holds of the entries and of the saved state after every list of calls.
+use Rattle.std.specs.Prelude.{◌≡◌, ℕ, ◌<◌, ◌⊎◌, slice_index, ◌≤◌, false, List, [], ◌∷◌, length, Some}
 use Rattle.flt_config.specs.Validity.{IsValid}
 use Rattle.flt_config.specs.Durable.{Fits}
 use Rattle.flt_model.specs.Life.{Life, History}
-use Rattle.flt_model.specs.Mark.{Row, decided, Trace, marks_of}
-use Rattle.flt_model.specs.Mark.Mark.{Failed, Clear}
-use Rattle.flt_model.specs.Noted.{Notable, recent, first}
+use Rattle.flt_model.specs.Mark.{Trace}
 use Rattle.flt_model.specs.Entry.{has_entry, holders, is_among, worst, IsWorse}
 use Rattle.flt_model.specs.declared.status.Rank.{Rank}
 use Rattle.flt_model.specs.Trace.{trace}
 use Rattle.flt_model.specs.Durable.{saved_after}
-
--- A clear, with no failure since.
-abbrev pub cleared_row : Row
-cleared_row past Failed = Some false
-cleared_row past Clear = Some true
-cleared_row past _ = None
-
--- The event was cleared, and did not fail since.
-abbrev pub is_cleared : ℕ → Trace → Bool
-is_cleared event trace = decided cleared_row false (marks_of event trace)
-
--- No clear stands behind a noted event.
-abbrev pub NotedIsNotCleared : Type 0
-NotedIsNotCleared = (notable : Notable) (base : Option ℕ) (trace : Trace) (event : ℕ) →
-    recent notable base trace ≡ Some event → is_cleared event trace ≡ false
-
--- The same of an event that is noted as the first.
-abbrev pub FirstIsNotCleared : Type 0
-FirstIsNotCleared = (notable : Notable) (base : Option ℕ) (trace : Trace) (event : ℕ) →
-    first notable base trace ≡ Some event → is_cleared event trace ≡ false
 
 -- An event is among the holders exactly where it was added, and not removed since.
 abbrev pub HoldersHaveEntries : Type 0

@@ -23,4 +23,6 @@ pub mod StatusLaws
 pub mod DebounceLaws
 pub mod CodeLaws
 pub mod CallLaws
+pub mod SessionLaws
+pub mod NoteLaws
 pub mod Laws

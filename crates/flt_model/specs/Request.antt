@@ -1,10 +1,15 @@
 -- What the bytes of a request ask for (ISO 14229-1).
 use Rattle.std.specs.Prelude.{ℕ, ◌+◌, ◌*◌, ◌%◌, nat_le, ◌==◌, Bool, true, false, not, ◌&&◌, ◌||◌, if◌then◌else◌, List, [], ◌∷◌, find, Option, Some, None, option_map, is_some, Result, Ok, Err}
+use Rattle.arrayvec.specs.ArrayVec.{ArrayVec}
 use Rattle.flt_model.specs.declared.request.Request.{Request}
 use Rattle.flt_model.specs.declared.request.Request.TheVariants.{Session, Present, Clear, Setting, Count, ByMask, Snapshots, Snapshot, Extended, Supported, Noted, Counters}
 use Rattle.flt_model.specs.declared.request.Asked.{Asked}
 use Rattle.flt_model.specs.declared.request.Negative.{Negative}
 use Rattle.flt_model.specs.NegativeCode.{service_not_supported, sub_function_not_supported, incorrect_length, request_out_of_range, service_not_supported_in_session}
+
+-- The bytes of a tester's request.
+abbrev pub RequestBytes : Type 0
+RequestBytes = ArrayVec ℕ
 
 -- What stands behind a sub-function.
 pub data Form : Type 0 where

@@ -1,10 +1,12 @@
 //! What holds after every list of calls.
 
 ghost use Rattle.flt_model.specs.StatusLaws.{ByteTellsBits, LitIsConfirmed, IndicatorIsLit, TestFailedIsLastResult, PendingIsUnrefutedFailure};
-ghost use Rattle.flt_model.specs.DebounceLaws.{DebouncingStaysInRange, DetectionCounterTellsThresholds};
-ghost use Rattle.flt_model.specs.CodeLaws.{CodesComeInOrder};
+ghost use Rattle.flt_model.specs.DebounceLaws.{DebouncingStaysInRange, DetectionCounterTellsThresholds, TicksQualifyOnce};
+ghost use Rattle.flt_model.specs.CodeLaws.{CodesComeInOrder, SilentWhereAsked};
 ghost use Rattle.flt_model.specs.CallLaws.{ClearOfAllLeavesFirstState, ReportIsAboutItsEvent, ClearIsAboutItsEvent, OthersAreLeftAlone, DisplacementLeavesOtherBits};
-ghost use Rattle.flt_model.specs.Laws.{NotedIsNotCleared, FirstIsNotCleared, HoldersHaveEntries, WorstIsUnique, FittingBaseHasRoom, EntriesKeepRoom, SavedStatesFit};
+ghost use Rattle.flt_model.specs.SessionLaws.{RequestLeavesOtherTesters};
+ghost use Rattle.flt_model.specs.NoteLaws.{NotedIsNotCleared, FirstIsNotCleared, RecentIsOfLastFailure, RecentIsOfBase, FirstIsHolder};
+ghost use Rattle.flt_model.specs.Laws.{HoldersHaveEntries, WorstIsUnique, FittingBaseHasRoom, EntriesKeepRoom, SavedStatesFit};
 
 /// The bits of a status byte are read as they were put there.
 pub fn byte_tells_bits()
@@ -41,10 +43,33 @@ pub fn detection_counter_tells_thresholds()
     ensures { DetectionCounterTellsThresholds }
 {}
 
+/// Between two results that a timer's ticks qualify there is a rest, or a report of the other direction.
+pub fn ticks_qualify_once()
+    ensures { TicksQualifyOnce }
+{}
+
+/// A request leaves the session, the silent time and the hold of every other tester.
+pub fn request_leaves_other_testers()
+    ensures { RequestLeavesOtherTesters }
+{}
+
 /// No clear stands behind a noted event.
 pub fn noted_is_not_cleared()
     ensures recent { NotedIsNotCleared }
     ensures first { FirstIsNotCleared }
+{}
+
+/// The most recent failed event is that of the last failure that changed a test result, or none where that event was
+/// cleared since; likewise the most recent confirmed one, of the last failure that confirmed.
+pub fn recent_is_of_last_failure()
+    ensures failure { RecentIsOfLastFailure }
+    ensures base { RecentIsOfBase }
+{}
+
+/// The first failed event is the one whose failure found none noted, for as long as it is not cleared; likewise the first
+/// confirmed one.
+pub fn first_is_holder()
+    ensures { FirstIsHolder }
 {}
 
 /// An event has an entry exactly where it was added, and not removed since.
@@ -71,6 +96,11 @@ pub fn saved_states_fit()
 /// A request is refused with a code exactly where the code's condition holds and no earlier one does.
 pub fn codes_come_in_order()
     ensures { CodesComeInOrder }
+{}
+
+/// A positive response is suppressed exactly where bit 7 of the sub-function is set, and that to a clear never.
+pub fn silent_where_asked()
+    ensures { SilentWhereAsked }
 {}
 
 /// A clear of all leaves the state of a controller that never saved one.
