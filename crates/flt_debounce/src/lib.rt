@@ -1,7 +1,7 @@
 //! Debouncing of one event's reports, by a counter or by time (AUTOSAR Dem in outline). Stands on the
 //! definitions of `flt_model`. The layer above uses `report` and `tick`: where a state is what happened
-//! to its event makes of it, it is so with one happening more, and the answer is what that qualifies.
-//! Read `specs/Debounce` of `flt_model` first, and `specs/Step` for one step of a timer.
+//! to its event makes of it, it is so with one happening more, and the answer is what that qualifies. Of
+//! each other state they tell one step too (`specs/Step`). Read `specs/Debounce` of `flt_model` first.
 #![tactic(auto)]
 
 mod counter;
@@ -11,6 +11,7 @@ mod time;
 ghost use Rattle.std.specs.Prelude.{◌≡◌, ◌∷◌, []};
 ghost use Rattle.flt_config.specs.Validity.{IsDebounceInRange};
 ghost use Rattle.flt_model.specs.Debounce.{Happenings, Reported, Ticked, Ended, Cleared, debounced, qualified, IsStateOf};
+ghost use Rattle.flt_debounce.specs.Step.{after_report, report_result, after_ticks, ticks_result};
 
 pub use detection::fdc;
 pub use flt_config::Debounce;
@@ -35,6 +36,8 @@ pub fn rest(rules: &Debounce) -> DebState
 pub fn report(rules: &Debounce, state: &mut DebState, report: Report) -> Option<Qualified>
     requires { IsDebounceInRange rules.now }
     ensures kind { IsStateOf rules.now state.old → IsStateOf rules.now state.new }
+    ensures step { state.new ≡ after_report rules.now state.old report }
+    ensures answer { result ≡ report_result rules.now state.old report }
     ensures debounced { (past : Happenings) → state.old ≡ debounced rules.now past → state.new ≡ debounced rules.now (Reported report ∷ past) }
     ensures qualified { (past : Happenings) → state.old ≡ debounced rules.now past → result ≡ qualified rules.now past (Reported report) }
 {
@@ -60,6 +63,8 @@ pub fn report(rules: &Debounce, state: &mut DebState, report: Report) -> Option<
 pub fn tick(rules: &Debounce, state: &mut DebState, ticks: u16) -> Option<Qualified>
     requires { IsDebounceInRange rules.now }
     ensures kind { IsStateOf rules.now state.old → IsStateOf rules.now state.new }
+    ensures step { state.new ≡ after_ticks rules.now state.old ticks }
+    ensures answer { result ≡ ticks_result rules.now state.old ticks }
     ensures debounced { (past : Happenings) → state.old ≡ debounced rules.now past → state.new ≡ debounced rules.now (Ticked ticks ∷ past) }
     ensures qualified { (past : Happenings) → state.old ≡ debounced rules.now past → result ≡ qualified rules.now past (Ticked ticks) }
 {
