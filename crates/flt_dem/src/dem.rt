@@ -45,6 +45,7 @@ impl Dem {
     pub fn make(config: ValidConfig, dids: DidTable<DID_ROWS>) -> Dem
         requires { Serves (dids_of dids) config.events.items }
         ensures config { config_of result ≡ config }
+        ensures dids { table_of result ≡ dids_of dids }
         ensures stands { StandsFor (fresh config) [] (state_of result) }
     {
         Dem {
@@ -57,6 +58,7 @@ impl Dem {
     pub fn boot(&mut self, base: &Persist)
         requires fits { Fits (config_of self.old) base.now }
         ensures config { config_of self.new ≡ config_of self.old }
+        ensures dids { table_of self.new ≡ table_of self.old }
         ensures stands { StandsFor (record { config = config_of self.old; base = base.now }) [] (state_of self.new) }
     {
         self.state.boot(base);
@@ -80,6 +82,7 @@ impl Dem {
     /// Sets a signal, of the number 0 to 7.
     pub fn signal(&mut self, index: u8, value: u16)
         requires { index < 8 }
+        ensures dids { table_of self.new ≡ table_of self.old }
         ensures value { state_of self.new ≡ record (state_of self.old) { signals = slice_set (state_of self.old).signals index value } }
         ensures stands { (life : Life) (past : History) → StandsFor life past (state_of self.old) → StandsFor life (ops.Signal index value ∷ past) (state_of self.new) }
     {
@@ -92,6 +95,7 @@ impl Dem {
     pub fn report(&mut self, event: u16, report: Report, setting: bool) -> Option<Cause>
         requires configured { event < length (config_of self.old).events.items }
         ensures config { config_of self.new ≡ config_of self.old }
+        ensures dids { table_of self.new ≡ table_of self.old }
         ensures ignored { result ≡ cause_of setting (is_cycle_started (state_of self.old) event) }
         ensures unchanged { IfSome result (λ _. state_of self.new ≡ state_of self.old) }
         ensures debouncing { (other : ℕ) → other ≢ event → slice_get (state_of self.new).debounces other ≡ slice_get (state_of self.old).debounces other }
@@ -106,6 +110,7 @@ impl Dem {
     /// nothing changes, and else each event ticks, in order of number.
     pub fn tick(&mut self, ticks: u16, setting: bool)
         ensures config { config_of self.new ≡ config_of self.old }
+        ensures dids { table_of self.new ≡ table_of self.old }
         ensures unchanged { setting ≡ false → state_of self.new ≡ state_of self.old }
         ensures stands { (life : Life) (past : History) → setting ≡ not (is_setting_off past) → StandsFor life past (state_of self.old) → StandsFor life (ops.Tick ticks ∷ past) (state_of self.new) }
     {
@@ -117,6 +122,7 @@ impl Dem {
     pub fn cycle(&mut self, cycle: u8)
         requires { cycle < 4 }
         ensures config { config_of self.new ≡ config_of self.old }
+        ensures dids { table_of self.new ≡ table_of self.old }
         ensures stands { (life : Life) (past : History) → StandsFor life past (state_of self.old) → StandsFor life (ops.Cycle cycle ∷ past) (state_of self.new) }
         ensures others { (event : ℕ) → IsOfOtherCycle (config_of self.old) cycle event → IsUntouched event (state_of self.old) (state_of self.new) }
     {
@@ -128,6 +134,7 @@ impl Dem {
     /// flag is taken back.
     pub fn clear_all(&mut self)
         ensures config { config_of self.new ≡ config_of self.old }
+        ensures dids { table_of self.new ≡ table_of self.old }
         ensures stands { (life : Life) (past : History) (tester : ℕ) (bytes : RequestBytes) → cleared_dtc (ops.Request tester bytes) ≡ Some all_dtcs → StandsFor life past (state_of self.old) → StandsFor life (ops.Request tester bytes ∷ past) (state_of self.new) }
     {
         self.state.clear_all();
@@ -138,6 +145,7 @@ impl Dem {
     pub fn clear_one(&mut self, event: u16)
         requires { event < length (config_of self.old).events.items }
         ensures config { config_of self.new ≡ config_of self.old }
+        ensures dids { table_of self.new ≡ table_of self.old }
         ensures stands { (life : Life) (past : History) (tester : ℕ) (bytes : RequestBytes) → cleared_dtc (ops.Request tester bytes) ≡ Some (event_of life event).dtc → StandsFor life past (state_of self.old) → StandsFor life (ops.Request tester bytes ∷ past) (state_of self.new) }
         ensures others { (other : ℕ) → other ≢ event → IsUntouched other (state_of self.old) (state_of self.new) }
     {

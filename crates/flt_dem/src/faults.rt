@@ -106,9 +106,10 @@ impl Faults {
         &self.config
     }
 
-    /// How many events there are.
+    /// How many events there are; each entry is of one of them.
     pub fn count(&self) -> u16
-        ensures { result ≡ length self.now.config.events.items }
+        ensures count { result ≡ length self.now.config.events.items }
+        ensures within { All (λ entry. entry.event < result) self.now.memory.entries }
     {
         self.config.config().events.len() as u16
     }
@@ -237,7 +238,7 @@ impl Faults {
 
     /// A tester cleared all events: with no entry left, the overflow flag is taken back.
     pub fn end_clear(&mut self)
-        requires { All (λ entry. length self.old.config.events.items ≤ entry.event) self.old.memory.entries }
+        requires { self.old.memory.entries ≡ [] }
         ensures config { self.new.config ≡ self.old.config }
         ensures stands { (life : Life) (marks : Trace) → FaultsStand life marks self.old → FaultsStand life (AllCleared ∷ marks) self.new }
     {

@@ -1,4 +1,4 @@
-use Rattle.std.proofs.Common.{◌≡◌, ◌≤◌, ℕ, Some}
+use Rattle.std.proofs.Common.{◌≡◌, ◌<◌, ◌≤◌, ℕ, length, Some}
 use Rattle.std.specs.List.{All}
 use Rattle.arrayvec.specs.ArrayVec.{ArrayVec}
 use Rattle.flt_model.specs.Life.{Life, History}
@@ -15,4 +15,5 @@ invariant-loop-event l = record {
   stands : (life : Life) (past : History) (tester : ℕ) (bytes : ArrayVec ℕ) → cleared_dtc (ops.Request tester bytes) ≡ Some all_dtcs → StandsAfter life past l.fn.debounces l.fn.faults →
       StandsPartly life past (ops.Request tester bytes) l.event l.debounces l.faults;
   left : All (λ entry. l.event ≤ entry.event) l.faults.memory.entries;
+  within : All (λ entry. entry.event < length l.fn.faults.config.events.items) l.faults.memory.entries;
 }
