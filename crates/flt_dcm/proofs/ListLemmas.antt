@@ -5,6 +5,8 @@ use Rattle.std.proofs.lemmas.List.{map-append, length-append, length-map, append
 use Rattle.std.proofs.lemmas.List.Concat.{flat_map-append}
 use Rattle.std.specs.List.{flat_map, find}
 use Rattle.std.specs.Prelude.{is_some}
+use Rattle.flt_config.specs.declared.TheConstants.{EVENTS, ENTRIES}
+use Rattle.flt_model.specs.declared.TheConstants.{RESPONSE}
 use Rattle.flt_config.specs.declared.persist.EntryState.{EntryState}
 use Rattle.flt_config.specs.Durable.{is_of_event}
 use Rattle.flt_model.specs.Durable.{below}
@@ -141,8 +143,8 @@ records_total manager (suc n) =
     let before = records_total manager n in
     omega (arith, more, own, before)
 
-whole_list_fits : (listing : Listing) (manager : Manager) (n : ℕ) → n ≤ 64 → length manager.faults.memory.entries ≤ 16 →
-    length (head_of listing) + length (flat_map (listed listing) (seen_to manager n)) ≤ 512
+whole_list_fits : (listing : Listing) (manager : Manager) (n : ℕ) → n ≤ EVENTS → length manager.faults.memory.entries ≤ ENTRIES →
+    length (head_of listing) + length (flat_map (listed listing) (seen_to manager n)) ≤ RESPONSE
 whole_list_fits (ByMask mask) manager n few room = let at_most = four_each (listed (ByMask mask)) manager n (λ event. if_masked (is_masked mask event) event) in omega (arith, at_most, few)
 whole_list_fits Supported manager n few room = let at_most = four_each (listed Supported) manager n (λ event. omega arith) in omega (arith, at_most, few)
 whole_list_fits Snapshots manager n few room =
@@ -152,8 +154,8 @@ whole_list_fits Snapshots manager n few room =
 whole_list_fits Counters manager n few room = let at_most = four_each (listed Counters) manager n (λ event. if_prefailed (is_prefailed event) event) in omega (arith, at_most, few)
 
 -- one event more fits behind those before it
-pub list_fits : (listing : Listing) (manager : Manager) (k n : ℕ) (out : List ℕ) → out ≡ head_of listing ++ flat_map (listed listing) (seen_to manager k) → k < n → n ≤ 64 →
-    length manager.faults.memory.entries ≤ 16 → length out + length (listed listing (event_seen manager k)) ≤ 512
+pub list_fits : (listing : Listing) (manager : Manager) (k n : ℕ) (out : List ℕ) → out ≡ head_of listing ++ flat_map (listed listing) (seen_to manager k) → k < n → n ≤ EVENTS →
+    length manager.faults.memory.entries ≤ ENTRIES → length out + length (listed listing (event_seen manager k)) ≤ RESPONSE
 list_fits listing manager k n out is h few room =
     let all = whole_list_fits listing manager n few room in
     let part = part_fits (listed listing) manager k n h in

@@ -2,6 +2,8 @@
 use Rattle.std.proofs.Common.{◌≡◌, ◌∙◌, ℕ, ◌+◌, ◌*◌, ◌<◌, ◌≤◌, Bool, true, false, cond, List, [], ◌∷◌, ◌++◌, length, take, drop, get_or, arith, sym, ap}
 use Rattle.std.proofs.lemmas.List.{length-append, length-take, drop_more}
 use Rattle.std.proofs.lemmas.List.Sums.{sum_by-cons}
+use Rattle.flt_config.specs.declared.TheConstants.{DIDS, FRAME}
+use Rattle.flt_model.specs.declared.TheConstants.{RESPONSE}
 use Rattle.flt_config.specs.declared.config.DidUse.{DidUse}
 use Rattle.flt_config.specs.Ranges.{frame_width}
 use Rattle.flt_model.specs.Response.{selects, where_selected, values_of, snapshot}
@@ -19,16 +21,19 @@ where_length : (test : Bool) (bytes : List ℕ) (most : ℕ) → length bytes �
 where_length true bytes most h = h
 where_length false bytes most h = omega arith
 
--- a snapshot record has at most 50 bytes
-pub snapshot_fits : (number which : ℕ) (dids : List DidUse) (frame : List ℕ) → length dids ≤ 8 → frame_width dids ≤ 32 →
-    length (where_selected number which (snapshot dids which frame)) ≤ 50
+-- how many bytes a snapshot record has at most: its number, how many identifiers it has, and each with its value
+abbrev pub snapshot_size : ℕ
+snapshot_size = 2 + 2 * DIDS + FRAME
+
+pub snapshot_fits : (number which : ℕ) (dids : List DidUse) (frame : List ℕ) → length dids ≤ DIDS → frame_width dids ≤ FRAME →
+    length (where_selected number which (snapshot dids which frame)) ≤ snapshot_size
 snapshot_fits number which dids frame few narrow =
     let values = values_length dids frame in
-    where_length (selects number which) (snapshot dids which frame) 50 (omega (arith, values, few, narrow))
+    where_length (selects number which) (snapshot dids which frame) snapshot_size (omega (arith, values, few, narrow))
 
 -- what is left of the data identifiers fits, so the next one does
 pub value_fits : (old out : List ℕ) (dids : List DidUse) (index : ℕ) (d : DidUse) (rest frame : List ℕ) → out ++ values_of (drop index dids) rest ≡ old ++ values_of dids frame →
-    index < length dids → length old + length (values_of dids frame) ≤ 512 → length out + (2 + length (take (get_or dids index d).width rest)) ≤ 512
+    index < length dids → length old + length (values_of dids frame) ≤ RESPONSE → length out + (2 + length (take (get_or dids index d).width rest)) ≤ RESPONSE
 value_fits old out dids index d rest frame is within room =
     let did = get_or dids index d in
     let next = ap (λ left. out ++ values_of left rest) (sym (drop_more dids index d within)) ∙ is in

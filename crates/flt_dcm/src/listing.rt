@@ -6,6 +6,7 @@ ghost use Rattle.flt_dem.specs.View.{event_seen, rules_of, view_of};
 ghost use Rattle.flt_dcm.specs.Listing.{listed, head_of};
 
 use arrayvec::ArrayVec;
+use flt_config::{ENTRIES, EVENTS};
 use flt_dem::DemState;
 use flt_uds::{RESPONSE, put_bytes, put_dtc};
 
@@ -25,11 +26,11 @@ pub(crate) enum Listing {
     Counters,
 }
 
-/// How many events are configured, at most 64; there are at most 16 entries.
+/// How many events are configured.
 pub(crate) fn event_count(dem: &DemState) -> u16
     ensures count { result ≡ length dem.now.faults.config.events.items }
-    ensures events { result ≤ 64 }
-    ensures entries { length dem.now.faults.memory.entries ≤ 16 }
+    ensures events { result ≤ EVENTS }
+    ensures entries { length dem.now.faults.memory.entries ≤ ENTRIES }
 {
     dem.config().config().events.len() as u16
 }

@@ -5,7 +5,7 @@ ghost use Rattle.flt_model.specs.Response.{selects, where_selected, values_of, s
 ghost use Rattle.flt_dem.specs.View.{event_seen};
 
 use arrayvec::ArrayVec;
-use flt_config::{DidUse, EntryState};
+use flt_config::{DIDS, DidUse, EntryState, FRAME};
 use flt_dem::DemState;
 use flt_uds::{RESPONSE, put_bytes};
 
@@ -17,6 +17,9 @@ const SECOND: u8 = 0x02;
 
 /// Both records.
 const BOTH: u8 = 0xFF;
+
+/// The bytes before the records: the service, the sub-function, the DTC and its status.
+const HEAD: usize = 6;
 
 /// Whether a record number asks for this record.
 fn selects(number: u8, which: u8) -> bool
@@ -48,7 +51,7 @@ fn put_snapshot(
     frame: &[u8],
     out: &mut ArrayVec<u8, RESPONSE>,
 )
-    requires few { length dids.now ≤ 8 }
+    requires few { length dids.now ≤ DIDS }
     requires room { length out.old.items + length (where_selected number which (snapshot dids.now which frame.now)) ≤ RESPONSE }
     ensures { out.new.items ≡ out.old.items ++ where_selected number which (snapshot dids.now which frame.now) }
 {
@@ -60,21 +63,21 @@ fn put_snapshot(
 
 /// Appends the snapshot records of an entry that the record number asks for.
 fn put_frames(entry: &EntryState, number: u8, dids: &[DidUse], out: &mut ArrayVec<u8, RESPONSE>)
-    requires few { length dids.now ≤ 8 }
-    requires narrow { frame_width dids.now ≤ 32 }
-    requires room { length out.old.items ≤ 8 }
+    requires few { length dids.now ≤ DIDS }
+    requires narrow { frame_width dids.now ≤ FRAME }
+    requires room { length out.old.items ≤ HEAD }
     ensures { out.new.items ≡ out.old.items ++ snapshots dids.now number (Some entry.now) }
 {
     put_snapshot(number, FIRST, dids, &entry.first, out);
     put_snapshot(number, SECOND, dids, &entry.recent, out);
 }
 
-/// The data identifiers of an event: at most 8, in at most 32 bytes.
+/// The data identifiers of an event.
 fn dids_of(dem: &DemState, event: u16) -> &[DidUse]
     requires { event < length dem.now.faults.config.events.items }
     ensures dids { result.now ≡ (event_seen dem.now event).dids }
-    ensures few { length result.now ≤ 8 }
-    ensures narrow { frame_width result.now ≤ 32 }
+    ensures few { length result.now ≤ DIDS }
+    ensures narrow { frame_width result.now ≤ FRAME }
 {
     &dem.config().config().events[event as usize].dids
 }
@@ -87,7 +90,7 @@ pub(crate) fn put_snapshots(
     out: &mut ArrayVec<u8, RESPONSE>,
 )
     requires event { event < length dem.now.faults.config.events.items }
-    requires room { length out.old.items ≤ 8 }
+    requires room { length out.old.items ≤ HEAD }
     ensures { out.new.items ≡ out.old.items ++ snapshots (event_seen dem.now event).dids number (event_seen dem.now event).entry }
 {
     if let Some(entry) = dem.entry(event) {
@@ -97,7 +100,7 @@ pub(crate) fn put_snapshots(
 
 /// Appends a record of extended data of one byte, where the record number asks for it.
 fn put_datum(number: u8, which: u8, datum: u8, out: &mut ArrayVec<u8, RESPONSE>)
-    requires { length out.old.items ≤ 16 }
+    requires { length out.old.items + 2 ≤ RESPONSE }
     ensures { out.new.items ≡ out.old.items ++ where_selected number which (which ∷ datum ∷ []) }
 {
     if selects(number, which) {
@@ -114,7 +117,7 @@ pub(crate) fn put_extended_data(
     out: &mut ArrayVec<u8, RESPONSE>,
 )
     requires event { event < length dem.now.faults.config.events.items }
-    requires room { length out.old.items ≤ 8 }
+    requires room { length out.old.items ≤ HEAD }
     ensures { out.new.items ≡ out.old.items ++ extended_data (event_seen dem.now event).state number (event_seen dem.now event).entry }
 {
     if let Some(entry) = dem.entry(event) {

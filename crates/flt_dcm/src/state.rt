@@ -219,7 +219,7 @@ impl UnitState {
     }
 
     /// Sets a signal, of the number 0 to 7.
-    pub fn signal(&mut self, index: u8, value: u16)
+    fn signal(&mut self, index: u8, value: u16)
         requires { index < 8 }
         ensures config { self.new.dem.faults.config ≡ self.old.dem.faults.config }
         ensures base { self.new.base ≡ self.old.base }
@@ -230,7 +230,7 @@ impl UnitState {
 
     /// Takes a monitor's report of an event. The answer tells why it is ignored, where it is: a tester holds the DTC setting off, or
     /// else the event's operation cycle was not started since power-up.
-    pub fn report(&mut self, dids: &DidTable<DID_ROWS>, event: u16, report: Report) -> Option<Cause>
+    fn report(&mut self, dids: &DidTable<DID_ROWS>, event: u16, report: Report) -> Option<Cause>
         requires served { Serves (dids_of dids.now) self.old.dem.faults.config.events.items }
         requires configured { event < length self.old.dem.faults.config.events.items }
         ensures config { self.new.dem.faults.config ≡ self.old.dem.faults.config }
@@ -243,7 +243,7 @@ impl UnitState {
     }
 
     /// Lets ticks of 10 ms go by, for the events where no tester holds the DTC setting off, and then for the testers.
-    pub fn tick(&mut self, dids: &DidTable<DID_ROWS>, ticks: u16)
+    fn tick(&mut self, dids: &DidTable<DID_ROWS>, ticks: u16)
         requires served { Serves (dids_of dids.now) self.old.dem.faults.config.events.items }
         ensures config { self.new.dem.faults.config ≡ self.old.dem.faults.config }
         ensures base { self.new.base ≡ self.old.base }
@@ -255,7 +255,7 @@ impl UnitState {
     }
 
     /// Ends an operation cycle, of the number 0 to 3, and starts the next.
-    pub fn cycle(&mut self, cycle: u8)
+    fn cycle(&mut self, cycle: u8)
         requires { cycle < 4 }
         ensures config { self.new.dem.faults.config ≡ self.old.dem.faults.config }
         ensures base { self.new.base ≡ self.old.base }
@@ -266,7 +266,7 @@ impl UnitState {
 
     /// Takes the request of a tester, of the number 0 to 3, and writes the response in place of what `out` holds. The answer tells
     /// whether the response is suppressed.
-    pub fn request(
+    fn request(
         &mut self,
         tester: u8,
         bytes: &ArrayVec<u8, REQUEST>,
@@ -289,7 +289,7 @@ impl UnitState {
     }
 
     /// What is shown of an event. To show it changes nothing.
-    pub fn show(&self, event: u16) -> Shown
+    fn show(&self, event: u16) -> Shown
         requires { event < length self.now.dem.faults.config.events.items }
         ensures answer { (life : Life) (past : History) → Stands life past self.now → replies.Shown result ≡ answer life past (ops.Show event) }
         ensures stands { (life : Life) (past : History) → Stands life past self.now → Stands life (ops.Show event ∷ past) self.now }
@@ -339,7 +339,8 @@ impl UnitState {
         }
     }
 
-    /// Carries out a call, and answers it. A snapshot writes the durable state to `out`; nothing else writes it.
+    /// Carries out a call, and answers it: the one way in which a unit that runs is changed or asked. A snapshot writes the
+    /// durable state to `out`; nothing else writes it.
     pub fn apply(&mut self, dids: &DidTable<DID_ROWS>, op: &Op, out: &mut Persist) -> Reply
         requires served { Serves (dids_of dids.now) self.old.dem.faults.config.events.items }
         requires admitted { IsAdmitted self.old.dem.faults.config op.now }
