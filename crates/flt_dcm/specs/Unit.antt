@@ -63,6 +63,11 @@ IsReading ops.Snapshot = Unit {0}
 IsReading (ops.Saved generation) = Unit {0}
 IsReading _ = ⊥
 
+-- A tester's request.
+abbrev pub IsRequest : Op → Type 0
+IsRequest (ops.Request tester bytes) = Unit {0}
+IsRequest _ = ⊥
+
 -- A negative response.
 abbrev pub IsNegative : Reply → Type 0
 IsNegative (replies.Response bytes) = slice_get bytes.items 0 ≡ Some 0x7F

@@ -16,8 +16,10 @@ ghost use Rattle.flt_dem.specs.Manager.{StandsFor, reply_of as cause_reply};
 ghost use Rattle.flt_dem.specs.View.{view_of};
 ghost use Rattle.flt_dcm.specs.Session.{is_extended_one, has_hold, heard, after, after_asked, ticked};
 ghost use Rattle.flt_dcm.specs.Standard.{SaysStandard};
-ghost use Rattle.flt_dcm.specs.Unit.{Stands, IsAdmitted, IsReading, IsNegative, written, session_at};
+ghost use Rattle.flt_dcm.specs.Unit.{Stands, IsAdmitted, IsReading, IsNegative, IsRequest, written, session_at};
+ghost use Rattle.flt_dcm.specs.ReplyKind.{reply_with};
 
+use crate::reply_kind::ReplyKind;
 use crate::response::{ALL_DTCS, UnknownDtc, put_positive};
 use crate::session::Session;
 use arrayvec::ArrayVec;
@@ -161,27 +163,6 @@ fn ticked_sessions(sessions: [Session; TESTERS], ticks: u16) -> [Session; TESTER
     sessions.map(|session| session.tick(ticks))
 }
 
-/// A response, which may be suppressed.
-fn sent_unless(silent: bool, bytes: ArrayVec<u8, RESPONSE>) -> Reply
-    ensures { result ≡ unless_silent silent bytes.items }
-{
-    if silent {
-        Reply::Silent
-    } else {
-        Reply::Response(bytes)
-    }
-}
-
-/// The answer to a report, which may have been ignored.
-fn taken_unless(cause: Option<Cause>) -> Reply
-    ensures { result ≡ cause_reply cause }
-{
-    match cause {
-        Some(cause) => Reply::Ignored(cause),
-        None => Reply::Taken,
-    }
-}
-
 impl UnitState {
     /// A unit with nothing saved, to which no call was made: its manager is put at its beginning, and each tester is
     /// in the default session.
@@ -298,49 +279,81 @@ impl UnitState {
     }
 
     /// Carries out a call, and answers it.
-    fn take(&mut self, dids: &DidTable<DID_ROWS>, op: &Op, out: &mut Persist) -> Reply
+    fn take(
+        &mut self,
+        dids: &DidTable<DID_ROWS>,
+        op: &Op,
+        out: &mut Persist,
+        response: &mut ArrayVec<u8, RESPONSE>,
+    ) -> ReplyKind
         requires served { Serves (dids_of dids.now) self.old.dem.faults.config.events.items }
         requires admitted { IsAdmitted self.old.dem.faults.config op.now }
         ensures config { self.new.dem.faults.config ≡ self.old.dem.faults.config }
         ensures base { self.new.base ≡ self.old.base }
         ensures stands { (life : Life) (past : History) → Stands life past self.old → Stands life (op.now ∷ past) self.new }
-        ensures answer { (life : Life) (past : History) → Stands life past self.old → result ≡ answer life past op.now }
+        ensures answer { (life : Life) (past : History) → Stands life past self.old → reply_with result response.new.items ≡ answer life past op.now }
+        ensures unsent { ¬ IsRequest op.now → response.new ≡ response.old }
         ensures written { (life : Life) (past : History) → Stands life past self.old → out.new ≡ written life past op.now out.old }
         ensures kept { op.now ≢ ops.Snapshot → out.new ≡ out.old }
         ensures reading { IsReading op.now → self.new ≡ self.old }
-        ensures negative { (tester : ℕ) (bytes : RequestBytes) → op.now ≡ ops.Request tester bytes → IsNegative result
+        ensures negative { (tester : ℕ) (bytes : RequestBytes) → op.now ≡ ops.Request tester bytes → IsNegative (reply_with result response.new.items)
             → self.new ≡ record self.old { sessions = slice_set self.old.sessions tester (heard (session_at self.old.sessions tester)) } }
     {
         match op {
             Op::Signal { index, value } => {
                 self.signal(*index, *value);
-                Reply::Taken
+                ReplyKind::Taken
             }
-            Op::Report { event, report } => taken_unless(self.report(dids, *event, *report)),
+            Op::Report { event, report } => {
+                ReplyKind::of_report(self.report(dids, *event, *report))
+            }
             Op::Tick { ticks } => {
                 self.tick(dids, *ticks);
-                Reply::Taken
+                ReplyKind::Taken
             }
             Op::Cycle { cycle } => {
                 self.cycle(*cycle);
-                Reply::Taken
+                ReplyKind::Taken
             }
             Op::Request { tester, bytes } => {
-                let mut out = ArrayVec::new();
-                let silent = self.request(*tester, bytes, &mut out);
-                sent_unless(silent, out)
+                ReplyKind::of_request(self.request(*tester, bytes, response))
             }
-            Op::Show { event } => Reply::Shown(self.show(*event)),
+            Op::Show { event } => ReplyKind::Shown(self.show(*event)),
             Op::Snapshot => {
                 self.dem.persist(out);
-                Reply::Taken
+                ReplyKind::Taken
             }
-            Op::Saved { .. } => Reply::Taken,
+            Op::Saved { .. } => ReplyKind::Taken,
         }
     }
 
-    /// Carries out a call, and answers it: the one way in which a unit that runs is changed or asked. A snapshot writes the
-    /// durable state to `out`; nothing else writes it.
+    /// Carries out a call, and answers it: the one way in which a unit that runs is changed or asked. The bytes of a response are
+    /// written in place of what `response` holds. A snapshot writes the durable state to `out`; nothing else writes it.
+    pub fn apply_into(
+        &mut self,
+        dids: &DidTable<DID_ROWS>,
+        op: &Op,
+        out: &mut Persist,
+        response: &mut ArrayVec<u8, RESPONSE>,
+    ) -> ReplyKind
+        requires served { Serves (dids_of dids.now) self.old.dem.faults.config.events.items }
+        requires admitted { IsAdmitted self.old.dem.faults.config op.now }
+        ensures config { self.new.dem.faults.config ≡ self.old.dem.faults.config }
+        ensures base { self.new.base ≡ self.old.base }
+        ensures stands { (life : Life) (past : History) → Stands life past self.old → Stands life (op.now ∷ past) self.new }
+        ensures answer { (life : Life) (past : History) → Stands life past self.old → reply_with result response.new.items ≡ answer life past op.now }
+        ensures unsent { ¬ IsRequest op.now → response.new ≡ response.old }
+        ensures written { (life : Life) (past : History) → Stands life past self.old → out.new ≡ written life past op.now out.old }
+        ensures kept { op.now ≢ ops.Snapshot → out.new ≡ out.old }
+        ensures reading { IsReading op.now → self.new ≡ self.old }
+        ensures negative { (tester : ℕ) (bytes : RequestBytes) → op.now ≡ ops.Request tester bytes → IsNegative (reply_with result response.new.items)
+            → self.new ≡ record self.old { sessions = slice_set self.old.sessions tester (heard (session_at self.old.sessions tester)) } }
+        ensures standard { (life : Life) (past : History) → Stands life past self.old → SaysStandard life (op.now ∷ past) self.new.dem }
+    {
+        self.take(dids, op, out, response)
+    }
+
+    /// Carries out a call, and answers it, as `apply_into` does, with the bytes of a response in the answer.
     pub fn apply(&mut self, dids: &DidTable<DID_ROWS>, op: &Op, out: &mut Persist) -> Reply
         requires served { Serves (dids_of dids.now) self.old.dem.faults.config.events.items }
         requires admitted { IsAdmitted self.old.dem.faults.config op.now }
@@ -355,6 +368,8 @@ impl UnitState {
             → self.new ≡ record self.old { sessions = slice_set self.old.sessions tester (heard (session_at self.old.sessions tester)) } }
         ensures standard { (life : Life) (past : History) → Stands life past self.old → SaysStandard life (op.now ∷ past) self.new.dem }
     {
-        self.take(dids, op, out)
+        let mut response = ArrayVec::new();
+        let kind = self.apply_into(dids, op, out, &mut response);
+        kind.with(response)
     }
 }

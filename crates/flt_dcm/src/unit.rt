@@ -11,13 +11,16 @@ ghost use Rattle.flt_model.specs.Request.{RequestBytes};
 ghost use Rattle.flt_dem.specs.Dem.{config_of as dem_config, table_of as dem_table};
 ghost use Rattle.flt_dcm.specs.Session.{heard};
 ghost use Rattle.flt_dcm.specs.Standard.{SaysStandard};
-ghost use Rattle.flt_dcm.specs.Unit.{Stands, IsAdmitted, IsReading, IsNegative, written, session_at};
+ghost use Rattle.flt_dcm.specs.Unit.{Stands, IsAdmitted, IsReading, IsNegative, IsRequest, written, session_at};
+ghost use Rattle.flt_dcm.specs.ReplyKind.{reply_with};
 
+use crate::reply_kind::ReplyKind;
 use crate::state::UnitState;
+use arrayvec::ArrayVec;
 use flt_config::{Persist, ValidConfig};
 use flt_dem::Dem;
 use flt_did::{DID_ROWS, DidTable};
-use flt_model::{Op, Reply};
+use flt_model::{Op, RESPONSE, Reply};
 
 /// The whole status machine: the event manager with its table of data identifiers, the sessions of the four testers,
 /// and the durable state that it was last started from.
@@ -65,8 +68,32 @@ impl Unit {
         self.state.config()
     }
 
-    /// Carries out a call, and answers it: the one way in which a unit that runs is changed or asked. A snapshot writes the
-    /// durable state to `out`; nothing else writes it.
+    /// Carries out a call, and answers it: the one way in which a unit that runs is changed or asked. The bytes of a response are
+    /// written in place of what `response` holds. A snapshot writes the durable state to `out`; nothing else writes it.
+    pub fn apply_into(
+        &mut self,
+        op: &Op,
+        out: &mut Persist,
+        response: &mut ArrayVec<u8, RESPONSE>,
+    ) -> ReplyKind
+        requires admitted { IsAdmitted (config_of self.old) op.now }
+        ensures config { config_of self.new ≡ config_of self.old }
+        ensures dids { table_of self.new ≡ table_of self.old }
+        ensures base { (state_of self.new).base ≡ (state_of self.old).base }
+        ensures stands { (life : Life) (past : History) → Stands life past (state_of self.old) → Stands life (op.now ∷ past) (state_of self.new) }
+        ensures answer { (life : Life) (past : History) → Stands life past (state_of self.old) → reply_with result response.new.items ≡ answer life past op.now }
+        ensures unsent { ¬ IsRequest op.now → response.new ≡ response.old }
+        ensures written { (life : Life) (past : History) → Stands life past (state_of self.old) → out.new ≡ written life past op.now out.old }
+        ensures kept { op.now ≢ ops.Snapshot → out.new ≡ out.old }
+        ensures reading { IsReading op.now → state_of self.new ≡ state_of self.old }
+        ensures negative { (tester : ℕ) (bytes : RequestBytes) → op.now ≡ ops.Request tester bytes → IsNegative (reply_with result response.new.items)
+            → state_of self.new ≡ record (state_of self.old) { sessions = slice_set (state_of self.old).sessions tester (heard (session_at (state_of self.old).sessions tester)) } }
+        ensures standard { (life : Life) (past : History) → Stands life past (state_of self.old) → SaysStandard life (op.now ∷ past) (state_of self.new).dem }
+    {
+        self.state.apply_into(&self.dids, op, out, response)
+    }
+
+    /// Carries out a call, and answers it, as `apply_into` does, with the bytes of a response in the answer.
     pub fn apply(&mut self, op: &Op, out: &mut Persist) -> Reply
         requires admitted { IsAdmitted (config_of self.old) op.now }
         ensures config { config_of self.new ≡ config_of self.old }

@@ -190,24 +190,23 @@ impl Faults {
         states::pass(&mut self.states, event as usize);
     }
 
-    /// Takes a result of an event, if there is one, at these signals.
+    /// Takes a result of an event, at these signals.
     pub fn take(
         &mut self,
         dids: &DidTable<DID_ROWS>,
         signals: &Signals,
         event: u16,
-        outcome: Option<Qualified>,
+        qualified: Qualified,
     )
         requires configured { event < length self.old.config.events.items }
         requires served { Serves (dids_of dids.now) self.old.config.events.items }
         ensures config { self.new.config ≡ self.old.config }
-        ensures stands { (life : Life) (marks : Trace) → FaultsStand life marks self.old → FaultsStand life (with_result life signals.now.values event outcome marks) self.new }
+        ensures stands { (life : Life) (marks : Trace) → FaultsStand life marks self.old → FaultsStand life (with_result life signals.now.values event (Some qualified) marks) self.new }
         ensures others { (other : ℕ) → other ≢ event → find (is_of_event other) self.old.memory.entries ≡ None → slice_get self.new.states other ≡ slice_get self.old.states other }
     {
-        match outcome {
-            Some(Qualified::Failed) => self.fail(dids, signals, event),
-            Some(Qualified::Passed) => self.pass(event),
-            None => {}
+        match qualified {
+            Qualified::Failed => self.fail(dids, signals, event),
+            Qualified::Passed => self.pass(event),
         }
     }
 

@@ -37,8 +37,10 @@ pub fn report(
     ensures others { (other : ℕ) → other ≢ event → slice_get debounces.new other ≡ slice_get debounces.old other }
     ensures states { (other : ℕ) → other ≢ event → find (is_of_event other) faults.old.memory.entries ≡ None → slice_get faults.new.states other ≡ slice_get faults.old.states other }
 {
-    let outcome = debounces::report(faults.config(), debounces, event as usize, report);
-    faults.take(dids, signals, event, outcome);
+    match debounces::report(faults.config(), debounces, event as usize, report) {
+        Some(qualified) => faults.take(dids, signals, event, qualified),
+        None => {}
+    }
 }
 
 /// Lets ticks go by for one event, with the setting on.
@@ -57,8 +59,10 @@ fn tick_one(
     ensures kinds { AreOfKind faults.old.config.events.items debounces.old → AreOfKind faults.old.config.events.items debounces.new }
     ensures part { (life : Life) (past : History) → is_setting_off past ≡ false → signals.now.values ≡ signals_after past → TakesPart life past (ops.Tick ticks) event debounces.old faults.old debounces.new faults.new }
 {
-    let outcome = debounces::tick(faults.config(), debounces, event as usize, ticks);
-    faults.take(dids, signals, event, outcome);
+    match debounces::tick(faults.config(), debounces, event as usize, ticks) {
+        Some(qualified) => faults.take(dids, signals, event, qualified),
+        None => {}
+    }
 }
 
 /// Lets ticks go by for each event, with the setting on.

@@ -1,18 +1,22 @@
 -- Steps that are made one after the other.
-use Rattle.std.proofs.Common.{◌≡◌, ℕ, ◌+◌, ◌<◌, ◌≤◌, Bool, true, false, List, [], ◌∷◌, ◌++◌, length, get_or, drop, map, refl, add-one, append_assoc, drop-cons}
+use Rattle.std.proofs.Common.{◌≡◌, ℕ, ◌+◌, ◌<◌, ◌≤◌, leb, ltb, arith, Bool, true, false, List, [], ◌∷◌, ◌++◌, length, get_or, drop, map, refl, add-one, append_assoc, drop-cons}
 use Rattle.std.specs.Prelude.{IsTrue, Vec, ◌&&◌}
 use Rattle.std.specs.List.{list_all}
 use Rattle.std.proofs.lemmas.List.{append-nil, map-append}
 use Rattle.std.proofs.lemmas.List.Recursion.{and_at}
+use Rattle.std.proofs.lemmas.Bool.{and_parts, leb-true, ltb-true}
 use Rattle.std.proofs.Math.ListN.{drop_of_length-le}
 use Rattle.flt_model.specs.Life.{Life, History}
 use Rattle.flt_model.specs.Answer.{answer, answers}
 use Rattle.flt_run.specs.declared.reply.Reply.{Reply}
-use Rattle.flt_dcm.specs.Unit.{UnitView, Stands}
+use Rattle.flt_config.specs.declared.config.Config.{Config}
+use Rattle.flt_dcm.specs.Unit.{UnitView, Stands, IsAdmitted}
 use Rattle.flt_script.specs.Step.{is_part_among, is_step_among, are_parts_among}
 use Rattle.flt_script.specs.declared.step.Part.{Part}
 use Rattle.flt_script.specs.declared.step.Part.TheVariants.{One}
-use Rattle.flt_run.specs.Steps.{answer_of, lists, op_of, parts_of, step_of}
+use Rattle.flt_script.specs.declared.step.Step.{Step}
+use Rattle.flt_script.specs.declared.step.Step.TheVariants as steps
+use Rattle.flt_run.specs.Steps.{answer_of, lists, op_of, op_of_step, parts_of, step_of}
 
 -- ---- the loop over the parts
 
@@ -48,10 +52,23 @@ pub parts_among : {A : Type 0} (events : ℕ) (lives : List (Vec Part A)) → Is
 parts_among events [] all = refl
 parts_among events (life ∷ lives) all = and_first _ _ all
 
-step_among : (events : ℕ) (part : Part) → is_part_among events part ≡ true → is_step_among events (step_of part) ≡ true
-step_among events (One step) among = among
+-- The call of a step whose numbers are in their ranges is admitted.
+admitted_step : (config : Config) (step : Step) → is_step_among (length config.events.items) step ≡ true → IsAdmitted config (op_of_step step)
+admitted_step config (steps.Report event report) among = ltb-true event (length config.events.items) among
+admitted_step config (steps.Show event) among = ltb-true event (length config.events.items) among
+admitted_step config (steps.Cycle cycle) among = let most = leb-true cycle 3 among in omega (arith, most)
+admitted_step config (steps.Tick ticks) among = tt
+admitted_step config (steps.Signal index value) among = let most = leb-true index 7 (and_first (leb index 7) _ among) in omega (arith, most)
+admitted_step config (steps.Request tester bytes) among =
+    let parts = and_parts (leb tester 3) (ltb 0 (length bytes.items)) among in
+    let most = leb-true tester 3 parts.0 in
+    (omega (arith, most), ltb-true 0 (length bytes.items) parts.1)
 
-pub step_at : (events : ℕ) (parts : List Part) (index : ℕ) (d : Part) → IsTrue (are_parts_among events parts) → index < length parts
-    → IsTrue (is_step_among events (step_of (get_or parts index d)))
-step_at events parts index d all within =
-    step_among events (get_or parts index d) (and_at (are_parts_among events) (is_part_among events) refl (λ _ _. refl) parts index d within all)
+admitted_part : (config : Config) (part : Part) → is_part_among (length config.events.items) part ≡ true → IsAdmitted config (op_of part)
+admitted_part config (One step) among = admitted_step config step among
+
+pub admitted_at : (config : Config) (parts : List Part) (index : ℕ) (d : Part) → IsTrue (are_parts_among (length config.events.items) parts) → index < length parts
+    → IsAdmitted config (op_of (get_or parts index d))
+admitted_at config parts index d all within =
+    let events = length config.events.items in
+    admitted_part config (get_or parts index d) (and_at (are_parts_among events) (is_part_among events) refl (λ _ _. refl) parts index d within all)

@@ -1,20 +1,19 @@
-ghost use Rattle.std.specs.Prelude.{◌≡◌, ◌<◌, ◌∷◌, IfOk, IsTrue, length};
+ghost use Rattle.std.specs.Prelude.{◌≡◌, ◌∷◌, IfOk};
 ghost use Rattle.flt_model.specs.Life.{Life, History};
 ghost use Rattle.flt_model.specs.Answer.{answer};
-ghost use Rattle.flt_model.specs.declared.call.Op.TheVariants as ops;
 ghost use Rattle.flt_did.specs.Serves.{Serves};
 ghost use Rattle.flt_did.specs.Table.{dids_of};
-ghost use Rattle.flt_dcm.specs.Unit.{Stands};
+ghost use Rattle.flt_dcm.specs.Unit.{IsAdmitted, Stands};
 ghost use Rattle.flt_dcm.specs.Whole.{config_of, state_of};
 ghost use Rattle.flt_script.specs.Script.{content};
-ghost use Rattle.flt_script.specs.Step.{is_step_among};
 ghost use Rattle.flt_run.specs.Coming.{IsAnswered, IsReplayOf};
 ghost use Rattle.flt_run.specs.Steps.{answer_of, lists, op_of_step, parts_of, step_of};
 
 use crate::ending::Ending;
 use crate::reply::Reply;
 use arrayvec::ArrayVec;
-use flt_dcm::Unit;
+use flt_config::{Persist, initial};
+use flt_dcm::{ReplyKind, Unit};
 use flt_dem::Dem;
 use flt_did::{DID_ROWS, DidTable};
 use flt_model::{Op, REQUEST, RESPONSE};
@@ -70,58 +69,28 @@ fn op_of(step: &Step) -> Op
     }
 }
 
-/// Sends a tester's request. The reply takes as many bytes as the response has.
-fn send(
-    alloc: Global,
-    unit: &mut Unit,
-    tester: u8,
-    bytes: &ArrayVec<u8, REQUEST>,
-    response: &mut ArrayVec<u8, RESPONSE>,
-) -> Result<Reply, AllocError>
-    requires tester { tester < 4 }
-    requires some { 0 < length bytes.now.items }
-    ensures config { config_of unit.new ≡ config_of unit.old }
-    ensures stands { (life : Life) (past : History) → Stands life past (state_of unit.old) → Stands life (ops.Request tester bytes.now ∷ past) (state_of unit.new) }
-    ensures reply { (life : Life) (past : History) → Stands life past (state_of unit.old) → IfOk result (λ reply. answer_of reply ≡ answer life past (ops.Request tester bytes.now)) }
-{
-    if unit.request(tester, bytes, response) {
-        return Ok(Reply::Silent);
-    }
-    let bytes = Vec::from_slice(alloc, response)?;
-    Ok(Reply::Response(bytes))
-}
-
-/// Makes the call of a step.
+/// Makes a call. The bytes of a response are written in place of what `response` holds, and the reply takes as many as there are.
 fn apply(
     alloc: Global,
     unit: &mut Unit,
-    step: &Step,
+    op: &Op,
+    saved: &mut Persist,
     response: &mut ArrayVec<u8, RESPONSE>,
 ) -> Result<Reply, AllocError>
-    requires { IsTrue (is_step_among (length (config_of unit.old).events.items) step.now) }
+    requires { IsAdmitted (config_of unit.old) op.now }
     ensures config { config_of unit.new ≡ config_of unit.old }
-    ensures stands { (life : Life) (past : History) → Stands life past (state_of unit.old) → Stands life (op_of_step step.now ∷ past) (state_of unit.new) }
-    ensures reply { (life : Life) (past : History) → Stands life past (state_of unit.old) → IfOk result (λ reply. answer_of reply ≡ answer life past (op_of_step step.now)) }
+    ensures stands { (life : Life) (past : History) → Stands life past (state_of unit.old) → Stands life (op.now ∷ past) (state_of unit.new) }
+    ensures reply { (life : Life) (past : History) → Stands life past (state_of unit.old) → IfOk result (λ reply. answer_of reply ≡ answer life past op.now) }
 {
-    match step {
-        Step::Report { event, report } => match unit.report(*event, *report) {
-            Some(cause) => Ok(Reply::Ignored(cause)),
-            None => Ok(Reply::Taken),
-        },
-        Step::Show { event } => Ok(Reply::Shown(unit.show(*event))),
-        Step::Cycle { cycle } => {
-            unit.cycle(*cycle);
-            Ok(Reply::Taken)
+    match unit.apply_into(op, saved, response) {
+        ReplyKind::Taken => Ok(Reply::Taken),
+        ReplyKind::Ignored(cause) => Ok(Reply::Ignored(cause)),
+        ReplyKind::Shown(shown) => Ok(Reply::Shown(shown)),
+        ReplyKind::Response => {
+            let bytes = Vec::from_slice(alloc, response)?;
+            Ok(Reply::Response(bytes))
         }
-        Step::Tick { ticks } => {
-            unit.tick(*ticks);
-            Ok(Reply::Taken)
-        }
-        Step::Signal { index, value } => {
-            unit.signal(*index, *value);
-            Ok(Reply::Taken)
-        }
-        Step::Request { tester, bytes } => send(alloc, unit, *tester, bytes, response),
+        ReplyKind::Silent => Ok(Reply::Silent),
     }
 }
 
@@ -136,15 +105,17 @@ pub(crate) fn replay(
     ensures answered { IfOk result IsAnswered }
 {
     let Script { config, lives, .. } = script;
+    let mut saved = initial(&config);
     let mut response = ArrayVec::new();
     let mut unit = Unit::make(Dem::make(config, dids));
     let parts = parts_of(&lives);
     let mut journal = Vec::with_capacity(alloc, parts.len())?;
     let mut replies = Vec::with_capacity(alloc, parts.len())?;
     for part in parts {
-        let step = step_of(part);
-        journal.push(op_of(step))?;
-        replies.push(apply(alloc, &mut unit, step, &mut response)?)?;
+        let op = op_of(step_of(part));
+        let reply = apply(alloc, &mut unit, &op, &mut saved, &mut response)?;
+        journal.push(op)?;
+        replies.push(reply)?;
     }
     Ok(Ending::Ran {
         lives,

@@ -7,7 +7,7 @@ use Rattle.flt_dcm.proofs.state.UnitState.take.Goals as goal
 
 pub returns-in-Request-clause-stands : goal.returns-in-Request-clause-stands
 returns-in-Request-clause-stands g c = λ life past s.
-    subst (λ call. Stands life (call ∷ past) c.request-silent.new.self) (sym c.in-Request.is) (c.request-silent.ensures.stands life past s)
+    subst (λ call. Stands life (call ∷ past) c.request.new.self) (sym c.in-Request.is) (c.request.ensures.stands life past s)
 
 pub returns-in-Saved-clause-stands : goal.returns-in-Saved-clause-stands
 returns-in-Saved-clause-stands g c = λ life past s.
