@@ -8,6 +8,7 @@ use Rattle.flt_config.specs.declared.config.Config.{Config}
 use Rattle.flt_config.specs.declared.config.EventCfg.{EventCfg}
 use Rattle.flt_config.specs.declared.persist.Persist.{Persist}
 use Rattle.flt_config.specs.declared.persist.EntryState.{EntryState}
+use Rattle.flt_config.proofs.InitialFits.{initial_states}
 use Rattle.flt_config.specs.Durable.{Fits, AreStatesOf, IsStateOf, IsEntryOf, IsOfOtherEvent, initial_state, is_of_event, start_state}
 use Rattle.flt_config.proofs.DistinctLemmas.{position-None}
 use Rattle.flt_generation.specs.declared.commit.Commit.{Commit}
@@ -231,21 +232,6 @@ module _ (c : Config) (value : ℕ → Content) (commit : Commit) (count : ℕ) 
       ]
 
 -- ---- all blocks
--- an event that was not tested fits
-start_fits : (event : EventCfg) → IsStateOf event start_state
-start_fits event = record {
-  status = omega arith;
-  failed = omega arith;
-  clean = omega arith;
-  warning = (λ set. absurd (set refl), λ both. absurd (let no = both.0 in cc));
-  lit = λ is. absurd (cc);
-}
-
-pub initial_states : (c : Config) → AreStatesOf c.events.items (initial_state c).events.items
-initial_states c = record {
-  one_each = length-replicate (length c.events.items) start_state;
-  fitting = λ k event state below. subst (IsStateOf (slice_index_or c.events.items k event)) (sym (get_or-replicate (length c.events.items) k start_state state below)) (start_fits (slice_index_or c.events.items k event));
-}
 
 at_start : (c : Config) (value : ℕ → Content) (commit : Commit) → Sofar c value commit 0 (initial_state c)
 at_start c value commit = record {

@@ -1,7 +1,8 @@
 -- An entry that the marks make of a base that fits is one that fits.
-use Rattle.std.proofs.Common.{◌≡◌, ◌∙◌, ℕ, ◌-◌, ◌≤◌, nat_eq, Bool, true, false, cond, List, [], ◌∷◌, length, Some, None, refl, arith, eqb-true}
-use Rattle.std.specs.Prelude.{All, find, unwrap_or, is_some, IfSome, if◌then◌else◌, sum_by, ◌==◌}
+use Rattle.std.proofs.Common.{◌≡◌, ◌∙◌, ℕ, zero, suc, ◌+◌, ◌-◌, ◌<◌, ◌≤◌, min, nat_eq, nat_lt, Bool, true, false, ◌&&◌, cond, List, [], ◌∷◌, ◌++◌, length, get_or, map, Option, Some, None, refl, sym, ap, subst, arith, inl, inr, eqb-true, eq-eqb}
+use Rattle.std.specs.Prelude.{All, AllPairs, find, unwrap_or, option_map, is_some, IfSome, if◌then◌else◌, drop, sum_by, ◌==◌}
 use Rattle.std.specs.Int.{w64, to_be_bytes}
+use Rattle.std.proofs.lemmas.Bool.{cases_Bool}
 use Rattle.std.proofs.lemmas.List.{length-drop}
 use Rattle.std.proofs.lemmas.List.Concat.{length-flat_map}
 use Rattle.std.proofs.lemmas.List.Sums.{sum_by-cons}
@@ -11,12 +12,18 @@ use Rattle.flt_config.specs.declared.config.EventCfg.{EventCfg}
 use Rattle.flt_config.specs.declared.persist.EntryState.{EntryState}
 use Rattle.flt_config.specs.Ranges.{frame_width}
 use Rattle.flt_config.specs.Durable.{IsEntryOf, is_of_event}
-use Rattle.flt_model.specs.Life.{Life, event_of}
+use Rattle.flt_model.specs.Life.{Life, History, count, event_of, base_of}
 use Rattle.flt_model.specs.Mark.{Mark, Past, Kind, Trace, Of, AllCleared, own, marks_of, decided, count_since, one_more}
 use Rattle.flt_model.specs.Mark.Mark.{Failed, Passed, Cycle, Clear, Aged, Displaced, Added, Refused}
+use Rattle.flt_model.specs.Status.{enters, ages}
 use Rattle.flt_model.specs.Frame.{did_bytes, frame_bytes}
-use Rattle.flt_model.specs.Entry.{has_entry, entry_row, restarts_occurrence, base_entry, base_first, first_row, frame}
-use Rattle.flt_model.specs.Happening.{signals}
+use Rattle.flt_model.specs.Entry.{holders, has_entry, worst, rank_of, gives_way, entry_row, restarts_occurrence, is_entering, base_entry, base_occurrence, base_first, base_recent, first_row, recent_row, frame}
+use Rattle.flt_model.specs.Debounce.{Happening, Reported, Ticked, Ended, Cleared}
+use Rattle.flt_model.specs.Happening.{happening_of, signals, cleared_dtc, all_dtcs}
+use Rattle.flt_model.specs.Trace.{trace, with_clear, in_order, event_part, with_marks, with_result, result_of, with_failed, aged_where, stored_where, stored, added, added_in_full, added_for}
+use Rattle.flt_model.specs.declared.call.Op.{Op}
+use Rattle.flt_model.specs.declared.call.Qualified.{Qualified}
+use Rattle.flt_model.specs.declared.call.Qualified.TheVariants as results
 
 -- ---- the width of a frame
 

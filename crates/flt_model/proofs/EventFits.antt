@@ -1,6 +1,6 @@
 -- A state of an event that the marks make of one that fits is one that fits.
-use Rattle.std.proofs.Common.{◌≡◌, ◌∙◌, ℕ, ◌≤◌, ◌^◌, ◌*◌, true, nat_lt, [], ◌∷◌, sym, ap, arith, ⊎_elim, eq-eqb, eqb-true}
-use Rattle.std.specs.Prelude.{IsBitSet}
+use Rattle.std.proofs.Common.{◌≡◌, ◌∙◌, ℕ, ◌+◌, ◌<◌, ◌≤◌, ◌^◌, ◌*◌, Bool, true, false, ◌&&◌, nat_lt, [], ◌∷◌, refl, sym, ap, arith, ⊎_elim, inl, inr, eq-eqb, eqb-true}
+use Rattle.std.specs.Prelude.{IsBitSet, IsTrue}
 use Rattle.std.specs.Int.{bit_at}
 use Rattle.std.proofs.lemmas.Bool.{and_parts, and_from, lt-ltb, ltb-true, cases_eq}
 use Rattle.std.proofs.lemmas.Nat.{pow_pos}
@@ -9,7 +9,7 @@ use Rattle.flt_config.specs.declared.config.EventCfg.{EventCfg}
 use Rattle.flt_config.specs.declared.persist.EventState.{EventState}
 use Rattle.flt_config.specs.Durable.{IsStateOf}
 use Rattle.flt_model.specs.declared.status.Status.{Status}
-use Rattle.flt_model.specs.Byte.{byte_of, is_bit_set}
+use Rattle.flt_model.specs.Byte.{value_of, byte_of, is_bit_set}
 use Rattle.flt_model.specs.Mark.{Past}
 use Rattle.flt_model.specs.Mark.Mark.{Failed, Passed, Cycle, Clear, Aged, Displaced, Added, Refused}
 use Rattle.flt_model.specs.Status.{confirmed, lit, clean_count, status, durable}

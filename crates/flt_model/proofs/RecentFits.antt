@@ -1,16 +1,16 @@
 -- The recent frame of an entry has the width of its event: it is taken by the failure that adds the entry, or by a later one.
-use Rattle.std.proofs.Common.{◌≡◌, ℕ, zero, suc, nat_eq, nat_lt, Bool, true, false, ◌&&◌, List, [], ◌∷◌, length, Option, Some, None, refl, subst, inl, inr, eqb-true, eq-eqb}
+use Rattle.std.proofs.Common.{◌≡◌, ◌∙◌, ℕ, zero, suc, nat_eq, nat_lt, Bool, true, false, ◌&&◌, List, [], ◌∷◌, length, Option, Some, None, refl, sym, ap, subst, inl, inr, eqb-true, eq-eqb}
 use Rattle.std.specs.Prelude.{unwrap_or, is_some, if◌then◌else◌}
 use Rattle.std.proofs.lemmas.Bool.{cases_Bool}
 use Rattle.flt_config.specs.Ranges.{frame_width}
 use Rattle.flt_model.specs.Life.{Life, History, count, event_of, base_of}
-use Rattle.flt_model.specs.Mark.{Mark, Past, Trace, Of, own, marks_of, decided}
+use Rattle.flt_model.specs.Mark.{Mark, Past, Trace, Of, AllCleared, own, marks_of, decided}
 use Rattle.flt_model.specs.Mark.Mark.{Failed, Passed, Cycle, Clear, Aged, Displaced, Added, Refused}
 use Rattle.flt_model.specs.Status.{enters, ages}
 use Rattle.flt_model.specs.Entry.{holders, has_entry, worst, rank_of, gives_way, entry_row, base_entry, base_recent, recent_row, frame}
 use Rattle.flt_model.specs.Debounce.{Happening, Reported, Ticked, Ended, Cleared}
 use Rattle.flt_model.specs.Happening.{happening_of, signals, cleared_dtc, all_dtcs}
-use Rattle.flt_model.specs.Trace.{trace, with_clear, in_order, event_part, with_marks, with_result, result_of, aged_where, stored_where, stored, added, added_in_full, added_for}
+use Rattle.flt_model.specs.Trace.{trace, with_clear, in_order, event_part, with_marks, with_result, result_of, with_failed, aged_where, stored_where, stored, added, added_in_full, added_for}
 use Rattle.flt_model.specs.declared.call.Op.{Op}
 use Rattle.flt_model.specs.declared.call.Qualified.{Qualified}
 use Rattle.flt_model.specs.declared.call.Qualified.TheVariants as results

@@ -1,21 +1,23 @@
 -- A state that was taken after calls from a state that fits is one that fits.
-use Rattle.std.proofs.Common.{◌≡◌, ◌≢◌, ◌∙◌, ℕ, zero, suc, ◌<◌, ◌≤◌, nat_eq, Bool, true, false, List, [], ◌∷◌, map, length, get_or, Option, Some, None, refl, sym, ap, subst, arith, inl, inr, ⊎_elim, length-append}
+use Rattle.std.proofs.Common.{◌≡◌, ◌≢◌, ◌∙◌, ℕ, zero, suc, ◌+◌, ◌<◌, ◌≤◌, min, nat_eq, Bool, true, false, List, [], ◌∷◌, ◌++◌, map, length, get_or, Option, Some, None, refl, sym, ap, subst, arith, inl, inr, ⊎_elim, length-append}
 use Rattle.std.specs.Prelude.{All, AllPairs, IfSome, unwrap_or, option_map, is_some, slice_get}
 use Rattle.std.proofs.lemmas.Bool.{cases_Bool, cases_eq}
 use Rattle.std.proofs.lemmas.Option.{unwrap_or-slice_get}
 use Rattle.std.proofs.lemmas.List.{get_or-map, length-map, get_or_push, get_or_append_left, get_or_default}
 use Rattle.std.proofs.lemmas.List.Elements.{All-nil, All-head, All-tail, All-map, All-weaker, All-push, All-filter, All-from_get_or, All-get_or}
+use Rattle.flt_config.specs.declared.config.Config.{Config}
 use Rattle.flt_config.specs.declared.config.EventCfg.{EventCfg}
+use Rattle.flt_config.specs.declared.persist.Persist.{Persist}
 use Rattle.flt_config.specs.declared.persist.EntryState.{EntryState}
 use Rattle.flt_config.specs.declared.persist.EventState.{EventState}
 use Rattle.flt_config.specs.Ranges.{frame_width}
 use Rattle.flt_config.specs.Validity.{IsValid, IsEventInRange, IsFromTo}
-use Rattle.flt_config.specs.Durable.{Fits, AreStatesOf, IsStateOf, IsEntryOf, IsOfOtherEvent, start_state}
+use Rattle.flt_config.specs.Durable.{Fits, AreStatesOf, IsStateOf, IsEntryOf, IsOfOtherEvent, IsNoted, start_state}
 use Rattle.flt_model.specs.Life.{Life, History, no_event, count, event_of, base_of}
 use Rattle.flt_model.specs.Mark.{Trace, Of, AllCleared, marks_of}
 use Rattle.flt_model.specs.Mark.Mark.{Failed, Passed, Cycle, Clear, Aged, Displaced, Added, Refused}
 use Rattle.flt_model.specs.Noted.{Notable, is_entering as is_entering_event, is_confirming, recent, first, without, recent_after, first_after}
-use Rattle.flt_model.specs.Entry.{holders, has_entry, is_other, entry_of, base_entry, base_occurrence, is_entering}
+use Rattle.flt_model.specs.Entry.{holders, has_entry, is_among, is_other, entry_of, base_entry, base_first, base_recent, base_occurrence, is_entering}
 use Rattle.flt_model.specs.Trace.{trace}
 use Rattle.flt_model.specs.Durable.{below, state_at, saved}
 use Rattle.flt_model.specs.Laws.{Distinct, SavedStatesFit}

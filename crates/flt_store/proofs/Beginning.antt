@@ -12,7 +12,7 @@ use Rattle.flt_config.specs.Durable.{Fits, initial_state}
 use Rattle.flt_generation.specs.Layout.{commit_id, number_of, mark_number, first_commit, second_commit}
 use Rattle.flt_generation.specs.Laws.{IsGiven}
 use Rattle.flt_generation.specs.Holding.{Generation, Fault, Holds, IsSound, OldOrNew, either_copy, only_bytes, held, spare}
-use Rattle.flt_generation.proofs.Sofar.{initial_states}
+use Rattle.flt_config.proofs.InitialFits.{initial_fits}
 use Rattle.flt_generation.proofs.ImageLaws.{held_stands, spare_stands}
 use Rattle.flt_restore.specs.declared.commit.CommitCopy.{CommitCopy}
 use Rattle.flt_restore.specs.Restored.{HasBytes, IsJudged, IsCopy, IsRestored, generation}
@@ -98,18 +98,6 @@ pub begins_of : (c : Config) → IsGiven c → (before after : BlocksState) (fou
 begins_of c given before after found state same restored =
     let values : before.value ≡ after.value = λ i number. sym (same number) i in
     subst (λ (value : ℕ → Content). Begins c value found (generation found state)) values (begins_at c given before after found state restored)
-
-initial_fits : (c : Config) → Fits c (initial_state c)
-initial_fits c = record {
-  states = initial_states c;
-  room = omega arith;
-  entries = search rules;
-  distinct = search rules;
-  first_failed = tt;
-  first_confirmed = tt;
-  recent_failed = tt;
-  recent_confirmed = tt;
-}
 
 -- the state from which a start-up begins fits
 begun_fits : (c : Config) (value : ℕ → Content) (found : Option CommitCopy) (state : Persist) → Begins c value found (generation found state) → Fits c state
