@@ -1,5 +1,5 @@
 -- Small lemmas that the proofs of several crates want.
-use Rattle.std.proofs.Common.{◌≡◌, ◌≢◌, ◌∙◌, ℕ, zero, suc, ◌<◌, ◌*◌, ◌^◌, List, [], ◌∷◌, ◌++◌, length, get_or, Some, arith, refl, ap, ⊎_elim, eq-eqb, eqb-true}
+use Rattle.std.proofs.Common.{◌≡◌, ◌≢◌, ◌∙◌, ℕ, zero, suc, ◌<◌, ◌*◌, ◌^◌, List, [], ◌∷◌, length, get_or, Some, arith, refl, ap, ⊎_elim, eq-eqb, eqb-true}
 use Rattle.std.specs.Prelude.{Bool, true, false, ◌≤◌, slice_get, slice_set, IsBitSet}
 use Rattle.std.specs.Int.{bit_at}
 use Rattle.std.specs.List.{refill}

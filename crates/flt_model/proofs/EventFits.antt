@@ -1,15 +1,11 @@
 -- A state of an event that the marks make of one that fits is one that fits.
-use Rattle.std.proofs.Common.{◌≡◌, ◌∙◌, ℕ, ◌+◌, ◌<◌, ◌≤◌, ◌^◌, ◌*◌, Bool, true, false, ◌&&◌, nat_lt, [], ◌∷◌, refl, sym, ap, arith, ⊎_elim, inl, inr, eq-eqb, eqb-true}
-use Rattle.std.specs.Prelude.{IsBitSet, IsTrue}
-use Rattle.std.specs.Int.{bit_at}
-use Rattle.std.proofs.lemmas.Bool.{and_parts, and_from, lt-ltb, ltb-true, cases_eq}
-use Rattle.std.proofs.lemmas.Nat.{pow_pos}
-use Rattle.std.proofs.lemmas.Nat.Bits.{and_pow}
+use Rattle.std.proofs.Common.{◌≡◌, ◌∙◌, ◌≤◌, true, nat_lt, [], ◌∷◌, sym, arith}
+use Rattle.std.proofs.lemmas.Bool.{and_parts, and_from, lt-ltb, ltb-true}
 use Rattle.flt_config.specs.declared.config.EventCfg.{EventCfg}
 use Rattle.flt_config.specs.declared.persist.EventState.{EventState}
 use Rattle.flt_config.specs.Durable.{IsStateOf}
 use Rattle.flt_model.specs.declared.status.Status.{Status}
-use Rattle.flt_model.specs.Byte.{value_of, byte_of, is_bit_set}
+use Rattle.flt_model.specs.Byte.{byte_of}
 use Rattle.flt_model.specs.Mark.{Past}
 use Rattle.flt_model.specs.Mark.Mark.{Failed, Passed, Cycle, Clear, Aged, Displaced, Added, Refused}
 use Rattle.flt_model.specs.Status.{confirmed, lit, clean_count, status, durable}
@@ -42,6 +38,7 @@ module _ (rules : EventCfg) (base : EventState) (fits : IsStateOf rules base) wh
   lit_indicated (Added ∷ past) on = lit_indicated past on
   lit_indicated (Refused ∷ past) on = lit_indicated past on
 
+  -- what the marks decide fits again
   pub event_fits : (past : Past) → IsStateOf rules (durable base rules past)
   event_fits past =
       let seven = indicator_is_lit base rules past in

@@ -1,11 +1,11 @@
 -- The event that is noted as the first is the one that holds the note.
-use Rattle.std.proofs.Common.{◌≡◌, ◌⊎◌, ◌∙◌, ℕ, nat_eq, Bool, true, false, [], ◌∷◌, ◌++◌, List, Option, Some, None, refl, sym, ap, subst, inl, inr, ⊎_elim, eq-eqb}
-use Rattle.std.proofs.lemmas.Bool.{cases_eq, cases_Bool, ne_eqb}
+use Rattle.std.proofs.Common.{◌≡◌, ◌∙◌, ℕ, nat_eq, Bool, true, false, [], ◌∷◌, ◌++◌, List, Option, Some, None, refl, sym, ap, subst, inl, inr, ⊎_elim, eq-eqb}
+use Rattle.std.proofs.lemmas.Bool.{cases_eq, ne_eqb}
 use Rattle.std.proofs.lemmas.List.{append-nil}
 use Rattle.flt_model.specs.Mark.{Mark, Past, Traced, Trace, Of, AllCleared, marks_of, own}
 use Rattle.flt_model.specs.Mark.Mark.{Failed, Passed, Cycle, Clear, Aged, Displaced, Added, Refused}
 use Rattle.flt_model.specs.Noted.{Notable, first, without, first_after}
-use Rattle.flt_model.specs.NoteLaws.{has_clear, was_cleared, TakesNote, HoldsNote, FirstIsHolder}
+use Rattle.flt_model.specs.NoteLaws.{has_clear, was_cleared, HoldsNote, FirstIsHolder}
 use Rattle.flt_model.proofs.RecentLaws.{IsNoClear, same_clears}
 
 module _ (notable : Notable) (base : Option ℕ) (event : ℕ) where

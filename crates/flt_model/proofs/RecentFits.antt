@@ -1,16 +1,16 @@
 -- The recent frame of an entry has the width of its event: it is taken by the failure that adds the entry, or by a later one.
-use Rattle.std.proofs.Common.{◌≡◌, ◌∙◌, ℕ, zero, suc, nat_eq, nat_lt, Bool, true, false, ◌&&◌, List, [], ◌∷◌, length, Option, Some, None, refl, sym, ap, subst, inl, inr, eqb-true, eq-eqb}
+use Rattle.std.proofs.Common.{◌≡◌, ℕ, zero, suc, nat_eq, nat_lt, Bool, true, false, ◌&&◌, List, [], ◌∷◌, length, Option, Some, None, refl, subst, inl, inr, eqb-true, eq-eqb}
 use Rattle.std.specs.Prelude.{unwrap_or, is_some, if◌then◌else◌}
 use Rattle.std.proofs.lemmas.Bool.{cases_Bool}
 use Rattle.flt_config.specs.Ranges.{frame_width}
 use Rattle.flt_model.specs.Life.{Life, History, count, event_of, base_of}
-use Rattle.flt_model.specs.Mark.{Mark, Past, Trace, Of, AllCleared, own, marks_of, decided}
+use Rattle.flt_model.specs.Mark.{Mark, Past, Trace, Of, own, marks_of, decided}
 use Rattle.flt_model.specs.Mark.Mark.{Failed, Passed, Cycle, Clear, Aged, Displaced, Added, Refused}
 use Rattle.flt_model.specs.Status.{enters, ages}
 use Rattle.flt_model.specs.Entry.{holders, has_entry, worst, rank_of, gives_way, entry_row, base_entry, base_recent, recent_row, frame}
 use Rattle.flt_model.specs.Debounce.{Happening, Reported, Ticked, Ended, Cleared}
 use Rattle.flt_model.specs.Happening.{happening_of, signals, cleared_dtc, all_dtcs}
-use Rattle.flt_model.specs.Trace.{trace, with_clear, in_order, event_part, with_marks, with_result, result_of, with_failed, aged_where, stored_where, stored, added, added_in_full, added_for}
+use Rattle.flt_model.specs.Trace.{trace, with_clear, in_order, event_part, with_marks, with_result, result_of, aged_where, stored_where, stored, added, added_in_full, added_for}
 use Rattle.flt_model.specs.declared.call.Op.{Op}
 use Rattle.flt_model.specs.declared.call.Qualified.{Qualified}
 use Rattle.flt_model.specs.declared.call.Qualified.TheVariants as results
@@ -41,6 +41,7 @@ module _ (life : Life) (narrow : (event : ℕ) → AreNarrow (event_of life even
   plain event other Added is sent marks framed = framed
   plain event other Refused is sent marks framed = framed
 
+  -- those of all events, under a plain mark that gives no entry
   kept_plain : (other : ℕ) (mark : Mark) → IsPlain mark → IsNotAdded mark → (sent : List ℕ) (marks : Trace) → AreFramed marks → AreFramed (Of other mark sent ∷ marks)
   kept_plain other mark is not sent marks framed = λ event held.
       plain event other mark is sent marks (framed event (still mark not (is_some (base_entry life event)) (nat_eq other event) (marks_of event marks) held))
@@ -51,6 +52,7 @@ module _ (life : Life) (narrow : (event : ℕ) → AreNarrow (event_of life even
   failed_cond true false flag past rest bytes wide before is held = before held
   failed_cond false entering flag past rest bytes wide before is held = before held
 
+  -- under a failure
   framed_failed : (other : ℕ) (sent : List ℕ) (marks : Trace) → AreFramed marks → AreFramed (Of other Failed sent ∷ marks)
   framed_failed other sent marks framed = λ event held.
       failed_cond (nat_eq other event) (enters (base_of life event) (marks_of event marks)) (is_some (base_entry life event)) (marks_of event marks) _ (frame life event sent) _
@@ -70,11 +72,14 @@ module _ (life : Life) (narrow : (event : ℕ) → AreNarrow (event_of life even
   added_cond true flag past Goal own_goal before held = own_goal refl
   added_cond false flag past Goal own_goal before held = before held
 
+  -- and where an event gets an entry whose recent frame was taken
   framed_added : (event : ℕ) (sent : List ℕ) (marks : Trace) → IsFramed event marks → AreFramed marks → AreFramed (Of event Added sent ∷ marks)
   framed_added event sent marks own_framed framed = λ other held.
       added_cond (nat_eq event other) (is_some (base_entry life other)) (marks_of other marks) (IsFramed other (Of event Added sent ∷ marks))
       (λ same. plain other event Added tt sent marks (subst (λ e. IsFramed e marks) (eqb-true event other same) own_framed))
       (λ was. plain other event Added tt sent marks (framed other was)) held
+
+  -- ---- the marks of a call
 
   module _ (event : ℕ) (sent : List ℕ) where
     framed_for : (worst : ℕ) (test : Bool) (marks : Trace) → IsFramed event marks → AreFramed marks → AreFramed (added_for life sent event worst test marks)
@@ -124,6 +129,7 @@ module _ (life : Life) (narrow : (event : ℕ) → AreNarrow (event_of life even
   framed_clear None marks framed = framed
   framed_clear (Some dtc) marks framed = elim (cases_Bool (nat_eq dtc all_dtcs)) [ inl e ↦ rw e framed | inr e ↦ rw e framed ]
 
+  -- so the recent frames have their widths after every list of calls
   pub frames_stay : (past : History) → AreFramed [] → AreFramed (trace life past)
   frames_stay [] framed = framed
   frames_stay (op ∷ past) framed = framed_clear (cleared_dtc op) (in_order (event_part life past op) (count life) (trace life past)) (framed_in_order past op (count life) (trace life past) (frames_stay past framed))

@@ -1,23 +1,19 @@
 -- A state that was taken after calls from a state that fits is one that fits.
-use Rattle.std.proofs.Common.{◌≡◌, ◌≢◌, ◌∙◌, ℕ, zero, suc, ◌+◌, ◌<◌, ◌≤◌, min, nat_eq, Bool, true, false, List, [], ◌∷◌, ◌++◌, map, length, get_or, Option, Some, None, refl, sym, ap, subst, arith, inl, inr, ⊎_elim, length-append}
+use Rattle.std.proofs.Common.{◌≡◌, ◌∙◌, ℕ, zero, suc, ◌<◌, ◌≤◌, true, List, [], ◌∷◌, map, length, get_or, Option, Some, None, sym, ap, subst, arith}
 use Rattle.std.specs.Prelude.{All, AllPairs, IfSome, unwrap_or, option_map, is_some, slice_get}
-use Rattle.std.proofs.lemmas.Bool.{cases_Bool, cases_eq}
 use Rattle.std.proofs.lemmas.Option.{unwrap_or-slice_get}
-use Rattle.std.proofs.lemmas.List.{get_or-map, length-map, get_or_push, get_or_append_left, get_or_default}
-use Rattle.std.proofs.lemmas.List.Elements.{All-nil, All-head, All-tail, All-map, All-weaker, All-push, All-filter, All-from_get_or, All-get_or}
-use Rattle.flt_config.specs.declared.config.Config.{Config}
+use Rattle.std.proofs.lemmas.List.{get_or-map, length-map, get_or_default}
+use Rattle.std.proofs.lemmas.List.Elements.{All-nil, All-head, All-tail, All-map, All-weaker, All-from_get_or}
 use Rattle.flt_config.specs.declared.config.EventCfg.{EventCfg}
-use Rattle.flt_config.specs.declared.persist.Persist.{Persist}
 use Rattle.flt_config.specs.declared.persist.EntryState.{EntryState}
 use Rattle.flt_config.specs.declared.persist.EventState.{EventState}
 use Rattle.flt_config.specs.Ranges.{frame_width}
 use Rattle.flt_config.specs.Validity.{IsValid, IsEventInRange, IsFromTo}
 use Rattle.flt_config.specs.Durable.{Fits, AreStatesOf, IsStateOf, IsEntryOf, IsOfOtherEvent, IsNoted, start_state}
 use Rattle.flt_model.specs.Life.{Life, History, no_event, count, event_of, base_of}
-use Rattle.flt_model.specs.Mark.{Trace, Of, AllCleared, marks_of}
-use Rattle.flt_model.specs.Mark.Mark.{Failed, Passed, Cycle, Clear, Aged, Displaced, Added, Refused}
-use Rattle.flt_model.specs.Noted.{Notable, is_entering as is_entering_event, is_confirming, recent, first, without, recent_after, first_after}
-use Rattle.flt_model.specs.Entry.{holders, has_entry, is_among, is_other, entry_of, base_entry, base_first, base_recent, base_occurrence, is_entering}
+use Rattle.flt_model.specs.Mark.{Trace, marks_of}
+use Rattle.flt_model.specs.Noted.{Notable, is_entering as is_entering_event, is_confirming, recent, first}
+use Rattle.flt_model.specs.Entry.{holders, has_entry, entry_of, base_entry, base_occurrence, is_entering}
 use Rattle.flt_model.specs.Trace.{trace}
 use Rattle.flt_model.specs.Durable.{below, state_at, saved}
 use Rattle.flt_model.specs.Laws.{Distinct, SavedStatesFit}
@@ -30,12 +26,16 @@ use Rattle.flt_model.proofs.EventFits.{event_fits}
 use Rattle.flt_model.proofs.EntryFits.{AreNarrow, IsOwn, found, counted, first_wide}
 use Rattle.flt_model.proofs.RecentFits.{AreFramed, frames_stay}
 
+-- ---- what is read of the configuration and of a note
+
+-- the identifiers of a configured event, and of none
 narrow_at : (events : List EventCfg) → All IsEventInRange events → (k : ℕ) → AreNarrow (unwrap_or (slice_get events k) no_event).dids.items
 narrow_at [] all k = All-nil _
 narrow_at (event ∷ events) all zero =
     All-weaker (λ did. IsFromTo 1 8 did.width) (λ did. did.width ≤ 8) (λ did is. is.1) event.dids.items (All-head IsEventInRange event events all).did_widths
 narrow_at (event ∷ events) all (suc k) = narrow_at events (All-tail IsEventInRange event events all) k
 
+-- a note of a configured event
 noted_within : (n : ℕ) (note : Option ℕ) → NoteWithin 0 n note → IfSome note (λ event. event < n)
 noted_within n None within = tt
 noted_within n (Some event) within = within.1
@@ -60,6 +60,7 @@ module _ (events : List EventCfg) (event : ℕ) where
 -- ---- the whole
 
 module _ (life : Life) (valid : IsValid life.config) (fits : Fits life.config life.base) where
+  -- the configuration of an event, as the definitions and as the fit read it
   narrow : (event : ℕ) → AreNarrow (event_of life event).dids.items
   narrow = narrow_at life.config.events.items valid.events
 
@@ -78,6 +79,9 @@ module _ (life : Life) (valid : IsValid life.config) (fits : Fits life.config li
   other_width : (event : ℕ) (d : EventCfg) → event < count life → frame_width (event_of life event).dids.items ≡ frame_width (get_or life.config.events.items event d).dids.items
   other_width event d within = ap (λ (r : EventCfg). frame_width r.dids.items) (rules_are event ∙ get_or_default life.config.events.items event no_event d within)
 
+  -- ---- the entries
+
+  -- an entry that an event has
   entry_is : (marks : Trace) (event : ℕ) → AreFramed life narrow marks → event < count life → has_entry life event marks ≡ true → IsEntryOf life.config.events.items (entry_of life event marks)
   entry_is marks event framed within held =
       let least = counted (is_entering life event) (is_some (base_entry life event)) (base_occurrence life event)
@@ -90,6 +94,7 @@ module _ (life : Life) (valid : IsValid life.config) (fits : Fits life.config li
         recent = λ d. framed event held ∙ other_width event d within;
       }
 
+  -- all of them
   entries_are : (marks : Trace) → AreFramed life narrow marks → TraceBelow (count life) marks
       → All (IsEntryOf life.config.events.items) (map (λ event. entry_of life event marks) (holders life marks))
   entries_are marks framed b =
@@ -99,6 +104,7 @@ module _ (life : Life) (valid : IsValid life.config) (fits : Fits life.config li
       let less = within_at 0 (count life) (holders life marks) place (holders_within life fits marks b) within in
       entry_is marks event framed less (sym (holders_have_entries life marks event) ∙ among_at (holders life marks) place within))))
 
+  -- they are of different events
   apart : (marks : Trace) → Distinct (holders life marks) → AllPairs IsOfOtherEvent (map (λ event. entry_of life event marks) (holders life marks))
   apart marks distinct i j d less within =
       let f : ℕ → EntryState = λ event. entry_of life event marks in
@@ -108,6 +114,8 @@ module _ (life : Life) (valid : IsValid life.config) (fits : Fits life.config li
       let at_i = ap (λ (e : EntryState). e.event) (get_or-map f (holders life marks) i 0 d first_within) in
       let at_j = ap (λ (e : EntryState). e.event) (get_or-map f (holders life marks) j 0 d second) in
       λ same. places_differ (holders life marks) distinct i j less second (sym at_i ∙ same ∙ at_j)
+
+  -- ---- the states
 
   state_is : (marks : Trace) (k : ℕ) → k < count life → IsStateOf (event_of life k) (state_at life marks k)
   state_is marks k within =
@@ -129,6 +137,8 @@ module _ (life : Life) (valid : IsValid life.config) (fits : Fits life.config li
         (subst (λ (r : EventCfg). IsStateOf r (state_at life marks k)) rules (state_is marks k within)));
   }
 
+  -- ---- the notes
+
   first_configured : (marks : Trace) → TraceBelow (count life) marks → (notable : Notable) (base : Option ℕ) → IsNoted life.config.events.items base
       → IsNoted life.config.events.items (first notable base marks)
   first_configured marks b notable base noted =
@@ -138,6 +148,8 @@ module _ (life : Life) (valid : IsValid life.config) (fits : Fits life.config li
       → IsNoted life.config.events.items (recent notable base marks)
   recent_configured marks b notable base noted =
       noted_within (count life) (recent notable base marks) (recent_within (count life) notable base (base_noted life.config.events.items base noted) marks b)
+
+  -- ---- all of it
 
   saved_fits : (past : History) → Fits life.config (saved life (trace life past))
   saved_fits past =

@@ -1,8 +1,7 @@
 -- A timer's ticks qualify once in a run.
-use Rattle.std.proofs.Common.{◌≡◌, ◌∙◌, ℕ, ◌+◌, ◌≤◌, nat_le, Bool, true, false, not, ◌&&◌, ◌||◌, cond, [], ◌∷◌, ◌++◌, Option, Some, None, refl, sym, ap, subst, arith, inl, inr}
+use Rattle.std.proofs.Common.{◌≡◌, ◌∙◌, ℕ, ◌+◌, ◌≤◌, nat_le, Bool, true, false, not, ◌&&◌, ◌||◌, cond, [], ◌∷◌, ◌++◌, Option, Some, None, refl, ap, subst, arith, inl, inr}
 use Rattle.std.proofs.lemmas.Bool.{cases_Bool, and_parts, or_parts, le-leb, leb-true}
 use Rattle.flt_config.specs.declared.config.Debounce.TheVariants.{Counter, Time}
-use Rattle.flt_model.specs.declared.call.Report.{Report}
 use Rattle.flt_model.specs.declared.call.Report.TheVariants as reports
 use Rattle.flt_model.specs.declared.call.Qualified.{Qualified}
 use Rattle.flt_model.specs.declared.call.Qualified.TheVariants.{Passed, Failed}
