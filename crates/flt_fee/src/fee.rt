@@ -39,10 +39,7 @@ fn no_places(alloc: Global, many: usize) -> Result<Vec<Option<Place>>, AllocErro
 }
 
 // The block numbers with their index, and a table of as many blocks without records.
-fn tables(
-    alloc: Global,
-    numbers: Vec<u16>,
-) -> Result<(Numbers, Vec<Option<Place>>), AllocError>
+fn tables(alloc: Global, numbers: Vec<u16>) -> Result<(Numbers, Vec<Option<Place>>), AllocError>
     ensures numbers { IfOk result (λ made. made.0 ≡ numbers.items) }
     ensures places { IfOk result (λ made. length made.1.items ≡ length numbers.items) }
 {

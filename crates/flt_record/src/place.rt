@@ -29,7 +29,13 @@ pub fn place_of(numbers: &Numbers, places: &[Option<Place>], block: u16) -> Opti
 }
 
 /// Notes a record as the current one of its block, where it is complete, in the table of places.
-pub fn note(numbers: &Numbers, places: &mut [Option<Place>], block: u16, complete: bool, place: Place)
+pub fn note(
+    numbers: &Numbers,
+    places: &mut [Option<Place>],
+    block: u16,
+    complete: bool,
+    place: Place,
+)
     requires size { length places.old ≡ length numbers.now }
     requires distinct { AllPairs (λ a b. a ≢ b) numbers.now }
     ensures size { length places.new ≡ length places.old }

@@ -1,6 +1,6 @@
 // Blocks of each kind over the driver in memory.
-use flt_nvm::{BlockCfg, Got, Kind, Nvm};
 use flt_flash::Blocks;
+use flt_nvm::{BlockCfg, Got, Kind, Nvm};
 use flt_stub::BlocksMem;
 use std::process::Abort;
 use std::test::Fail;
