@@ -1,5 +1,5 @@
 -- What a switch of the sectors leaves.
-use Rattle.std.specs.Prelude.{◌≡◌, ◌≢◌, ◌+◌, ◌<◌, ◌≤◌, ℕ, List, [], length, nat_lt, nat_le, if◌then◌else◌, Option, Some, None, IfSome, IfNone, Contains, Result, IfOk, OnErr, min, slice_index, slice_index_or}
+use Rattle.std.specs.Prelude.{◌≡◌, ◌≢◌, ◌+◌, ◌<◌, ◌≤◌, ℕ, List, [], length, nat_lt, if◌then◌else◌, Option, None, Result, IfOk, OnErr, slice_index_or}
 use Rattle.flt_flash.specs.Image.{sector_at}
 use Rattle.flt_flash.specs.Content.{Content, missing}
 use Rattle.flt_flash.specs.Blocks.{pages_of}

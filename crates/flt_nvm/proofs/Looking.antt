@@ -1,10 +1,9 @@
 -- A job that reads is one whatever the value of its answer is.
-use Rattle.std.proofs.Common.{◌≡◌, ℕ, zero, suc, Result, Ok, Err, inl, inr, ap}
+use Rattle.std.proofs.Common.{◌≡◌, ℕ, zero, suc, Ok, Err, inl, inr, ap}
 use Rattle.std.specs.Prelude.{IsErrOf}
 use Rattle.flt_flash.specs.Blocks.{BlocksState}
 use Rattle.flt_flash.specs.declared.blocks.BlockFault.{BlockFault}
 use Rattle.flt_flash.specs.declared.blocks.BlockFault.TheVariants.{Flash, Full, SequenceSpent, Damaged}
-use Rattle.flt_flash.specs.Calls.{Calls, NeverFull}
 use Rattle.flt_nvm.specs.Tries.{Tries, Looks}
 
 no_fault : {T : Type 0} (value : T) (fault : BlockFault) → IsErrOf (Ok value) fault → ⊥

@@ -1,11 +1,10 @@
 -- What reads of blocks make of a driver, and when one answers that the flash failed it.
-use Rattle.std.specs.Prelude.{◌⊎◌, ◌+◌, ◌≢◌, ℕ, List, Result, IsFalse, IsErrOf}
+use Rattle.std.specs.Prelude.{◌⊎◌, ◌+◌, ◌≢◌, ℕ, Result, IsFalse}
 use Rattle.flt_flash.specs.Content.{Content, size_of}
 use Rattle.flt_flash.specs.State.{HasRisenBy}
 use Rattle.flt_flash.specs.Blocks.{BlocksState, byte_pages}
 use Rattle.flt_flash.specs.Calls.{CostsAtMost, NoFault}
 use Rattle.flt_flash.specs.declared.blocks.BlockFault.{BlockFault}
-use Rattle.flt_flash.specs.declared.blocks.BlockFault.TheVariants.{Flash}
 use Rattle.flt_nvm.specs.Table.{number_of}
 use Rattle.flt_nvm.specs.Tries.{Tries, Looks}
 use Rattle.flt_nvm.specs.Leaves.{GivesInAJob, HasNoBytes}

@@ -1,5 +1,4 @@
 use Rattle.std.proofs.Common.{length, refl, ap, ◌∙◌, arith}
-use Rattle.flt_flash.specs.Content.{Content}
 use Rattle.flt_flash.specs.Calls.{found_of}
 use Rattle.flt_stub.proofs.Numbers.{has_cell}
 use Rattle.flt_stub.proofs.Cells.{found}

@@ -1,4 +1,4 @@
-use Rattle.std.proofs.Common.{ℕ, List, Option, subst}
+use Rattle.std.proofs.Common.{List, Option, subst}
 use Rattle.flt_record.specs.declared.place.Place.{Place}
 use Rattle.flt_record.specs.Place.{IsPlaceOf}
 use Rattle.flt_fee.proofs.Placed.{placed}

@@ -1,14 +1,10 @@
-use Rattle.std.proofs.Common.{ℕ, List, Option, Ok, subst, arith, ◌∙◌, sym, ap, length}
+use Rattle.std.proofs.Common.{ℕ, List, Option, subst, arith, ◌∙◌, sym, ap, length}
 use Rattle.std.proofs.lemmas.List.{with_items_is}
 use Rattle.flt_flash.specs.Image.{sector_at}
-use Rattle.flt_sector.specs.Log.{log}
-use Rattle.flt_pages.specs.Told.{TellsOrFails}
-use Rattle.flt_record.specs.Scan.{told_end}
 use Rattle.flt_fee.specs.Place.{place_of}
 use Rattle.flt_fee.proofs.Mounting.{resumed}
 use Rattle.flt_sector.specs.Blocks.{block_value}
 use Rattle.flt_record.specs.declared.place.Place.{Place}
-use Rattle.flt_record.specs.Live.{held_in}
 use Rattle.flt_record.specs.Place.{Tells}
 use Rattle.flt_fee.proofs.Placed.{tells_current}
 use Rattle.flt_fee.proofs.fee.Fee.resume.Goals as goal

@@ -1,10 +1,7 @@
-use Rattle.std.proofs.Common.{rules, ◌<◌, ◌≡◌, ℕ, List, length, get_or, Err, subst, sym, ap, ◌∙◌, arith}
-use Rattle.std.specs.Ordering.{nat_cmp}
-use Rattle.std.specs.List.Sorted.{IsBinarySearchResult}
-use Rattle.std.proofs.lemmas.Cmp.{ranked}
+use Rattle.std.proofs.Common.{rules, arith}
 use Rattle.std.proofs.lemmas.List.Sorted.{answers_always}
 use Rattle.flt_pages.specs.declared.numbers.Row.{Row}
-use Rattle.flt_pages.proofs.Rows.{row_at, row_found, no_row}
+use Rattle.flt_pages.proofs.Rows.{row_found, no_row}
 use Rattle.flt_pages.proofs.numbers.Numbers.index_of.Goals as goal
 
 pub returns-in-Ok-clause-found : goal.returns-in-Ok-clause-found

@@ -1,4 +1,4 @@
-use Rattle.std.proofs.Common.{◌≡◌, ℕ, map, take}
+use Rattle.std.proofs.Common.{◌≡◌, map, take}
 use Rattle.std.specs.List.{All}
 use Rattle.flt_pages.specs.declared.numbers.Row.{Row}
 use Rattle.flt_pages.specs.Numbers.{IsRowOf}
