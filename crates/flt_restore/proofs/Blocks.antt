@@ -1,20 +1,22 @@
 -- One application block more that is judged, and the pages of one record more.
 use Rattle.std.proofs.Common.{◌≡◌, ℕ, zero, suc, ◌+◌, ◌-◌, ◌<◌, ◌≤◌, [], ◌∷◌, Bool, true, false, refl, sym, ◌∙◌, ap, subst, arith, inl, inr, below_more}
-use Rattle.std.specs.Prelude.{not, find, sum_by, Some, Result, Ok}
+use Rattle.std.specs.Prelude.{◌++◌, not, find, flat_map, map, sum_by, Some, Result, Ok, Err}
 use Rattle.std.specs.List.{range_with_len}
 use Rattle.std.proofs.lemmas.Bool.{cases_Bool}
 use Rattle.std.proofs.lemmas.List.Sums.{sum_by-append}
-use Rattle.flt_flash.specs.Content.{Content}
-use Rattle.flt_flash.specs.Blocks.{BlocksState}
+use Rattle.flt_flash.specs.Content.{Content, missing, invalid, bytes, IsShort}
+use Rattle.flt_flash.specs.Calls.{found_of}
+use Rattle.flt_flash.specs.declared.blocks.Found.{Found}
 use Rattle.flt_config.specs.declared.config.Config.{Config}
-use Rattle.flt_generation.specs.Layout.{first_part, first_application, applications, application_number}
+use Rattle.flt_generation.specs.Layout.{numbers, both_indices, first_part, parts, first_application, applications, application_number}
+use Rattle.flt_generation.specs.Excess.{excess}
 use Rattle.flt_generation.specs.Holding.{Fault, damaged_at, is_application, application_fault, applications_judged}
 use Rattle.flt_generation.proofs.Choices.{chosen, not_chosen, range_more}
 use Rattle.flt_generation.proofs.Bridge.{fine_applications}
+use Rattle.flt_generation.proofs.Pages.{both_sum, mapped_sum}
 use Rattle.flt_restore.specs.declared.fault.StartFault.{StartFault}
-use Rattle.flt_restore.specs.Found.{Reads}
-use Rattle.flt_restore.specs.Judging.{application_judged, beyond, beyond_of_part, beyond_of_parts, beyond_of_applications, Tells}
-use Rattle.flt_restore.proofs.Telling.{same_values, tells_from, tells_flash}
+use Rattle.flt_restore.specs.Found.{size_found}
+use Rattle.flt_restore.specs.Judging.{as_told, application_judged, beyond, beyond_of_part, beyond_of_parts, beyond_of_applications}
 
 -- the first number of a range that passes a test
 first_found : (test : ℕ → Bool) (first count k : ℕ) → k < count → ((j : ℕ) → j < k → test (first + j) ≡ false) → test (first + k) ≡ true → find test (range_with_len first count) ≡ Some (first + k)
@@ -61,60 +63,73 @@ module _ (value : ℕ → Content) where
       ∙ ap (λ (n : ℕ). damaged_at (first_application + n)) (sym (at block))
       ∙ sym (not_chosen (is_application (value (application_number block))) (Ok tt) (damaged_at (first_application + block)) fails)
 
-  tells_first_fault : (c : Config) (before after : BlocksState) (block : ℕ) (fault : StartFault) → block < applications → ((earlier : ℕ) → earlier < block → application_judged value earlier ≡ Ok tt)
-      → Tells c before after (application_judged value block) fault → Tells c before after (applications_judged value) fault
-  tells_first_fault c before after block fault below judged tells = elim (cases_Bool (is_application (value (application_number block)))) [
+  pub application_fine : (block : ℕ) → ((earlier : ℕ) → earlier < block → application_judged value earlier ≡ Ok tt) → application_judged value block ≡ Ok tt
+      → (k : ℕ) → k < block + 1 → application_judged value k ≡ Ok tt
+  application_fine block judged here = below_more _ block judged here
+
+  pub application_refused : (c : Config) (block : ℕ) (fault : StartFault) → block < applications → ((earlier : ℕ) → earlier < block → application_judged value earlier ≡ Ok tt)
+      → Err fault ≡ as_told c (application_judged value block) → Err fault ≡ as_told c (applications_judged value)
+  application_refused c block fault below judged is = elim (cases_Bool (is_application (value (application_number block)))) [
     | inl passes ↦
         let none : application_judged value block ≡ Ok tt = chosen (is_application (value (application_number block))) (Ok tt) (damaged_at (first_application + block)) passes in
-        tells_flash {A = Unit {0}} c before after tt (applications_judged value) fault (subst (λ (r : Result (Unit {0}) Fault). Tells c before after r fault) none tells)
-    | inr fails ↦ subst (λ (r : Result (Unit {0}) Fault). Tells c before after r fault) (sym (first_fault block below judged fails)) tells
+        absurd (let no : Err fault ≡ Ok tt = is ∙ ap (as_told c) none in cc)
+    | inr fails ↦ is ∙ ap (as_told c) (sym (first_fault block below judged fails))
   ]
 
-module _ (c : Config) (before middle : BlocksState) (reads : Reads before middle) where
-  pub application_refused : (after : BlocksState) (block : ℕ) (fault : StartFault) → block < applications → ((earlier : ℕ) → earlier < block → application_judged before.value earlier ≡ Ok tt)
-      → Tells c middle after (application_judged middle.value block) fault → Tells c before after (applications_judged before.value) fault
-  application_refused after block fault below judged tells =
-      tells_first_fault before.value c before after block fault below judged
-      (tells_from c before middle after _ fault reads (subst (λ (value : ℕ → Content). Tells c middle after (application_judged value block) fault) (same_values before middle reads) tells))
+  pub all_applications_fine : (end : ℕ) → applications ≤ end → ((block : ℕ) → block < end → application_judged value block ≡ Ok tt) → applications_judged value ≡ Ok tt
+  all_applications_fine end all judged = all_fine (λ block below. judged block (omega (arith, all, below)))
 
-  pub application_fine : (block : ℕ) → ((earlier : ℕ) → earlier < block → application_judged before.value earlier ≡ Ok tt) → application_judged middle.value block ≡ Ok tt
-      → (k : ℕ) → k < block + 1 → application_judged before.value k ≡ Ok tt
-  application_fine block judged here =
-      below_more _ block judged (subst (λ (value : ℕ → Content). application_judged value block ≡ Ok tt) (same_values before middle reads) here)
-
-  pub application_pages : (block pages more : ℕ) → pages ≡ beyond_of_applications c before.value block → more ≡ beyond c middle.value (application_number block)
-      → pages + more ≡ beyond_of_applications c before.value (block + 1)
+module _ (c : Config) (value : ℕ → Content) where
+  pub application_pages : (block pages more : ℕ) → pages ≡ beyond_of_applications c value block → more ≡ beyond c value (application_number block)
+      → pages + more ≡ beyond_of_applications c value (block + 1)
   unfolding beyond_of_applications
   application_pages block pages more are is =
-      let f : ℕ → ℕ = λ k. beyond c before.value (application_number k) in
-      let here : more ≡ f block = subst (λ (value : ℕ → Content). more ≡ beyond c value (application_number block)) (same_values before middle reads) is in
+      let f : ℕ → ℕ = λ k. beyond c value (application_number k) in
       let all : sum_by f (range_with_len 0 (block + 1)) ≡ sum_by f (range_with_len 0 block) + sum_by f ((0 + block) ∷ []) =
       ap (sum_by f) (range_more 0 block) ∙ sum_by-append f (range_with_len 0 block) ((0 + block) ∷ []) in
       let at : 0 + block ≡ block = omega arith in
       let one : sum_by f ((0 + block) ∷ []) ≡ f block = ap (λ (n : ℕ). 0 + f n) at ∙ omega arith in
-      omega (arith, are, here, all, one)
+      omega (arith, are, is, all, one)
 
-  pub part_pages : (id pages more : ℕ) → first_part ≤ id → pages ≡ beyond_of_parts c before.value (id - first_part) → more ≡ beyond_of_part c middle.value id
-      → pages + more ≡ beyond_of_parts c before.value (id + 1 - first_part)
+  pub part_pages : (id pages more : ℕ) → first_part ≤ id → pages ≡ beyond_of_parts c value (id - first_part) → more ≡ beyond_of_part c value id
+      → pages + more ≡ beyond_of_parts c value (id + 1 - first_part)
   unfolding beyond_of_parts
   part_pages id pages more low are is =
-      let f : ℕ → ℕ = beyond_of_part c before.value in
-      let here : more ≡ f id = subst (λ (value : ℕ → Content). more ≡ beyond_of_part c value id) (same_values before middle reads) is in
+      let f : ℕ → ℕ = beyond_of_part c value in
       let count : id - first_part + 1 ≡ id + 1 - first_part = omega (arith, low) in
       let all : sum_by f (range_with_len first_part (id - first_part + 1)) ≡ sum_by f (range_with_len first_part (id - first_part)) + sum_by f ((first_part + (id - first_part)) ∷ []) =
       ap (sum_by f) (range_more first_part (id - first_part)) ∙ sum_by-append f (range_with_len first_part (id - first_part)) ((first_part + (id - first_part)) ∷ []) in
       let at : first_part + (id - first_part) ≡ id = omega (arith, low) in
       let one : sum_by f ((first_part + (id - first_part)) ∷ []) ≡ 0 + f id = ap (λ (n : ℕ). 0 + f n) at in
-      let sum : pages + more ≡ sum_by f (range_with_len first_part (id - first_part + 1)) = omega (arith, are, here, all, one) in
+      let sum : pages + more ≡ sum_by f (range_with_len first_part (id - first_part + 1)) = omega (arith, are, is, all, one) in
       sum ∙ ap (λ (n : ℕ). sum_by f (range_with_len first_part n)) count
 
-pub all_applications_fine : (value : ℕ → Content) (end : ℕ) → applications ≤ end → ((block : ℕ) → block < end → application_judged value block ≡ Ok tt) → applications_judged value ≡ Ok tt
-all_applications_fine value end all judged = all_fine value (λ block below. judged block (omega (arith, all, below)))
+  pub no_applications : 0 ≡ beyond_of_applications c value 0
+  unfolding beyond_of_applications
+  no_applications = refl
 
-pub no_applications : (c : Config) (value : ℕ → Content) → 0 ≡ beyond_of_applications c value 0
-unfolding beyond_of_applications
-no_applications c value = refl
+  pub no_parts : 0 ≡ beyond_of_parts c value 0
+  unfolding beyond_of_parts
+  no_parts = refl
 
-pub no_parts : (c : Config) (value : ℕ → Content) → 0 ≡ beyond_of_parts c value 0
-unfolding beyond_of_parts
-no_parts c value = refl
+  -- the excess is the sum over the mark, the copies of the commit, the parts and the application blocks
+  pub excess_is : excess c value ≡ beyond c value 8 + (beyond c value 16 + beyond c value 17) + beyond_of_parts c value parts + beyond_of_applications c value applications
+  unfolding numbers beyond_of_parts beyond_of_applications
+  excess_is =
+      let f : ℕ → ℕ = beyond c value in
+      let pairs = flat_map both_indices (range_with_len 3 21) in
+      let blocks = map application_number (range_with_len 0 40) in
+      let whole = sum_by-append f ((8 ∷ 16 ∷ 17 ∷ []) ++ pairs) blocks in
+      let front = sum_by-append f (8 ∷ 16 ∷ 17 ∷ []) pairs in
+      let parts = both_sum f 3 21 in
+      let applications = mapped_sum f application_number 0 40 in
+      omega (arith, whole, front, parts, applications)
+
+-- what a read would find of a short content has 128 bytes at most
+pub short_found : (content : Content) (found : Found) → found ≡ found_of content → IsShort content → size_found found ≤ 128
+short_found content found is short = subst (λ (f : Found). size_found f ≤ 128) (sym is) (by_content content short)
+  where
+    by_content : (content : Content) → IsShort content → size_found (found_of content) ≤ 128
+    by_content missing short = omega arith
+    by_content invalid short = omega arith
+    by_content (bytes held) short = short

@@ -4,4 +4,3 @@ pub mod TakingParts
 pub mod Blocks
 pub mod Naming
 pub mod Judged
-pub mod Owned

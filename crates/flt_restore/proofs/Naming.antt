@@ -13,7 +13,7 @@ use Rattle.flt_generation.specs.Reading.{commit_in}
 use Rattle.flt_generation.specs.Holding.{Generation, Fault, damaged_at, ◌>>=◌, marked, parts_read, generation_of, named, applications_judged, excess_judged, held_by}
 use Rattle.flt_generation.proofs.ImageLaws.{commits_are_read}
 use Rattle.flt_restore.specs.declared.fault.StartFault.{StartFault}
-use Rattle.flt_restore.specs.Judging.{but_excess, Tells}
+use Rattle.flt_restore.specs.Judging.{Tells}
 use Rattle.flt_restore.proofs.Telling.{tells_first, tells_next}
 
 module _ (c : Config) (value : ℕ → Content) where
@@ -46,61 +46,46 @@ module _ (c : Config) (value : ℕ → Content) where
 pub read_form : (c : Config) (raw : List ℕ) (commit : Commit) → Some commit ≡ commit_in c raw → IsCommit c commit × IsBytesOfCommit commit raw
 read_form c raw commit is = (commits_are_read c raw commit).0 (sym is)
 
--- the steps of an image but for the excess, and the excess
+-- the steps of an image
 module _ (c : Config) (value : ℕ → Content) (commit : Content) where
+  abbrev with_excess : Generation → Unit {0} → Result Generation Fault
+  with_excess g _ = excess_judged c value >>= (λ _. Ok g)
+
   abbrev after_named : Generation → Result Generation Fault
-  after_named g = applications_judged value >>= (λ _. Ok g)
+  after_named g = applications_judged value >>= with_excess g
 
   abbrev after_mark : Unit {0} → Result Generation Fault
   after_mark _ = named c value commit >>= after_named
 
-  pub mark_refused : (before after : BlocksState) (fault : StartFault) → Tells c before after (marked c (value mark_number) commit) fault → Tells c before after (but_excess c value commit) fault
-  unfolding but_excess
+  pub mark_refused : (before after : BlocksState) (fault : StartFault) → Tells c before after (marked c (value mark_number) commit) fault → Tells c before after (held_by c value commit) fault
+  unfolding held_by
   mark_refused before after fault tells = tells_first c before after (marked c (value mark_number) commit) after_mark fault tells
 
   module _ (own : marked c (value mark_number) commit ≡ Ok tt) where
-    pub named_refused : (before after : BlocksState) (fault : StartFault) → Tells c before after (named c value commit) fault → Tells c before after (but_excess c value commit) fault
-    unfolding but_excess
+    pub named_refused : (before after : BlocksState) (fault : StartFault) → Tells c before after (named c value commit) fault → Tells c before after (held_by c value commit) fault
+    unfolding held_by
     named_refused before after fault tells =
         tells_next c before after (marked c (value mark_number) commit) after_mark tt fault own (tells_first c before after (named c value commit) after_named fault tells)
 
     module _ (g : Generation) (names : named c value commit ≡ Ok g) where
-      pub applications_refused : (before after : BlocksState) (fault : StartFault) → Tells c before after (applications_judged value) fault → Tells c before after (but_excess c value commit) fault
-      unfolding but_excess
+      pub applications_refused : (before after : BlocksState) (fault : StartFault) → Tells c before after (applications_judged value) fault → Tells c before after (held_by c value commit) fault
+      unfolding held_by
       applications_refused before after fault tells =
           tells_next c before after (marked c (value mark_number) commit) after_mark tt fault own
-          (tells_next c before after (named c value commit) after_named g fault names (tells_first c before after (applications_judged value) (λ _. Ok g) fault tells))
+          (tells_next c before after (named c value commit) after_named g fault names (tells_first c before after (applications_judged value) (with_excess g) fault tells))
 
-      pub all_told : applications_judged value ≡ Ok tt → but_excess c value commit ≡ Ok g
-      unfolding but_excess
-      all_told fine =
-          ap (λ (r : Result (Unit {0}) Fault). r >>= after_mark) own
-          ∙ ap (λ (r : Result Generation Fault). r >>= after_named) names
-          ∙ ap (λ (r : Result (Unit {0}) Fault). r >>= (λ _. Ok g)) fine
+      module _ (fine : applications_judged value ≡ Ok tt) where
+        pub excess_refused : (before after : BlocksState) (fault : StartFault) → Tells c before after (excess_judged c value) fault → Tells c before after (held_by c value commit) fault
+        unfolding held_by
+        excess_refused before after fault tells =
+            tells_next c before after (marked c (value mark_number) commit) after_mark tt fault own
+            (tells_next c before after (named c value commit) after_named g fault names
+            (tells_next c before after (applications_judged value) (with_excess g) tt fault fine (tells_first c before after (excess_judged c value) (λ _. Ok g) fault tells)))
 
-  abbrev with_excess : Generation → Result Generation Fault
-  with_excess g = excess_judged c value >>= (λ _. Ok g)
-
-  regroup : (r1 : Result (Unit {0}) Fault) (r2 : Result Generation Fault) (r3 : Result (Unit {0}) Fault)
-      → (r1 >>= (λ _. r2 >>= (λ g. r3 >>= (λ _. with_excess g)))) ≡ ((r1 >>= (λ _. r2 >>= (λ g. r3 >>= (λ _. Ok g)))) >>= with_excess)
-  regroup (Err fault) r2 r3 = refl
-  regroup (Ok one) (Err fault) r3 = refl
-  regroup (Ok one) (Ok g) (Err fault) = refl
-  regroup (Ok one) (Ok g) (Ok two) = refl
-
-  held_after : held_by c value commit ≡ (but_excess c value commit >>= with_excess)
-  unfolding held_by but_excess
-  held_after = regroup (marked c (value mark_number) commit) (named c value commit) (applications_judged value)
-
-  pub steps_refused : (before after : BlocksState) (fault : StartFault) → Tells c before after (but_excess c value commit) fault → Tells c before after (held_by c value commit) fault
-  steps_refused before after fault tells =
-      subst (λ (r : Result Generation Fault). Tells c before after r fault) (sym held_after) (tells_first c before after (but_excess c value commit) with_excess fault tells)
-
-  module _ (g : Generation) (is : but_excess c value commit ≡ Ok g) where
-    pub excess_refused : (before after : BlocksState) (fault : StartFault) → Tells c before after (excess_judged c value) fault → Tells c before after (held_by c value commit) fault
-    excess_refused before after fault tells =
-        subst (λ (r : Result Generation Fault). Tells c before after r fault) (sym held_after)
-        (tells_next c before after (but_excess c value commit) with_excess g fault is (tells_first c before after (excess_judged c value) (λ _. Ok g) fault tells))
-
-    pub holds : excess_judged c value ≡ Ok tt → held_by c value commit ≡ Ok g
-    holds borne = held_after ∙ ap (λ (r : Result Generation Fault). r >>= with_excess) is ∙ ap (λ (r : Result (Unit {0}) Fault). r >>= (λ _. Ok g)) borne
+        pub all_told : excess_judged c value ≡ Ok tt → held_by c value commit ≡ Ok g
+        unfolding held_by
+        all_told borne =
+            ap (λ (r : Result (Unit {0}) Fault). r >>= after_mark) own
+            ∙ ap (λ (r : Result Generation Fault). r >>= after_named) names
+            ∙ ap (λ (r : Result (Unit {0}) Fault). r >>= with_excess g) fine
+            ∙ ap (λ (r : Result (Unit {0}) Fault). r >>= (λ _. Ok g)) borne

@@ -74,9 +74,12 @@ pub judged_ok : {A : Type 0} (c : Config) (judged : Result A Fault) (value : A) 
 judged_ok {A} c (Ok found) value is = cc
 judged_ok {A} c (Err fault) value is = absurd (cc)
 
--- a step without a fault tells of the flash alone
-pub tells_flash : {A B : Type 0} (c : Config) (before after : BlocksState) (value : A) (judged : Result B Fault) (fault : StartFault) → Tells {A = A} c before after (Ok value) fault → Tells c before after judged fault
-tells_flash {A} {B} c before after value judged Flash told = told
-tells_flash {A} {B} c before after value judged (Damaged place) told = absurd (cc told)
-tells_flash {A} {B} c before after value judged (OtherConfig found wanted) told = absurd (cc told.0)
-tells_flash {A} {B} c before after value judged SequenceSpent told = absurd told
+-- an answer that hands on a fault is the one that has it
+pub handed_as : {T : Type 0} (result answer : Result T StartFault) (fault : StartFault) → IsErrAnd result (λ e. e ≡ fault) → Err fault ≡ answer → result ≡ answer
+handed_as (Ok value) answer fault is same = absurd is
+handed_as {T} (Err e) answer fault is same = let the_err : StartFault → Result T StartFault = λ f. Err f in ap the_err is ∙ same
+
+-- what is told of the fault of an answer is told of each fault that it is
+pub each_fault : {T : Type 0} (P : StartFault → Type 0) (result : Result T StartFault) → IfErr result P → (fault : StartFault) → result ≡ Err fault → P fault
+each_fault P (Ok value) holds fault is = absurd (cc is)
+each_fault P (Err told) holds fault is = let same : told ≡ fault = cc is in subst P same holds

@@ -3,6 +3,8 @@ use Rattle.std.specs.Prelude.{ℕ, ◌≤◌, ◌<◌, IsFalse, IsSomeAnd}
 use Rattle.flt_flash.specs.Content.{Content, missing, invalid, bytes}
 use Rattle.flt_flash.specs.Blocks.{BlocksState}
 use Rattle.flt_flash.specs.Calls.{Follows, SameValues}
+use Rattle.flt_flash.specs.declared.blocks.Found.{Found}
+use Rattle.flt_flash.specs.declared.blocks.Found.TheVariants.{Bytes as FoundBytes, Missing as FoundMissing, Invalid as FoundInvalid}
 use Rattle.flt_nvm.specs.declared.got.Got.{Got}
 use Rattle.flt_nvm.specs.declared.got.Got.TheVariants.{Bytes as GotBytes, Missing as GotMissing, Invalid as GotInvalid}
 use Rattle.flt_nvm.specs.declared.table.Kind.{Kind}
@@ -17,6 +19,12 @@ abbrev pub content_of : Held → Content
 content_of Missing = missing
 content_of Invalid = invalid
 content_of (Bytes raw) = bytes raw.items
+
+-- the bytes that a read would find
+abbrev pub size_found : Found → ℕ
+size_found (FoundBytes length) = length
+size_found FoundMissing = 0
+size_found FoundInvalid = 0
 
 -- a read gave no more bytes than a block has
 abbrev pub IsWithin : Got → Type 0

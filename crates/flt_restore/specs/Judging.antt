@@ -1,15 +1,16 @@
 -- What each step of a start-up judges, and what it tells.
-use Rattle.std.specs.Prelude.{◌≡◌, ◌⊎◌, ℕ, ◌+◌, ◌-◌, ◌≤◌, ◌<◌, ◌==◌, Bool, false, IsTrue, if◌then◌else◌, List, Option, Some, None, Result, Ok, Err, sum_by}
+use Rattle.std.specs.Prelude.{◌≡◌, ◌⊎◌, ℕ, ◌+◌, ◌-◌, if◌then◌else◌, List, Option, Some, None, Result, Ok, Err, sum_by}
 use Rattle.std.specs.List.{range_with_len}
 use Rattle.flt_flash.specs.Content.{Content, missing, bytes}
 use Rattle.flt_flash.specs.State.{HasRisenBy}
 use Rattle.flt_flash.specs.Blocks.{BlocksState, pages_of}
 use Rattle.flt_config.specs.declared.config.Config.{Config}
-use Rattle.flt_generation.specs.Layout.{mark_number, number_of, first_part, end_part, first_application, application_number, index_in}
+use Rattle.flt_generation.specs.Layout.{number_of, first_commit, second_commit, first_part, first_application, application_number}
 use Rattle.flt_generation.specs.Form.{mark_of, IsBytesOfCommit}
 use Rattle.flt_generation.specs.Excess.{own_pages}
-use Rattle.flt_generation.specs.Holding.{Generation, Fault, damaged, other, damaged_at, ◌>>=◌, marked, named, is_application, applications_judged}
+use Rattle.flt_generation.specs.Holding.{Fault, damaged, other, damaged_at, either_copy, is_application}
 use Rattle.flt_restore.specs.declared.commit.CommitCopy.{CommitCopy}
+use Rattle.flt_restore.specs.Restored.{HasBytes}
 use Rattle.flt_restore.specs.declared.fault.StartFault.{StartFault}
 use Rattle.flt_restore.specs.declared.fault.StartFault.TheVariants.{Flash, Damaged, OtherConfig, SequenceSpent}
 
@@ -42,15 +43,6 @@ beyond_of_parts c value count = sum_by (beyond_of_part c value) (range_with_len 
 unfoldable pub beyond_of_applications : Config → (ℕ → Content) → ℕ → ℕ
 beyond_of_applications c value count = sum_by (λ block. beyond c value (application_number block)) (range_with_len 0 count)
 
--- the commit that was read names this index of a part
-abbrev pub is_named : Option CommitCopy → ℕ → ℕ → Bool
-is_named None id index = false
-is_named (Some found) id index = index_in found.commit id == index
-
--- what it names takes no page beyond the configuration's own
-abbrev pub NamesOwn : Config → (ℕ → Content) → Option CommitCopy → Type 0
-NamesOwn c value commit = (id index : ℕ) → first_part ≤ id → id < end_part → index ≤ 1 → IsTrue (is_named commit id index) → beyond c value (number_of id index) ≡ 0
-
 -- one application block
 abbrev pub application_judged : (ℕ → Content) → ℕ → Result (Unit {0}) Fault
 application_judged value block = if is_application (value (application_number block)) then Ok tt else damaged_at (first_application + block)
@@ -64,6 +56,8 @@ IsReadFrom content copy (Some found) = (found.copy ≡ copy) × (content ≡ byt
 abbrev pub IsOfCopy : Content → Content → Content → ℕ → Type 0
 IsOfCopy first second content copy = (raw : List ℕ) → content ≡ bytes raw → ((copy ≡ 1) × (first ≡ bytes raw)) ⊎ ((copy ≡ 2) × (second ≡ bytes raw))
 
--- what an image holds by a commit, but for the excess
-unfoldable pub but_excess : Config → (ℕ → Content) → Content → Result Generation Fault
-but_excess c value commit = marked c (value mark_number) commit >>= (λ _. named c value commit >>= (λ g. applications_judged value >>= (λ _. Ok g)))
+-- this content is that of the copy of the commit that counts; or that of the second, which has bytes, where the flash failed three times
+abbrev pub IsSource : BlocksState → BlocksState → Content → ℕ → Type 0
+IsSource before after content copy =
+    ((content ≡ either_copy (before.value first_commit) (before.value second_commit)) × IsOfCopy (before.value first_commit) (before.value second_commit) content copy)
+    ⊎ ((content ≡ before.value second_commit) × HasBytes content × (copy ≡ 2) × HasRisenBy 3 before.device.faults after.device.faults)

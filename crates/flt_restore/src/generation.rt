@@ -1,21 +1,21 @@
 //! The generation that a commit names, with the parts that it has.
 ghost use Rattle.flt_flash.specs.Content.{bytes as holding};
-ghost use Rattle.std.specs.Prelude.{◌≡◌, ◌≤◌, ◌+◌, Some, Ok, IfErr, IfOk, IsTrue};
+ghost use Rattle.std.specs.Prelude.{◌≡◌, Some, Ok, IfErr, IfOk, IsTrue, IsFalse};
 ghost use Rattle.flt_nvm.specs.Driver.{driver_of, table_of};
 ghost use Rattle.flt_image.specs.Table.{block_table};
-ghost use Rattle.flt_generation.specs.Layout.{mark_number, parts, applications};
-ghost use Rattle.flt_generation.specs.Holding.{named};
+ghost use Rattle.flt_generation.specs.Layout.{mark_number};
+ghost use Rattle.flt_generation.specs.Holding.{held_by, named};
 ghost use Rattle.flt_restore.specs.Found.{content_of, Reads};
-ghost use Rattle.flt_restore.specs.Judging.{beyond_of_applications, beyond_of_parts, but_excess, IsReadFrom, NamesOwn, Tells};
+ghost use Rattle.flt_restore.specs.Judging.{IsReadFrom, Tells};
 ghost use Rattle.flt_restore.specs.Restored.{generation};
 
-use crate::applications::read_applications;
 use crate::commit::CommitCopy;
 use crate::content::Held;
-use crate::excess::read_pages_of_parts;
 use crate::fault::StartFault;
-use crate::judging::{Source, damaged, judge_mark};
+use crate::judging::{damaged, judge_mark};
+use crate::lengths::{judge_applications, judge_excess};
 use crate::parts::read_parts;
+use crate::reading::Source;
 use flt_config::{Persist, ValidConfig, initial};
 use flt_flash::Blocks;
 use flt_generation::COMMIT_ID;
@@ -34,7 +34,6 @@ fn read_named<B: Blocks + Drop>(
     requires mounted { IsTrue (driver_of nvm.old).has_mounted }
     ensures told { IfOk result (λ found. named config.now (driver_of nvm.old).value (holding bytes.items) ≡ Ok (generation (Some found) out.new)) }
     ensures source { IfOk result (λ found. IsReadFrom (holding bytes.items) copy (Some found)) }
-    ensures own { IfOk result (λ found. NamesOwn config.now (driver_of nvm.old).value (Some found)) }
     ensures refused { IfErr result (Tells config.now (driver_of nvm.old) (driver_of nvm.new) (named config.now (driver_of nvm.old).value (holding bytes.items))) }
     ensures reads { Reads (driver_of nvm.old) (driver_of nvm.new) }
     ensures table { table_of nvm.new ≡ table_of nvm.old }
@@ -64,7 +63,6 @@ fn read_generation<B: Blocks + Drop>(
     requires mounted { IsTrue (driver_of nvm.old).has_mounted }
     ensures told { IfOk result (λ commit. named config.now (driver_of nvm.old).value (content_of held) ≡ Ok (generation commit out.new)) }
     ensures source { IfOk result (λ commit. IsReadFrom (content_of held) copy commit) }
-    ensures own { IfOk result (λ commit. NamesOwn config.now (driver_of nvm.old).value commit) }
     ensures refused { IfErr result (Tells config.now (driver_of nvm.old) (driver_of nvm.new) (named config.now (driver_of nvm.old).value (content_of held))) }
     ensures reads { Reads (driver_of nvm.old) (driver_of nvm.new) }
     ensures table { table_of nvm.new ≡ table_of nvm.old }
@@ -82,39 +80,27 @@ fn read_generation<B: Blocks + Drop>(
     }
 }
 
-/// What an image holds by a commit, where its excess is borne.
-#[derive(Drop)]
-pub(crate) struct ReadImage {
-    pub commit: Option<CommitCopy>,
-    /// The pages that the records of parts and application blocks take beyond the configuration's own.
-    pub pages: u32,
-}
-
-/// Judges an image by a commit, in the order of its definition, up to the excess.
+/// Judges an image by a commit, in the order of its definition.
 pub(crate) fn read_image<B: Blocks + Drop>(
     nvm: &mut Nvm<B>,
     config: &ValidConfig,
     mark: &Held,
     source: Source,
     out: &mut Persist,
-) -> Result<ReadImage, StartFault>
+) -> Result<Option<CommitCopy>, StartFault>
     requires table { table_of nvm.old ≡ block_table }
     requires mounted { IsTrue (driver_of nvm.old).has_mounted }
+    requires settled { IsFalse (driver_of nvm.old).is_stale }
     requires mark { content_of mark.now ≡ (driver_of nvm.old).value mark_number }
-    ensures told { IfOk result (λ read. but_excess config.now (driver_of nvm.old).value (content_of source.held) ≡ Ok (generation read.commit out.new)) }
-    ensures source { IfOk result (λ read. IsReadFrom (content_of source.held) source.copy read.commit) }
-    ensures pages { IfOk result (λ read. read.pages ≡ beyond_of_parts config.now (driver_of nvm.old).value parts + beyond_of_applications config.now (driver_of nvm.old).value applications) }
-    ensures most { IfOk result (λ read. read.pages ≤ 492) }
-    ensures refused { IfErr result (Tells config.now (driver_of nvm.old) (driver_of nvm.new) (but_excess config.now (driver_of nvm.old).value (content_of source.held))) }
+    ensures told { IfOk result (λ commit. held_by config.now (driver_of nvm.old).value (content_of source.held) ≡ Ok (generation commit out.new)) }
+    ensures source { IfOk result (λ commit. IsReadFrom (content_of source.held) source.copy commit) }
+    ensures refused { IfErr result (Tells config.now (driver_of nvm.old) (driver_of nvm.new) (held_by config.now (driver_of nvm.old).value (content_of source.held))) }
     ensures reads { Reads (driver_of nvm.old) (driver_of nvm.new) }
     ensures table { table_of nvm.new ≡ table_of nvm.old }
 {
     judge_mark(config, mark, &source.held)?;
     let commit = read_generation(nvm, config, source.held, source.copy, out)?;
-    let applications = read_applications(nvm, config)?;
-    let parts = read_pages_of_parts(nvm, config, &commit)?;
-    Ok(ReadImage {
-        commit,
-        pages: parts + applications,
-    })
+    judge_applications(nvm, config)?;
+    judge_excess(nvm, config)?;
+    Ok(commit)
 }

@@ -1,12 +1,15 @@
 //! What is judged of contents that were read.
 ghost use Rattle.std.specs.Prelude.{◌≡◌, ◌≤◌, ◌<◌, ℕ};
-ghost use Rattle.flt_generation.specs.Holding.{is_same_mark, judged_mark, marked, is_application, either_copy};
+ghost use Rattle.flt_flash.specs.Calls.{found_of};
+ghost use Rattle.flt_flash.specs.Content.{Content};
+ghost use Rattle.flt_generation.specs.Holding.{is_same_mark, judged_mark, marked, is_application};
 ghost use Rattle.flt_restore.specs.Found.{content_of};
-ghost use Rattle.flt_restore.specs.Judging.{as_told, IsOfCopy};
+ghost use Rattle.flt_restore.specs.Judging.{as_told};
 
 use crate::content::Held;
 use crate::fault::StartFault;
 use flt_config::ValidConfig;
+use flt_flash::Found;
 use flt_generation::{MARK_ID, Mark, Place};
 use flt_image::{get_mark, mark_of};
 
@@ -52,52 +55,12 @@ pub(crate) fn judge_mark(config: &ValidConfig, mark: &Held, commit: &Held) -> Re
 }
 
 /// An application block has at most 32 bytes, or was never written.
-pub(crate) fn is_application(held: &Held) -> bool
-    ensures { result ≡ is_application (content_of held.now) }
+pub(crate) fn is_application(found: Found) -> bool
+    ensures { (content : Content) → found ≡ found_of content → result ≡ is_application content }
 {
-    match held {
-        Held::Missing => true,
-        Held::Invalid => false,
-        Held::Bytes(bytes) => bytes.len() <= 32,
-    }
-}
-
-/// What counts as the commit, and the copy that it is of.
-#[derive(Drop)]
-pub(crate) struct Source {
-    pub held: Held,
-    pub copy: u8,
-}
-
-/// Copy 1 where it has bytes, else copy 2 where that has bytes, else copy 1.
-pub(crate) fn either_copy(first: Held, second: Held) -> Source
-    ensures content { content_of result.held ≡ either_copy (content_of first) (content_of second) }
-    ensures copy { IsOfCopy (content_of first) (content_of second) (content_of result.held) result.copy }
-{
-    match first {
-        Held::Bytes(bytes) => Source {
-            held: Held::Bytes(bytes),
-            copy: 1,
-        },
-        Held::Missing => match second {
-            Held::Bytes(bytes) => Source {
-                held: Held::Bytes(bytes),
-                copy: 2,
-            },
-            _ => Source {
-                held: Held::Missing,
-                copy: 1,
-            },
-        },
-        Held::Invalid => match second {
-            Held::Bytes(bytes) => Source {
-                held: Held::Bytes(bytes),
-                copy: 2,
-            },
-            _ => Source {
-                held: Held::Invalid,
-                copy: 1,
-            },
-        },
+    match found {
+        Found::Missing => true,
+        Found::Invalid => false,
+        Found::Bytes(length) => length <= 32,
     }
 }

@@ -5,13 +5,12 @@
 //! the first copy of the commit can't be read, what it holds by the second. Nothing here writes a block.
 #![tactic(auto)]
 
-mod applications;
 mod commit;
 mod content;
-mod excess;
 mod fault;
 mod generation;
 mod judging;
+mod lengths;
 mod named;
 mod pages;
 mod parts;
@@ -22,6 +21,3 @@ pub use commit::CommitCopy;
 pub use fault::StartFault;
 pub use named::read_blocks;
 pub use restoring::restore;
-
-#[cfg(test)]
-mod tests;

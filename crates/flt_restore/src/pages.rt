@@ -1,22 +1,45 @@
 //! How many pages the records of an image take beyond the configuration's own.
-ghost use Rattle.std.specs.Prelude.{◌≡◌, ◌-◌, ◌*◌, ◌≤◌, ◌<◌, IsTrue};
-ghost use Rattle.flt_flash.specs.Blocks.{pages_of as pages_of_content};
+ghost use Rattle.std.specs.Prelude.{◌≡◌, ◌≤◌};
+ghost use Rattle.flt_flash.specs.Blocks.{pages_of as pages_of_content, record_pages};
+ghost use Rattle.flt_flash.specs.Calls.{found_of};
+ghost use Rattle.flt_flash.specs.Content.{Content};
 ghost use Rattle.flt_generation.specs.Excess.{is_own_part, is_own_application, own_pages};
 ghost use Rattle.flt_generation.specs.Form.{part_length};
 ghost use Rattle.flt_generation.specs.Layout.{part_of};
-ghost use Rattle.flt_restore.specs.Found.{content_of};
+ghost use Rattle.flt_restore.specs.Found.{size_found};
 
-use crate::content::{Held, pages_of, record_pages};
 use flt_config::ValidConfig;
+use flt_flash::Found;
 use flt_generation::FIRST_APPLICATION;
 use flt_image::is_used;
 
 /// The number of the mark, and those of the copies of the commit.
-pub(crate) const MARK: u16 = 8;
+const MARK: u16 = 8;
 
-pub(crate) const FIRST_COMMIT: u16 = 16;
+const FIRST_COMMIT: u16 = 16;
 
-pub(crate) const SECOND_COMMIT: u16 = 17;
+const SECOND_COMMIT: u16 = 17;
+
+// The pages of a record of so many bytes.
+fn record_pages(length: usize) -> u32
+    requires { length ≤ 128 }
+    ensures { result ≡ record_pages length }
+{
+    2 + length.div_ceil(32) as u32
+}
+
+/// The pages of the record that gives a block the content of which a read would find this.
+pub(crate) fn pages_of(found: Found) -> u32
+    requires { size_found found ≤ 128 }
+    ensures pages { (content : Content) → found ≡ found_of content → result ≡ pages_of_content content }
+    ensures most { result ≤ 6 }
+{
+    match found {
+        Found::Missing => 0,
+        Found::Invalid => 2,
+        Found::Bytes(length) => record_pages(length),
+    }
+}
 
 // The bytes of a part: the summary, the states of sixteen events, or an entry.
 fn part_length(id: u16) -> usize
@@ -45,9 +68,9 @@ fn is_own_application(config: &ValidConfig, number: u16) -> bool
     number % 8 == 0 && FIRST_APPLICATION <= number / 8 && number / 8 < end
 }
 
-// The pages of the longest record that the configuration keeps under a number, 0 where it keeps none.
+/// The pages of the longest record that the configuration keeps under a number, 0 where it keeps none.
 #[tactic(auto, unfolding(flt_generation::specs::Excess::own_pages))]
-fn own_pages(config: &ValidConfig, number: u16) -> u32
+pub(crate) fn own_pages(config: &ValidConfig, number: u16) -> u32
     ensures { result ≡ own_pages config.now number }
 {
     if number == MARK {
@@ -61,12 +84,4 @@ fn own_pages(config: &ValidConfig, number: u16) -> u32
     } else {
         0
     }
-}
-
-/// The pages that the record of a number takes beyond the configuration's own.
-pub(crate) fn pages_beyond(config: &ValidConfig, number: u16, held: &Held) -> u32
-    ensures pages { result ≡ pages_of_content (content_of held.now) - own_pages config.now number }
-    ensures most { result ≤ 6 }
-{
-    pages_of(held).saturating_sub(own_pages(config, number))
 }

@@ -5,9 +5,10 @@ ghost use Rattle.flt_nvm.specs.Driver.{driver_of, table_of};
 ghost use Rattle.flt_image.specs.Table.{block_table};
 ghost use Rattle.flt_generation.specs.Layout.{commit_id, number_of};
 ghost use Rattle.flt_restore.specs.Found.{content_of, IsSingle, Reads};
+ghost use Rattle.flt_restore.specs.Judging.{IsSource};
 
 use crate::content::{Held, held_in};
-use flt_flash::{Blocks, FlashFailed};
+use flt_flash::{Blocks, FlashFailed, Found};
 use flt_generation::COMMIT_ID;
 use flt_nvm::Nvm;
 
@@ -52,5 +53,57 @@ pub(crate) fn read_commit_copy<B: Blocks + Drop>(
     match nvm.read_copy(COMMIT_ID, copy, &mut out) {
         Ok(got) => Ok(held_in(got, &out)),
         Err(_) => Err(FlashFailed),
+    }
+}
+
+/// What counts as the commit, and the copy that it is of.
+#[derive(Drop)]
+pub(crate) struct Source {
+    pub held: Held,
+    pub copy: u8,
+}
+
+fn read_source<B: Blocks + Drop>(nvm: &mut Nvm<B>, copy: u8) -> Result<Source, FlashFailed>
+    requires table { table_of nvm.old ≡ block_table }
+    requires mounted { IsTrue (driver_of nvm.old).has_mounted }
+    requires least { 1 ≤ copy }
+    requires most { copy ≤ 2 }
+    ensures content { IfOk result (λ source. content_of source.held ≡ (driver_of nvm.old).value (number_of commit_id (copy - 1))) }
+    ensures copy { IfOk result (λ source. source.copy ≡ copy) }
+    ensures flash { OnErr result (HasRisenBy 3 (driver_of nvm.old).device.faults (driver_of nvm.new).device.faults) }
+    ensures reads { Reads (driver_of nvm.old) (driver_of nvm.new) }
+    ensures table { table_of nvm.new ≡ table_of nvm.old }
+{
+    let held = read_commit_copy(nvm, copy)?;
+    Ok(Source { held, copy })
+}
+
+/// Reads the copy of the commit that counts: copy 1 where it has bytes, else copy 2 where that has bytes, else copy 1. Where copy 1
+/// can't be read in three tries and copy 2 has bytes, that is read.
+pub(crate) fn read_commit<B: Blocks + Drop>(nvm: &mut Nvm<B>) -> Result<Source, FlashFailed>
+    requires table { table_of nvm.old ≡ block_table }
+    requires mounted { IsTrue (driver_of nvm.old).has_mounted }
+    requires settled { IsFalse (driver_of nvm.old).is_stale }
+    ensures source { IfOk result (λ source. IsSource (driver_of nvm.old) (driver_of nvm.new) (content_of source.held) source.copy) }
+    ensures flash { OnErr result (HasRisenBy 3 (driver_of nvm.old).device.faults (driver_of nvm.new).device.faults) }
+    ensures reads { Reads (driver_of nvm.old) (driver_of nvm.new) }
+    ensures table { table_of nvm.new ≡ table_of nvm.old }
+{
+    let second = nvm.look_up(COMMIT_ID, 1);
+    match (nvm.look_up(COMMIT_ID, 0), second) {
+        (Found::Bytes(_), Found::Bytes(_)) => match read_source(nvm, 1) {
+            Ok(source) => Ok(source),
+            Err(FlashFailed) => read_source(nvm, 2),
+        },
+        (Found::Bytes(_), _) => read_source(nvm, 1),
+        (_, Found::Bytes(_)) => read_source(nvm, 2),
+        (Found::Missing, _) => Ok(Source {
+            held: Held::Missing,
+            copy: 1,
+        }),
+        (Found::Invalid, _) => Ok(Source {
+            held: Held::Invalid,
+            copy: 1,
+        }),
     }
 }

@@ -7,7 +7,6 @@ use Rattle.flt_restore.specs.declared.fault.StartFault.{StartFault}
 use Rattle.flt_restore.specs.Judging.{Tells}
 use Rattle.flt_restore.proofs.Telling.{handed_on}
 use Rattle.flt_restore.proofs.Naming.{no_commit, named_commit, parts_refused, read_form}
-use Rattle.flt_restore.proofs.Owned.{names_own}
 use Rattle.flt_restore.proofs.generation.read_named.Goals as goal
 
 pub read_parts-requires-clause-form : goal.read_parts-requires-clause-form
@@ -37,8 +36,3 @@ pub returns-in_ok-read_parts-in-Some-clause-source : goal.returns-in_ok-read_par
 returns-in_ok-read_parts-in-Some-clause-source g c =
     let is : Some c.in-Some.commit ≡ commit_in c.args.config.now c.args.bytes.items = sym c.in-Some.is ∙ c.get_commit.ensures ∙ ap (commit_in c.args.config.now) c.deref.ensures.0 in
     (refl, refl, (read_form c.args.config.now c.args.bytes.items c.in-Some.commit is).1)
-
-pub returns-in_ok-read_parts-in-Some-clause-own : goal.returns-in_ok-read_parts-in-Some-clause-own
-returns-in_ok-read_parts-in-Some-clause-own g c =
-    let is : Some c.in-Some.commit ≡ commit_in c.args.config.now c.args.bytes.items = sym c.in-Some.is ∙ c.get_commit.ensures ∙ ap (commit_in c.args.config.now) c.deref.ensures.0 in
-    names_own c.args.config.now (driver_of c.args.nvm.now).value (record { commit = c.in-Some.commit; copy = c.args.copy; bytes = c.args.bytes }) (read_form c.args.config.now c.args.bytes.items c.in-Some.commit is).0 c.read_parts.new.out c.in_ok-read_parts-in-Some.ensures.told

@@ -1,25 +1,57 @@
+use Rattle.std.proofs.Common.{sym, subst, arith}
 use Rattle.flt_nvm.specs.Driver.{driver_of}
+use Rattle.flt_restore.specs.Found.{content_of}
+use Rattle.flt_restore.specs.Restored.{Refuses}
 use Rattle.flt_restore.proofs.Rows.{mark_is_single}
-use Rattle.flt_restore.proofs.Judged.{all_restored, all_refused}
-use Rattle.flt_restore.proofs.Telling.{more_reads}
+use Rattle.flt_restore.proofs.Judged.{refused, spent, restores, source_from}
+use Rattle.flt_restore.proofs.Telling.{handed_on, each_fault, more_reads, same_values}
 use Rattle.flt_restore.proofs.restoring.restore.Goals as goal
 
 pub read_content-requires-clause-single : goal.read_content-requires-clause-single
 read_content-requires-clause-single g c = mark_is_single
 
-pub restore_by_second-requires-clause-short : goal.restore_by_second-requires-clause-short
-restore_by_second-requires-clause-short g c = g.met.B.Blocks.bytes_are_short c.read_commit_copy.new.nvm.blocks 16
+pub returns-in_err-commit-clause-refused : goal.returns-in_err-commit-clause-refused
+returns-in_err-commit-clause-refused g c =
+    let config = c.args.config.now in
+    let start = driver_of c.args.nvm.now in
+    let marked = driver_of c.read_content.new.nvm in
+    let before = driver_of c.read_commit.new.nvm in
+    let after = driver_of c.read_image.new.nvm in
+    let content = content_of c.in_ok-source.source.held in
+    let so_far = more_reads start marked before c.in_ok-mark.ensures.reads c.in_ok-source.ensures.reads in
+    let source = source_from start marked before content c.in_ok-source.source.copy c.in_ok-mark.ensures.reads c.in_ok-source.ensures.source in
+    each_fault (Refuses config start after) c.from_residual-in_err-commit.result
+    (handed_on (Refuses config start after) c.from_residual-in_err-commit.result _ c.from_residual-in_err-commit.ensures.1
+    (refused config start before after (same_values start before so_far) content c.in_ok-source.source.copy source c.in_err-commit.ensures.reads.follows.counts _ c.in_err-commit.ensures.refused so_far.follows.counts))
 
-pub returns-in-Ok-clause-restored : goal.returns-in-Ok-clause-restored
-returns-in-Ok-clause-restored g c =
-    let before = driver_of c.args.nvm.now in
-    let middle = driver_of c.read_content.new.nvm in
-    let later = driver_of c.read_commit_copy.new.nvm in
-    all_restored c.args.config.now before later (driver_of c.restore_by_either.new.nvm) (more_reads before middle later c.in_ok-mark.ensures.reads c.in-Ok.ensures.reads) c.restore_by_either.new.out c.restore_by_either.result c.restore_by_either.ensures.restored
+pub returns-in_err-check_sequence-clause-refused : goal.returns-in_err-check_sequence-clause-refused
+returns-in_err-check_sequence-clause-refused g c =
+    let config = c.args.config.now in
+    let start = driver_of c.args.nvm.now in
+    let marked = driver_of c.read_content.new.nvm in
+    let before = driver_of c.read_commit.new.nvm in
+    let after = driver_of c.read_image.new.nvm in
+    let content = content_of c.in_ok-source.source.held in
+    let so_far = more_reads start marked before c.in_ok-mark.ensures.reads c.in_ok-source.ensures.reads in
+    let source = source_from start marked before content c.in_ok-source.source.copy c.in_ok-mark.ensures.reads c.in_ok-source.ensures.source in
+    let last = c.in_err-check_sequence.ensures.refused in
+    each_fault (Refuses config start after) c.from_residual-in_err-check_sequence.result
+    (handed_on (Refuses config start after) c.from_residual-in_err-check_sequence.result _ c.from_residual-in_err-check_sequence.ensures.1
+    (subst (Refuses config start after) (sym last.0)
+    (spent config start before after (same_values start before so_far) content c.in_ok-source.source.copy source c.in_ok-commit.ensures.reads.follows.counts _ c.in_ok-commit.ensures.told last.1)))
 
-pub returns-in-Ok-clause-refused : goal.returns-in-Ok-clause-refused
-returns-in-Ok-clause-refused g c =
-    let before = driver_of c.args.nvm.now in
-    let middle = driver_of c.read_content.new.nvm in
-    let later = driver_of c.read_commit_copy.new.nvm in
-    all_refused c.args.config.now before later (driver_of c.restore_by_either.new.nvm) (more_reads before middle later c.in_ok-mark.ensures.reads c.in-Ok.ensures.reads) c.restore_by_either.result c.restore_by_either.ensures.refused
+pub returns-clause-restored : goal.returns-clause-restored
+returns-clause-restored g c =
+    let config = c.args.config.now in
+    let start = driver_of c.args.nvm.now in
+    let marked = driver_of c.read_content.new.nvm in
+    let before = driver_of c.read_commit.new.nvm in
+    let after = driver_of c.read_image.new.nvm in
+    let content = content_of c.in_ok-source.source.held in
+    let so_far = more_reads start marked before c.in_ok-mark.ensures.reads c.in_ok-source.ensures.reads in
+    let source = source_from start marked before content c.in_ok-source.source.copy c.in_ok-mark.ensures.reads c.in_ok-source.ensures.source in
+    record {
+      restored = restores config start before after (same_values start before so_far) content c.in_ok-source.source.copy source c.in_ok-commit.ensures.reads.follows.counts c.in_ok-commit.commit c.read_image.new.out
+          c.in_ok-commit.ensures.told c.in_ok-commit.ensures.source;
+      usable = c.in_ok-check_sequence.ensures.left;
+    }

@@ -3,7 +3,7 @@ use Rattle.std.specs.List.{range_with_len}
 use Rattle.flt_nvm.specs.declared.table.BlockCfg.{BlockCfg}
 use Rattle.flt_nvm.specs.Table.{serves}
 use Rattle.flt_image.specs.Table.{rows, block_table}
-use Rattle.flt_restore.proofs.tests.restored.Goals as goal
+use Rattle.flt_stub_tests.proofs.tests.restored.restored.Goals as goal
 
 all_served : serves (range_with_len 0 832) block_table ≡ true
 unfolding block_table rows

@@ -1,6 +1,6 @@
 use Rattle.std.proofs.Common.{ℕ, List, refl, sym, ◌∙◌, subst, lit<}
 use Rattle.std.specs.Prelude.{Contains}
-use Rattle.flt_restore.proofs.tests.an_image_is_restored_by_its_second_copy.Goals as goal
+use Rattle.flt_stub_tests.proofs.tests.restored.an_image_is_restored_by_its_second_copy.Goals as goal
 
 pub write-requires-clause-number : goal.write-requires-clause-number
 write-requires-clause-number g c = subst (λ (numbers : List ℕ). Contains numbers 8) (sym c.in_ok-driver.ensures.numbers) (8, lit< tt, refl)

@@ -1,0 +1,11 @@
+use Rattle.std.proofs.Common.{List, sym, subst, arith}
+use Rattle.flt_nvm.specs.declared.table.BlockCfg.{BlockCfg}
+use Rattle.flt_nvm.specs.Table.{HasPlace}
+use Rattle.flt_restore.proofs.Rows.{commit_has_place}
+use Rattle.flt_restore.proofs.reading.read_commit.Goals as goal
+
+pub look_up-second-requires-clause-place : goal.look_up-second-requires-clause-place
+look_up-second-requires-clause-place g c = subst (λ (table : List BlockCfg). HasPlace table 2 1) (sym c.requires.table) (commit_has_place 1 (omega arith))
+
+pub look_up-requires-clause-place : goal.look_up-requires-clause-place
+look_up-requires-clause-place g c = subst (λ (table : List BlockCfg). HasPlace table 2 0) (sym c.requires.table) (commit_has_place 0 (omega arith))
