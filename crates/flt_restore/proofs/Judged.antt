@@ -65,7 +65,7 @@ pub source_from : (start before after : BlocksState) (content : Content) (copy :
 source_from start before after content copy reads source = elim source [
   | inl either ↦ inl (
       subst (λ (value : ℕ → Content). (content ≡ either_copy (value first_commit) (value second_commit)) × IsOfCopy (value first_commit) (value second_commit) content copy) (same_values start before reads) either
-    )
+      )
   | inr second ↦ inr (second.0 ∙ reads.values second_commit, second.1, second.2, omega (arith, reads.follows.counts, second.3))
 ]
 
@@ -79,10 +79,10 @@ module _ (c : Config) (start before after : BlocksState) (values : before.value 
   judged found is = elim source [
     | inl either ↦ inl (ap (held_by c start.value) (sym either.0) ∙ held_there found is)
     | inr second ↦ inr (
-        ap (held_by c start.value) (ap only_bytes (sym second.0) ∙ only_itself content second.1) ∙ held_there found is,
-        subst HasBytes second.0 second.1,
-        omega (arith, counts, second.3),
-      )
+      ap (held_by c start.value) (ap only_bytes (sym second.0) ∙ only_itself content second.1) ∙ held_there found is,
+      subst HasBytes second.0 second.1,
+      omega (arith, counts, second.3),
+    )
   ]
 
   pub refused : (fault : StartFault) → Tells c before after (held_by c before.value content) fault → HasRisenBy 0 start.device.faults before.device.faults → Refuses c start after fault
@@ -98,9 +98,9 @@ module _ (c : Config) (start before after : BlocksState) (values : before.value 
   restores commit state is from = elim source [
     | inl either ↦ inl (ap (held_by c start.value) (sym either.0) ∙ held_there (Ok (generation commit state)) is, commit_by_either start.value content copy commit either.0 either.1 from)
     | inr second ↦ inr (
-        ap (held_by c start.value) (ap only_bytes (sym second.0) ∙ only_itself content second.1) ∙ held_there (Ok (generation commit state)) is,
-        commit_by_second start.value content commit second.0 second.1 (subst (λ (n : ℕ). IsReadFrom content n commit) second.2 from),
-        subst HasBytes second.0 second.1,
-        omega (arith, counts, second.3),
-      )
+      ap (held_by c start.value) (ap only_bytes (sym second.0) ∙ only_itself content second.1) ∙ held_there (Ok (generation commit state)) is,
+      commit_by_second start.value content commit second.0 second.1 (subst (λ (n : ℕ). IsReadFrom content n commit) second.2 from),
+      subst HasBytes second.0 second.1,
+      omega (arith, counts, second.3),
+    )
   ]

@@ -13,9 +13,7 @@ use crate::judging::{damaged, is_application};
 use crate::pages::{own_pages, pages_of};
 use flt_config::{ValidConfig, needed_pages};
 use flt_flash::Blocks;
-use flt_generation::{
-    APPLICATIONS, COMMIT_ID, END_PART, FIRST_APPLICATION, FIRST_PART, MARK_ID,
-};
+use flt_generation::{APPLICATIONS, COMMIT_ID, END_PART, FIRST_APPLICATION, FIRST_PART, MARK_ID};
 use flt_nvm::Nvm;
 
 // Judges one application block.
@@ -111,8 +109,7 @@ fn excess<B: Blocks + Drop>(nvm: &Nvm<B>, config: &ValidConfig) -> u32
     ensures most { result ≤ 510 }
 {
     let mark = pages_beyond(nvm, config, MARK_ID, 0);
-    let copies =
-        pages_beyond(nvm, config, COMMIT_ID, 0) + pages_beyond(nvm, config, COMMIT_ID, 1);
+    let copies = pages_beyond(nvm, config, COMMIT_ID, 0) + pages_beyond(nvm, config, COMMIT_ID, 1);
     let parts = pages_beyond_of_parts(nvm, config);
     mark + copies + parts + pages_beyond_of_applications(nvm, config)
 }

@@ -81,6 +81,7 @@ impl<B: Blocks + Drop> Store<B> {
     fn start_mounted(&mut self, config: &ValidConfig, out: &mut Persist) -> Result<u32, StartFault>
         requires room { HasRoom config.now (driver_of self.old).room }
         requires mounted { IsTrue (driver_of self.old).has_mounted }
+        requires settled { IsFalse (driver_of self.old).is_stale }
         ensures started { IfOk result (λ number. Starts config.now number out.new self.old self.new) }
         ensures refused { IfErr result (RefusedFor config.now self.old self.new) }
         ensures left { (held spare : Generation) → IsSound config.now (driver_of self.old).value held spare → OnErr result (OldOrNew config.now (driver_of self.new).value held spare held) }

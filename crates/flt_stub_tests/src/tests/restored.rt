@@ -1,15 +1,15 @@
-// Start-up over the driver in memory.
+// What is restored of an image, over the driver in memory.
 ghost use Rattle.std.specs.Prelude.{◌≡◌};
 ghost use Rattle.std.specs.List.{range_with_len};
 ghost use Rattle.flt_stub.specs.Memory.{state_of};
 
-use crate::{CommitCopy, StartFault, restore};
 use arrayvec::ArrayVec;
 use flt_config::{Config, Persist, ValidConfig, check, initial};
 use flt_flash::Blocks;
 use flt_generation::Place;
 use flt_image::block_table;
 use flt_nvm::Nvm;
+use flt_restore::{CommitCopy, StartFault, restore};
 use flt_stub::BlocksMem;
 use std::alloc::Global;
 use std::process::Abort;

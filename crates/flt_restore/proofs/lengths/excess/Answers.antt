@@ -15,5 +15,12 @@ pages_beyond-requires-2-clause-place g c = commit_has_place 1 (omega arith)
 
 pub returns-clause-pages : goal.returns-clause-pages
 returns-clause-pages g c =
-    omega (arith, excess_is c.args.config.now (driver_of c.args.nvm.now).value, c.pages_beyond-mark.ensures.pages, c.pages_beyond.ensures.pages, c.pages_beyond-2.ensures.pages,
-    c.pages_beyond_of_parts-parts.ensures.pages, c.pages_beyond_of_applications.ensures.pages)
+    omega (
+      arith,
+      excess_is c.args.config.now (driver_of c.args.nvm.now).value,
+      c.pages_beyond-mark.ensures.pages,
+      c.pages_beyond.ensures.pages,
+      c.pages_beyond-2.ensures.pages,
+      c.pages_beyond_of_parts-parts.ensures.pages,
+      c.pages_beyond_of_applications.ensures.pages,
+    )
