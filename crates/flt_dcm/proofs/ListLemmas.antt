@@ -1,7 +1,7 @@
 -- What is put of the events below a number, and how many bytes it has.
 use Rattle.std.proofs.Common.{◌≡◌, ◌∙◌, ℕ, zero, suc, ◌+◌, ◌*◌, ◌<◌, ◌≤◌, Bool, true, false, nat_eq, cond, List, [], ◌∷◌, ◌++◌, length, map, filter, take, get_or, Option, Some, None, arith, refl, sym, ap, inl, inr, ⊎_elim}
 use Rattle.std.proofs.lemmas.Bool.{cases_Bool, cases_eq, ne_eqb}
-use Rattle.std.proofs.lemmas.List.{map-append, length-append, length-map, append-nil, drop_more, drop_all, get_or-map, get_or_append_left, get_or_push}
+use Rattle.std.proofs.lemmas.List.{map-append, length-append, length-map, append-nil, drop_more, drop_all, get_or-map}
 use Rattle.std.proofs.lemmas.List.Concat.{flat_map-append}
 use Rattle.std.specs.List.{flat_map, find}
 use Rattle.std.specs.Prelude.{is_some}

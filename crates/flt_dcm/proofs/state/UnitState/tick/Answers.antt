@@ -1,17 +1,7 @@
-use Rattle.std.proofs.Common.{◌≡◌, ◌∙◌, ◌<◌, ◌∷◌, not, length, arith, sym, ap, subst}
-use Rattle.std.specs.Prelude.{slice_set}
-use Rattle.flt_model.specs.Answer.{answer}
-use Rattle.flt_model.specs.Request.{asked}
-use Rattle.flt_model.specs.Response.{response}
+use Rattle.std.proofs.Common.{◌∙◌, ◌∷◌, not, sym, ap, subst}
 use Rattle.flt_model.specs.declared.call.Op.TheVariants as ops
-use Rattle.flt_dem.proofs.IdleLemmas.{stands_idle}
-use Rattle.flt_dem.proofs.ViewLemmas.{read_within, view_told}
-use Rattle.flt_dcm.specs.Session.{is_extended_one, heard, after_asked}
-use Rattle.flt_dcm.specs.Unit.{UnitView, Stands, SessionsStand, IsAdmitted, session_at}
-use Rattle.flt_dcm.specs.contracts.state.UnitState.{the_view}
-use Rattle.flt_dcm.specs.declared.session.Session.TheVariants.{Default}
-use Rattle.flt_dcm.proofs.SessionLemmas.{sessions_asked, sessions_ticked, sessions_kept, off_told}
-use Rattle.flt_dcm.proofs.UnitLemmas.{tester_of}
+use Rattle.flt_dcm.specs.Unit.{SessionsStand}
+use Rattle.flt_dcm.proofs.SessionLemmas.{sessions_ticked, off_told}
 use Rattle.flt_dcm.proofs.state.UnitState.tick.Goals as goal
 
 pub returns-clause-stands : goal.returns-clause-stands

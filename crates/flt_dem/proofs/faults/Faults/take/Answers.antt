@@ -1,4 +1,4 @@
-use Rattle.std.proofs.Common.{◌≡◌, Some, sym, subst}
+use Rattle.std.proofs.Common.{Some, sym, subst}
 use Rattle.flt_model.specs.Trace.{with_result}
 use Rattle.flt_dem.specs.Standing.{FaultsStand}
 use Rattle.flt_dem.proofs.faults.Faults.take.Goals as goal
