@@ -16,7 +16,7 @@ use Rattle.flt_script.specs.declared.step.Part.{Part}
 use Rattle.flt_script.specs.declared.step.Part.TheVariants.{One}
 use Rattle.flt_script.specs.declared.step.Step.{Step}
 use Rattle.flt_script.specs.declared.step.Step.TheVariants as steps
-use Rattle.flt_run.specs.Steps.{answer_of, lists, op_of, op_of_step, parts_of, step_of}
+use Rattle.flt_run.specs.Steps.{answer_of, lists, op_of, op_of_step, parts_of}
 
 -- ---- the loop over the parts
 
