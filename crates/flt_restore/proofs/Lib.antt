@@ -1,5 +1,6 @@
 pub mod Rows
 pub mod Telling
+pub mod Failing
 pub mod TakingParts
 pub mod Blocks
 pub mod Naming

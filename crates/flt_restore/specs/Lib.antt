@@ -2,3 +2,4 @@ pub mod Found
 pub mod Learning
 pub mod Judging
 pub mod Restored
+pub mod Unread

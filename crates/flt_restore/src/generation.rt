@@ -1,11 +1,13 @@
 //! The generation that a commit names, with the parts that it has.
 ghost use Rattle.flt_flash.specs.Content.{bytes as holding};
-ghost use Rattle.std.specs.Prelude.{◌≡◌, Some, Ok, IfErr, IfOk, IsTrue, IsFalse};
+ghost use Rattle.std.specs.Prelude.{◌≡◌, Some, Ok, IfErr, IfOk, IsErrOf, IsTrue, IsFalse};
 ghost use Rattle.flt_nvm.specs.Driver.{driver_of, table_of};
 ghost use Rattle.flt_image.specs.Table.{block_table};
 ghost use Rattle.flt_generation.specs.Layout.{mark_number};
 ghost use Rattle.flt_generation.specs.Holding.{held_by, named};
 ghost use Rattle.flt_restore.specs.Found.{content_of, Reads};
+ghost use Rattle.flt_restore.specs.declared.fault.StartFault.TheVariants.{Flash};
+ghost use Rattle.flt_restore.specs.Unread.{IsPartUnread};
 ghost use Rattle.flt_restore.specs.Judging.{IsReadFrom, Tells};
 ghost use Rattle.flt_restore.specs.Restored.{generation};
 
@@ -35,6 +37,7 @@ fn read_named<B: Blocks + Drop>(
     ensures told { IfOk result (λ found. named config.now (driver_of nvm.old).value (holding bytes.items) ≡ Ok (generation (Some found) out.new)) }
     ensures source { IfOk result (λ found. IsReadFrom (holding bytes.items) copy (Some found)) }
     ensures refused { IfErr result (Tells config.now (driver_of nvm.old) (driver_of nvm.new) (named config.now (driver_of nvm.old).value (holding bytes.items))) }
+    ensures unread { IsErrOf result Flash → IsPartUnread config.now (driver_of nvm.old) (driver_of nvm.new) }
     ensures reads { Reads (driver_of nvm.old) (driver_of nvm.new) }
     ensures table { table_of nvm.new ≡ table_of nvm.old }
 {
@@ -64,6 +67,7 @@ fn read_generation<B: Blocks + Drop>(
     ensures told { IfOk result (λ commit. named config.now (driver_of nvm.old).value (content_of held) ≡ Ok (generation commit out.new)) }
     ensures source { IfOk result (λ commit. IsReadFrom (content_of held) copy commit) }
     ensures refused { IfErr result (Tells config.now (driver_of nvm.old) (driver_of nvm.new) (named config.now (driver_of nvm.old).value (content_of held))) }
+    ensures unread { IsErrOf result Flash → IsPartUnread config.now (driver_of nvm.old) (driver_of nvm.new) }
     ensures reads { Reads (driver_of nvm.old) (driver_of nvm.new) }
     ensures table { table_of nvm.new ≡ table_of nvm.old }
 {
@@ -95,6 +99,7 @@ pub(crate) fn read_image<B: Blocks + Drop>(
     ensures told { IfOk result (λ commit. held_by config.now (driver_of nvm.old).value (content_of source.held) ≡ Ok (generation commit out.new)) }
     ensures source { IfOk result (λ commit. IsReadFrom (content_of source.held) source.copy commit) }
     ensures refused { IfErr result (Tells config.now (driver_of nvm.old) (driver_of nvm.new) (held_by config.now (driver_of nvm.old).value (content_of source.held))) }
+    ensures unread { IsErrOf result Flash → IsPartUnread config.now (driver_of nvm.old) (driver_of nvm.new) }
     ensures reads { Reads (driver_of nvm.old) (driver_of nvm.new) }
     ensures table { table_of nvm.new ≡ table_of nvm.old }
 {

@@ -1,11 +1,13 @@
 //! The parts of a generation, read from the blocks that its commit names.
-ghost use Rattle.std.specs.Prelude.{◌≡◌, ◌≤◌, ◌<◌, length, Ok, IfErr, OnOk, IsTrue, IsFalse};
+ghost use Rattle.std.specs.Prelude.{◌≡◌, ◌≤◌, ◌<◌, length, Ok, IfErr, OnOk, IsErrOf, IsTrue, IsFalse};
 ghost use Rattle.flt_nvm.specs.Driver.{driver_of, table_of};
 ghost use Rattle.flt_image.specs.Table.{block_table};
 ghost use Rattle.flt_generation.specs.Layout.{first_part, end_part, parts};
 ghost use Rattle.flt_generation.specs.Form.{IsCommit};
 ghost use Rattle.flt_generation.specs.Holding.{parts_read, with_named};
 ghost use Rattle.flt_restore.specs.Found.{Reads};
+ghost use Rattle.flt_restore.specs.declared.fault.StartFault.TheVariants.{Flash};
+ghost use Rattle.flt_restore.specs.Unread.{IsPartUnread};
 ghost use Rattle.flt_restore.specs.Judging.{Tells};
 
 use crate::content::Held;
@@ -35,6 +37,7 @@ fn read_part<B: Blocks + Drop>(
     ensures told { OnOk result (with_named config.now (driver_of nvm.old).value commit.now id out.old ≡ Ok out.new) }
     ensures refused { IfErr result (Tells config.now (driver_of nvm.old) (driver_of nvm.new) (with_named config.now (driver_of nvm.old).value commit.now id out.old)) }
     ensures states { length out.new.events.items ≡ length config.now.events.items }
+    ensures unread { IsErrOf result Flash → IsPartUnread config.now (driver_of nvm.old) (driver_of nvm.new) }
     ensures reads { Reads (driver_of nvm.old) (driver_of nvm.new) }
     ensures table { table_of nvm.new ≡ table_of nvm.old }
 {
@@ -66,6 +69,7 @@ pub(crate) fn read_parts<B: Blocks + Drop>(
     requires form { IsCommit config.now commit.now }
     ensures told { OnOk result (parts_read config.now (driver_of nvm.old).value commit.now parts ≡ Ok out.new) }
     ensures refused { IfErr result (Tells config.now (driver_of nvm.old) (driver_of nvm.new) (parts_read config.now (driver_of nvm.old).value commit.now parts)) }
+    ensures unread { IsErrOf result Flash → IsPartUnread config.now (driver_of nvm.old) (driver_of nvm.new) }
     ensures reads { Reads (driver_of nvm.old) (driver_of nvm.new) }
     ensures table { table_of nvm.new ≡ table_of nvm.old }
 {

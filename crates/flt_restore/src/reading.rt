@@ -6,6 +6,7 @@ ghost use Rattle.flt_image.specs.Table.{block_table};
 ghost use Rattle.flt_generation.specs.Layout.{commit_id, number_of};
 ghost use Rattle.flt_restore.specs.Found.{content_of, IsSingle, Reads};
 ghost use Rattle.flt_restore.specs.Judging.{IsSource};
+ghost use Rattle.flt_restore.specs.Unread.{FailsToRead, IsCommitUnread};
 
 use crate::content::{Held, held_in};
 use flt_flash::{Blocks, FlashFailed, Found};
@@ -22,6 +23,7 @@ pub(crate) fn read_content<B: Blocks + Drop>(
     requires mounted { IsTrue (driver_of nvm.old).has_mounted }
     requires single { IsSingle id index }
     ensures content { IfOk result (λ held. content_of held ≡ (driver_of nvm.old).value (number_of id index)) }
+    ensures unread { OnErr result (FailsToRead (number_of id index) (driver_of nvm.old) (driver_of nvm.new)) }
     ensures flash { OnErr result (HasRisenBy 3 (driver_of nvm.old).device.faults (driver_of nvm.new).device.faults) }
     ensures settled { OnOk result (IsFalse (driver_of nvm.new).is_stale) }
     ensures reads { Reads (driver_of nvm.old) (driver_of nvm.new) }
@@ -44,6 +46,7 @@ pub(crate) fn read_commit_copy<B: Blocks + Drop>(
     requires least { 1 ≤ copy }
     requires most { copy ≤ 2 }
     ensures content { IfOk result (λ held. content_of held ≡ (driver_of nvm.old).value (number_of commit_id (copy - 1))) }
+    ensures unread { OnErr result (FailsToRead (number_of commit_id (copy - 1)) (driver_of nvm.old) (driver_of nvm.new)) }
     ensures flash { OnErr result (HasRisenBy 3 (driver_of nvm.old).device.faults (driver_of nvm.new).device.faults) }
     ensures settled { OnOk result (IsFalse (driver_of nvm.new).is_stale) }
     ensures reads { Reads (driver_of nvm.old) (driver_of nvm.new) }
@@ -69,6 +72,7 @@ fn read_source<B: Blocks + Drop>(nvm: &mut Nvm<B>, copy: u8) -> Result<Source, F
     requires least { 1 ≤ copy }
     requires most { copy ≤ 2 }
     ensures content { IfOk result (λ source. content_of source.held ≡ (driver_of nvm.old).value (number_of commit_id (copy - 1))) }
+    ensures unread { OnErr result (FailsToRead (number_of commit_id (copy - 1)) (driver_of nvm.old) (driver_of nvm.new)) }
     ensures copy { IfOk result (λ source. source.copy ≡ copy) }
     ensures flash { OnErr result (HasRisenBy 3 (driver_of nvm.old).device.faults (driver_of nvm.new).device.faults) }
     ensures reads { Reads (driver_of nvm.old) (driver_of nvm.new) }
@@ -85,6 +89,7 @@ pub(crate) fn read_commit<B: Blocks + Drop>(nvm: &mut Nvm<B>) -> Result<Source, 
     requires mounted { IsTrue (driver_of nvm.old).has_mounted }
     requires settled { IsFalse (driver_of nvm.old).is_stale }
     ensures source { IfOk result (λ source. IsSource (driver_of nvm.old) (driver_of nvm.new) (content_of source.held) source.copy) }
+    ensures unread { OnErr result (IsCommitUnread (driver_of nvm.old) (driver_of nvm.new)) }
     ensures flash { OnErr result (HasRisenBy 3 (driver_of nvm.old).device.faults (driver_of nvm.new).device.faults) }
     ensures reads { Reads (driver_of nvm.old) (driver_of nvm.new) }
     ensures table { table_of nvm.new ≡ table_of nvm.old }

@@ -1,9 +1,10 @@
 // Start-up's reading: the image is judged block by block, in the order of its definition.
-ghost use Rattle.std.specs.Prelude.{◌≡◌, IfOk, IfErr, OnOk, Err, IsTrue, IsFalse};
+ghost use Rattle.std.specs.Prelude.{◌≡◌, IfOk, IfErr, OnOk, Err, IsErrOf, IsTrue, IsFalse};
 ghost use Rattle.flt_flash.specs.Calls.{Follows, SameValues};
 ghost use Rattle.flt_nvm.specs.Driver.{driver_of, table_of};
 ghost use Rattle.flt_image.specs.Table.{block_table};
-ghost use Rattle.flt_restore.specs.declared.fault.StartFault.TheVariants.{SequenceSpent};
+ghost use Rattle.flt_restore.specs.declared.fault.StartFault.TheVariants.{Flash, SequenceSpent};
+ghost use Rattle.flt_restore.specs.Unread.{IsImageUnread};
 ghost use Rattle.flt_restore.specs.Restored.{Restores, Refuses};
 
 use crate::commit::CommitCopy;
@@ -43,6 +44,7 @@ pub fn restore<B: Blocks + Drop>(
     requires settled { IsFalse (driver_of nvm.old).is_stale }
     ensures restored { IfOk result (λ commit. Restores config.now (driver_of nvm.old) (driver_of nvm.new) commit out.new) }
     ensures refused { (fault : StartFault) → result ≡ Err fault → Refuses config.now (driver_of nvm.old) (driver_of nvm.new) fault }
+    ensures unread { IsErrOf result Flash → IsImageUnread config.now (driver_of nvm.old) (driver_of nvm.new) }
     ensures values { SameValues (driver_of nvm.old) (driver_of nvm.new) }
     ensures follows { Follows (driver_of nvm.old) (driver_of nvm.new) }
     ensures table { table_of nvm.new ≡ table_of nvm.old }

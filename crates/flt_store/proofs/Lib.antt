@@ -14,3 +14,4 @@ pub mod Applying
 pub mod Marks
 pub mod Beginning
 pub mod Faults
+pub mod Dark

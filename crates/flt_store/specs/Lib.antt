@@ -6,3 +6,4 @@ pub mod Cost
 pub mod Keeping
 pub mod Store
 pub mod Start
+pub mod Dark

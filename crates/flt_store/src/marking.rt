@@ -1,5 +1,5 @@
 // The mark of a configuration, in an image that has none.
-ghost use Rattle.std.specs.Prelude.{◌≡◌, IsFalse, OnOk};
+ghost use Rattle.std.specs.Prelude.{◌≡◌, IsFalse, OnOk, IsErrOf};
 ghost use Rattle.flt_flash.specs.Content.{missing};
 ghost use Rattle.flt_flash.specs.Calls.{OthersKept};
 ghost use Rattle.flt_config.specs.declared.config.Config.{Config};
@@ -9,6 +9,7 @@ ghost use Rattle.flt_generation.specs.Form.{mark_of};
 ghost use Rattle.flt_generation.specs.Holding.{MarkAllows};
 ghost use Rattle.flt_image.specs.Table.{block_table};
 ghost use Rattle.flt_store.specs.Cause.{Writes};
+ghost use Rattle.flt_store.specs.Dark.{IsMarkUnwritten};
 ghost use Rattle.flt_store.specs.Started.{HasMark, IsMarkTried};
 
 use flt_flash::{BlockFault, Blocks};
@@ -26,6 +27,7 @@ pub(crate) fn write_missing_mark<B: Blocks + Drop>(
     ensures tried { (c : Config) → mark.now ≡ mark_of c → IsMarkTried c (driver_of nvm.old).value (driver_of nvm.new).value }
     ensures others { OthersKept mark_number (driver_of nvm.old) (driver_of nvm.new) }
     ensures fresh { OnOk result (IsFalse (driver_of nvm.new).is_stale) }
+    ensures unwritten { IsErrOf result BlockFault.Flash → IsMarkUnwritten (driver_of nvm.old) (driver_of nvm.new) }
     ensures writes { Writes (driver_of nvm.old) (driver_of nvm.new) result }
     ensures table { table_of nvm.new ≡ table_of nvm.old }
 {

@@ -1,9 +1,10 @@
 // Which generation stands after a save that failed, and the repair of the commit's copies.
-ghost use Rattle.std.specs.Prelude.{◌≡◌, ◌⊎◌, ℕ, ◌-◌, ◌≤◌, length, IsFalse, IfOk, IfSome, OnOk, OnErr, Some};
+ghost use Rattle.std.specs.Prelude.{◌≡◌, ◌⊎◌, ℕ, ◌-◌, ◌≤◌, length, IsFalse, IfOk, IfSome, IsErrOf, OnOk, OnErr, Some};
 ghost use Rattle.flt_flash.specs.Content.{bytes as holding};
 ghost use Rattle.flt_flash.specs.Calls.{Follows, OthersKept};
 ghost use Rattle.flt_nvm.specs.Driver.{driver_of, table_of};
 ghost use Rattle.flt_nvm.specs.Leaves.{IsEither};
+ghost use Rattle.flt_nvm.specs.Reads.{IsUnmended};
 ghost use Rattle.flt_generation.specs.Layout.{commit_id, number_of};
 ghost use Rattle.flt_generation.specs.Form.{IsCommit};
 ghost use Rattle.flt_generation.specs.Reading.{commit_in};
@@ -67,6 +68,8 @@ pub(crate) fn repair_by<B: Blocks + Drop>(
     ensures other { IsEither (driver_of nvm.old) (driver_of nvm.new) (number_of commit_id (2 - copy)) (holding bytes.now) }
     ensures others { OthersKept (number_of commit_id (2 - copy)) (driver_of nvm.old) (driver_of nvm.new) }
     ensures within { IsWithinOwn config.now (driver_of nvm.old).value (driver_of nvm.new).value }
+    ensures unmended { (g : Generation) → Holds config.now (driver_of nvm.old).value (holding bytes.now) g
+        → IsErrOf result BlockFault.Flash → IsUnmended (driver_of nvm.old) (driver_of nvm.new) (number_of commit_id (2 - copy)) (holding bytes.now) }
     ensures writes { (g : Generation) → Holds config.now (driver_of nvm.old).value (holding bytes.now) g → Writes (driver_of nvm.old) (driver_of nvm.new) result }
     ensures follows { Follows (driver_of nvm.old) (driver_of nvm.new) }
     ensures table { table_of nvm.new ≡ table_of nvm.old }

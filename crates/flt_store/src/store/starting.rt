@@ -1,5 +1,5 @@
 //! Start-up: what the image holds, and both copies of the commit made equal.
-ghost use Rattle.std.specs.Prelude.{◌≡◌, IfOk, IfErr, OnOk, OnErr, IsTrue, IsFalse};
+ghost use Rattle.std.specs.Prelude.{◌≡◌, ◌⊎◌, IfOk, IfErr, IsErrOf, OnOk, OnErr, IsTrue, IsFalse};
 ghost use Rattle.flt_flash.specs.Calls.{Follows};
 ghost use Rattle.flt_nvm.specs.Driver.{driver_of as driver_beneath, table_of};
 ghost use Rattle.flt_config.specs.Durable.{Fits};
@@ -10,6 +10,8 @@ ghost use Rattle.flt_image.specs.Table.{block_table};
 ghost use Rattle.flt_store.specs.Cause.{HasRoom, Writes};
 ghost use Rattle.flt_store.specs.Started.{IsStarted};
 ghost use Rattle.flt_store.specs.Start.{Begins, IsFoundIn, told_of_mount, told_of_write};
+ghost use Rattle.flt_store.specs.Dark.{IsUnbegun, IsDark};
+ghost use Rattle.flt_restore.specs.Unread.{IsImageUnread};
 
 use super::{Store, number_in};
 use crate::marking::write_missing_mark;
@@ -54,6 +56,7 @@ fn begin_by<B: Blocks + Drop>(
     ensures started { (g : Generation) → Begins config.now (driver_beneath nvm.old).value found g → IfOk result (λ commit. IsStarted config.now (driver_beneath nvm.new).value commit g) }
     ensures tried { (held spare g : Generation) → IsSound config.now (driver_beneath nvm.old).value held spare → Begins config.now (driver_beneath nvm.old).value found g
         → OnErr result (OldOrNew config.now (driver_beneath nvm.new).value held spare held) }
+    ensures unbegun { (g : Generation) → Begins config.now (driver_beneath nvm.old).value found g → IsErrOf result BlockFault.Flash → IsUnbegun (driver_beneath nvm.old) (driver_beneath nvm.new) }
     ensures writes { (g : Generation) → Begins config.now (driver_beneath nvm.old).value found g → Writes (driver_beneath nvm.old) (driver_beneath nvm.new) result }
     ensures borne { (g : Generation) → Begins config.now (driver_beneath nvm.old).value found g → IsBorne config.now (driver_beneath nvm.new).value }
     ensures fresh { OnOk result (IsFalse (driver_beneath nvm.new).is_stale) }
@@ -84,6 +87,7 @@ impl<B: Blocks + Drop> Store<B> {
         requires settled { IsFalse (driver_of self.old).is_stale }
         ensures started { IfOk result (λ number. Starts config.now number out.new self.old self.new) }
         ensures refused { IfErr result (RefusedFor config.now self.old self.new) }
+        ensures unready { IsErrOf result StartFault.Flash → IsImageUnread config.now (driver_of self.old) (driver_of self.new) ⊎ IsUnbegun (driver_of self.old) (driver_of self.new) }
         ensures left { (held spare : Generation) → IsSound config.now (driver_of self.old).value held spare → OnErr result (OldOrNew config.now (driver_of self.new).value held spare held) }
         ensures fits { OnOk result (Fits config.now out.new) }
         ensures fresh { OnOk result (IsFalse (driver_of self.new).is_stale) }
@@ -117,6 +121,7 @@ impl<B: Blocks + Drop> Store<B> {
         requires { HasRoom config.now (driver_of self.old).room }
         ensures started { IfOk result (λ number. Starts config.now number out.new self.old self.new) }
         ensures refused { IfErr result (RefusedFor config.now self.old self.new) }
+        ensures dark { IsErrOf result StartFault.Flash → IsDark config.now (driver_of self.old) (driver_of self.new) }
         ensures left { (held spare : Generation) → IsSound config.now (driver_of self.old).value held spare → OnErr result (OldOrNew config.now (driver_of self.new).value held spare held) }
         ensures fits { OnOk result (Fits config.now out.new) }
         ensures fresh { OnOk result (IsFalse (driver_of self.new).is_stale) }

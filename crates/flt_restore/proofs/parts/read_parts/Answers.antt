@@ -4,6 +4,7 @@ use Rattle.flt_nvm.specs.Driver.{driver_of}
 use Rattle.flt_generation.specs.Holding.{Fault, parts_read}
 use Rattle.flt_restore.specs.Judging.{Tells}
 use Rattle.flt_restore.proofs.Telling.{handed_on, no_reads, more_reads}
+use Rattle.flt_restore.proofs.Failing.{part_unread_from, was_flash}
 use Rattle.flt_restore.proofs.TakingParts.{part_taken, part_refused}
 use Rattle.flt_restore.proofs.parts.read_parts.Goals as goal
 
@@ -37,3 +38,13 @@ loop-id-preserved g c = record {
   reads = more_reads (driver_of c.args.nvm.now) (driver_of c.loop-id.nvm) (driver_of c.read_part.new.nvm) c.loop-id.invariant.reads c.in_ok-read_part.ensures.reads;
   table = c.in_ok-read_part.ensures.table ∙ c.loop-id.invariant.table;
 }
+
+pub returns-in_err-read_part-clause-unread : goal.returns-in_err-read_part-clause-unread
+returns-in_err-read_part-clause-unread g c =
+    λ flash.
+    part_unread_from c.args.config.now (driver_of c.args.nvm.now) (driver_of c.loop-id.nvm) (driver_of c.read_part.new.nvm) c.loop-id.invariant.reads.follows
+    (c.in_err-read_part.ensures.unread (was_flash c.from_residual.result _ c.from_residual.ensures.1 flash))
+
+pub returns-in_err-read_part-clause-reads : goal.returns-in_err-read_part-clause-reads
+returns-in_err-read_part-clause-reads g c =
+    more_reads (driver_of c.args.nvm.now) (driver_of c.loop-id.nvm) (driver_of c.read_part.new.nvm) c.loop-id.invariant.reads c.in_err-read_part.ensures.reads

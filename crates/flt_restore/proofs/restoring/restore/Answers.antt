@@ -1,10 +1,11 @@
-use Rattle.std.proofs.Common.{sym, subst, arith}
+use Rattle.std.proofs.Common.{sym, subst, arith, inl, inr}
 use Rattle.flt_nvm.specs.Driver.{driver_of}
 use Rattle.flt_restore.specs.Found.{content_of}
 use Rattle.flt_restore.specs.Restored.{Refuses}
 use Rattle.flt_restore.proofs.Rows.{mark_is_single}
 use Rattle.flt_restore.proofs.Judged.{refused, spent, restores, source_from}
 use Rattle.flt_restore.proofs.Telling.{handed_on, each_fault, more_reads, same_values}
+use Rattle.flt_restore.proofs.Failing.{commit_unread_from, part_unread_from, was_flash}
 use Rattle.flt_restore.proofs.restoring.restore.Goals as goal
 
 pub read_content-requires-clause-single : goal.read_content-requires-clause-single
@@ -55,3 +56,23 @@ returns-clause-restored g c =
           c.in_ok-commit.ensures.told c.in_ok-commit.ensures.source;
       usable = c.in_ok-check_sequence.ensures.left;
     }
+
+pub returns-in_err-source-clause-unread : goal.returns-in_err-source-clause-unread
+returns-in_err-source-clause-unread g c =
+    λ flash. inr (inl (commit_unread_from (driver_of c.args.nvm.now) (driver_of c.read_content.new.nvm) (driver_of c.read_commit.new.nvm) c.in_ok-mark.ensures.reads.follows c.in_ok-mark.ensures.reads.values c.in_err-source.ensures.unread))
+
+pub returns-in_err-commit-clause-unread : goal.returns-in_err-commit-clause-unread
+returns-in_err-commit-clause-unread g c =
+    λ flash.
+    let start = driver_of c.args.nvm.now in
+    let before = driver_of c.read_commit.new.nvm in
+    let so_far = more_reads start (driver_of c.read_content.new.nvm) before c.in_ok-mark.ensures.reads c.in_ok-source.ensures.reads in
+    inr (inr (part_unread_from c.args.config.now start before (driver_of c.read_image.new.nvm) so_far.follows
+    (c.in_err-commit.ensures.unread (was_flash c.from_residual-in_err-commit.result _ c.from_residual-in_err-commit.ensures.1 flash))))
+
+pub returns-in_err-commit-clause-follows : goal.returns-in_err-commit-clause-follows
+returns-in_err-commit-clause-follows g c =
+    let start = driver_of c.args.nvm.now in
+    let marked = driver_of c.read_content.new.nvm in
+    let before = driver_of c.read_commit.new.nvm in
+    (more_reads start before (driver_of c.read_image.new.nvm) (more_reads start marked before c.in_ok-mark.ensures.reads c.in_ok-source.ensures.reads) c.in_err-commit.ensures.reads).follows

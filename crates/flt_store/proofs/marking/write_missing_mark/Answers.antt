@@ -1,4 +1,4 @@
-use Rattle.std.proofs.Common.{◌≡◌, inl, inr, ⊎_elim, ◌∙◌, ℕ, List, length, ap, arith}
+use Rattle.std.proofs.Common.{◌≡◌, inl, inr, ⊎_elim, ◌∙◌, ℕ, List, Result, Err, length, ap, subst, arith}
 use Rattle.flt_flash.specs.Content.{bytes}
 use Rattle.flt_nvm.specs.Driver.{driver_of}
 use Rattle.flt_generation.specs.Layout.{mark_number}
@@ -8,6 +8,12 @@ use Rattle.flt_store.proofs.TableUse.{mark_index, mark_fits, mark_alone}
 use Rattle.flt_store.proofs.Causes.{one_write, writes_on}
 use Rattle.flt_store.proofs.Running.{on_ok}
 use Rattle.flt_store.proofs.Marks.{missing_mark, mark_not_invalid, mark_found}
+use Rattle.flt_flash.specs.declared.blocks.BlockFault.{BlockFault}
+use Rattle.flt_flash.specs.declared.blocks.BlockFault.TheVariants.{Flash}
+use Rattle.flt_nvm.specs.declared.got.Got.{Got}
+use Rattle.flt_nvm.specs.Leaves.{GivesInAJob}
+use Rattle.flt_nvm.specs.Reads.{LooksInAJob}
+use Rattle.flt_store.proofs.Dark.{read_at_once, write_behind}
 use Rattle.flt_store.proofs.marking.write_missing_mark.Goals as goal
 
 pub read-requires : goal.read-requires
@@ -57,3 +63,25 @@ returns-in-Ok-Bytes-clause-marked g c = λ config same allows.
     let got = mark_alone _ c.requires _ _ (rw c.in-Ok-Bytes.field-0-is at c.in-Ok-Bytes.ensures.got) in
     let mark = mark_found config ((driver_of c.args.nvm.now).value mark_number) _ _ _ _ allows got in
     (mark.0, c.read.ensures.values mark_number ∙ mark.1, mark.2)
+
+pub returns-in-Ok-Missing-clause-unwritten : goal.returns-in-Ok-Missing-clause-unwritten
+returns-in-Ok-Missing-clause-unwritten g c = λ flash.
+    let start = driver_of c.args.nvm.now in
+    let read = driver_of c.read.new.self in
+    let after = driver_of c.write.new.self in
+    let got = mark_alone _ c.requires _ _ (rw c.in-Ok-Missing.field-0-is at c.in-Ok-Missing.ensures.got) in
+    let job = mark_alone _ (c.read.ensures.table ∙ c.requires) _ _ c.write.ensures.jobs in
+    inr (
+      missing_mark (start.value mark_number) _ _ got,
+      c.put_mark.result,
+      write_behind mark_number c.put_mark.result start read after c.read.ensures.calls.follows
+          (subst (λ (result : Result (Unit {0}) BlockFault). GivesInAJob mark_number (bytes c.put_mark.result) (length c.put_mark.result) read after result) flash job),
+    )
+
+pub returns-in-Err-clause-unwritten : goal.returns-in-Err-clause-unwritten
+returns-in-Err-clause-unwritten g c = λ flash.
+    let start = driver_of c.args.nvm.now in
+    let after = driver_of c.read.new.self in
+    let same : c.in-Err.fault ≡ Flash = cc flash in
+    let job = mark_alone _ c.requires _ _ c.in-Err.ensures.jobs in
+    inl (read_at_once mark_number start after (subst (λ (fault : BlockFault). LooksInAJob {T = Got} mark_number start after (Err fault)) same job))

@@ -50,3 +50,11 @@ returns-in-None-clause-writes g c = λ h holds.
 
 pub returns-in-Ok-clause-form : goal.returns-in-Ok-clause-form
 returns-in-Ok-clause-form g c = (read_commit c.args.config.now c.args.bytes.now c.in-Some.commit (sym c.get_commit.ensures ∙ c.in-Some.is)).0
+
+pub returns-in-None-clause-unmended : goal.returns-in-None-clause-unmended
+returns-in-None-clause-unmended g c = λ h holds flash.
+    let found = one_commit c.args.config.now (driver_of c.args.nvm.now).value c.args.bytes.now h holds in
+    let read = c.get_commit.ensures in
+    let none = c.in-None.is in
+    let read_as = found.1 in
+    absurd (cc (read, none, read_as))

@@ -1,4 +1,4 @@
-use Rattle.std.proofs.Common.{Ok, Err, refl, sym, ◌∙◌, subst, ap, arith}
+use Rattle.std.proofs.Common.{◌≡◌, inl, inr, Ok, Err, refl, sym, ◌∙◌, subst, ap, arith}
 use Rattle.flt_flash.proofs.CallsInARow.{more_calls}
 use Rattle.flt_nvm.specs.Driver.{driver_of as driver_beneath}
 use Rattle.flt_generation.specs.Holding.{Generation}
@@ -13,6 +13,9 @@ use Rattle.flt_store.proofs.Repairing.{sound_kept, both_old}
 use Rattle.flt_store.proofs.Running.{served_on}
 use Rattle.flt_store.proofs.Beginning.{begins_of, restored_fits, judged_of, judged_in, same_generation, not_spent}
 use Rattle.flt_store.proofs.Faults.{refused_by_reading, refused_by_writing}
+use Rattle.flt_restore.specs.declared.fault.StartFault.TheVariants.{Flash}
+use Rattle.flt_store.specs.Start.{told_of_write}
+use Rattle.flt_store.proofs.Dark.{err_as, unbegun_from, was_flash_of_write}
 use Rattle.flt_store.proofs.store.Store.start_mounted.Goals as goal
 
 pub returns-in-Ok-begin_by-clause-started : goal.returns-in-Ok-begin_by-clause-started
@@ -82,3 +85,19 @@ of-self-requires g c =
 pub returns-in-Ok-begin_by-clause-fits : goal.returns-in-Ok-begin_by-clause-fits
 returns-in-Ok-begin_by-clause-fits g c =
     restored_fits c.args.config.now c.mark_of-mark.ensures.given (driver_of c.args.self.now) (driver_beneath c.restore.new.nvm) c.in-Ok.found c.restore.new.out c.restore.ensures.values c.in-Ok.ensures.restored.restored
+
+pub returns-in-Err-begin_by-clause-unready : goal.returns-in-Err-begin_by-clause-unready
+returns-in-Err-begin_by-clause-unready g c = λ flash.
+    let first = driver_of c.args.self.now in
+    let second = driver_beneath c.restore.new.nvm in
+    let third = driver_beneath c.begin_by.new.nvm in
+    let d = generation c.in-Ok.found c.restore.new.out in
+    let begins = begins_of c.args.config.now c.mark_of-mark.ensures.given first second c.in-Ok.found c.restore.new.out c.restore.ensures.values c.in-Ok.ensures.restored.restored in
+    let writes = writes_on first second third (Err c.in-Err-begin_by.fault) c.restore.ensures.follows (c.in-Err-begin_by.ensures.writes d begins) in
+    let told = c.write_fault.ensures in
+    let is : told_of_write c.in-Err-begin_by.fault ≡ Flash = cc (flash, told) in
+    let fault_is = was_flash_of_write c.args.config.now c.mark_of-mark.ensures.given first third c.in-Err-begin_by.fault writes c.args.self.now.numbers c.requires.room c.requires.mounted (c.begin_by.ensures.borne d begins) is in
+    inr (unbegun_from first second third c.restore.ensures.follows c.restore.ensures.values (c.in-Err-begin_by.ensures.unbegun d begins (ap Err fault_is)))
+
+pub returns-in-Err-clause-unready : goal.returns-in-Err-clause-unready
+returns-in-Err-clause-unready g c = λ flash. inl (c.in-Err.ensures.unread (err_as c.in-Err.fault _ flash))

@@ -1,8 +1,10 @@
+use Rattle.std.proofs.Common.{inr}
 use Rattle.flt_nvm.specs.Driver.{driver_of as driver_beneath}
 use Rattle.flt_store.specs.Store.{driver_of}
 use Rattle.flt_store.proofs.Repairing.{sound_kept, both_old}
 use Rattle.flt_store.proofs.Running.{ok_map}
 use Rattle.flt_store.proofs.Faults.{refused_through, starts_through, err_told}
+use Rattle.flt_store.proofs.Dark.{unready_from}
 use Rattle.flt_store.proofs.store.Store.start_up.Goals as goal
 
 pub returns-in-Ok-clause-started : goal.returns-in-Ok-clause-started
@@ -25,3 +27,7 @@ returns-in-Ok-clause-left g c = λ h s sound.
 pub returns-in-Err-clause-left : goal.returns-in-Err-clause-left
 returns-in-Err-clause-left g c = λ h s sound.
     both_old c.args.config.now (driver_beneath c.start.new.self).value h s h (sound_kept c.args.config.now (driver_of c.args.self.now).value (driver_beneath c.start.new.self).value h s c.start.ensures.values sound)
+
+pub returns-in-Ok-clause-dark : goal.returns-in-Ok-clause-dark
+returns-in-Ok-clause-dark g c = λ flash.
+    inr (unready_from (driver_of c.args.self.now) (driver_beneath c.start.new.self) (driver_of c.start_mounted.new.self) c.start.ensures.calls.follows c.start.ensures.values c.args.config.now (c.start_mounted.ensures.unready flash))

@@ -1,0 +1,80 @@
+-- What failed behind a mount, told of the whole start-up.
+use Rattle.std.proofs.Common.{◌≡◌, ◌⊎◌, inl, inr, ℕ, List, length, Result, Err, ◌∙◌, refl, sym}
+use Rattle.std.specs.Prelude.{IsTrue, IsErrOf}
+use Rattle.flt_flash.specs.Content.{bytes}
+use Rattle.flt_flash.specs.Blocks.{BlocksState}
+use Rattle.flt_flash.specs.Calls.{Follows, SameValues}
+use Rattle.flt_flash.specs.declared.blocks.BlockFault.{BlockFault}
+use Rattle.flt_flash.specs.declared.blocks.BlockFault.TheVariants.{Flash as FlashFault, Full, SequenceSpent as Stuck, Damaged as DamagedPage}
+use Rattle.flt_flash.proofs.CallsInARow.{no_call, more_calls}
+use Rattle.flt_nvm.specs.declared.got.Got.{Got}
+use Rattle.flt_nvm.specs.Leaves.{GivesInAJob}
+use Rattle.flt_nvm.specs.Reads.{LooksInAJob}
+use Rattle.flt_config.specs.declared.config.Config.{Config}
+use Rattle.flt_generation.specs.Laws.{IsGiven}
+use Rattle.flt_generation.specs.Layout.{mark_number, numbers}
+use Rattle.flt_generation.specs.Excess.{IsBorne}
+use Rattle.flt_restore.specs.declared.fault.StartFault.{StartFault}
+use Rattle.flt_restore.specs.declared.fault.StartFault.TheVariants.{Flash}
+use Rattle.flt_restore.specs.Unread.{FailsToRead, IsImageUnread}
+use Rattle.flt_restore.proofs.Failing.{fails_from, image_unread_from}
+use Rattle.flt_store.specs.Cause.{HasRoom, Writes}
+use Rattle.flt_store.specs.Start.{told_of_mount, told_of_write}
+use Rattle.flt_store.specs.Dark.{FailsToWrite, IsMarkUnwritten, IsCommitUnmended, IsUnbegun}
+use Rattle.flt_store.proofs.Causes.{never_full}
+
+pub read_at_once : (number : ℕ) (before after : BlocksState) → LooksInAJob {T = Got} number before after (Err FlashFault) → FailsToRead number before after
+read_at_once number before after fails = record { first = before; last = after; earlier = no_call before; fails = fails; later = no_call after }
+
+pub write_behind : (number : ℕ) (raw : List ℕ) (before middle after : BlocksState) → Follows before middle → GivesInAJob number (bytes raw) (length raw) middle after (Err FlashFault) → FailsToWrite number raw before after
+write_behind number raw before middle after so_far fails = record { first = middle; last = after; earlier = so_far; fails = fails; later = no_call after }
+
+module _ (before middle after : BlocksState) (so_far : Follows before middle) (same : SameValues before middle) where
+  mark_from : IsMarkUnwritten middle after → IsMarkUnwritten before after
+  mark_from (inl unread) = inl (fails_from mark_number before middle after so_far unread)
+  mark_from (inr (missing, raw, unwritten)) =
+      inr (
+        sym (same mark_number) ∙ missing,
+        raw,
+        record {
+          first = unwritten.first;
+          last = unwritten.last;
+          earlier = more_calls before middle unwritten.first so_far unwritten.earlier;
+          fails = unwritten.fails;
+          later = unwritten.later;
+        },
+      )
+
+  commit_from : IsCommitUnmended middle after → IsCommitUnmended before after
+  commit_from unmended = record {
+    copy = unmended.copy;
+    least = unmended.least;
+    most = unmended.most;
+    raw = unmended.raw;
+    holds = sym (same _) ∙ unmended.holds;
+    first = unmended.first;
+    earlier = more_calls before middle unmended.first so_far unmended.earlier;
+    same = λ number. unmended.same number ∙ same number;
+    unmended = unmended.unmended;
+  }
+
+  pub unbegun_from : IsUnbegun middle after → IsUnbegun before after
+  unbegun_from (inl mark) = inl (mark_from mark)
+  unbegun_from (inr commit) = inr (commit_from commit)
+
+  pub unready_from : (c : Config) → IsImageUnread c middle after ⊎ IsUnbegun middle after → IsImageUnread c before after ⊎ IsUnbegun before after
+  unready_from c (inl unread) = inl (image_unread_from c before middle after so_far same unread)
+  unready_from c (inr unbegun) = inr (unbegun_from unbegun)
+
+-- a write that is told as a fault of the flash was failed by it
+pub was_flash_of_write : {T : Type 0} (c : Config) → IsGiven c → (before after : BlocksState) (fault : BlockFault) → Writes {T = T} before after (Err fault) → before.numbers ≡ numbers → HasRoom c before.room
+    → IsTrue before.has_mounted → IsBorne c after.value → told_of_write fault ≡ Flash → fault ≡ FlashFault
+was_flash_of_write {T} c given before after FlashFault writes all room has borne is = refl
+was_flash_of_write {T} c given before after (Full live needed) writes all room has borne is =
+    let full = writes.full live needed refl in absurd (never_full c given before after all room writes.follows borne full.0 live needed full.1 full.2)
+was_flash_of_write {T} c given before after Stuck writes all room has borne is = absurd (cc is)
+was_flash_of_write {T} c given before after (DamagedPage sector page) writes all room has borne is = absurd (writes.mounted has sector page refl)
+
+-- a fault by which one answer fails is that of another
+pub err_as : {T U E : Type 0} (fault told : E) → IsErrOf {T = T} (Err fault) told → IsErrOf {T = U} (Err fault) told
+err_as fault told is = cc

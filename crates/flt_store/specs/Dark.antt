@@ -1,0 +1,45 @@
+-- What failed where a start-up answers that the flash failed it.
+use Rattle.std.specs.Prelude.{◌≡◌, ◌⊎◌, ℕ, ◌-◌, ◌≤◌, List, length, Err}
+use Rattle.flt_flash.specs.Content.{missing, bytes}
+use Rattle.flt_flash.specs.Blocks.{BlocksState}
+use Rattle.flt_flash.specs.Calls.{Follows, SameValues}
+use Rattle.flt_flash.specs.declared.blocks.BlockFault.TheVariants.{Flash}
+use Rattle.flt_nvm.specs.Tries.{Tries, Mounts}
+use Rattle.flt_nvm.specs.Leaves.{GivesInAJob}
+use Rattle.flt_nvm.specs.Reads.{IsUnmended}
+use Rattle.flt_config.specs.declared.config.Config.{Config}
+use Rattle.flt_generation.specs.Layout.{commit_id, mark_number, number_of}
+use Rattle.flt_restore.specs.Unread.{FailsToRead, IsImageUnread}
+
+-- among these calls three writes in a row of these bytes to a number were failed by the flash
+pub record FailsToWrite (number : ℕ) (raw : List ℕ) (before after : BlocksState) : Type 0 where
+  pub first : BlocksState
+  pub last : BlocksState
+  pub earlier : Follows before first
+  pub fails : GivesInAJob number (bytes raw) (length raw) first last (Err Flash)
+  pub later : Follows last after
+
+-- the mark could not be read, or is missing and could not be written
+abbrev pub IsMarkUnwritten : BlocksState → BlocksState → Type 0
+IsMarkUnwritten before after =
+    FailsToRead mark_number before after ⊎ ((before.value mark_number ≡ missing) × (raw : List ℕ) × FailsToWrite mark_number raw before after)
+
+-- the other copy of the commit could be neither read nor written, or holds other bytes and could not be written
+pub record IsCommitUnmended (before after : BlocksState) : Type 0 where
+  pub copy : ℕ
+  pub least : 1 ≤ copy
+  pub most : copy ≤ 2
+  pub raw : List ℕ
+  pub holds : before.value (number_of commit_id (copy - 1)) ≡ bytes raw
+  pub first : BlocksState
+  pub earlier : Follows before first
+  pub same : SameValues before first
+  pub unmended : IsUnmended first after (number_of commit_id (2 - copy)) (bytes raw)
+
+-- what a generation needs in the image could not be written
+abbrev pub IsUnbegun : BlocksState → BlocksState → Type 0
+IsUnbegun before after = IsMarkUnwritten before after ⊎ IsCommitUnmended before after
+
+-- three mounts in a row failed; or what a start-up needs of the image could not be read, or not be written
+abbrev pub IsDark : Config → BlocksState → BlocksState → Type 0
+IsDark c before after = Tries 3 Mounts before after (Err Flash) ⊎ IsImageUnread c before after ⊎ IsUnbegun before after
