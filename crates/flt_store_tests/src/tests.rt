@@ -1,5 +1,5 @@
 // The store over a flash in memory: worked examples, changed images, and each operation of a job cut and made to fail.
-ghost use Rattle.std.specs.Prelude.{◌≡◌, ◌<◌, IfOk};
+ghost use Rattle.std.specs.Prelude.{◌≡◌, IfOk, IsTrue};
 ghost use Rattle.flt_flash.specs.State.{CanArm};
 ghost use Rattle.flt_nvm.specs.Driver.{driver_of as driver_beneath, table_of};
 ghost use Rattle.flt_generation.specs.Layout.{numbers};
@@ -10,6 +10,7 @@ ghost use Rattle.flt_store_tests.specs.Room.{IsRoomy, SameRoom};
 mod cuts;
 mod images;
 mod rows;
+mod steps;
 
 use arrayvec::ArrayVec;
 use flt_code::{Word, get_word, put_word, seal, unseal};
@@ -111,6 +112,11 @@ fn state(statuses: &[u8], occurrences: &[u8]) -> Persist {
     }
 }
 
+// The state of one event that failed.
+fn failed() -> Persist {
+    state(&[FAILED], &[1])
+}
+
 // Blocks by identifier over a flash whose sectors have the configuration's pages.
 fn blocks_over(
     alloc: Global,
@@ -187,11 +193,21 @@ fn power_up<B: Blocks + Drop>(store: &mut Store<B>)
     }
 }
 
-fn arm<B: Blocks + Drop>(store: &mut Store<B>, arm: Arm)
-    requires { CanArm arm }
+// Whether an arm is of an operation to come.
+fn can_arm(arm: Arm) -> bool
+    ensures { IsTrue result → CanArm arm }
+{
+    match arm {
+        Arm::Cut { after, .. } => after > 0,
+        Arm::Fault { after, .. } => after > 0,
+        Arm::Mute { .. } => true,
+    }
+}
+
+// Makes an arm.
+fn arm<B: Blocks + Drop>(rt: &impl Abort, store: &mut Store<B>, arm: Arm)
     ensures { SameRoom store.old store.new }
 {
-    if store.armed() < 64 {
-        store.arm(arm);
-    }
+    assert!(rt; can_arm(arm) && store.armed() < 64);
+    store.arm(arm);
 }

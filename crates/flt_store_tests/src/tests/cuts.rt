@@ -1,12 +1,11 @@
 // A fixed job on a store, each of whose programs and erases is cut or fails by each pattern: what stands then is what stood
 // before the call that failed, or what it asked for.
-ghost use Rattle.flt_flash.specs.State.{CanArm};
 ghost use Rattle.flt_store_tests.specs.Room.{IsRoomy, SameRoom};
 
 use super::*;
 
 // A call of the job.
-#[derive(Clone, Copy, Debug, PartialEq, Eq)]
+#[derive(Clone, Copy)]
 enum Call {
     Start,
     // Saves the state of an event of this status.
@@ -42,7 +41,7 @@ const JOB: [Call; 18] = [
 const OPERATIONS: u32 = 103;
 
 // What the image says: the generation's number, the status of its event, and the byte of block 0 where that was put.
-#[derive(Clone, Copy, Debug, PartialEq, Eq)]
+#[derive(Clone, Copy, Debug, PartialEq)]
 struct Told {
     number: u32,
     status: u8,
@@ -141,7 +140,10 @@ fn read_told<B: Blocks + Drop>(
     requires { IsRoomy config.now store.old }
 {
     let (number, state) = start(store, config)?;
-    let status = state.events.first().map_or(0, |event| event.status);
+    let status = match state.events.first() {
+        None => 0,
+        Some(event) => event.status,
+    };
     let mut out = ArrayVec::new();
     let found = store.get_block(0, &mut out)?;
     let byte = if found { out.first().copied() } else { None };
@@ -161,11 +163,9 @@ fn run_case(
     alloc: Global,
     config: &ValidConfig,
     made: Arm,
-) -> Result<(bool, bool), Fail>
-    requires { CanArm made }
-{
+) -> Result<(bool, bool), Fail> {
     let mut store = blank_store(alloc, config)?;
-    arm(&mut store, made);
+    arm(rt, &mut store, made);
     let (before, asked, done) = run_job(rt, &mut store, config);
     let stands = store.armed() > 0;
     power_up(&mut store);

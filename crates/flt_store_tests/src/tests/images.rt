@@ -1,8 +1,7 @@
 // Images that were changed after a save: what a start-up tells of them.
-ghost use Rattle.std.specs.Prelude.{◌≡◌, vec_len};
 ghost use Rattle.flt_code.specs.Word.{IsWord};
 
-use super::rows::{image_of, saved_flash};
+use super::rows::{image_of, put_page, saved_flash};
 use super::*;
 
 // A page all of whose bits are 0.
@@ -20,29 +19,41 @@ fn word(word: Word) -> [u8; 32]
     seal(&put_word(&word))
 }
 
-// Puts a page into an image that has it.
-fn put_page(image: &mut Vec<[u8; 32]>, page: usize, bytes: [u8; 32])
-    ensures { vec_len image.new ≡ vec_len image.old }
-{
-    if page < image.len() {
-        image[page] = bytes;
-    }
+fn start_gate(sequence: u32) -> [u8; 32] {
+    let pages = PAGES;
+    word(Word::Start { sequence, pages })
 }
 
-// What a start-up tells of the image of a first save with two of its pages changed: the number of the generation.
+fn active_gate(sequence: u32) -> [u8; 32] {
+    word(Word::Active { sequence })
+}
+
+// What a start-up with room for so many entries tells of the image of a first save with two of its pages changed: the number of the
+// generation, whose state is the first one or the one that was saved.
 fn told_of(
     rt: &impl Abort,
     alloc: Global,
+    memory: u8,
     first: (usize, [u8; 32]),
     second: (usize, [u8; 32]),
 ) -> Result<Result<u32, StartFault>, Fail> {
-    let config = configured(1, 0, 1)?;
-    let mut image = image_of(alloc, &saved_flash(rt, alloc, &config)?)?;
+    let config = configured(memory, 0, 1)?;
+    let mut image = image_of(alloc, &saved_flash(rt, alloc)?)?;
     put_page(&mut image, first.0, first.1);
     put_page(&mut image, second.0, second.1);
     let mut store = store_over(alloc, FlashMem::of(alloc, image, 2)?, &config)?;
-    let told = start(&mut store, &config);
-    Ok(told.map(|found| found.0))
+    match start(&mut store, &config) {
+        Err(fault) => Ok(Err(fault)),
+        Ok((number, state)) => {
+            let saved = if number == 0 {
+                initial(&config)
+            } else {
+                failed()
+            };
+            assert!(rt; state == saved);
+            Ok(Ok(number))
+        }
+    }
 }
 
 fn page(sector: u8, page: u16) -> Result<u32, StartFault> {
@@ -53,9 +64,17 @@ fn block(id: u16) -> Result<u32, StartFault> {
     Err(StartFault::Damaged(Place::Block { id }))
 }
 
+// The mark of a configuration of one event.
+fn mark(entries: u8) -> Mark {
+    Mark {
+        id: 0,
+        events: 1,
+        entries,
+    }
+}
+
 #[test]
 fn a_changed_page_is_told(rt: HostRuntime) -> Result<(), Fail> {
-    let active = word(Word::Active { sequence: 2 });
     let head = word(Word::Head {
         block: 9,
         length: 8,
@@ -65,7 +84,7 @@ fn a_changed_page_is_told(rt: HostRuntime) -> Result<(), Fail> {
     let gate = word(Word::Gate { block: 9, page: 2 });
     for (at, bytes, told) in [
         (0, ZERO, page(0, 0)),
-        (1, active, page(0, 1)),
+        (1, active_gate(2), page(0, 1)),
         (2, head, page(0, 2)),
         (4, gate, page(0, 4)),
         (4, ZERO, block(1)),
@@ -75,45 +94,37 @@ fn a_changed_page_is_told(rt: HostRuntime) -> Result<(), Fail> {
         (63, ZERO, page(0, 63)),
     ] {
         let changed = (at, bytes);
-        assert!(&rt; told_of(&rt, rt.alloc(), changed, changed)? == told, "{at}");
+        assert!(&rt;
+            told_of(&rt, rt.alloc(), 1, changed, changed)? == told,
+            "{at}"
+        );
     }
     Ok(())
 }
 
+// Both copies of the commit are missing; both sectors are valid under one number; the last sequence number is in use; the image is
+// another configuration's.
 #[test]
-fn two_changed_pages_are_told(rt: HostRuntime) -> Result<(), Fail> {
-    let start = |sequence| word(Word::Start {
-        sequence,
-        pages: PAGES,
-    });
-    let active = |sequence| word(Word::Active { sequence });
-    for (first, second, told) in [
-        ((19, ZERO), (22, ZERO), Ok(0)),
-        ((64, start(1)), (65, active(1)), page(1, 0)),
+fn changed_gates_and_another_configuration_are_told(rt: HostRuntime) -> Result<(), Fail> {
+    let spent = Err(StartFault::SequenceSpent);
+    let (found, wanted) = (mark(1), mark(2));
+    let other = Err(StartFault::OtherConfig { found, wanted });
+    for (memory, first, second, told) in [
+        (1, (19, ZERO), (22, ZERO), Ok(0)),
+        (1, (64, start_gate(1)), (65, active_gate(1)), page(1, 0)),
         (
-            (0, start(u32::MAX)),
-            (1, active(u32::MAX)),
-            Err(StartFault::SequenceSpent),
+            1,
+            (0, start_gate(u32::MAX)),
+            (1, active_gate(u32::MAX)),
+            spent,
         ),
+        (2, (63, BLANK_PAGE), (63, BLANK_PAGE), other),
     ] {
         let at = first.0;
-        assert!(&rt; told_of(&rt, rt.alloc(), first, second)? == told, "{at}");
+        assert!(&rt;
+            told_of(&rt, rt.alloc(), memory, first, second)? == told,
+            "{at}"
+        );
     }
-    Ok(())
-}
-
-#[test]
-fn the_image_of_another_configuration_is_told(rt: HostRuntime) -> Result<(), Fail> {
-    let flash = saved_flash(&rt, rt.alloc(), &configured(1, 0, 1)?)?;
-    let other = configured(2, 0, 1)?;
-    let mut store = store_over(rt.alloc(), flash, &other)?;
-    let mark = |entries| Mark {
-        id: 0,
-        events: 1,
-        entries,
-    };
-    let told = start(&mut store, &other);
-    let (found, wanted) = (mark(1), mark(2));
-    assert!(&rt; told == Err(StartFault::OtherConfig { found, wanted }));
     Ok(())
 }

@@ -1,9 +1,9 @@
 // Worked examples.
-ghost use Rattle.std.specs.Prelude.{◌≡◌, ◌<◌, IfOk, vec_len, All};
-ghost use Rattle.flt_flash.specs.State.{CanArm};
+ghost use Rattle.std.specs.Prelude.{◌≡◌, IfOk, vec_len};
 ghost use Rattle.flt_nvm.specs.Driver.{table_of};
 ghost use Rattle.flt_image.specs.Table.{block_table};
 
+use super::steps::{Step, play, play_on};
 use super::*;
 
 // A page of a flash, or a blank one where there is none.
@@ -14,35 +14,46 @@ fn page_of(flash: &FlashMem, sector: u8, page: u16) -> [u8; 32] {
     *flash.page(sector, page)
 }
 
+// The word on a page of sector 0.
+fn word_on(flash: &FlashMem, page: u16) -> Option<Word> {
+    match unseal(&page_of(flash, 0, page)) {
+        None => None,
+        Some(bytes) => get_word(&bytes),
+    }
+}
+
 // Whether a complete record of the block, of so many bytes, begins at this page of sector 0.
 fn is_record(flash: &FlashMem, page: u16, block: u16, length: u16) -> bool {
-    let head = unseal(&page_of(flash, 0, page)).and_then(|bytes| get_word(&bytes));
-    let end = page.saturating_add(1).saturating_add(length.div_ceil(32));
-    let gate = unseal(&page_of(flash, 0, end)).and_then(|bytes| get_word(&bytes));
-    head == Some(Word::Head {
+    let head = Word::Head {
         block,
         length,
         valid: true,
         page,
-    }) && gate == Some(Word::Gate { block, page })
+    };
+    let end = page.saturating_add(1).saturating_add(length.div_ceil(32));
+    word_on(flash, page) == Some(head) && word_on(flash, end) == Some(Word::Gate { block, page })
+}
+
+// A fault at a program or erase, which takes no effect.
+fn fault_at(after: u32) -> Step {
+    let pattern = Pattern::Nothing;
+    Step::Arm(Arm::Fault { after, pattern })
+}
+
+// A cut at a program or erase.
+fn cut_at(after: u32, pattern: Pattern) -> Step {
+    Step::Arm(Arm::Cut { after, pattern })
 }
 
 // A flash after a start-up and the first save of an event that failed.
-pub(super) fn saved_flash(
-    rt: &impl Abort,
-    alloc: Global,
-    config: &ValidConfig,
-) -> Result<FlashMem, Fail> {
-    let mut store = blank_store(alloc, config)?;
-    start(&mut store, config)?;
-    assert!(rt; save(rt, &mut store, config, &state(&[FAILED], &[1]))? == 1);
-    Ok(store.retire().retire())
+pub(super) fn saved_flash(rt: &impl Abort, alloc: Global) -> Result<FlashMem, Fail> {
+    let config = configured(1, 0, 1)?;
+    play(rt, alloc, &config, &[failed()], &[Step::Save(0, Ok(1))])
 }
 
 #[test]
 fn the_first_save_writes_each_block_once(rt: HostRuntime) -> Result<(), Fail> {
-    let config = configured(1, 0, 1)?;
-    let flash = saved_flash(&rt, rt.alloc(), &config)?;
+    let flash = saved_flash(&rt, rt.alloc())?;
     for (page, block, length) in [
         (2, 8, 8),
         (5, 24, 32),
@@ -54,150 +65,102 @@ fn the_first_save_writes_each_block_once(rt: HostRuntime) -> Result<(), Fail> {
         assert!(&rt; is_record(&flash, page, block, length), "{page}");
     }
     assert!(&rt; page_of(&flash, 0, 23) == BLANK_PAGE);
-    for (after, stands) in [(1, false), (18, false), (19, true)] {
-        let mut store = blank_store(rt.alloc(), &config)?;
-        start(&mut store, &config)?;
-        let pattern = Pattern::Nothing;
-        arm(&mut store, Arm::Fault { after, pattern });
-        let saved = save(&rt, &mut store, &config, &state(&[FAILED], &[1]));
-        assert!(&rt; saved == Ok(1));
-        assert!(&rt; (store.armed() == 1) == stands, "{after}");
+    let config = configured(1, 0, 1)?;
+    for (after, stands) in [(1, 0), (18, 0), (19, 1)] {
+        let steps = [fault_at(after), Step::Save(0, Ok(1)), Step::Armed(stands)];
+        play(&rt, rt.alloc(), &config, &[failed()], &steps)?;
     }
     Ok(())
 }
 
-// Saves with these arms, so often as there are answers, and starts up with the power on again: the number and the status.
-fn saves_with(
-    rt: &impl Abort,
-    alloc: Global,
-    arms: &[Arm],
-    answers: &[Result<u32, SaveFault>],
-) -> Result<(u32, Persist), Fail>
-    requires { All CanArm arms.now }
-{
-    let config = configured(1, 0, 1)?;
-    let mut store = blank_store(alloc, &config)?;
-    assert!(rt; start(&mut store, &config)? == (0, initial(&config)));
-    for made in arms {
-        arm(&mut store, *made);
-    }
-    for answer in answers {
-        assert!(rt; save(rt, &mut store, &config, &state(&[FAILED], &[1])) == *answer);
-    }
-    power_up(&mut store);
-    Ok(start(&mut store, &config)?)
-}
-
+// A cut there leaves the first generation or the new one, by what takes effect of the program; the third fault is answered.
 #[test]
 fn the_gate_of_the_first_copy_decides(rt: HostRuntime) -> Result<(), Fail> {
-    let before = (0, state(&[NOT_TESTED], &[]));
-    let new = (1, state(&[FAILED], &[1]));
-    let after = 15;
-    let cut = |pattern| [Arm::Cut { after, pattern }];
-    let failed = [Err(SaveFault::Flash)];
-    assert!(&rt; saves_with(&rt, rt.alloc(), &cut(Pattern::Nothing), &failed)? == before);
-    assert!(&rt; saves_with(&rt, rt.alloc(), &cut(Pattern::All), &failed)? == new);
-    let pattern = Pattern::Nothing;
-    let faults = [1, 2, 3].map(|after| Arm::Fault { after, pattern });
-    let answers = [Err(SaveFault::Flash), Ok(1)];
-    assert!(&rt; saves_with(&rt, rt.alloc(), &faults, &answers)? == new);
+    let config = configured(1, 0, 1)?;
+    let states = [initial(&config), failed()];
+    let fails = Step::Save(1, Err(SaveFault::Flash));
+    let saves = Step::Save(1, Ok(1));
+    let steps = [cut_at(15, Pattern::Nothing), fails, Step::Life(0, 0)];
+    play(&rt, rt.alloc(), &config, &states, &steps)?;
+    let steps = [cut_at(15, Pattern::All), fails, Step::Life(1, 1)];
+    play(&rt, rt.alloc(), &config, &states, &steps)?;
+    let steps = [
+        fault_at(1),
+        fault_at(2),
+        fault_at(3),
+        fails,
+        saves,
+        Step::Life(1, 1),
+    ];
+    play(&rt, rt.alloc(), &config, &states, &steps)?;
     Ok(())
 }
 
-// Cuts the second save at the head of the second copy of its commit. Where the first copy is then muted, both lives after it
-// have the generation before.
-fn mutes_the_first_copy(rt: &impl Abort, alloc: Global, muted: bool) -> Result<(), Fail> {
-    let config = configured(2, 0, 2)?;
-    let mut store = blank_store(alloc, &config)?;
-    start(&mut store, &config)?;
-    let first = state(&[FAILED, NOT_TESTED], &[1]);
-    let second = state(&[FAILED, FAILED], &[2, 1]);
-    assert!(rt; save(rt, &mut store, &config, &first) == Ok(1));
-    let after = 21;
-    let pattern = Pattern::Nothing;
-    arm(&mut store, Arm::Cut { after, pattern });
-    assert!(rt; save(rt, &mut store, &config, &second) == Err(SaveFault::Flash));
-    let (page, times) = (46, 3);
-    let sector = 0;
-    if muted {
-        arm(
-            &mut store,
-            Arm::Mute {
-                sector,
-                page,
-                times,
-            },
-        );
-    }
-    let stands = if muted { (1, first) } else { (2, second) };
-    for _life in 2..4 {
-        power_up(&mut store);
-        assert!(rt; start(&mut store, &config)? == stands);
-    }
-    let flash = store.retire().retire();
-    assert!(rt; is_record(&flash, 45, 16, 26));
-    Ok(())
-}
-
+// The second save is cut at the head of the second copy of its commit. Where the first copy is muted then, both lives after it have
+// the generation before.
 #[test]
 fn a_muted_first_copy_gives_the_generation_before(rt: HostRuntime) -> Result<(), Fail> {
-    mutes_the_first_copy(&rt, rt.alloc(), true)?;
-    mutes_the_first_copy(&rt, rt.alloc(), false)
-}
-
-// Saves the first state, then with the power cut at a program or erase another one, as often as there are answers; starts up with
-// the power on again.
-fn saves_again(
-    rt: &impl Abort,
-    alloc: Global,
-    second: &Persist,
-    after: u32,
-    answers: &[Result<u32, SaveFault>],
-) -> Result<(u32, Persist), Fail>
-    requires { 0 < after }
-{
-    let config = configured(1, 0, 1)?;
-    let mut store = blank_store(alloc, &config)?;
-    start(&mut store, &config)?;
-    assert!(rt; save(rt, &mut store, &config, &initial(&config)) == Ok(1));
-    let pattern = Pattern::Nothing;
-    arm(&mut store, Arm::Cut { after, pattern });
-    for answer in answers {
-        assert!(rt; save(rt, &mut store, &config, second) == *answer);
+    let config = configured(2, 0, 2)?;
+    let states = [
+        state(&[FAILED, NOT_TESTED], &[1]),
+        state(&[FAILED, FAILED], &[2, 1]),
+    ];
+    let mute = Step::Arm(Arm::Mute {
+        sector: 0,
+        page: 46,
+        times: 3,
+    });
+    let unmuted = Step::Armed(0);
+    for (muting, number, place) in [(mute, 1, 0), (unmuted, 2, 1)] {
+        let steps = [
+            Step::Save(0, Ok(1)),
+            cut_at(21, Pattern::Nothing),
+            Step::Save(1, Err(SaveFault::Flash)),
+            muting,
+            Step::Life(number, place),
+            Step::Life(number, place),
+        ];
+        let flash = play(&rt, rt.alloc(), &config, &states, &steps)?;
+        assert!(&rt; is_record(&flash, 45, 16, 26));
     }
-    power_up(&mut store);
-    Ok(start(&mut store, &config)?)
-}
-
-#[test]
-fn blocks_that_stay_are_not_written(rt: HostRuntime) -> Result<(), Fail> {
-    let first = state(&[NOT_TESTED], &[]);
-    let answers = [Ok(2), Err(SaveFault::Flash)];
-    assert!(&rt; saves_again(&rt, rt.alloc(), &first, 7, &answers)? == (2, first));
-    let second = state(&[FAILED], &[1]);
-    let answers = [Err(SaveFault::Flash), Err(SaveFault::Flash)];
-    assert!(&rt; saves_again(&rt, rt.alloc(), &second, 18, &answers)? == (2, second));
     Ok(())
 }
 
+// The second save of a state that stays makes 6 programs, and of one in which each block changes 18; a save after a failed one
+// compares with what stands, and makes 6 again.
 #[test]
-fn a_save_after_a_failed_one_compares_with_what_stands(rt: HostRuntime) -> Result<(), Fail> {
+fn blocks_that_stay_are_not_written(rt: HostRuntime) -> Result<(), Fail> {
     let config = configured(1, 0, 1)?;
-    let first = state(&[FAILED], &[1]);
-    let mut store = blank_store(rt.alloc(), &config)?;
-    start(&mut store, &config)?;
-    assert!(&rt; save(&rt, &mut store, &config, &first) == Ok(1));
-    let pattern = Pattern::Nothing;
-    for after in 1..4 {
-        arm(&mut store, Arm::Fault { after, pattern });
-    }
-    let failed = save(&rt, &mut store, &config, &state(&[PASSED], &[1]));
-    assert!(&rt; failed == Err(SaveFault::Flash));
-    arm(&mut store, Arm::Fault { after: 7, pattern });
-    assert!(&rt; save(&rt, &mut store, &config, &first) == Ok(2));
-    assert!(&rt; store.armed() == 1);
-    power_up(&mut store);
-    assert!(&rt; start(&mut store, &config)? == (2, first));
+    let states = [initial(&config), failed(), state(&[PASSED], &[1])];
+    let fault = Err(SaveFault::Flash);
+    let steps = [
+        Step::Save(0, Ok(1)),
+        cut_at(7, Pattern::Nothing),
+        Step::Save(0, Ok(2)),
+        Step::Save(0, fault),
+        Step::Life(2, 0),
+    ];
+    play(&rt, rt.alloc(), &config, &states, &steps)?;
+    let steps = [
+        Step::Save(0, Ok(1)),
+        cut_at(18, Pattern::Nothing),
+        Step::Save(1, fault),
+        Step::Save(1, fault),
+        Step::Life(2, 1),
+    ];
+    play(&rt, rt.alloc(), &config, &states, &steps)?;
+    let steps = [
+        Step::Save(1, Ok(1)),
+        fault_at(1),
+        fault_at(2),
+        fault_at(3),
+        Step::Save(2, fault),
+        fault_at(7),
+        Step::Save(1, Ok(2)),
+        Step::Armed(1),
+        Step::Life(2, 1),
+    ];
+    play(&rt, rt.alloc(), &config, &states, &steps)?;
     Ok(())
 }
 
@@ -213,14 +176,19 @@ pub(super) fn image_of(alloc: Global, flash: &FlashMem) -> Result<Vec<[u8; 32]>,
     Ok(image)
 }
 
+// Puts a page into an image that has it.
+pub(super) fn put_page(image: &mut Vec<[u8; 32]>, page: usize, bytes: [u8; 32])
+    ensures { vec_len image.new ≡ vec_len image.old }
+{
+    if page < image.len() {
+        image[page] = bytes;
+    }
+}
+
 // A flash after the first save, of which the gate of the first copy of the commit is 32 bytes 00, so that this copy is missing.
-fn without_first_copy(
-    rt: &impl Abort,
-    alloc: Global,
-    config: &ValidConfig,
-) -> Result<FlashMem, Fail> {
-    let mut image = image_of(alloc, &saved_flash(rt, alloc, config)?)?;
-    image[19] = [0; 32];
+fn without_first_copy(rt: &impl Abort, alloc: Global) -> Result<FlashMem, Fail> {
+    let mut image = image_of(alloc, &saved_flash(rt, alloc)?)?;
+    put_page(&mut image, 19, [0; 32]);
     Ok(FlashMem::of(alloc, image, 2)?)
 }
 
@@ -251,51 +219,49 @@ fn read_and_repair<B: Blocks + Drop>(rt: &impl Abort, nvm: &mut Nvm<B>) -> Resul
     Ok(())
 }
 
+// With the second copy muted a start-up can tell nothing, and the next one restores by it.
 #[test]
 fn a_missing_first_copy_is_repaired(rt: HostRuntime) -> Result<(), Fail> {
     let config = configured(1, 0, 1)?;
-    let flash = without_first_copy(&rt, rt.alloc(), &config)?;
+    let flash = without_first_copy(&rt, rt.alloc())?;
     read_and_repair(&rt, &mut blocks_over(rt.alloc(), flash, &config)?)?;
-    let flash = without_first_copy(&rt, rt.alloc(), &config)?;
+    let flash = without_first_copy(&rt, rt.alloc())?;
     let mut store = store_over(rt.alloc(), flash, &config)?;
-    assert!(&rt; start(&mut store, &config)? == (1, state(&[FAILED], &[1])));
-    let flash = without_first_copy(&rt, rt.alloc(), &config)?;
-    let mut store = store_over(rt.alloc(), flash, &config)?;
-    let (sector, page, times) = (0, 21, 3);
-    arm(
-        &mut store,
-        Arm::Mute {
-            sector,
-            page,
-            times,
-        },
-    );
+    let mute = Arm::Mute {
+        sector: 0,
+        page: 21,
+        times: 3,
+    };
+    arm(&rt, &mut store, mute);
     assert!(&rt; start(&mut store, &config) == Err(StartFault::Flash));
-    assert!(&rt; start(&mut store, &config)? == (1, state(&[FAILED], &[1])));
+    assert!(&rt; start(&mut store, &config)? == (1, failed()));
     Ok(())
 }
 
 // Gives a page of a commit the number 2^32 - 1.
-fn name_last(page: &mut [u8; 32]) {
-    for at in 1..5 {
-        page[at] = 0xFF;
+fn name_last(image: &mut Vec<[u8; 32]>, page: usize)
+    ensures { vec_len image.new ≡ vec_len image.old }
+{
+    if page < image.len() {
+        let mut bytes = image[page];
+        for at in 1..5 {
+            bytes[at] = 0xFF;
+        }
+        image[page] = bytes;
     }
 }
 
 #[test]
 fn the_last_generation_is_not_followed(rt: HostRuntime) -> Result<(), Fail> {
     let config = configured(1, 0, 1)?;
-    let mut image = image_of(rt.alloc(), &saved_flash(&rt, rt.alloc(), &config)?)?;
-    name_last(&mut image[18]);
-    name_last(&mut image[21]);
+    let mut image = image_of(rt.alloc(), &saved_flash(&rt, rt.alloc())?)?;
+    name_last(&mut image, 18);
+    name_last(&mut image, 21);
     let flash = FlashMem::of(rt.alloc(), image, 2)?;
     let mut store = store_over(rt.alloc(), flash, &config)?;
-    let last = state(&[FAILED], &[1]);
-    assert!(&rt; start(&mut store, &config)? == (4294967295, state(&[FAILED], &[1])));
-    assert!(&rt; save(&rt, &mut store, &config, &last) == Err(SaveFault::Spent));
-    power_up(&mut store);
-    assert!(&rt; start(&mut store, &config)? == (4294967295, last));
-    Ok(())
+    let stands = Step::Life(4294967295, 0);
+    let steps = [stands, Step::Save(0, Err(SaveFault::Spent)), stands];
+    play_on(&rt, &mut store, &config, &[failed()], &steps)
 }
 
 #[test]
@@ -304,9 +270,8 @@ fn an_application_block_is_missing_until_it_is_put(rt: HostRuntime) -> Result<()
     let mut store = blank_store(rt.alloc(), &config)?;
     start(&mut store, &config)?;
     let mut out = ArrayVec::new();
-    assert!(&rt; !store.get_block(0, &mut out)?);
-    store.put_block(0, &[1])?;
-    assert!(&rt; store.get_block(0, &mut out)?);
-    assert!(&rt; out[..] == [1]);
+    assert!(&rt; store.get_block(0, &mut out) == Ok(false));
+    assert!(&rt; store.put_block(0, &[1]) == Ok(()));
+    assert!(&rt; store.get_block(0, &mut out) == Ok(true) && out[..] == [1]);
     Ok(())
 }
