@@ -1,6 +1,6 @@
 -- What failed behind a mount, told of the whole start-up.
-use Rattle.std.proofs.Common.{◌≡◌, ◌⊎◌, inl, inr, ℕ, List, length, Result, Err, ◌∙◌, refl, sym}
-use Rattle.std.specs.Prelude.{IsTrue, IsErrOf}
+use Rattle.std.proofs.Common.{◌≡◌, ◌⊎◌, inl, inr, ℕ, ◌-◌, ◌≤◌, Bool, true, false, List, length, Result, Err, ◌∙◌, refl, sym, subst}
+use Rattle.std.specs.Prelude.{IsTrue, IsFalse, IsErrOf}
 use Rattle.flt_flash.specs.Content.{bytes}
 use Rattle.flt_flash.specs.Blocks.{BlocksState}
 use Rattle.flt_flash.specs.Calls.{Follows, SameValues}
@@ -9,10 +9,10 @@ use Rattle.flt_flash.specs.declared.blocks.BlockFault.TheVariants.{Flash as Flas
 use Rattle.flt_flash.proofs.CallsInARow.{no_call, more_calls}
 use Rattle.flt_nvm.specs.declared.got.Got.{Got}
 use Rattle.flt_nvm.specs.Leaves.{GivesInAJob}
-use Rattle.flt_nvm.specs.Reads.{LooksInAJob}
+use Rattle.flt_nvm.specs.Reads.{LooksInAJob, IsUnmended}
 use Rattle.flt_config.specs.declared.config.Config.{Config}
 use Rattle.flt_generation.specs.Laws.{IsGiven}
-use Rattle.flt_generation.specs.Layout.{mark_number, numbers}
+use Rattle.flt_generation.specs.Layout.{commit_id, mark_number, number_of, numbers}
 use Rattle.flt_generation.specs.Excess.{IsBorne}
 use Rattle.flt_restore.specs.declared.fault.StartFault.{StartFault}
 use Rattle.flt_restore.specs.declared.fault.StartFault.TheVariants.{Flash}
@@ -20,7 +20,7 @@ use Rattle.flt_restore.specs.Unread.{FailsToRead, IsImageUnread}
 use Rattle.flt_restore.proofs.Failing.{fails_from, image_unread_from}
 use Rattle.flt_store.specs.Cause.{HasRoom, Writes}
 use Rattle.flt_store.specs.Start.{told_of_mount, told_of_write}
-use Rattle.flt_store.specs.Dark.{FailsToWrite, IsMarkUnwritten, IsCommitUnmended, IsUnbegun}
+use Rattle.flt_store.specs.Dark.{FailsToWrite, IsMarkUnwritten, IsCommitUnmended, IsUnbegun, IsUnrestarted}
 use Rattle.flt_store.proofs.Causes.{never_full}
 
 pub read_at_once : (number : ℕ) (before after : BlocksState) → LooksInAJob {T = Got} number before after (Err FlashFault) → FailsToRead number before after
@@ -58,6 +58,9 @@ module _ (before middle after : BlocksState) (so_far : Follows before middle) (s
     unmended = unmended.unmended;
   }
 
+  pub unrestarted_from : IsCommitUnmended middle after → IsUnrestarted before after
+  unrestarted_from commit = inr (commit_from commit)
+
   pub unbegun_from : IsUnbegun middle after → IsUnbegun before after
   unbegun_from (inl mark) = inl (mark_from mark)
   unbegun_from (inr commit) = inr (commit_from commit)
@@ -66,15 +69,42 @@ module _ (before middle after : BlocksState) (so_far : Follows before middle) (s
   unready_from c (inl unread) = inl (image_unread_from c before middle after so_far same unread)
   unready_from c (inr unbegun) = inr (unbegun_from unbegun)
 
+-- a write that failed, and not for want of a sequence number, was failed by the flash
+pub was_flash : {T : Type 0} (c : Config) → IsGiven c → (before after : BlocksState) (fault : BlockFault) → Writes {T = T} before after (Err fault) → before.numbers ≡ numbers → HasRoom c before.room
+    → IsTrue before.has_mounted → IsBorne c after.value → (fault ≡ Stuck → ⊥) → fault ≡ FlashFault
+was_flash {T} c given before after FlashFault writes all room has borne other = refl
+was_flash {T} c given before after (Full live needed) writes all room has borne other =
+    let full = writes.full live needed refl in absurd (never_full c given before after all room writes.follows borne full.0 live needed full.1 full.2)
+was_flash {T} c given before after Stuck writes all room has borne other = absurd (other refl)
+was_flash {T} c given before after (DamagedPage sector page) writes all room has borne other = absurd (writes.mounted has sector page refl)
+
+not_stuck : (fault : BlockFault) → told_of_write fault ≡ Flash → fault ≡ Stuck → ⊥
+not_stuck fault is stuck = let told : told_of_write Stuck ≡ Flash = subst (λ (f : BlockFault). told_of_write f ≡ Flash) stuck is in absurd (cc told)
+
 -- a write that is told as a fault of the flash was failed by it
 pub was_flash_of_write : {T : Type 0} (c : Config) → IsGiven c → (before after : BlocksState) (fault : BlockFault) → Writes {T = T} before after (Err fault) → before.numbers ≡ numbers → HasRoom c before.room
     → IsTrue before.has_mounted → IsBorne c after.value → told_of_write fault ≡ Flash → fault ≡ FlashFault
-was_flash_of_write {T} c given before after FlashFault writes all room has borne is = refl
-was_flash_of_write {T} c given before after (Full live needed) writes all room has borne is =
-    let full = writes.full live needed refl in absurd (never_full c given before after all room writes.follows borne full.0 live needed full.1 full.2)
-was_flash_of_write {T} c given before after Stuck writes all room has borne is = absurd (cc is)
-was_flash_of_write {T} c given before after (DamagedPage sector page) writes all room has borne is = absurd (writes.mounted has sector page refl)
+was_flash_of_write {T} c given before after fault writes all room has borne is = was_flash {T = T} c given before after fault writes all room has borne (not_stuck fault is)
 
 -- a fault by which one answer fails is that of another
 pub err_as : {T U E : Type 0} (fault told : E) → IsErrOf {T = T} (Err fault) told → IsErrOf {T = U} (Err fault) told
 err_as fault told is = cc
+
+-- a repair that failed at once
+pub unmended_at : (before after : BlocksState) (raw : List ℕ) (copy : ℕ) → 1 ≤ copy → copy ≤ 2 → before.value (number_of commit_id (copy - 1)) ≡ bytes raw
+    → IsUnmended before after (number_of commit_id (2 - copy)) (bytes raw) → IsCommitUnmended before after
+unmended_at before after raw copy least most holds unmended = record {
+  copy = copy;
+  least = least;
+  most = most;
+  raw = raw;
+  holds = holds;
+  first = before;
+  earlier = no_call before;
+  same = λ number. refl;
+  unmended = unmended;
+}
+
+pub is_unsettled : (was_settled : Bool) → (IsTrue was_settled → ⊥) → IsFalse was_settled
+is_unsettled true never = absurd (never refl)
+is_unsettled false never = refl

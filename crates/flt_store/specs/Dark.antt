@@ -1,15 +1,17 @@
--- What failed where a start-up answers that the flash failed it.
-use Rattle.std.specs.Prelude.{◌≡◌, ◌⊎◌, ℕ, ◌-◌, ◌≤◌, List, length, Err}
+-- What failed where a start-up, or a save, answers that the flash failed it.
+use Rattle.std.specs.Prelude.{◌≡◌, ◌⊎◌, ℕ, ◌-◌, ◌≤◌, Bool, List, length, Err, IsFalse}
 use Rattle.flt_flash.specs.Content.{missing, bytes}
 use Rattle.flt_flash.specs.Blocks.{BlocksState}
 use Rattle.flt_flash.specs.Calls.{Follows, SameValues}
 use Rattle.flt_flash.specs.declared.blocks.BlockFault.TheVariants.{Flash}
 use Rattle.flt_nvm.specs.Tries.{Tries, Mounts}
 use Rattle.flt_nvm.specs.Leaves.{GivesInAJob}
-use Rattle.flt_nvm.specs.Reads.{IsUnmended}
+use Rattle.flt_nvm.specs.Reads.{IsUnmended, IsUnread}
 use Rattle.flt_config.specs.declared.config.Config.{Config}
 use Rattle.flt_generation.specs.Layout.{commit_id, mark_number, number_of}
+use Rattle.flt_generation.specs.Holding.{Generation, IsSound}
 use Rattle.flt_restore.specs.Unread.{FailsToRead, IsImageUnread}
+use Rattle.flt_store.specs.Cause.{FailsThrice}
 
 -- among these calls three writes in a row of these bytes to a number were failed by the flash
 pub record FailsToWrite (number : ℕ) (raw : List ℕ) (before after : BlocksState) : Type 0 where
@@ -43,3 +45,14 @@ IsUnbegun before after = IsMarkUnwritten before after ⊎ IsCommitUnmended befor
 -- three mounts in a row failed; or what a start-up needs of the image could not be read, or not be written
 abbrev pub IsDark : Config → BlocksState → BlocksState → Type 0
 IsDark c before after = Tries 3 Mounts before after (Err Flash) ⊎ IsImageUnread c before after ⊎ IsUnbegun before after
+
+-- of the commit neither copy could be read, or one could not and the other has no bytes; or its other copy could not be mended
+abbrev pub IsUnrestarted : BlocksState → BlocksState → Type 0
+IsUnrestarted before after = IsUnread before after commit_id ⊎ IsCommitUnmended before after
+
+-- a save before failed, and which generation stands could not be found out; or, from where both copies of the commit name one
+-- generation, the flash failed three times
+abbrev pub IsUnsaved : Config → Bool → BlocksState → BlocksState → Type 0
+IsUnsaved c was_settled before after =
+    (IsFalse was_settled × IsUnrestarted before after)
+    ⊎ ((middle : BlocksState) × Follows before middle × (g : Generation) × IsSound c middle.value g g × FailsThrice middle after)

@@ -11,6 +11,7 @@ ghost use Rattle.flt_generation.specs.Reading.{commit_in};
 ghost use Rattle.flt_generation.specs.Holding.{Generation, Holds, IsSound, OldOrNew};
 ghost use Rattle.flt_image.specs.Table.{block_table};
 ghost use Rattle.flt_store.specs.Cause.{IsWithinOwn, Writes};
+ghost use Rattle.flt_store.specs.Dark.{IsUnrestarted};
 ghost use Rattle.flt_store.specs.Keeping.{IsOfFirst};
 ghost use Rattle.flt_store.specs.Started.{HasMark, IsStarted, AgreeButForCommit, StartsEither};
 
@@ -30,6 +31,7 @@ pub(crate) fn restart<B: Blocks + Drop>(
     ensures started { (held spare : Generation) → IsSound config.now (driver_of nvm.old).value held spare → HasMark config.now (driver_of nvm.old).value
         → IfOk result (λ commit. StartsEither config.now (driver_of nvm.old) (driver_of nvm.new) commit held spare) }
     ensures failed { (held spare new : Generation) → IsSound config.now (driver_of nvm.old).value held spare → OnErr result (OldOrNew config.now (driver_of nvm.new).value held spare new) }
+    ensures unrestarted { (held spare : Generation) → IsSound config.now (driver_of nvm.old).value held spare → IsErrOf result BlockFault.Flash → IsUnrestarted (driver_of nvm.old) (driver_of nvm.new) }
     ensures writes { (held spare : Generation) → IsSound config.now (driver_of nvm.old).value held spare → Writes (driver_of nvm.old) (driver_of nvm.new) result }
     ensures kept { AgreeButForCommit (driver_of nvm.old).value (driver_of nvm.new).value }
     ensures form { IfOk result (λ commit. IfSome commit (IsCommit config.now)) }

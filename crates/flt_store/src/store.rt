@@ -13,6 +13,7 @@ ghost use Rattle.flt_store.specs.Cause.{FailsThrice, IsStuck};
 ghost use Rattle.flt_store.specs.Cost.{Spends, pages_to_write};
 ghost use Rattle.flt_store.specs.Keeping.{KeepsFrom, KeepsPlaces};
 ghost use Rattle.flt_store.specs.Known.{Knows, KnowsNamed};
+ghost use Rattle.flt_store.specs.Dark.{IsUnrestarted, IsUnsaved};
 ghost use Rattle.flt_store.specs.Started.{HasMark, IsStarted};
 
 mod applications;
@@ -72,6 +73,7 @@ impl<B: Blocks + Drop> Store<B> {
         ensures settles { (held spare : Generation) → IsRunning config.now held spare self.old → OnOk result (Settles config.now held spare self.old self.new) }
         ensures failed { (held spare : Generation) (state : Persist) → IsRunning config.now held spare self.old → OnErr result (Leaves config.now held spare state self.old self.new) }
         ensures flash { (held spare : Generation) → IsRunning config.now held spare self.old → IsErrOf result SaveFault.Flash → FailsThrice (driver_of self.old) (driver_of self.new) }
+        ensures unrestarted { (held spare : Generation) → IsRunning config.now held spare self.old → IsErrOf result SaveFault.Flash → IsUnrestarted (driver_of self.old) (driver_of self.new) }
         ensures not_spent { IsErrOf result SaveFault.Spent → ⊥ }
         ensures at_once { IsTrue (is_settled self.old) → IsErr result → ⊥ }
         ensures sequence { (held spare : Generation) → IsRunning config.now held spare self.old → IsErrOf result SaveFault.SequenceSpent → IsStuck (driver_of self.new) }
@@ -145,6 +147,7 @@ impl<B: Blocks + Drop> Store<B> {
         ensures saved { (held spare : Generation) → IsRunning config.now held spare self.old → IfOk result (λ number. Saves config.now held spare state.now number self.old self.new) }
         ensures failed { (held spare : Generation) → IsRunning config.now held spare self.old → OnErr result (Leaves config.now held spare state.now self.old self.new) }
         ensures flash { (held spare : Generation) → IsRunning config.now held spare self.old → IsErrOf result SaveFault.Flash → FailsThrice (driver_of self.old) (driver_of self.new) }
+        ensures unsaved { (held spare : Generation) → IsRunning config.now held spare self.old → IsErrOf result SaveFault.Flash → IsUnsaved config.now (is_settled self.old) (driver_of self.old) (driver_of self.new) }
         ensures spent { (held spare : Generation) → IsRunning config.now held spare self.old → IsErrOf result SaveFault.Spent → IsLast config.now held spare self.old self.new }
         ensures last { (held spare : Generation) → IsRunning config.now held spare self.old → IsTrue (is_settled self.old) → held.number ≡ 4294967295 → result ≡ Err SaveFault.Spent }
         ensures sequence { (held spare : Generation) → IsRunning config.now held spare self.old → IsErrOf result SaveFault.SequenceSpent → IsStuck (driver_of self.new) }

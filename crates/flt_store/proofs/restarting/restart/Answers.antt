@@ -6,6 +6,7 @@ use Rattle.flt_store.proofs.TableUse.{commit_index, commit_both}
 use Rattle.flt_store.proofs.Causes.{writes_on, writes_as}
 use Rattle.flt_store.proofs.Repairing.{sound_kept, both_old, no_commit, not_invalid, but_for_copy}
 use Rattle.flt_store.proofs.Copies.{copy_read, at_of, bytes_short, copy_range, held_at, some_holds, started_by, tried_by, missing_read, invalid_read, stays_started, of_first, none_of_first}
+use Rattle.flt_store.proofs.Dark.{err_as, unrestarted_from, unmended_at}
 use Rattle.flt_store.proofs.restarting.restart.Goals as goal
 
 pub read-requires : goal.read-requires
@@ -118,3 +119,21 @@ returns-in-Ok-Invalid-clause-first g c =
     let got = commit_both _ c.requires _ _ (rw c.in-Ok-Invalid.field-0-is at c.in-Ok-Invalid.ensures.got) in
     let first = invalid_read ((driver_of c.args.nvm.now).value 16) _ _ got.0 in
     none_of_first c.args.config.now (driver_of c.args.nvm.now) (driver_of c.read.new.self) (subst HasNoBytes (sym first) tt)
+
+pub returns-in-Err-repair_by-clause-unrestarted : goal.returns-in-Err-repair_by-clause-unrestarted
+returns-in-Err-repair_by-clause-unrestarted g c = λ h s sound flash.
+    let start = driver_of c.args.nvm.now in
+    let read = driver_of c.read.new.self in
+    let after = driver_of c.repair_by.new.nvm in
+    let got = commit_both _ c.requires _ _ (rw c.in-Ok-Bytes.field-0-is at c.in-Ok-Bytes.ensures.got) in
+    let raw = take c.in-Ok-Bytes.length c.read.new.out in
+    let found = copy_read start read c.in-Ok-Bytes.length c.in-Ok-Bytes.copy _ c.read.new.out got in
+    let at = at_of start read raw c.in-Ok-Bytes.copy found in
+    let range = copy_range start.value raw c.in-Ok-Bytes.copy at in
+    let some = some_holds c.args.config.now start read raw c.in-Ok-Bytes.copy c.read.ensures.values at h s sound in
+    let holds = held_at c.args.config.now start read raw c.in-Ok-Bytes.copy c.read.ensures.values at in
+    unrestarted_from start read after c.read.ensures.calls.follows c.read.ensures.values
+    (unmended_at read after raw c.in-Ok-Bytes.copy range.0 range.1 holds (c.in-Err-repair_by.ensures.unmended some.0 some.1 (err_as c.in-Err-repair_by.fault _ flash)))
+
+pub returns-in-Err-clause-unrestarted : goal.returns-in-Err-clause-unrestarted
+returns-in-Err-clause-unrestarted g c = λ h s sound flash. inl (commit_both _ c.requires _ _ (c.in-Err.ensures.unread (err_as c.in-Err.fault _ flash)))

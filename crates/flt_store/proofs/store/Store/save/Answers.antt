@@ -1,4 +1,4 @@
-use Rattle.std.proofs.Common.{◌≡◌, ◌+◌, ◌*◌, ◌∙◌, ⊎_elim, length, sym, subst, ap, refl, arith}
+use Rattle.std.proofs.Common.{inl, inr, Bool, true, false, ◌≡◌, ◌+◌, ◌*◌, ◌∙◌, ⊎_elim, length, sym, subst, ap, refl, arith}
 use Rattle.std.specs.Prelude.{IsFalse}
 use Rattle.flt_flash.specs.Calls.{CostsAtMost}
 use Rattle.flt_generation.specs.Form.{block_bytes}
@@ -12,6 +12,7 @@ use Rattle.flt_generation.specs.Holding.{Generation}
 use Rattle.flt_store.specs.Store.{driver_of, commit_of, kept_of, is_settled, numbered, IsReady}
 use Rattle.flt_store.proofs.Started.{sound_started}
 use Rattle.flt_store.proofs.Running.{served_on, undisturbed_until, held_is_chosen, ok_map, on_ok, err_taken, err_both, chosen_on, one_of_chosen, rises_from}
+use Rattle.flt_store.proofs.Dark.{err_as, is_unsettled}
 use Rattle.flt_store.proofs.store.Store.save.Goals as goal
 
 pub returns-in-Ok-clause-saved : goal.returns-in-Ok-clause-saved
@@ -115,3 +116,19 @@ returns-in-Err-clause-by_changes g c = λ h s running yes. absurd (c.in-Err.ensu
 
 pub returns-in-Err-clause-at_most : goal.returns-in-Err-clause-at_most
 returns-in-Err-clause-at_most g c = λ h s running yes. absurd (c.in-Err.ensures.at_once yes refl)
+
+pub returns-in-Ok-clause-unsaved : goal.returns-in-Ok-clause-unsaved
+returns-in-Ok-clause-unsaved g c = λ h s running told.
+    let middle = driver_of c.settle.new.self in
+    let settled = c.in-Ok.ensures.settles h s running in
+    inr (
+      middle,
+      c.settle.ensures.follows,
+      settled.chosen,
+      sound_started c.args.config.now middle.value (commit_of c.settle.new.self) settled.chosen settled.ready.started,
+      c.save_next.ensures.flash settled.chosen settled.ready told,
+    )
+
+pub returns-in-Err-clause-unsaved : goal.returns-in-Err-clause-unsaved
+returns-in-Err-clause-unsaved g c = λ h s running told.
+    inl (is_unsettled (is_settled c.args.self.now) (λ yes. c.in-Err.ensures.at_once yes refl), c.in-Err.ensures.unrestarted h s running (err_as c.in-Err.fault _ told))

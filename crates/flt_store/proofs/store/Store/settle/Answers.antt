@@ -1,5 +1,5 @@
 use Rattle.std.specs.Prelude.{IsTrue}
-use Rattle.std.proofs.Common.{rules, ◌≡◌, ◌+◌, ◌∙◌, inl, inr, ⊎_elim, refl}
+use Rattle.std.proofs.Common.{rules, ◌≡◌, ◌+◌, ◌∙◌, inl, inr, ⊎_elim, refl, ap, Err}
 use Rattle.flt_nvm.specs.Driver.{driver_of as driver_beneath}
 use Rattle.flt_store.specs.declared.fault.SaveFault.TheVariants.{Flash}
 use Rattle.flt_store.specs.Started.{IsStarted}
@@ -12,6 +12,7 @@ use Rattle.flt_store.proofs.Known.{knows_may, knows_named, learned_may, learned_
 use Rattle.flt_store.proofs.Causes.{resolved}
 use Rattle.flt_store.proofs.Started.{mark_kept}
 use Rattle.flt_store.proofs.Running.{served_on, failed_on, failed_later, unfailed}
+use Rattle.flt_store.proofs.Dark.{was_flash}
 use Rattle.flt_store.proofs.store.Store.settle.Goals as goal
 
 pub returns-then-self-clause-settles : goal.returns-then-self-clause-settles
@@ -94,3 +95,13 @@ returns-in-Err-clause-flash g c = λ h s running told.
     let is : c.save_fault.result ≡ Flash = cc told in
     resolved c.args.config.now running.served.given before after c.in-Err.fault (c.in-Err.ensures.writes h s running.sound) c.args.self.now.numbers running.served.room running.served.mounted
     left.sound.holds.excess (c.save_fault.ensures.flash is)
+
+pub returns-in-Err-clause-unrestarted : goal.returns-in-Err-clause-unrestarted
+returns-in-Err-clause-unrestarted g c = λ h s running told.
+    let before = driver_of c.args.self.now in
+    let after = driver_beneath c.restart.new.nvm in
+    let left = c.in-Err.ensures.failed h s h running.sound in
+    let is : c.save_fault.result ≡ Flash = cc told in
+    let fault = was_flash c.args.config.now running.served.given before after c.in-Err.fault (c.in-Err.ensures.writes h s running.sound) c.args.self.now.numbers running.served.room running.served.mounted
+    left.sound.holds.excess (c.save_fault.ensures.flash is) in
+    c.in-Err.ensures.unrestarted h s running.sound (ap Err fault)

@@ -6,9 +6,8 @@ use Rattle.flt_store.proofs.Causes.{borne_stays, writes_as}
 use Rattle.flt_store.proofs.Copies.{IsAt, tried_by}
 use Rattle.flt_store.proofs.Marks.{borne_marked}
 use Rattle.flt_store.proofs.Beginning.{none_started, none_tried, copy_at}
-use Rattle.flt_flash.proofs.CallsInARow.{no_call}
 use Rattle.flt_generation.specs.Layout.{commit_id, number_of}
-use Rattle.flt_store.proofs.Dark.{err_as}
+use Rattle.flt_store.proofs.Dark.{err_as, unmended_at}
 use Rattle.flt_store.proofs.store.starting.begin_by.Goals as goal
 
 pub returns-in-Ok-clause-started : goal.returns-in-Ok-clause-started
@@ -58,14 +57,5 @@ returns-in-Err-repair_by-clause-unbegun g c = λ h begins flash.
     let before = driver_of c.args.nvm.now in
     let copy = c.in-Some.found.copy in
     let holds = subst (λ (raw : List ℕ). Holds c.args.config.now before.value (bytes raw) h) (sym c.deref.ensures.0) from.0 in
-    inr (record {
-      copy = copy;
-      least = from.1.least;
-      most = from.1.most;
-      raw = c.deref.result.now;
-      holds = subst (λ (raw : List ℕ). before.value (number_of commit_id (copy - 1)) ≡ bytes raw) (sym c.deref.ensures.0) from.1.holds;
-      first = before;
-      earlier = no_call before;
-      same = λ number. refl;
-      unmended = c.in-Err-repair_by.ensures.unmended h holds (err_as c.in-Err-repair_by.fault _ flash);
-    })
+    let stands = subst (λ (raw : List ℕ). before.value (number_of commit_id (copy - 1)) ≡ bytes raw) (sym c.deref.ensures.0) from.1.holds in
+    inr (unmended_at before (driver_of c.repair_by.new.nvm) c.deref.result.now copy from.1.least from.1.most stands (c.in-Err-repair_by.ensures.unmended h holds (err_as c.in-Err-repair_by.fault _ flash)))
