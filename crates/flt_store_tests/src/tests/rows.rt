@@ -126,6 +126,43 @@ fn a_muted_first_copy_gives_the_generation_before(rt: HostRuntime) -> Result<(),
     Ok(())
 }
 
+// Where the first copy of the commit can't be read, a start-up and a save after a failed one go by the second, and write the first
+// anew where that can't be read again.
+#[test]
+fn a_muted_first_copy_stops_nothing(rt: HostRuntime) -> Result<(), Fail> {
+    let config = configured(1, 0, 1)?;
+    let states = [failed(), state(&[PASSED], &[1])];
+    for (times, stands) in [(3, 0), (6, 0), (9, 1)] {
+        let mute = Step::Arm(Arm::Mute {
+            sector: 0,
+            page: 18,
+            times,
+        });
+        let steps = [
+            Step::Save(0, Ok(1)),
+            mute,
+            Step::Life(1, 0),
+            Step::Armed(stands),
+            Step::Life(1, 0),
+        ];
+        let flash = play(&rt, rt.alloc(), &config, &states, &steps)?;
+        assert!(&rt; is_record(&flash, 23, 16, 26) == (times > 3), "{times}");
+        let steps = [
+            Step::Save(0, Ok(1)),
+            fault_at(1),
+            fault_at(2),
+            fault_at(3),
+            Step::Save(1, Err(SaveFault::Flash)),
+            mute,
+            Step::Save(1, Ok(2)),
+            Step::Armed(stands),
+            Step::Life(2, 1),
+        ];
+        play(&rt, rt.alloc(), &config, &states, &steps)?;
+    }
+    Ok(())
+}
+
 // The second save of a state that stays makes 6 programs, and of one in which each block changes 18; a save after a failed one
 // compares with what stands, and makes 6 again.
 #[test]
