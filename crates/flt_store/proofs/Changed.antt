@@ -9,7 +9,7 @@ use Rattle.flt_flash.specs.Blocks.{record_pages}
 use Rattle.flt_config.specs.declared.config.Config.{Config}
 use Rattle.flt_config.specs.declared.persist.Persist.{Persist}
 use Rattle.flt_generation.specs.declared.commit.Commit.{Commit}
-use Rattle.flt_generation.specs.Layout.{first_part, parts, is_used, part_of}
+use Rattle.flt_generation.specs.Layout.{first_part, parts, is_used, index_in, part_of}
 use Rattle.flt_generation.specs.Form.{block_bytes}
 use Rattle.flt_generation.specs.Reading.{commit_in}
 use Rattle.flt_generation.specs.Holding.{Generation}
@@ -19,9 +19,9 @@ use Rattle.flt_generation.proofs.Commits.{commit_read}
 use Rattle.flt_generation.proofs.Pages.{used_range}
 use Rattle.flt_image.specs.Blocks.{AreBlocksOf}
 use Rattle.flt_store.specs.Cost.{written_sum, pages_to_write}
-use Rattle.flt_store.specs.Keeping.{HasCommit, KeepsFrom}
+use Rattle.flt_store.specs.Keeping.{HasCommit, KeepsFrom, StandAtZero}
 use Rattle.flt_store.specs.Known.{Knows, KnowsNamed}
-use Rattle.flt_store.specs.Started.{IsStarted}
+use Rattle.flt_store.specs.Started.{IsStarted, NamesOf}
 use Rattle.flt_store.proofs.Costs.{sum_below}
 use Rattle.flt_store.proofs.Successors.{used_of, moved_of, some_length}
 
@@ -125,3 +125,21 @@ module _ (c : Config) (one two after : ℕ → List ℕ) (same : (id : ℕ) → 
 pub pages_of_later : (c : Config) (current : Option Commit) (before after : ℕ → List ℕ) → (number_in current ≡ 0 → ⊥) → pages_to_write c current before after ≡ changed_pages c before after
 pages_of_later c None before after later = absurd (later refl)
 pages_of_later c (Some commit) before after later = refl
+
+-- a commit names no generation of number 0
+unnamed : (c : Config) (value : ℕ → Content) (commit : Option Commit) (g : Generation) → NamesOf c value commit g → g.number ≡ 0 → commit ≡ None
+unnamed c value None g names zero = refl
+unnamed c value (Some commit) g names zero = let least = names.form.least in let same = names.number in absurd (omega (arith, least, same, zero))
+
+-- the first save names each used block at index 0
+pub stand_at_zero : (c : Config) (before after : ℕ → Content) (from : Option Commit) (kept bytes_of : ℕ → List ℕ) (next : Commit) (g now : Generation) → IsStarted c before from g → g.number ≡ 0
+    → IsStarted c after (Some next) now → IsNext c from kept bytes_of next → StandAtZero c after
+stand_at_zero c before after from kept bytes_of next g now started zero ended follows two has_two id used =
+    let by_two : next ≡ two = some_same next two (same_commit c after (Some next) now ended two has_two) in
+    let none : from ≡ None = unnamed c before from g started.names zero in
+    let first : IsNext c None kept bytes_of next = subst (λ (commit : Option Commit). IsNext c commit kept bytes_of next) none follows in
+    let range = used_range c id used in
+    subst (λ (commit : Commit). index_in commit id ≡ 0) by_two ((first.blocks id range.0 range.1).used used)
+  where
+    some_same : (x y : Commit) → Some x ≡ Some y → x ≡ y
+    some_same x y same = cc same

@@ -1,11 +1,11 @@
 -- What a save leaves where it was.
-use Rattle.std.specs.Prelude.{◌≡◌, ◌⊎◌, ℕ, List, Option, Some}
+use Rattle.std.specs.Prelude.{◌≡◌, ◌⊎◌, ℕ, List, Option, Some, IsTrue}
 use Rattle.flt_flash.specs.Content.{Content, bytes}
 use Rattle.flt_flash.specs.Blocks.{BlocksState}
 use Rattle.flt_config.specs.declared.config.Config.{Config}
 use Rattle.flt_config.specs.declared.persist.Persist.{Persist}
 use Rattle.flt_generation.specs.declared.commit.Commit.{Commit}
-use Rattle.flt_generation.specs.Layout.{first_commit}
+use Rattle.flt_generation.specs.Layout.{first_commit, is_used, index_in}
 use Rattle.flt_generation.specs.Reading.{commit_in}
 use Rattle.flt_generation.specs.Successor.{KeepsIndices}
 use Rattle.flt_store.specs.Cause.{FailsThrice}
@@ -25,3 +25,7 @@ KeepsFrom c old new from after = (current next : Commit) → from ≡ Some curre
 -- the commit after a save names each used block whose bytes stayed at the index at which the commit before it did
 abbrev pub KeepsPlaces : Config → Persist → Persist → (ℕ → Content) → (ℕ → Content) → Type 0
 KeepsPlaces c old new before after = (current next : Commit) → HasCommit c before current → HasCommit c after next → KeepsIndices c old new current next
+
+-- the commit after a save names each used block at index 0
+abbrev pub StandAtZero : Config → (ℕ → Content) → Type 0
+StandAtZero c after = (next : Commit) → HasCommit c after next → (id : ℕ) → IsTrue (is_used c id) → index_in next id ≡ 0

@@ -132,3 +132,13 @@ returns-in-Ok-clause-unsaved g c = λ h s running told.
 pub returns-in-Err-clause-unsaved : goal.returns-in-Err-clause-unsaved
 returns-in-Err-clause-unsaved g c = λ h s running told.
     inl (is_unsettled (is_settled c.args.self.now) (λ yes. c.in-Err.ensures.at_once yes refl), c.in-Err.ensures.unrestarted h s running (err_as c.in-Err.fault _ told))
+
+pub returns-in-Ok-clause-first : goal.returns-in-Ok-clause-first
+returns-in-Ok-clause-first g c = λ h s running zero.
+    let settled = c.in-Ok.ensures.settles h s running in
+    let order = running.sound.order in
+    let number : settled.chosen.number ≡ 0 = ⊎_elim
+    (λ by_held. ap (λ (d : Generation). d.number) by_held ∙ zero)
+    (λ by_spare. (let same : settled.chosen.number ≡ s.number = ap (λ (d : Generation). d.number) by_spare.0 in omega (arith, same, order, zero)))
+    settled.is in
+    c.save_next.ensures.first settled.chosen settled.ready number

@@ -4,7 +4,7 @@ use Rattle.flt_store.specs.declared.fault.SaveFault.TheVariants.{Flash}
 use Rattle.flt_generation.specs.Form.{block_bytes}
 use Rattle.flt_image.specs.Blocks.{bytes_at}
 use Rattle.flt_store.specs.Store.{driver_of, commit_of, kept_of, numbered}
-use Rattle.flt_store.proofs.Changed.{keeps_from, pages_by}
+use Rattle.flt_store.proofs.Changed.{keeps_from, stand_at_zero, pages_by}
 use Rattle.flt_store.proofs.Costs.{spends_less, spends_nothing}
 use Rattle.flt_generation.specs.Successor.{number_in}
 use Rattle.flt_store.specs.Started.{IsStarted}
@@ -70,3 +70,8 @@ pub returns-in-Err-clause-spends : goal.returns-in-Err-clause-spends
 returns-in-Err-clause-spends g c = λ h most knows settled.
     let pages = pages_by c.args.config.now (kept_of c.args.self.now) (block_bytes h.state) (block_bytes c.args.state.now) knows (commit_of c.args.self.now) in
     spends_less most (driver_of c.args.self.now) (driver_beneath c.write_generation.new.nvm) _ _ _ _ (omega (arith, pages)) (omega arith) (c.write_generation.ensures.spends most settled)
+
+pub returns-in-Ok-clause-first : goal.returns-in-Ok-clause-first
+returns-in-Ok-clause-first g c = λ h ready zero.
+    stand_at_zero c.args.config.now (driver_of c.args.self.now).value (driver_beneath c.write_generation.new.nvm).value (commit_of c.args.self.now) (kept_of c.args.self.now) (bytes_at c.in-Ok.field-0.saved) c.in-Ok.field-0.commit h _
+    ready.started zero (c.in-Ok.ensures.done h ready.started ready.known) c.in-Ok.ensures.next
