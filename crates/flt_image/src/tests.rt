@@ -8,6 +8,7 @@ use flt_config::{
     Config, DIDS, DidUse, EntryState, EventCfg, EventState, Frame, Persist, ValidConfig, check,
     fits, initial,
 };
+use flt_generation::INDICES;
 use flt_nvm::{BlockCfg, Kind};
 
 const SUMMARY: [u8; 32] = [
@@ -298,7 +299,7 @@ fn commits_are_read_of_their_own_configuration(rt: HostRuntime) {
             }
             let first = Commit {
                 generation: 0,
-                index: [0; 21],
+                index: [0; INDICES],
             };
             assert!(&rt; get_commit(&valid, &put_commit(&first)).is_none());
             let none = changed(

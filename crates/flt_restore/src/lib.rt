@@ -2,7 +2,8 @@
 //!
 //! It stands on `flt_nvm`, whose reads it makes, and on the definitions of `flt_generation`, by which it judges. The store
 //! above starts up by `restore`, whose contract is in `specs/Restored`: what is answered is what the image holds, or where
-//! the first copy of the commit can't be read, what it holds by the second. Nothing here writes a block.
+//! the first copy of the commit can't be read, what it holds by the second. After a save that failed the store learns by
+//! `read_blocks` (`specs/Learning`) what the blocks have that a commit names. Nothing here writes a block.
 #![tactic(auto)]
 
 mod commit;

@@ -1,8 +1,8 @@
 -- The causes of faults along a row of writes, and that there is always room.
-use Rattle.std.proofs.Common.{◌≡◌, ◌⊎◌, inl, inr, ⊎_elim, ℕ, ◌+◌, ◌-◌, ◌/◌, ◌<◌, ◌≤◌, max, List, [], ◌∷◌, length, Option, Some, None, Result, Ok, Err, refl, sym, ◌∙◌, ap, subst, arith}
+use Rattle.std.proofs.Common.{◌≡◌, ◌⊎◌, inl, inr, ⊎_elim, ℕ, ◌+◌, ◌-◌, ◌/◌, ◌<◌, ◌≤◌, max, List, length, Option, Some, None, Result, Ok, Err, refl, sym, ◌∙◌, ap, subst, arith}
 use Rattle.std.specs.Prelude.{IsTrue, IsErrOf, IsSomeAnd, sum_by}
 use Rattle.std.proofs.lemmas.Bool.{cases_eq}
-use Rattle.std.proofs.lemmas.List.Sums.{sum_by-cons}
+use Rattle.std.proofs.lemmas.List.Sums.{sum_by-le-sum_by}
 use Rattle.flt_flash.specs.Content.{Content, bytes}
 use Rattle.flt_flash.specs.Blocks.{BlocksState, pages_of, record_pages, IsFull}
 use Rattle.flt_flash.specs.Calls.{Calls, Follows}
@@ -82,13 +82,9 @@ within_on c before middle after first then_ number =
     (λ kept. ⊎_elim (λ stood. inl (kept ∙ stood)) (λ small. (let pages : pages_of (after number) ≡ pages_of (middle number) = ap pages_of kept in inr (omega (arith, pages, small)))) (first number))
     (λ small. inr small) (then_ number)
 
-sum_le : (f g : ℕ → ℕ) → ((x : ℕ) → f x ≤ g x) → (xs : List ℕ) → sum_by f xs ≤ sum_by g xs
-sum_le f g le [] = omega arith
-sum_le f g le (x ∷ xs) = let rest : sum_by f xs ≤ sum_by g xs = sum_le f g le xs in omega (arith, sum_by-cons f x xs, sum_by-cons g x xs, le x, rest)
-
 pub borne_stays : (c : Config) (before after : ℕ → Content) → IsWithinOwn c before after → IsBorne c before → IsBorne c after
 borne_stays c before after within borne =
-    let total : excess c after ≤ excess c before = sum_le (λ number. pages_of (after number) - own_pages c number) (λ number. pages_of (before number) - own_pages c number) each numbers in
+    let total : excess c after ≤ excess c before = sum_by-le-sum_by (λ number. pages_of (after number) - own_pages c number) (λ number. pages_of (before number) - own_pages c number) numbers each in
     omega (arith, total, borne)
   where
     each : (number : ℕ) → pages_of (after number) - own_pages c number ≤ pages_of (before number) - own_pages c number
@@ -100,7 +96,7 @@ pub never_full : (c : Config) → IsGiven c → (before after : BlocksState) →
 never_full c given before after all room follows borne size live needed short full = by_room after.room (subst (HasRoom c) (sym follows.room) room) full.past
   where
     total : sum_by (λ number. pages_of (after.value number)) numbers ≤ sum_by (λ number. max (pages_of (after.value number)) (own_pages c number)) numbers
-    total = sum_le (λ number. pages_of (after.value number)) (λ number. max (pages_of (after.value number)) (own_pages c number)) (λ number. omega arith) numbers
+    total = sum_by-le-sum_by (λ number. pages_of (after.value number)) (λ number. max (pages_of (after.value number)) (own_pages c number)) numbers (λ number. omega arith)
 
     live_is : live ≡ sum_by (λ number. pages_of (after.value number)) numbers
     live_is = full.live_is ∙ ap (λ (ns : List ℕ). sum_by (λ number. pages_of (after.value number)) ns) (follows.numbers ∙ all)

@@ -3,8 +3,9 @@ use Rattle.std.proofs.Common.{◌≡◌, inl, inr, ⊎_elim, ℕ, ◌≤◌, ◌
 use Rattle.std.specs.Prelude.{IsTrue, ◌≢◌, not, bytes_eq, if◌then◌else◌}
 use Rattle.std.specs.List.{range_with_len}
 use Rattle.std.proofs.lemmas.Bool.{cases_Bool, and_from, not_from_false}
+use Rattle.std.proofs.lemmas.List.Sums.{sum_by-le-sum_by}
 use Rattle.std.proofs.lemmas.Slice.Eq.{bytes_eq-Decides}
-use Rattle.flt_flash.specs.Content.{Content, bytes}
+use Rattle.flt_flash.specs.Content.{Content}
 use Rattle.flt_flash.specs.Blocks.{record_pages}
 use Rattle.flt_config.specs.declared.config.Config.{Config}
 use Rattle.flt_config.specs.declared.persist.Persist.{Persist}
@@ -22,7 +23,7 @@ use Rattle.flt_store.specs.Cost.{written_sum, pages_to_write}
 use Rattle.flt_store.specs.Keeping.{HasCommit, KeepsFrom, StandAtZero}
 use Rattle.flt_store.specs.Known.{Knows, KnowsNamed}
 use Rattle.flt_store.specs.Started.{IsStarted, NamesOf}
-use Rattle.flt_store.proofs.Costs.{sum_below}
+use Rattle.flt_store.proofs.Started.{bytes_same}
 use Rattle.flt_store.proofs.Successors.{used_of, moved_of, some_length}
 
 -- the commit that a started image has is the one by which it was started
@@ -32,9 +33,6 @@ same_commit c value (Some by) g started commit has =
     let raw : started.first.0 ≡ has.0 = bytes_same (started.first.0) (has.0) (sym started.first.1 ∙ has.1) in
     let read : commit_in c started.first.0 ≡ Some by = commit_read c started.first.0 by started.names.form started.first.2 in
     sym read ∙ ap (commit_in c) raw ∙ has.2
-  where
-    bytes_same : (one two : List ℕ) → bytes one ≡ bytes two → one ≡ two
-    bytes_same one two same = cc same
 
 module _ (c : Config) (kept bytes_of : ℕ → List ℕ) (old new : Persist) (told : AreBlocksOf c new bytes_of) where
   indices : (commit next : Commit) → Knows c kept old → IsNext c (Some commit) kept bytes_of next → KeepsIndices c old new commit next
@@ -79,7 +77,7 @@ module _ (c : Config) (current : Option Commit) (next : Commit) (bytes_of before
 
   sum_written : written_sum c current next (λ id. record_pages (length (bytes_of id))) parts ≤ changed_pages c before (block_bytes state)
   unfolding written_sum changed_pages
-  sum_written = sum_below (λ id. if is_written c current next id then record_pages (length (bytes_of id)) else 0) (pages_changed c before (block_bytes state)) each_written (range_with_len first_part parts)
+  sum_written = sum_by-le-sum_by (λ id. if is_written c current next id then record_pages (length (bytes_of id)) else 0) (pages_changed c before (block_bytes state)) (range_with_len first_part parts) each_written
 
 pub written_pages : (c : Config) (current : Option Commit) (next : Commit) (kept bytes_of : ℕ → List ℕ) (state : Persist) → IsNext c current kept bytes_of next → AreBlocksOf c state bytes_of
     → written_sum c current next (λ id. record_pages (length (bytes_of id))) parts ≤ pages_to_write c current kept (block_bytes state)
@@ -115,7 +113,7 @@ module _ (c : Config) (one two after : ℕ → List ℕ) (same : (id : ℕ) → 
 
   same_pages : changed_pages c one after ≤ changed_pages c two after
   unfolding changed_pages
-  same_pages = sum_below (pages_changed c one after) (pages_changed c two after) each_same (range_with_len first_part parts)
+  same_pages = sum_by-le-sum_by (pages_changed c one after) (pages_changed c two after) (range_with_len first_part parts) each_same
 
   pub pages_by : (current : Option Commit) → pages_to_write c current one after ≤ pages_to_write c current two after
   pages_by None = omega arith

@@ -17,6 +17,7 @@ use Rattle.flt_store.specs.Cause.{FailsThrice, IsWithinOwn}
 use Rattle.flt_store.specs.Keeping.{IsOfFirst}
 use Rattle.flt_store.specs.Started.{IsStarted, StartsEither}
 use Rattle.flt_store.proofs.Causes.{borne_stays}
+use Rattle.flt_store.proofs.Started.{bytes_same}
 use Rattle.flt_store.proofs.Repairing.{content_read, held_of_first, spare_of_second, spare_is_held, sound_kept, second_tried, first_tried, but_for_copy}
 
 -- the first copy has these bytes; or the second, where the first has none or could not be read in three tries
@@ -113,14 +114,8 @@ invalid_read missing before after got = absurd got
 invalid_read invalid before after got = refl
 invalid_read (bytes held) before after got = absurd got
 
-pub stays_started : (c : Config) (before after : ℕ → Content) → ((number : ℕ) → after number ≡ before number) → (g : Generation) → IsStarted c before None g → IsStarted c after None g
-stays_started c before after same g started = let values : before ≡ after = λ i number. sym (same number) i in subst (λ (value : ℕ → Content). IsStarted c value None g) values started
-
 -- the commit of the bytes that were read is that of the first copy, or the flash failed three times
 module _ (c : Config) (before : BlocksState) where
-  bytes_same : (one two : List ℕ) → bytes one ≡ bytes two → one ≡ two
-  bytes_same one two same = cc same
-
   none_held : (raw : List ℕ) (content : Content) → content ≡ bytes raw → HasNoBytes content → ⊥
   none_held raw content is none = subst HasNoBytes is none
 

@@ -199,11 +199,6 @@ spends_to_the_end most before after c current next pages count below spends = sp
         let whole : written_sum c current next weight (count + (parts - count)) ≡ written_sum c current next weight parts = ap (written_sum c current next weight) (omega (arith, below)) in
         omega (arith, grows, whole)
 
--- each block that is written weighs no more than what it is given
-pub sum_below : (f g : ℕ → ℕ) → ((id : ℕ) → f id ≤ g id) → (ids : List ℕ) → sum_by f ids ≤ sum_by g ids
-sum_below f g less [] = omega arith
-sum_below f g less (id ∷ ids) = let rest = sum_below f g less ids in omega (arith, sum_more f id ids, sum_more g id ids, less id, rest)
-
 -- at most as many blocks are written as are used
 module _ (c : Config) (current : Option Commit) (next : Commit) (most : ℕ) where
   passed : (id : ℕ) (ids : List ℕ) → is_used c id ≡ true → length (filter (is_used c) (id ∷ ids)) ≡ length (filter (is_used c) ids) + 1

@@ -1,8 +1,7 @@
 -- What a store knows of the generation that both copies name.
-use Rattle.std.proofs.Common.{◌≡◌, ◌⊎◌, inl, inr, ⊎_elim, ℕ, ◌≤◌, List, [], length, Option, Some, None, sym, ◌∙◌, ap, subst, arith}
+use Rattle.std.proofs.Common.{◌≡◌, ◌⊎◌, inl, inr, ⊎_elim, ℕ, ◌≤◌, List, [], length, Option, Some, None, ◌∙◌, ap, arith}
 use Rattle.std.specs.Prelude.{IfSome, IsTrue, nat_le}
 use Rattle.std.proofs.lemmas.Bool.{le-leb}
-use Rattle.flt_flash.specs.Content.{Content}
 use Rattle.flt_flash.specs.Blocks.{BlocksState}
 use Rattle.flt_config.specs.declared.config.Config.{Config}
 use Rattle.flt_config.specs.declared.persist.Persist.{Persist}
@@ -17,7 +16,7 @@ use Rattle.flt_image.proofs.Sizing.{part_short, part_sized}
 use Rattle.flt_restore.specs.Learning.{part_in, AreLearned}
 use Rattle.flt_store.specs.Cause.{FailsThrice}
 use Rattle.flt_store.specs.Known.{Knows, KnowsNamed, MayKnow}
-use Rattle.flt_store.specs.Started.{NamesOf, IsStarted}
+use Rattle.flt_store.specs.Started.{NamesOf}
 
 pub knows_may : (c : Config) (commit : Option Commit) (kept : ℕ → List ℕ) (state : Persist) → Knows c kept state → MayKnow c commit kept state
 knows_may c None kept state knows = tt
@@ -47,7 +46,3 @@ module _ (c : Config) (given : IsGiven c) (before after : BlocksState) (g : Gene
   pub learned_all : (FailsThrice before after → ⊥) → (commit : Option Commit) → NamesOf c before.value commit g → IfSome commit (λ commit. AreLearned c before after commit found) → KnowsNamed c commit found g.state
   learned_all unfailed None names learns = tt
   learned_all unfailed (Some commit) names learns = λ id used. ⊎_elim (λ read. read) (λ failed. absurd (unfailed failed.1)) (learned commit names learns id used)
-
--- reads leave a started image as it is
-pub started_kept : (c : Config) (before after : ℕ → Content) → ((number : ℕ) → after number ≡ before number) → (commit : Option Commit) (g : Generation) → IsStarted c before commit g → IsStarted c after commit g
-started_kept c before after same commit g started = let values : before ≡ after = λ i number. sym (same number) i in subst (λ (value : ℕ → Content). IsStarted c value commit g) values started

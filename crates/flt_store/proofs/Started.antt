@@ -1,5 +1,5 @@
 -- What a started image holds, and what leaves it so.
-use Rattle.std.proofs.Common.{◌≡◌, ℕ, ◌<◌, ◌≤◌, Option, Some, None, refl, sym, ◌∙◌, ap, subst, arith}
+use Rattle.std.proofs.Common.{◌≡◌, ℕ, ◌<◌, ◌≤◌, List, Option, Some, None, refl, sym, ◌∙◌, ap, subst, arith}
 use Rattle.std.specs.Prelude.{IsTrue}
 use Rattle.flt_flash.specs.Content.{Content, missing, invalid, bytes}
 use Rattle.flt_config.specs.declared.config.Config.{Config}
@@ -10,6 +10,9 @@ use Rattle.flt_generation.specs.Holding.{Generation, CommitNames, Names, MarkAll
 use Rattle.flt_generation.specs.Successor.{IsContentOf, number_in}
 use Rattle.flt_store.specs.Started.{HasMark, NamesOf, IsStarted, AgreeButForCommit}
 use Rattle.flt_generation.proofs.Pages.{used_range}
+
+pub bytes_same : (one two : List ℕ) → bytes one ≡ bytes two → one ≡ two
+bytes_same one two same = cc same
 
 -- the application blocks are good
 abbrev pub AreApplications : (ℕ → Content) → Type 0
@@ -106,3 +109,7 @@ module _ (c : Config) (before after : ℕ → Content) (agree : AgreeButForCommi
 
   pub holds_kept : (content : Content) (g : Generation) → IsBorne c after → Holds c before content g → Holds c after content g
   holds_kept content g excess is = holds_on c before after below_commit above_commit content g (applications_kept is.applications) excess is
+
+-- reads leave a started image as it is
+pub started_kept : (c : Config) (before after : ℕ → Content) → ((number : ℕ) → after number ≡ before number) → (commit : Option Commit) (g : Generation) → IsStarted c before commit g → IsStarted c after commit g
+started_kept c before after same commit g started = let values : before ≡ after = λ i number. sym (same number) i in subst (λ (value : ℕ → Content). IsStarted c value commit g) values started

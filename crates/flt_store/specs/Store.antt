@@ -69,11 +69,11 @@ module _ {B : Type 0} {b : Ghosts B} where
   IsChosen held spare chosen before after =
       (chosen ≡ held) ⊎ ((chosen ≡ spare) × IsFalse (is_settled before) × FailsThrice (driver_of before) (driver_of after))
 
-  -- no save failed before, or the flash did not fail three times since then
+  -- a call before which no save failed, or in which the flash did not fail three times
   abbrev pub IsUndisturbed : Store B b → Store B b → Type 0
   IsUndisturbed before after = IsTrue (is_settled before) ⊎ (FailsThrice (driver_of before) (driver_of after) → ⊥)
 
-  -- the store keeps the commit that the first copy had, and the bytes of the generation that it names
+  -- the store keeps the commit that the first copy had, and the bytes of the held generation, which it names
   pub record Learns (c : Config) (held : Generation) (before after : Store B b) : Type 0 where
     pub commit : (commit : Commit) → HasCommit c (driver_of before).value commit → commit_of after ≡ Some commit
     pub known : KnowsNamed c (commit_of after) (kept_of after) held.state

@@ -5,7 +5,8 @@ use Rattle.flt_nvm.specs.Driver.{driver_of}
 use Rattle.flt_store.proofs.TableUse.{commit_index, commit_both}
 use Rattle.flt_store.proofs.Causes.{writes_on, writes_as}
 use Rattle.flt_store.proofs.Repairing.{sound_kept, both_old, no_commit, not_invalid, but_for_copy}
-use Rattle.flt_store.proofs.Copies.{copy_read, at_of, bytes_short, copy_range, held_at, some_holds, started_by, tried_by, missing_read, invalid_read, stays_started, of_first, none_of_first}
+use Rattle.flt_store.proofs.Copies.{copy_read, at_of, bytes_short, copy_range, held_at, some_holds, started_by, tried_by, missing_read, invalid_read, of_first, none_of_first}
+use Rattle.flt_store.proofs.Started.{started_kept}
 use Rattle.flt_store.proofs.Dark.{err_as, unrestarted_from, unmended_at}
 use Rattle.flt_store.proofs.restarting.restart.Goals as goal
 
@@ -90,7 +91,7 @@ pub returns-in-Ok-Missing-clause-started : goal.returns-in-Ok-Missing-clause-sta
 returns-in-Ok-Missing-clause-started g c = λ h s sound mark.
     let got = commit_both _ c.requires _ _ (rw c.in-Ok-Missing.field-0-is at c.in-Ok-Missing.ensures.got) in
     let first = missing_read ((driver_of c.args.nvm.now).value 16) _ _ got.0 in
-    inl (stays_started c.args.config.now (driver_of c.args.nvm.now).value (driver_of c.read.new.self).value c.read.ensures.values h (no_commit c.args.config.now (driver_of c.args.nvm.now).value h s sound mark first got.1))
+    inl (started_kept c.args.config.now (driver_of c.args.nvm.now).value (driver_of c.read.new.self).value c.read.ensures.values _ h (no_commit c.args.config.now (driver_of c.args.nvm.now).value h s sound mark first got.1))
 
 pub returns-in-Ok-Invalid-clause-started : goal.returns-in-Ok-Invalid-clause-started
 returns-in-Ok-Invalid-clause-started g c = λ h s sound mark.
