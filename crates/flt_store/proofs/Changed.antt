@@ -34,6 +34,9 @@ same_commit c value (Some by) g started commit has =
     let read : commit_in c started.first.0 ≡ Some by = commit_read c started.first.0 by started.names.form started.first.2 in
     sym read ∙ ap (commit_in c) raw ∙ has.2
 
+some_same : (x y : Commit) → Some x ≡ Some y → x ≡ y
+some_same x y same = cc same
+
 module _ (c : Config) (kept bytes_of : ℕ → List ℕ) (old new : Persist) (told : AreBlocksOf c new bytes_of) where
   indices : (commit next : Commit) → Knows c kept old → IsNext c (Some commit) kept bytes_of next → KeepsIndices c old new commit next
   indices commit next knows follows id used same =
@@ -49,9 +52,6 @@ module _ (c : Config) (kept bytes_of : ℕ → List ℕ) (old new : Persist) (to
       let by_two : next ≡ two = some_same next two (same_commit c after (Some next) g ended two has_two) in
       subst (λ (commit : Commit). KeepsIndices c old new one commit) by_two
       (indices one next (subst (λ (commit : Option Commit). KnowsNamed c commit kept old) is knows) (subst (λ (commit : Option Commit). IsNext c commit kept bytes_of next) is follows))
-    where
-      some_same : (x y : Commit) → Some x ≡ Some y → x ≡ y
-      some_same x y same = cc same
 
 -- what was told apart differs
 differs : (one two : List ℕ) → one ≢ two → bytes_eq one two ≡ false
@@ -138,6 +138,3 @@ stand_at_zero c before after from kept bytes_of next g now started zero ended fo
     let first : IsNext c None kept bytes_of next = subst (λ (commit : Option Commit). IsNext c commit kept bytes_of next) none follows in
     let range = used_range c id used in
     subst (λ (commit : Commit). index_in commit id ≡ 0) by_two ((first.blocks id range.0 range.1).used used)
-  where
-    some_same : (x y : Commit) → Some x ≡ Some y → x ≡ y
-    some_same x y same = cc same
