@@ -1,6 +1,6 @@
 -- One application block more that is judged, and the pages of one record more.
 use Rattle.std.proofs.Common.{◌≡◌, ℕ, zero, suc, ◌+◌, ◌-◌, ◌<◌, ◌≤◌, [], ◌∷◌, Bool, true, false, refl, sym, ◌∙◌, ap, subst, arith, inl, inr, below_more}
-use Rattle.std.specs.Prelude.{◌++◌, not, find, flat_map, map, sum_by, Some, Result, Ok, Err}
+use Rattle.std.specs.Prelude.{◌++◌, not, find, flat_map, map, sum_by, Some, Ok, Err}
 use Rattle.std.specs.List.{range_with_len}
 use Rattle.std.proofs.lemmas.Bool.{cases_Bool}
 use Rattle.std.proofs.lemmas.List.Sums.{sum_by-append}
@@ -10,7 +10,7 @@ use Rattle.flt_flash.specs.declared.blocks.Found.{Found}
 use Rattle.flt_config.specs.declared.config.Config.{Config}
 use Rattle.flt_generation.specs.Layout.{numbers, both_indices, first_part, parts, first_application, applications, application_number}
 use Rattle.flt_generation.specs.Excess.{excess}
-use Rattle.flt_generation.specs.Holding.{Fault, damaged_at, is_application, application_fault, applications_judged}
+use Rattle.flt_generation.specs.Holding.{damaged_at, is_application, application_fault, applications_judged}
 use Rattle.flt_generation.proofs.Choices.{chosen, not_chosen, range_more}
 use Rattle.flt_generation.proofs.Bridge.{fine_applications}
 use Rattle.flt_generation.proofs.Pages.{both_sum, mapped_sum}

@@ -2,7 +2,6 @@
 use Rattle.std.proofs.Common.{◌≡◌, ℕ, Result, Ok, Err, inl, inr, subst}
 use Rattle.std.specs.Prelude.{IsErrOf, OnErr}
 use Rattle.std.specs.Result.{IsErrAnd}
-use Rattle.flt_flash.specs.Content.{Content}
 use Rattle.flt_flash.specs.Blocks.{BlocksState}
 use Rattle.flt_flash.specs.Calls.{Follows, SameValues}
 use Rattle.flt_flash.proofs.CallsInARow.{more_calls}

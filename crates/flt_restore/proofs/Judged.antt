@@ -1,21 +1,14 @@
 -- What is answered of an image that was judged by one copy of its commit or the other.
-use Rattle.std.proofs.Common.{◌≡◌, ◌⊎◌, ℕ, ◌+◌, ◌-◌, ◌<◌, ◌≤◌, ◌++◌, [], ◌∷◌, List, refl, sym, ◌∙◌, ap, subst, arith, inl, inr}
-use Rattle.std.specs.Prelude.{nat_le, map, flat_map, Option, Some, None, Result, Ok, Err, IfOk, IfErr, IsTrue}
-use Rattle.std.specs.List.{range_with_len}
-use Rattle.std.proofs.lemmas.Bool.{le-leb, lt-leb}
-use Rattle.std.proofs.lemmas.List.Sums.{sum_by-append}
-use Rattle.flt_flash.specs.Content.{Content, missing, invalid, bytes, IsShort}
+use Rattle.std.proofs.Common.{◌≡◌, ◌⊎◌, ℕ, ◌-◌, List, refl, sym, ◌∙◌, ap, subst, arith, inl, inr}
+use Rattle.std.specs.Prelude.{Option, Some, None, Result, Ok, IsTrue}
+use Rattle.flt_flash.specs.Content.{Content, missing, invalid, bytes}
 use Rattle.flt_flash.specs.State.{HasRisenBy}
-use Rattle.flt_flash.specs.Blocks.{BlocksState, pages_of}
+use Rattle.flt_flash.specs.Blocks.{BlocksState}
 use Rattle.flt_config.specs.declared.config.Config.{Config}
 use Rattle.flt_config.specs.declared.persist.Persist.{Persist}
-use Rattle.flt_config.specs.Validity.{needed_pages}
-use Rattle.flt_generation.specs.Layout.{numbers, number_of, both_indices, application_number, commit_id, first_commit, second_commit}
+use Rattle.flt_generation.specs.Layout.{number_of, commit_id, first_commit, second_commit}
 use Rattle.flt_generation.specs.Form.{IsBytesOfCommit}
-use Rattle.flt_generation.specs.Excess.{own_pages, excess}
-use Rattle.flt_generation.specs.Holding.{Generation, Fault, damaged_at, held, spare, held_by, either_copy, only_bytes, excess_judged}
-use Rattle.flt_generation.proofs.Choices.{chosen, not_chosen}
-use Rattle.flt_generation.proofs.Pages.{both_sum, mapped_sum}
+use Rattle.flt_generation.specs.Holding.{Generation, Fault, held_by, either_copy, only_bytes}
 use Rattle.flt_restore.specs.declared.commit.CommitCopy.{CommitCopy}
 use Rattle.flt_restore.specs.declared.fault.StartFault.{StartFault}
 use Rattle.flt_restore.specs.declared.fault.StartFault.TheVariants.{Flash, Damaged, OtherConfig, SequenceSpent}

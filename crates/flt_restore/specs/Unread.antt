@@ -1,5 +1,5 @@
 -- What could not be read where a start-up answers that the flash failed it.
-use Rattle.std.specs.Prelude.{◌⊎◌, ℕ, ◌≤◌, Result, Err, IsTrue}
+use Rattle.std.specs.Prelude.{◌⊎◌, ℕ, ◌≤◌, Err, IsTrue}
 use Rattle.flt_flash.specs.Blocks.{BlocksState}
 use Rattle.flt_flash.specs.Calls.{Follows}
 use Rattle.flt_flash.specs.declared.blocks.BlockFault.TheVariants.{Flash}

@@ -1,5 +1,5 @@
 -- What failed behind a mount, told of the whole start-up.
-use Rattle.std.proofs.Common.{◌≡◌, ◌⊎◌, inl, inr, ℕ, ◌-◌, ◌≤◌, Bool, true, false, List, length, Result, Err, ◌∙◌, refl, sym, subst}
+use Rattle.std.proofs.Common.{◌≡◌, ◌⊎◌, inl, inr, ℕ, ◌-◌, ◌≤◌, Bool, true, false, List, length, Err, ◌∙◌, refl, sym, subst}
 use Rattle.std.specs.Prelude.{IsTrue, IsFalse, IsErrOf}
 use Rattle.flt_flash.specs.Content.{bytes}
 use Rattle.flt_flash.specs.Blocks.{BlocksState}
@@ -14,12 +14,11 @@ use Rattle.flt_config.specs.declared.config.Config.{Config}
 use Rattle.flt_generation.specs.Laws.{IsGiven}
 use Rattle.flt_generation.specs.Layout.{commit_id, mark_number, number_of, numbers}
 use Rattle.flt_generation.specs.Excess.{IsBorne}
-use Rattle.flt_restore.specs.declared.fault.StartFault.{StartFault}
 use Rattle.flt_restore.specs.declared.fault.StartFault.TheVariants.{Flash}
 use Rattle.flt_restore.specs.Unread.{FailsToRead, IsImageUnread}
 use Rattle.flt_restore.proofs.Failing.{fails_from, image_unread_from}
 use Rattle.flt_store.specs.Cause.{HasRoom, Writes}
-use Rattle.flt_store.specs.Start.{told_of_mount, told_of_write}
+use Rattle.flt_store.specs.Start.{told_of_write}
 use Rattle.flt_store.specs.Dark.{FailsToWrite, IsMarkUnwritten, IsCommitUnmended, IsUnbegun, IsUnrestarted}
 use Rattle.flt_store.proofs.Causes.{never_full}
 

@@ -1,4 +1,4 @@
-use Rattle.std.proofs.Common.{◌≡◌, ℕ, Ok, sym, ◌∙◌, ap, subst}
+use Rattle.std.proofs.Common.{ℕ, sym, ◌∙◌, ap}
 use Rattle.flt_flash.specs.Content.{Content}
 use Rattle.flt_nvm.specs.Driver.{driver_of}
 use Rattle.flt_generation.specs.Holding.{marked, applications_judged, excess_judged, held_by}

@@ -1,4 +1,4 @@
-use Rattle.std.proofs.Common.{ℕ, ◌+◌, List, sym, subst}
+use Rattle.std.proofs.Common.{◌+◌, List, sym, subst}
 use Rattle.flt_nvm.specs.declared.table.BlockCfg.{BlockCfg}
 use Rattle.flt_nvm.specs.Table.{HasPlace}
 use Rattle.flt_restore.proofs.Rows.{application_is_single, single_has_place}

@@ -1,4 +1,4 @@
-use Rattle.std.proofs.Common.{sym, subst, arith, inl, inr}
+use Rattle.std.proofs.Common.{sym, subst, inl, inr}
 use Rattle.flt_nvm.specs.Driver.{driver_of}
 use Rattle.flt_restore.specs.Found.{content_of}
 use Rattle.flt_restore.specs.Restored.{Refuses}
