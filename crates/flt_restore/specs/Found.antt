@@ -2,7 +2,7 @@
 use Rattle.std.specs.Prelude.{ℕ, ◌≤◌, ◌<◌, IsFalse, IsSomeAnd}
 use Rattle.flt_flash.specs.Content.{Content, missing, invalid, bytes}
 use Rattle.flt_flash.specs.Blocks.{BlocksState}
-use Rattle.flt_flash.specs.Calls.{Follows, SameValues}
+use Rattle.flt_flash.specs.Calls.{Follows, SameImage, SameValues}
 use Rattle.flt_flash.specs.declared.blocks.Found.{Found}
 use Rattle.flt_flash.specs.declared.blocks.Found.TheVariants.{Bytes as FoundBytes, Missing as FoundMissing, Invalid as FoundInvalid}
 use Rattle.flt_nvm.specs.declared.got.Got.{Got}
@@ -41,8 +41,9 @@ IsIndexOf (Dataset indices) index = index < indices
 abbrev pub IsSingle : ℕ → ℕ → Type 0
 IsSingle id index = IsSomeAnd (block_in block_table id) (λ block. IsIndexOf block.kind index)
 
--- any number of reads, which change no block
+-- any number of reads, which change no block; they leave the image of a driver that is not stale
 pub record Reads (before after : BlocksState) : Type 0 where
   pub values : SameValues before after
   pub follows : Follows before after
   pub stays : IsFalse before.is_stale → IsFalse after.is_stale
+  pub image : IsFalse before.is_stale → SameImage before after

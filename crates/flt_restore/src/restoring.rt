@@ -1,6 +1,6 @@
 // Start-up's reading: the image is judged block by block, in the order of its definition.
 ghost use Rattle.std.specs.Prelude.{◌≡◌, IfOk, IfErr, OnOk, Err, IsErrOf, IsTrue, IsFalse};
-ghost use Rattle.flt_flash.specs.Calls.{Follows, SameValues};
+ghost use Rattle.flt_flash.specs.Calls.{Follows, SameImage, SameValues};
 ghost use Rattle.flt_nvm.specs.Driver.{driver_of, table_of};
 ghost use Rattle.flt_image.specs.Table.{block_table};
 ghost use Rattle.flt_restore.specs.declared.fault.StartFault.TheVariants.{Flash, SequenceSpent};
@@ -32,8 +32,8 @@ fn check_sequence<B: Blocks + Drop>(nvm: &Nvm<B>) -> Result<(), StartFault>
 /// Finds out what the image of a driver that is not stale holds: the commit by which it was judged, with its state in `out`, or none
 /// in the first generation. It judges by copy 1 of the commit, or by copy 2 where copy 1 can't be read in three tries.
 ///
-/// It reads the mark, one copy of the commit and the blocks that it names, and goes by the lengths of all other records. No block
-/// changes. After an error `out` holds anything that fits its type.
+/// It reads the mark, one copy of the commit and the blocks that it names, and goes by the lengths of all other records. Nothing is
+/// written. After an error `out` holds anything that fits its type.
 pub fn restore<B: Blocks + Drop>(
     nvm: &mut Nvm<B>,
     config: &ValidConfig,
@@ -46,6 +46,7 @@ pub fn restore<B: Blocks + Drop>(
     ensures refused { (fault : StartFault) → result ≡ Err fault → Refuses config.now (driver_of nvm.old) (driver_of nvm.new) fault }
     ensures unread { IsErrOf result Flash → IsImageUnread config.now (driver_of nvm.old) (driver_of nvm.new) }
     ensures values { SameValues (driver_of nvm.old) (driver_of nvm.new) }
+    ensures image { SameImage (driver_of nvm.old) (driver_of nvm.new) }
     ensures follows { Follows (driver_of nvm.old) (driver_of nvm.new) }
     ensures table { table_of nvm.new ≡ table_of nvm.old }
 {

@@ -18,8 +18,8 @@ use Rattle.flt_restore.specs.declared.fault.StartFault.TheVariants.{Flash}
 use Rattle.flt_restore.specs.Unread.{FailsToRead, IsImageUnread}
 use Rattle.flt_restore.proofs.Failing.{fails_from, image_unread_from}
 use Rattle.flt_store.specs.Cause.{HasRoom, Writes}
-use Rattle.flt_store.specs.Start.{told_of_write}
-use Rattle.flt_store.specs.Dark.{FailsToWrite, IsMarkUnwritten, IsCommitUnmended, IsUnbegun, IsUnrestarted}
+use Rattle.flt_store.specs.Start.{told_of_mount, told_of_write}
+use Rattle.flt_store.specs.Dark.{IsOfBlocks, FailsToWrite, IsMarkUnwritten, IsCommitUnmended, IsUnbegun, IsUnrestarted}
 use Rattle.flt_store.proofs.Causes.{never_full}
 
 pub read_at_once : (number : ℕ) (before after : BlocksState) → LooksInAJob {T = Got} number before after (Err FlashFault) → FailsToRead number before after
@@ -107,3 +107,16 @@ unmended_at before after raw copy least most holds unmended = record {
 pub is_unsettled : (was_settled : Bool) → (IsTrue was_settled → ⊥) → IsFalse was_settled
 is_unsettled true never = absurd (never refl)
 is_unsettled false never = refl
+
+-- no fault of a mount, nor of a write, is told as one of the blocks
+pub not_by_mount : (fault : BlockFault) → IsOfBlocks (told_of_mount fault) → ⊥
+not_by_mount FlashFault is = is
+not_by_mount (Full live needed) is = is
+not_by_mount Stuck is = is
+not_by_mount (DamagedPage sector page) is = is
+
+pub not_by_write : (fault : BlockFault) → IsOfBlocks (told_of_write fault) → ⊥
+not_by_write FlashFault is = is
+not_by_write (Full live needed) is = is
+not_by_write Stuck is = is
+not_by_write (DamagedPage sector page) is = is

@@ -1,8 +1,8 @@
--- What failed where a start-up, or a save, answers that the flash failed it.
-use Rattle.std.specs.Prelude.{◌≡◌, ◌⊎◌, ℕ, ◌-◌, ◌≤◌, Bool, List, length, Err, IsFalse}
+-- What failed where a start-up, or a save, answers that the flash failed it, and what a start-up writes of an image that it refuses.
+use Rattle.std.specs.Prelude.{◌≡◌, ◌⊎◌, ℕ, ◌-◌, ◌≤◌, Bool, List, length, Ok, Err, IsFalse}
 use Rattle.flt_flash.specs.Content.{missing, bytes}
 use Rattle.flt_flash.specs.Blocks.{BlocksState}
-use Rattle.flt_flash.specs.Calls.{Follows, SameValues}
+use Rattle.flt_flash.specs.Calls.{Follows, SameImage, SameValues}
 use Rattle.flt_flash.specs.declared.blocks.BlockFault.TheVariants.{Flash}
 use Rattle.flt_nvm.specs.Tries.{Tries, Mounts}
 use Rattle.flt_nvm.specs.Leaves.{GivesInAJob}
@@ -10,6 +10,9 @@ use Rattle.flt_nvm.specs.Reads.{IsUnmended, IsUnread}
 use Rattle.flt_config.specs.declared.config.Config.{Config}
 use Rattle.flt_generation.specs.Layout.{commit_id, mark_number, number_of}
 use Rattle.flt_generation.specs.Holding.{Generation, IsSound}
+use Rattle.flt_generation.specs.declared.place.Place.TheVariants.{Page, Block}
+use Rattle.flt_restore.specs.declared.fault.StartFault.{StartFault}
+use Rattle.flt_restore.specs.declared.fault.StartFault.TheVariants.{Flash as StartFlash, Damaged, OtherConfig, SequenceSpent}
 use Rattle.flt_restore.specs.Unread.{FailsToRead, IsImageUnread}
 use Rattle.flt_store.specs.Cause.{FailsThrice}
 
@@ -56,3 +59,15 @@ abbrev pub IsUnsaved : Config → Bool → BlocksState → BlocksState → Type 
 IsUnsaved c was_settled before after =
     (IsFalse was_settled × IsUnrestarted before after)
     ⊎ ((middle : BlocksState) × Follows before middle × (g : Generation) × IsSound c middle.value g g × FailsThrice middle after)
+
+-- a fault of the blocks, which is judged behind a mount
+abbrev pub IsOfBlocks : StartFault → Type 0
+IsOfBlocks StartFlash = ⊥
+IsOfBlocks (Damaged (Page sector page)) = ⊥
+IsOfBlocks (Damaged (Block id)) = Unit {0}
+IsOfBlocks (OtherConfig found wanted) = Unit {0}
+IsOfBlocks SequenceSpent = ⊥
+
+-- nothing was written but by a mount
+abbrev pub IsMountedAlone : BlocksState → BlocksState → Type 0
+IsMountedAlone before after = (mounted : BlocksState) × Tries 3 Mounts before mounted (Ok tt) × SameImage mounted after

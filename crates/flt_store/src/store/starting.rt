@@ -1,6 +1,6 @@
 //! Start-up: what the image holds, and both copies of the commit made equal.
 ghost use Rattle.std.specs.Prelude.{◌≡◌, ◌⊎◌, IfOk, IfErr, IsErrOf, OnOk, OnErr, IsTrue, IsFalse};
-ghost use Rattle.flt_flash.specs.Calls.{Follows};
+ghost use Rattle.flt_flash.specs.Calls.{Follows, SameImage};
 ghost use Rattle.flt_nvm.specs.Driver.{driver_of as driver_beneath, table_of};
 ghost use Rattle.flt_config.specs.Durable.{Fits};
 ghost use Rattle.flt_generation.specs.Holding.{Generation, IsSound, OldOrNew, SameApplications};
@@ -10,7 +10,7 @@ ghost use Rattle.flt_image.specs.Table.{block_table};
 ghost use Rattle.flt_store.specs.Cause.{HasRoom, Writes};
 ghost use Rattle.flt_store.specs.Started.{IsStarted};
 ghost use Rattle.flt_store.specs.Start.{Begins, IsFoundIn, told_of_mount, told_of_write};
-ghost use Rattle.flt_store.specs.Dark.{IsUnbegun, IsDark};
+ghost use Rattle.flt_store.specs.Dark.{IsUnbegun, IsDark, IsOfBlocks, IsMountedAlone};
 ghost use Rattle.flt_restore.specs.Unread.{IsImageUnread};
 
 use super::{Store, number_in};
@@ -88,6 +88,7 @@ impl<B: Blocks + Drop> Store<B> {
         ensures started { IfOk result (λ number. Starts config.now number out.new self.old self.new) }
         ensures refused { IfErr result (RefusedFor config.now self.old self.new) }
         ensures unready { IsErrOf result StartFault.Flash → IsImageUnread config.now (driver_of self.old) (driver_of self.new) ⊎ IsUnbegun (driver_of self.old) (driver_of self.new) }
+        ensures unwritten { IfErr result (λ fault. IsOfBlocks fault → SameImage (driver_of self.old) (driver_of self.new)) }
         ensures left { (held spare : Generation) → IsSound config.now (driver_of self.old).value held spare → OnErr result (OldOrNew config.now (driver_of self.new).value held spare held) }
         ensures fits { OnOk result (Fits config.now out.new) }
         ensures fresh { OnOk result (IsFalse (driver_of self.new).is_stale) }
@@ -115,13 +116,14 @@ impl<B: Blocks + Drop> Store<B> {
     /// the configuration's pages less two.
     ///
     /// What is answered is what copy 1 of the commit names, or, where that can't be read in three tries, what copy 2 names. Of an
-    /// image that is damaged, or another configuration's, no block is changed. After an error `out` holds anything that fits its
+    /// image that is damaged, or another configuration's, no block is changed, and nothing is written but by the mount. After an error `out` holds anything that fits its
     /// type, and of a sound image each of the two generations is one of those before.
     pub fn start_up(&mut self, config: &ValidConfig, out: &mut Persist) -> Result<u32, StartFault>
         requires { HasRoom config.now (driver_of self.old).room }
         ensures started { IfOk result (λ number. Starts config.now number out.new self.old self.new) }
         ensures refused { IfErr result (RefusedFor config.now self.old self.new) }
         ensures dark { IsErrOf result StartFault.Flash → IsDark config.now (driver_of self.old) (driver_of self.new) }
+        ensures unwritten { IfErr result (λ fault. IsOfBlocks fault → IsMountedAlone (driver_of self.old) (driver_of self.new)) }
         ensures left { (held spare : Generation) → IsSound config.now (driver_of self.old).value held spare → OnErr result (OldOrNew config.now (driver_of self.new).value held spare held) }
         ensures fits { OnOk result (Fits config.now out.new) }
         ensures fresh { OnOk result (IsFalse (driver_of self.new).is_stale) }

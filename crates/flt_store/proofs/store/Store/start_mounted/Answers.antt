@@ -3,6 +3,7 @@ use Rattle.flt_flash.proofs.CallsInARow.{more_calls}
 use Rattle.flt_nvm.specs.Driver.{driver_of as driver_beneath}
 use Rattle.flt_generation.specs.Holding.{Generation}
 use Rattle.flt_restore.specs.Restored.{generation, IsJudged}
+use Rattle.flt_store.specs.Dark.{IsOfBlocks}
 use Rattle.flt_store.specs.Start.{RefusedFor}
 use Rattle.flt_store.specs.Started.{IsStarted}
 use Rattle.flt_store.specs.Store.{driver_of, numbered}
@@ -15,7 +16,7 @@ use Rattle.flt_store.proofs.Beginning.{begins_of, restored_fits, judged_of, judg
 use Rattle.flt_store.proofs.Faults.{refused_by_reading, refused_by_writing}
 use Rattle.flt_restore.specs.declared.fault.StartFault.TheVariants.{Flash}
 use Rattle.flt_store.specs.Start.{told_of_write}
-use Rattle.flt_store.proofs.Dark.{err_as, unbegun_from, was_flash_of_write}
+use Rattle.flt_store.proofs.Dark.{err_as, not_by_write, unbegun_from, was_flash_of_write}
 use Rattle.flt_store.proofs.store.Store.start_mounted.Goals as goal
 
 pub returns-in-Ok-begin_by-clause-started : goal.returns-in-Ok-begin_by-clause-started
@@ -101,3 +102,6 @@ returns-in-Err-begin_by-clause-unready g c = λ flash.
 
 pub returns-in-Err-clause-unready : goal.returns-in-Err-clause-unready
 returns-in-Err-clause-unready g c = λ flash. inl (c.in-Err.ensures.unread (err_as c.in-Err.fault _ flash))
+
+pub returns-in-Err-begin_by-clause-unwritten : goal.returns-in-Err-begin_by-clause-unwritten
+returns-in-Err-begin_by-clause-unwritten g c = λ judged. absurd (not_by_write c.in-Err-begin_by.fault (subst IsOfBlocks c.write_fault.ensures judged))

@@ -1,10 +1,11 @@
-use Rattle.std.proofs.Common.{inr}
+use Rattle.std.proofs.Common.{subst, inr}
 use Rattle.flt_nvm.specs.Driver.{driver_of as driver_beneath}
+use Rattle.flt_store.specs.Dark.{IsOfBlocks}
 use Rattle.flt_store.specs.Store.{driver_of}
 use Rattle.flt_store.proofs.Repairing.{sound_kept, both_old}
 use Rattle.flt_store.proofs.Running.{ok_map}
 use Rattle.flt_store.proofs.Faults.{refused_through, starts_through, err_told}
-use Rattle.flt_store.proofs.Dark.{unready_from}
+use Rattle.flt_store.proofs.Dark.{not_by_mount, unready_from}
 use Rattle.flt_store.proofs.store.Store.start_up.Goals as goal
 
 pub returns-in-Ok-clause-started : goal.returns-in-Ok-clause-started
@@ -31,3 +32,10 @@ returns-in-Err-clause-left g c = λ h s sound.
 pub returns-in-Ok-clause-dark : goal.returns-in-Ok-clause-dark
 returns-in-Ok-clause-dark g c = λ flash.
     inr (unready_from (driver_of c.args.self.now) (driver_beneath c.start.new.self) (driver_of c.start_mounted.new.self) c.start.ensures.calls.follows c.start.ensures.values c.args.config.now (c.start_mounted.ensures.unready flash))
+
+pub returns-in-Ok-clause-unwritten : goal.returns-in-Ok-clause-unwritten
+returns-in-Ok-clause-unwritten g c =
+    err_told c.start_mounted.result (λ fault same. λ judged. (driver_beneath c.start.new.self, c.in-Ok.ensures.tries, same judged)) c.start_mounted.ensures.unwritten
+
+pub returns-in-Err-clause-unwritten : goal.returns-in-Err-clause-unwritten
+returns-in-Err-clause-unwritten g c = λ judged. absurd (not_by_mount c.in-Err.fault (subst IsOfBlocks c.mount_fault.ensures judged))
