@@ -105,6 +105,7 @@ pub(crate) fn replay(
     ensures answered { IfOk result IsAnswered }
 {
     let Script { config, lives, .. } = script;
+    // What a snapshot would write, which no step of a script asks for.
     let mut saved = initial(&config);
     let mut response = ArrayVec::new();
     let mut unit = Unit::make(Dem::make(config, dids));
