@@ -6,8 +6,8 @@ use Rattle.flt_generation.specs.Layout.{numbers}
 use Rattle.flt_fee.specs.Fee.{state_by, is_last}
 use Rattle.flt_flash.specs.Blocks.{BlocksState, DeviceState}
 use Rattle.flt_config.specs.declared.config.Config.{Config}
-use Rattle.flt_lives.specs.Moment.{Moment, Medium, IsOn, IsSoundAt, moment_at, moment_of, boot_in}
-use Rattle.flt_lives.specs.Living.{StaysSound}
+use Rattle.flt_life.specs.Moment.{Moment, Medium, IsOn, IsSoundAt, moment_at, moment_of, boot_in}
+use Rattle.flt_life.specs.Lives.{StaysSound}
 use Rattle.flt_lives.specs.Sectors.{sectors}
 use Rattle.flt_lives.proofs.Linking.{at_moment}
 

@@ -10,6 +10,7 @@ use Rattle.flt_flash.specs.declared.blocks.Blocks.{Ghosts}
 use Rattle.flt_config.specs.declared.config.Config.{Config}
 use Rattle.flt_config.specs.declared.persist.Persist.{Persist}
 use Rattle.flt_model.specs.declared.call.Reply.{Reply}
+use Rattle.flt_turn.specs.declared.answer.Answer.{Answer}
 use Rattle.flt_generation.specs.Holding.{Generation, Names}
 use Rattle.flt_generation.proofs.ImageLaws.{held_stands}
 use Rattle.flt_store.specs.declared.fault.SaveFault.{SaveFault}
@@ -17,17 +18,18 @@ use Rattle.flt_store.specs.declared.fault.SaveFault.TheVariants.{Flash, Spent, S
 use Rattle.flt_store.specs.declared.store.Store.{Store}
 use Rattle.flt_store.specs.Cause.{FailsThrice}
 use Rattle.flt_store.specs.Store.{driver_of, numbered, IsRunning, Saves, Leaves, IsLast}
-use Rattle.flt_lives.specs.declared.life.StepAnswer.{StepAnswer}
-use Rattle.flt_lives.specs.declared.life.StepAnswer.TheVariants as answers
-use Rattle.flt_lives.specs.Moment.{Moment, moment_of}
-use Rattle.flt_lives.specs.Causes.{IsCaused, AreCaused}
+use Rattle.flt_life.specs.Answers.{Told}
+use Rattle.flt_life.specs.declared.answer.StepAnswer.TheVariants as answers
+use Rattle.flt_life.specs.Moment.{Moment, moment_of}
+use Rattle.flt_life.specs.Causes.{AreCaused}
+use Rattle.flt_lives.specs.Living.{IsCaused}
 
 number_small : (c : Config) (value : ℕ → Content) (commit : Content) (g : Generation) → Names c value commit g → g.number ≤ 4294967295
 number_small c value missing g names = let is = ap (λ (d : Generation). d.number) names in omega (arith, is)
 number_small c value invalid g names = absurd names
 number_small c value (bytes held) g names = let is = names.2.number in let most = names.2.form.most in omega (arith, is, most)
 
-module _ {B : Type 0} {b : Ghosts B} (c : Config) (begun : ℕ) (told : List StepAnswer) (before after : Store B b) (caused : IsCaused c begun told before) where
+module _ {B : Type 0} {b : Ghosts B} (c : Config) (begun : ℕ) (told : List Told) (before after : Store B b) (caused : IsCaused c begun told before) where
   pub caused_saved : (state : Persist) (number : ℕ) → Follows (driver_of before) (driver_of after) → Saves c caused.held_now caused.spare_now state number before after
       → IsCaused c begun (answers.Saved number ∷ told) after
   caused_saved state number follows saves =
@@ -94,7 +96,7 @@ module _ {B : Type 0} {b : Ghosts B} (c : Config) (begun : ℕ) (told : List Ste
         sequence = λ was. subst IsTrue (sym spent) (caused.sequence was);
       }
 
-pub caused_call : {B : Type 0} {b : Ghosts B} (c : Config) (begun : ℕ) (told : List StepAnswer) (store : Store B b) (reply : Reply) → IsCaused c begun told store → IsCaused c begun (answers.Dem reply ∷ told) store
+pub caused_call : {B : Type 0} {b : Ghosts B} (c : Config) (begun : ℕ) (told : List Told) (store : Store B b) (reply : Answer Reply) → IsCaused c begun told store → IsCaused c begun (answers.Dem reply ∷ told) store
 caused_call c begun told store reply caused = record {
   held_now = caused.held_now;
   spare_now = caused.spare_now;
@@ -104,7 +106,7 @@ caused_call c begun told store reply caused = record {
   sequence = caused.sequence;
 }
 
-pub are_caused : {B : Type 0} {b : Ghosts B} (c : Config) (begun : ℕ) (told : List StepAnswer) (store : Store B b) (boot : Moment) → HasRisenBy 0 boot.faults begun
+pub are_caused : {B : Type 0} {b : Ghosts B} (c : Config) (begun : ℕ) (told : List Told) (store : Store B b) (boot : Moment) → HasRisenBy 0 boot.faults begun
     → IsCaused c begun told store → AreCaused c boot (moment_of (driver_of store)) told
 are_caused c begun told store boot rose caused =
     let flash = caused.flash in

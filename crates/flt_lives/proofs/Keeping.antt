@@ -7,15 +7,16 @@ use Rattle.flt_model.specs.Durable.{saved_after}
 use Rattle.flt_model.specs.declared.call.Op.{Op}
 use Rattle.flt_model.specs.declared.call.Op.TheVariants as ops
 use Rattle.flt_model.specs.declared.call.Reply.{Reply}
+use Rattle.flt_turn.specs.declared.answer.Answer.{Answer}
 use Rattle.flt_generation.specs.Holding.{Generation, IsOneOf}
 use Rattle.flt_store.specs.declared.fault.SaveFault.{SaveFault}
 use Rattle.flt_store.specs.Store.{numbered}
-use Rattle.flt_lives.specs.declared.life.StepAnswer.{StepAnswer}
-use Rattle.flt_lives.specs.declared.life.StepAnswer.TheVariants as answers
-use Rattle.flt_lives.specs.Journal.{Journal, entry, calls_of, AcknowledgesBy, TakesBy}
-use Rattle.flt_lives.specs.Saving.{IsLeft, IsUnacknowledged, failures}
-use Rattle.flt_lives.specs.Carried.{IsStepCall}
-use Rattle.flt_lives.specs.Chain.{start_from}
+use Rattle.flt_life.specs.Answers.{Told}
+use Rattle.flt_life.specs.declared.answer.StepAnswer.TheVariants as answers
+use Rattle.flt_life.specs.Journal.{Journal, entry, calls_of, AcknowledgesBy, TakesBy}
+use Rattle.flt_life.specs.Saving.{IsLeft, IsUnacknowledged, failures}
+use Rattle.flt_life.specs.Actions.{IsStepCall}
+use Rattle.flt_life.specs.Chain.{start_from}
 use Rattle.flt_lives.specs.Living.{IsKept}
 
 -- ---- a call of a step acknowledges nothing and takes nothing
@@ -40,8 +41,8 @@ taken_call start earlier (ops.Show event) state before is was = was
 taken_call start earlier ops.Snapshot state before is was = absurd is
 taken_call start earlier (ops.Saved number) state before is was = absurd is
 
-module _ (start : Life) (journal : Journal) (told : List StepAnswer) (last : Generation) where
-  left_call : (op : Op) (reply : Reply) (g : Generation) → IsStepCall op → IsLeft start journal told last g → IsLeft start (entry 0 op ∷ journal) (answers.Dem reply ∷ told) last g
+module _ (start : Life) (journal : Journal) (told : List Told) (last : Generation) where
+  left_call : (op : Op) (reply : Answer Reply) (g : Generation) → IsStepCall op → IsLeft start journal told last g → IsLeft start (entry 0 op ∷ journal) (answers.Dem reply ∷ told) last g
   left_call op reply g is = ⊎_elim (λ same. inl same) (λ (more : IsUnacknowledged start journal told last g). inr record { past = more.past; most = more.most; taken = taken_call start journal op g.state _ is more.taken })
 
   left_arm : (g : Generation) → IsLeft start journal told last g → IsLeft start journal (answers.Armed ∷ told) last g
@@ -73,8 +74,8 @@ pub one_of : (P : Generation → Type 0) (g h s new : Generation) → IsOneOf g 
 one_of P g h s new is by_held by_spare by_new =
     ⊎_elim (λ e. subst P (sym e) by_held) (λ more. ⊎_elim (λ e. subst P (sym e) by_spare) (λ e. subst P (sym e) by_new) more) is
 
-module _ (c : Config) (first : Generation) (journal : Journal) (told : List StepAnswer) (h s : Generation) (kept : IsKept c first journal told h s) where
-  pub kept_call : (op : Op) (reply : Reply) → IsStepCall op → IsKept c first (entry 0 op ∷ journal) (answers.Dem reply ∷ told) h s
+module _ (c : Config) (first : Generation) (journal : Journal) (told : List Told) (h s : Generation) (kept : IsKept c first journal told h s) where
+  pub kept_call : (op : Op) (reply : Answer Reply) → IsStepCall op → IsKept c first (entry 0 op ∷ journal) (answers.Dem reply ∷ told) h s
   kept_call op reply is = record {
     last = kept.last;
     acknowledged = acknowledged_call (start_from c first.state) journal op kept.last _ is kept.acknowledged;

@@ -4,5 +4,6 @@ pub mod Carrying
 pub mod Starting
 pub mod Linking
 pub mod Bridge
-pub mod Soundness
 pub mod Causing
+pub mod Giving
+pub mod Rooms

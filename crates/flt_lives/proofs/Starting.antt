@@ -15,12 +15,13 @@ use Rattle.flt_restore.specs.declared.fault.StartFault.TheVariants as faults
 use Rattle.flt_store.specs.declared.store.Store.{Store}
 use Rattle.flt_store.specs.Store.{driver_of, numbered}
 use Rattle.flt_store.specs.Start.{Starts, RefusedFor}
-use Rattle.flt_lives.specs.Moment.{Moment, moment_of, boot_of, IsSoundAt}
-use Rattle.flt_lives.specs.Chain.{IsFound, Finds, KeepsSound, Unchanged, IsRefused, Holds, HoldsBy, Leaves, LifeView}
-use Rattle.flt_lives.specs.Living.{StaysSound, IsLived}
-use Rattle.flt_lives.specs.declared.life.Boot.TheVariants.{Started, Refused}
-use Rattle.flt_lives.specs.declared.life.Boot.{Boot}
-use Rattle.flt_lives.specs.Causes.{AreCaused}
+use Rattle.flt_life.specs.Moment.{Moment, moment_of, boot_of, IsSoundAt}
+use Rattle.flt_life.specs.Chain.{IsFound, Finds, KeepsSound, Unchanged, IsRefused, Holds, HoldsBy, Leaves, LifeView}
+use Rattle.flt_life.specs.Lives.{StaysSound}
+use Rattle.flt_lives.specs.Living.{IsLived}
+use Rattle.flt_life.specs.declared.life.Boot.TheVariants.{Started, Refused}
+use Rattle.flt_life.specs.declared.life.Boot.{Boot}
+use Rattle.flt_life.specs.Causes.{AreCaused}
 use Rattle.flt_lives.specs.Going.{ArmsSince, GoesOn, AddsLife}
 use Rattle.flt_lives.proofs.Riding.{goes_nowhere}
 
@@ -118,7 +119,3 @@ module _ {B : Type 0} {b : Ghosts B} (c : Config) (first : BlocksState) (before 
     later = goes.counts;
     arms = life_arms first (driver_of before) powers (driver_of after) last follows goes;
   }
-
-pub all_ok : {T E : Type 0} {P Q R S : T → Type 0} (result : Result T E) → ((x : T) → P x → Q x → R x → S x) → IfOk result P → IfOk result Q → IfOk result R → IfOk result S
-all_ok (Ok x) to p q r = to x p q r
-all_ok (Err e) to p q r = tt

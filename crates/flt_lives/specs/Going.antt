@@ -1,11 +1,10 @@
 -- What steps leave of a driver and its bench.
-use Rattle.std.specs.Prelude.{◌≡◌, ℕ, ◌-◌, List, [], ◌∷◌, ◌++◌, length, All, Option, IfSome, IsSomeAnd}
+use Rattle.std.specs.Prelude.{◌≡◌, ℕ, ◌-◌, List, [], ◌∷◌, ◌++◌, length, map, All, Option, IfSome, IsSomeAnd}
+use Rattle.flt_flash.specs.declared.arm.Arm.{Arm}
 use Rattle.flt_flash.specs.declared.arm.ArmMade.{ArmMade}
 use Rattle.flt_flash.specs.State.{HasRisenBy}
 use Rattle.flt_flash.specs.Blocks.{BlocksState}
-use Rattle.flt_lives.specs.Moment.{boot_of}
-use Rattle.flt_lives.specs.declared.life.Action.{Action}
-use Rattle.flt_lives.specs.declared.life.Action.TheVariants.{Call, Save, Arm}
+use Rattle.flt_life.specs.Moment.{boot_of}
 
 -- an arm of a life with so many boots, made when the count of faults had come to this
 pub record IsMadeIn (boots count : ℕ) (arm : ArmMade) : Type 0 where
@@ -30,11 +29,14 @@ pub record GoesOn (before after : BlocksState) : Type 0 where
   pub boots_left : after.device.bench.boots_left ≡ before.device.bench.boots_left
   pub arms : ArmsSince (length before.device.bench.boots) before.device.faults before.device.bench.arms after.device.bench.arms
 
--- how many arms a step makes
-abbrev pub arms_of : Action → ℕ
-arms_of (Call op) = 0
-arms_of Save = 0
-arms_of (Arm arm) = 1
+-- the arms that were made between two states of a bench, where they are told, are these
+pub record AddsGiven (arms : List Arm) (earlier made : List ArmMade) : Type 0 where
+  pub more : List ArmMade
+  pub is : made ≡ earlier ++ more
+  pub given : map (λ a. a.arm) more ≡ arms
+
+abbrev pub WereGiven : List Arm → Option (List ArmMade) → Option (List ArmMade) → Type 0
+WereGiven arms before after = IfSome after (λ made. IsSomeAnd before (λ earlier. AddsGiven arms earlier made))
 
 -- what a life leaves of a driver and its bench: one boot more
 pub record AddsLife (before after : BlocksState) : Type 0 where

@@ -1,11 +1,4 @@
-pub mod Moment
-pub mod Journal
-pub mod Saving
-pub mod Carried
-pub mod Causes
-pub mod Chain
 pub mod Going
 pub mod Living
 pub mod Linked
 pub mod Sectors
-pub mod Laws

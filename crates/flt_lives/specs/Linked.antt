@@ -1,18 +1,14 @@
 -- Lives of a run so far, with the count of faults at the end of each start-up; all lists begin with the newest.
-use Rattle.std.specs.Prelude.{◌≡◌, ◌⊎◌, ℕ, ◌+◌, ◌≤◌, Bool, true, false, List, [], ◌∷◌, ◌++◌, length, reverse, map, take, All, IfSome, IsSomeAnd, IsTrue, IsFalse, Vec}
+use Rattle.std.specs.Prelude.{◌≡◌, ℕ, ◌+◌, ◌≤◌, List, [], ◌∷◌, ◌++◌, length, reverse, All, IfSome, IsSomeAnd}
 use Rattle.flt_flash.specs.declared.arm.ArmMade.{ArmMade}
 use Rattle.flt_flash.specs.declared.blocks.Blocks.{Ghosts}
 use Rattle.flt_flash.specs.State.{HasRisenBy, Boot as PowerUp}
-use Rattle.flt_flash.specs.Blocks.{BlocksState, DeviceState}
+use Rattle.flt_flash.specs.Blocks.{BlocksState}
 use Rattle.flt_config.specs.declared.config.Config.{Config}
 use Rattle.flt_generation.specs.Layout.{numbers}
 use Rattle.flt_store.specs.Cause.{HasRoom}
-use Rattle.flt_lives.specs.Moment.{Medium, IsOn, boot_in, boot_of, moment_at}
-use Rattle.flt_lives.specs.declared.life.Action.{Action}
-use Rattle.flt_lives.specs.declared.life.Boot.{Boot}
-use Rattle.flt_lives.specs.declared.life.Boot.TheVariants.{Started, Dark, Refused}
-use Rattle.flt_lives.specs.Living.{IsPlayed}
-use Rattle.flt_lives.specs.Chain.{LifeView, Holds, AreLinked, arms_between}
+use Rattle.flt_life.specs.Moment.{Medium, IsOn, boot_of, moment_at}
+use Rattle.flt_life.specs.Chain.{LifeView, Holds}
 
 -- a driver for the numbers of an image that leaves the configuration its room keeps its blocks as this medium does
 abbrev pub KeepsOn : {B : Type 0} → Ghosts B → Config → Medium → Type 0
@@ -53,30 +49,3 @@ pub record IsLinkedBy (c : Config) (medium : Medium) (before now : BlocksState) 
   pub as_many : length counts ≡ length boots
   pub linked : AreLinkedBy c medium (boot_of now) boots lives counts
   pub arms : IfSome now.device.bench.arms (λ made. IsSomeAnd before.device.bench.arms (λ earlier. MadeInRun (length before.device.bench.boots) counts earlier made))
-
--- the boots that were added between two states of a device, and the lives of a run between them
-pub record IsLinked (c : Config) (medium : Medium) (before now : DeviceState) (lives : List LifeView) : Type 0 where
-  pub boots : List PowerUp
-  pub is : now.bench.boots ≡ before.bench.boots ++ reverse boots
-  pub linked : AreLinked c medium (arms_between before.bench.arms now.bench.arms) (length before.bench.boots) (boot_in now) boots lives
-
--- the lives of these steps, all lists newest first
-abbrev pub ArePlayed : Config → List (List Action) → List LifeView → Type 0
-ArePlayed c [] [] = Unit {0}
-ArePlayed c [] (life ∷ lives) = ⊥
-ArePlayed c (steps ∷ earlier) [] = ⊥
-ArePlayed c (steps ∷ earlier) (life ∷ lives) = IsPlayed c steps life × ArePlayed c earlier lives
-
-abbrev pub is_refused : Boot → Bool
-is_refused (Started number state) = false
-is_refused Dark = false
-is_refused (Refused fault) = true
-
--- no life but the last is refused, and where that one is not, there are as many as asked
-abbrev pub AreEnded : ℕ → List LifeView → Type 0
-AreEnded many [] = many ≡ 0
-AreEnded many (life ∷ earlier) = All (λ l. IsFalse (is_refused l.boot)) earlier × (IsTrue (is_refused life.boot) ⊎ (many ≡ length earlier + 1))
-
--- so many of the first lives of a script, without where they lie in memory, the newest first
-abbrev pub first_lives : {A : Type 0} → ℕ → List (Vec Action A) → List (List Action)
-first_lives many script = reverse (map (λ steps. steps.items) (take many script))

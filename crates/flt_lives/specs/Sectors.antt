@@ -6,10 +6,9 @@ use Rattle.flt_config.specs.declared.config.Config.{Config}
 use Rattle.flt_generation.specs.Holding.{Generation}
 use Rattle.flt_whole.specs.Image.{image_damage, image_blocks}
 use Rattle.flt_fee.specs.Fee.{device_of, is_last}
-use Rattle.flt_lives.specs.Moment.{Medium, Moment, moment_at, boot_in}
-use Rattle.flt_lives.specs.Chain.{LifeView}
-use Rattle.flt_lives.specs.Living.{StaysSound}
-use Rattle.flt_lives.specs.Linked.{IsLinked}
+use Rattle.flt_life.specs.Moment.{Medium, Moment, moment_at, boot_in}
+use Rattle.flt_life.specs.Chain.{LifeView}
+use Rattle.flt_life.specs.Lives.{StaysSound, IsLinked}
 
 -- the first pages of each sector, as many as the configuration has, hold the blocks of an image
 abbrev pub sectors : Config → Medium

@@ -1,57 +1,146 @@
 // A life from its power-up on.
-ghost use Rattle.std.specs.Prelude.{◌≡◌, ◌+◌, ◌≤◌, ◌<◌, [], ℕ, All, IfOk, OnOk, List, map, reverse, sum_by};
+ghost use Rattle.std.specs.Prelude.{◌≡◌, ◌+◌, ◌*◌, ◌≤◌, ◌<◌, ◌++◌, ◌∷◌, [], ℕ, All, IfOk, OnOk, OnErr, List, length, map, reverse, sum_by, vec_len};
+ghost use Rattle.std.specs.Vec.{vec_capacity};
 ghost use Rattle.flt_config.specs.Durable.{Fits};
+ghost use Rattle.flt_flash.specs.State.{HasRisenBy};
 ghost use Rattle.flt_generation.specs.Holding.{Generation};
 ghost use Rattle.flt_dcm.specs.Whole.{config_of, state_of};
 ghost use Rattle.flt_store.specs.Store.{driver_of, numbered, IsRunning};
 ghost use Rattle.flt_store.specs.Cause.{HasRoom};
-ghost use Rattle.flt_lives.specs.declared.life.Boot.TheVariants as boots;
-ghost use Rattle.flt_lives.specs.Carried.{IsPossible, IsPossibleArm, AreCarriedOut};
-ghost use Rattle.flt_flash.specs.State.{HasRisenBy};
-ghost use Rattle.flt_lives.specs.Causes.{IsCaused, AreCaused};
-ghost use Rattle.flt_lives.specs.Moment.{Moment, moment_of};
-ghost use Rattle.flt_lives.specs.Chain.{start_from, Leaves};
-ghost use Rattle.flt_lives.specs.Going.{GoesOn, AddsLife, arms_of};
-ghost use Rattle.flt_lives.specs.Living.{IsUnderWay, IsAlive, IsLiving, IsLived, IsPlayed, StaysSound, AddsStep, dark_answer, view_of};
+ghost use Rattle.flt_life.specs.Actions.{action_in, actions_in, IsPossible, IsPossibleArm, arm_count, arms_of, all_arms, call_count, response_size};
+ghost use Rattle.flt_life.specs.Answers.{told_with, response_length};
+ghost use Rattle.flt_life.specs.declared.life.Boot.TheVariants as boots;
+ghost use Rattle.flt_life.specs.Carried.{AreCarriedOut};
+ghost use Rattle.flt_life.specs.Causes.{AreCaused};
+ghost use Rattle.flt_life.specs.Chain.{start_from, Leaves};
+ghost use Rattle.flt_life.specs.Lives.{IsPlayed, StaysSound, dark_answer, view_of, arms_by};
+ghost use Rattle.flt_life.specs.Moment.{Moment, moment_of};
+ghost use Rattle.flt_lives.specs.Going.{GoesOn, WereGiven, AddsLife};
+ghost use Rattle.flt_lives.specs.Living.{IsUnderWay, IsAlive, IsLiving, IsCaused, IsLived, AddsStep, told_in, HasRoomFor};
 
-use crate::life::{Action, Boot, Entry, Life, StepAnswer};
-use crate::step::{make_step, write_calls};
+use crate::buffers::Buffers;
+use crate::step::make_step;
 use flt_config::{Persist, ValidConfig};
-use flt_dcm::Unit;
+use flt_dcm::{ReplyKind, Unit};
 use flt_flash::Blocks;
+use flt_life::{
+    Action, Boot, Entry, LaneReplies, Life, StepAnswer, action_in, call_count, response_size,
+};
 use flt_model::Op;
+use flt_script::Part;
 use flt_store::{StartFault, Store};
 use std::alloc::{AllocError, Global};
+
+/// The calls of a life and the answers to its steps, as far as they are made.
+#[derive(Drop)]
+pub(crate) struct Account {
+    journal: Vec<Entry<Op>>,
+    replies: LaneReplies,
+    // Where the replies go in the end.
+    lanes: Vec<LaneReplies>,
+    ghost empty: { lanes.items ≡ [] },
+    ghost place: { vec_len lanes < vec_capacity lanes },
+}
+
+impl Account {
+    ghost use Rattle.std.specs.Prelude.{◌≡◌, ◌≤◌, [], IfOk, length, reverse};
+    ghost use Rattle.flt_life.specs.Actions.{actions_in};
+    ghost use Rattle.flt_life.specs.Lives.{view_of};
+    ghost use Rattle.flt_lives.specs.Living.{told_in, HasRoomFor};
+
+    /// No call and no answer, with room for those of a life with these steps.
+    fn for_steps(alloc: Global, parts: &[Part]) -> Result<Account, AllocError>
+        requires few { length parts.now ≤ 65536 }
+        ensures calls { IfOk result (λ account. account.journal.items ≡ []) }
+        ensures answers { IfOk result (λ account. told_in account ≡ []) }
+        ensures room { IfOk result (λ account. HasRoomFor account (actions_in parts.now)) }
+    {
+        let calls = call_room(parts);
+        let bytes = response_room(parts);
+        let journal = Vec::with_capacity(alloc, calls)?;
+        let replies = LaneReplies::with_room(alloc, 0, parts.len(), bytes)?;
+        let lanes = Vec::with_capacity(alloc, 1)?;
+        Ok(Account {
+            journal,
+            replies,
+            lanes,
+        })
+    }
+
+    /// The life that began so.
+    fn into_life(self, boot: Boot) -> Life
+        ensures { view_of result ≡ record { boot = boot; journal = reverse self.journal.items; answers = told_in self } }
+    {
+        let mut replies = self.lanes;
+        replies.push_reserved(self.replies);
+        Life {
+            boot,
+            journal: self.journal,
+            replies,
+        }
+    }
+}
+
+// How many calls steps make at most.
+fn call_room(parts: &[Part]) -> usize
+    requires { length parts.now ≤ 65536 }
+    ensures { result ≡ sum_by call_count (actions_in parts.now) }
+{
+    let mut room = 0;
+    for part in parts {
+        room += call_count(part);
+    }
+    room
+}
+
+// The bytes of the longest responses to steps.
+fn response_room(parts: &[Part]) -> usize
+    requires { length parts.now ≤ 65536 }
+    ensures { result ≡ sum_by response_size (actions_in parts.now) }
+{
+    let mut room = 0;
+    for part in parts {
+        room += response_size(part);
+    }
+    room
+}
 
 /// Makes a step, and writes its calls and its answer behind those of the steps before it.
 fn take_step<D: Blocks + Drop>(
     unit: &mut Unit,
     store: &mut Store<D>,
     config: &ValidConfig,
-    state: &mut Persist,
-    step: &Action,
-    journal: &mut Vec<Entry<Op>>,
-    answers: &mut Vec<StepAnswer>,
-) -> Result<(), AllocError>
+    buffers: &mut Buffers,
+    part: &Part,
+    account: &mut Account,
+)
     requires same { config_of unit.old ≡ config.now }
     requires under_way { IsUnderWay config.now (state_of unit.old) }
-    requires possible { IsPossible config.now step.now }
-    requires room { (driver_of store.old).device.bench.armed + arms_of step.now ≤ 64 }
+    requires possible { IsPossible config.now (action_in part.now) }
+    requires arms { (driver_of store.old).device.bench.armed + arm_count (action_in part.now) ≤ 64 }
+    requires room { HasRoomFor account.old (action_in part.now ∷ []) }
     ensures config { config_of unit.new ≡ config_of unit.old }
     ensures under_way { IsUnderWay config.now (state_of unit.new) }
     ensures alive { IsAlive config.now store.old → IsAlive config.now store.new }
-    ensures living { (first : Generation) → IsLiving config.now first (reverse journal.old.items) (reverse answers.old.items) (state_of unit.old) store.old
-        → OnOk result (IsLiving config.now first (reverse journal.new.items) (reverse answers.new.items) (state_of unit.new) store.new) }
-    ensures adds { (first : Generation) → IsLiving config.now first (reverse journal.old.items) (reverse answers.old.items) (state_of unit.old) store.old
-        → OnOk result (AddsStep config.now first step.now (reverse journal.old.items) (reverse journal.new.items) (reverse answers.old.items) (reverse answers.new.items)) }
-    ensures caused { (begun : ℕ) → IsCaused config.now begun (reverse answers.old.items) store.old → OnOk result (IsCaused config.now begun (reverse answers.new.items) store.new) }
+    ensures living { (first : Generation) → IsLiving config.now first (reverse account.old.journal.items) (told_in account.old) (state_of unit.old) store.old
+        → IsLiving config.now first (reverse account.new.journal.items) (told_in account.new) (state_of unit.new) store.new }
+    ensures adds { (first : Generation) → IsLiving config.now first (reverse account.old.journal.items) (told_in account.old) (state_of unit.old) store.old
+        → AddsStep config.now first (action_in part.now) (reverse account.old.journal.items) (reverse account.new.journal.items) (told_in account.old) (told_in account.new) }
+    ensures caused { (begun : ℕ) → IsCaused config.now begun (told_in account.old) store.old → IsCaused config.now begun (told_in account.new) store.new }
+    ensures room { (rest : List Action) → HasRoomFor account.old (action_in part.now ∷ rest) → HasRoomFor account.new rest }
     ensures goes_on { GoesOn (driver_of store.old) (driver_of store.new) }
-    ensures armed { (driver_of store.new).device.bench.armed ≤ (driver_of store.old).device.bench.armed + arms_of step.now }
+    ensures given { WereGiven (arms_of (action_in part.now)) (driver_of store.old).device.bench.arms (driver_of store.new).device.bench.arms }
+    ensures armed { (driver_of store.new).device.bench.armed ≤ (driver_of store.old).device.bench.armed + arm_count (action_in part.now) }
 {
-    let answer = make_step(unit, store, config, state, step);
-    write_calls(step, &answer, journal)?;
-    answers.push(answer)?;
-    Ok(())
+    let answer = make_step(
+        unit,
+        store,
+        config,
+        buffers,
+        action_in(part),
+        &mut account.journal,
+    );
+    account.replies.keep(answer, &buffers.response);
 }
 
 /// Makes steps one after the other.
@@ -59,45 +148,47 @@ fn take_steps<D: Blocks + Drop>(
     unit: &mut Unit,
     store: &mut Store<D>,
     config: &ValidConfig,
-    state: &mut Persist,
-    steps: &[Action],
-    journal: &mut Vec<Entry<Op>>,
-    answers: &mut Vec<StepAnswer>,
-) -> Result<(), AllocError>
+    buffers: &mut Buffers,
+    parts: &[Part],
+    account: &mut Account,
+)
     requires same { config_of unit.old ≡ config.now }
     requires under_way { IsUnderWay config.now (state_of unit.old) }
-    requires possible { All (IsPossible config.now) steps.now }
-    requires room { (driver_of store.old).device.bench.armed + sum_by arms_of steps.now ≤ 64 }
-    requires no_calls { journal.old.items ≡ [] }
-    requires no_answers { answers.old.items ≡ [] }
+    requires possible { All (IsPossible config.now) (actions_in parts.now) }
+    requires arms { (driver_of store.old).device.bench.armed + sum_by arm_count (actions_in parts.now) ≤ 64 }
+    requires room { HasRoomFor account.old (actions_in parts.now) }
+    requires no_calls { account.old.journal.items ≡ [] }
+    requires no_answers { told_in account.old ≡ [] }
     ensures config { config_of unit.new ≡ config_of unit.old }
     ensures alive { IsAlive config.now store.old → IsAlive config.now store.new }
     ensures living { (first : Generation) → IsLiving config.now first [] [] (state_of unit.old) store.old
-        → OnOk result (IsLiving config.now first (reverse journal.new.items) (reverse answers.new.items) (state_of unit.new) store.new) }
+        → IsLiving config.now first (reverse account.new.journal.items) (told_in account.new) (state_of unit.new) store.new }
     ensures carried { (first : Generation) → IsLiving config.now first [] [] (state_of unit.old) store.old
-        → OnOk result (AreCarriedOut (start_from config.now first.state) (reverse steps.now) (reverse journal.new.items) (reverse answers.new.items)) }
-    ensures caused { (begun : ℕ) → IsCaused config.now begun [] store.old → OnOk result (IsCaused config.now begun (reverse answers.new.items) store.new) }
+        → AreCarriedOut (start_from config.now first.state) (reverse (actions_in parts.now)) (reverse account.new.journal.items) (told_in account.new) }
+    ensures caused { (begun : ℕ) → IsCaused config.now begun [] store.old → IsCaused config.now begun (told_in account.new) store.new }
     ensures goes_on { GoesOn (driver_of store.old) (driver_of store.new) }
-    ensures armed { (driver_of store.new).device.bench.armed ≤ (driver_of store.old).device.bench.armed + sum_by arms_of steps.now }
+    ensures given { WereGiven (all_arms (actions_in parts.now)) (driver_of store.old).device.bench.arms (driver_of store.new).device.bench.arms }
+    ensures armed { (driver_of store.new).device.bench.armed ≤ (driver_of store.old).device.bench.armed + sum_by arm_count (actions_in parts.now) }
 {
-    for step in steps {
-        take_step(unit, store, config, state, step, journal, answers)?;
+    for part in parts {
+        take_step(unit, store, config, buffers, part, account);
     }
-    Ok(())
 }
 
 /// What a dark life answers to a step: arms alone are made.
-fn take_dark_step<D: Blocks + Drop>(store: &mut Store<D>, step: &Action) -> StepAnswer
-    requires possible { IsPossibleArm step.now }
-    requires room { (driver_of store.old).device.bench.armed + arms_of step.now ≤ 64 }
-    ensures answer { result ≡ dark_answer step.now }
+fn take_dark_step<D: Blocks + Drop>(store: &mut Store<D>, action: Action) -> StepAnswer<ReplyKind>
+    requires possible { IsPossibleArm action }
+    requires arms { (driver_of store.old).device.bench.armed + arm_count action ≤ 64 }
+    ensures answer { (response : List ℕ) → told_with response result ≡ dark_answer action }
+    ensures size { (response : List ℕ) → response_length result response ≡ 0 }
     ensures same { moment_of (driver_of store.new) ≡ moment_of (driver_of store.old) }
     ensures goes_on { GoesOn (driver_of store.old) (driver_of store.new) }
-    ensures armed { (driver_of store.new).device.bench.armed ≤ (driver_of store.old).device.bench.armed + arms_of step.now }
+    ensures given { WereGiven (arms_of action) (driver_of store.old).device.bench.arms (driver_of store.new).device.bench.arms }
+    ensures armed { (driver_of store.new).device.bench.armed ≤ (driver_of store.old).device.bench.armed + arm_count action }
 {
-    match step {
+    match action {
         Action::Arm(arm) => {
-            store.arm(*arm);
+            store.arm(arm);
             StepAnswer::Armed
         }
         Action::Call(_) => StepAnswer::Dark,
@@ -106,23 +197,22 @@ fn take_dark_step<D: Blocks + Drop>(store: &mut Store<D>, step: &Action) -> Step
 }
 
 /// Takes the steps of a dark life.
-fn take_dark_steps<D: Blocks + Drop>(
-    alloc: Global,
-    store: &mut Store<D>,
-    steps: &[Action],
-) -> Result<Vec<StepAnswer>, AllocError>
-    requires possible { All IsPossibleArm steps.now }
-    requires room { (driver_of store.old).device.bench.armed + sum_by arms_of steps.now ≤ 64 }
-    ensures answers { IfOk result (λ answers. answers.items ≡ map dark_answer steps.now) }
+fn take_dark_steps<D: Blocks + Drop>(store: &mut Store<D>, parts: &[Part], account: &mut Account)
+    requires possible { All IsPossibleArm (actions_in parts.now) }
+    requires arms { (driver_of store.old).device.bench.armed + sum_by arm_count (actions_in parts.now) ≤ 64 }
+    requires room { HasRoomFor account.old (actions_in parts.now) }
+    requires no_answers { told_in account.old ≡ [] }
+    ensures calls { account.new.journal ≡ account.old.journal }
+    ensures answers { told_in account.new ≡ reverse (map dark_answer (actions_in parts.now)) }
     ensures same { moment_of (driver_of store.new) ≡ moment_of (driver_of store.old) }
     ensures goes_on { GoesOn (driver_of store.old) (driver_of store.new) }
-    ensures armed { (driver_of store.new).device.bench.armed ≤ (driver_of store.old).device.bench.armed + sum_by arms_of steps.now }
+    ensures given { WereGiven (all_arms (actions_in parts.now)) (driver_of store.old).device.bench.arms (driver_of store.new).device.bench.arms }
+    ensures armed { (driver_of store.new).device.bench.armed ≤ (driver_of store.old).device.bench.armed + sum_by arm_count (actions_in parts.now) }
 {
-    let mut answers = Vec::with_capacity(alloc, steps.len())?;
-    for step in steps {
-        answers.push(take_dark_step(store, step))?;
+    for part in parts {
+        let answer = take_dark_step(store, action_in(part));
+        account.replies.keep(answer, &[]);
     }
-    Ok(answers)
 }
 
 // A copy of a state, which takes no memory.
@@ -134,46 +224,36 @@ fn copy_of(state: &Persist) -> Persist
 
 /// Lives from the generation that a start-up restored.
 fn live<D: Blocks + Drop>(
-    alloc: Global,
     unit: &mut Unit,
     store: &mut Store<D>,
     config: &ValidConfig,
-    state: &mut Persist,
+    buffers: &mut Buffers,
     generation: u32,
-    steps: &[Action],
-) -> Result<Life, AllocError>
+    parts: &[Part],
+    mut account: Account,
+) -> Life
     requires same { config_of unit.old ≡ config.now }
-    requires fits { Fits config.now state.old }
-    requires running { IsRunning config.now (numbered generation state.old) (numbered generation state.old) store.old }
-    requires possible { All (IsPossible config.now) steps.now }
-    requires room { (driver_of store.old).device.bench.armed + sum_by arms_of steps.now ≤ 64 }
+    requires fits { Fits config.now buffers.old.state }
+    requires running { IsRunning config.now (numbered generation buffers.old.state) (numbered generation buffers.old.state) store.old }
+    requires possible { All (IsPossible config.now) (actions_in parts.now) }
+    requires arms { (driver_of store.old).device.bench.armed + sum_by arm_count (actions_in parts.now) ≤ 64 }
+    requires room { HasRoomFor account (actions_in parts.now) }
+    requires no_calls { account.journal.items ≡ [] }
+    requires no_answers { told_in account ≡ [] }
     ensures config { config_of unit.new ≡ config_of unit.old }
-    ensures boot { IfOk result (λ life. life.boot ≡ boots.Started generation state.old) }
-    ensures leaves { IfOk result (λ life. Leaves config.now (numbered generation state.old) (view_of life) (moment_of (driver_of store.new))) }
-    ensures caused { (boot : Moment) → HasRisenBy 0 boot.faults (driver_of store.old).device.faults → IfOk result (λ life. AreCaused config.now boot (moment_of (driver_of store.new)) (reverse life.answers.items)) }
-    ensures carried { IfOk result (λ life. AreCarriedOut (start_from config.now state.old) (reverse steps.now) (reverse life.journal.items) (reverse life.answers.items)) }
+    ensures boot { result.boot ≡ boots.Started generation buffers.old.state }
+    ensures leaves { Leaves config.now (numbered generation buffers.old.state) (view_of result) (moment_of (driver_of store.new)) }
+    ensures caused { (boot : Moment) → HasRisenBy 0 boot.faults (driver_of store.old).device.faults → AreCaused config.now boot (moment_of (driver_of store.new)) (view_of result).answers }
+    ensures carried { AreCarriedOut (start_from config.now buffers.old.state) (reverse (actions_in parts.now)) (view_of result).journal (view_of result).answers }
     ensures alive { IsAlive config.now store.new }
     ensures goes_on { GoesOn (driver_of store.old) (driver_of store.new) }
-    ensures armed { (driver_of store.new).device.bench.armed ≤ (driver_of store.old).device.bench.armed + sum_by arms_of steps.now }
+    ensures given { WereGiven (all_arms (actions_in parts.now)) (driver_of store.old).device.bench.arms (driver_of store.new).device.bench.arms }
+    ensures armed { (driver_of store.new).device.bench.armed ≤ (driver_of store.old).device.bench.armed + sum_by arm_count (actions_in parts.now) }
 {
-    unit.boot(state);
-    let start = copy_of(state);
-    let mut journal = Vec::with_capacity(alloc, steps.len())?;
-    let mut answers = Vec::with_capacity(alloc, steps.len())?;
-    take_steps(
-        unit,
-        store,
-        config,
-        state,
-        steps,
-        &mut journal,
-        &mut answers,
-    )?;
-    Ok(Life {
-        boot: Boot::Started { generation, start },
-        journal,
-        answers,
-    })
+    unit.boot(&buffers.state);
+    let start = copy_of(&buffers.state);
+    take_steps(unit, store, config, buffers, parts, &mut account);
+    account.into_life(Boot::Started { generation, start })
 }
 
 /// A life whose start-up was refused.
@@ -183,41 +263,44 @@ fn refused(alloc: Global, fault: StartFault) -> Life
     Life {
         boot: Boot::Refused(fault),
         journal: Vec::new(alloc),
-        answers: Vec::new(alloc),
+        replies: Vec::new(alloc),
     }
 }
 
-/// Lives from one power-up to the next: the power comes, the store starts up, and the steps are taken.
+/// Lives from one power-up to the next: the power comes, the store starts up, and the steps are taken. Memory is taken before the
+/// power comes, and where it is wanting nothing is done.
 pub fn run_life<D: Blocks + Drop>(
     alloc: Global,
     unit: &mut Unit,
     store: &mut Store<D>,
     config: &ValidConfig,
-    state: &mut Persist,
-    steps: &[Action],
+    buffers: &mut Buffers,
+    parts: &[Part],
 ) -> Result<Life, AllocError>
     requires same { config_of unit.old ≡ config.now }
     requires room { HasRoom config.now (driver_of store.old).room }
     requires boots { 0 < (driver_of store.old).device.bench.boots_left }
-    requires possible { All (IsPossible config.now) steps.now }
-    requires arms { (driver_of store.old).device.bench.armed + sum_by arms_of steps.now ≤ 64 }
+    requires few { length parts.now ≤ 65536 }
+    requires possible { All (IsPossible config.now) (actions_in parts.now) }
+    requires arms { (driver_of store.old).device.bench.armed + sum_by arm_count (actions_in parts.now) ≤ 64 }
     ensures config { config_of unit.new ≡ config_of unit.old }
     ensures lived { IfOk result (λ life. IsLived config.now (driver_of store.old) (driver_of store.new) (view_of life)) }
-    ensures played { IfOk result (λ life. IsPlayed config.now steps.now (view_of life)) }
-    ensures sound { StaysSound config.now (moment_of (driver_of store.old)) (moment_of (driver_of store.new)) }
-    ensures adds { AddsLife (driver_of store.old) (driver_of store.new) }
-    ensures armed { (driver_of store.new).device.bench.armed ≤ (driver_of store.old).device.bench.armed + sum_by arms_of steps.now }
+    ensures played { IfOk result (λ life. IsPlayed config.now (actions_in parts.now) (view_of life)) }
+    ensures given { IfOk result (λ life. WereGiven (arms_by (actions_in parts.now) life.boot) (driver_of store.old).device.bench.arms (driver_of store.new).device.bench.arms) }
+    ensures sound { OnOk result (StaysSound config.now (moment_of (driver_of store.old)) (moment_of (driver_of store.new))) }
+    ensures adds { OnOk result (AddsLife (driver_of store.old) (driver_of store.new)) }
+    ensures armed { OnOk result ((driver_of store.new).device.bench.armed ≤ (driver_of store.old).device.bench.armed + sum_by arm_count (actions_in parts.now)) }
+    ensures undone { OnErr result (driver_of store.new ≡ driver_of store.old) }
 {
+    let mut account = Account::for_steps(alloc, parts)?;
     store.power_up();
-    match store.start_up(config, state) {
-        Ok(generation) => live(alloc, unit, store, config, state, generation, steps),
+    match store.start_up(config, &mut buffers.state) {
+        Ok(generation) => Ok(live(
+            unit, store, config, buffers, generation, parts, account,
+        )),
         Err(StartFault::Flash) => {
-            let answers = take_dark_steps(alloc, store, steps)?;
-            Ok(Life {
-                boot: Boot::Dark,
-                journal: Vec::new(alloc),
-                answers,
-            })
+            take_dark_steps(store, parts, &mut account);
+            Ok(account.into_life(Boot::Dark))
         }
         Err(StartFault::Damaged(place)) => Ok(refused(alloc, StartFault::Damaged(place))),
         Err(StartFault::OtherConfig { found, wanted }) => {

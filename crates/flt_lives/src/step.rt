@@ -1,53 +1,70 @@
 // The steps of a life.
-ghost use Rattle.std.specs.Prelude.{◌≡◌, ◌+◌, ◌≤◌, ◌<◌, ◌∷◌, ℕ, List, OnOk, reverse};
+ghost use Rattle.std.specs.Prelude.{◌≡◌, ◌+◌, ◌≤◌, ◌<◌, ◌∷◌, [], ℕ, List, length, reverse, vec_len};
+ghost use Rattle.std.specs.Vec.{vec_capacity};
 ghost use Rattle.flt_config.specs.Durable.{Fits};
 ghost use Rattle.flt_model.specs.Life.{Life, History};
 ghost use Rattle.flt_model.specs.Answer.{answer};
 ghost use Rattle.flt_model.specs.Durable.{saved_after};
 ghost use Rattle.flt_model.specs.declared.call.Op.TheVariants as ops;
 ghost use Rattle.flt_generation.specs.Holding.{Generation};
-ghost use Rattle.flt_dcm.specs.Unit.{Stands, IsAdmitted};
+ghost use Rattle.flt_dcm.specs.ReplyKind.{reply_with};
+ghost use Rattle.flt_dcm.specs.Unit.{Stands, IsAdmitted, IsRequest};
 ghost use Rattle.flt_dcm.specs.Whole.{config_of, state_of};
 ghost use Rattle.flt_store.specs.Store.{driver_of};
-ghost use Rattle.flt_lives.specs.declared.life.StepAnswer.{StepAnswer};
-ghost use Rattle.flt_lives.specs.Journal.{Journal, entry, calls_of};
-ghost use Rattle.flt_lives.specs.declared.life.Action.TheVariants as actions;
-ghost use Rattle.flt_lives.specs.Carried.{IsPossible, IsStepCall, IsCarriedOut, SaveIsCarriedOut};
-ghost use Rattle.flt_lives.specs.Causes.{IsCaused};
-ghost use Rattle.flt_lives.specs.Chain.{start_from};
-ghost use Rattle.flt_lives.specs.Going.{GoesOn, arms_of};
-ghost use Rattle.flt_lives.specs.Living.{IsUnderWay, IsAlive, IsLiving, journal_after};
+ghost use Rattle.flt_life.specs.Actions.{IsPossible, IsStepCall, arm_count, arms_of, call_count, response_size};
+ghost use Rattle.flt_life.specs.Answers.{Told, told_with, response_length, size_of};
+ghost use Rattle.flt_life.specs.Carried.{IsCarriedOut, SaveIsCarriedOut};
+ghost use Rattle.flt_life.specs.Chain.{start_from};
+ghost use Rattle.flt_life.specs.Journal.{entry, calls_of};
+ghost use Rattle.flt_lives.specs.Going.{GoesOn, WereGiven};
+ghost use Rattle.flt_lives.specs.Living.{IsUnderWay, IsAlive, IsLiving, IsCaused};
 
-use crate::life::{Action, Entry, StepAnswer};
-use flt_config::{Persist, ValidConfig};
-use flt_dcm::Unit;
-use flt_flash::{Arm, Blocks};
-use flt_model::{Op, Reply};
+use crate::buffers::Buffers;
+use flt_config::ValidConfig;
+use flt_dcm::{ReplyKind, Unit};
+use flt_flash::Blocks;
+use flt_life::{Action, Answer, Entry, StepAnswer};
+use flt_model::Op;
 use flt_store::Store;
-use std::alloc::AllocError;
 
 // Makes a call of the machine that is neither a snapshot nor a save.
-fn call(unit: &mut Unit, op: &Op, state: &mut Persist) -> Reply
+fn call(unit: &mut Unit, op: &Op, buffers: &mut Buffers) -> ReplyKind
     requires under_way { IsUnderWay (config_of unit.old) (state_of unit.old) }
     requires admitted { IsAdmitted (config_of unit.old) op.now }
     ensures config { config_of unit.new ≡ config_of unit.old }
     ensures under_way { IsUnderWay (config_of unit.old) (state_of unit.new) }
     ensures stands { (life : Life) (past : History) → Stands life past (state_of unit.old) → Stands life (op.now ∷ past) (state_of unit.new) }
-    ensures answer { (life : Life) (past : History) → Stands life past (state_of unit.old) → result ≡ answer life past op.now }
+    ensures answer { (life : Life) (past : History) → Stands life past (state_of unit.old) → reply_with result buffers.new.response.items ≡ answer life past op.now }
+    ensures size { size_of result buffers.new.response.items ≤ 512 }
+    ensures no_response { ¬ IsRequest op.now → size_of result buffers.new.response.items ≡ 0 }
 {
-    unit.apply(op, state)
+    unit.apply_into(op, &mut buffers.state, &mut buffers.response)
 }
 
 // Takes the durable state.
-fn take_snapshot(unit: &mut Unit, state: &mut Persist)
+fn take_snapshot(unit: &mut Unit, buffers: &mut Buffers)
     requires under_way { IsUnderWay (config_of unit.old) (state_of unit.old) }
     ensures config { config_of unit.new ≡ config_of unit.old }
     ensures under_way { IsUnderWay (config_of unit.old) (state_of unit.new) }
     ensures stands { (life : Life) (past : History) → Stands life past (state_of unit.old) → Stands life (ops.Snapshot ∷ past) (state_of unit.new) }
-    ensures taken { (life : Life) (past : History) → Stands life past (state_of unit.old) → state.new ≡ saved_after life past }
-    ensures fits { Fits (config_of unit.old) state.new }
+    ensures taken { (life : Life) (past : History) → Stands life past (state_of unit.old) → buffers.new.state ≡ saved_after life past }
+    ensures fits { Fits (config_of unit.old) buffers.new.state }
 {
-    unit.apply(&Op::Snapshot, state);
+    unit.apply_into(
+        &Op::Snapshot,
+        &mut buffers.state,
+        &mut buffers.response,
+    );
+}
+
+// Writes a call of the only lane behind those of a journal.
+fn write(op: Op, journal: &mut Vec<Entry<Op>>)
+    requires { vec_len journal.old < vec_capacity journal.old }
+    ensures written { reverse journal.new.items ≡ entry 0 op ∷ reverse journal.old.items }
+    ensures more { vec_len journal.new ≡ vec_len journal.old + 1 }
+    ensures room { vec_capacity journal.new ≡ vec_capacity journal.old }
+{
+    journal.push_reserved(Entry { lane: 0, op });
 }
 
 /// Saves the durable state. The journal of a life has the snapshot, and then the number where the save was answered with one.
@@ -55,100 +72,81 @@ fn save<D: Blocks + Drop>(
     unit: &mut Unit,
     store: &mut Store<D>,
     config: &ValidConfig,
-    state: &mut Persist,
-) -> StepAnswer
+    buffers: &mut Buffers,
+    journal: &mut Vec<Entry<Op>>,
+) -> StepAnswer<ReplyKind>
     requires same { config_of unit.old ≡ config.now }
     requires under_way { IsUnderWay config.now (state_of unit.old) }
+    requires calls { vec_len journal.old + 2 ≤ vec_capacity journal.old }
     ensures config { config_of unit.new ≡ config_of unit.old }
     ensures under_way { IsUnderWay config.now (state_of unit.new) }
     ensures alive { IsAlive config.now store.old → IsAlive config.now store.new }
-    ensures living { (first : Generation) (journal : Journal) (told : List StepAnswer) → IsLiving config.now first journal told (state_of unit.old) store.old
-        → IsLiving config.now first (journal_after actions.Save result journal) (result ∷ told) (state_of unit.new) store.new }
-    ensures caused { (begun : ℕ) (told : List StepAnswer) → IsCaused config.now begun told store.old → IsCaused config.now begun (result ∷ told) store.new }
-    ensures carried { (journal : Journal) → SaveIsCarriedOut journal (journal_after actions.Save result journal) result }
+    ensures living { (first : Generation) (told : List Told) → IsLiving config.now first (reverse journal.old.items) told (state_of unit.old) store.old
+        → IsLiving config.now first (reverse journal.new.items) (told_with buffers.new.response.items result ∷ told) (state_of unit.new) store.new }
+    ensures caused { (begun : ℕ) (told : List Told) → IsCaused config.now begun told store.old → IsCaused config.now begun (told_with buffers.new.response.items result ∷ told) store.new }
+    ensures carried { SaveIsCarriedOut (reverse journal.old.items) (reverse journal.new.items) (told_with buffers.new.response.items result) }
+    ensures size { response_length result buffers.new.response.items ≡ 0 }
+    ensures calls { vec_len journal.new ≤ vec_len journal.old + 2 }
+    ensures room { vec_capacity journal.new ≡ vec_capacity journal.old }
     ensures goes_on { GoesOn (driver_of store.old) (driver_of store.new) }
+    ensures given { WereGiven [] (driver_of store.old).device.bench.arms (driver_of store.new).device.bench.arms }
     ensures armed { (driver_of store.new).device.bench.armed ≤ (driver_of store.old).device.bench.armed }
 {
-    take_snapshot(unit, state);
-    match store.save(config, state) {
+    take_snapshot(unit, buffers);
+    write(Op::Snapshot, journal);
+    match store.save(config, &buffers.state) {
         Ok(generation) => {
-            call(unit, &Op::Saved { generation }, state);
+            let op = Op::Saved { generation };
+            call(unit, &op, buffers);
+            write(op, journal);
             StepAnswer::Saved(generation)
         }
         Err(fault) => StepAnswer::SaveFailed(fault),
     }
 }
 
-/// Makes a step of a life, and answers it.
+/// Makes a step of a life, writes its calls behind those of the journal, and answers it. Where the answer is a response, its bytes
+/// are among the buffers.
 pub(crate) fn make_step<D: Blocks + Drop>(
     unit: &mut Unit,
     store: &mut Store<D>,
     config: &ValidConfig,
-    state: &mut Persist,
-    step: &Action,
-) -> StepAnswer
+    buffers: &mut Buffers,
+    action: Action,
+    journal: &mut Vec<Entry<Op>>,
+) -> StepAnswer<ReplyKind>
     requires same { config_of unit.old ≡ config.now }
     requires under_way { IsUnderWay config.now (state_of unit.old) }
-    requires possible { IsPossible config.now step.now }
-    requires room { (driver_of store.old).device.bench.armed + arms_of step.now ≤ 64 }
+    requires possible { IsPossible config.now action }
+    requires arms { (driver_of store.old).device.bench.armed + arm_count action ≤ 64 }
+    requires calls { vec_len journal.old + call_count action ≤ vec_capacity journal.old }
+    requires few { vec_len journal.old < 2 ^ 32 }
     ensures config { config_of unit.new ≡ config_of unit.old }
     ensures under_way { IsUnderWay config.now (state_of unit.new) }
     ensures alive { IsAlive config.now store.old → IsAlive config.now store.new }
-    ensures living { (first : Generation) (journal : Journal) (told : List StepAnswer) → IsLiving config.now first journal told (state_of unit.old) store.old
-        → IsLiving config.now first (journal_after step.now result journal) (result ∷ told) (state_of unit.new) store.new }
-    ensures caused { (begun : ℕ) (told : List StepAnswer) → IsCaused config.now begun told store.old → IsCaused config.now begun (result ∷ told) store.new }
-    ensures carried { (first : Generation) (journal : Journal) → Stands (start_from config.now first.state) (calls_of journal) (state_of unit.old)
-        → IsCarriedOut (start_from config.now first.state) journal step.now (journal_after step.now result journal) result }
+    ensures living { (first : Generation) (told : List Told) → IsLiving config.now first (reverse journal.old.items) told (state_of unit.old) store.old
+        → IsLiving config.now first (reverse journal.new.items) (told_with buffers.new.response.items result ∷ told) (state_of unit.new) store.new }
+    ensures caused { (begun : ℕ) (told : List Told) → IsCaused config.now begun told store.old → IsCaused config.now begun (told_with buffers.new.response.items result ∷ told) store.new }
+    ensures carried { (first : Generation) → Stands (start_from config.now first.state) (calls_of (reverse journal.old.items)) (state_of unit.old)
+        → IsCarriedOut (start_from config.now first.state) (reverse journal.old.items) action (reverse journal.new.items) (told_with buffers.new.response.items result) }
+    ensures size { response_length result buffers.new.response.items ≤ response_size action }
+    ensures calls { vec_len journal.new ≤ vec_len journal.old + call_count action }
+    ensures room { vec_capacity journal.new ≡ vec_capacity journal.old }
     ensures goes_on { GoesOn (driver_of store.old) (driver_of store.new) }
-    ensures armed { (driver_of store.new).device.bench.armed ≤ (driver_of store.old).device.bench.armed + arms_of step.now }
+    ensures given { WereGiven (arms_of action) (driver_of store.old).device.bench.arms (driver_of store.new).device.bench.arms }
+    ensures armed { (driver_of store.new).device.bench.armed ≤ (driver_of store.old).device.bench.armed + arm_count action }
 {
-    match step {
-        Action::Call(op) => StepAnswer::Dem(call(unit, op, state)),
-        Action::Save => save(unit, store, config, state),
+    match action {
+        Action::Call(op) => {
+            let place = journal.len() as u32;
+            let reply = call(unit, &op, buffers);
+            write(op, journal);
+            StepAnswer::Dem(Answer { place, reply })
+        }
+        Action::Save => save(unit, store, config, buffers, journal),
         Action::Arm(arm) => {
-            store.arm(*arm);
+            store.arm(arm);
             StepAnswer::Armed
         }
     }
-}
-
-/// Writes the calls of a step behind those of a journal.
-pub(crate) fn write_calls(
-    step: &Action,
-    answer: &StepAnswer,
-    journal: &mut Vec<Entry<Op>>,
-) -> Result<(), AllocError>
-    ensures { OnOk result (reverse journal.new.items ≡ journal_after step.now answer.now (reverse journal.old.items)) }
-{
-    match step {
-        Action::Call(op) => write(copy_of(op), journal),
-        Action::Save => {
-            write(Op::Snapshot, journal)?;
-            match answer {
-                StepAnswer::Saved(generation) => write(
-                    Op::Saved {
-                        generation: *generation,
-                    },
-                    journal,
-                ),
-                _ => Ok(()),
-            }
-        }
-        Action::Arm(_) => Ok(()),
-    }
-}
-
-// Writes a call of the only lane behind those of a journal.
-fn write(op: Op, journal: &mut Vec<Entry<Op>>) -> Result<(), AllocError>
-    ensures { OnOk result (reverse journal.new.items ≡ entry 0 op ∷ reverse journal.old.items) }
-{
-    journal.push(Entry { lane: 0, op })?;
-    Ok(())
-}
-
-// A copy of a call, which takes no memory.
-fn copy_of(op: &Op) -> Op
-    ensures { result ≡ op.now }
-{
-    op.clone().unwrap()
 }

@@ -3,7 +3,7 @@ use Rattle.flt_flash.specs.Blocks.{BlocksState, DeviceState}
 use Rattle.flt_store.specs.Cause.{HasRoom}
 use Rattle.flt_store.specs.Store.{driver_of}
 use Rattle.flt_fee.specs.Fee.{device_of, state_of}
-use Rattle.flt_lives.specs.Moment.{IsOn}
+use Rattle.flt_life.specs.Moment.{IsOn}
 use Rattle.flt_lives.specs.Sectors.{sectors}
 use Rattle.flt_lives.specs.Linked.{IsLinked}
 use Rattle.flt_lives.specs.Living.{view_of}

@@ -3,15 +3,15 @@ use Rattle.std.specs.Prelude.{sum_by, All, IsFalse, Vec}
 use Rattle.std.proofs.lemmas.List.{reverse-append, map_more, length-append, length-map, length-reverse}
 use Rattle.std.proofs.lemmas.List.Elements.{All-nil, All-cons, All-tail}
 use Rattle.flt_config.specs.declared.config.Config.{Config}
-use Rattle.flt_lives.specs.declared.life.Action.{Action}
+use Rattle.flt_life.specs.declared.action.Action.{Action}
 use Rattle.std.proofs.lemmas.List.Sums.{sum_by-drop_more}
 use Rattle.flt_store.specs.Store.{driver_of}
 use Rattle.flt_store.specs.Cause.{HasRoom}
-use Rattle.flt_lives.specs.Chain.{LifeView}
+use Rattle.flt_life.specs.Chain.{LifeView}
 use Rattle.flt_lives.specs.Going.{arms_of}
 use Rattle.flt_lives.specs.Living.{view_of, IsPlayed}
 use Rattle.flt_lives.specs.Linked.{IsLinkedBy, ArePlayed, AreEnded, first_lives, is_refused}
-use Rattle.flt_lives.specs.declared.life.Life.{Life}
+use Rattle.flt_life.specs.declared.life.Life.{Life}
 use Rattle.flt_lives.proofs.Linking.{links_none, links_more, linked_of}
 use Rattle.flt_lives.proofs.lives.run_lives.Goals as goal
 

@@ -3,8 +3,8 @@ use Rattle.std.specs.Prelude.{sum_by, All, IsFalse}
 use Rattle.flt_dcm.specs.Whole.{config_of}
 use Rattle.flt_store.specs.Store.{driver_of}
 use Rattle.flt_store.specs.Cause.{HasRoom}
-use Rattle.flt_lives.specs.Moment.{Medium, moment_of}
-use Rattle.flt_lives.specs.Chain.{LifeView}
+use Rattle.flt_life.specs.Moment.{Medium, moment_of}
+use Rattle.flt_life.specs.Chain.{LifeView}
 use Rattle.flt_lives.specs.Going.{arms_of}
 use Rattle.flt_lives.specs.Living.{StaysSound, view_of}
 use Rattle.flt_lives.specs.Linked.{KeepsOn, IsLinkedBy, ArePlayed, first_lives, is_refused}

@@ -3,9 +3,9 @@ use Rattle.flt_config.specs.declared.config.Config.{Config}
 use Rattle.flt_dcm.specs.Unit.{Stands}
 use Rattle.flt_dcm.specs.Whole.{state_of}
 use Rattle.flt_store.specs.Store.{numbered, driver_of}
-use Rattle.flt_lives.specs.Chain.{start_from}
+use Rattle.flt_life.specs.Chain.{start_from}
 use Rattle.flt_lives.specs.Living.{IsLiving}
-use Rattle.flt_lives.specs.Causes.{IsCaused}
+use Rattle.flt_life.specs.Causes.{IsCaused}
 use Rattle.flt_lives.proofs.Causing.{are_caused}
 use Rattle.flt_lives.proofs.Keeping.{kept_first}
 use Rattle.flt_lives.proofs.living.live.Goals as goal

@@ -2,8 +2,8 @@ use Rattle.std.proofs.Common.{sym, subst}
 use Rattle.flt_restore.specs.declared.fault.StartFault.TheVariants as faults
 use Rattle.flt_store.specs.Store.{driver_of}
 use Rattle.flt_store.specs.Start.{RefusedFor}
-use Rattle.flt_lives.specs.Moment.{Moment, moment_of}
-use Rattle.flt_lives.specs.Chain.{LifeView}
+use Rattle.flt_life.specs.Moment.{Moment, moment_of}
+use Rattle.flt_life.specs.Chain.{LifeView}
 use Rattle.flt_lives.specs.Living.{IsLived, StaysSound, view_of}
 use Rattle.flt_lives.proofs.Starting.{keeps, stays_by_keeping, lived_refused, lived_started, all_ok}
 use Rattle.flt_lives.proofs.living.run_life.Goals as goal

@@ -2,7 +2,7 @@ use Rattle.std.proofs.Common.{◌∙◌, ◌∷◌, [], reverse, ap, sym, subst}
 use Rattle.std.proofs.lemmas.List.{reverse-append}
 use Rattle.flt_dcm.specs.Whole.{state_of}
 use Rattle.flt_lives.specs.Living.{IsLiving}
-use Rattle.flt_lives.specs.Causes.{IsCaused}
+use Rattle.flt_life.specs.Causes.{IsCaused}
 use Rattle.flt_lives.proofs.living.take_step.Goals as goal
 
 pub returns-clause-living : goal.returns-clause-living

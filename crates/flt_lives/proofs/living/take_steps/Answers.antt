@@ -2,8 +2,8 @@ use Rattle.std.proofs.Common.{◌≡◌, ◌∙◌, ◌+◌, ◌∷◌, [], ◌+
 use Rattle.std.proofs.lemmas.List.{reverse-append, take_more}
 use Rattle.std.proofs.lemmas.List.Sums.{sum_by-drop_more}
 use Rattle.std.proofs.Math.Seq.{take-length}
-use Rattle.flt_lives.specs.Carried.{AreCarriedOut}
-use Rattle.flt_lives.specs.Chain.{start_from}
+use Rattle.flt_life.specs.Carried.{AreCarriedOut}
+use Rattle.flt_life.specs.Chain.{start_from}
 use Rattle.flt_lives.specs.Going.{arms_of}
 use Rattle.flt_lives.proofs.Riding.{goes_further}
 use Rattle.flt_lives.proofs.Carrying.{carried_more}

@@ -1,11 +1,11 @@
 use Rattle.std.proofs.Common.{◌∷◌, sym, subst}
-use Rattle.flt_lives.specs.declared.life.Action.{Action}
-use Rattle.flt_lives.specs.declared.life.Action.TheVariants as actions
-use Rattle.flt_lives.specs.declared.life.StepAnswer.TheVariants as answers
+use Rattle.flt_life.specs.declared.action.Action.{Action}
+use Rattle.flt_life.specs.declared.action.Action.TheVariants as actions
+use Rattle.flt_life.specs.declared.answer.StepAnswer.TheVariants as answers
 use Rattle.flt_store.specs.Store.{driver_of}
 use Rattle.flt_dcm.specs.Whole.{state_of}
-use Rattle.flt_lives.specs.Carried.{IsCarriedOut, IsPossible}
-use Rattle.flt_lives.specs.Chain.{start_from}
+use Rattle.flt_life.specs.Carried.{IsCarriedOut, IsPossible}
+use Rattle.flt_life.specs.Chain.{start_from}
 use Rattle.flt_lives.specs.Living.{IsAlive, IsLiving, journal_after}
 use Rattle.flt_lives.proofs.Keeping.{kept_call, kept_arm}
 use Rattle.flt_lives.proofs.Riding.{goes_nowhere}

@@ -1,6 +1,6 @@
 use Rattle.std.proofs.Common.{Err, ap}
-use Rattle.flt_lives.specs.Journal.{calls_of}
-use Rattle.flt_lives.specs.Chain.{start_from}
+use Rattle.flt_life.specs.Journal.{calls_of}
+use Rattle.flt_life.specs.Chain.{start_from}
 use Rattle.flt_lives.proofs.Keeping.{kept_saved, kept_failed}
 use Rattle.flt_lives.proofs.Causing.{caused_saved, caused_failed}
 use Rattle.flt_lives.proofs.step.save.Goals as goal

@@ -6,7 +6,7 @@ use Rattle.flt_model.specs.Durable.{saved_after}
 use Rattle.flt_model.specs.declared.call.Op.{Op}
 use Rattle.flt_model.specs.declared.call.Op.TheVariants as ops
 use Rattle.flt_generation.specs.Holding.{Generation}
-use Rattle.flt_lives.specs.declared.life.Entry.{Entry}
+use Rattle.flt_turn.specs.declared.vault.Entry.{Entry}
 
 abbrev pub Journal : Type 0
 Journal = List (Entry Op)

@@ -11,11 +11,11 @@ use Rattle.flt_generation.specs.Holding.{Fault, IsSound}
 use Rattle.flt_generation.specs.Laws.{IsGiven, HeldStands, SpareStands}
 use Rattle.flt_restore.specs.declared.fault.StartFault.{StartFault}
 use Rattle.flt_restore.specs.declared.fault.StartFault.TheVariants as faults
-use Rattle.flt_lives.specs.declared.life.Boot.{Boot}
-use Rattle.flt_lives.specs.declared.life.Boot.TheVariants.{Started, Dark, Refused}
-use Rattle.flt_lives.specs.Moment.{Moment, Medium, moment_at}
-use Rattle.flt_lives.specs.Chain.{LifeView, IsFound, Unchanged, IsRefused, HoldsBy, AreLinked}
-use Rattle.flt_lives.specs.Laws.{IsSoundIn, IsUndamaged, first_boot}
+use Rattle.flt_life.specs.declared.life.Boot.{Boot}
+use Rattle.flt_life.specs.declared.life.Boot.TheVariants.{Started, Dark, Refused}
+use Rattle.flt_life.specs.Moment.{Moment, Medium, moment_at}
+use Rattle.flt_life.specs.Chain.{LifeView, IsFound, Unchanged, IsRefused, HoldsBy, AreLinked}
+use Rattle.flt_life.specs.Laws.{IsSoundIn, IsUndamaged, first_boot}
 
 unchanged_sound : (c : Config) (boot next : Moment) → Unchanged boot next → IsSoundIn c boot → IsSoundIn c next
 unchanged_sound c boot next same sound =

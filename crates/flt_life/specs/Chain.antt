@@ -11,19 +11,19 @@ use Rattle.flt_model.specs.Life.{Life}
 use Rattle.flt_restore.specs.declared.fault.StartFault.{StartFault}
 use Rattle.flt_restore.specs.declared.fault.StartFault.TheVariants as faults
 use Rattle.flt_store.specs.Store.{numbered}
-use Rattle.flt_lives.specs.declared.life.StepAnswer.{StepAnswer}
-use Rattle.flt_lives.specs.declared.life.Boot.{Boot}
-use Rattle.flt_lives.specs.declared.life.Boot.TheVariants.{Started, Dark, Refused}
-use Rattle.flt_lives.specs.Moment.{Moment, Medium, moment_at, IsSoundAt}
-use Rattle.flt_lives.specs.Journal.{Journal, Acknowledges}
-use Rattle.flt_lives.specs.Causes.{AreCaused}
-use Rattle.flt_lives.specs.Saving.{IsLeft, AreRising}
+use Rattle.flt_life.specs.Answers.{Told}
+use Rattle.flt_life.specs.declared.life.Boot.{Boot}
+use Rattle.flt_life.specs.declared.life.Boot.TheVariants.{Started, Dark, Refused}
+use Rattle.flt_life.specs.Moment.{Moment, Medium, moment_at, IsSoundAt}
+use Rattle.flt_life.specs.Journal.{Journal, Acknowledges}
+use Rattle.flt_life.specs.Causes.{AreCaused}
+use Rattle.flt_life.specs.Saving.{IsLeft, AreRising}
 
 -- a life, its calls and its answers the newest first
 pub record LifeView : Type 0 where
   pub boot : Boot
   pub journal : Journal
-  pub answers : List StepAnswer
+  pub answers : List Told
 
 -- what the machine starts from
 abbrev pub start_from : Config → Persist → Life

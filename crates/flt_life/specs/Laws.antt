@@ -6,10 +6,10 @@ use Rattle.flt_config.specs.declared.config.Config.{Config}
 use Rattle.flt_generation.specs.Holding.{Generation}
 use Rattle.flt_generation.specs.Laws.{IsGiven}
 use Rattle.flt_restore.specs.declared.fault.StartFault.TheVariants as faults
-use Rattle.flt_lives.specs.declared.life.Boot.{Boot}
-use Rattle.flt_lives.specs.declared.life.Boot.TheVariants.{Started, Dark, Refused}
-use Rattle.flt_lives.specs.Moment.{Moment, Medium, moment_at, IsSoundAt}
-use Rattle.flt_lives.specs.Chain.{LifeView, AreLinked}
+use Rattle.flt_life.specs.declared.life.Boot.{Boot}
+use Rattle.flt_life.specs.declared.life.Boot.TheVariants.{Started, Dark, Refused}
+use Rattle.flt_life.specs.Moment.{Moment, Medium, moment_at, IsSoundAt}
+use Rattle.flt_life.specs.Chain.{LifeView, AreLinked}
 
 -- the image is sound
 abbrev pub IsSoundIn : Config → Moment → Type 0

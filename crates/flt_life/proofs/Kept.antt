@@ -1,0 +1,68 @@
+-- One more answer that a lane keeps.
+use Rattle.std.proofs.Common.{◌≡◌, ℕ, ◌+◌, ◌≤◌, List, [], ◌∷◌, ◌++◌, map, take, drop, length, refl, ap, arith, ◌∙◌}
+use Rattle.std.specs.Prelude.{All}
+use Rattle.std.proofs.lemmas.List.{take-append-le, drop-append-le, length-drop, map-append}
+use Rattle.std.proofs.lemmas.List.Elements.{All-head, All-tail, All-cons, All-nil, All-append, All-weaker}
+use Rattle.flt_model.specs.Response.{reply_of}
+use Rattle.flt_life.specs.declared.answer.KeptReply.{KeptReply}
+use Rattle.flt_life.specs.declared.answer.KeptReply.TheVariants as kept
+use Rattle.flt_life.specs.declared.answer.StepAnswer.{StepAnswer}
+use Rattle.flt_life.specs.declared.answer.StepAnswer.TheVariants as answers
+use Rattle.flt_life.specs.Answers.{Told, IsReplyWithin, IsWithin, reply_in, with_reply, told_by}
+
+-- ---- more bytes behind those of the responses change no reply that is kept
+
+piece_stays : (bytes more : List ℕ) (from size : ℕ) → from + size ≤ length bytes → take size (drop from (bytes ++ more)) ≡ take size (drop from bytes)
+piece_stays bytes more from size within =
+    let front : from ≤ length bytes = omega (arith, within) in
+    let rest = length-drop from bytes in
+    let fits : size ≤ length (drop from bytes) = omega (arith, within, rest) in
+    ap (take size) (drop-append-le from bytes more front) ∙ take-append-le size (drop from bytes) more fits
+
+reply_stays : (bytes more : List ℕ) (reply : KeptReply) → IsReplyWithin (length bytes) reply → reply_in (bytes ++ more) reply ≡ reply_in bytes reply
+reply_stays bytes more kept.Taken within = refl
+reply_stays bytes more (kept.Ignored cause) within = refl
+reply_stays bytes more (kept.Shown shown) within = refl
+reply_stays bytes more (kept.Response from size) within = ap reply_of (piece_stays bytes more from size within)
+reply_stays bytes more kept.Silent within = refl
+
+answer_stays : (bytes more : List ℕ) (answer : StepAnswer KeptReply) → IsWithin (length bytes) answer → with_reply (reply_in (bytes ++ more)) answer ≡ with_reply (reply_in bytes) answer
+answer_stays bytes more (answers.Dem told) within = ap (λ reply. answers.Dem (record { place = told.place; reply = reply })) (reply_stays bytes more told.reply within)
+answer_stays bytes more (answers.Saved number) within = refl
+answer_stays bytes more (answers.SaveFailed fault) within = refl
+answer_stays bytes more answers.Armed within = refl
+answer_stays bytes more answers.Dark within = refl
+
+all_stay : (bytes more : List ℕ) (answers : List (StepAnswer KeptReply)) → All (IsWithin (length bytes)) answers → told_by (bytes ++ more) answers ≡ told_by bytes answers
+all_stay bytes more [] within = refl
+all_stay bytes more (answer ∷ rest) within =
+    let first = answer_stays bytes more answer (All-head (IsWithin (length bytes)) answer rest within) in
+    let others = all_stay bytes more rest (All-tail (IsWithin (length bytes)) answer rest within) in
+    λ i. first i ∷ others i
+
+-- one answer more
+pub told_more : (bytes more : List ℕ) (before : List (StepAnswer KeptReply)) (answer : StepAnswer KeptReply) → All (IsWithin (length bytes)) before
+    → told_by (bytes ++ more) (before ++ answer ∷ []) ≡ told_by bytes before ++ with_reply (reply_in (bytes ++ more)) answer ∷ []
+told_more bytes more before answer within =
+    map-append (with_reply (reply_in (bytes ++ more))) before (answer ∷ []) ∙ ap (λ front. front ++ with_reply (reply_in (bytes ++ more)) answer ∷ []) (all_stay bytes more before within)
+
+-- ---- and each lies within as many or more
+
+reply_within_more : (few many : ℕ) → few ≤ many → (reply : KeptReply) → IsReplyWithin few reply → IsReplyWithin many reply
+reply_within_more few many less kept.Taken within = tt
+reply_within_more few many less (kept.Ignored cause) within = tt
+reply_within_more few many less (kept.Shown shown) within = tt
+reply_within_more few many less (kept.Response from size) within = omega (arith, less, within)
+reply_within_more few many less kept.Silent within = tt
+
+within_more : (few many : ℕ) → few ≤ many → (answer : StepAnswer KeptReply) → IsWithin few answer → IsWithin many answer
+within_more few many less (answers.Dem told) within = reply_within_more few many less told.reply within
+within_more few many less (answers.Saved number) within = tt
+within_more few many less (answers.SaveFailed fault) within = tt
+within_more few many less answers.Armed within = tt
+within_more few many less answers.Dark within = tt
+
+pub all_within_more : (few many : ℕ) → few ≤ many → (before : List (StepAnswer KeptReply)) (answer : StepAnswer KeptReply) → All (IsWithin few) before → IsWithin many answer
+    → All (IsWithin many) (before ++ answer ∷ [])
+all_within_more few many less before answer within last =
+    All-append (IsWithin many) before (answer ∷ []) (All-weaker (IsWithin few) (IsWithin many) (within_more few many less) before within) (All-cons (IsWithin many) answer [] last (All-nil _))

@@ -1,0 +1,79 @@
+-- What the steps of a script do, and what a step needs to be made.
+use Rattle.std.specs.Prelude.{ℕ, ◌+◌, List, [], ◌∷◌, ◌++◌, map}
+use Rattle.flt_flash.specs.State.{CanArm}
+use Rattle.flt_flash.specs.declared.arm.Arm.{Arm as Arming}
+use Rattle.flt_config.specs.declared.config.Config.{Config}
+use Rattle.flt_model.specs.declared.call.Op.{Op}
+use Rattle.flt_model.specs.declared.call.Op.TheVariants as ops
+use Rattle.flt_dcm.specs.Unit.{IsAdmitted}
+use Rattle.flt_script.specs.declared.step.Part.{Part}
+use Rattle.flt_script.specs.declared.step.Part.TheVariants.{One}
+use Rattle.flt_script.specs.declared.step.Step.{Step}
+use Rattle.flt_script.specs.declared.step.Step.TheVariants as steps
+use Rattle.flt_life.specs.declared.action.Action.{Action}
+use Rattle.flt_life.specs.declared.action.Action.TheVariants.{Call, Save, Arm}
+
+-- what a step does
+abbrev pub action_of : Step → Action
+action_of (steps.Report event report) = Call (ops.Report event report)
+action_of (steps.Show event) = Call (ops.Show event)
+action_of (steps.Cycle cycle) = Call (ops.Cycle cycle)
+action_of (steps.Tick ticks) = Call (ops.Tick ticks)
+action_of (steps.Signal index value) = Call (ops.Signal index value)
+action_of (steps.Request tester bytes) = Call (ops.Request tester bytes)
+action_of steps.Save = Save
+action_of (steps.Arming arm) = Arm arm
+
+-- what the step of a part does
+abbrev pub action_in : Part → Action
+action_in (One step) = action_of step
+
+-- what the steps of a life do, in order
+abbrev pub actions_in : List Part → List Action
+actions_in parts = map action_in parts
+
+-- a call of a step is none that a save makes
+abbrev pub IsStepCall : Op → Type 0
+IsStepCall ops.Snapshot = ⊥
+IsStepCall (ops.Saved number) = ⊥
+IsStepCall _ = Unit {0}
+
+-- a step whose numbers are in their ranges
+abbrev pub IsPossible : Config → Action → Type 0
+IsPossible c (Call op) = IsStepCall op × IsAdmitted c op
+IsPossible c Save = Unit {0}
+IsPossible c (Arm arm) = CanArm arm
+
+-- an arm whose numbers are in their ranges, or another step
+abbrev pub IsPossibleArm : Action → Type 0
+IsPossibleArm (Call op) = Unit {0}
+IsPossibleArm Save = Unit {0}
+IsPossibleArm (Arm arm) = CanArm arm
+
+-- the arm that a step makes, if it makes one
+abbrev pub arms_of : Action → List Arming
+arms_of (Call op) = []
+arms_of Save = []
+arms_of (Arm arm) = arm ∷ []
+
+-- the arms that steps make, in order
+abbrev pub all_arms : List Action → List Arming
+all_arms [] = []
+all_arms (action ∷ rest) = arms_of action ++ all_arms rest
+
+-- how many arms a step makes
+abbrev pub arm_count : Action → ℕ
+arm_count (Call op) = 0
+arm_count Save = 0
+arm_count (Arm arm) = 1
+
+-- how many calls a step makes at most: a save takes a snapshot, and is acknowledged
+abbrev pub call_count : Action → ℕ
+call_count (Call op) = 1
+call_count Save = 2
+call_count (Arm arm) = 0
+
+-- the bytes of the longest response to a step: a request has one
+abbrev pub response_size : Action → ℕ
+response_size (Call (ops.Request tester bytes)) = 512
+response_size _ = 0

@@ -1,0 +1,59 @@
+-- The answers to steps, with the machine's replies whole.
+use Rattle.std.specs.Prelude.{◌≤◌, ℕ, ◌+◌, List, [], ◌∷◌, map, take, drop, length}
+use Rattle.flt_dcm.specs.declared.reply_kind.ReplyKind.{ReplyKind}
+use Rattle.flt_dcm.specs.declared.reply_kind.ReplyKind.TheVariants as kinds
+use Rattle.flt_dcm.specs.ReplyKind.{reply_with}
+use Rattle.flt_model.specs.Response.{reply_of}
+use Rattle.flt_model.specs.declared.call.Reply.{Reply}
+use Rattle.flt_model.specs.declared.call.Reply.TheVariants as replies
+use Rattle.flt_life.specs.declared.answer.KeptReply.{KeptReply}
+use Rattle.flt_life.specs.declared.answer.KeptReply.TheVariants.{Taken, Ignored, Shown, Response, Silent}
+use Rattle.flt_life.specs.declared.answer.StepAnswer.{StepAnswer}
+use Rattle.flt_life.specs.declared.answer.StepAnswer.TheVariants.{Dem, Saved, SaveFailed, Armed, Dark}
+
+-- an answer to a step with the machine's reply
+abbrev pub Told : Type 0
+Told = StepAnswer Reply
+
+-- the reply of a call is changed so
+abbrev pub with_reply : {R S : Type 0} → (R → S) → StepAnswer R → StepAnswer S
+with_reply f (Dem told) = Dem (record { place = told.place; reply = f told.reply })
+with_reply f (Saved number) = Saved number
+with_reply f (SaveFailed fault) = SaveFailed fault
+with_reply f Armed = Armed
+with_reply f Dark = Dark
+
+-- the reply that is kept so beside these bytes of responses
+abbrev pub reply_in : List ℕ → KeptReply → Reply
+reply_in bytes Taken = replies.Taken
+reply_in bytes (Ignored cause) = replies.Ignored cause
+reply_in bytes (Shown shown) = replies.Shown shown
+reply_in bytes (Response from size) = reply_of (take size (drop from bytes))
+reply_in bytes Silent = replies.Silent
+
+-- a response that is kept lies within so many bytes
+abbrev pub IsReplyWithin : ℕ → KeptReply → Type 0
+IsReplyWithin bytes (Response from size) = from + size ≤ bytes
+IsReplyWithin bytes _ = Unit {0}
+
+-- the same of the response in an answer
+abbrev pub IsWithin : ℕ → StepAnswer KeptReply → Type 0
+IsWithin bytes (Dem told) = IsReplyWithin bytes told.reply
+IsWithin bytes _ = Unit {0}
+
+-- the answers that are kept beside these bytes, in their order
+abbrev pub told_by : List ℕ → List (StepAnswer KeptReply) → List Told
+told_by bytes answers = map (with_reply (reply_in bytes)) answers
+
+-- the answer of this kind with this response
+abbrev pub told_with : List ℕ → StepAnswer ReplyKind → Told
+told_with response answer = with_reply (λ kind. reply_with kind response) answer
+
+-- how many bytes of a response an answer of this kind has
+abbrev pub size_of : ReplyKind → List ℕ → ℕ
+size_of kinds.Response response = length response
+size_of _ response = 0
+
+abbrev pub response_length : StepAnswer ReplyKind → List ℕ → ℕ
+response_length (Dem told) response = size_of told.reply response
+response_length _ response = 0

@@ -1,0 +1,11 @@
+pub mod Actions
+pub mod Answers
+pub mod Carried
+pub mod Causes
+pub mod Chain
+pub mod Journal
+pub mod Laws
+pub mod Lives
+pub mod Moment
+pub mod Saving
+pub mod Statuses

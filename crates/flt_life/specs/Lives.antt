@@ -1,0 +1,98 @@
+-- The lives of a run: how they follow the steps of a script, and how they are linked by their boots; all lists begin with the
+-- newest.
+use Rattle.std.specs.Prelude.{◌≡◌, ◌⊎◌, ℕ, ◌+◌, Bool, true, false, List, [], ◌∷◌, ◌++◌, length, map, reverse, take, All, IfSome, Option, IsTrue, IsFalse, Vec}
+use Rattle.flt_flash.specs.declared.arm.Arm.{Arm}
+use Rattle.flt_flash.specs.declared.arm.ArmMade.{ArmMade}
+use Rattle.flt_flash.specs.State.{Boot as PowerUp}
+use Rattle.flt_flash.specs.Blocks.{DeviceState}
+use Rattle.flt_config.specs.declared.config.Config.{Config}
+use Rattle.flt_script.specs.declared.step.Part.{Part}
+use Rattle.flt_generation.specs.Holding.{Generation}
+use Rattle.flt_life.specs.declared.action.Action.{Action}
+use Rattle.flt_life.specs.declared.action.Action.TheVariants as actions
+use Rattle.flt_life.specs.declared.answer.StepAnswer.TheVariants as answers
+use Rattle.flt_life.specs.declared.life.Boot.{Boot}
+use Rattle.flt_life.specs.declared.life.Boot.TheVariants.{Started, Dark, Refused}
+use Rattle.flt_life.specs.declared.life.Life.{Life}
+use Rattle.flt_life.specs.declared.replies.LaneReplies.{LaneReplies}
+use Rattle.flt_life.specs.Actions.{actions_in, all_arms}
+use Rattle.flt_life.specs.Answers.{Told, told_by}
+use Rattle.flt_life.specs.Carried.{AreCarriedOut}
+use Rattle.flt_life.specs.Chain.{LifeView, start_from, AreLinked, arms_between}
+use Rattle.flt_life.specs.Journal.{Journal}
+use Rattle.flt_life.specs.Moment.{Moment, Medium, IsSoundAt, boot_in}
+
+-- the answers of lane 0, in their order
+abbrev pub told_of : List LaneReplies → List Told
+told_of [] = []
+told_of (lane ∷ lanes) = told_by lane.responses.items lane.answers.items
+
+-- a life as contracts see it
+abbrev pub view_of : Life → LifeView
+view_of life = record { boot = life.boot; journal = reverse life.journal.items; answers = reverse (told_of life.replies.items) }
+
+-- what a dark life answers to a step
+abbrev pub dark_answer : Action → Told
+dark_answer (actions.Call op) = answers.Dark
+dark_answer actions.Save = answers.Dark
+dark_answer (actions.Arm arm) = answers.Armed
+
+-- the calls and the answers of a life are those of its steps, by how it began
+abbrev pub IsPlayedBy : Config → List Action → Journal → List Told → Boot → Type 0
+IsPlayedBy c steps journal told (Started number state) = AreCarriedOut (start_from c state) (reverse steps) journal told
+IsPlayedBy c steps journal told Dark = (journal ≡ []) × (told ≡ reverse (map dark_answer steps))
+IsPlayedBy c steps journal told (Refused fault) = (journal ≡ []) × (told ≡ [])
+
+abbrev pub IsPlayed : Config → List Action → LifeView → Type 0
+IsPlayed c steps life = IsPlayedBy c steps life.journal life.answers life.boot
+
+-- the lives of these steps
+abbrev pub ArePlayed : Config → List (List Action) → List LifeView → Type 0
+ArePlayed c [] [] = Unit {0}
+ArePlayed c [] (life ∷ lives) = ⊥
+ArePlayed c (steps ∷ earlier) [] = ⊥
+ArePlayed c (steps ∷ earlier) (life ∷ lives) = IsPlayed c steps life × ArePlayed c earlier lives
+
+abbrev pub is_refused : Boot → Bool
+is_refused (Started number state) = false
+is_refused Dark = false
+is_refused (Refused fault) = true
+
+-- no life but the last is refused, and where that one is not, there are as many as asked
+abbrev pub AreEnded : ℕ → List LifeView → Type 0
+AreEnded many [] = many ≡ 0
+AreEnded many (life ∷ earlier) = All (λ l. IsFalse (is_refused l.boot)) earlier × (IsTrue (is_refused life.boot) ⊎ (many ≡ length earlier + 1))
+
+-- what the steps of so many of the first lives of a script do, the newest first
+abbrev pub first_lives : ℕ → List (List Part) → List (List Action)
+first_lives many script = reverse (map actions_in (take many script))
+
+-- lives without where they lie in memory
+abbrev pub lists : {A : Type 0} → List (Vec Part A) → List (List Part)
+lists lives = map (λ life. life.items) lives
+
+-- the arms that the steps of a life give to the bench: a refused life makes no step
+abbrev pub arms_by : List Action → Boot → List Arm
+arms_by steps (Started number state) = all_arms steps
+arms_by steps Dark = all_arms steps
+arms_by steps (Refused fault) = []
+
+-- the arms of lives, in the order in which they are given
+abbrev pub arms_given : List (List Action) → List LifeView → List Arm
+arms_given [] lives = []
+arms_given (steps ∷ earlier) [] = []
+arms_given (steps ∷ earlier) (life ∷ lives) = arms_given earlier lives ++ arms_by steps life.boot
+
+-- the arms that were made between two states of a bench, where both tell theirs, are these
+abbrev pub AreGiven : List Arm → Option (List ArmMade) → Option (List ArmMade) → Type 0
+AreGiven arms before after = IfSome (arms_between before after) (λ made. map (λ a. a.arm) made ≡ arms)
+
+-- the boots that were added between two states of a device, and the lives of a run between them
+pub record IsLinked (c : Config) (medium : Medium) (before now : DeviceState) (lives : List LifeView) : Type 0 where
+  pub boots : List PowerUp
+  pub is : now.bench.boots ≡ before.bench.boots ++ reverse boots
+  pub linked : AreLinked c medium (arms_between before.bench.arms now.bench.arms) (length before.bench.boots) (boot_in now) boots lives
+
+-- a sound image stays sound
+abbrev pub StaysSound : Config → Moment → Moment → Type 0
+StaysSound c before after = (held spare : Generation) → IsSoundAt c before held spare → (now_held : Generation) × (now_spare : Generation) × IsSoundAt c after now_held now_spare

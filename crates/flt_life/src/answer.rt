@@ -1,0 +1,35 @@
+// What a step is answered.
+use flt_model::{Cause, Shown};
+use flt_store::SaveFault;
+use flt_turn::Answer;
+
+/// The reply to a call as a lane keeps it. A response is told by its place among the bytes of the lane's responses, so that an
+/// answer takes few bytes.
+#[derive(Clone, Copy, Debug, PartialEq, Eq)]
+pub enum KeptReply {
+    /// The call was carried out.
+    Taken,
+    /// The report changed nothing.
+    Ignored(Cause),
+    /// What is shown of the event.
+    Shown(Shown),
+    /// The response to a tester, 1 to 512 bytes, from this one on.
+    Response { from: usize, length: usize },
+    /// The request suppressed its positive response.
+    Silent,
+}
+
+/// The answer to a step, in which the reply to a call is an `R`.
+#[derive(Drop)]
+pub enum StepAnswer<R> {
+    /// The machine's reply to the call, and its place in the journal.
+    Dem(Answer<R>),
+    /// The number under which the state was saved, 1 to 2^32 - 1.
+    Saved(u32),
+    /// Why it was not saved.
+    SaveFailed(SaveFault),
+    /// The arm was made.
+    Armed,
+    /// The life is dark, and the step was not made.
+    Dark,
+}

@@ -1,0 +1,14 @@
+//! What the chain of lives comes to.
+ghost use Rattle.flt_life.specs.Laws.{SoundRunsStaySound};
+ghost use Rattle.flt_life.specs.Statuses.{StatusesHaveCauses};
+
+/// Where the first image of a run is sound, each image is, also at the end, and no life is refused as damaged or of another
+/// configuration.
+pub fn sound_runs_stay_sound()
+    ensures { SoundRunsStaySound }
+{}
+
+/// The status of a run, which follows from how its last life began, has its cause.
+pub fn statuses_have_causes()
+    ensures { StatusesHaveCauses }
+{}

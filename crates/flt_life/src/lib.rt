@@ -1,0 +1,20 @@
+//! The lives of a controller, each from one power-up to the next: what a step calls and is answered, and what a life makes of
+//! the image that it found.
+//!
+//! The definitions of the chain of lives stand here, over any machine that keeps blocks, and the types in which a life is told.
+//! It stands on `flt_script` for the steps, on `flt_model` and `flt_turn` for the calls and their answers, and on the column of
+//! the storage for what an image holds. The layers above make lives: without a lock, and in lanes. Read `specs/Chain` first (what
+//! holds of a life and its two power-ups), then `Carried` (the calls and the answer of a step), `Journal`, `Saving` and `Causes`.
+#![tactic(auto)]
+
+mod action;
+mod answer;
+pub mod laws;
+mod life;
+mod replies;
+
+pub use action::{Action, action_in, call_count, response_size};
+pub use answer::{KeptReply, StepAnswer};
+pub use flt_turn::{Answer, Entry};
+pub use life::{Boot, Life};
+pub use replies::LaneReplies;
