@@ -1,5 +1,5 @@
 -- The answers to steps, with the machine's replies whole.
-use Rattle.std.specs.Prelude.{◌≤◌, ℕ, ◌+◌, List, [], ◌∷◌, map, take, drop, length}
+use Rattle.std.specs.Prelude.{ℕ, ◌+◌, List, Bool, true, IsTrue, nat_le, map, take, drop, length}
 use Rattle.flt_dcm.specs.declared.reply_kind.ReplyKind.{ReplyKind}
 use Rattle.flt_dcm.specs.declared.reply_kind.ReplyKind.TheVariants as kinds
 use Rattle.flt_dcm.specs.ReplyKind.{reply_with}
@@ -32,14 +32,17 @@ reply_in bytes (Response from size) = reply_of (take size (drop from bytes))
 reply_in bytes Silent = replies.Silent
 
 -- a response that is kept lies within so many bytes
-abbrev pub IsReplyWithin : ℕ → KeptReply → Type 0
-IsReplyWithin bytes (Response from size) = from + size ≤ bytes
-IsReplyWithin bytes _ = Unit {0}
+abbrev pub is_reply_within : ℕ → KeptReply → Bool
+is_reply_within bytes (Response from size) = nat_le (from + size) bytes
+is_reply_within bytes _ = true
 
 -- the same of the response in an answer
+abbrev pub is_within : ℕ → StepAnswer KeptReply → Bool
+is_within bytes (Dem told) = is_reply_within bytes told.reply
+is_within bytes _ = true
+
 abbrev pub IsWithin : ℕ → StepAnswer KeptReply → Type 0
-IsWithin bytes (Dem told) = IsReplyWithin bytes told.reply
-IsWithin bytes _ = Unit {0}
+IsWithin bytes answer = IsTrue (is_within bytes answer)
 
 -- the answers that are kept beside these bytes, in their order
 abbrev pub told_by : List ℕ → List (StepAnswer KeptReply) → List Told

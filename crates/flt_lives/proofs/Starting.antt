@@ -1,5 +1,5 @@
 -- What a start-up finds, and what it leaves where it fails.
-use Rattle.std.proofs.Common.{◌≡◌, inl, inr, ⊎_elim, ℕ, ◌+◌, [], ◌∷◌, length, Option, Some, None, Result, Ok, Err, refl, sym, ap, subst, arith, ◌∙◌}
+use Rattle.std.proofs.Common.{◌≡◌, List, inl, inr, ⊎_elim, ℕ, ◌+◌, [], ◌∷◌, length, Option, Some, None, Result, Ok, Err, refl, sym, ap, subst, arith, ◌∙◌}
 use Rattle.std.specs.Prelude.{IfOk}
 use Rattle.std.proofs.lemmas.List.{length-append}
 use Rattle.flt_flash.specs.Blocks.{BlocksState}
@@ -19,8 +19,10 @@ use Rattle.flt_life.specs.Moment.{Moment, moment_of, boot_of, IsSoundAt}
 use Rattle.flt_life.specs.Chain.{IsFound, Finds, KeepsSound, Unchanged, IsRefused, Holds, HoldsBy, Leaves, LifeView}
 use Rattle.flt_life.specs.Lives.{StaysSound}
 use Rattle.flt_lives.specs.Living.{IsLived}
-use Rattle.flt_life.specs.declared.life.Boot.TheVariants.{Started, Refused}
+use Rattle.flt_life.specs.declared.life.Boot.TheVariants.{Started, Dark, Refused}
 use Rattle.flt_life.specs.declared.life.Boot.{Boot}
+use Rattle.flt_flash.specs.State.{HasRisenBy}
+use Rattle.flt_life.specs.Answers.{Told}
 use Rattle.flt_life.specs.Causes.{AreCaused}
 use Rattle.flt_lives.specs.Going.{ArmsSince, GoesOn, AddsLife}
 use Rattle.flt_lives.proofs.Riding.{goes_nowhere}
@@ -116,6 +118,18 @@ module _ {B : Type 0} {b : Ghosts B} (c : Config) (first : BlocksState) (before 
     holds = subst (λ (m : Moment). Holds c m (moment_of last) (driver_of after).device.faults life) (same_moment first (driver_of before) powers)
         (subst (λ (b : Boot). HoldsBy c (moment_of (driver_of before)) (moment_of last) (driver_of after).device.faults life b) (sym boot)
         (finds c before after number state starts, starts.usable, leaves, caused));
+    later = goes.counts;
+    arms = life_arms first (driver_of before) powers (driver_of after) last follows goes;
+  }
+
+  pub lived_dark : (last : BlocksState) (told : List Told) → HasRisenBy 3 (driver_of before).device.faults (driver_of after).device.faults → Follows (driver_of before) (driver_of after)
+      → GoesOn (driver_of after) last → moment_of last ≡ moment_of (driver_of after) → KeepsSound c (moment_of (driver_of before)) (moment_of (driver_of after))
+      → IsLived c first last (record { boot = Dark; journal = []; answers = told })
+  lived_dark last told three follows goes same kept = record {
+    ended = (driver_of after).device.faults;
+    holds = subst (λ (m : Moment). Holds c m (moment_of last) (driver_of after).device.faults (record { boot = Dark; journal = []; answers = told }))
+        (same_moment first (driver_of before) powers)
+        (three, refl, subst (λ (m : Moment). KeepsSound c (moment_of (driver_of before)) m) (sym same) kept);
     later = goes.counts;
     arms = life_arms first (driver_of before) powers (driver_of after) last follows goes;
   }

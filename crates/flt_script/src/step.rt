@@ -3,7 +3,6 @@ ghost use Rattle.flt_script.specs.Bytes.{letter_of};
 
 use crate::bytes::HexBytes;
 use arrayvec::ArrayVec;
-use flt_flash::Arm;
 use flt_model::{REQUEST, Report};
 use std::fmt;
 
@@ -38,10 +37,6 @@ pub enum Step {
         tester: u8,
         bytes: ArrayVec<u8, REQUEST>,
     },
-    /// `save`
-    Save,
-    /// arm
-    Arming(Arm),
 }
 
 /// A part of a life, which is carried out before the next one.
@@ -94,8 +89,6 @@ impl fmt::Display for Step {
                 let bytes = HexBytes(bytes);
                 write!(f, "t {letter} {bytes}")
             }
-            Step::Save => write!(f, "save"),
-            Step::Arming(_) => write!(f, "arm"),
         }
     }
 }

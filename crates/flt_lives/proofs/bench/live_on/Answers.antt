@@ -5,8 +5,7 @@ use Rattle.flt_store.specs.Store.{driver_of}
 use Rattle.flt_fee.specs.Fee.{device_of, state_of}
 use Rattle.flt_life.specs.Moment.{IsOn}
 use Rattle.flt_lives.specs.Sectors.{sectors}
-use Rattle.flt_lives.specs.Linked.{IsLinked}
-use Rattle.flt_lives.specs.Living.{view_of}
+use Rattle.flt_life.specs.Lives.{IsLinked, view_of}
 use Rattle.flt_lives.proofs.Bridge.{is_on_sectors, sound_on_device}
 use Rattle.flt_lives.proofs.bench.live_on.Goals as goal
 

@@ -2,7 +2,7 @@ use Rattle.std.proofs.Common.{ap, subst}
 use Rattle.flt_flash.specs.Blocks.{BlocksState, DeviceState}
 use Rattle.flt_fee.specs.Fee.{device_of}
 use Rattle.flt_life.specs.Moment.{moment_at, boot_in}
-use Rattle.flt_lives.specs.Living.{StaysSound}
+use Rattle.flt_life.specs.Lives.{StaysSound}
 use Rattle.flt_lives.specs.Sectors.{sectors}
 use Rattle.flt_lives.proofs.bench.run_on_bench.Goals as goal
 

@@ -1,42 +1,76 @@
-use Rattle.std.proofs.Common.{◌≡◌, ◌∙◌, ◌+◌, ◌∷◌, [], ◌++◌, map, reverse, ap, sym, subst, refl, arith, List, ℕ, ◌<◌, length, take, get_or, inl, inr}
-use Rattle.std.specs.Prelude.{sum_by, All, IsFalse, Vec}
-use Rattle.std.proofs.lemmas.List.{reverse-append, map_more, length-append, length-map, length-reverse}
+use Rattle.std.proofs.Common.{◌≡◌, ◌∙◌, ◌+◌, ◌∷◌, [], ◌++◌, map, reverse, ap, sym, subst, refl, arith, List, ℕ, ◌<◌, ◌≤◌, length, take, get_or, inl, inr}
+use Rattle.std.specs.Prelude.{sum_by, vec_len, All, IsFalse, Option, Vec}
+use Rattle.std.proofs.lemmas.List.{reverse-append, map_more, take-map, take_more, map-append, length-append, length-map, length-reverse}
 use Rattle.std.proofs.lemmas.List.Elements.{All-nil, All-cons, All-tail}
+use Rattle.std.proofs.lemmas.List.Sums.{sum_by-drop_more, sum_by-take-le, sum_by_push}
+use Rattle.flt_flash.specs.declared.arm.ArmMade.{ArmMade}
 use Rattle.flt_config.specs.declared.config.Config.{Config}
-use Rattle.flt_life.specs.declared.action.Action.{Action}
-use Rattle.std.proofs.lemmas.List.Sums.{sum_by-drop_more}
+use Rattle.flt_script.specs.declared.step.Part.{Part}
 use Rattle.flt_store.specs.Store.{driver_of}
 use Rattle.flt_store.specs.Cause.{HasRoom}
-use Rattle.flt_life.specs.Chain.{LifeView}
-use Rattle.flt_lives.specs.Going.{arms_of}
-use Rattle.flt_lives.specs.Living.{view_of, IsPlayed}
-use Rattle.flt_lives.specs.Linked.{IsLinkedBy, ArePlayed, AreEnded, first_lives, is_refused}
+use Rattle.flt_life.specs.declared.action.Action.{Action}
 use Rattle.flt_life.specs.declared.life.Life.{Life}
+use Rattle.flt_life.specs.Actions.{action_in, actions_in, arm_count}
+use Rattle.flt_life.specs.Chain.{LifeView}
+use Rattle.flt_life.specs.Lives.{ArePlayed, AreEnded, IsPlayed, arms_by, arms_given, first_lives, is_refused, lists, view_of}
+use Rattle.flt_lives.specs.Going.{WereGiven}
+use Rattle.flt_lives.specs.Linked.{IsLinkedBy}
+use Rattle.flt_lives.proofs.Giving.{none_given, given_further, all_given}
 use Rattle.flt_lives.proofs.Linking.{links_none, links_more, linked_of}
 use Rattle.flt_lives.proofs.lives.run_lives.Goals as goal
 
 views_more : (lived next : List Life) (life : Life) → next ≡ lived ++ life ∷ [] → map view_of (reverse next) ≡ view_of life ∷ map view_of (reverse lived)
 views_more lived next life is = ap (λ items. map view_of (reverse items)) is ∙ ap (map view_of) (reverse-append lived (life ∷ []))
 
-module _ {A : Type 0} (c : Config) (script : List (Vec Action A)) (index : ℕ) (item : Vec Action A) (within : index < length script) (is : item ≡ get_or script index item) where
-  front : first_lives (index + 1) script ≡ item.items ∷ first_lives index script
+module _ {A : Type 0} (c : Config) (script : List (Vec Part A)) (index : ℕ) (item : Vec Part A) (within : index < length script) (is : item ≡ get_or script index item) where
+  front : first_lives (index + 1) (lists script) ≡ actions_in item.items ∷ first_lives index (lists script)
   front =
-      ap reverse (map_more (λ (steps : Vec Action A). steps.items) script index item within) ∙ reverse-append (map (λ (steps : Vec Action A). steps.items) (take index script)) ((get_or script index item).items ∷ [])
-      ∙ ap (λ (steps : Vec Action A). steps.items ∷ first_lives index script) (sym is)
+      ap (λ lives. reverse (map actions_in lives)) shorter
+      ∙ ap reverse (map-append actions_in (take index (lists script)) (item.items ∷ [])) ∙ reverse-append (map actions_in (take index (lists script))) (actions_in item.items ∷ [])
+    where
+      shorter : take (index + 1) (lists script) ≡ take index (lists script) ++ item.items ∷ []
+      shorter =
+          take-map (λ (life : Vec Part A). life.items) (index + 1) script ∙ map_more (λ (life : Vec Part A). life.items) script index item within
+          ∙ (λ i. sym (take-map (λ (life : Vec Part A). life.items) index script) i ++ (sym is i).items ∷ [])
 
-  played_more : (steps : List Action) → steps ≡ item.items → (lived : List LifeView) (life : LifeView) (views : List LifeView) → views ≡ life ∷ lived → IsPlayed c steps life
-      → ArePlayed c (first_lives index script) lived → ArePlayed c (first_lives (index + 1) script) views
-  played_more steps steps_are lived life views views_are one all =
-      subst (λ front. ArePlayed c front views) (sym front)
-      (subst (λ views. ArePlayed c (item.items ∷ first_lives index script) views) (sym views_are)
-      (subst (λ steps. IsPlayed c steps life) steps_are one, all))
+  played_more : (parts : List Part) → parts ≡ item.items → (lived : List LifeView) (life : LifeView) (views : List LifeView) → views ≡ life ∷ lived → IsPlayed c (actions_in parts) life
+      → ArePlayed c (first_lives index (lists script)) lived → ArePlayed c (first_lives (index + 1) (lists script)) views
+  played_more parts parts_are lived life views views_are one all =
+      subst (λ (front : List (List Action)). ArePlayed c front views) (sym front)
+      (subst (λ (views : List LifeView). ArePlayed c (actions_in item.items ∷ first_lives index (lists script)) views) (sym views_are)
+      (subst (λ (parts : List Part). IsPlayed c (actions_in parts) life) parts_are one, all))
+
+  given_more : (parts : List Part) → parts ≡ item.items → (lived : List LifeView) (life : LifeView) (views : List LifeView) → views ≡ life ∷ lived → (first second third : Option (List ArmMade))
+      → WereGiven (arms_given (first_lives index (lists script)) lived) first second → WereGiven (arms_by (actions_in parts) life.boot) second third
+      → WereGiven (arms_given (first_lives (index + 1) (lists script)) views) first third
+  given_more parts parts_are lived life views views_are first second third before after =
+      subst (λ (front : List (List Action)). WereGiven (arms_given front views) first third) (sym front)
+      (subst (λ (views : List LifeView). WereGiven (arms_given (actions_in item.items ∷ first_lives index (lists script)) views) first third) (sym views_are)
+      (given_further (arms_given (first_lives index (lists script)) lived) (arms_by (actions_in item.items) life.boot) first second third before
+      (subst (λ (parts : List Part). WereGiven (arms_by (actions_in parts) life.boot) second third) parts_are after)))
+
+  one_of_many : vec_len item ≤ sum_by (λ life. vec_len life) script
+  one_of_many =
+      let before = sum_by_push (λ (life : Vec Part A). vec_len life) (take index script) item in
+      let more : take (index + 1) script ≡ take index script ++ item ∷ [] = take_more script index item within ∙ ap (λ d. take index script ++ d ∷ []) (sym is) in
+      let sum = ap (sum_by (λ (life : Vec Part A). vec_len life)) more in
+      let most = sum_by-take-le (λ (life : Vec Part A). vec_len life) script (index + 1) in
+      omega (arith, before, sum, most)
 
 ended_all : (script many : ℕ) (views : List LifeView) → script ≡ many → length views ≡ many → All (λ (life : LifeView). IsFalse (is_refused life.boot)) views → AreEnded script views
 ended_all script many [] same size going = omega (arith, same, size)
 ended_all script many (life ∷ earlier) same size going = (All-tail (λ (l : LifeView). IsFalse (is_refused l.boot)) life earlier going, inr (omega (arith, same, size)))
 
-pub loop-steps-init : goal.loop-steps-init
-loop-steps-init g c = record {
+pub run_life-requires-clause-few : goal.run_life-requires-clause-few
+run_life-requires-clause-few g c =
+    let most = one_of_many c.args.config.now c.args.lives.now c.loop-parts.parts-index c.parts-item.result c.loop-parts-test.true c.parts-item.is in
+    let few = c.requires.few in
+    let size = ap length c.deref.ensures.value in
+    let same = c.parts-item.result.ok.0 in
+    omega (arith, most, few, size, same)
+
+pub loop-parts-init : goal.loop-parts-init
+loop-parts-init g c = record {
   config = refl;
   room = c.requires.room;
   same_room = refl;
@@ -45,6 +79,7 @@ loop-steps-init g c = record {
   sound = λ h s sound. (h, s, sound);
   many = ap length c.in_ok-lived.ensures.items;
   played = subst (λ (items : List Life). ArePlayed c.args.config.now [] (map view_of (reverse items))) (sym c.in_ok-lived.ensures.items) tt;
+  given = none_given (driver_of c.args.store.now).device.bench.arms;
   going = subst (λ (items : List Life). All (λ (life : LifeView). IsFalse (is_refused life.boot)) (map view_of (reverse items))) (sym c.in_ok-lived.ensures.items) (All-nil _);
   linked = λ medium keeps.
       subst (λ (items : List Life). IsLinkedBy c.args.config.now medium (driver_of c.args.store.now) (driver_of c.args.store.now) (map view_of (reverse items))) (sym c.in_ok-lived.ensures.items)
@@ -54,77 +89,101 @@ loop-steps-init g c = record {
 pub returns-then-ends-clause-linked : goal.returns-then-ends-clause-linked
 returns-then-ends-clause-linked g c = λ medium keeps.
     let before = driver_of c.args.store.now in
-    let now = driver_of c.loop-steps.store in
+    let now = driver_of c.loop-parts.store in
     let next = driver_of c.run_life.new.store in
-    let room = subst (HasRoom c.args.config.now) (sym c.run_life.ensures.adds.room) c.loop-steps.invariant.room in
-    let views = views_more c.loop-steps.lived.items c.push.new.self.items c.in_ok-life.life c.in_ok-push.ensures.items in
+    let adds = c.in_ok-life.ensures.adds in
+    let room = subst (HasRoom c.args.config.now) (sym adds.room) c.loop-parts.invariant.room in
+    let views = views_more c.loop-parts.lived.items c.push.new.self.items c.in_ok-life.life c.in_ok-push.ensures.items in
     linked_of c.args.config.now medium before next (map view_of (reverse c.push.new.self.items))
     (subst (λ (views : List LifeView). IsLinkedBy c.args.config.now medium before next views) (sym views)
-    (links_more c.args.config.now medium before now next (map view_of (reverse c.loop-steps.lived.items)) (view_of c.in_ok-life.life)
-    (keeps c.loop-steps.store.nvm.blocks c.loop-steps.store.numbers c.loop-steps.invariant.room)
+    (links_more c.args.config.now medium before now next (map view_of (reverse c.loop-parts.lived.items)) (view_of c.in_ok-life.life)
+    (keeps c.loop-parts.store.nvm.blocks c.loop-parts.store.numbers c.loop-parts.invariant.room)
     (keeps c.run_life.new.store.nvm.blocks c.run_life.new.store.numbers room)
-    (c.loop-steps.invariant.linked medium keeps) c.in_ok-life.ensures.lived c.run_life.ensures.adds))
+    (c.loop-parts.invariant.linked medium keeps) c.in_ok-life.ensures.lived adds))
 
-pub loop-steps-preserved : goal.loop-steps-preserved
-loop-steps-preserved g c =
+pub loop-parts-preserved : goal.loop-parts-preserved
+loop-parts-preserved g c =
     let before = driver_of c.args.store.now in
-    let now = driver_of c.loop-steps.store in
+    let now = driver_of c.loop-parts.store in
     let next = driver_of c.run_life.new.store in
-    let room = subst (HasRoom c.args.config.now) (sym c.run_life.ensures.adds.room) c.loop-steps.invariant.room in
-    let views = views_more c.loop-steps.lived.items c.push.new.self.items c.in_ok-life.life c.in_ok-push.ensures.items in
-    let cost = sum_by-drop_more (λ steps. sum_by arms_of steps.items) c.args.lives.now c.loop-steps.steps-index c.steps-item.result c.loop-steps-test.true in
-    let steps = c.deref.ensures.value in
-    let this = ap (λ steps. sum_by arms_of steps.items) c.steps-item.is in
-    let spent = ap (sum_by arms_of) c.deref.ensures.value in
-    let armed = c.run_life.ensures.armed in
-    let was = c.loop-steps.invariant.arms in
-    let left = c.run_life.ensures.adds.boots_left in
-    let boots = c.loop-steps.invariant.boots in
+    let adds = c.in_ok-life.ensures.adds in
+    let room = subst (HasRoom c.args.config.now) (sym adds.room) c.loop-parts.invariant.room in
+    let views = views_more c.loop-parts.lived.items c.push.new.self.items c.in_ok-life.life c.in_ok-push.ensures.items in
+    let cost = sum_by-drop_more (λ life. sum_by arm_count (actions_in life.items)) c.args.lives.now c.loop-parts.parts-index c.parts-item.result c.loop-parts-test.true in
+    let this = ap (λ life. sum_by arm_count (actions_in life.items)) c.parts-item.is in
+    let spent = ap (λ parts. sum_by arm_count (actions_in parts)) c.deref.ensures.value in
+    let armed = c.in_ok-life.ensures.armed in
+    let was = c.loop-parts.invariant.arms in
+    let left = adds.boots_left in
+    let boots = c.loop-parts.invariant.boots in
     record {
-      config = c.run_life.ensures.config ∙ c.loop-steps.invariant.config;
+      config = c.run_life.ensures.config ∙ c.loop-parts.invariant.config;
       room = room;
-      same_room = c.run_life.ensures.adds.room ∙ c.loop-steps.invariant.same_room;
+      same_room = adds.room ∙ c.loop-parts.invariant.same_room;
       boots = omega (arith, left, boots);
       arms = omega (arith, cost, this, spent, armed, was);
-      sound = λ h s sound. (let one = c.loop-steps.invariant.sound h s sound in c.run_life.ensures.sound one.0 one.1 one.2);
-      many = (let many = c.loop-steps.invariant.many in let size = ap length c.in_ok-push.ensures.items ∙ length-append c.loop-steps.lived.items (c.in_ok-life.life ∷ []) in omega (arith, many, size));
-      played = played_more c.args.config.now c.args.lives.now c.loop-steps.steps-index c.steps-item.result c.loop-steps-test.true c.steps-item.is _ c.deref.ensures.value
-          (map view_of (reverse c.loop-steps.lived.items)) (view_of c.in_ok-life.life) (map view_of (reverse c.push.new.self.items)) views c.in_ok-life.ensures.played c.loop-steps.invariant.played;
+      sound = λ h s sound. (let one = c.loop-parts.invariant.sound h s sound in c.in_ok-life.ensures.sound one.0 one.1 one.2);
+      many = (let many = c.loop-parts.invariant.many in let size = ap length c.in_ok-push.ensures.items ∙ length-append c.loop-parts.lived.items (c.in_ok-life.life ∷ []) in omega (arith, many, size));
+      played = played_more c.args.config.now c.args.lives.now c.loop-parts.parts-index c.parts-item.result c.loop-parts-test.true c.parts-item.is _ c.deref.ensures.value
+          (map view_of (reverse c.loop-parts.lived.items)) (view_of c.in_ok-life.life) (map view_of (reverse c.push.new.self.items)) views c.in_ok-life.ensures.played c.loop-parts.invariant.played;
+      given = given_more c.args.config.now c.args.lives.now c.loop-parts.parts-index c.parts-item.result c.loop-parts-test.true c.parts-item.is _ c.deref.ensures.value
+          (map view_of (reverse c.loop-parts.lived.items)) (view_of c.in_ok-life.life) (map view_of (reverse c.push.new.self.items)) views
+          before.device.bench.arms now.device.bench.arms next.device.bench.arms c.loop-parts.invariant.given c.in_ok-life.ensures.given;
       going = subst (All (λ (life : LifeView). IsFalse (is_refused life.boot))) (sym views)
-          (All-cons (λ (life : LifeView). IsFalse (is_refused life.boot)) (view_of c.in_ok-life.life) (map view_of (reverse c.loop-steps.lived.items)) (sym c.is_refused-ends.ensures ∙ c.if-ends.false) c.loop-steps.invariant.going);
+          (All-cons (λ (life : LifeView). IsFalse (is_refused life.boot)) (view_of c.in_ok-life.life) (map view_of (reverse c.loop-parts.lived.items)) (sym c.is_refused-ends.ensures ∙ c.if-ends.false) c.loop-parts.invariant.going);
       linked = λ medium keeps.
           subst (λ (views : List LifeView). IsLinkedBy c.args.config.now medium before next views) (sym views)
-          (links_more c.args.config.now medium before now next (map view_of (reverse c.loop-steps.lived.items)) (view_of c.in_ok-life.life)
-          (keeps c.loop-steps.store.nvm.blocks c.loop-steps.store.numbers c.loop-steps.invariant.room)
+          (links_more c.args.config.now medium before now next (map view_of (reverse c.loop-parts.lived.items)) (view_of c.in_ok-life.life)
+          (keeps c.loop-parts.store.nvm.blocks c.loop-parts.store.numbers c.loop-parts.invariant.room)
           (keeps c.run_life.new.store.nvm.blocks c.run_life.new.store.numbers room)
-          (c.loop-steps.invariant.linked medium keeps) c.in_ok-life.ensures.lived c.run_life.ensures.adds);
+          (c.loop-parts.invariant.linked medium keeps) c.in_ok-life.ensures.lived adds);
     }
 
 pub returns-clause-linked : goal.returns-clause-linked
 returns-clause-linked g c = λ medium keeps.
-    linked_of c.args.config.now medium (driver_of c.args.store.now) (driver_of c.loop-steps.store) (map view_of (reverse c.loop-steps.lived.items)) (c.loop-steps.invariant.linked medium keeps)
+    linked_of c.args.config.now medium (driver_of c.args.store.now) (driver_of c.loop-parts.store) (map view_of (reverse c.loop-parts.lived.items)) (c.loop-parts.invariant.linked medium keeps)
 
 pub returns-then-ends-clause-played : goal.returns-then-ends-clause-played
 returns-then-ends-clause-played g c =
-    let views = views_more c.loop-steps.lived.items c.push.new.self.items c.in_ok-life.life c.in_ok-push.ensures.items in
-    let many = c.loop-steps.invariant.many in
-    let size : length c.push.new.self.items ≡ c.loop-steps.steps-index + 1 = ap length c.in_ok-push.ensures.items ∙ length-append c.loop-steps.lived.items (c.in_ok-life.life ∷ []) ∙ ap (λ n. n + 1) many in
-    subst (λ n. ArePlayed c.args.config.now (first_lives n c.args.lives.now) (map view_of (reverse c.push.new.self.items))) (sym size)
-    (played_more c.args.config.now c.args.lives.now c.loop-steps.steps-index c.steps-item.result c.loop-steps-test.true c.steps-item.is _ c.deref.ensures.value
-    (map view_of (reverse c.loop-steps.lived.items)) (view_of c.in_ok-life.life) (map view_of (reverse c.push.new.self.items)) views c.in_ok-life.ensures.played c.loop-steps.invariant.played)
+    let views = views_more c.loop-parts.lived.items c.push.new.self.items c.in_ok-life.life c.in_ok-push.ensures.items in
+    let many = c.loop-parts.invariant.many in
+    let size : length c.push.new.self.items ≡ c.loop-parts.parts-index + 1 = ap length c.in_ok-push.ensures.items ∙ length-append c.loop-parts.lived.items (c.in_ok-life.life ∷ []) ∙ ap (λ n. n + 1) many in
+    subst (λ n. ArePlayed c.args.config.now (first_lives n (lists c.args.lives.now)) (map view_of (reverse c.push.new.self.items))) (sym size)
+    (played_more c.args.config.now c.args.lives.now c.loop-parts.parts-index c.parts-item.result c.loop-parts-test.true c.parts-item.is _ c.deref.ensures.value
+    (map view_of (reverse c.loop-parts.lived.items)) (view_of c.in_ok-life.life) (map view_of (reverse c.push.new.self.items)) views c.in_ok-life.ensures.played c.loop-parts.invariant.played)
+
+pub returns-then-ends-clause-given : goal.returns-then-ends-clause-given
+returns-then-ends-clause-given g c =
+    let views = views_more c.loop-parts.lived.items c.push.new.self.items c.in_ok-life.life c.in_ok-push.ensures.items in
+    let many = c.loop-parts.invariant.many in
+    let size : length c.push.new.self.items ≡ c.loop-parts.parts-index + 1 = ap length c.in_ok-push.ensures.items ∙ length-append c.loop-parts.lived.items (c.in_ok-life.life ∷ []) ∙ ap (λ n. n + 1) many in
+    let first = (driver_of c.args.store.now).device.bench.arms in
+    let last = (driver_of c.run_life.new.store).device.bench.arms in
+    all_given _ first last
+    (subst (λ n. WereGiven (arms_given (first_lives n (lists c.args.lives.now)) (map view_of (reverse c.push.new.self.items))) first last) (sym size)
+    (given_more c.args.config.now c.args.lives.now c.loop-parts.parts-index c.parts-item.result c.loop-parts-test.true c.parts-item.is _ c.deref.ensures.value
+    (map view_of (reverse c.loop-parts.lived.items)) (view_of c.in_ok-life.life) (map view_of (reverse c.push.new.self.items)) views
+    first (driver_of c.loop-parts.store).device.bench.arms last c.loop-parts.invariant.given c.in_ok-life.ensures.given))
 
 pub returns-then-ends-clause-ended : goal.returns-then-ends-clause-ended
 returns-then-ends-clause-ended g c =
-    let views = views_more c.loop-steps.lived.items c.push.new.self.items c.in_ok-life.life c.in_ok-push.ensures.items in
-    subst (AreEnded (length c.args.lives.now)) (sym views) (c.loop-steps.invariant.going, inl (sym c.is_refused-ends.ensures ∙ c.if-ends.true))
+    let views = views_more c.loop-parts.lived.items c.push.new.self.items c.in_ok-life.life c.in_ok-push.ensures.items in
+    subst (AreEnded (length c.args.lives.now)) (sym views) (c.loop-parts.invariant.going, inl (sym c.is_refused-ends.ensures ∙ c.if-ends.true))
 
 pub returns-clause-played : goal.returns-clause-played
 returns-clause-played g c =
-    subst (λ n. ArePlayed c.args.config.now (first_lives n c.args.lives.now) (map view_of (reverse c.loop-steps.lived.items))) (sym c.loop-steps.invariant.many) c.loop-steps.invariant.played
+    subst (λ n. ArePlayed c.args.config.now (first_lives n (lists c.args.lives.now)) (map view_of (reverse c.loop-parts.lived.items))) (sym c.loop-parts.invariant.many) c.loop-parts.invariant.played
+
+pub returns-clause-given : goal.returns-clause-given
+returns-clause-given g c =
+    let first = (driver_of c.args.store.now).device.bench.arms in
+    let last = (driver_of c.loop-parts.store).device.bench.arms in
+    all_given _ first last
+    (subst (λ n. WereGiven (arms_given (first_lives n (lists c.args.lives.now)) (map view_of (reverse c.loop-parts.lived.items))) first last) (sym c.loop-parts.invariant.many) c.loop-parts.invariant.given)
 
 pub returns-clause-ended : goal.returns-clause-ended
 returns-clause-ended g c =
-    let past = c.loop-steps-test.false in
-    let within = c.loop-steps.auto.steps-index-end in
-    let size = length-map (reverse c.loop-steps.lived.items) view_of ∙ length-reverse c.loop-steps.lived.items ∙ c.loop-steps.invariant.many in
-    ended_all (length c.args.lives.now) c.loop-steps.steps-index (map view_of (reverse c.loop-steps.lived.items)) (omega (arith, past, within)) size c.loop-steps.invariant.going
+    let past = c.loop-parts-test.false in
+    let within = c.loop-parts.auto.parts-index-end in
+    let size = length-map (reverse c.loop-parts.lived.items) view_of ∙ length-reverse c.loop-parts.lived.items ∙ c.loop-parts.invariant.many in
+    ended_all (length c.args.lives.now) c.loop-parts.parts-index (map view_of (reverse c.loop-parts.lived.items)) (omega (arith, past, within)) size c.loop-parts.invariant.going

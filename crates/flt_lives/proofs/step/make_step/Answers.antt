@@ -1,44 +1,71 @@
-use Rattle.std.proofs.Common.{◌∷◌, sym, subst}
+use Rattle.std.proofs.Common.{◌≡◌, ◌∷◌, ◌∙◌, ap, sym, subst, refl, ◌≤◌, reverse, length}
+use Rattle.std.proofs.lemmas.List.{length-reverse}
+use Rattle.flt_dcm.specs.ReplyKind.{reply_with}
+use Rattle.flt_dcm.specs.Unit.{IsRequest}
+use Rattle.flt_model.specs.declared.call.Op.{Op}
+use Rattle.flt_model.specs.declared.call.Reply.{Reply}
+use Rattle.flt_turn.specs.declared.answer.Answer.{Answer}
+use Rattle.flt_life.specs.Answers.{Told, size_of}
+use Rattle.flt_life.specs.Carried.{answer_at}
+use Rattle.flt_life.specs.Actions.{arms_of}
+use Rattle.flt_lives.specs.Going.{WereGiven}
 use Rattle.flt_life.specs.declared.action.Action.{Action}
 use Rattle.flt_life.specs.declared.action.Action.TheVariants as actions
 use Rattle.flt_life.specs.declared.answer.StepAnswer.TheVariants as answers
 use Rattle.flt_store.specs.Store.{driver_of}
 use Rattle.flt_dcm.specs.Whole.{state_of}
-use Rattle.flt_life.specs.Carried.{IsCarriedOut, IsPossible}
+use Rattle.flt_life.specs.Actions.{IsPossible, response_size}
+use Rattle.flt_life.specs.Carried.{IsCarriedOut}
 use Rattle.flt_life.specs.Chain.{start_from}
-use Rattle.flt_lives.specs.Living.{IsAlive, IsLiving, journal_after}
+use Rattle.flt_life.specs.Journal.{Journal, entry}
+use Rattle.flt_lives.specs.Living.{IsAlive, IsLiving}
 use Rattle.flt_lives.proofs.Keeping.{kept_call, kept_arm}
 use Rattle.flt_lives.proofs.Riding.{goes_nowhere}
 use Rattle.flt_lives.proofs.Causing.{caused_call, caused_arm}
+use Rattle.flt_lives.proofs.Giving.{none_given}
+use Rattle.flt_lives.proofs.Rooms.{size_of_call}
 use Rattle.flt_lives.proofs.step.make_step.Goals as goal
 
 pub returns-in-Call-clause-living : goal.returns-in-Call-clause-living
-returns-in-Call-clause-living g c = λ first journal told living.
+returns-in-Call-clause-living g c = λ first told living.
     let possible = subst (IsPossible c.args.config.now) c.in-Call.is c.requires.possible in
-    let after : IsLiving c.args.config.now first (journal_after (actions.Call c.in-Call.op) (answers.Dem c.call.result) journal) (answers.Dem c.call.result ∷ told) (state_of c.call.new.unit) c.args.store.now = record {
-      stands = c.call.ensures.stands _ _ living.stands;
+    let journal = reverse c.args.journal.now.items in
+    let last : Answer Reply = record { place = c.len-place.result; reply = reply_with c.call-reply.result c.call-reply.new.buffers.response.items } in
+    let after : IsLiving c.args.config.now first (entry 0 c.in-Call.op ∷ journal) (answers.Dem last ∷ told) (state_of c.call-reply.new.unit) c.args.store.now = record {
+      stands = c.call-reply.ensures.stands _ _ living.stands;
       held = living.held;
       spare = living.spare;
       running = living.running;
-      kept = kept_call c.args.config.now first journal told living.held living.spare living.kept c.in-Call.op c.call.result possible.0;
+      kept = kept_call c.args.config.now first journal told living.held living.spare living.kept c.in-Call.op last possible.0;
     } in
-    subst (λ (step : Action). IsLiving c.args.config.now first (journal_after step (answers.Dem c.call.result) journal) (answers.Dem c.call.result ∷ told) (state_of c.call.new.unit) c.args.store.now) (sym c.in-Call.is) after
+    subst (λ (journal : Journal). IsLiving c.args.config.now first journal (answers.Dem last ∷ told) (state_of c.call-reply.new.unit) c.args.store.now) (sym c.write.ensures.written) after
 
 pub returns-in-Call-clause-goes_on : goal.returns-in-Call-clause-goes_on
 returns-in-Call-clause-goes_on g c = goes_nowhere (driver_of c.args.store.now)
 
-pub returns-in-Save-clause-living : goal.returns-in-Save-clause-living
-returns-in-Save-clause-living g c = λ first journal told living.
-    subst (λ (step : Action). IsLiving c.args.config.now first (journal_after step c.save.result journal) (c.save.result ∷ told) (state_of c.save.new.unit) c.save.new.store) (sym c.in-Save.is)
-    (c.save.ensures.living first journal told living)
+pub returns-in-Call-clause-given : goal.returns-in-Call-clause-given
+returns-in-Call-clause-given g c =
+    let arms = (driver_of c.args.store.now).device.bench.arms in
+    subst (λ (step : Action). WereGiven (arms_of step) arms arms) (sym c.in-Call.is) (none_given arms)
 
-pub returns-in-Save-clause-carried : goal.returns-in-Save-clause-carried
-returns-in-Save-clause-carried g c = λ first journal stands.
-    subst (λ (step : Action). IsCarriedOut (start_from c.args.config.now first.state) journal step (journal_after step c.save.result journal) c.save.result) (sym c.in-Save.is)
-    (c.save.ensures.carried journal)
+pub returns-in-Call-clause-size : goal.returns-in-Call-clause-size
+returns-in-Call-clause-size g c = λ few.
+    subst (λ (step : Action). size_of c.call-reply.result c.call-reply.new.buffers.response.items ≤ response_size step) (sym c.in-Call.is)
+    (size_of_call c.in-Call.op c.call-reply.result c.call-reply.new.buffers.response.items c.call-reply.ensures.no_response few)
+
+pub returns-in-Call-clause-carried : goal.returns-in-Call-clause-carried
+returns-in-Call-clause-carried g c = λ first stands.
+    let start = start_from c.args.config.now first.state in
+    let before = reverse c.args.journal.now.items in
+    let size : c.len-place.result ≡ length before = c.len-place.ensures ∙ c.args.journal.now.ok.0 ∙ sym (length-reverse c.args.journal.now.items) in
+    let reply = c.call-reply.ensures.answer start _ stands in
+    let last : Answer Reply = record { place = c.len-place.result; reply = reply_with c.call-reply.result c.call-reply.new.buffers.response.items } in
+    let told : last ≡ answer_at start before c.in-Call.op = λ i. record { place = size i; reply = reply i } in
+    let after : IsCarriedOut start before (actions.Call c.in-Call.op) (reverse c.write.new.journal.items) (answers.Dem last) = (c.write.ensures.written, ap answers.Dem told) in
+    subst (λ (step : Action). IsCarriedOut start before step (reverse c.write.new.journal.items) (answers.Dem last)) (sym c.in-Call.is) after
 
 pub returns-in-Call-clause-caused : goal.returns-in-Call-clause-caused
-returns-in-Call-clause-caused g c = λ begun told caused. caused_call c.args.config.now begun told c.args.store.now c.call.result caused
+returns-in-Call-clause-caused g c = λ begun told caused. caused_call c.args.config.now begun told c.args.store.now _ caused
 
 pub returns-in-Arm-clause-caused : goal.returns-in-Arm-clause-caused
 returns-in-Arm-clause-caused g c = λ begun told caused.
@@ -54,12 +81,12 @@ returns-in-Arm-clause-alive g c = λ alive.
     after
 
 pub returns-in-Arm-clause-living : goal.returns-in-Arm-clause-living
-returns-in-Arm-clause-living g c = λ first journal told living.
-    let after : IsLiving c.args.config.now first journal (answers.Armed ∷ told) (state_of c.args.unit.now) c.arm.new.self = record {
+returns-in-Arm-clause-living g c = λ first told living.
+    let after : IsLiving c.args.config.now first (reverse c.args.journal.now.items) (answers.Armed ∷ told) (state_of c.args.unit.now) c.arm.new.self = record {
       stands = living.stands;
       held = living.held;
       spare = living.spare;
       running = c.arm.ensures.running c.args.config.now living.held living.spare living.running;
-      kept = kept_arm c.args.config.now first journal told living.held living.spare living.kept;
+      kept = kept_arm c.args.config.now first (reverse c.args.journal.now.items) told living.held living.spare living.kept;
     } in
-    subst (λ (step : Action). IsLiving c.args.config.now first (journal_after step answers.Armed journal) (answers.Armed ∷ told) (state_of c.args.unit.now) c.arm.new.self) (sym c.in-Arm.is) after
+    after
