@@ -19,7 +19,7 @@ use Rattle.flt_script.specs.Numeral.{numeral, hexadecimal}
 use Rattle.flt_script.specs.Step.{step_text}
 use Rattle.flt_script.specs.Text.{words_of, is_blank, is_word, is_plain, all_plain}
 use Rattle.flt_script.proofs.Bools.{both_true}
-use Rattle.flt_script.proofs.Solid.{is_solid, solid_is_plain, none_blank, words_of_first, by_keyword}
+use Rattle.flt_script.proofs.Solid.{is_solid, solid_is_plain, words_of_one, words_of_first, by_keyword}
 use Rattle.flt_script.proofs.Words.{a_word}
 
 -- A hexadecimal digit.
@@ -45,10 +45,6 @@ module _ (byte : ℕ) (small : byte < 256) where
 
 abbrev are_bytes : List ℕ → Bool
 are_bytes bytes = list_all (λ byte. ltb byte 256) bytes
-
-words_of_one : (word : List ℕ) → list_all is_solid word ≡ true → 0 < length word → words_of word ≡ word ∷ []
-unfolding words_of is_blank
-words_of_one word solid some = ap (filter is_word) (slice_split_none is_blank word (none_blank word solid)) ∙ a_word word [] some
 
 -- The words of a word and bytes behind it.
 words_of-spaced : (word bytes : List ℕ) → list_all is_solid word ≡ true → 0 < length word → are_bytes bytes ≡ true

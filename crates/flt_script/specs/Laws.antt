@@ -1,7 +1,10 @@
 -- What the definitions come to.
 use Rattle.std.specs.Prelude.{◌≡◌, ℕ, ◌≤◌, ◌⊎◌, List, length, Bool, true, ◌&&◌, nat_le, nat_lt, Some, Ok, Err}
 use Rattle.std.specs.List.{list_all}
+use Rattle.flt_config.specs.declared.config.Config.{Config}
 use Rattle.flt_config.specs.declared.config.DidUse.{DidUse}
+use Rattle.flt_flash.specs.declared.arm.Arm.{Arm}
+use Rattle.flt_flash.specs.State.{CanArm}
 use Rattle.flt_script.specs.declared.fault.ScriptFault.{ScriptFault}
 use Rattle.flt_script.specs.declared.line.StepLine.{StepLine}
 use Rattle.flt_script.specs.declared.line.Line.TheVariants as line
@@ -10,7 +13,7 @@ use Rattle.flt_script.specs.declared.step.Step.TheVariants as step
 use Rattle.flt_script.specs.Behind.{step_of}
 use Rattle.flt_script.specs.Line.{line_of}
 use Rattle.flt_script.specs.Script.{Content, script_of}
-use Rattle.flt_script.specs.Step.{is_step_among, step_text}
+use Rattle.flt_script.specs.Step.{is_step_in, step_text}
 
 -- These bytes are this script.
 abbrev pub IsScript : List DidUse → List ℕ → Content → Type 0
@@ -31,9 +34,9 @@ pub record HasOneOutcome (dids : List DidUse) (bytes : List ℕ) : Type 0 where
 abbrev pub EachHasOneOutcome : Type 0
 EachHasOneOutcome = (dids : List DidUse) (bytes : List ℕ) → HasOneOutcome dids bytes
 
--- The text of a line is read as a step that is this one among so many events.
-abbrev pub IsReadAs : List ℕ → ℕ → Step → Type 0
-IsReadAs text events step = (written : StepLine) × (line_of text ≡ Ok (line.Step written)) × (step_of events written ≡ Some step)
+-- The text of a line is read as a step that is this one under a configuration.
+abbrev pub IsReadAs : List ℕ → Config → Step → Type 0
+IsReadAs text config step = (written : StepLine) × (line_of text ≡ Ok (line.Step written)) × (step_of config written ≡ Some step)
 
 -- A step is one that its type holds: a request has at most 16 bytes, and each is below 256.
 abbrev pub is_held : Step → Bool
@@ -43,5 +46,9 @@ is_held _ = true
 -- What a step prints is read again as that step.
 abbrev pub PrintedStepIsReadAgain : Type 0
 PrintedStepIsReadAgain =
-    (events : ℕ) (step : Step) → events ≤ 64 → is_step_among events step ≡ true → is_held step ≡ true
-    → IsReadAs (step_text step) events step
+    (config : Config) (step : Step) → length config.events.items ≤ 64 → is_step_in config step ≡ true → is_held step ≡ true
+    → IsReadAs (step_text step) config step
+
+-- What a step of a script arms is what a bench can be told.
+abbrev pub EachArmCanBeMade : Type 0
+EachArmCanBeMade = (config : Config) (arm : Arm) → is_step_in config (step.Arming arm) ≡ true → CanArm arm

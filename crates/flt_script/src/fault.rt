@@ -21,12 +21,13 @@ pub enum LineCause {
     Word,
     /// The words behind the first are not as its kind of line has them.
     Form,
-    /// It configures behind a step, or what is set already, or an event whose number is not the next, or a data
+    /// It configures behind a step or a `power`, or what is set already, or an event whose number is not the next, or a data
     /// identifier of an event that is not there yet.
     Order,
     /// A number of a step is out of its range, or one that configures is too large for its type.
     Range,
-    /// It is the 65th event, the ninth data identifier of an event, or the 65,537th step.
+    /// It is the 65th event, the ninth data identifier of an event, or the 65,537th step, it begins the 257th life, or it is
+    /// the 65th of `cut`, `fault` and `mute` together.
     Many,
     /// It names a data identifier that the table does not have.
     Did,

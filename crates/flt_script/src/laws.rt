@@ -1,12 +1,17 @@
 //! What the definitions come to.
-ghost use Rattle.flt_script.specs.Laws.{EachHasOneOutcome, PrintedStepIsReadAgain};
+ghost use Rattle.flt_script.specs.Laws.{EachHasOneOutcome, PrintedStepIsReadAgain, EachArmCanBeMade};
 
 /// Any bytes are one script or have one fault, and never both.
 pub fn each_has_one_outcome()
     ensures { EachHasOneOutcome }
 {}
 
-/// What a step prints is read again as that step, among as many events.
+/// What a step prints is read again as that step, under the same configuration.
 pub fn printed_step_is_read_again()
     ensures { PrintedStepIsReadAgain }
+{}
+
+/// What a step of a script arms is what a bench can be told.
+pub fn each_arm_can_be_made()
+    ensures { EachArmCanBeMade }
 {}
