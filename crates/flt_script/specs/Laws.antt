@@ -1,17 +1,20 @@
 -- What the definitions come to.
 use Rattle.std.specs.Prelude.{◌≡◌, ℕ, ◌≤◌, ◌⊎◌, List, length, Bool, true, ◌&&◌, nat_le, nat_lt, Some, Ok, Err}
-use Rattle.std.specs.List.{list_all}
+use Rattle.std.specs.List.{find, list_all}
 use Rattle.flt_config.specs.declared.config.Config.{Config}
 use Rattle.flt_config.specs.declared.config.DidUse.{DidUse}
 use Rattle.flt_flash.specs.declared.arm.Arm.{Arm}
 use Rattle.flt_flash.specs.State.{CanArm}
 use Rattle.flt_script.specs.declared.fault.ScriptFault.{ScriptFault}
 use Rattle.flt_script.specs.declared.line.StepLine.{StepLine}
+use Rattle.flt_script.specs.declared.line.Line.{Line}
 use Rattle.flt_script.specs.declared.line.Line.TheVariants as line
 use Rattle.flt_script.specs.declared.step.Step.{Step}
 use Rattle.flt_script.specs.declared.step.Step.TheVariants as step
-use Rattle.flt_script.specs.Behind.{step_of}
+use Rattle.flt_script.specs.Behind.{behind, step_of}
+use Rattle.flt_script.specs.Causes.{causes, holds, cause_told}
 use Rattle.flt_script.specs.Line.{line_of}
+use Rattle.flt_script.specs.Refusal.{line_behind}
 use Rattle.flt_script.specs.Script.{Content, script_of}
 use Rattle.flt_script.specs.Step.{is_step_in, step_text}
 
@@ -52,3 +55,9 @@ PrintedStepIsReadAgain =
 -- What a step of a script arms is what a bench can be told.
 abbrev pub EachArmCanBeMade : Type 0
 EachArmCanBeMade = (config : Config) (arm : Arm) → is_step_in config (step.Arming arm) ≡ true → CanArm arm
+
+-- The cause that is told of a line is the first of the table that holds of it, and none is told where none holds.
+abbrev pub FirstCauseIsTold : Type 0
+FirstCauseIsTold =
+    (dids : List DidUse) (past : List Line) (text : List ℕ)
+    → cause_told (line_behind dids past text) ≡ find (holds dids (behind dids past) text) causes

@@ -1,5 +1,5 @@
 //! What the definitions come to.
-ghost use Rattle.flt_script.specs.Laws.{EachHasOneOutcome, PrintedStepIsReadAgain, EachArmCanBeMade};
+ghost use Rattle.flt_script.specs.Laws.{EachHasOneOutcome, PrintedStepIsReadAgain, EachArmCanBeMade, FirstCauseIsTold};
 
 /// Any bytes are one script or have one fault, and never both.
 pub fn each_has_one_outcome()
@@ -14,4 +14,9 @@ pub fn printed_step_is_read_again()
 /// What a step of a script arms is what a bench can be told.
 pub fn each_arm_can_be_made()
     ensures { EachArmCanBeMade }
+{}
+
+/// The cause that is told of a line is the first of the table of causes that holds of it, each said by itself.
+pub fn first_cause_is_told()
+    ensures { FirstCauseIsTold }
 {}
