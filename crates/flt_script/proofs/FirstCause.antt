@@ -1,11 +1,10 @@
 -- The cause that is told of a line is the first of the table that holds of it.
-use Rattle.std.proofs.Common.{◌≡◌, ℕ, ◌+◌, List, [], ◌∷◌, length, Bool, true, false, cond, ◌&&◌, ◌||◌, ltb, leb, Option, Some, None, Result, Ok, Err, refl, sym, ap, ◌∙◌, arith, if◌then◌else◌}
+use Rattle.std.proofs.Common.{◌≡◌, ℕ, ◌+◌, List, [], ◌∷◌, length, Bool, true, false, cond, ◌&&◌, ◌||◌, ltb, leb, Option, Some, None, Ok, Err, refl, ap, ◌∙◌, arith, if◌then◌else◌}
 use Rattle.std.specs.Prelude.{ℤ, pos, neg_ℤ, negsuc, int_lt, not, ◌==◌, is_some, is_none, option_map, find}
-use Rattle.std.specs.List.{list_any, list_all}
+use Rattle.std.specs.List.{list_any}
 use Rattle.std.specs.Option.{ok_or}
 use Rattle.std.specs.Str.{bytes_eq}
 use Rattle.std.proofs.lemmas.Bool.Decides.{nat_tests}
-use Rattle.flt_config.specs.declared.config.Config.{Config}
 use Rattle.flt_config.specs.declared.config.Debounce.{Debounce}
 use Rattle.flt_config.specs.declared.config.Debounce.TheVariants as rules
 use Rattle.flt_config.specs.declared.config.DidUse.{DidUse}
@@ -25,8 +24,8 @@ use Rattle.flt_script.specs.declared.line.StepLine.{StepLine}
 use Rattle.flt_script.specs.declared.line.StepLine.TheVariants.{Report, Show, Cycle, Tick, Signal, Request, Save, Arming}
 use Rattle.flt_script.specs.declared.step.Step.{Step}
 use Rattle.flt_script.specs.declared.step.Step.TheVariants as step
-use Rattle.flt_script.specs.Behind.{Behind, behind, event_count, has_begun, arm_of, step_of, arms_with}
-use Rattle.flt_script.specs.Causes.{causes, is_strange, is_unknown, line_said, configures, is_set_already, has_wrong_event, is_jump_kept, is_debounce_kept, is_event_kept, is_step_written, is_out_of_range, arms_written, is_one_too_many, is_did_unknown, on_line, holds, cause_told}
+use Rattle.flt_script.specs.Behind.{Behind, behind, event_count, has_begun, arm_of, step_of}
+use Rattle.flt_script.specs.Causes.{is_strange, is_unknown, line_said, configures, is_set_already, has_wrong_event, is_jump_kept, is_debounce_kept, is_event_kept, is_step_written, is_out_of_range, arms_written, is_one_too_many, is_did_unknown, on_line, cause_told}
 use Rattle.flt_script.specs.Event.{jump_held, debounce_held, event_held}
 use Rattle.flt_script.specs.Gives.{◌⇒◌, ◌>>=◌, given_by}
 use Rattle.flt_script.specs.Laws.{FirstCauseIsTold}

@@ -1,10 +1,9 @@
 -- What a step prints is read again.
-use Rattle.std.proofs.Common.{◌≡◌, ℕ, ◌<◌, ◌≤◌, ◌^◌, List, length, true, Ok, Some, refl, ◌∙◌, arith, ltb, leb, lit<, lit≤}
+use Rattle.std.proofs.Common.{◌≡◌, ℕ, ◌<◌, ◌≤◌, ◌^◌, length, true, Ok, refl, ◌∙◌, arith, ltb, leb, lit<, lit≤}
 use Rattle.std.specs.Prelude.{codes}
 use Rattle.std.specs.Fmt.{decimal}
 use Rattle.std.specs.List.{list_all}
 use Rattle.std.proofs.lemmas.Bool.{ltb-true, leb-true}
-use Rattle.flt_config.specs.declared.config.Config.{Config}
 use Rattle.flt_model.specs.declared.call.Report.TheVariants.{Passed, Failed, PrePassed, PreFailed}
 use Rattle.flt_script.specs.declared.keyword.Keyword.TheVariants as keyword
 use Rattle.flt_script.specs.declared.line.Line.TheVariants as line

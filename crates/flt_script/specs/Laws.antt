@@ -1,10 +1,11 @@
 -- What the definitions come to.
-use Rattle.std.specs.Prelude.{◌≡◌, ℕ, ◌≤◌, ◌⊎◌, List, length, Bool, true, ◌&&◌, nat_le, nat_lt, Some, Ok, Err}
+use Rattle.std.specs.Prelude.{◌≡◌, ◌↔◌, ℕ, ◌≤◌, ◌⊎◌, List, length, Bool, true, ◌&&◌, nat_le, nat_lt, Some, Ok, Err}
 use Rattle.std.specs.List.{find, list_all}
 use Rattle.flt_config.specs.declared.config.Config.{Config}
 use Rattle.flt_config.specs.declared.config.DidUse.{DidUse}
 use Rattle.flt_flash.specs.declared.arm.Arm.{Arm}
 use Rattle.flt_flash.specs.State.{CanArm}
+use Rattle.flt_script.specs.declared.fault.LineCause.TheVariants.{Large}
 use Rattle.flt_script.specs.declared.fault.ScriptFault.{ScriptFault}
 use Rattle.flt_script.specs.declared.line.StepLine.{StepLine}
 use Rattle.flt_script.specs.declared.line.Line.{Line}
@@ -61,3 +62,9 @@ abbrev pub FirstCauseIsTold : Type 0
 FirstCauseIsTold =
     (dids : List DidUse) (past : List Line) (text : List ℕ)
     → cause_told (line_behind dids past text) ≡ find (holds dids (behind dids past) text) causes
+
+-- Line 0 is told of a script that is too large, and of no other: each other fault has its line. So a configuration that
+-- wants room has its flash line, since the pages that are used without one suffice for each configuration.
+abbrev pub LineZeroIsLarge : Type 0
+LineZeroIsLarge =
+    (dids : List DidUse) (bytes : List ℕ) (fault : ScriptFault) → IsFaulty dids bytes fault → (fault.line ≡ 0) ↔ (fault.cause ≡ Large)

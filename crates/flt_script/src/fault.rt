@@ -39,7 +39,7 @@ pub enum LineCause {
 /// The first faulty line and why it is refused. It displays as `script line`, the line and the cause.
 #[derive(Clone, Copy, Debug, PartialEq, Eq)]
 pub struct ScriptFault {
-    /// Counted from 1. It is 0 where the script is too large, or where no line wrote what is at fault.
+    /// Counted from 1. It is 0 where the script is too large, and only there.
     pub line: u32,
     pub cause: LineCause,
 }

@@ -1,5 +1,5 @@
 //! What the definitions come to.
-ghost use Rattle.flt_script.specs.Laws.{EachHasOneOutcome, PrintedStepIsReadAgain, EachArmCanBeMade, FirstCauseIsTold};
+ghost use Rattle.flt_script.specs.Laws.{EachHasOneOutcome, PrintedStepIsReadAgain, EachArmCanBeMade, FirstCauseIsTold, LineZeroIsLarge};
 
 /// Any bytes are one script or have one fault, and never both.
 pub fn each_has_one_outcome()
@@ -19,4 +19,9 @@ pub fn each_arm_can_be_made()
 /// The cause that is told of a line is the first of the table of causes that holds of it, each said by itself.
 pub fn first_cause_is_told()
     ensures { FirstCauseIsTold }
+{}
+
+/// Line 0 is told of a script that is too large, and of no other fault.
+pub fn line_zero_is_large()
+    ensures { LineZeroIsLarge }
 {}
