@@ -33,6 +33,7 @@ use Rattle.flt_script.specs.Line.{spelling, keywords, keyword_of, line_with, is_
 use Rattle.flt_script.specs.Refusal.{setting_refusal, flash_refusal, event_refusal, did_refusal, step_refusal, power_refusal, refusal, unless_refused, line_behind}
 use Rattle.flt_script.specs.Step.{arm_count}
 use Rattle.flt_script.specs.Text.{words_of, is_plain, all_plain}
+use Rattle.flt_script.proofs.Kept.{kept}
 
 or_false : (a : Bool) → (a || false) ≡ a
 or_false true = refl
@@ -68,9 +69,6 @@ none_found : {X : Type 0} (p : X → Bool) (xs : List X) → is_none (find p xs)
 none_found p xs = none_is_not_some (find p xs) ∙ ap not (found_is_any p xs)
 
 -- ---- numbers that are kept
-
-abbrev kept : {A : Type 0} → Bool → A → Option A
-kept test x = if test then Some x else None
 
 jump_in : (low high : Bool) (jump : ℤ) → is_some (option_map (λ (j : ℤ). Some j) (if low || high then None else Some jump)) ≡ (not low && not high)
 jump_in true high jump = refl

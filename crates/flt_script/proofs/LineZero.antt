@@ -37,6 +37,7 @@ use Rattle.flt_script.specs.Line.{line_of}
 use Rattle.flt_script.specs.Refusal.{event_refusal, refusal, unless_refused, line_behind}
 use Rattle.flt_script.specs.Script.{Content, script_of, lines_behind, line_of_fault, at_line, at_place, ended}
 use Rattle.flt_script.specs.Text.{lines_of}
+use Rattle.flt_script.proofs.Accepted.{length_used, of_accepted_lines}
 use Rattle.flt_script.proofs.FirstCause.{first_cause_is_told}
 
 -- ---- what the lines before a line keep
@@ -82,11 +83,6 @@ room_for_event : (b : Behind) (event : EventLine) → event_refusal b event ≡ 
 unfolding event_refusal
 room_for_event b event e = leb-false 64 (event_count b)
     (third_is_false (has_begun b || not (event.number == event_count b)) (is_none (event_held event)) (leb 64 (event_count b)) cause.Order cause.Range cause.Many e)
-
-length_used : (did : Option DidUse) (events : List EventCfg) (number : ℕ) (event : Option EventCfg)
-    → length (given_by event events (λ e. slice_set events number (with_use did e))) ≡ length events
-length_used did events number None = refl
-length_used did events number (Some event) = length-set events number (with_use did event)
 
 sound_added : (dids : List DidUse) (number : ℕ) (b : Behind) (l : Line) → IsSound b → 0 < number → refusal dids b l ≡ None → IsSound (added dids number b l)
 unfolding added refusal
@@ -230,33 +226,11 @@ module _ (b : Behind) (s : IsSound b) where
 
 -- ---- the lines
 
-unrefused : (dids : List DidUse) (b : Behind) (x l : Line) (r : Option LineCause) → refusal dids b x ≡ r → unless_refused r x ≡ Ok l → refusal dids b l ≡ None
-unrefused dids b x l None is e = let same : x ≡ l = cc in subst (λ (y : Line). refusal dids b y ≡ None) same is
-unrefused dids b x l (Some c) is e = absurd cc
-
-accepted : (dids : List DidUse) (b : Behind) (read : Result Line LineCause) (l : Line) → (read >>= λ x. unless_refused (refusal dids b x) x) ≡ Ok l → refusal dids b l ≡ None
-accepted dids b (Err c) l e = absurd cc
-accepted dids b (Ok x) l e = unrefused dids b x l (refusal dids b x) refl e
-
-not_refused : (dids : List DidUse) (past : List Line) (text : List ℕ) (l : Line) → line_behind dids past text ≡ Ok l → refusal dids (behind dids past) l ≡ None
-unfolding line_behind
-not_refused dids past text l e = accepted dids (behind dids past) (line_of text) l e
-
 -- What the accepted lines gave is sound.
-sound_step : (dids : List DidUse) (past : List Line) (text : List ℕ) (texts : List (List ℕ)) (lines : List Line) (read : Result Line LineCause)
-    → line_behind dids past text ≡ read → IsSound (behind dids past)
-    → ((l : Line) → IsSound (behind dids (l ∷ past)) → lines_behind dids (l ∷ past) texts ≡ Ok lines → IsSound (behind dids lines))
-    → (at_line (length past + 1) read >>= λ l. lines_behind dids (l ∷ past) texts) ≡ Ok lines → IsSound (behind dids lines)
-sound_step dids past text texts lines (Err c) is sound later e = absurd cc
-sound_step dids past text texts lines (Ok l) is sound later e =
-    later l (sound_added dids (length past + 1) (behind dids past) l sound (omega arith) (not_refused dids past text l is)) e
-
-sound_lines : (dids : List DidUse) (past : List Line) (texts : List (List ℕ)) (lines : List Line) → IsSound (behind dids past)
-    → lines_behind dids past texts ≡ Ok lines → IsSound (behind dids lines)
-unfolding lines_behind
-sound_lines dids past [] lines sound e = let same : past ≡ lines = cc in subst (λ (ls : List Line). IsSound (behind dids ls)) same sound
-sound_lines dids past (text ∷ texts) lines sound e =
-    sound_step dids past text texts lines (line_behind dids past text) refl sound (λ l. sound_lines dids (l ∷ past) texts lines) e
+sound_lines : (dids : List DidUse) (texts : List (List ℕ)) (lines : List Line) → lines_behind dids [] texts ≡ Ok lines → IsSound (behind dids lines)
+sound_lines dids texts lines e =
+    of_accepted_lines dids (λ (past : List Line). IsSound (behind dids past))
+    (λ l past accepted sound. sound_added dids (length past + 1) (behind dids past) l sound (omega arith) accepted) [] texts lines sound_blank e
 
 -- Large is no cause of a line.
 find_passes : (p : LineCause → Bool) (c first : LineCause) (rest : List LineCause) (here : Bool) → p first ≡ here → (find p rest ≡ Some c → p c ≡ true)
@@ -310,7 +284,7 @@ told_of_lines : (dids : List DidUse) (texts : List (List ℕ)) (fault : ScriptFa
     → (read >>= λ lines. ended (behind dids lines)) ≡ Err fault → IsOfLine fault
 told_of_lines dids texts fault (Err f) is e =
     let same : f ≡ fault = cc in told_at_line dids [] texts fault (is ∙ ap (λ (x : ScriptFault). Err x) same)
-told_of_lines dids texts fault (Ok lines) is e = told_at_end (behind dids lines) fault (sound_lines dids [] texts lines sound_blank is) e
+told_of_lines dids texts fault (Ok lines) is e = told_at_end (behind dids lines) fault (sound_lines dids texts lines is) e
 
 either_way : (dids : List DidUse) (bytes : List ℕ) (fault : ScriptFault) (large : Bool)
     → (if large then Err (record { line = 0; cause = cause.Large }) else lines_behind dids [] (lines_of bytes) >>= λ lines. ended (behind dids lines)) ≡ Err fault

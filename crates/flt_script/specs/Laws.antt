@@ -1,5 +1,5 @@
 -- What the definitions come to.
-use Rattle.std.specs.Prelude.{◌≡◌, ◌↔◌, ℕ, ◌≤◌, ◌⊎◌, List, length, Bool, true, ◌&&◌, nat_le, nat_lt, Some, Ok, Err}
+use Rattle.std.specs.Prelude.{◌≡◌, ◌↔◌, ℕ, ◌≤◌, ◌⊎◌, List, [], length, Bool, true, ◌&&◌, nat_le, nat_lt, Some, Ok, Err}
 use Rattle.std.specs.List.{find, list_all}
 use Rattle.flt_config.specs.declared.config.Config.{Config}
 use Rattle.flt_config.specs.declared.config.DidUse.{DidUse}
@@ -14,9 +14,10 @@ use Rattle.flt_script.specs.declared.step.Step.{Step}
 use Rattle.flt_script.specs.declared.step.Step.TheVariants as step
 use Rattle.flt_script.specs.Behind.{behind, step_of}
 use Rattle.flt_script.specs.Causes.{causes, holds, cause_told}
+use Rattle.flt_script.specs.Counts.{IsCounted}
 use Rattle.flt_script.specs.Line.{line_of}
 use Rattle.flt_script.specs.Refusal.{line_behind}
-use Rattle.flt_script.specs.Script.{Content, script_of}
+use Rattle.flt_script.specs.Script.{Content, lines_behind, script_of}
 use Rattle.flt_script.specs.Step.{is_step_in, step_text}
 
 -- These bytes are this script.
@@ -68,3 +69,8 @@ FirstCauseIsTold =
 abbrev pub LineZeroIsLarge : Type 0
 LineZeroIsLarge =
     (dids : List DidUse) (bytes : List ℕ) (fault : ScriptFault) → IsFaulty dids bytes fault → (fault.line ≡ 0) ↔ (fault.cause ≡ Large)
+
+-- The kept counts and settings of lines that were not refused are how many there are of each kind, and which stand.
+abbrev pub AcceptedLinesAreCounted : Type 0
+AcceptedLinesAreCounted =
+    (dids : List DidUse) (texts : List (List ℕ)) (lines : List Line) → lines_behind dids [] texts ≡ Ok lines → IsCounted dids lines

@@ -1,5 +1,5 @@
 //! What the definitions come to.
-ghost use Rattle.flt_script.specs.Laws.{EachHasOneOutcome, PrintedStepIsReadAgain, EachArmCanBeMade, FirstCauseIsTold, LineZeroIsLarge};
+ghost use Rattle.flt_script.specs.Laws.{EachHasOneOutcome, PrintedStepIsReadAgain, EachArmCanBeMade, FirstCauseIsTold, LineZeroIsLarge, AcceptedLinesAreCounted};
 
 /// Any bytes are one script or have one fault, and never both.
 pub fn each_has_one_outcome()
@@ -24,4 +24,10 @@ pub fn first_cause_is_told()
 /// Line 0 is told of a script that is too large, and of no other fault.
 pub fn line_zero_is_large()
     ensures { LineZeroIsLarge }
+{}
+
+/// What is kept of lines that were not refused, for the refusal of the next one, is how many there are of each kind, and
+/// which stand.
+pub fn accepted_lines_are_counted()
+    ensures { AcceptedLinesAreCounted }
 {}
