@@ -1,12 +1,10 @@
 -- What is kept of lines that were not refused says how many there are of each kind.
-use Rattle.std.proofs.Common.{◌≡◌, ℕ, ◌+◌, ◌<◌, List, [], ◌∷◌, ◌++◌, length, Bool, true, false, cond, ◌&&◌, ◌||◌, ltb, leb, if◌then◌else◌, Option, Some, None, Result, Ok, Err, refl, sym, ap, subst, ◌∙◌, arith, length-append}
-use Rattle.std.specs.Prelude.{count_by, find, is_none, is_some, not, ◌==◌, option_map, option_to_list, slice_get}
-use Rattle.std.specs.List.{list_any}
+use Rattle.std.proofs.Common.{◌≡◌, ℕ, ◌+◌, ◌<◌, List, [], ◌∷◌, ◌++◌, length, Bool, true, false, cond, ◌&&◌, ◌||◌, ltb, leb, if◌then◌else◌, Option, Some, None, refl, ap, ◌∙◌, arith, length-append}
+use Rattle.std.specs.Prelude.{count_by, find, is_none, not, ◌==◌, option_map, option_to_list, slice_get}
 use Rattle.std.proofs.lemmas.Bool.{lt-ltb}
 use Rattle.std.proofs.lemmas.List.Sums.{sum_by-cons}
 use Rattle.flt_config.specs.declared.config.Config.{Config}
 use Rattle.flt_config.specs.declared.config.DidUse.{DidUse}
-use Rattle.flt_config.specs.declared.config.EventCfg.{EventCfg}
 use Rattle.flt_did.specs.Rows.{is_did}
 use Rattle.flt_flash.specs.declared.arm.Arm.TheVariants as arm
 use Rattle.flt_script.specs.declared.arm.ArmLine.TheVariants.{Cut, Fault, Mute}
@@ -22,7 +20,7 @@ use Rattle.flt_script.specs.declared.step.Step.TheVariants as step
 use Rattle.flt_script.specs.declared.step.Part.TheVariants.{One}
 use Rattle.flt_script.specs.Behind.{Behind, added, behind, event_count, arm_of, has_begun, step_of, arms_with}
 use Rattle.flt_script.specs.Causes.{arms_written}
-use Rattle.flt_script.specs.Counts.{is_step, is_arming, is_power, is_done, is_event, is_config, is_memory, is_blocks, is_flash, IsCounted}
+use Rattle.flt_script.specs.Counts.{is_step, is_arming, is_power, is_event, IsCounted}
 use Rattle.flt_script.specs.Event.{event_held}
 use Rattle.flt_script.specs.Gives.{◌⇒◌, given_by}
 use Rattle.flt_script.specs.Laws.{AcceptedLinesAreCounted}
@@ -60,7 +58,7 @@ event_adds : (b : Behind) (event : EventLine) → event_refusal b event ≡ None
 unfolding event_refusal
 event_adds b event e =
     let held = one_held (event_held event) (second_is_false (has_begun b || not (event.number == event_count b)) (is_none (event_held event)) cause.Order cause.Range
-      (cond (leb 64 (event_count b)) (Some cause.Many) None) e) in
+    (cond (leb 64 (event_count b)) (Some cause.Many) None) e) in
     length-append b.config.events.items (option_to_list (event_held event)) ∙ ap (λ n. event_count b + n) held
 
 step_read : (b : Behind) (s : StepLine) → step_refusal b s ≡ None → is_none (step_of b.config s) ≡ false
@@ -72,10 +70,6 @@ begun_with : (read : Option Step) (b : Behind) → is_none read ≡ false
 begun_with None b e = absurd cc
 begun_with (Some s) b e =
     let some : 0 < length (b.parts ++ One s ∷ []) = rw length-append (omega arith) in rw (lt-ltb 0 (length (b.parts ++ One s ∷ [])) some) refl
-
-either_true : (a : Bool) → (a || true) ≡ true
-either_true true = refl
-either_true false = refl
 
 ended_life : (b : Behind) → (ltb 0 0 || ltb 0 (length (b.lives ++ b.parts ∷ []))) ≡ true
 ended_life b = let some : 0 < length (b.lives ++ b.parts ∷ []) = rw length-append (omega arith) in rw (lt-ltb 0 (length (b.lives ++ b.parts ∷ [])) some) refl
@@ -209,8 +203,8 @@ module _ (dids : List DidUse) where
     arms = count_no is_arming (line.Did event id) past _ refl c.arms;
     lives = count_no is_power (line.Did event id) past _ refl c.lives;
     events =
-      let items = (behind dids past).config.events.items in
-      length_used (find (is_did id) dids) items event (slice_get items event) ∙ count_no is_event (line.Did event id) past _ refl c.events;
+        let items = (behind dids past).config.events.items in
+        length_used (find (is_did id) dids) items event (slice_get items event) ∙ count_no is_event (line.Did event id) past _ refl c.events;
     begun = c.begun;
     config = c.config;
     memory = c.memory;

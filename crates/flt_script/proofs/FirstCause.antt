@@ -33,11 +33,8 @@ use Rattle.flt_script.specs.Line.{spelling, keywords, keyword_of, line_with, is_
 use Rattle.flt_script.specs.Refusal.{setting_refusal, flash_refusal, event_refusal, did_refusal, step_refusal, power_refusal, refusal, unless_refused, line_behind}
 use Rattle.flt_script.specs.Step.{arm_count}
 use Rattle.flt_script.specs.Text.{words_of, is_plain, all_plain}
+use Rattle.flt_script.proofs.Bools.{or_false}
 use Rattle.flt_script.proofs.Kept.{kept}
-
-or_false : (a : Bool) → (a || false) ≡ a
-or_false true = refl
-or_false false = refl
 
 -- ---- bytes and words
 

@@ -1,6 +1,6 @@
 -- Line 0 is told of a script that is too large, and of no other fault.
-use Rattle.std.proofs.Common.{◌≡◌, ℕ, ◌+◌, ◌<◌, ◌≤◌, zero, suc, List, [], ◌∷◌, ◌++◌, length, Bool, true, false, cond, ◌||◌, ltb, leb, if◌then◌else◌, Option, Some, None, Result, Ok, Err, refl, sym, ap, subst, ◌∙◌, arith, length-append, length-set}
-use Rattle.std.specs.Prelude.{◌≢◌, ◌↔◌, ℤ, pos, ◌≤ℤ◌, All, not, ◌==◌, is_none, find, slice_get, slice_set, slice_index, option_to_list, unwrap_or}
+use Rattle.std.proofs.Common.{◌≡◌, ℕ, ◌+◌, ◌<◌, ◌≤◌, zero, suc, List, [], ◌∷◌, ◌++◌, length, Bool, true, false, cond, ◌||◌, ltb, leb, if◌then◌else◌, Option, Some, None, Result, Ok, Err, refl, sym, ap, subst, ◌∙◌, arith, length-append}
+use Rattle.std.specs.Prelude.{◌≢◌, ◌↔◌, ℤ, pos, ◌≤ℤ◌, All, not, ◌==◌, is_none, find, slice_get, slice_index, option_to_list, unwrap_or}
 use Rattle.std.proofs.lemmas.Bool.{leb-false}
 use Rattle.std.proofs.lemmas.Int.{ints}
 use Rattle.std.proofs.lemmas.List.Elements.{All-append}
@@ -28,13 +28,12 @@ use Rattle.flt_script.specs.declared.fault.ScriptFault.{ScriptFault}
 use Rattle.flt_script.specs.declared.line.Line.{Line}
 use Rattle.flt_script.specs.declared.line.Line.TheVariants as line
 use Rattle.flt_script.specs.declared.places.Places.{Places}
-use Rattle.flt_script.specs.Behind.{Behind, blank, added, behind, event_count, has_begun, with_use}
+use Rattle.flt_script.specs.Behind.{Behind, blank, added, behind, event_count, has_begun}
 use Rattle.flt_script.specs.Causes.{causes, holds, cause_told}
 use Rattle.flt_script.specs.Event.{event_held}
-use Rattle.flt_script.specs.Gives.{◌>>=◌, given_by}
+use Rattle.flt_script.specs.Gives.{◌>>=◌}
 use Rattle.flt_script.specs.Laws.{LineZeroIsLarge}
-use Rattle.flt_script.specs.Line.{line_of}
-use Rattle.flt_script.specs.Refusal.{event_refusal, refusal, unless_refused, line_behind}
+use Rattle.flt_script.specs.Refusal.{event_refusal, refusal, line_behind}
 use Rattle.flt_script.specs.Script.{Content, script_of, lines_behind, line_of_fault, at_line, at_place, ended}
 use Rattle.flt_script.specs.Text.{lines_of}
 use Rattle.flt_script.proofs.Accepted.{length_used, of_accepted_lines}

@@ -21,11 +21,11 @@ use Rattle.flt_script.proofs.Bools.{both_true}
 use Rattle.flt_script.proofs.Solid.{is_solid, solid_is_plain, words_of_one, words_of_first, by_keyword}
 
 -- A hexadecimal digit.
-glyph_is_solid : (d : ℕ) → d < 16 → is_solid (digit_glyph true d) ≡ true
+pub glyph_is_solid : (d : ℕ) → d < 16 → is_solid (digit_glyph true d) ≡ true
 unfolding is_blank
 glyph_is_solid d small = grind (arith, nat_tests)
 
-glyph_value : (d : ℕ) → d < 16 → digit_value (digit_glyph true d) ≡ d
+pub glyph_value : (d : ℕ) → d < 16 → digit_value (digit_glyph true d) ≡ d
 glyph_value d small = grind (arith, nat_tests)
 
 -- A byte in two digits.

@@ -1,5 +1,5 @@
 -- What the lines before a line gave, told by the lines themselves: how many of a kind there are, and whether one stands.
-use Rattle.std.specs.Prelude.{◌≡◌, ℕ, List, length, count_by, Bool, true, false, is_some}
+use Rattle.std.specs.Prelude.{◌≡◌, List, length, count_by, Bool, true, false, is_some}
 use Rattle.std.specs.List.{list_any}
 use Rattle.flt_config.specs.declared.config.DidUse.{DidUse}
 use Rattle.flt_script.specs.declared.line.Line.{Line}

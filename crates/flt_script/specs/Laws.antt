@@ -1,5 +1,5 @@
 -- What the definitions come to.
-use Rattle.std.specs.Prelude.{◌≡◌, ◌↔◌, ℕ, ◌≤◌, ◌⊎◌, List, [], length, Bool, true, ◌&&◌, nat_le, nat_lt, Some, Ok, Err}
+use Rattle.std.specs.Prelude.{◌≡◌, ◌↔◌, ℕ, ◌/◌, ◌%◌, ◌^◌, ◌<◌, ◌≤◌, ◌⊎◌, List, [], ◌∷◌, ◌++◌, length, codes, Bool, true, false, ◌&&◌, ◌||◌, nat_le, nat_lt, Some, None, Ok, Err}
 use Rattle.std.specs.List.{find, list_all}
 use Rattle.flt_config.specs.declared.config.Config.{Config}
 use Rattle.flt_config.specs.declared.config.DidUse.{DidUse}
@@ -10,15 +10,19 @@ use Rattle.flt_script.specs.declared.fault.ScriptFault.{ScriptFault}
 use Rattle.flt_script.specs.declared.line.StepLine.{StepLine}
 use Rattle.flt_script.specs.declared.line.Line.{Line}
 use Rattle.flt_script.specs.declared.line.Line.TheVariants as line
+use Rattle.flt_script.specs.declared.pair.Key.TheVariants.{Dtc, Count, JumpUp, JumpDown, Time}
 use Rattle.flt_script.specs.declared.step.Step.{Step}
 use Rattle.flt_script.specs.declared.step.Step.TheVariants as step
 use Rattle.flt_script.specs.Behind.{behind, step_of}
+use Rattle.flt_script.specs.Bytes.{two_digits}
 use Rattle.flt_script.specs.Causes.{causes, holds, cause_told}
 use Rattle.flt_script.specs.Counts.{IsCounted}
+use Rattle.flt_script.specs.Event.{stands, event_of}
 use Rattle.flt_script.specs.Line.{line_of}
+use Rattle.flt_script.specs.Pair.{any_twice}
 use Rattle.flt_script.specs.Refusal.{line_behind}
 use Rattle.flt_script.specs.Script.{Content, lines_behind, script_of}
-use Rattle.flt_script.specs.Step.{is_step_in, step_text}
+use Rattle.flt_script.specs.Step.{is_step_in, with_number, with_two_numbers, step_text}
 
 -- These bytes are this script.
 abbrev pub IsScript : List DidUse → List ℕ → Content → Type 0
@@ -74,3 +78,24 @@ LineZeroIsLarge =
 abbrev pub AcceptedLinesAreCounted : Type 0
 AcceptedLinesAreCounted =
     (dids : List DidUse) (texts : List (List ℕ)) (lines : List Line) → lines_behind dids [] texts ≡ Ok lines → IsCounted dids lines
+
+-- A data identifier in four hexadecimal digits.
+abbrev pub did_text : ℕ → List ℕ
+did_text id = two_digits (id / 256) ++ two_digits (id % 256)
+
+-- Configuration lines other than those of events are read again as their words say.
+pub record WrittenSettingsAreRead : Type 0 where
+  pub config : (id : ℕ) → id < 10 ^ 10 → line_of (with_number (codes "config") id) ≡ Ok (line.Config id)
+  pub memory : (entries : ℕ) → entries < 10 ^ 10 → line_of (with_number (codes "memory") entries) ≡ Ok (line.Memory entries)
+  pub blocks : (blocks : ℕ) → blocks < 10 ^ 10 → line_of (with_number (codes "blocks") blocks) ≡ Ok (line.Blocks blocks)
+  pub flash : (sectors pages : ℕ) → sectors < 10 ^ 10 → pages < 10 ^ 10
+      → line_of (with_two_numbers (codes "flash") sectors pages) ≡ Ok (line.Flash sectors pages)
+  pub did : (event id : ℕ) → event < 10 ^ 10 → id < 65536 → line_of (with_number (codes "did") event ++ 32 ∷ did_text id) ≡ Ok (line.Did event id)
+
+-- An event line is not of its form where a pair stands twice, where dtc does not stand, and where time stands beside what
+-- belongs to a counter.
+pub record OddEventsAreRefused : Type 0 where
+  pub twice : (number : List ℕ) (pairs : List (List ℕ)) → any_twice pairs ≡ true → event_of (number ∷ pairs) ≡ None
+  pub no_dtc : (number : List ℕ) (pairs : List (List ℕ)) → stands Dtc pairs ≡ false → event_of (number ∷ pairs) ≡ None
+  pub both : (number : List ℕ) (pairs : List (List ℕ)) → stands Time pairs ≡ true
+      → (stands Count pairs || stands JumpUp pairs || stands JumpDown pairs) ≡ true → event_of (number ∷ pairs) ≡ None

@@ -1,5 +1,5 @@
 //! What the definitions come to.
-ghost use Rattle.flt_script.specs.Laws.{EachHasOneOutcome, PrintedStepIsReadAgain, EachArmCanBeMade, FirstCauseIsTold, LineZeroIsLarge, AcceptedLinesAreCounted};
+ghost use Rattle.flt_script.specs.Laws.{EachHasOneOutcome, PrintedStepIsReadAgain, EachArmCanBeMade, FirstCauseIsTold, LineZeroIsLarge, AcceptedLinesAreCounted, WrittenSettingsAreRead, OddEventsAreRefused};
 
 /// Any bytes are one script or have one fault, and never both.
 pub fn each_has_one_outcome()
@@ -30,4 +30,15 @@ pub fn line_zero_is_large()
 /// which stand.
 pub fn accepted_lines_are_counted()
     ensures { AcceptedLinesAreCounted }
+{}
+
+/// Configuration lines other than those of events are read again as their words say.
+pub fn written_settings_are_read()
+    ensures { WrittenSettingsAreRead }
+{}
+
+/// An event line is not of its form where a pair stands twice, where `dtc` does not stand, and where `time` stands beside
+/// `count`, `jumpup` or `jumpdown`.
+pub fn odd_events_are_refused()
+    ensures { OddEventsAreRefused }
 {}
