@@ -1,5 +1,5 @@
 -- Tests that come out true or false.
-use Rattle.std.proofs.Common.{◌≡◌, Bool, true, false, ◌&&◌, refl}
+use Rattle.std.proofs.Common.{◌≡◌, Bool, true, false, ◌&&◌, ◌||◌, refl}
 use Rattle.std.specs.Prelude.{not}
 
 pub both_true : (a b : Bool) → (a && b) ≡ true → (a ≡ true) × (b ≡ true)
@@ -14,3 +14,11 @@ not_true false e = refl
 pub not_false : (b : Bool) → not b ≡ false → b ≡ true
 not_false true e = refl
 not_false false e = absurd cc
+
+pub or_true : (a : Bool) → (a || true) ≡ true
+or_true true = refl
+or_true false = refl
+
+pub or_false : (a : Bool) → (a || false) ≡ a
+or_false true = refl
+or_false false = refl

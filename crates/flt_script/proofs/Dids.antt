@@ -5,8 +5,8 @@ use Rattle.std.proofs.lemmas.Bool.{eqb-true, lt-leb}
 use Rattle.flt_config.specs.declared.config.DidUse.{DidUse}
 use Rattle.flt_did.specs.Rows.{is_did}
 use Rattle.flt_script.specs.declared.line.Line.TheVariants as line
-use Rattle.flt_script.specs.Behind.{Behind, event_count, has_begun, uses_of, with_use_at}
-use Rattle.flt_script.specs.Next.{added, with_line}
+use Rattle.flt_script.specs.Behind.{Behind, added, event_count, has_begun, uses_of, with_use_at}
+use Rattle.flt_script.specs.Next.{with_line}
 use Rattle.flt_script.specs.Refusal.{refusal, did_refusal}
 
 found_in : (id : ℕ) (first did : DidUse) (dids : List DidUse) (here : Bool) → is_did id first ≡ here

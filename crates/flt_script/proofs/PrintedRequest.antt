@@ -1,6 +1,6 @@
 -- A printed request is read again.
 use Rattle.std.proofs.Common.{◌≡◌, ℕ, ◌+◌, ◌*◌, ◌/◌, ◌%◌, ◌<◌, ◌≤◌, List, [], ◌∷◌, ◌++◌, length, Bool, true, Some, Ok, refl, ap, ◌∙◌, arith, ltb, leb, length-append, append-nil, lit<}
-use Rattle.std.specs.Prelude.{filter, map, codes}
+use Rattle.std.specs.Prelude.{map, codes}
 use Rattle.std.specs.Char.{digit_value}
 use Rattle.std.specs.Fmt.{digit_glyph}
 use Rattle.std.specs.List.{list_all}
@@ -8,7 +8,6 @@ use Rattle.std.proofs.lemmas.Bool.{lt-ltb, le-leb, ltb-true}
 use Rattle.std.proofs.lemmas.Bool.Decides.{nat_tests}
 use Rattle.std.proofs.lemmas.List.{length-map}
 use Rattle.std.proofs.lemmas.List.Folds.{list_all-append}
-use Rattle.std.proofs.lemmas.List.Splits.{slice_split_none}
 use Rattle.flt_script.specs.declared.keyword.Keyword.TheVariants as keyword
 use Rattle.flt_script.specs.declared.line.Line.TheVariants as line
 use Rattle.flt_script.specs.declared.line.StepLine.TheVariants as written
@@ -17,17 +16,16 @@ use Rattle.flt_script.specs.Bytes.{tester_of, letter_of, each, bytes_of, two_dig
 use Rattle.flt_script.specs.Line.{keyword_of, line_with, request_with, line_of}
 use Rattle.flt_script.specs.Numeral.{numeral, hexadecimal}
 use Rattle.flt_script.specs.Step.{step_text}
-use Rattle.flt_script.specs.Text.{words_of, is_blank, is_word, is_plain, all_plain}
+use Rattle.flt_script.specs.Text.{words_of, is_blank, is_plain, all_plain}
 use Rattle.flt_script.proofs.Bools.{both_true}
-use Rattle.flt_script.proofs.Solid.{is_solid, solid_is_plain, none_blank, words_of_first, by_keyword}
-use Rattle.flt_script.proofs.Words.{a_word}
+use Rattle.flt_script.proofs.Solid.{is_solid, solid_is_plain, words_of_one, words_of_first, by_keyword}
 
 -- A hexadecimal digit.
-glyph_is_solid : (d : ℕ) → d < 16 → is_solid (digit_glyph true d) ≡ true
+pub glyph_is_solid : (d : ℕ) → d < 16 → is_solid (digit_glyph true d) ≡ true
 unfolding is_blank
 glyph_is_solid d small = grind (arith, nat_tests)
 
-glyph_value : (d : ℕ) → d < 16 → digit_value (digit_glyph true d) ≡ d
+pub glyph_value : (d : ℕ) → d < 16 → digit_value (digit_glyph true d) ≡ d
 glyph_value d small = grind (arith, nat_tests)
 
 -- A byte in two digits.
@@ -45,10 +43,6 @@ module _ (byte : ℕ) (small : byte < 256) where
 
 abbrev are_bytes : List ℕ → Bool
 are_bytes bytes = list_all (λ byte. ltb byte 256) bytes
-
-words_of_one : (word : List ℕ) → list_all is_solid word ≡ true → 0 < length word → words_of word ≡ word ∷ []
-unfolding words_of is_blank
-words_of_one word solid some = ap (filter is_word) (slice_split_none is_blank word (none_blank word solid)) ∙ a_word word [] some
 
 -- The words of a word and bytes behind it.
 words_of-spaced : (word bytes : List ℕ) → list_all is_solid word ≡ true → 0 < length word → are_bytes bytes ≡ true

@@ -15,7 +15,7 @@ use Rattle.flt_script.specs.declared.fault.ParseFault.{ParseFault}
 use Rattle.flt_script.specs.declared.line.Line.{Line}
 use Rattle.flt_script.specs.declared.line.Line.TheVariants as line
 use Rattle.flt_script.specs.declared.script.Script.{Script}
-use Rattle.flt_script.specs.Behind.{Behind, behind, config_of, with_use, with_use_at}
+use Rattle.flt_script.specs.Behind.{Behind, added, behind, with_use, with_use_at}
 use Rattle.flt_script.specs.Event.{event_held, debounce_held}
 use Rattle.flt_script.specs.Gives.{◌⇒◌, Gives}
 use Rattle.flt_script.specs.Numeral.{up_to}
@@ -92,7 +92,8 @@ serves_new dids None none = all-nil (AreServed dids)
 serves_new dids (Some event) none = all-one (AreServed dids) event (rw none (all-nil (IsServed dids)))
 
 -- What the lines configure.
-serves : (dids : List DidUse) (past : List Line) → Serves dids (config_of dids past).events.items
+serves : (dids : List DidUse) (past : List Line) → Serves dids (behind dids past).config.events.items
+unfolding added
 serves dids [] = all-nil (AreServed dids)
 serves dids (line.Skipped ∷ past) = serves dids past
 serves dids (line.Config id ∷ past) = serves dids past
@@ -100,10 +101,12 @@ serves dids (line.Memory entries ∷ past) = serves dids past
 serves dids (line.Blocks blocks ∷ past) = serves dids past
 serves dids (line.Flash sectors pages ∷ past) = serves dids past
 serves dids (line.Event event ∷ past) =
-    All-append (AreServed dids) (config_of dids past).events.items (option_to_list (event_held event)) (serves dids past) (serves_new dids (event_held event) (event_uses_none event))
+    All-append (AreServed dids) (behind dids past).config.events.items (option_to_list (event_held event)) (serves dids past) (serves_new dids (event_held event) (event_uses_none event))
 serves dids (line.Did event id ∷ past) =
-    serves-with_use_at dids id (config_of dids past).events.items event (slice_get (config_of dids past).events.items event) refl (serves dids past)
+    let events = (behind dids past).config.events.items in
+    serves-with_use_at dids id events event (slice_get events event) refl (serves dids past)
 serves dids (line.Step step ∷ past) = serves dids past
+serves dids (line.Power ∷ past) = serves dids past
 
 -- What is accepted is what the lines configure.
 ended_config : (b : Behind) (checked : Result Config CfgFault) (given : Content) → check_of b.config ≡ checked → ended b ≡ Ok given → given.config ≡ b.config
@@ -116,7 +119,6 @@ ended_config b (Err fault) given e is = let known = rw e at is in absurd cc
 
 pub served : (dids : List DidUse) (b : Behind) (lines : List Line) (result : Result Script ParseFault) → b ≡ behind dids lines
     → Gives content fault_of result (ended b) → IfOk result (λ script. Serves dids script.config.events.items)
-unfolding behind
 served dids b lines (Err fault) stands given = tt
 served dids b lines (Ok script) stands given =
     rw (ended_config b (check_of b.config) (content script) refl given, stands) (serves dids lines)

@@ -8,7 +8,7 @@ use Rattle.std.specs.Str.Parse.{AllDigits}
 use Rattle.std.proofs.lemmas.Bool.{lt-ltb, le-ltb}
 use Rattle.std.proofs.lemmas.Bool.Decides.{nat_tests}
 use Rattle.std.proofs.lemmas.List.Folds.{list_all-append}
-use Rattle.std.proofs.lemmas.List.Splits.{slice_split_at}
+use Rattle.std.proofs.lemmas.List.Splits.{slice_split_at, slice_split_none}
 use Rattle.std.proofs.lemmas.List.Sums.{AllPass-from_list_all}
 use Rattle.std.proofs.lemmas.Str.Parse.{digit_from_value}
 use Rattle.flt_script.specs.declared.fault.LineCause.TheVariants.{Form}
@@ -39,6 +39,11 @@ solid_is_whole (byte ∷ word) e =
 
 pub none_blank : (word : List ℕ) → list_all is_solid word ≡ true → All (λ byte. is_blank byte ≡ false) word
 none_blank word e = λ k d within. not_true _ (AllPass-from_list_all (λ (byte : ℕ). not (is_blank byte)) word (solid_is_whole word e) k d within)
+
+-- It is one word.
+pub words_of_one : (word : List ℕ) → list_all is_solid word ≡ true → 0 < length word → words_of word ≡ word ∷ []
+unfolding words_of is_blank
+words_of_one word solid some = ap (filter is_word) (slice_split_none is_blank word (none_blank word solid)) ∙ a_word word [] some
 
 -- A digit is visible.
 digit_is_solid : (byte : ℕ) → digit_value byte < 10 → is_solid byte ≡ true

@@ -1,16 +1,28 @@
 -- What the definitions come to.
-use Rattle.std.specs.Prelude.{◌≡◌, ℕ, ◌≤◌, ◌⊎◌, List, length, Bool, true, ◌&&◌, nat_le, nat_lt, Some, Ok, Err}
-use Rattle.std.specs.List.{list_all}
+use Rattle.std.specs.Prelude.{◌≡◌, ◌↔◌, ℕ, ◌/◌, ◌%◌, ◌^◌, ◌<◌, ◌≤◌, ◌⊎◌, List, [], ◌∷◌, ◌++◌, length, codes, Bool, true, false, ◌&&◌, ◌||◌, nat_le, nat_lt, Some, None, Ok, Err}
+use Rattle.std.specs.List.{find, list_all}
+use Rattle.flt_config.specs.declared.config.Config.{Config}
 use Rattle.flt_config.specs.declared.config.DidUse.{DidUse}
+use Rattle.flt_flash.specs.declared.arm.Arm.{Arm}
+use Rattle.flt_flash.specs.State.{CanArm}
+use Rattle.flt_script.specs.declared.fault.LineCause.TheVariants.{Large}
 use Rattle.flt_script.specs.declared.fault.ScriptFault.{ScriptFault}
 use Rattle.flt_script.specs.declared.line.StepLine.{StepLine}
+use Rattle.flt_script.specs.declared.line.Line.{Line}
 use Rattle.flt_script.specs.declared.line.Line.TheVariants as line
+use Rattle.flt_script.specs.declared.pair.Key.TheVariants.{Dtc, Count, JumpUp, JumpDown, Time}
 use Rattle.flt_script.specs.declared.step.Step.{Step}
 use Rattle.flt_script.specs.declared.step.Step.TheVariants as step
-use Rattle.flt_script.specs.Behind.{step_of}
+use Rattle.flt_script.specs.Behind.{behind, step_of}
+use Rattle.flt_script.specs.Bytes.{two_digits}
+use Rattle.flt_script.specs.Causes.{causes, holds, cause_told}
+use Rattle.flt_script.specs.Counts.{IsCounted}
+use Rattle.flt_script.specs.Event.{stands, event_of}
 use Rattle.flt_script.specs.Line.{line_of}
-use Rattle.flt_script.specs.Script.{Content, script_of}
-use Rattle.flt_script.specs.Step.{is_step_among, step_text}
+use Rattle.flt_script.specs.Pair.{any_twice}
+use Rattle.flt_script.specs.Refusal.{line_behind}
+use Rattle.flt_script.specs.Script.{Content, lines_behind, script_of}
+use Rattle.flt_script.specs.Step.{is_step_in, with_number, with_two_numbers, step_text}
 
 -- These bytes are this script.
 abbrev pub IsScript : List DidUse → List ℕ → Content → Type 0
@@ -31,9 +43,9 @@ pub record HasOneOutcome (dids : List DidUse) (bytes : List ℕ) : Type 0 where
 abbrev pub EachHasOneOutcome : Type 0
 EachHasOneOutcome = (dids : List DidUse) (bytes : List ℕ) → HasOneOutcome dids bytes
 
--- The text of a line is read as a step that is this one among so many events.
-abbrev pub IsReadAs : List ℕ → ℕ → Step → Type 0
-IsReadAs text events step = (written : StepLine) × (line_of text ≡ Ok (line.Step written)) × (step_of events written ≡ Some step)
+-- The text of a line is read as a step that is this one under a configuration.
+abbrev pub IsReadAs : List ℕ → Config → Step → Type 0
+IsReadAs text config step = (written : StepLine) × (line_of text ≡ Ok (line.Step written)) × (step_of config written ≡ Some step)
 
 -- A step is one that its type holds: a request has at most 16 bytes, and each is below 256.
 abbrev pub is_held : Step → Bool
@@ -43,5 +55,47 @@ is_held _ = true
 -- What a step prints is read again as that step.
 abbrev pub PrintedStepIsReadAgain : Type 0
 PrintedStepIsReadAgain =
-    (events : ℕ) (step : Step) → events ≤ 64 → is_step_among events step ≡ true → is_held step ≡ true
-    → IsReadAs (step_text step) events step
+    (config : Config) (step : Step) → length config.events.items ≤ 64 → is_step_in config step ≡ true → is_held step ≡ true
+    → IsReadAs (step_text step) config step
+
+-- What a step of a script arms is what a bench can be told.
+abbrev pub EachArmCanBeMade : Type 0
+EachArmCanBeMade = (config : Config) (arm : Arm) → is_step_in config (step.Arming arm) ≡ true → CanArm arm
+
+-- The cause that is told of a line is the first of the table that holds of it, and none is told where none holds.
+abbrev pub FirstCauseIsTold : Type 0
+FirstCauseIsTold =
+    (dids : List DidUse) (past : List Line) (text : List ℕ)
+    → cause_told (line_behind dids past text) ≡ find (holds dids (behind dids past) text) causes
+
+-- Line 0 is told of a script that is too large, and of no other: each other fault has its line. So a configuration that
+-- wants room has its flash line, since the pages that are used without one suffice for each configuration.
+abbrev pub LineZeroIsLarge : Type 0
+LineZeroIsLarge =
+    (dids : List DidUse) (bytes : List ℕ) (fault : ScriptFault) → IsFaulty dids bytes fault → (fault.line ≡ 0) ↔ (fault.cause ≡ Large)
+
+-- The kept counts and settings of lines that were not refused are how many there are of each kind, and which stand.
+abbrev pub AcceptedLinesAreCounted : Type 0
+AcceptedLinesAreCounted =
+    (dids : List DidUse) (texts : List (List ℕ)) (lines : List Line) → lines_behind dids [] texts ≡ Ok lines → IsCounted dids lines
+
+-- A data identifier in four hexadecimal digits.
+abbrev pub did_text : ℕ → List ℕ
+did_text id = two_digits (id / 256) ++ two_digits (id % 256)
+
+-- Configuration lines other than those of events are read again as their words say.
+pub record WrittenSettingsAreRead : Type 0 where
+  pub config : (id : ℕ) → id < 10 ^ 10 → line_of (with_number (codes "config") id) ≡ Ok (line.Config id)
+  pub memory : (entries : ℕ) → entries < 10 ^ 10 → line_of (with_number (codes "memory") entries) ≡ Ok (line.Memory entries)
+  pub blocks : (blocks : ℕ) → blocks < 10 ^ 10 → line_of (with_number (codes "blocks") blocks) ≡ Ok (line.Blocks blocks)
+  pub flash : (sectors pages : ℕ) → sectors < 10 ^ 10 → pages < 10 ^ 10
+      → line_of (with_two_numbers (codes "flash") sectors pages) ≡ Ok (line.Flash sectors pages)
+  pub did : (event id : ℕ) → event < 10 ^ 10 → id < 65536 → line_of (with_number (codes "did") event ++ 32 ∷ did_text id) ≡ Ok (line.Did event id)
+
+-- An event line is not of its form where a pair stands twice, where dtc does not stand, and where time stands beside what
+-- belongs to a counter.
+pub record OddEventsAreRefused : Type 0 where
+  pub twice : (number : List ℕ) (pairs : List (List ℕ)) → any_twice pairs ≡ true → event_of (number ∷ pairs) ≡ None
+  pub no_dtc : (number : List ℕ) (pairs : List (List ℕ)) → stands Dtc pairs ≡ false → event_of (number ∷ pairs) ≡ None
+  pub both : (number : List ℕ) (pairs : List (List ℕ)) → stands Time pairs ≡ true
+      → (stands Count pairs || stands JumpUp pairs || stands JumpDown pairs) ≡ true → event_of (number ∷ pairs) ≡ None

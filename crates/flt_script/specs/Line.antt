@@ -3,8 +3,10 @@ use Rattle.std.specs.Prelude.{ℕ, List, [], ◌∷◌, length, Bool, false, ◌
 use Rattle.std.specs.List.{find}
 use Rattle.std.specs.Str.{bytes_eq}
 use Rattle.std.specs.Option.{ok_or}
+use Rattle.flt_flash.specs.declared.arm.Pattern.{Pattern}
 use Rattle.flt_model.specs.declared.call.Report.{Report}
 use Rattle.flt_model.specs.declared.call.Report.TheVariants.{Passed, Failed, PrePassed, PreFailed}
+use Rattle.flt_script.specs.declared.arm.ArmLine.TheVariants as arm
 use Rattle.flt_script.specs.declared.fault.LineCause.{LineCause}
 use Rattle.flt_script.specs.declared.fault.LineCause.TheVariants.{Long, Byte, Word, Form}
 use Rattle.flt_script.specs.declared.keyword.Keyword.{Keyword}
@@ -16,6 +18,7 @@ use Rattle.flt_script.specs.Bytes.{tester_of, bytes_of}
 use Rattle.flt_script.specs.Event.{only, event_of}
 use Rattle.flt_script.specs.Gives.{◌⇒◌, ◌>>=◌}
 use Rattle.flt_script.specs.Numeral.{number, hexadecimal}
+use Rattle.flt_script.specs.Pattern.{pattern_of}
 use Rattle.flt_script.specs.Text.{words_of, all_plain}
 
 -- The first words of the lines.
@@ -35,11 +38,17 @@ spelling keyword.Config = codes "config"
 spelling keyword.Memory = codes "memory"
 spelling keyword.Blocks = codes "blocks"
 spelling keyword.Flash = codes "flash"
+spelling keyword.Save = codes "save"
+spelling keyword.Power = codes "power"
+spelling keyword.Cut = codes "cut"
+spelling keyword.Fault = codes "fault"
+spelling keyword.Mute = codes "mute"
 
 -- The table of lines.
 abbrev pub keywords : List Keyword
 keywords = keyword.Pass ∷ keyword.Fail ∷ keyword.PrePass ∷ keyword.PreFail ∷ keyword.Show ∷ keyword.Cycle ∷ keyword.Tick
-    ∷ keyword.Signal ∷ keyword.Request ∷ keyword.Event ∷ keyword.Did ∷ keyword.Config ∷ keyword.Memory ∷ keyword.Blocks ∷ keyword.Flash ∷ []
+    ∷ keyword.Signal ∷ keyword.Request ∷ keyword.Event ∷ keyword.Did ∷ keyword.Config ∷ keyword.Memory ∷ keyword.Blocks ∷ keyword.Flash
+    ∷ keyword.Save ∷ keyword.Power ∷ keyword.Cut ∷ keyword.Fault ∷ keyword.Mute ∷ []
 
 -- The keyword that a word spells.
 unfoldable pub keyword_of : List ℕ → Option Keyword
@@ -53,6 +62,21 @@ report_with report words = option_map (λ event. line.Step (step.Report event re
 unfoldable pub two_numbers : List (List ℕ) → Option (ℕ × ℕ)
 two_numbers (m ∷ n ∷ []) = number m ⇒ λ first. number n ⇒ λ second. Some (first, second)
 two_numbers _ = None
+
+-- Three words, and the numbers that they spell.
+unfoldable pub three_numbers : List (List ℕ) → Option (ℕ × ℕ × ℕ)
+three_numbers (k ∷ m ∷ n ∷ []) = number k ⇒ λ first. number m ⇒ λ second. number n ⇒ λ third. Some (first, second, third)
+three_numbers _ = None
+
+-- A number and the word of a pattern.
+unfoldable pub number_and_pattern : List (List ℕ) → Option (ℕ × Pattern)
+number_and_pattern (n ∷ p ∷ []) = number n ⇒ λ after. pattern_of p ⇒ λ pattern. Some (after, pattern)
+number_and_pattern _ = None
+
+-- The line, where no word is left.
+abbrev pub alone : Line → List (List ℕ) → Option Line
+alone line [] = Some line
+alone line (word ∷ words) = None
 
 -- An event, and a data identifier for its frames in four hexadecimal digits.
 unfoldable pub did_with : List (List ℕ) → Option Line
@@ -82,6 +106,11 @@ line_with keyword.Config words = option_map line.Config (only number words)
 line_with keyword.Memory words = option_map line.Memory (only number words)
 line_with keyword.Blocks words = option_map line.Blocks (only number words)
 line_with keyword.Flash words = option_map (λ numbers. line.Flash numbers.0 numbers.1) (two_numbers words)
+line_with keyword.Save words = alone (line.Step step.Save) words
+line_with keyword.Power words = alone line.Power words
+line_with keyword.Cut words = option_map (λ torn. line.Step (step.Arming (arm.Cut torn.0 torn.1))) (number_and_pattern words)
+line_with keyword.Fault words = option_map (λ torn. line.Step (step.Arming (arm.Fault torn.0 torn.1))) (number_and_pattern words)
+line_with keyword.Mute words = option_map (λ numbers. line.Step (step.Arming (arm.Mute numbers.0 numbers.1 numbers.2))) (three_numbers words)
 
 -- A word that begins with #.
 abbrev pub is_comment : List ℕ → Bool

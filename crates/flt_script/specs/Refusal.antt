@@ -1,5 +1,5 @@
 -- A line against the lines before it: why it may not stand there.
-use Rattle.std.specs.Prelude.{ℕ, List, [], ◌∷◌, length, find, Bool, ◌==◌, ◌||◌, nat_lt, nat_le, not, is_some, is_none, Option, Some, None, Result, Ok, Err, if◌then◌else◌}
+use Rattle.std.specs.Prelude.{ℕ, ◌+◌, List, [], ◌∷◌, length, find, Bool, ◌==◌, ◌||◌, nat_lt, nat_le, not, is_some, is_none, Option, Some, None, Result, Ok, Err, if◌then◌else◌}
 use Rattle.flt_config.specs.declared.config.DidUse.{DidUse}
 use Rattle.flt_did.specs.Rows.{is_did}
 use Rattle.flt_script.specs.declared.fault.LineCause.{LineCause}
@@ -8,7 +8,7 @@ use Rattle.flt_script.specs.declared.event.EventLine.{EventLine}
 use Rattle.flt_script.specs.declared.line.StepLine.{StepLine}
 use Rattle.flt_script.specs.declared.line.Line.{Line}
 use Rattle.flt_script.specs.declared.line.Line.TheVariants as line
-use Rattle.flt_script.specs.Behind.{Behind, behind, event_count, has_begun, uses_of, step_of}
+use Rattle.flt_script.specs.Behind.{Behind, behind, event_count, has_begun, uses_of, step_of, arms_with}
 use Rattle.flt_script.specs.Event.{event_held}
 use Rattle.flt_script.specs.Gives.{◌>>=◌}
 use Rattle.flt_script.specs.Line.{line_of}
@@ -44,11 +44,15 @@ did_refusal dids b event id = first_cause (
     (nat_le 8 (length (uses_of event b.config.events.items)), Many) ∷
     (is_none (find (is_did id) dids), Did) ∷ [])
 
--- A step, of at most 65,536.
+-- A step, of at most 65,536, of which at most 64 are cut, fault or mute.
 unfoldable pub step_refusal : Behind → StepLine → Option LineCause
 step_refusal b step = first_cause (
-    (is_none (step_of (event_count b) step), Range) ∷
-    (nat_le 65536 (length b.parts), Many) ∷ [])
+    (is_none (step_of b.config step), Range) ∷
+    (nat_le 65536 b.steps || nat_lt 64 (arms_with b step), Many) ∷ [])
+
+-- The end of a life, of at most 256 with the life that begins then.
+unfoldable pub power_refusal : Behind → Option LineCause
+power_refusal b = first_cause ((nat_le 256 (length b.lives + 1), Many) ∷ [])
 
 -- Why a line may not stand behind these lines, row by row.
 unfoldable pub refusal : List DidUse → Behind → Line → Option LineCause
@@ -60,6 +64,7 @@ refusal dids b (line.Flash sectors pages) = flash_refusal b sectors pages
 refusal dids b (line.Event event) = event_refusal b event
 refusal dids b (line.Did event id) = did_refusal dids b event id
 refusal dids b (line.Step step) = step_refusal b step
+refusal dids b line.Power = power_refusal b
 
 -- A value, unless there is a cause to refuse it.
 abbrev pub unless_refused : {A : Type 0} → Option LineCause → A → Result A LineCause

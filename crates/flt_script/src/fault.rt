@@ -21,12 +21,13 @@ pub enum LineCause {
     Word,
     /// The words behind the first are not as its kind of line has them.
     Form,
-    /// It configures behind a step, or what is set already, or an event whose number is not the next, or a data
+    /// It configures behind a step or a `power`, or what is set already, or an event whose number is not the next, or a data
     /// identifier of an event that is not there yet.
     Order,
     /// A number of a step is out of its range, or one that configures is too large for its type.
     Range,
-    /// It is the 65th event, the ninth data identifier of an event, or the 65,537th step.
+    /// It is the 65th event, the ninth data identifier of an event, or the 65,537th step, it begins the 257th life, or it is
+    /// the 65th of `cut`, `fault` and `mute` together.
     Many,
     /// It names a data identifier that the table does not have.
     Did,
@@ -38,7 +39,7 @@ pub enum LineCause {
 /// The first faulty line and why it is refused. It displays as `script line`, the line and the cause.
 #[derive(Clone, Copy, Debug, PartialEq, Eq)]
 pub struct ScriptFault {
-    /// Counted from 1. It is 0 where the script is too large, or where no line wrote what is at fault.
+    /// Counted from 1. It is 0 where the script is too large, and only there.
     pub line: u32,
     pub cause: LineCause,
 }

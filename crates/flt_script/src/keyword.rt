@@ -19,9 +19,14 @@ pub(crate) enum Keyword {
     Memory,
     Blocks,
     Flash,
+    Save,
+    Power,
+    Cut,
+    Fault,
+    Mute,
 }
 
-const KEYWORDS: [Keyword; 15] = [
+const KEYWORDS: [Keyword; 20] = [
     Keyword::Pass,
     Keyword::Fail,
     Keyword::PrePass,
@@ -37,6 +42,11 @@ const KEYWORDS: [Keyword; 15] = [
     Keyword::Memory,
     Keyword::Blocks,
     Keyword::Flash,
+    Keyword::Save,
+    Keyword::Power,
+    Keyword::Cut,
+    Keyword::Fault,
+    Keyword::Mute,
 ];
 
 fn spelling(keyword: Keyword) -> &'static [u8]
@@ -58,6 +68,11 @@ fn spelling(keyword: Keyword) -> &'static [u8]
         Keyword::Memory => b"memory",
         Keyword::Blocks => b"blocks",
         Keyword::Flash => b"flash",
+        Keyword::Save => b"save",
+        Keyword::Power => b"power",
+        Keyword::Cut => b"cut",
+        Keyword::Fault => b"fault",
+        Keyword::Mute => b"mute",
     }
 }
 

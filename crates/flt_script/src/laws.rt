@@ -1,12 +1,44 @@
 //! What the definitions come to.
-ghost use Rattle.flt_script.specs.Laws.{EachHasOneOutcome, PrintedStepIsReadAgain};
+ghost use Rattle.flt_script.specs.Laws.{EachHasOneOutcome, PrintedStepIsReadAgain, EachArmCanBeMade, FirstCauseIsTold, LineZeroIsLarge, AcceptedLinesAreCounted, WrittenSettingsAreRead, OddEventsAreRefused};
 
 /// Any bytes are one script or have one fault, and never both.
 pub fn each_has_one_outcome()
     ensures { EachHasOneOutcome }
 {}
 
-/// What a step prints is read again as that step, among as many events.
+/// What a step prints is read again as that step, under the same configuration.
 pub fn printed_step_is_read_again()
     ensures { PrintedStepIsReadAgain }
+{}
+
+/// What a step of a script arms is what a bench can be told.
+pub fn each_arm_can_be_made()
+    ensures { EachArmCanBeMade }
+{}
+
+/// The cause that is told of a line is the first of the table of causes that holds of it, each said by itself.
+pub fn first_cause_is_told()
+    ensures { FirstCauseIsTold }
+{}
+
+/// Line 0 is told of a script that is too large, and of no other fault.
+pub fn line_zero_is_large()
+    ensures { LineZeroIsLarge }
+{}
+
+/// What is kept of lines that were not refused, for the refusal of the next one, is how many there are of each kind, and
+/// which stand.
+pub fn accepted_lines_are_counted()
+    ensures { AcceptedLinesAreCounted }
+{}
+
+/// Configuration lines other than those of events are read again as their words say.
+pub fn written_settings_are_read()
+    ensures { WrittenSettingsAreRead }
+{}
+
+/// An event line is not of its form where a pair stands twice, where `dtc` does not stand, and where `time` stands beside
+/// `count`, `jumpup` or `jumpdown`.
+pub fn odd_events_are_refused()
+    ensures { OddEventsAreRefused }
 {}

@@ -1,12 +1,14 @@
-ghost use Rattle.std.specs.Prelude.{◌≡◌, ◌≤◌, IfOk};
+ghost use Rattle.std.specs.Prelude.{◌≡◌, IfOk, IfSome, IsTrue};
 ghost use Rattle.flt_script.specs.Behind.{step_of};
 ghost use Rattle.flt_script.specs.Bytes.{tester_of};
 ghost use Rattle.flt_script.specs.Event.{only, event_of};
 ghost use Rattle.flt_script.specs.Gives.{Gives};
-ghost use Rattle.flt_script.specs.Line.{report_with, two_numbers, did_with, request_with, line_with, line_of, is_comment};
+ghost use Rattle.flt_script.specs.Line.{report_with, two_numbers, three_numbers, number_and_pattern, alone, did_with, request_with, line_with, line_of, is_comment};
 ghost use Rattle.flt_script.specs.Next.{cause_of};
 ghost use Rattle.flt_script.specs.Numeral.{number};
+ghost use Rattle.flt_script.specs.Step.{is_step_in};
 
+use crate::arm::{ArmLine, read_pattern};
 use crate::bytes::read_bytes;
 use crate::event::{EventLine, event_of};
 use crate::fault::{LineCause, LineFault};
@@ -15,6 +17,8 @@ use crate::numeral::{read_hexadecimal, read_number};
 use crate::step::{LAST_TESTER, Step};
 use crate::text::{TextLine, Words};
 use arrayvec::ArrayVec;
+use flt_config::Config;
+use flt_flash::Pattern;
 use flt_model::{REQUEST, Report};
 use std::alloc::{AllocError, Global};
 
@@ -42,6 +46,8 @@ pub(crate) enum StepLine {
         tester: u8,
         bytes: ArrayVec<u8, REQUEST>,
     },
+    Save,
+    Arming(ArmLine),
 }
 
 /// What a line says, with its numbers as they are written.
@@ -55,6 +61,7 @@ pub(crate) enum Line {
     Event(EventLine),
     Did { event: u64, id: u16 },
     Step(StepLine),
+    Power,
 }
 
 /// The most bytes of a line, without what ends it.
@@ -70,17 +77,18 @@ const LAST_SIGNAL: u64 = 7;
 const SIGNAL_VALUE: u64 = 65_535;
 
 impl StepLine {
-    /// The step among so many events, or nothing where a number is out of its range.
-    pub(crate) fn step_among(self, events: usize) -> Option<Step>
-        requires { events ≤ 64 }
-        ensures { result ≡ step_of events self }
+    /// The step under this configuration, or nothing where a number is out of its range.
+    pub(crate) fn step_in(self, config: &Config) -> Option<Step>
+        ensures value { result ≡ step_of config.now self }
+        ensures in_range { IfSome result (λ step. IsTrue (is_step_in config.now step)) }
     {
+        let events = config.events.len() as u64;
         match self {
-            StepLine::Report { event, report } if event < events as u64 => Some(Step::Report {
+            StepLine::Report { event, report } if event < events => Some(Step::Report {
                 event: event as u16,
                 report,
             }),
-            StepLine::Show { event } if event < events as u64 => Some(Step::Show {
+            StepLine::Show { event } if event < events => Some(Step::Show {
                 event: event as u16,
             }),
             StepLine::Cycle { cycle } if cycle <= 3 => Some(Step::Cycle { cycle: cycle as u8 }),
@@ -96,6 +104,11 @@ impl StepLine {
             StepLine::Request { tester, bytes } if tester <= LAST_TESTER && !bytes.is_empty() => {
                 Some(Step::Request { tester, bytes })
             }
+            StepLine::Save => Some(Step::Save),
+            StepLine::Arming(arm) => match arm.arm() {
+                Some(arm) => Some(Step::Arming(arm)),
+                None => None,
+            },
             _ => None,
         }
     }
@@ -132,6 +145,47 @@ fn two_numbers(mut words: Words<'_>) -> Option<(u64, u64)>
         return None;
     }
     Some((read_number(first)?, read_number(second)?))
+}
+
+/// The numbers that the three words spell.
+#[tactic(auto, unfolding(crate::specs::Line::three_numbers))]
+fn three_numbers(mut words: Words<'_>) -> Option<(u64, u64, u64)>
+    ensures { result ≡ three_numbers words.entry }
+{
+    let first = words.next()?;
+    let second = words.next()?;
+    let third = words.next()?;
+    if words.next().is_some() {
+        return None;
+    }
+    Some((
+        read_number(first)?,
+        read_number(second)?,
+        read_number(third)?,
+    ))
+}
+
+/// The number that the first word spells, and the pattern of the second one.
+#[tactic(auto, unfolding(crate::specs::Line::number_and_pattern))]
+fn number_and_pattern(mut words: Words<'_>) -> Option<(u64, Pattern)>
+    ensures { result ≡ number_and_pattern words.entry }
+{
+    let after = words.next()?;
+    let pattern = words.next()?;
+    if words.next().is_some() {
+        return None;
+    }
+    Some((read_number(after)?, read_pattern(pattern)?))
+}
+
+/// The line, where no word is left.
+fn alone(line: Line, mut words: Words<'_>) -> Option<Line>
+    ensures { result ≡ alone line words.entry }
+{
+    match words.next() {
+        None => Some(line),
+        Some(_) => None,
+    }
 }
 
 /// The event that the first word names, and the data identifier that the second one spells.
@@ -183,26 +237,47 @@ fn event_with(alloc: Global, words: Words<'_>) -> Result<Option<EventLine>, Allo
 fn line_with(alloc: Global, keyword: Keyword, words: Words<'_>) -> Result<Option<Line>, AllocError>
     ensures { IfOk result (λ line. line ≡ line_with keyword words.entry) }
 {
-    Ok(match keyword {
-        Keyword::Pass => report_with(Report::Passed, words),
-        Keyword::Fail => report_with(Report::Failed, words),
-        Keyword::PrePass => report_with(Report::PrePassed, words),
-        Keyword::PreFail => report_with(Report::PreFailed, words),
-        Keyword::Show => only_number(words).map(|event| Line::Step(StepLine::Show { event })),
-        Keyword::Cycle => only_number(words).map(|cycle| Line::Step(StepLine::Cycle { cycle })),
-        Keyword::Tick => only_number(words).map(|ticks| Line::Step(StepLine::Tick { ticks })),
-        Keyword::Signal => two_numbers(words).map(|(index, value)| Line::Step(StepLine::Signal {
+    match keyword {
+        Keyword::Pass => Ok(report_with(Report::Passed, words)),
+        Keyword::Fail => Ok(report_with(Report::Failed, words)),
+        Keyword::PrePass => Ok(report_with(Report::PrePassed, words)),
+        Keyword::PreFail => Ok(report_with(Report::PreFailed, words)),
+        Keyword::Show => {
+            Ok(only_number(words).map(|event| Line::Step(StepLine::Show { event })))
+        }
+        Keyword::Cycle => {
+            Ok(only_number(words).map(|cycle| Line::Step(StepLine::Cycle { cycle })))
+        }
+        Keyword::Tick => Ok(only_number(words).map(|ticks| Line::Step(StepLine::Tick { ticks }))),
+        Keyword::Signal => Ok(two_numbers(words).map(|(index, value)| Line::Step(StepLine::Signal {
             index,
             value,
+        }))),
+        Keyword::Request => Ok(request_with(words)),
+        Keyword::Event => Ok(event_with(alloc, words)?.map(Line::Event)),
+        Keyword::Did => Ok(did_with(words)),
+        Keyword::Config => Ok(only_number(words).map(Line::Config)),
+        Keyword::Memory => Ok(only_number(words).map(Line::Memory)),
+        Keyword::Blocks => Ok(only_number(words).map(Line::Blocks)),
+        Keyword::Flash => {
+            Ok(two_numbers(words).map(|(sectors, pages)| Line::Flash { sectors, pages }))
+        }
+        Keyword::Save => Ok(alone(Line::Step(StepLine::Save), words)),
+        Keyword::Power => Ok(alone(Line::Power, words)),
+        Keyword::Cut => Ok(number_and_pattern(words).map(|(after, pattern)| {
+            Line::Step(StepLine::Arming(ArmLine::Cut { after, pattern }))
         })),
-        Keyword::Request => request_with(words),
-        Keyword::Event => event_with(alloc, words)?.map(Line::Event),
-        Keyword::Did => did_with(words),
-        Keyword::Config => only_number(words).map(Line::Config),
-        Keyword::Memory => only_number(words).map(Line::Memory),
-        Keyword::Blocks => only_number(words).map(Line::Blocks),
-        Keyword::Flash => two_numbers(words).map(|(sectors, pages)| Line::Flash { sectors, pages }),
-    })
+        Keyword::Fault => Ok(number_and_pattern(words).map(|(after, pattern)| {
+            Line::Step(StepLine::Arming(ArmLine::Fault { after, pattern }))
+        })),
+        Keyword::Mute => Ok(three_numbers(words).map(|(sector, page, times)| {
+            Line::Step(StepLine::Arming(ArmLine::Mute {
+                sector,
+                page,
+                times,
+            }))
+        })),
+    }
 }
 
 fn is_comment(word: &[u8]) -> bool

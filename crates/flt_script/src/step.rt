@@ -1,8 +1,11 @@
 ghost use Rattle.std.specs.Prelude.{◌≡◌};
 ghost use Rattle.flt_script.specs.Bytes.{letter_of};
+ghost use Rattle.flt_script.specs.Step.{arm_count};
 
+use crate::arm::ArmWords;
 use crate::bytes::HexBytes;
 use arrayvec::ArrayVec;
+use flt_flash::Arm;
 use flt_model::{REQUEST, Report};
 use std::fmt;
 
@@ -37,6 +40,11 @@ pub enum Step {
         tester: u8,
         bytes: ArrayVec<u8, REQUEST>,
     },
+    /// `save`: what is to outlive the power is written to the flash.
+    Save,
+    /// `cut`, `fault` or `mute`: from now on the flash is to fail like this. `after` and `times` are 1 to 65535, `sector`
+    /// is 0 or 1 and `page` 0 to 1023.
+    Arming(Arm),
 }
 
 /// A part of a life, which is carried out before the next one.
@@ -54,6 +62,18 @@ fn letter_of(tester: u8) -> char
     ensures { result ≡ letter_of tester }
 {
     char::from(b'A' + tester.min(LAST_TESTER))
+}
+
+impl Step {
+    /// How many of `cut`, `fault` and `mute` it is: one or none.
+    pub(crate) fn arm_count(&self) -> usize
+        ensures { result ≡ arm_count self.now }
+    {
+        match *self {
+            Step::Arming(_) => 1,
+            _ => 0,
+        }
+    }
 }
 
 impl fmt::Display for Step {
@@ -88,6 +108,11 @@ impl fmt::Display for Step {
                 let letter = letter_of(tester);
                 let bytes = HexBytes(bytes);
                 write!(f, "t {letter} {bytes}")
+            }
+            Step::Save => write!(f, "save"),
+            Step::Arming(arm) => {
+                let arm = ArmWords(arm);
+                write!(f, "{arm}")
             }
         }
     }

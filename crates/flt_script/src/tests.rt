@@ -13,14 +13,18 @@ fn table() -> DidTable<DID_ROWS> {
     table
 }
 
-/// What is told of a script: its steps, each as it prints and with a full stop behind it, or its fault.
+/// What is told of a script: its steps, each as it prints and with a full stop behind it, and a bar before each life but
+/// the first, or its fault.
 fn outcome(alloc: Global, bytes: &[u8]) -> Result<String, AllocError> {
     let script = match parse(alloc, bytes, &table()) {
         Ok(script) => script,
         Err(fault) => return fault.to_string(alloc),
     };
     let mut text = String::new(alloc);
+    let mut bar = "";
     for life in &script.lives {
+        text.push_str(bar)?;
+        bar = "|";
         for part in life {
             let Part::One(step) = part;
             text.push_str(format!(in alloc; "{step}.")?.as_str())?;
@@ -30,7 +34,7 @@ fn outcome(alloc: Global, bytes: &[u8]) -> Result<String, AllocError> {
 }
 
 /// Scripts, and what is told of each.
-static CASES: [(&str, &str); 131] = [
+static CASES: [(&str, &str); 184] = [
     ("", ""),
     ("event 0 dtc 123456\r\ncycle 0", "cycle 0."),
     (
@@ -53,8 +57,79 @@ static CASES: [(&str, &str); 131] = [
     ("nothing", "script line 1 word"),
     ("Cycle 0", "script line 1 word"),
     ("cycle0", "script line 1 word"),
-    ("save", "script line 1 word"),
     ("par", "script line 1 word"),
+    ("Save", "script line 1 word"),
+    ("powers", "script line 1 word"),
+    ("save\n\tsave ", "save.save."),
+    ("save 1", "script line 1 form"),
+    ("save # x", "script line 1 form"),
+    ("power", "|"),
+    ("power\n# x\npower", "||"),
+    (
+        "save\npower\n\nsave\ncycle 1\npower\ntick 1",
+        "save.|save.cycle 1.|tick 1.",
+    ),
+    ("power 1", "script line 1 form"),
+    ("power power", "script line 1 form"),
+    (
+        "cut 15 none\ncut 1 all\ncut 65535 tail\n cut\t00002  odd",
+        "cut 15 none.cut 1 all.cut 65535 tail.cut 2 odd.",
+    ),
+    (
+        "fault 15 none\nfault 1 all\nfault 65535 tail\nfault 0000000002 odd",
+        "fault 15 none.fault 1 all.fault 65535 tail.fault 2 odd.",
+    ),
+    (
+        "mute 0 13 3\nmute 1 1023 65535\nmute 00 00 01",
+        "mute 0 13 3.mute 1 1023 65535.mute 0 0 1.",
+    ),
+    ("cut 0 none", "script line 1 range"),
+    ("cut 65536 none", "script line 1 range"),
+    ("fault 0 all", "script line 1 range"),
+    ("fault 65536 all", "script line 1 range"),
+    ("mute 2 0 1", "script line 1 range"),
+    ("mute 0 1024 1", "script line 1 range"),
+    ("mute 0 0 0", "script line 1 range"),
+    ("mute 0 0 65536", "script line 1 range"),
+    ("cut", "script line 1 form"),
+    ("cut 1", "script line 1 form"),
+    ("cut none", "script line 1 form"),
+    ("cut none 1", "script line 1 form"),
+    ("cut 1 none 1", "script line 1 form"),
+    ("cut 1 None", "script line 1 form"),
+    ("cut 1 nothing", "script line 1 form"),
+    ("cut 1 0", "script line 1 form"),
+    ("cut -1 none", "script line 1 form"),
+    ("cut 0 some", "script line 1 form"),
+    ("fault 1", "script line 1 form"),
+    ("fault 1 some", "script line 1 form"),
+    ("fault all 1", "script line 1 form"),
+    ("fault 1 tails", "script line 1 form"),
+    ("mute", "script line 1 form"),
+    ("mute 0 0", "script line 1 form"),
+    ("mute 0 0 1 1", "script line 1 form"),
+    ("mute 2 x 1", "script line 1 form"),
+    ("mute 0 0 all", "script line 1 form"),
+    ("save\nmemory 1", "script line 2 order"),
+    ("power\nmemory 1", "script line 2 order"),
+    ("power\nconfig 65536", "script line 2 order"),
+    ("power\npower\nblocks 1", "script line 3 order"),
+    ("mute 0 0 1\nflash 2 300", "script line 2 order"),
+    ("power\nevent 0 dtc 000001", "script line 2 order"),
+    (
+        "event 0 dtc 000001\npower\ndid 0 0101",
+        "script line 3 order",
+    ),
+    ("power\nmemory", "script line 2 form"),
+    (
+        "event 0 dtc 000001\nfail 0\npower\nshow 0",
+        "fail 0.|show 0.",
+    ),
+    (
+        "event 0 dtc 000001\nfail 0\npower\nshow 1",
+        "script line 4 range",
+    ),
+    ("memory 0\npower\nsave", "script line 1 range"),
     ("cycle", "script line 1 form"),
     ("cycle 0 0", "script line 1 form"),
     ("cycle x", "script line 1 form"),
@@ -148,6 +223,7 @@ static CASES: [(&str, &str); 131] = [
         "event 0 dtc 000001 jumpdown 0 time 1 1",
         "script line 1 form",
     ),
+    ("event 0 dtc 000001 time 1 1 jumpup 0", "script line 1 form"),
     ("event 0 dtc 000001 jumpup +0", "script line 1 form"),
     ("event 0 dtc 000001 jumpup -", "script line 1 form"),
     ("event 0 dtc 000001 jumpup --1", "script line 1 form"),
@@ -188,6 +264,8 @@ static CASES: [(&str, &str); 131] = [
     ("config 65535\nconfig 65535", "script line 2 order"),
     ("blocks 1\nblocks 1", "script line 2 order"),
     ("flash 2 300\nflash 2 300", "script line 2 order"),
+    ("flash 2 300\nflash 3 300", "script line 2 order"),
+    ("memory 1\nmemory 256", "script line 2 order"),
     ("config 65536", "script line 1 range"),
     ("#\nmemory 17", "script line 2 range"),
     ("#\nmemory 256", "script line 2 range"),
@@ -259,30 +337,110 @@ fn limits(rt: HostRuntime) -> Result<(), Fail> {
     assert_eq!(rt; outcome(alloc, line.as_bytes())?.as_str(), "");
     line.push_str("\r\n#")?;
     assert_eq!(rt; outcome(alloc, line.as_bytes())?.as_str(), "");
-    let line = repeated(alloc, "#", 513)?;
-    assert_eq!(rt;
-        outcome(alloc, line.as_bytes())?.as_str(),
-        "script line 1 long"
-    );
     let script = repeated(alloc, "#\n", 524_288)?;
     assert_eq!(rt; outcome(alloc, script.as_bytes())?.as_str(), "");
-    let script = repeated(alloc, "#", 1_048_577)?;
-    assert_eq!(rt;
-        outcome(alloc, script.as_bytes())?.as_str(),
-        "script line 0 large"
-    );
     assert_eq!(rt; outcome(alloc, events(alloc, 64)?.as_bytes())?.as_str(), "");
-    assert_eq!(rt;
-        outcome(alloc, events(alloc, 65)?.as_bytes())?.as_str(),
-        "script line 65 many"
-    );
     let script = repeated(alloc, "cycle 0\n", 65_536)?;
     assert_eq!(rt; outcome(alloc, script.as_bytes())?.len(), 524_288);
-    let script = repeated(alloc, "cycle 0\n", 65_537)?;
+    let script = repeated(alloc, "power\n", 255)?;
+    assert_eq!(rt; outcome(alloc, script.as_bytes())?.len(), 255);
+    Ok(())
+}
+
+/// Pieces that are repeated, what stands behind them, and what is told of both.
+static TOO_MANY: [(&str, usize, &str, &str); 16] = [
+    ("#", 513, "", "script line 1 long"),
+    ("#", 512, "\u{1}", "script line 1 long"),
+    ("#", 1_048_577, "", "script line 0 large"),
+    ("\u{1}", 1_048_577, "", "script line 0 large"),
+    ("cycle 0\n", 65_536, "cycle 0", "script line 65537 many"),
+    ("cycle 0\n", 65_536, "save", "script line 65537 many"),
+    ("cycle 0\n", 65_536, "cycle 4", "script line 65537 range"),
+    ("cycle 0\n", 65_536, "cycle", "script line 65537 form"),
+    ("cycle 0\n", 65_536, "config 0", "script line 65537 order"),
+    ("cycle 0\n", 65_536, "power\nsave", "script line 65538 many"),
+    ("power\n", 255, "power", "script line 256 many"),
+    ("power\n", 255, "power 1", "script line 256 form"),
+    ("cut 1 all\n", 64, "mute 0 0 1", "script line 65 many"),
+    (
+        "mute 0 0 1\npower\n",
+        64,
+        "fault 1 odd",
+        "script line 129 many",
+    ),
+    ("fault 2 none\n", 64, "cut 0 all", "script line 65 range"),
+    ("fault 2 none\n", 64, "cut 1 al", "script line 65 form"),
+];
+
+#[test]
+fn one_too_many(rt: HostRuntime) -> Result<(), Fail> {
+    let alloc = rt.alloc();
+    for case in &TOO_MANY {
+        let mut script = repeated(alloc, case.0, case.1)?;
+        script.push_str(case.2)?;
+        let told = outcome(alloc, script.as_bytes())?;
+        assert_eq!(rt; told.as_str(), case.3, "{:?} behind {:?}", case.2, case.0);
+    }
+    let mut script = events(alloc, 64)?;
+    script.push_str("event 64 dtc 000041 prio 25")?;
     assert_eq!(rt;
         outcome(alloc, script.as_bytes())?.as_str(),
-        "script line 65537 many"
+        "script line 65 many"
     );
+    script.push_str("6")?;
+    assert_eq!(rt;
+        outcome(alloc, script.as_bytes())?.as_str(),
+        "script line 65 range"
+    );
+    let mut script = repeated(alloc, "fault 2 none\n", 64)?;
+    script.push_str("power\nsave")?;
+    let told = outcome(alloc, script.as_bytes())?;
+    assert!(rt; told.as_str().ends_with("fault 2 none.|save."));
+    let mut script = repeated(alloc, "power\n", 255)?;
+    script.push_str(repeated(alloc, "cycle 0\n", 65_536)?.as_str())?;
+    assert_eq!(rt; outcome(alloc, script.as_bytes())?.len(), 524_543);
+    Ok(())
+}
+
+#[test]
+fn arms_are_made_as_written(rt: HostRuntime) -> Result<(), Fail> {
+    let text = "cut 2 tail\npower\nfault 3 odd\nmute 1 5 7";
+    let script = parse(rt.alloc(), text.as_bytes(), &table())?;
+    assert_eq!(rt; script.lives.len(), 2);
+    let cut = Part::One(Step::Arming(Arm::Cut {
+        after: 2,
+        pattern: Pattern::Tail,
+    }));
+    let fault = Part::One(Step::Arming(Arm::Fault {
+        after: 3,
+        pattern: Pattern::Odd,
+    }));
+    let mute = Part::One(Step::Arming(Arm::Mute {
+        sector: 1,
+        page: 5,
+        times: 7,
+    }));
+    let wanted = [cut, fault, mute];
+    let mut wanted = wanted.iter();
+    for life in &script.lives {
+        for part in life {
+            assert!(rt; wanted.next() == Some(part));
+        }
+    }
+    assert!(rt; wanted.next().is_none());
+    Ok(())
+}
+
+#[test]
+fn nothing_written(rt: HostRuntime) -> Result<(), Fail> {
+    let script = parse(rt.alloc(), b"", &table())?;
+    let config = script.config.config();
+    assert_eq!(rt; config.id, 0);
+    assert_eq!(rt; config.memory, 16);
+    assert_eq!(rt; config.blocks, 8);
+    assert_eq!(rt; config.pages, 512);
+    assert_eq!(rt; config.events.len(), 0);
+    assert_eq!(rt; script.lives.len(), 1);
     Ok(())
 }
 

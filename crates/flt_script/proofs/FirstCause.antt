@@ -1,0 +1,257 @@
+-- The cause that is told of a line is the first of the table that holds of it.
+use Rattle.std.proofs.Common.{◌≡◌, ℕ, ◌+◌, List, [], ◌∷◌, length, Bool, true, false, cond, ◌&&◌, ◌||◌, ltb, leb, Option, Some, None, Ok, Err, refl, ap, ◌∙◌, arith, if◌then◌else◌}
+use Rattle.std.specs.Prelude.{ℤ, pos, neg_ℤ, negsuc, int_lt, not, ◌==◌, is_some, is_none, option_map, find}
+use Rattle.std.specs.List.{list_any}
+use Rattle.std.specs.Option.{ok_or}
+use Rattle.std.specs.Str.{bytes_eq}
+use Rattle.std.proofs.lemmas.Bool.Decides.{nat_tests}
+use Rattle.flt_config.specs.declared.config.Debounce.{Debounce}
+use Rattle.flt_config.specs.declared.config.Debounce.TheVariants as rules
+use Rattle.flt_config.specs.declared.config.DidUse.{DidUse}
+use Rattle.flt_config.specs.declared.config.EventCfg.{EventCfg}
+use Rattle.flt_did.specs.Rows.{is_did}
+use Rattle.flt_flash.specs.declared.arm.Arm.TheVariants as arm
+use Rattle.flt_script.specs.declared.arm.ArmLine.TheVariants.{Cut, Fault, Mute}
+use Rattle.flt_script.specs.declared.event.DebounceLine.{DebounceLine}
+use Rattle.flt_script.specs.declared.event.DebounceLine.TheVariants.{Counter, Time}
+use Rattle.flt_script.specs.declared.event.EventLine.{EventLine}
+use Rattle.flt_script.specs.declared.fault.LineCause.{LineCause}
+use Rattle.flt_script.specs.declared.fault.LineCause.TheVariants.{Long, Byte, Word, Form, Order, Range, Many, Did}
+use Rattle.flt_script.specs.declared.keyword.Keyword.{Keyword}
+use Rattle.flt_script.specs.declared.line.Line.{Line}
+use Rattle.flt_script.specs.declared.line.Line.TheVariants as line
+use Rattle.flt_script.specs.declared.line.StepLine.{StepLine}
+use Rattle.flt_script.specs.declared.line.StepLine.TheVariants.{Report, Show, Cycle, Tick, Signal, Request, Save, Arming}
+use Rattle.flt_script.specs.declared.step.Step.{Step}
+use Rattle.flt_script.specs.declared.step.Step.TheVariants as step
+use Rattle.flt_script.specs.Behind.{Behind, behind, event_count, has_begun, arm_of, step_of}
+use Rattle.flt_script.specs.Causes.{is_strange, is_unknown, line_said, configures, is_set_already, has_wrong_event, is_jump_kept, is_debounce_kept, is_event_kept, is_step_written, is_out_of_range, arms_written, is_one_too_many, is_did_unknown, on_line, cause_told}
+use Rattle.flt_script.specs.Event.{jump_held, debounce_held, event_held}
+use Rattle.flt_script.specs.Gives.{◌⇒◌, ◌>>=◌, given_by}
+use Rattle.flt_script.specs.Laws.{FirstCauseIsTold}
+use Rattle.flt_script.specs.Line.{spelling, keywords, keyword_of, line_with, is_comment, by_words, line_of}
+use Rattle.flt_script.specs.Refusal.{setting_refusal, flash_refusal, event_refusal, did_refusal, step_refusal, power_refusal, refusal, unless_refused, line_behind}
+use Rattle.flt_script.specs.Step.{arm_count}
+use Rattle.flt_script.specs.Text.{words_of, is_plain, all_plain}
+use Rattle.flt_script.proofs.Bools.{or_false}
+use Rattle.flt_script.proofs.Kept.{kept}
+
+-- ---- bytes and words
+
+strange_byte : (byte : ℕ) → is_strange byte ≡ not (is_plain byte)
+strange_byte byte = grind (arith, nat_tests)
+
+both_not : (a b : Bool) → not (a && b) ≡ (not a || not b)
+both_not true b = refl
+both_not false b = refl
+
+strange : (text : List ℕ) → not (all_plain text) ≡ list_any is_strange text
+strange [] = refl
+strange (byte ∷ text) = both_not (is_plain byte) (all_plain text) ∙ rw (strange text, strange_byte byte) refl
+
+here_or_later : {X : Type 0} (p : X → Bool) (x : X) (xs : List X) (test : Bool) → is_some (find p xs) ≡ list_any p xs
+    → is_some (cond test (Some x) (find p xs)) ≡ (test || list_any p xs)
+here_or_later p x xs true e = refl
+here_or_later p x xs false e = e
+
+found_is_any : {X : Type 0} (p : X → Bool) (xs : List X) → is_some (find p xs) ≡ list_any p xs
+found_is_any p [] = refl
+found_is_any p (x ∷ xs) = here_or_later p x xs (p x) (found_is_any p xs)
+
+none_is_not_some : {X : Type 0} (o : Option X) → is_none o ≡ not (is_some o)
+none_is_not_some None = refl
+none_is_not_some (Some x) = refl
+
+none_found : {X : Type 0} (p : X → Bool) (xs : List X) → is_none (find p xs) ≡ not (list_any p xs)
+none_found p xs = none_is_not_some (find p xs) ∙ ap not (found_is_any p xs)
+
+-- ---- numbers that are kept
+
+jump_in : (low high : Bool) (jump : ℤ) → is_some (option_map (λ (j : ℤ). Some j) (if low || high then None else Some jump)) ≡ (not low && not high)
+jump_in true high jump = refl
+jump_in false true jump = refl
+jump_in false false jump = refl
+
+jump_kept : (jump : Option ℤ) → is_some (jump_held jump) ≡ is_jump_kept jump
+unfolding jump_held
+jump_kept None = refl
+jump_kept (Some jump) = jump_in (int_lt jump (negsuc 32767)) (int_lt (pos 32767) jump) jump
+
+counter_in : (f p u d : Bool) (fail pass up down : ℕ) (jump_up jump_down : Option (Option ℤ)) → is_some (
+    kept f fail ⇒ λ fail. kept p pass ⇒ λ pass. kept u up ⇒ λ step_up. kept d down ⇒ λ step_down.
+    jump_up ⇒ λ jump_up. jump_down ⇒ λ jump_down.
+    Some (rules.Counter (pos fail) (neg_ℤ (pos pass)) (pos step_up) (pos step_down) jump_up jump_down))
+    ≡ (f && p && u && d && is_some jump_up && is_some jump_down)
+counter_in false p u d fail pass up down jump_up jump_down = refl
+counter_in true false u d fail pass up down jump_up jump_down = refl
+counter_in true true false d fail pass up down jump_up jump_down = refl
+counter_in true true true false fail pass up down jump_up jump_down = refl
+counter_in true true true true fail pass up down None jump_down = refl
+counter_in true true true true fail pass up down (Some jump_up) None = refl
+counter_in true true true true fail pass up down (Some jump_up) (Some jump_down) = refl
+
+times_in : (f p : Bool) (fail pass : ℕ) → is_some (kept f fail ⇒ λ fail. kept p pass ⇒ λ pass. Some (rules.Time fail pass)) ≡ (f && p)
+times_in false p fail pass = refl
+times_in true false fail pass = refl
+times_in true true fail pass = refl
+
+debounce_kept : (debounce : DebounceLine) → is_some (debounce_held debounce) ≡ is_debounce_kept debounce
+unfolding debounce_held
+debounce_kept (Counter thresholds up down) =
+    counter_in (leb thresholds.fail 32767) (leb thresholds.pass 32768) (leb thresholds.up 32767) (leb thresholds.down 32767)
+    thresholds.fail thresholds.pass thresholds.up thresholds.down (jump_held up) (jump_held down)
+    ∙ rw (jump_kept up, jump_kept down) refl
+debounce_kept (Time fail pass) = times_in (leb fail 65535) (leb pass 65535) fail pass
+
+event_in : (dtc : ℕ) (p c f h a l : Bool) (priority cycle confirm heal age lamp : ℕ) (debounce : Option Debounce) → is_some {T = EventCfg} (
+    kept p priority ⇒ λ priority. kept c cycle ⇒ λ cycle. kept f confirm ⇒ λ confirm. kept h heal ⇒ λ heal. kept a age ⇒ λ age.
+    kept l lamp ⇒ λ lamp. debounce ⇒ λ debounce.
+    Some (record {
+      dtc = dtc;
+      priority = priority;
+      cycle = cycle;
+      confirm = confirm;
+      heal = heal;
+      age = age;
+      indicator = lamp == 1;
+      debounce = debounce;
+      dids = record { items = [] };
+    })) ≡ (p && c && f && h && a && l && is_some debounce)
+event_in dtc false c f h a l priority cycle confirm heal age lamp debounce = refl
+event_in dtc true false f h a l priority cycle confirm heal age lamp debounce = refl
+event_in dtc true true false h a l priority cycle confirm heal age lamp debounce = refl
+event_in dtc true true true false a l priority cycle confirm heal age lamp debounce = refl
+event_in dtc true true true true false l priority cycle confirm heal age lamp debounce = refl
+event_in dtc true true true true true false priority cycle confirm heal age lamp debounce = refl
+event_in dtc true true true true true true priority cycle confirm heal age lamp None = refl
+event_in dtc true true true true true true priority cycle confirm heal age lamp (Some debounce) = refl
+
+event_kept : (event : EventLine) → is_none (event_held event) ≡ not (is_event_kept event)
+unfolding event_held
+event_kept event =
+    let n = event.numbers in
+    none_is_not_some _ ∙ ap not (
+    event_in event.dtc (leb n.priority 255) (leb n.cycle 255) (leb n.confirm 255) (leb n.heal 255) (leb n.age 255) (leb n.lamp 1)
+    n.priority n.cycle n.confirm n.heal n.age n.lamp (debounce_held event.debounce)
+    ∙ rw (debounce_kept event.debounce) refl)
+
+-- ---- steps
+
+-- What is told of a step that is read like this, with so many of cut, fault and mute.
+abbrev of_step : Behind → Option Step → Option LineCause
+of_step b read = cond (is_none read) (Some Range) (cond (leb 65536 b.steps || ltb 64 (b.arms + given_by read 0 arm_count)) (Some Many) None)
+
+abbrev of_range : Behind → Bool → ℕ → Option LineCause
+of_range b within arms = cond (not within) (Some Range) (cond (leb 65536 b.steps || ltb 64 (b.arms + arms)) (Some Many) None)
+
+module _ (b : Behind) (arms : ℕ) (s : Step) (count : arm_count s ≡ arms) where
+  by_one : (t : Bool) (read : Bool → Option Step) → read true ≡ Some s → read false ≡ None → of_step b (read t) ≡ of_range b t arms
+  by_one true read some none = rw (some, count) refl
+  by_one false read some none = rw none refl
+
+  by_two : (t u : Bool) (read : Bool → Bool → Option Step) → read true true ≡ Some s → read true false ≡ None → read false u ≡ None
+      → of_step b (read t u) ≡ of_range b (t && u) arms
+  by_two true true read some second first = rw (some, count) refl
+  by_two true false read some second first = rw second refl
+  by_two false u read some second first = rw first refl
+
+step_row : (b : Behind) (s : StepLine) → of_step b (step_of b.config s) ≡ of_range b (is_step_written b.config s) (arms_written s)
+unfolding arm_of
+step_row b (Report event report) =
+    by_one b 0 (step.Report event report) refl (ltb event (event_count b)) (λ t. option_map (λ (e : ℕ). step.Report e report) (kept t event)) refl refl
+step_row b (Show event) = by_one b 0 (step.Show event) refl (ltb event (event_count b)) (λ t. option_map step.Show (kept t event)) refl refl
+step_row b (Cycle cycle) = by_one b 0 (step.Cycle cycle) refl (leb cycle 3) (λ t. option_map step.Cycle (kept t cycle)) refl refl
+step_row b (Tick ticks) = by_one b 0 (step.Tick ticks) refl (leb 1 ticks && leb ticks 65535) (λ t. option_map step.Tick (kept t ticks)) refl refl
+step_row b (Signal index value) =
+    by_two b 0 (step.Signal index value) refl (leb index 7) (leb value 65535)
+    (λ t u. kept t index ⇒ λ index. kept u value ⇒ λ value. Some (step.Signal index value)) refl refl refl
+step_row b (Request tester bytes) =
+    by_one b 0 (step.Request tester bytes) refl (leb tester 3 && ltb 0 (length bytes.items)) (λ t. if t then Some (step.Request tester bytes) else None) refl refl
+step_row b Save = refl
+step_row b (Arming (Cut after pattern)) =
+    by_one b 1 (step.Arming (arm.Cut after pattern)) refl (leb 1 after && leb after 65535)
+    (λ t. option_map step.Arming (option_map (λ (n : ℕ). arm.Cut n pattern) (kept t after))) refl refl
+step_row b (Arming (Fault after pattern)) =
+    by_one b 1 (step.Arming (arm.Fault after pattern)) refl (leb 1 after && leb after 65535)
+    (λ t. option_map step.Arming (option_map (λ (n : ℕ). arm.Fault n pattern) (kept t after))) refl refl
+step_row b (Arming (Mute sector page times)) = mute_row (leb sector 1) (leb page 1023) (leb 1 times && leb times 65535)
+  where
+    mute_row : (t u v : Bool)
+        → of_step b (option_map step.Arming (kept t sector ⇒ λ sector. kept u page ⇒ λ page. kept v times ⇒ λ times. Some (arm.Mute sector page times)))
+        ≡ of_range b (t && u && v) 1
+    mute_row true true true = refl
+    mute_row true true false = refl
+    mute_row true false v = refl
+    mute_row false u v = refl
+
+-- ---- lines
+
+-- The causes behind Form, of a line.
+abbrev of_line : List DidUse → Behind → Line → Option LineCause
+of_line dids b l =
+    cond (configures l && has_begun b || is_set_already b l || has_wrong_event b l) (Some Order)
+    (cond (is_out_of_range b.config l) (Some Range)
+    (cond (is_one_too_many b l) (Some Many)
+    (cond (is_did_unknown dids l) (Some Did) None)))
+
+line_row : (dids : List DidUse) (b : Behind) (l : Line) → refusal dids b l ≡ of_line dids b l
+unfolding refusal setting_refusal flash_refusal event_refusal did_refusal step_refusal power_refusal
+line_row dids b line.Skipped = refl
+line_row dids b (line.Config id) = rw (or_false (has_begun b || is_some b.places.config)) refl
+line_row dids b (line.Memory entries) = rw (or_false (has_begun b || is_some b.places.memory)) refl
+line_row dids b (line.Blocks blocks) = rw (or_false (has_begun b || is_some b.places.blocks)) refl
+line_row dids b (line.Flash sectors pages) = rw (or_false (has_begun b || is_some b.places.flash)) refl
+line_row dids b (line.Event event) = rw (or_false (has_begun b), event_kept event) refl
+line_row dids b (line.Did event id) = rw (or_false (has_begun b), none_found (is_did id) dids) refl
+line_row dids b (line.Step s) = step_row b s
+line_row dids b line.Power = refl
+
+-- What the words say, or why they say nothing.
+any_keyword : (found : Option Keyword) (words : List (List ℕ)) → (ok_or found Word >>= λ keyword. ok_or (line_with keyword words) Form)
+    ≡ cond (not (is_some found)) (Err Word) (ok_or (found ⇒ λ keyword. line_with keyword words) Form)
+any_keyword None words = refl
+any_keyword (Some keyword) words = refl
+
+any_word : (comment any : Bool) (found : Option Keyword) (words : List (List ℕ)) → is_some found ≡ any
+    → (if comment then Ok line.Skipped else ok_or found Word >>= λ keyword. ok_or (line_with keyword words) Form)
+    ≡ cond (not comment && not any) (Err Word) (ok_or (if comment then Some line.Skipped else found ⇒ λ keyword. line_with keyword words) Form)
+any_word true any found words e = refl
+any_word false any found words e = rw (← e) (any_keyword found words)
+
+word_row : (words : List (List ℕ)) → by_words words ≡ cond (is_unknown words) (Err Word) (ok_or (line_said words) Form)
+unfolding by_words keyword_of
+word_row [] = refl
+word_row (word ∷ words) =
+    let spelled = λ (keyword : Keyword). bytes_eq word (spelling keyword) in
+    any_word (is_comment word) (list_any spelled keywords) (find spelled keywords) words (found_is_any spelled keywords)
+
+told_unless : (refused : Option LineCause) (l : Line) → cause_told (unless_refused refused l) ≡ refused
+told_unless None l = refl
+told_unless (Some cause) l = refl
+
+module _ (dids : List DidUse) (b : Behind) where
+  on_said : (said : Option Line) → cause_told (ok_or said Form >>= λ l. unless_refused (refusal dids b l) l)
+      ≡ cond (is_none said) (Some Form)
+      (cond (on_line (λ l. configures l && has_begun b || is_set_already b l || has_wrong_event b l) said) (Some Order)
+      (cond (on_line (is_out_of_range b.config) said) (Some Range)
+      (cond (on_line (is_one_too_many b) said) (Some Many)
+      (cond (on_line (is_did_unknown dids) said) (Some Did) None))))
+  on_said None = refl
+  on_said (Some l) = told_unless (refusal dids b l) l ∙ line_row dids b l
+
+  on_text : (long odd unknown : Bool) (said : Option Line) (later : Option LineCause)
+      → cause_told (ok_or said Form >>= λ l. unless_refused (refusal dids b l) l) ≡ later
+      → cause_told ((if long then Err Long else if odd then Err Byte else cond unknown (Err Word) (ok_or said Form)) >>= λ l. unless_refused (refusal dids b l) l)
+      ≡ cond long (Some Long) (cond odd (Some Byte) (cond unknown (Some Word) later))
+  on_text true odd unknown said later e = refl
+  on_text false true unknown said later e = refl
+  on_text false false true said later e = refl
+  on_text false false false said later e = e
+
+pub first_cause_is_told : FirstCauseIsTold
+unfolding line_behind line_of
+first_cause_is_told dids past text =
+    let b = behind dids past in
+    let words = words_of text in
+    rw (word_row words, strange text)
+    (on_text dids b (ltb 512 (length text)) (list_any is_strange text) (is_unknown words) (line_said words) _ (on_said dids b (line_said words)))

@@ -1,0 +1,63 @@
+-- What the lines before a line gave, told by the lines themselves: how many of a kind there are, and whether one stands.
+use Rattle.std.specs.Prelude.{◌≡◌, List, length, count_by, Bool, true, false, is_some}
+use Rattle.std.specs.List.{list_any}
+use Rattle.flt_config.specs.declared.config.DidUse.{DidUse}
+use Rattle.flt_script.specs.declared.line.Line.{Line}
+use Rattle.flt_script.specs.declared.line.Line.TheVariants as line
+use Rattle.flt_script.specs.declared.line.StepLine.TheVariants.{Arming}
+use Rattle.flt_script.specs.Behind.{behind, event_count, has_begun}
+
+-- A step.
+abbrev pub is_step : Line → Bool
+is_step (line.Step step) = true
+is_step _ = false
+
+-- A cut, a fault or a mute.
+abbrev pub is_arming : Line → Bool
+is_arming (line.Step (Arming arm)) = true
+is_arming _ = false
+
+-- The end of a life.
+abbrev pub is_power : Line → Bool
+is_power line.Power = true
+is_power _ = false
+
+-- A step or the end of a life.
+abbrev pub is_done : Line → Bool
+is_done (line.Step step) = true
+is_done line.Power = true
+is_done _ = false
+
+-- An event.
+abbrev pub is_event : Line → Bool
+is_event (line.Event event) = true
+is_event _ = false
+
+-- Each of the lines that stand once.
+abbrev pub is_config : Line → Bool
+is_config (line.Config id) = true
+is_config _ = false
+
+abbrev pub is_memory : Line → Bool
+is_memory (line.Memory entries) = true
+is_memory _ = false
+
+abbrev pub is_blocks : Line → Bool
+is_blocks (line.Blocks blocks) = true
+is_blocks _ = false
+
+abbrev pub is_flash : Line → Bool
+is_flash (line.Flash sectors pages) = true
+is_flash _ = false
+
+-- What is kept of these lines says how many there are of each kind.
+pub record IsCounted (dids : List DidUse) (past : List Line) : Type 0 where
+  pub steps : (behind dids past).steps ≡ count_by is_step past
+  pub arms : (behind dids past).arms ≡ count_by is_arming past
+  pub lives : length (behind dids past).lives ≡ count_by is_power past
+  pub events : event_count (behind dids past) ≡ count_by is_event past
+  pub begun : has_begun (behind dids past) ≡ list_any is_done past
+  pub config : is_some (behind dids past).places.config ≡ list_any is_config past
+  pub memory : is_some (behind dids past).places.memory ≡ list_any is_memory past
+  pub blocks : is_some (behind dids past).places.blocks ≡ list_any is_blocks past
+  pub flash : is_some (behind dids past).places.flash ≡ list_any is_flash past
