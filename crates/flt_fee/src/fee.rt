@@ -23,7 +23,8 @@ use crate::switch::switch_sectors;
 use flt_flash::{Arm, Bench, BlockFault, Blocks, Flash, FlashFailed, Found, Refused};
 use flt_pages::{Numbers, PageFault};
 use flt_record::{
-    RecordPlace, append_record, byte_pages, find_places, forget, live_pages, note, place_of, read_record,
+    RecordPlace, append_record, byte_pages, find_places, forget, live_pages, note, place_of,
+    read_record,
 };
 use std::alloc::{AllocError, Global};
 
@@ -39,7 +40,10 @@ fn no_places(alloc: Global, many: usize) -> Result<Vec<Option<RecordPlace>>, All
 }
 
 // The block numbers with their index, and a table of as many blocks without records.
-fn tables(alloc: Global, numbers: Vec<u16>) -> Result<(Numbers, Vec<Option<RecordPlace>>), AllocError>
+fn tables(
+    alloc: Global,
+    numbers: Vec<u16>,
+) -> Result<(Numbers, Vec<Option<RecordPlace>>), AllocError>
     ensures numbers { IfOk result (λ made. made.0 ≡ numbers.items) }
     ensures places { IfOk result (λ made. length made.1.items ≡ length numbers.items) }
 {

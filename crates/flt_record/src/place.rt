@@ -17,7 +17,11 @@ pub struct RecordPlace {
 }
 
 /// The place of one of the blocks, by the table.
-pub fn place_of(numbers: &Numbers, places: &[Option<RecordPlace>], block: u16) -> Option<RecordPlace>
+pub fn place_of(
+    numbers: &Numbers,
+    places: &[Option<RecordPlace>],
+    block: u16,
+) -> Option<RecordPlace>
     requires size { length places.now ≡ length numbers.now }
     requires number { Contains numbers.now block }
     ensures { IsPlaceOf numbers.now places.now block result }
