@@ -45,6 +45,7 @@ measure() {
 measure mounts 100
 measure reads 10000
 measure writes 10000
+measure start-ups 200
 measure saves-of-nothing 200
 measure saves-of-one 200
 measure saves-of-all 200

@@ -43,7 +43,9 @@ fn is_state_of(event: &EventCfg, state: EventState) -> bool
         && (!state.lit || (state.status & 0x08 != 0 && event.indicator))
 }
 
-fn are_states_of(events: &[EventCfg], states: &[EventState]) -> bool
+/// Whether these are states of these events, one for each: the indicator bit is set exactly while the state is lit and not healed,
+/// and it is lit only with a confirmed event that has an indicator.
+pub fn are_states_of(events: &[EventCfg], states: &[EventState]) -> bool
     ensures { IsTrue result ↔ AreStatesOf events.now states.now }
 {
     if events.len() != states.len() {
@@ -64,7 +66,8 @@ fn frame_length(dids: &[DidUse]) -> usize
     dids.iter().map(|did| did.width as usize).sum()
 }
 
-fn is_entry_of(events: &[EventCfg], entry: &EntryState) -> bool
+/// Whether the entry is one of these events, with frames of its width.
+pub fn is_entry_of(events: &[EventCfg], entry: &EntryState) -> bool
     ensures { IsTrue result ↔ IsEntryOf events.now entry.now }
 {
     match events.get(entry.event as usize) {
@@ -105,7 +108,8 @@ pub fn place_of(entries: &[EntryState], event: u16) -> Option<usize>
     entries.iter().position(|entry| entry.event == event)
 }
 
-fn is_noted(events: &[EventCfg], note: Option<u16>) -> bool
+/// Whether the noted event, if there is one, is one of these.
+pub fn is_noted(events: &[EventCfg], note: Option<u16>) -> bool
     ensures { IsTrue result ↔ IsNoted events.now note }
 {
     match note {

@@ -14,7 +14,7 @@ mod setting;
 mod valid_config;
 
 pub use config::{CfgFault, Config, Debounce, DidUse, EventCfg, Field};
-pub use durable::{fits, initial, place_of};
+pub use durable::{are_states_of, fits, initial, is_entry_of, is_noted, place_of};
 pub use persist::{EntryState, EventState, Frame, Persist};
 pub use valid_config::{ValidConfig, check, needed_pages};
 

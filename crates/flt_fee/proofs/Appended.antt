@@ -15,7 +15,7 @@ use Rattle.flt_code.specs.declared.words.Word.TheVariants.{Head}
 use Rattle.flt_record.specs.Blank.{AreBlank}
 use Rattle.flt_flash.specs.Blocks.{byte_pages}
 use Rattle.flt_sector.specs.Blocks.{current, first_fault, block_value}
-use Rattle.flt_record.specs.Holds.{asked_of, given}
+use Rattle.flt_record.specs.LogHolds.{asked_of, given}
 use Rattle.flt_record.proofs.LogOn.{blank_behind}
 use Rattle.flt_fee.specs.Mounted.{Stands}
 use Rattle.flt_fee.specs.Fee.{is_last, state_by}

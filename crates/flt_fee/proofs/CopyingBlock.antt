@@ -11,10 +11,10 @@ use Rattle.flt_flash.specs.declared.flash.FlashFailed.{FlashFailed}
 use Rattle.flt_flash.proofs.Following.{no_run}
 use Rattle.flt_code.specs.Word.{IsWord, is_length}
 use Rattle.flt_code.specs.declared.words.Word.TheVariants.{Head}
-use Rattle.flt_record.specs.declared.place.Place.{Place}
-use Rattle.flt_record.specs.Holds.{Holds, asked_of, given}
+use Rattle.flt_record.specs.declared.place.RecordPlace.{RecordPlace}
+use Rattle.flt_record.specs.LogHolds.{LogHolds, asked_of, given}
 use Rattle.flt_record.specs.Live.{held_in}
-use Rattle.flt_record.specs.Place.{record_at, IsWithin, IsAt, IsPlaceOf, bytes_at}
+use Rattle.flt_record.specs.RecordPlace.{record_at, IsWithin, IsAt, IsPlaceOf, bytes_at}
 use Rattle.flt_record.proofs.Recording.{pages_on}
 use Rattle.flt_record.proofs.Telling.{new_at}
 use Rattle.flt_record.specs.Record.{KeptApart, IsWhole, RecordLeft}
@@ -72,7 +72,7 @@ module _ (used : ℕ) (numbers : List ℕ) (before : FlashState) (shape : HasSha
         by_test value unset block true is = (let one : number ≡ block = eqb-true number block (sym is) in ap value (sym one) ∙ unset ∙ sym nothing)
 
     -- its place stays empty
-    pub place_empty : (places : List (Option Place)) → ((found : Option Place) → IsPlaceOf numbers places number found → IsAt (sector_at before.image sector) used (held_in used numbers (sector_at before.image sector) number) found)
+    pub place_empty : (places : List (Option RecordPlace)) → ((found : Option RecordPlace) → IsPlaceOf numbers places number found → IsAt (sector_at before.image sector) used (held_in used numbers (sector_at before.image sector) number) found)
         → Replaces numbers (sector_at before.image other) places places number end (held_in used numbers (sector_at before.image sector) number)
     place_empty places at = record {
       own = λ k within same. by_place (get_or places k None) (at (get_or places k None) (record { index = k; within = within; number = same; place = refl }));
@@ -83,13 +83,13 @@ module _ (used : ℕ) (numbers : List ℕ) (before : FlashState) (shape : HasSha
         by_valid true held same = cc same
         by_valid false held same = cc same
 
-        by_place : (found : Option Place) → IsAt (sector_at before.image sector) used (held_in used numbers (sector_at before.image sector) number) found
+        by_place : (found : Option RecordPlace) → IsAt (sector_at before.image sector) used (held_in used numbers (sector_at before.image sector) number) found
             → IsAt (sector_at before.image other) end (held_in used numbers (sector_at before.image sector) number) found
         by_place None at = record { holds = nothing; inside = tt }
         by_place (Some place) at = absurd (by_valid place.valid (bytes_at (sector_at before.image sector) place) (sym nothing ∙ at.holds))
 
   -- a block with a record
-  module _ (place : Place) (is : IsAt (sector_at before.image sector) used (held_in used numbers (sector_at before.image sector) number) (Some place)) where
+  module _ (place : RecordPlace) (is : IsAt (sector_at before.image sector) used (held_in used numbers (sector_at before.image sector) number) (Some place)) where
     pub within : IsWithin used place
     within = is.inside.within
 
@@ -134,20 +134,20 @@ module _ (used : ℕ) (numbers : List ℕ) (before : FlashState) (shape : HasSha
               stays = stays_below;
               place = omega (arith, ends, content_size);
               done = λ value unset holds.
-                  subst (λ (c : Content). Holds used numbers does.pages last (given number c value)) (sym is.holds)
-                  (subst (λ n. Holds used numbers does.pages n (given number (asked_of place.valid (bytes_at (sector_at before.image sector) place)) value)) far
+                  subst (λ (c : Content). LogHolds used numbers does.pages last (given number c value)) (sym is.holds)
+                  (subst (λ n. LogHolds used numbers does.pages n (given number (asked_of place.valid (bytes_at (sector_at before.image sector) place)) value)) far
                   (whole_record used numbers (sector_at before.image other) does.pages end value least holds number (bytes_at (sector_at before.image sector) place) place.valid proper (proper.0, proper.2)
                   (is_among numbers number member) (omega (arith, size, place_room)) whole));
               cause = tt;
             }
 
         -- its place is that of the copy
-        pub place_moved : (places now : List (Option Place))
+        pub place_moved : (places now : List (Option RecordPlace))
             → ((k : ℕ) → k < length numbers → get_or now k None ≡ (if true && (number == get_or numbers k 0) then Some (record { page = end; length = place.length; valid = place.valid }) else get_or places k None))
             → Replaces numbers (sector_at after.image other) places now number last (held_in used numbers (sector_at before.image sector) number)
         place_moved places now noted = record {
           own = λ k inside same.
-              subst (λ (found : Option Place). IsAt (sector_at after.image other) last (held_in used numbers (sector_at before.image sector) number) found)
+              subst (λ (found : Option RecordPlace). IsAt (sector_at after.image other) last (held_in used numbers (sector_at before.image sector) number) found)
               (sym (noted k inside ∙ ap (λ (test : Bool). if test then Some (record { page = end; length = place.length; valid = place.valid }) else get_or places k None) (eq-eqb number (get_or numbers k 0) (sym same)))) copy_at;
           others = λ k inside apart. noted k inside ∙ ap (λ (test : Bool). if test then Some (record { page = end; length = place.length; valid = place.valid }) else get_or places k None) (ne_eqb number (get_or numbers k 0) (λ e. apart (sym e)));
         }

@@ -15,11 +15,11 @@ use Rattle.flt_flash.proofs.Following.{no_run}
 use Rattle.flt_sector.specs.Log.{log}
 use Rattle.flt_sector.specs.Blocks.{content_of}
 use Rattle.flt_record.specs.Blank.{AreBlank}
-use Rattle.flt_record.specs.Holds.{Holds, given}
+use Rattle.flt_record.specs.LogHolds.{LogHolds, given}
 use Rattle.flt_record.specs.Live.{held_in, current_pages}
 use Rattle.flt_record.specs.Recorded.{OnSector}
-use Rattle.flt_record.specs.declared.place.Place.{Place}
-use Rattle.flt_record.specs.Place.{IsAt, IsPlaceOf, Tells}
+use Rattle.flt_record.specs.declared.place.RecordPlace.{RecordPlace}
+use Rattle.flt_record.specs.RecordPlace.{IsAt, IsPlaceOf, Tells}
 use Rattle.flt_record.proofs.Telling.{farther_at, still_at}
 use Rattle.flt_record.proofs.Begun.{holds_nothing}
 use Rattle.flt_record.proofs.Copying.{other_stays}
@@ -96,15 +96,15 @@ no_number numbers block apart = false_from_ne_true _ (λ is.
 pub record Copying (used : ℕ) (numbers : List ℕ) (start now : FlashState) (sector other end from : ℕ) : Type 0 where
   pub on : OnSector start now other (sector_at now.image other)
   pub gates : KeepsGates (sector_at start.image other) (sector_at now.image other)
-  pub holds : Holds used numbers (sector_at now.image other) end (below from (held_in used numbers (sector_at start.image sector)))
+  pub holds : LogHolds used numbers (sector_at now.image other) end (below from (held_in used numbers (sector_at start.image sector)))
   pub room : end ≤ 2 + sum_by (λ n. pages_of (below from (held_in used numbers (sector_at start.image sector)) n)) numbers
 
 -- the places of the numbers below one are in the log of the other sector, which ends here, and the others are where they were
-pub record Moves (numbers : List ℕ) (places : List (Option Place)) (start now : FlashState) (sector other used end from : ℕ) (value : ℕ → Content) : Type 0 where
+pub record Moves (numbers : List ℕ) (places : List (Option RecordPlace)) (start now : FlashState) (sector other used end from : ℕ) (value : ℕ → Content) : Type 0 where
   pub moved : (k : ℕ) → k < length numbers → get_or numbers k 0 < from → IsAt (sector_at now.image other) end (value (get_or numbers k 0)) (get_or places k None)
   pub waits : (k : ℕ) → k < length numbers → from ≤ get_or numbers k 0 → IsAt (sector_at start.image sector) used (value (get_or numbers k 0)) (get_or places k None)
 
-pub nothing_moved : (numbers : List ℕ) (places : List (Option Place)) (start now : FlashState) (sector other used end : ℕ) (value : ℕ → Content) → Tells numbers places (sector_at start.image sector) used value
+pub nothing_moved : (numbers : List ℕ) (places : List (Option RecordPlace)) (start now : FlashState) (sector other used end : ℕ) (value : ℕ → Content) → Tells numbers places (sector_at start.image sector) used value
     → Moves numbers places start now sector other used end 0 value
 nothing_moved numbers places start now sector other used end value tells = record { moved = λ k within lt. absurd (omega (arith, lt)); waits = λ k within le. tells k within }
 
@@ -171,7 +171,7 @@ module _ (used : ℕ) (numbers : List ℕ) (start : FlashState) (shape : HasShap
           let there = pages_on now after other does.pages shape_now in_other does.on in
           let here = does.done (below from value) (below_out value from number next.found.1) is.holds in
           let same = given_next value from number next.found.1 (none_between from number next) in
-          let holds : Holds used numbers does.pages last (below (number + 1) (held_in used numbers (sector_at start.image sector))) = record {
+          let holds : LogHolds used numbers does.pages last (below (number + 1) (held_in used numbers (sector_at start.image sector))) = record {
             entries = here.entries;
             is = here.is;
             gives = λ block. here.gives block ∙ ap (λ (c : Content). given number c (below from value) block) (content_now number) ∙ same block;
@@ -179,23 +179,23 @@ module _ (used : ℕ) (numbers : List ℕ) (start : FlashState) (shape : HasShap
           record {
             on = subst (λ (pages : List (List ℕ)). OnSector start after other pages) (sym there) (joined after does.pages does.on);
             gates = subst (λ (pages : List (List ℕ)). KeepsGates (sector_at start.image other) pages) (sym there) (kept does.pages does.gates);
-            holds = subst (λ (pages : List (List ℕ)). Holds used numbers pages last (below (number + 1) (held_in used numbers (sector_at start.image sector)))) (sym there) holds;
+            holds = subst (λ (pages : List (List ℕ)). LogHolds used numbers pages last (below (number + 1) (held_in used numbers (sector_at start.image sector)))) (sym there) holds;
             room = omega (arith, does.place, is.room, ap pages_of (content_now number), sum_next value from number numbers next.found.1 next.found.0);
           }
 
     -- the table, while the blocks are copied
-    module _ (places : List (Option Place)) (moves : Moves numbers places start now sector other used end from value) where
+    module _ (places : List (Option RecordPlace)) (moves : Moves numbers places start now sector other used end from value) where
       -- the place of the block that comes next is in the log that is copied
-      pub place_waits : (number : ℕ) → from ≤ number → (found : Option Place) → IsPlaceOf numbers places number found
+      pub place_waits : (number : ℕ) → from ≤ number → (found : Option RecordPlace) → IsPlaceOf numbers places number found
           → IsAt (sector_at now.image sector) used (held_in used numbers (sector_at now.image sector) number) found
       place_waits number low found is =
-          subst (λ (place : Option Place). IsAt (sector_at now.image sector) used (held_in used numbers (sector_at now.image sector) number) place) is.place
+          subst (λ (place : Option RecordPlace). IsAt (sector_at now.image sector) used (held_in used numbers (sector_at now.image sector) number) place) is.place
           (subst (λ n. IsAt (sector_at now.image sector) used (held_in used numbers (sector_at now.image sector) n) (get_or places is.index None)) is.number
           (subst (λ (pages : List (List ℕ)). IsAt pages used (held_in used numbers pages (get_or numbers is.index 0)) (get_or places is.index None)) (sym source_now)
           (moves.waits is.index is.within (omega (arith, low, is.number)))))
 
       pub moves_on : (number : ℕ) → IsNext from numbers (Some number) → (after : FlashState) (last : ℕ)
-          → CopiesBlock now after other used numbers number end (held_in used numbers (sector_at now.image sector) number) (Ok last) → (then_places : List (Option Place))
+          → CopiesBlock now after other used numbers number end (held_in used numbers (sector_at now.image sector) number) (Ok last) → (then_places : List (Option RecordPlace))
           → Replaces numbers (sector_at after.image other) places then_places number last (held_in used numbers (sector_at now.image sector) number)
           → Moves numbers then_places start after sector other used last (number + 1) value
       moves_on number next after last does then_places replaces = record {
@@ -203,13 +203,13 @@ module _ (used : ℕ) (numbers : List ℕ) (start : FlashState) (shape : HasShap
           | inl same ↦
               subst (λ (c : Content). IsAt (sector_at after.image other) last c (get_or then_places k None)) (content_now number ∙ ap value (sym same)) (replaces.own k within same)
           | inr apart ↦
-              subst (λ (place : Option Place). IsAt (sector_at after.image other) last (value (get_or numbers k 0)) place) (sym (replaces.others k within apart))
+              subst (λ (place : Option RecordPlace). IsAt (sector_at after.image other) last (value (get_or numbers k 0)) place) (sym (replaces.others k within apart))
               (farther_at (sector_at after.image other) end last (omega (arith, does.place)) (value (get_or numbers k 0)) (get_or places k None)
               (still_at (sector_at now.image other) (sector_at after.image other) end size (λ j low below. ap (λ (p : List (List ℕ)). get_or p j []) there ∙ does.stays j below) (value (get_or numbers k 0)) (get_or places k None)
               (moves.moved k within (lower k within lt apart))))
         ];
         waits = λ k within le.
-            subst (λ (place : Option Place). IsAt (sector_at start.image sector) used (value (get_or numbers k 0)) place) (sym (replaces.others k within (λ same. omega (arith, same, le))))
+            subst (λ (place : Option RecordPlace). IsAt (sector_at start.image sector) used (value (get_or numbers k 0)) place) (sym (replaces.others k within (λ same. omega (arith, same, le))))
             (moves.waits k within (omega (arith, le, next.found.1)));
       }
         where

@@ -4,7 +4,7 @@ use Rattle.std.specs.Prelude.{OnOk, IsErrOf}
 use Rattle.flt_flash.specs.Image.{sector_at}
 use Rattle.flt_flash.specs.Content.{missing}
 use Rattle.flt_flash.specs.State.{FlashState, Runs, HasRisenBy}
-use Rattle.flt_flash.specs.Calls.{Calls, SameValues}
+use Rattle.flt_flash.specs.Calls.{Calls, SameSpent, SameValues}
 use Rattle.flt_flash.specs.declared.blocks.BlockFault.{BlockFault}
 use Rattle.flt_flash.specs.declared.blocks.BlockFault.TheVariants.{Flash, Damaged}
 use Rattle.flt_sector.specs.Blocks.{current, first_fault, fault_by, value_by, block_value}
@@ -28,9 +28,16 @@ module _ (used : ℕ) (numbers : List ℕ) (least : 2 ≤ used) where
   pub nothing_wrong : (image : List (List (List ℕ))) → HoldsNothing used image → first_fault used numbers image ≡ None
   nothing_wrong image is = ⊎_elim (λ none. ap (fault_by used numbers image) none) (λ fresh. stands_sound used numbers image 0 1 2 (λ b. missing) (fresh_stands image fresh)) is
 
+  never_last : (image : List (List (List ℕ))) → HoldsNothing used image → is_last (current used image) ≡ false
+  never_last image is = ⊎_elim (λ none. ap is_last none) (λ fresh. ap is_last fresh.current) is
+
   module _ (before after : FlashState) (none : current used before.image ≡ Ok None) (left : HoldsNothing used after.image) where
     pub nothing_changes : (was_stale had_mounted is_stale has_mounted : Bool) → SameValues (state_by used numbers was_stale had_mounted before) (state_by used numbers is_stale has_mounted after)
     nothing_changes was_stale had_mounted is_stale has_mounted block = nothing_held after.image left block ∙ sym (nothing_held before.image (inl none) block)
+
+    -- the last sequence number is in use neither before nor after
+    pub nothing_spent : (was_stale had_mounted is_stale has_mounted : Bool) → SameSpent (state_by used numbers was_stale had_mounted before) (state_by used numbers is_stale has_mounted after)
+    nothing_spent was_stale had_mounted is_stale has_mounted = never_last after.image left ∙ sym (never_last before.image (inl none))
 
     pub formatting_calls : {T : Type 0} (runs : Runs before after) (was_stale had_mounted is_stale has_mounted : Bool) (result : Result T BlockFault) → (had_mounted ≡ true → has_mounted ≡ true)
         → (IsErrOf result Flash → HasRisenBy 1 before.faults after.faults) → ((sector page : ℕ) → IsErrOf result (Damaged sector page) → ⊥)

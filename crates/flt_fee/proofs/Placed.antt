@@ -11,10 +11,10 @@ use Rattle.flt_flash.specs.State.{FlashState, HasShape}
 use Rattle.flt_code.specs.Word.{IsWord}
 use Rattle.flt_code.specs.declared.words.Word.TheVariants.{Head}
 use Rattle.flt_sector.specs.Blocks.{current, block_value, value_by}
-use Rattle.flt_record.specs.declared.place.Place.{Place}
-use Rattle.flt_record.specs.Holds.{asked_of, given}
+use Rattle.flt_record.specs.declared.place.RecordPlace.{RecordPlace}
+use Rattle.flt_record.specs.LogHolds.{asked_of, given}
 use Rattle.flt_record.specs.Live.{held_in}
-use Rattle.flt_record.specs.Place.{IsAt, IsPlaceOf, Tells, bytes_at, pages_found, record_at}
+use Rattle.flt_record.specs.RecordPlace.{IsAt, IsPlaceOf, Tells, bytes_at, pages_found, record_at}
 use Rattle.flt_record.specs.Recorded.{Records}
 use Rattle.flt_record.proofs.LogOn.{end_least}
 use Rattle.flt_record.proofs.PageBytes.{bytes_size}
@@ -27,26 +27,26 @@ use Rattle.flt_fee.proofs.Standing.{stands_value}
 
 -- a table that tells what the current sector holds tells the blocks of the image
 pub tells_image : (used : ℕ) (numbers : List ℕ) (image : List (List (List ℕ))) (sector sequence end : ℕ) (value : ℕ → Content) → Stands used numbers image sector sequence end value
-    → (places : List (Option Place)) → Tells numbers places (sector_at image sector) end value → Tells numbers places (sector_at image sector) end (block_value used numbers image)
+    → (places : List (Option RecordPlace)) → Tells numbers places (sector_at image sector) end value → Tells numbers places (sector_at image sector) end (block_value used numbers image)
 tells_image used numbers image sector sequence end value stands places tells k within =
     subst (λ (c : Content). IsAt (sector_at image sector) end c (get_or places k None)) (sym (stands_value used numbers image sector sequence end value stands (get_or numbers k 0))) (tells k within)
 
 -- and the other way round, and up to a later page
 pub tells_sector : (used : ℕ) (numbers : List ℕ) (image : List (List (List ℕ))) (sector sequence end bound : ℕ) → current used image ≡ Ok (Some record { sector = sector; sequence = sequence }) → end ≤ bound
-    → (places : List (Option Place)) → Tells numbers places (sector_at image sector) end (block_value used numbers image) → Tells numbers places (sector_at image sector) bound (held_in used numbers (sector_at image sector))
+    → (places : List (Option RecordPlace)) → Tells numbers places (sector_at image sector) end (block_value used numbers image) → Tells numbers places (sector_at image sector) bound (held_in used numbers (sector_at image sector))
 tells_sector used numbers image sector sequence end bound is below places tells k within =
     farther_at (sector_at image sector) end bound below (held_in used numbers (sector_at image sector) (get_or numbers k 0)) (get_or places k None)
     (subst (λ (c : Content). IsAt (sector_at image sector) end c (get_or places k None)) (ap (value_by used numbers image (get_or numbers k 0)) is) (tells k within))
 
 pub tells_current : (used : ℕ) (numbers : List ℕ) (image : List (List (List ℕ))) (sector sequence end : ℕ) → current used image ≡ Ok (Some record { sector = sector; sequence = sequence })
-    → (places : List (Option Place)) → Tells numbers places (sector_at image sector) end (held_in used numbers (sector_at image sector)) → Tells numbers places (sector_at image sector) end (block_value used numbers image)
+    → (places : List (Option RecordPlace)) → Tells numbers places (sector_at image sector) end (held_in used numbers (sector_at image sector)) → Tells numbers places (sector_at image sector) end (block_value used numbers image)
 tells_current used numbers image sector sequence end is places tells k within =
     subst (λ (c : Content). IsAt (sector_at image sector) end c (get_or places k None)) (sym (ap (value_by used numbers image (get_or numbers k 0)) is)) (tells k within)
 
 -- a driver that is not stale
 module _ (is_stale has_mounted : Bool) (settled : is_stale ≡ false) (used : ℕ) (numbers : List ℕ) (flash : FlashState) (shape : HasShape flash) (sector sequence end : ℕ) (least : 4 ≤ used) (most : used ≤ flash.pages)
     (in_sector : sector < 2) (distinct : AllPairs (λ a b. a ≢ b) numbers) (is : IsMounted is_stale has_mounted used numbers flash.image sector sequence end)
-    (places : List (Option Place)) (sized : length places ≡ length numbers) (tells : Tells numbers places (sector_at flash.image sector) end (block_value used numbers flash.image)) where
+    (places : List (Option RecordPlace)) (sized : length places ≡ length numbers) (tells : Tells numbers places (sector_at flash.image sector) end (block_value used numbers flash.image)) where
   within : end ≤ used
   within = end_within is_stale has_mounted settled used numbers flash sector sequence end least distinct is
 
@@ -56,7 +56,7 @@ module _ (is_stale has_mounted : Bool) (settled : is_stale ≡ false) (used : �
   pub live_fits : sum_by pages_found places < 65536
   live_fits = omega (arith, live_of_table, live_end is_stale has_mounted settled used numbers flash sector sequence end least distinct is, within, most, shape.most)
 
-  pub placed : (block : ℕ) (found : Option Place) → IsPlaceOf numbers places block found → IsAt (sector_at flash.image sector) used (block_value used numbers flash.image block) found
+  pub placed : (block : ℕ) (found : Option RecordPlace) → IsPlaceOf numbers places block found → IsAt (sector_at flash.image sector) used (block_value used numbers flash.image block) found
   placed block found here = farther_at (sector_at flash.image sector) end used within (block_value used numbers flash.image block) found
       (told_place numbers places (sector_at flash.image sector) end (block_value used numbers flash.image) block found tells here)
 
@@ -69,8 +69,8 @@ module _ (used : ℕ) (numbers : List ℕ) (before after : FlashState) (shape : 
     (stands : Stands used numbers before.image sector sequence end (block_value used numbers before.image)) (proper : IsWord (Head block (length held) valid end))
     (is : Records {T = Unit {0}} before after sector end block held valid (Ok tt))
     (now : Stands used numbers after.image sector sequence (end + (2 + byte_pages (length held))) (given block (asked_of valid held) (block_value used numbers before.image)))
-    (places then_places : List (Option Place)) (tells : Tells numbers places (sector_at before.image sector) end (block_value used numbers before.image))
-    (place : Place) (here : place ≡ record { page = end; length = length held; valid = valid })
+    (places then_places : List (Option RecordPlace)) (tells : Tells numbers places (sector_at before.image sector) end (block_value used numbers before.image))
+    (place : RecordPlace) (here : place ≡ record { page = end; length = length held; valid = valid })
     (noted : (k : ℕ) → k < length numbers → get_or then_places k None ≡ (if true && (block == get_or numbers k 0) then Some place else get_or places k None)) where
   pub tells_appended : (last : ℕ) → end + (2 + byte_pages (length held)) ≡ last → Tells numbers then_places (sector_at after.image sector) last (block_value used numbers after.image)
   tells_appended last ends =
@@ -84,7 +84,7 @@ module _ (used : ℕ) (numbers : List ℕ) (before after : FlashState) (shape : 
       begun = end_least used numbers (sector_at before.image sector) (sector_at before.image sector) stands.holds.entries end begins stands.holds.is (λ k low lt. refl)
 
 -- what is found of a valid record at its place is as many bytes as its head says
-pub valid_found : (pages : List (List ℕ)) (end : ℕ) (content : Content) (place : Place) → ArePages pages → end ≤ length pages → place.valid ≡ true → IsAt pages end content (Some place) → Bytes place.length ≡ found_of content
+pub valid_found : (pages : List (List ℕ)) (end : ℕ) (content : Content) (place : RecordPlace) → ArePages pages → end ≤ length pages → place.valid ≡ true → IsAt pages end content (Some place) → Bytes place.length ≡ found_of content
 valid_found pages end content place sizes most valid at =
     let size : length (bytes_at pages place) ≡ place.length = bytes_size pages sizes (record_at 0 place) (omega (arith, at.inside.within.below)) in
     ap Bytes (sym size) ∙ sym (ap found_of at.holds ∙ ap (λ v. found_of (asked_of v (bytes_at pages place))) valid)

@@ -16,7 +16,7 @@ use Rattle.flt_record.proofs.Appending.{left_record, whole_record}
 use Rattle.flt_record.proofs.LogOn.{end_least}
 use Rattle.flt_flash.specs.Blocks.{byte_pages}
 use Rattle.flt_record.specs.Record.{IsWhole, RecordLeft}
-use Rattle.flt_record.specs.Holds.{Holds, asked_of, given}
+use Rattle.flt_record.specs.LogHolds.{LogHolds, asked_of, given}
 use Rattle.flt_flash.specs.State.{FlashState, HasShape}
 use Rattle.flt_flash.specs.declared.flash.FlashFailed.{FlashFailed}
 use Rattle.flt_code.specs.Word.{IsWord}
@@ -106,8 +106,8 @@ module _ (used : ℕ) (numbers : List ℕ) (before after : FlashState) (shape : 
         ap (current used) is.on.image ∙ same_current used before.image sector is.pages page apart.0 (omega (arith, shape.sectors))
         (end_least used numbers (sector_at before.image sector) is.pages stands.holds.entries page begins stands.holds.is (λ k low lt. apart.1.before k lt)) apart.1
 
-    stands_by : (last : ℕ) (values : ℕ → Content) → Holds used numbers is.pages last values → Stands used numbers after.image sector sequence last values
-    stands_by last values holds = record { current = current_stays ∙ stands.current; holds = subst (λ (p : List (List ℕ)). Holds used numbers p last values) (sym same_pages) holds }
+    stands_by : (last : ℕ) (values : ℕ → Content) → LogHolds used numbers is.pages last values → Stands used numbers after.image sector sequence last values
+    stands_by last values holds = record { current = current_stays ∙ stands.current; holds = subst (λ (p : List (List ℕ)). LogHolds used numbers p last values) (sym same_pages) holds }
 
     pub left_standing : ((last : ℕ) × Stands used numbers after.image sector sequence last value) ⊎ ((last : ℕ) × Stands used numbers after.image sector sequence last (given block (asked_of valid held) value))
     left_standing = ⊎_elim (λ old. inl (old.0, stands_by old.0 value old.1)) (λ new. inr (new.0, stands_by new.0 (given block (asked_of valid held) value) new.1))

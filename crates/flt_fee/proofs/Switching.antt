@@ -15,11 +15,11 @@ use Rattle.flt_sector.specs.Log.{log}
 use Rattle.flt_sector.specs.Blocks.{Current, current, current_by}
 use Rattle.flt_pages.specs.Append.{TornCode, TornErase, Appends}
 use Rattle.flt_record.specs.Blank.{AreBlank}
-use Rattle.flt_record.specs.Holds.{Holds}
+use Rattle.flt_record.specs.LogHolds.{LogHolds}
 use Rattle.flt_record.specs.Live.{held_in}
 use Rattle.flt_record.specs.Recorded.{OnSector}
-use Rattle.flt_record.specs.declared.place.Place.{Place}
-use Rattle.flt_record.specs.Place.{Tells}
+use Rattle.flt_record.specs.declared.place.RecordPlace.{RecordPlace}
+use Rattle.flt_record.specs.RecordPlace.{Tells}
 use Rattle.flt_record.proofs.Telling.{still_tells}
 use Rattle.flt_record.proofs.Appending.{held_same}
 use Rattle.flt_record.proofs.Recording.{pages_on}
@@ -127,7 +127,7 @@ module _ (used : ℕ) (numbers : List ℕ) (before : FlashState) (shape : HasSha
   apart : sector ≢ 1 - sector
   apart e = omega (arith, e, in_sector)
 
-  holds_now : Holds used numbers (sector_at before.image sector) (log used numbers (sector_at before.image sector)).end (held_in used numbers (sector_at before.image sector))
+  holds_now : LogHolds used numbers (sector_at before.image sector) (log used numbers (sector_at before.image sector)).end (held_in used numbers (sector_at before.image sector))
   holds_now = record {
     entries = (log used numbers (sector_at before.image sector)).entries;
     is = λ i. record { entries = (log used numbers (sector_at before.image sector)).entries; end = (log used numbers (sector_at before.image sector)).end; fault = fine i };
@@ -145,7 +145,7 @@ module _ (used : ℕ) (numbers : List ℕ) (before : FlashState) (shape : HasSha
         end = (log used numbers (sector_at before.image sector)).end;
         stands = record {
           current = ap (current used) is ∙ current_stays used before.image shape.sectors sequence pages sector in_sector now gates;
-          holds = subst (λ (p : List (List ℕ)). Holds used numbers p (log used numbers (sector_at before.image sector)).end (held_in used numbers (sector_at before.image sector))) (sym same) holds_now;
+          holds = subst (λ (p : List (List ℕ)). LogHolds used numbers p (log used numbers (sector_at before.image sector)).end (held_in used numbers (sector_at before.image sector))) (sym same) holds_now;
         };
       }
 
@@ -204,7 +204,7 @@ module _ (used : ℕ) (numbers : List ℕ) (before : FlashState) (shape : HasSha
       laid page = (λ i. set (full_image i) (1 - sector) (set (full_pages i) 1 page)) ∙ set-set before.image (1 - sector) pages (set pages 1 page)
 
       -- the active gate stands
-      pub goes_over : (end : ℕ) → Holds used numbers pages end (held_in used numbers (sector_at before.image sector)) → (after : FlashState) → after.image ≡ programmed full.image (1 - sector) 1 active
+      pub goes_over : (end : ℕ) → LogHolds used numbers pages end (held_in used numbers (sector_at before.image sector)) → (after : FlashState) → after.image ≡ programmed full.image (1 - sector) 1 active
           → Stands used numbers after.image (1 - sector) (sequence + 1) end (held_in used numbers (sector_at before.image sector))
       goes_over end holds after is =
           let image = is ∙ laid active in
@@ -212,12 +212,12 @@ module _ (used : ℕ) (numbers : List ℕ) (before : FlashState) (shape : HasSha
           record {
             current = ap (current used) image
                 ∙ current_goes used before.image shape.sectors sequence (set pages 1 active) sector in_sector now (made_active used (sequence + 1) fits next pages room stands);
-            holds = subst (λ (p : List (List ℕ)). Holds used numbers p end (held_in used numbers (sector_at before.image sector))) (sym there)
+            holds = subst (λ (p : List (List ℕ)). LogHolds used numbers p end (held_in used numbers (sector_at before.image sector))) (sym there)
                 (held_same used numbers pages (set pages 1 active) end value (omega arith) (length-set pages 1 active) (λ k low. get_or-set_other pages 1 k active [] (omega arith)) holds);
           }
 
       -- and the table of the copies tells what it holds
-      pub table_over : (end : ℕ) (places : List (Option Place)) → Tells numbers places (sector_at full.image (1 - sector)) end (held_in used numbers (sector_at middle.image sector)) → (after : FlashState)
+      pub table_over : (end : ℕ) (places : List (Option RecordPlace)) → Tells numbers places (sector_at full.image (1 - sector)) end (held_in used numbers (sector_at middle.image sector)) → (after : FlashState)
           → after.image ≡ programmed full.image (1 - sector) 1 active → Tells numbers places (sector_at after.image (1 - sector)) end (held_in used numbers (sector_at before.image sector))
       table_over end places tells after is =
           let image = is ∙ laid active in
@@ -227,7 +227,7 @@ module _ (used : ℕ) (numbers : List ℕ) (before : FlashState) (shape : HasSha
           (subst (λ (p : List (List ℕ)). Tells numbers places p end (held_in used numbers (sector_at before.image sector))) full_pages
           (subst (λ (p : List (List ℕ)). Tells numbers places (sector_at full.image (1 - sector)) end (held_in used numbers p)) source_stays tells)))
 
-      pub activation_left : (end : ℕ) → Holds used numbers pages end (held_in used numbers (sector_at before.image sector)) → (after : FlashState) (result : Result (Unit {0}) FlashFailed)
+      pub activation_left : (end : ℕ) → LogHolds used numbers pages end (held_in used numbers (sector_at before.image sector)) → (after : FlashState) (result : Result (Unit {0}) FlashFailed)
           → Appends full after (1 - sector) 1 active result → Keeps used numbers after.image (held_in used numbers (sector_at before.image sector))
       activation_left end holds after (Ok x) is = record { sector = 1 - sector; sequence = sequence + 1; end = end; stands = goes_over end holds after is.done }
       activation_left end holds after (Err e) is = ⊎_elim

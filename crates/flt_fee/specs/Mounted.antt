@@ -4,12 +4,12 @@ use Rattle.flt_flash.specs.Image.{sector_at}
 use Rattle.flt_flash.specs.Content.{Content}
 use Rattle.flt_sector.specs.Blocks.{current, first_fault}
 use Rattle.flt_sector.specs.Log.{log}
-use Rattle.flt_record.specs.Holds.{Holds}
+use Rattle.flt_record.specs.LogHolds.{LogHolds}
 
 -- the image has no fault, this is its current sector with its number, its log ends here and gives each block this value
 pub record Stands (used : ℕ) (numbers : List ℕ) (image : List (List (List ℕ))) (sector sequence end : ℕ) (value : ℕ → Content) : Type 0 where
   pub current : current used image ≡ Ok (Some record { sector = sector; sequence = sequence })
-  pub holds : Holds used numbers (sector_at image sector) end value
+  pub holds : LogHolds used numbers (sector_at image sector) end value
 
 -- the current sector is the one that the driver keeps, and its log ends where the driver says, without a fault
 pub record IsMounted (is_stale has_mounted : Bool) (used : ℕ) (numbers : List ℕ) (image : List (List (List ℕ))) (sector sequence end : ℕ) : Type 0 where

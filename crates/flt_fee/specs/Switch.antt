@@ -5,10 +5,10 @@ use Rattle.flt_flash.specs.Content.{Content, missing}
 use Rattle.flt_flash.specs.Blocks.{pages_of}
 use Rattle.flt_flash.specs.State.{FlashState, HasRisenBy}
 use Rattle.flt_flash.specs.declared.flash.FlashFailed.{FlashFailed}
-use Rattle.flt_record.specs.Holds.{Holds, given}
+use Rattle.flt_record.specs.LogHolds.{LogHolds, given}
 use Rattle.flt_record.specs.Live.{held_in, current_pages}
-use Rattle.flt_record.specs.declared.place.Place.{Place}
-use Rattle.flt_record.specs.Place.{IsAt}
+use Rattle.flt_record.specs.declared.place.RecordPlace.{RecordPlace}
+use Rattle.flt_record.specs.RecordPlace.{IsAt}
 use Rattle.flt_record.specs.Record.{KeptApart}
 use Rattle.flt_record.specs.Recorded.{OnSector}
 use Rattle.flt_fee.specs.Mounted.{Stands}
@@ -28,7 +28,7 @@ pub record CopiesBlock (before after : FlashState) (other used : ℕ) (numbers :
   pub gates : KeepsGates (sector_at before.image other) pages
   pub stays : (k : ℕ) → k < end → slice_index_or pages k [] ≡ slice_index_or (sector_at before.image other) k []
   pub place : IfOk result (λ last. last ≡ end + pages_of content)
-  pub done : IfOk result (λ last. (value : ℕ → Content) → value number ≡ missing → Holds used numbers (sector_at before.image other) end value → Holds used numbers pages last (given number content value))
+  pub done : IfOk result (λ last. (value : ℕ → Content) → value number ≡ missing → LogHolds used numbers (sector_at before.image other) end value → LogHolds used numbers pages last (given number content value))
   pub cause : OnErr result (HasRisenBy 1 before.faults after.faults)
 
 -- the current records of all blocks are copied behind the gates of the other sector; the answer is where its log ends then
@@ -37,7 +37,7 @@ pub record CopiesBlocks (before after : FlashState) (sector other used : ℕ) (n
   pub on : OnSector before after other pages
   pub gates : KeepsGates (sector_at before.image other) pages
   pub room : IfOk result (λ end. end ≤ 2 + current_pages used numbers (sector_at before.image sector))
-  pub done : IfOk result (λ end. Holds used numbers pages end (held_in used numbers (sector_at before.image sector)))
+  pub done : IfOk result (λ end. LogHolds used numbers pages end (held_in used numbers (sector_at before.image sector)))
   pub cause : OnErr result (HasRisenBy 1 before.faults after.faults)
 
 -- the image has no fault and gives each block this value, whichever of its sectors is the current one
@@ -48,6 +48,6 @@ pub record Keeps (used : ℕ) (numbers : List ℕ) (image : List (List (List ℕ
   pub stands : Stands used numbers image sector sequence end value
 
 -- the table after a record was copied: the place of its block is that of the copy, in the log that ends here, and no other place moved
-pub record Replaces (numbers : List ℕ) (pages : List (List ℕ)) (before after : List (Option Place)) (number end : ℕ) (content : Content) : Type 0 where
+pub record Replaces (numbers : List ℕ) (pages : List (List ℕ)) (before after : List (Option RecordPlace)) (number end : ℕ) (content : Content) : Type 0 where
   pub own : (k : ℕ) → k < length numbers → slice_index_or numbers k 0 ≡ number → IsAt pages end content (slice_index_or after k None)
   pub others : (k : ℕ) → k < length numbers → slice_index_or numbers k 0 ≢ number → slice_index_or after k None ≡ slice_index_or before k None

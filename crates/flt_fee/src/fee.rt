@@ -5,15 +5,15 @@ ghost use Rattle.std.proofs.Props.{props};
 ghost use Rattle.flt_flash.specs.Content.{invalid, bytes as holding, size_of};
 ghost use Rattle.flt_flash.specs.Image.{sector_at};
 ghost use Rattle.flt_flash.specs.Blocks.{byte_pages, record_pages, live_pages, IsFull};
-ghost use Rattle.flt_flash.specs.Calls.{Calls, Changes, Costs, Finds, NoFault, NeverFull, ReadCosts, SameImage, SameValues, Settles};
+ghost use Rattle.flt_flash.specs.Calls.{Calls, Changes, Costs, Finds, NoFault, NeverFull, ReadCosts, SameImage, SameSpent, SameValues, Settles};
 ghost use Rattle.flt_flash.specs.declared.blocks.BlockFault.TheVariants.{Full, SequenceSpent};
 ghost use Rattle.flt_code.specs.Word.{is_length};
 ghost use Rattle.flt_sector.specs.Blocks.{current, block_value};
-ghost use Rattle.flt_record.specs.Holds.{asked_of};
-ghost use Rattle.flt_record.specs.Place.{IsWithin, IsAt, Tells, bytes_at};
+ghost use Rattle.flt_record.specs.LogHolds.{asked_of};
+ghost use Rattle.flt_record.specs.RecordPlace.{IsWithin, IsAt, Tells, bytes_at};
 ghost use Rattle.flt_fee.specs.Costs.{Spends, Erases, MakesRoom, StoreCosts, Stores, UnlessFailed};
 ghost use Rattle.flt_fee.specs.Mounted.{IsMounted};
-ghost use Rattle.flt_fee.specs.Place.{place_of};
+ghost use Rattle.flt_fee.specs.Place.{current_of};
 ghost use Rattle.flt_fee.specs.Refusal.{refusal, AnswersBy, KeepsStuck};
 ghost use Rattle.flt_fee.specs.Wear.{StaysEven, UnlessFlash};
 
@@ -23,12 +23,13 @@ use crate::switch::switch_sectors;
 use flt_flash::{Arm, Bench, BlockFault, Blocks, Flash, FlashFailed, Found, Refused};
 use flt_pages::{Numbers, PageFault};
 use flt_record::{
-    Place, append_record, byte_pages, find_places, forget, live_pages, note, place_of, read_record,
+    RecordPlace, append_record, byte_pages, find_places, forget, live_pages, note, place_of,
+    read_record,
 };
 use std::alloc::{AllocError, Global};
 
 // A table of blocks without records.
-fn no_places(alloc: Global, many: usize) -> Result<Vec<Option<Place>>, AllocError>
+fn no_places(alloc: Global, many: usize) -> Result<Vec<Option<RecordPlace>>, AllocError>
     ensures { IfOk result (λ places. length places.items ≡ many) }
 {
     let mut places = Vec::with_capacity(alloc, many)?;
@@ -39,7 +40,10 @@ fn no_places(alloc: Global, many: usize) -> Result<Vec<Option<Place>>, AllocErro
 }
 
 // The block numbers with their index, and a table of as many blocks without records.
-fn tables(alloc: Global, numbers: Vec<u16>) -> Result<(Numbers, Vec<Option<Place>>), AllocError>
+fn tables(
+    alloc: Global,
+    numbers: Vec<u16>,
+) -> Result<(Numbers, Vec<Option<RecordPlace>>), AllocError>
     ensures numbers { IfOk result (λ made. made.0 ≡ numbers.items) }
     ensures places { IfOk result (λ made. length made.1.items ≡ length numbers.items) }
 {
@@ -64,7 +68,7 @@ pub struct Fee<F: Flash> {
     sector: u8,
     sequence: u32,
     end: u16,
-    places: Vec<Option<Place>>,
+    places: Vec<Option<RecordPlace>>,
     ghost within: { used ≤ (F.state flash).pages },
     ghost least: { 4 ≤ used },
     ghost sectors: { sector < 2 },
@@ -97,7 +101,7 @@ impl<F: Flash> Fee<F> {
             Err(FlashFailed) => Err(BlockFault::Flash),
             Ok(()) => {
                 let length = bytes.len() as u16;
-                let place = Place {
+                let place = RecordPlace {
                     page,
                     length,
                     valid,
@@ -113,8 +117,9 @@ impl<F: Flash> Fee<F> {
     // Goes on with the current sector as it stands: the mount of a flash with a valid sector.
     fn resume(&mut self, at: CurrentSector) -> Result<(), BlockFault>
         requires sector { at.sector < 2 }
-        requires found { current self.old.used (F.state self.old.flash).image ≡ Ok (Some (place_of at)) }
+        requires found { current self.old.used (F.state self.old.flash).image ≡ Ok (Some (current_of at)) }
         ensures values { SameValues (state_of F.state self.old) (state_of F.state self.new) }
+        ensures spent { SameSpent (state_of F.state self.old) (state_of F.state self.new) }
         ensures calls { Calls (state_of F.state self.old) (state_of F.state self.new) result }
         ensures never_full { NeverFull result }
         ensures stale { Settles result (state_of F.state self.new) }
@@ -146,6 +151,7 @@ impl<F: Flash> Fee<F> {
     fn format(&mut self) -> Result<(), BlockFault>
         requires { current self.old.used (F.state self.old.flash).image ≡ Ok None }
         ensures values { SameValues (state_of F.state self.old) (state_of F.state self.new) }
+        ensures spent { SameSpent (state_of F.state self.old) (state_of F.state self.new) }
         ensures calls { Calls (state_of F.state self.old) (state_of F.state self.new) result }
         ensures never_full { NeverFull result }
         ensures stale { Settles result (state_of F.state self.new) }
@@ -170,6 +176,7 @@ impl<F: Flash> Fee<F> {
     // Looks at the flash as a power-up left it.
     fn look(&mut self) -> Result<(), BlockFault>
         ensures values { SameValues (state_of F.state self.old) (state_of F.state self.new) }
+        ensures spent { SameSpent (state_of F.state self.old) (state_of F.state self.new) }
         ensures calls { Calls (state_of F.state self.old) (state_of F.state self.new) result }
         ensures never_full { NeverFull result }
         ensures stale { Settles result (state_of F.state self.new) }
@@ -188,6 +195,7 @@ impl<F: Flash> Fee<F> {
     // Mounts a stale driver.
     fn settle(&mut self) -> Result<(), BlockFault>
         ensures values { SameValues (state_of F.state self.old) (state_of F.state self.new) }
+        ensures spent { SameSpent (state_of F.state self.old) (state_of F.state self.new) }
         ensures calls { Calls (state_of F.state self.old) (state_of F.state self.new) result }
         ensures never_full { NeverFull result }
         ensures stale { Settles result (state_of F.state self.new) }
@@ -308,7 +316,7 @@ impl<F: Flash> Fee<F> {
     }
 
     // The place of a block's current record, if it has one.
-    fn place(&self, block: u16) -> Option<Place>
+    fn place(&self, block: u16) -> Option<RecordPlace>
         requires settled { IsFalse (state_of F.state self.now).is_stale }
         requires number { Contains (state_of F.state self.now).numbers block }
         ensures { IsAt (sector_at (F.state self.now.flash).image self.now.sector) self.now.used ((state_of F.state self.now).value block) result }
@@ -323,6 +331,7 @@ impl<F: Flash> Fee<F> {
         ensures found { IfOk result (λ found. Finds ((state_of F.state self.old).value block) found out.old out.new) }
         ensures nothing { OnErr result (out.new ≡ out.old) }
         ensures values { SameValues (state_of F.state self.old) (state_of F.state self.new) }
+        ensures spent { SameSpent (state_of F.state self.old) (state_of F.state self.new) }
         ensures calls { Calls (state_of F.state self.old) (state_of F.state self.new) result }
         ensures never_full { NeverFull result }
         ensures stale { IsFalse (state_of F.state self.new).is_stale }
@@ -337,12 +346,13 @@ impl<F: Flash> Fee<F> {
     }
 
     // Reads the record at a place.
-    fn take(&mut self, place: Place, out: &mut [u8; 128]) -> Result<Found, BlockFault>
+    fn take(&mut self, place: RecordPlace, out: &mut [u8; 128]) -> Result<Found, BlockFault>
         requires settled { IsFalse (state_of F.state self.old).is_stale }
         requires within { IsWithin self.old.used place }
         ensures found { IfOk result (λ found. Finds (asked_of place.valid (bytes_at (sector_at (F.state self.old.flash).image self.old.sector) place)) found out.old out.new) }
         ensures nothing { OnErr result (out.new ≡ out.old) }
         ensures values { SameValues (state_of F.state self.old) (state_of F.state self.new) }
+        ensures spent { SameSpent (state_of F.state self.old) (state_of F.state self.new) }
         ensures calls { Calls (state_of F.state self.old) (state_of F.state self.new) result }
         ensures never_full { NeverFull result }
         ensures stale { IsFalse (state_of F.state self.new).is_stale }
@@ -413,6 +423,7 @@ impl<F: Bench> Blocks for Fee<F> {
 
     fn mount(&mut self) -> Result<(), BlockFault>
         ensures values { SameValues (state_of F.state self.old) (state_of F.state self.new) }
+        ensures spent { SameSpent (state_of F.state self.old) (state_of F.state self.new) }
         ensures calls { Calls (state_of F.state self.old) (state_of F.state self.new) result }
         ensures never_full { NeverFull result }
         ensures stale { Settles result (state_of F.state self.new) }
@@ -449,6 +460,7 @@ impl<F: Bench> Blocks for Fee<F> {
         ensures found { IfOk result (λ found. Finds ((state_of F.state self.old).value block) found out.old out.new) }
         ensures nothing { OnErr result (out.new ≡ out.old) }
         ensures values { SameValues (state_of F.state self.old) (state_of F.state self.new) }
+        ensures spent { SameSpent (state_of F.state self.old) (state_of F.state self.new) }
         ensures calls { Calls (state_of F.state self.old) (state_of F.state self.new) result }
         ensures never_full { NeverFull result }
         ensures settled { OnOk result (IsFalse (state_of F.state self.new).is_stale) }

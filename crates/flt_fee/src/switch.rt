@@ -8,14 +8,14 @@ ghost use Rattle.flt_sector.specs.Log.{log};
 ghost use Rattle.flt_sector.specs.Blocks.{current};
 ghost use Rattle.flt_record.specs.Blank.{AreBlank};
 ghost use Rattle.flt_record.specs.Live.{held_in, current_pages};
-ghost use Rattle.flt_record.specs.Place.{IsAt, IsPlaceOf, Tells};
+ghost use Rattle.flt_record.specs.RecordPlace.{IsAt, IsPlaceOf, Tells};
 ghost use Rattle.flt_fee.specs.Costs.{Erases};
 ghost use Rattle.flt_fee.specs.Mounted.{Stands};
 ghost use Rattle.flt_fee.specs.Switch.{CopiesBlock, CopiesBlocks, Keeps, Replaces};
 
 use flt_flash::{Flash, FlashFailed};
 use flt_pages::{Numbers, activate, begin};
-use flt_record::{Place, byte_pages, copy_record, note, place_of};
+use flt_record::{RecordPlace, byte_pages, copy_record, note, place_of};
 
 // Copies the current record of a block, if it has one, behind the log of the other sector, and tells where that ends then.
 fn copy_block<F: Flash>(
@@ -24,7 +24,7 @@ fn copy_block<F: Flash>(
     other: u8,
     used: u16,
     numbers: &Numbers,
-    places: &mut [Option<Place>],
+    places: &mut [Option<RecordPlace>],
     number: u16,
     end: u16,
 ) -> Result<u16, FlashFailed>
@@ -36,7 +36,7 @@ fn copy_block<F: Flash>(
     requires sound { (log used numbers.now (sector_at (F.state flash.old).image sector)).fault ≡ None }
     requires size { length places.old ≡ length numbers.now }
     requires distinct { AllPairs (λ a b. a ≢ b) numbers.now }
-    requires place { (found : Option Place) → IsPlaceOf numbers.now places.old number found → IsAt (sector_at (F.state flash.old).image sector) used (held_in used numbers.now (sector_at (F.state flash.old).image sector) number) found }
+    requires place { (found : Option RecordPlace) → IsPlaceOf numbers.now places.old number found → IsAt (sector_at (F.state flash.old).image sector) used (held_in used numbers.now (sector_at (F.state flash.old).image sector) number) found }
     requires number { Contains numbers.now number }
     requires begun { 2 ≤ end }
     requires room { end + pages_of (held_in used numbers.now (sector_at (F.state flash.old).image sector) number) ≤ used }
@@ -50,7 +50,7 @@ fn copy_block<F: Flash>(
         None => Ok(end),
         Some(place) => {
             copy_record(flash, sector, place, number, other, end)?;
-            let copy = Place { page: end, ..place };
+            let copy = RecordPlace { page: end, ..place };
             note(numbers, places, number, true, copy);
             Ok(end + (2 + byte_pages(place.length)))
         }
@@ -64,7 +64,7 @@ fn copy_blocks<F: Flash>(
     other: u8,
     used: u16,
     numbers: &Numbers,
-    places: &mut [Option<Place>],
+    places: &mut [Option<RecordPlace>],
 ) -> Result<u16, FlashFailed>
     requires sector { sector < 2 }
     requires other { other < 2 }
@@ -97,7 +97,7 @@ pub(crate) fn switch_sectors<F: Flash>(
     flash: &mut F,
     used: u16,
     numbers: &Numbers,
-    places: &mut [Option<Place>],
+    places: &mut [Option<RecordPlace>],
     sector: u8,
     sequence: u32,
 ) -> Result<u16, FlashFailed>

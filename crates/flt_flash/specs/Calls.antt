@@ -17,6 +17,10 @@ SameValues before after = (block : ℕ) → after.value block ≡ before.value b
 abbrev pub SameImage : BlocksState → BlocksState → Type 0
 SameImage before after = after.device.image ≡ before.device.image
 
+-- some record can't be written any more exactly where that was so before: no record was written, so no sequence number was used
+abbrev pub SameSpent : BlocksState → BlocksState → Type 0
+SameSpent before after = after.is_spent ≡ before.is_spent
+
 -- every other block holds what it held
 abbrev pub OthersKept : ℕ → BlocksState → BlocksState → Type 0
 OthersKept block before after = (other : ℕ) → other ≢ block → after.value other ≡ before.value other

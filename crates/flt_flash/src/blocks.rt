@@ -3,7 +3,7 @@ ghost use Rattle.std.specs.Prelude.{◌≡◌, ◌<◌, ◌≤◌, length, Conta
 ghost use Rattle.flt_flash.specs.Content.{invalid, bytes as holding, IsShort};
 ghost use Rattle.flt_flash.specs.State.{CanArm};
 ghost use Rattle.flt_flash.specs.Blocks.{BlocksState};
-ghost use Rattle.flt_flash.specs.Calls.{Follows, Calls, NeverFull, Changes, Costs, ReadCosts, SameImage, SameValues, Settles, Finds, found_of, ArmsDriver, PowersUpDriver};
+ghost use Rattle.flt_flash.specs.Calls.{Follows, Calls, NeverFull, Changes, Costs, ReadCosts, SameImage, SameSpent, SameValues, Settles, Finds, found_of, ArmsDriver, PowersUpDriver};
 
 use crate::Arm;
 
@@ -52,7 +52,10 @@ pub trait Blocks {
         ensures values { SameValues (state self.old) (state self.new) }
         ensures calls { Calls (state self.old) (state self.new) result }
         ensures never_full { NeverFull result }
-        ensures stale { Settles result (state self.new) };
+        ensures stale { Settles result (state self.new) }
+
+        // It writes no record, so it uses no sequence number.
+        ensures spent { SameSpent (state self.old) (state self.new) };
 
     /// Gives a block these bytes.
     fn write(&mut self, block: u16, bytes: &[u8]) -> Result<(), BlockFault>
@@ -72,6 +75,7 @@ pub trait Blocks {
         ensures values { SameValues (state self.old) (state self.new) }
         ensures calls { Calls (state self.old) (state self.new) result }
         ensures never_full { NeverFull result }
+        ensures spent { SameSpent (state self.old) (state self.new) }
 
         // A read that fails leaves a driver that was not stale as it was.
         ensures settled { OnOk result (IsFalse (state self.new).is_stale) }

@@ -1,6 +1,6 @@
 -- Which parts fit, by their tests: beside the rest of any state with one state for each event.
-use Rattle.std.proofs.Common.{◌≡◌, ◌⊎◌, ℕ, zero, suc, ◌+◌, ◌-◌, ◌<◌, ◌≤◌, [], ◌∷◌, true, List, length, refl, sym, ◌∙◌, subst, arith, inl, inr, ap, ◌&&◌}
-use Rattle.std.specs.Prelude.{slice_index_or, slice_get, Option, All}
+use Rattle.std.proofs.Common.{◌≡◌, ◌⊎◌, ℕ, ◌+◌, ◌-◌, ◌<◌, ◌≤◌, [], ◌∷◌, true, List, length, refl, sym, ◌∙◌, subst, arith, inl, inr, ap, ◌&&◌}
+use Rattle.std.specs.Prelude.{slice_index_or, slice_get, Option}
 use Rattle.std.proofs.lemmas.Bool.{cases_lt, and_from, le-leb}
 use Rattle.std.proofs.lemmas.List.{get_or_default, get_or_past}
 use Rattle.std.proofs.lemmas.Option.{slice_get-get_or, slice_get_cases, get_or_from_slice_get}
@@ -73,36 +73,6 @@ set_states_fit events held first states are fits = record { one_each = length-wi
         | inr past ↦ outside k event state below (inr past)
       ]
     ]
-
--- the first state with other states fits where they do
-pub states_alone : (c : Config) (init : Persist) (states : List EventState) → Fits c init → AreStatesOf c.events.items states → Fits c (record init { events = record { items = states } })
-states_alone c init states fit are = record {
-  states = are;
-  room = fit.room;
-  entries = fit.entries;
-  distinct = fit.distinct;
-  first_failed = fit.first_failed;
-  first_confirmed = fit.first_confirmed;
-  recent_failed = fit.recent_failed;
-  recent_confirmed = fit.recent_confirmed;
-}
-
-all_of_one : {X : Type 0} (P : X → Type 0) (x : X) → P x → All P (x ∷ [])
-all_of_one P x is zero d below = is
-all_of_one P x is (suc k) d below = absurd (omega (arith, below))
-
--- the first state with one entry fits where the entry is one of a configured event
-pub entry_alone : (c : Config) (init : Persist) (entry : EntryState) → 1 ≤ c.memory → Fits c init → IsEntryOf c.events.items entry → Fits c (record init { entries = record { items = entry ∷ [] } })
-entry_alone c init entry some fit is = record {
-  states = fit.states;
-  room = some;
-  entries = all_of_one (IsEntryOf c.events.items) entry is;
-  distinct = λ i j d order within. absurd (omega (arith, order, within));
-  first_failed = fit.first_failed;
-  first_confirmed = fit.first_confirmed;
-  recent_failed = fit.recent_failed;
-  recent_confirmed = fit.recent_confirmed;
-}
 
 -- the clean counts of states that fit leave room for the bit beside them
 pub states_short : (events : List EventCfg) (states : List EventState) → AreStatesOf events states → (k : ℕ) → (slice_index_or states k start_state).clean < 0x8000

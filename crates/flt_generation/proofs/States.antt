@@ -2,8 +2,8 @@
 use Rattle.std.proofs.Common.{◌≡◌, ◌⊎◌, ℕ, zero, suc, ◌+◌, ◌<◌, ◌≤◌, ◌++◌, [], ◌∷◌, true, map, List, length, refl, sym, ◌∙◌, ap, subst, arith, inl, inr, set, length-set}
 use Rattle.std.specs.Prelude.{slice_index_or, slice_get}
 use Rattle.std.specs.List.{concat, range_with_len}
-use Rattle.std.proofs.lemmas.Bool.{cases_lt, cases_eq}
-use Rattle.std.proofs.lemmas.List.{append-nil, get_or_past, get_or-set_same, get_or-set_other}
+use Rattle.std.proofs.lemmas.Bool.{cases_eq}
+use Rattle.std.proofs.lemmas.List.{append-nil, get_or-set_same, get_or-set_other}
 use Rattle.std.proofs.lemmas.List.FromFn.{map-range_with_len_more}
 use Rattle.std.proofs.lemmas.List.Folds.{concat-append}
 use Rattle.flt_config.specs.declared.persist.EventState.{EventState}
@@ -73,16 +73,6 @@ module _ (held : List ℕ) (first : ℕ) (states : List EventState) where
   state_kept (suc count) k d out =
       get_or-set_other (with_states held first count states) (first + count) k (state_from held count) d (λ e. elim out [ inl low ↦ omega (arith, low, e) | inr high ↦ omega (arith, high, e) ])
       ∙ state_kept count k d (elim out [ inl low ↦ inl low | inr high ↦ inr (omega (arith, high)) ])
-
--- two lists of one length have one block in common once it is set in both
-pub same_block : (held : List ℕ) (first : ℕ) (xs ys : List EventState) → length xs ≡ length ys → (place : ℕ) → place < 16
-    → slice_index_or (with_states held first 16 xs) (first + place) start_state ≡ slice_index_or (with_states held first 16 ys) (first + place) start_state
-same_block held first xs ys size place below = elim (cases_lt (first + place) (length xs)) [
-  | inl within ↦ state_set held first xs 16 place start_state below within ∙ sym (state_set held first ys 16 place start_state below (omega (arith, size, within)))
-  | inr past ↦
-      get_or_past (with_states held first 16 xs) (first + place) start_state (omega (arith, length-with_states held first xs 16, past))
-      ∙ sym (get_or_past (with_states held first 16 ys) (first + place) start_state (omega (arith, length-with_states held first ys 16, past, size)))
-]
 
 -- such states pass together
 pub pass_together : (events : List EventCfg) (xs ys : List EventState) (first count : ℕ) → ((place : ℕ) → place < count → slice_index_or xs (first + place) start_state ≡ slice_index_or ys (first + place) start_state)

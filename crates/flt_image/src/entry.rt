@@ -8,9 +8,7 @@ ghost use Rattle.flt_image.specs.Taking.{Takes};
 
 use crate::pushing::{BlockBytes, push_all, push_zeros, word_at};
 use arrayvec::ArrayVec;
-use flt_config::{
-    ENTRIES, EntryState, FRAME, Frame, Persist, ValidConfig, fits, initial, place_of,
-};
+use flt_config::{ENTRIES, EntryState, FRAME, Frame, Persist, ValidConfig, is_entry_of, place_of};
 
 fn put_frame(frame: &Frame, out: &mut BlockBytes)
     requires { length out.old.items + 32 ≤ 128 }
@@ -56,11 +54,19 @@ pub(crate) fn put_place(entries: &[EntryState], place: u16, out: &mut BlockBytes
     }
 }
 
-fn are_bytes_of(entries: &[EntryState], place: u16, bytes: &[u8]) -> bool
-    ensures { result ≡ bytes_eq bytes.now (place_bytes (slice_get entries.now place)) }
+fn are_bytes_of(entry: &EntryState, bytes: &[u8]) -> bool
+    ensures { result ≡ bytes_eq bytes.now (entry_bytes entry.now) }
 {
     let mut written = BlockBytes::new();
-    put_place(entries, place, &mut written);
+    put_entry(entry, &mut written);
+    bytes == &written[..]
+}
+
+fn are_bytes_of_none(bytes: &[u8]) -> bool
+    ensures { result ≡ bytes_eq bytes.now no_entry_bytes }
+{
+    let mut written = BlockBytes::new();
+    put_no_entry(&mut written);
     bytes == &written[..]
 }
 
@@ -107,27 +113,23 @@ fn set_entry(entries: &mut ArrayVec<EntryState, ENTRIES>, place: u16, entry: Ent
 
 /// Takes the entry at a place from its bytes; a place past the entries has none. Where they are none that fit, nothing changes.
 pub(crate) fn take_entry(config: &ValidConfig, place: u16, bytes: &[u8], into: &mut Persist) -> bool
-    requires size { length bytes.now ≡ 68 }
-    requires place { place < config.now.memory }
+    requires { length bytes.now ≡ 68 }
     ensures { Takes (taken config.now (Entry place) bytes.now into.old) result into.old into.new }
 {
     let at = place as usize;
     if at >= into.entries.len() {
-        return are_bytes_of(&into.entries, place, bytes);
+        return are_bytes_of_none(bytes);
     }
     let entry = entry_from(bytes);
-    let event = entry.event;
-    let mut alone = initial(config);
-    alone.entries.push(entry);
-    if !fits(config, &alone) {
+    if !is_entry_of(&config.config().events, &entry) {
         return false;
     }
-    if !are_bytes_of(&alone.entries, 0, bytes) {
+    if !are_bytes_of(&entry, bytes) {
         return false;
     }
-    if !is_alone(&into.entries, at, event) {
+    if !is_alone(&into.entries, at, entry.event) {
         return false;
     }
-    set_entry(&mut into.entries, place, entry_from(bytes));
+    set_entry(&mut into.entries, place, entry);
     true
 }

@@ -1,14 +1,14 @@
 // The states of sixteen events.
-ghost use Rattle.std.specs.Prelude.{◌≡◌, ℕ, ◌+◌, ◌*◌, ◌<◌, ◌≤◌, ◌++◌, IsTrue, length, slice_index_or, slice_set, bytes_eq};
+ghost use Rattle.std.specs.Prelude.{◌≡◌, ℕ, ◌+◌, ◌*◌, ◌<◌, ◌≤◌, ◌++◌, IsTrue, List, length, slice_index_or, slice_set, bytes_eq};
 ghost use Rattle.flt_config.specs.Durable.{start_state};
 ghost use Rattle.flt_generation.specs.declared.part.Part.TheVariants.{States};
 ghost use Rattle.flt_generation.specs.Form.{state_bytes, states_bytes};
 ghost use Rattle.flt_generation.specs.Reading.{state_from, with_states, taken};
-ghost use Rattle.flt_image.specs.Taking.{Takes, HaveShortCounts};
+ghost use Rattle.flt_image.specs.Taking.{Takes, HaveShortCounts, block_states};
 
 use crate::pushing::{BlockBytes, push_all, word_at};
 use arrayvec::ArrayVec;
-use flt_config::{EVENTS, EventState, Persist, ValidConfig, fits, initial};
+use flt_config::{EVENTS, EventState, Persist, ValidConfig, are_states_of};
 
 /// An event that was not tested since it was cleared.
 const START: EventState = EventState {
@@ -58,8 +58,7 @@ pub(crate) fn put_states(states: &[EventState], first: u16, out: &mut BlockBytes
 fn state_from(bytes: &[u8], place: usize) -> EventState
     requires size { length bytes.now ≡ 64 }
     requires place { place < 16 }
-    ensures state { result ≡ state_from bytes.now place }
-    ensures short { result.clean < 0x8000 }
+    ensures { result ≡ state_from bytes.now place }
 {
     let word = word_at(bytes, 4 * place + 2);
     EventState {
@@ -70,35 +69,44 @@ fn state_from(bytes: &[u8], place: usize) -> EventState
     }
 }
 
-// Gives an event this state, if there is such an event.
+// The first states of a block.
+fn states_from(bytes: &[u8], count: usize) -> ArrayVec<EventState, STATES>
+    requires size { length bytes.now ≡ 64 }
+    requires count { count ≤ 16 }
+    ensures { result.items ≡ block_states bytes.now count }
+{
+    let mut states = ArrayVec::new();
+    for place in 0..count {
+        states.push(state_from(bytes, place));
+    }
+    states
+}
+
 fn set_state(states: &mut ArrayVec<EventState, EVENTS>, event: usize, state: EventState)
+    requires { event < length states.old.items }
     ensures { states.new.items ≡ slice_set states.old.items event state }
 {
-    if event >= states.len() {
-        return;
-    }
     states[event] = state;
 }
 
-// Gives the events from `first` on the states in these bytes.
-fn set_states(bytes: &[u8], first: u16, states: &mut ArrayVec<EventState, EVENTS>)
-    requires size { length bytes.now ≡ 64 }
-    requires first { first < 64 }
-    ensures states { states.new.items ≡ with_states bytes.now first 16 states.old.items }
-    ensures short { HaveShortCounts states.old.items → HaveShortCounts states.new.items }
+// Gives the events from `first` on the states that stand in a block.
+fn set_states(states: &[EventState], first: u16, into: &mut ArrayVec<EventState, EVENTS>)
+    requires { first + length states.now ≤ length into.old.items }
+    ensures { (held : List ℕ) → states.now ≡ block_states held (length states.now) → into.new.items ≡ with_states held first (length states.now) into.old.items }
 {
-    for place in 0..STATES {
-        set_state(states, first as usize + place, state_from(bytes, place));
+    let count = states.len();
+    for place in 0..count {
+        set_state(into, first as usize + place, states[place]);
     }
 }
 
-fn are_bytes_of(states: &[EventState], first: u16, bytes: &[u8]) -> bool
-    requires first { first < 64 }
-    requires clean { HaveShortCounts states.now }
-    ensures { result ≡ bytes_eq bytes.now (states_bytes states.now first) }
+// Whether these are the states of a block, those past them being start states.
+fn are_bytes_of(states: &[EventState], bytes: &[u8]) -> bool
+    requires { HaveShortCounts states.now }
+    ensures { result ≡ bytes_eq bytes.now (states_bytes states.now 0) }
 {
     let mut written = BlockBytes::new();
-    put_states(states, first, &mut written);
+    put_states(states, 0, &mut written);
     bytes == &written[..]
 }
 
@@ -114,14 +122,15 @@ pub(crate) fn take_states(
     requires states { length into.old.events.items ≡ length config.now.events.items }
     ensures { Takes (taken config.now (States first) bytes.now into.old) result into.old into.new }
 {
-    let mut alone = initial(config);
-    set_states(bytes, first, &mut alone.events);
-    if !fits(config, &alone) {
+    let events = &config.config().events;
+    let count = (events.len() - first as usize).min(STATES);
+    let states = states_from(bytes, count);
+    if !are_states_of(&events[first as usize..first as usize + count], &states) {
         return false;
     }
-    if !are_bytes_of(&alone.events, first, bytes) {
+    if !are_bytes_of(&states, bytes) {
         return false;
     }
-    set_states(bytes, first, &mut into.events);
+    set_states(&states, first, &mut into.events);
     true
 }

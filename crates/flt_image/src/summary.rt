@@ -1,13 +1,13 @@
 // The summary of a generation: its overflow flag, its number of entries and its noted events.
-ghost use Rattle.std.specs.Prelude.{◌≡◌, ◌+◌, ◌<◌, ◌≤◌, length, replicate, min};
+ghost use Rattle.std.specs.Prelude.{◌≡◌, ◌↔◌, ◌+◌, ◌<◌, ◌≤◌, IsTrue, length, replicate, min};
 ghost use Rattle.flt_generation.specs.declared.part.Part.TheVariants.{Summary};
 ghost use Rattle.flt_generation.specs.Form.{note_word, note_bytes, summary_bytes};
 ghost use Rattle.flt_generation.specs.Reading.{note_at, untaken_entry, with_summary, taken};
-ghost use Rattle.flt_image.specs.Taking.{with_notes, Takes};
+ghost use Rattle.flt_image.specs.Taking.{no_state, summed_up, IsSummaryOf, Takes};
 
 use crate::pushing::word_at;
 use arrayvec::ArrayVec;
-use flt_config::{ENTRIES, EntryState, Persist, ValidConfig, fits, initial};
+use flt_config::{ENTRIES, EntryState, Persist, ValidConfig, is_noted};
 
 /// What stands for no event.
 const NO_EVENT: u16 = 0xFFFF;
@@ -52,17 +52,6 @@ fn note_at(bytes: &[u8], at: usize) -> Option<u16>
     if event == NO_EVENT { None } else { Some(event) }
 }
 
-// Notes the events of a summary.
-fn set_notes(bytes: &[u8], state: &mut Persist)
-    requires { length bytes.now ≡ 32 }
-    ensures { state.new ≡ with_notes bytes.now state.old }
-{
-    state.first_failed = note_at(bytes, 4);
-    state.first_confirmed = note_at(bytes, 6);
-    state.recent_failed = note_at(bytes, 8);
-    state.recent_confirmed = note_at(bytes, 10);
-}
-
 fn untaken_entry() -> EntryState
     ensures { result ≡ untaken_entry }
 {
@@ -85,15 +74,45 @@ fn untaken_entries(count: u8) -> ArrayVec<EntryState, ENTRIES>
     entries
 }
 
-// Gives a state the summary in these bytes.
+// A state that holds the summary in these bytes, and no events.
 #[tactic(auto, unfolding(flt_generation::specs::Reading::with_summary))]
-fn set_summary(bytes: &[u8], state: &mut Persist)
+fn summary_from(bytes: &[u8]) -> Persist
     requires { length bytes.now ≡ 32 }
-    ensures { state.new ≡ with_summary bytes.now state.old }
+    ensures { result ≡ with_summary bytes.now no_state }
 {
-    state.overflow = bytes[1] == 1;
-    state.entries = untaken_entries(bytes[2]);
-    set_notes(bytes, state);
+    Persist {
+        events: ArrayVec::new(),
+        entries: untaken_entries(bytes[2]),
+        overflow: bytes[1] == 1,
+        first_failed: note_at(bytes, 4),
+        first_confirmed: note_at(bytes, 6),
+        recent_failed: note_at(bytes, 8),
+        recent_confirmed: note_at(bytes, 10),
+    }
+}
+
+// Whether the entries are within the memory, and the noted events are configured.
+fn is_summary_of(config: &ValidConfig, read: &Persist) -> bool
+    ensures { IsTrue result ↔ IsSummaryOf config.now read.now }
+{
+    let config = config.config();
+    read.entries.len() <= config.memory as usize
+        && is_noted(&config.events, read.first_failed)
+        && is_noted(&config.events, read.first_confirmed)
+        && is_noted(&config.events, read.recent_failed)
+        && is_noted(&config.events, read.recent_confirmed)
+}
+
+// Gives a state what a summary says.
+fn set_summary(read: Persist, into: &mut Persist)
+    ensures { into.new ≡ summed_up read into.old }
+{
+    into.overflow = read.overflow;
+    into.entries = read.entries;
+    into.first_failed = read.first_failed;
+    into.first_confirmed = read.first_confirmed;
+    into.recent_failed = read.recent_failed;
+    into.recent_confirmed = read.recent_confirmed;
 }
 
 /// Takes the summary from its bytes. Where they are none that fits, nothing changes.
@@ -101,18 +120,13 @@ pub(crate) fn take_summary(config: &ValidConfig, bytes: &[u8], into: &mut Persis
     requires { length bytes.now ≡ 32 }
     ensures { Takes (taken config.now Summary bytes.now into.old) result into.old into.new }
 {
-    let mut alone = initial(config);
-    set_notes(bytes, &mut alone);
-    if !fits(config, &alone) {
+    let read = summary_from(bytes);
+    if !is_summary_of(config, &read) {
         return false;
     }
-    set_summary(bytes, &mut alone);
-    if alone.entries.len() > config.config().memory as usize {
+    if bytes != &summary_bytes(&read)[..] {
         return false;
     }
-    if bytes != &summary_bytes(&alone)[..] {
-        return false;
-    }
-    set_summary(bytes, into);
+    set_summary(read, into);
     true
 }

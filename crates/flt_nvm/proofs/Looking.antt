@@ -4,7 +4,7 @@ use Rattle.std.specs.Prelude.{IsErrOf}
 use Rattle.flt_flash.specs.Blocks.{BlocksState}
 use Rattle.flt_flash.specs.declared.blocks.BlockFault.{BlockFault}
 use Rattle.flt_flash.specs.declared.blocks.BlockFault.TheVariants.{Flash, Full, SequenceSpent, Damaged}
-use Rattle.flt_nvm.specs.Tries.{Tries, Looks}
+use Rattle.flt_nvm.specs.Tries.{Tries, Looks, ReadsAlone}
 
 no_fault : {T : Type 0} (value : T) (fault : BlockFault) → IsErrOf (Ok value) fault → ⊥
 no_fault value fault is = absurd (cc is)
@@ -13,36 +13,43 @@ no_fault value fault is = absurd (cc is)
 same_fault : (S T : Type 0) (fault other : BlockFault) → IsErrOf {T = T} (Err fault) other → IsErrOf {T = S} (Err fault) other
 same_fault S T fault other is = let same : fault ≡ other = cc is in ap Err same
 
-module _ (block : ℕ) (before after : BlocksState) where
-  look_ok : {S T : Type 0} (x : S) (y : T) → Looks block before after (Ok x) → Looks block before after (Ok y)
-  look_ok x y looks = record {
-    values = looks.values;
-    calls = record { follows = looks.calls.follows; flash = λ is. absurd (no_fault y Flash is); damaged = λ sector page is. absurd (no_fault y (Damaged sector page) is); refuses_damage = looks.calls.refuses_damage };
+module _ (before after : BlocksState) where
+  reads_ok : {S T : Type 0} (x : S) (y : T) → ReadsAlone before after (Ok x) → ReadsAlone before after (Ok y)
+  reads_ok x y reads = record {
+    values = reads.values;
+    calls = record { follows = reads.calls.follows; flash = λ is. absurd (no_fault y Flash is); damaged = λ sector page is. absurd (no_fault y (Damaged sector page) is); refuses_damage = reads.calls.refuses_damage };
     never_full = record { full = λ live needed. no_fault y (Full live needed); spent = no_fault y SequenceSpent };
-    settled = looks.settled;
-    stale = looks.stale;
-    image = looks.image;
-    costs = looks.costs;
+    spent = reads.spent;
+    settled = reads.settled;
+    stale = reads.stale;
+    image = reads.image;
   }
 
-  look_err : (S T : Type 0) (fault : BlockFault) → Looks {T = S} block before after (Err fault) → Looks {T = T} block before after (Err fault)
-  look_err S T fault looks = record {
-    values = looks.values;
+  reads_err : (S T : Type 0) (fault : BlockFault) → ReadsAlone {T = S} before after (Err fault) → ReadsAlone {T = T} before after (Err fault)
+  reads_err S T fault reads = record {
+    values = reads.values;
     calls = record {
-      follows = looks.calls.follows;
-      flash = λ is. looks.calls.flash (same_fault S T fault Flash is);
-      damaged = λ sector page is. looks.calls.damaged sector page (same_fault S T fault (Damaged sector page) is);
-      refuses_damage = looks.calls.refuses_damage;
+      follows = reads.calls.follows;
+      flash = λ is. reads.calls.flash (same_fault S T fault Flash is);
+      damaged = λ sector page is. reads.calls.damaged sector page (same_fault S T fault (Damaged sector page) is);
+      refuses_damage = reads.calls.refuses_damage;
     };
     never_full = record {
-      full = λ live needed is. looks.never_full.full live needed (same_fault S T fault (Full live needed) is);
-      spent = λ is. looks.never_full.spent (same_fault S T fault SequenceSpent is);
+      full = λ live needed is. reads.never_full.full live needed (same_fault S T fault (Full live needed) is);
+      spent = λ is. reads.never_full.spent (same_fault S T fault SequenceSpent is);
     };
-    settled = looks.settled;
-    stale = looks.stale;
-    image = looks.image;
-    costs = looks.costs;
+    spent = reads.spent;
+    settled = reads.settled;
+    stale = reads.stale;
+    image = reads.image;
   }
+
+module _ (block : ℕ) (before after : BlocksState) where
+  look_ok : {S T : Type 0} (x : S) (y : T) → Looks block before after (Ok x) → Looks block before after (Ok y)
+  look_ok x y looks = record { reads = reads_ok before after x y looks.reads; costs = looks.costs }
+
+  look_err : (S T : Type 0) (fault : BlockFault) → Looks {T = S} block before after (Err fault) → Looks {T = T} block before after (Err fault)
+  look_err S T fault looks = record { reads = reads_err before after S T fault looks.reads; costs = looks.costs }
 
 pub looks_ok : {S T : Type 0} (block most : ℕ) (before after : BlocksState) (x : S) (y : T) → Tries most (Looks block) before after (Ok x) → Tries most (Looks block) before after (Ok y)
 unfolding Tries

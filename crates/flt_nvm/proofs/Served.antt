@@ -9,7 +9,7 @@ use Rattle.std.proofs.lemmas.Map.Views.{Contains-from_any}
 use Rattle.flt_nvm.specs.declared.table.Kind.{Kind}
 use Rattle.flt_nvm.specs.declared.table.Kind.TheVariants.{Native, Redundant, Dataset}
 use Rattle.flt_nvm.specs.declared.table.BlockCfg.{BlockCfg}
-use Rattle.flt_nvm.specs.Table.{number_of, block_in, numbers_taken, has_number, is_kind, is_served, serves, HasPlace, Holds}
+use Rattle.flt_nvm.specs.Table.{number_of, block_in, numbers_taken, has_number, is_kind, is_served, serves, HasPlace, FitsBlock}
 
 both_true : (a b : Bool) → (a && b) ≡ true → (a ≡ true) × (b ≡ true)
 both_true true b is = (refl, is)
@@ -83,7 +83,7 @@ module _ (numbers : List ℕ) (table : List BlockCfg) (id : ℕ) (all : serves n
           subst (λ (n : ℕ). IsGiven numbers n place) found.1 (record { id_is = is.id; place_is = taken_in_range block.kind place is.kind taken; number = number_is_given numbers block is place taken })
 
   -- a block holds 128 bytes at most
-  pub size_in_range : (size : ℕ) → Holds table id size → size ≤ 128
+  pub size_in_range : (size : ℕ) → FitsBlock table id size → size ≤ 128
   size_in_range size holds = by_block (block_in table id) refl holds
     where
       by_block : (found : Option BlockCfg) → block_in table id ≡ found → IsSomeAnd found (λ block. size ≤ block.length) → size ≤ 128

@@ -17,8 +17,8 @@ abbrev pub IsEither : BlocksState → BlocksState → ℕ → Content → Type 0
 IsEither before after number asked = (after.value number ≡ before.value number) ⊎ (after.value number ≡ asked)
 
 -- a fault of the flash comes only where the count of faults rose by three
-abbrev pub FailsThrice : {T : Type 0} → BlocksState → BlocksState → Result T BlockFault → Type 0
-FailsThrice before after result = IsErrOf result Flash → HasRisenBy 3 before.device.faults after.device.faults
+abbrev pub FlashTakesThree : {T : Type 0} → BlocksState → BlocksState → Result T BlockFault → Type 0
+FlashTakesThree before after result = IsErrOf result Flash → HasRisenBy 3 before.device.faults after.device.faults
 
 -- one number holds what was asked after Ok, what it held or what was asked after a fault, and every other what it held
 pub record Gives (before after : BlocksState) (number : ℕ) (asked : Content) (size : ℕ) (result : Result (Unit {0}) BlockFault) : Type 0 where
@@ -56,10 +56,10 @@ HasNoBytes invalid = Unit {0}
 HasNoBytes (bytes held) = ⊥
 
 -- a read gave bytes
-abbrev pub HasBytes : Got → Type 0
-HasBytes (Bytes length copy) = Unit {0}
-HasBytes Missing = ⊥
-HasBytes Invalid = ⊥
+abbrev pub GaveBytes : Got → Type 0
+GaveBytes (Bytes length copy) = Unit {0}
+GaveBytes Missing = ⊥
+GaveBytes Invalid = ⊥
 
 -- what a read of this copy alone answers, with the bytes at the start of out and the rest of out as it was
 abbrev pub GotOf : ℕ → Content → Got → List ℕ → List ℕ → Type 0
@@ -80,4 +80,4 @@ GotOfBoth before after id Invalid out_before out_after = GotOf 1 (before.value (
 -- the second copy's bytes, or, where it has none, what the first gave
 abbrev pub GotOfSecond : Content → Option Got → Got → List ℕ → List ℕ → Type 0
 GotOfSecond content first got before after =
-    (GotOf 2 content got before after × HasBytes got) ⊎ ((first ≡ Some got) × HasNoBytes content × (after ≡ before))
+    (GotOf 2 content got before after × GaveBytes got) ⊎ ((first ≡ Some got) × HasNoBytes content × (after ≡ before))

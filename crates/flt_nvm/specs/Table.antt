@@ -50,8 +50,8 @@ abbrev pub HasIndex : List BlockCfg → ℕ → ℕ → Type 0
 HasIndex table id index = IsSomeAnd (block_in table id) (λ block. index < indices_of block.kind)
 
 -- the table has a block of this identifier that holds so many bytes
-abbrev pub Holds : List BlockCfg → ℕ → ℕ → Type 0
-Holds table id size = IsSomeAnd (block_in table id) (λ block. size ≤ block.length)
+abbrev pub FitsBlock : List BlockCfg → ℕ → ℕ → Type 0
+FitsBlock table id size = IsSomeAnd (block_in table id) (λ block. size ≤ block.length)
 
 -- the table has a redundant block of this identifier
 abbrev pub IsRedundant : List BlockCfg → ℕ → Type 0

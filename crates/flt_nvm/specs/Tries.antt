@@ -2,7 +2,7 @@
 use Rattle.std.specs.Prelude.{◌⊎◌, ℕ, zero, suc, Result, Err, IsErrOf, IsFalse, OnOk}
 use Rattle.flt_flash.specs.Content.{Content}
 use Rattle.flt_flash.specs.Blocks.{BlocksState}
-use Rattle.flt_flash.specs.Calls.{Calls, Changes, Costs, NeverFull, ReadCosts, SameImage, SameValues, Settles}
+use Rattle.flt_flash.specs.Calls.{Calls, Changes, Costs, NeverFull, ReadCosts, SameImage, SameSpent, SameValues, Settles}
 use Rattle.flt_flash.specs.declared.blocks.BlockFault.{BlockFault}
 use Rattle.flt_flash.specs.declared.blocks.BlockFault.TheVariants.{Flash}
 
@@ -20,6 +20,7 @@ pub record Mounts (before after : BlocksState) (result : Result (Unit {0}) Block
   pub calls : Calls before after result
   pub never_full : NeverFull result
   pub stale : Settles result after
+  pub spent : SameSpent before after
 
 -- one write or invalidate, which gives a block this content by a record of this length
 pub record Changing (block : ℕ) (asked : Content) (size : ℕ) (before after : BlocksState) (result : Result (Unit {0}) BlockFault) : Type 0 where
@@ -28,12 +29,17 @@ pub record Changing (block : ℕ) (asked : Content) (size : ℕ) (before after :
   pub stale : Settles result after
   pub costs : Costs before after size
 
--- one read of a block
-pub record Looks {T : Type 0} (block : ℕ) (before after : BlocksState) (result : Result T BlockFault) : Type 0 where
+-- a call that reads alone: no block changes, no sequence number is used, and on a driver that was not stale nothing is written
+pub record ReadsAlone {T : Type 0} (before after : BlocksState) (result : Result T BlockFault) : Type 0 where
   pub values : SameValues before after
   pub calls : Calls before after result
   pub never_full : NeverFull result
+  pub spent : SameSpent before after
   pub settled : OnOk result (IsFalse after.is_stale)
   pub stale : IsFalse before.is_stale → IsFalse after.is_stale
   pub image : IsFalse before.is_stale → SameImage before after
+
+-- one read of a block
+pub record Looks {T : Type 0} (block : ℕ) (before after : BlocksState) (result : Result T BlockFault) : Type 0 where
+  pub reads : ReadsAlone before after result
   pub costs : ReadCosts before after block

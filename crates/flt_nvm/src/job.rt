@@ -1,10 +1,10 @@
 //! Jobs on one block of a driver: a call that the flash failed is made again, three times in all. Every other fault ends the
 //! job at once.
-ghost use Rattle.std.specs.Prelude.{◌≡◌, ◌≤◌, length, Contains, IfOk, OnErr, OnOk, IsFalse};
+ghost use Rattle.std.specs.Prelude.{◌≡◌, ◌≤◌, length, Contains, IfOk, OnErr};
 ghost use Rattle.flt_flash.specs.Content.{invalid, bytes as holding};
-ghost use Rattle.flt_flash.specs.Calls.{Calls, Finds, NeverFull, ReadCosts, SameImage, SameValues, Settles};
-ghost use Rattle.flt_nvm.specs.Tries.{Tries, Mounts, Changing, Looks};
-ghost use Rattle.flt_nvm.specs.Leaves.{Gives, GivesInAJob, FailsThrice};
+ghost use Rattle.flt_flash.specs.Calls.{Calls, Finds, NeverFull, ReadCosts, SameSpent, SameValues, Settles};
+ghost use Rattle.flt_nvm.specs.Tries.{Tries, Mounts, Changing, Looks, ReadsAlone};
+ghost use Rattle.flt_nvm.specs.Leaves.{Gives, GivesInAJob, FlashTakesThree};
 
 use flt_flash::{BlockFault, Blocks, Found};
 
@@ -30,7 +30,8 @@ pub fn mount<B: Blocks>(blocks: &mut B) -> Result<(), BlockFault>
     ensures calls { Calls (B.state blocks.old) (B.state blocks.new) result }
     ensures never_full { NeverFull result }
     ensures stale { Settles result (B.state blocks.new) }
-    ensures three { FailsThrice (B.state blocks.old) (B.state blocks.new) result }
+    ensures spent { SameSpent (B.state blocks.old) (B.state blocks.new) }
+    ensures three { FlashTakesThree (B.state blocks.old) (B.state blocks.new) result }
 {
     try_mount(blocks, TRIES)
 }
@@ -64,7 +65,7 @@ pub fn write<B: Blocks>(blocks: &mut B, block: u16, bytes: &[u8]) -> Result<(), 
     ensures gives { Gives (B.state blocks.old) (B.state blocks.new) block (holding bytes.now) (length bytes.now) result }
     ensures calls { Calls (B.state blocks.old) (B.state blocks.new) result }
     ensures stale { Settles result (B.state blocks.new) }
-    ensures three { FailsThrice (B.state blocks.old) (B.state blocks.new) result }
+    ensures three { FlashTakesThree (B.state blocks.old) (B.state blocks.new) result }
 {
     try_write(blocks, block, bytes, TRIES)
 }
@@ -89,7 +90,7 @@ pub fn invalidate<B: Blocks>(blocks: &mut B, block: u16) -> Result<(), BlockFaul
     ensures gives { Gives (B.state blocks.old) (B.state blocks.new) block invalid 0 result }
     ensures calls { Calls (B.state blocks.old) (B.state blocks.new) result }
     ensures stale { Settles result (B.state blocks.new) }
-    ensures three { FailsThrice (B.state blocks.old) (B.state blocks.new) result }
+    ensures three { FlashTakesThree (B.state blocks.old) (B.state blocks.new) result }
 {
     try_invalidate(blocks, block, TRIES)
 }
@@ -120,14 +121,9 @@ pub fn read<B: Blocks>(blocks: &mut B, block: u16, out: &mut [u8; 128]) -> Resul
     ensures tries { Tries 3 (Looks block) (B.state blocks.old) (B.state blocks.new) result }
     ensures found { IfOk result (λ found. Finds ((B.state blocks.old).value block) found out.old out.new) }
     ensures nothing { OnErr result (out.new ≡ out.old) }
-    ensures values { SameValues (B.state blocks.old) (B.state blocks.new) }
-    ensures calls { Calls (B.state blocks.old) (B.state blocks.new) result }
-    ensures never_full { NeverFull result }
-    ensures settled { OnOk result (IsFalse (B.state blocks.new).is_stale) }
-    ensures stale { IsFalse (B.state blocks.old).is_stale → IsFalse (B.state blocks.new).is_stale }
-    ensures image { IsFalse (B.state blocks.old).is_stale → SameImage (B.state blocks.old) (B.state blocks.new) }
+    ensures reads { ReadsAlone (B.state blocks.old) (B.state blocks.new) result }
     ensures costs { ReadCosts (B.state blocks.old) (B.state blocks.new) block }
-    ensures three { FailsThrice (B.state blocks.old) (B.state blocks.new) result }
+    ensures three { FlashTakesThree (B.state blocks.old) (B.state blocks.new) result }
 {
     try_read(blocks, block, out, TRIES)
 }

@@ -21,10 +21,10 @@ impl<B: Blocks + Drop> Nvm<B> {
     ghost use Rattle.std.specs.Prelude.{◌≡◌, ◌<◌, ◌≤◌, ◌-◌, ◌↔◌, length, Contains, IsFalse, IsErrOf, IfOk, OnOk, OnErr};
     ghost use Rattle.flt_flash.specs.Content.{invalid, bytes as holding};
     ghost use Rattle.flt_flash.specs.State.{CanArm, HasRisenBy};
-    ghost use Rattle.flt_flash.specs.Calls.{ArmsDriver, Calls, Finds, NeverFull, PowersUpDriver, ReadCosts, SameImage, SameValues, Settles, found_of};
-    ghost use Rattle.flt_nvm.specs.Table.{number_of, AsKept, HasIndex, HasPlace, Holds, IsRedundant};
-    ghost use Rattle.flt_nvm.specs.Leaves.{FailsThrice, Gives, GivesBoth, GivesInAJob, GivesInTwoJobs, GotOf, GotOfBoth};
-    ghost use Rattle.flt_nvm.specs.Tries.{Tries, Mounts};
+    ghost use Rattle.flt_flash.specs.Calls.{ArmsDriver, Calls, Finds, NeverFull, PowersUpDriver, ReadCosts, SameSpent, SameValues, Settles, found_of};
+    ghost use Rattle.flt_nvm.specs.Table.{number_of, AsKept, HasIndex, HasPlace, FitsBlock, IsRedundant};
+    ghost use Rattle.flt_nvm.specs.Leaves.{FlashTakesThree, Gives, GivesBoth, GivesInAJob, GivesInTwoJobs, GotOf, GotOfBoth};
+    ghost use Rattle.flt_nvm.specs.Tries.{Tries, Mounts, ReadsAlone};
     ghost use Rattle.flt_nvm.specs.Reads.{LooksInAJob};
     ghost use Rattle.flt_nvm.specs.Driver.{driver_of, table_of};
 
@@ -56,14 +56,15 @@ impl<B: Blocks + Drop> Nvm<B> {
         }
     }
 
-    /// Mounts the driver. No block changes. `Flash` comes only where three mounts failed.
+    /// Mounts the driver. No block changes, and no sequence number is used. `Flash` comes only where three mounts failed.
     pub fn start(&mut self) -> Result<(), BlockFault>
         ensures tries { Tries 3 Mounts (driver_of self.old) (driver_of self.new) result }
         ensures values { SameValues (driver_of self.old) (driver_of self.new) }
         ensures calls { Calls (driver_of self.old) (driver_of self.new) result }
         ensures never_full { NeverFull result }
         ensures stale { Settles result (driver_of self.new) }
-        ensures three { FailsThrice (driver_of self.old) (driver_of self.new) result }
+        ensures spent { SameSpent (driver_of self.old) (driver_of self.new) }
+        ensures three { FlashTakesThree (driver_of self.old) (driver_of self.new) result }
         ensures table { table_of self.new ≡ table_of self.old }
     {
         job::mount(&mut self.blocks)
@@ -77,7 +78,7 @@ impl<B: Blocks + Drop> Nvm<B> {
         ensures gives { Gives (driver_of self.old) (driver_of self.new) number (holding bytes.now) (length bytes.now) result }
         ensures calls { Calls (driver_of self.old) (driver_of self.new) result }
         ensures stale { Settles result (driver_of self.new) }
-        ensures three { FailsThrice (driver_of self.old) (driver_of self.new) result }
+        ensures three { FlashTakesThree (driver_of self.old) (driver_of self.new) result }
         ensures table { table_of self.new ≡ table_of self.old }
     {
         job::write(&mut self.blocks, number, bytes)
@@ -89,7 +90,7 @@ impl<B: Blocks + Drop> Nvm<B> {
         ensures gives { Gives (driver_of self.old) (driver_of self.new) number invalid 0 result }
         ensures calls { Calls (driver_of self.old) (driver_of self.new) result }
         ensures stale { Settles result (driver_of self.new) }
-        ensures three { FailsThrice (driver_of self.old) (driver_of self.new) result }
+        ensures three { FlashTakesThree (driver_of self.old) (driver_of self.new) result }
         ensures table { table_of self.new ≡ table_of self.old }
     {
         job::invalidate(&mut self.blocks, number)
@@ -101,14 +102,9 @@ impl<B: Blocks + Drop> Nvm<B> {
         ensures job { LooksInAJob number (driver_of self.old) (driver_of self.new) result }
         ensures got { IfOk result (λ got. GotOf copy ((driver_of self.old).value number) got out.old out.new) }
         ensures nothing { OnErr result (out.new ≡ out.old) }
-        ensures values { SameValues (driver_of self.old) (driver_of self.new) }
-        ensures calls { Calls (driver_of self.old) (driver_of self.new) result }
-        ensures never_full { NeverFull result }
-        ensures settled { OnOk result (IsFalse (driver_of self.new).is_stale) }
-        ensures stale { IsFalse (driver_of self.old).is_stale → IsFalse (driver_of self.new).is_stale }
-        ensures image { IsFalse (driver_of self.old).is_stale → SameImage (driver_of self.old) (driver_of self.new) }
+        ensures reads { ReadsAlone (driver_of self.old) (driver_of self.new) result }
         ensures costs { ReadCosts (driver_of self.old) (driver_of self.new) number }
-        ensures three { FailsThrice (driver_of self.old) (driver_of self.new) result }
+        ensures three { FlashTakesThree (driver_of self.old) (driver_of self.new) result }
         ensures table { table_of self.new ≡ table_of self.old }
     {
         match job::read(&mut self.blocks, number, out) {
@@ -127,7 +123,7 @@ impl<B: Blocks + Drop> Nvm<B> {
         ensures gives { GivesBoth (driver_of self.old) (driver_of self.new) id (holding bytes.now) (length bytes.now) result }
         ensures calls { Calls (driver_of self.old) (driver_of self.new) result }
         ensures stale { Settles result (driver_of self.new) }
-        ensures three { FailsThrice (driver_of self.old) (driver_of self.new) result }
+        ensures three { FlashTakesThree (driver_of self.old) (driver_of self.new) result }
         ensures table { table_of self.new ≡ table_of self.old }
     {
         let first = self.number(id, 0);
@@ -147,12 +143,12 @@ impl<B: Blocks + Drop> Nvm<B> {
     pub fn write(&mut self, id: u16, index: u8, bytes: &[u8]) -> Result<(), BlockFault>
         requires index { HasIndex (table_of self.old) id index }
         requires least { 1 ≤ length bytes.now }
-        requires fits { Holds (table_of self.old) id (length bytes.now) }
+        requires fits { FitsBlock (table_of self.old) id (length bytes.now) }
         ensures jobs { AsKept (table_of self.old) id (GivesInAJob (number_of id index) (holding bytes.now) (length bytes.now) (driver_of self.old) (driver_of self.new) result) (GivesInTwoJobs id (holding bytes.now) (length bytes.now) (driver_of self.old) (driver_of self.new) result) }
         ensures gives { AsKept (table_of self.old) id (Gives (driver_of self.old) (driver_of self.new) (number_of id index) (holding bytes.now) (length bytes.now) result) (GivesBoth (driver_of self.old) (driver_of self.new) id (holding bytes.now) (length bytes.now) result) }
         ensures calls { Calls (driver_of self.old) (driver_of self.new) result }
         ensures stale { Settles result (driver_of self.new) }
-        ensures three { FailsThrice (driver_of self.old) (driver_of self.new) result }
+        ensures three { FlashTakesThree (driver_of self.old) (driver_of self.new) result }
         ensures table { table_of self.new ≡ table_of self.old }
     {
         if self.is_redundant(id) {
@@ -169,7 +165,7 @@ impl<B: Blocks + Drop> Nvm<B> {
         ensures gives { GivesBoth (driver_of self.old) (driver_of self.new) id invalid 0 result }
         ensures calls { Calls (driver_of self.old) (driver_of self.new) result }
         ensures stale { Settles result (driver_of self.new) }
-        ensures three { FailsThrice (driver_of self.old) (driver_of self.new) result }
+        ensures three { FlashTakesThree (driver_of self.old) (driver_of self.new) result }
         ensures table { table_of self.new ≡ table_of self.old }
     {
         let first = self.number(id, 0);
@@ -188,7 +184,7 @@ impl<B: Blocks + Drop> Nvm<B> {
         ensures gives { AsKept (table_of self.old) id (Gives (driver_of self.old) (driver_of self.new) (number_of id index) invalid 0 result) (GivesBoth (driver_of self.old) (driver_of self.new) id invalid 0 result) }
         ensures calls { Calls (driver_of self.old) (driver_of self.new) result }
         ensures stale { Settles result (driver_of self.new) }
-        ensures three { FailsThrice (driver_of self.old) (driver_of self.new) result }
+        ensures three { FlashTakesThree (driver_of self.old) (driver_of self.new) result }
         ensures table { table_of self.new ≡ table_of self.old }
     {
         if self.is_redundant(id) {

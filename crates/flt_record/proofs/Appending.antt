@@ -12,14 +12,14 @@ use Rattle.flt_flash.specs.Blocks.{byte_pages}
 use Rattle.flt_sector.specs.Log.{Entry}
 use Rattle.flt_sector.specs.Blocks.{content_of, last_complete}
 use Rattle.flt_record.specs.Record.{KeptApart, IsTornHead, IsOpen, IsWhole, RecordLeft}
-use Rattle.flt_record.specs.Holds.{Holds, asked_of, given}
+use Rattle.flt_record.specs.LogHolds.{LogHolds, asked_of, given}
 use Rattle.flt_sector.specs.declared.log.Item.TheVariants.{Torn, Kept}
 use Rattle.flt_record.proofs.BlankPages.{blank_from_test}
 use Rattle.flt_record.proofs.LogOn.{log_same, log_more, end_least, blank_behind, all_below}
 use Rattle.flt_record.proofs.AtEnd.{torn_item, open_item, whole_item}
 use Rattle.flt_record.proofs.Values.{last_more, same_content}
 
-module _ (used : ℕ) (numbers : List ℕ) (pages after : List (List ℕ)) (end : ℕ) (value : ℕ → Content) (begins : 2 ≤ used) (holds : Holds used numbers pages end value) where
+module _ (used : ℕ) (numbers : List ℕ) (pages after : List (List ℕ)) (end : ℕ) (value : ℕ → Content) (begins : 2 ≤ used) (holds : LogHolds used numbers pages end value) where
   -- the pages behind the end that nothing touched
   still_blank : (to : ℕ) → end ≤ to → KeptApart pages after end to → AreBlank after to used
   still_blank to past apart k low high = apart.behind k low ∙ blank_behind used numbers pages after holds.entries end begins holds.is (λ j low lt. apart.before j lt) k (omega arith) high
@@ -30,10 +30,10 @@ module _ (used : ℕ) (numbers : List ℕ) (pages after : List (List ℕ)) (end 
       same_content pages after end apart.size (λ j low lt. apart.before j lt) block holds.entries (all_below used numbers pages after holds.entries end begins holds.is (λ j low lt. apart.before j lt))
       ∙ holds.gives block
 
-  pub torn_head : IsTornHead pages after end → end < used → (last : ℕ) × Holds used numbers after last value
+  pub torn_head : IsTornHead pages after end → end < used → (last : ℕ) × LogHolds used numbers after last value
   torn_head is below = by_test (is_blank (get_or after end [])) refl
     where
-      by_test : (test : Bool) → test ≡ is_blank (get_or after end []) → (last : ℕ) × Holds used numbers after last value
+      by_test : (test : Bool) → test ≡ is_blank (get_or after end []) → (last : ℕ) × LogHolds used numbers after last value
       by_test true blank = (
         end,
         record {
@@ -59,7 +59,7 @@ module _ (used : ℕ) (numbers : List ℕ) (pages after : List (List ℕ)) (end 
     abbrev last : ℕ
     last = end + (2 + byte_pages (length held))
 
-    pub open_record : IsOpen pages after end block (length held) valid → Holds used numbers after (end + (2 + byte_pages (length held))) value
+    pub open_record : IsOpen pages after end block (length held) valid → LogHolds used numbers after (end + (2 + byte_pages (length held))) value
     open_record is =
         let entry : Entry = record { page = end; block = block; length = length held; valid = valid; complete = false } in
         record {
@@ -70,7 +70,7 @@ module _ (used : ℕ) (numbers : List ℕ) (pages after : List (List ℕ)) (end 
           gives = λ other. ap (content_of after) (last_more other holds.entries entry) ∙ kept (end + 2 + byte_pages (length held)) is.apart other;
         }
 
-    pub whole_record : IsWhole pages after end block held valid → Holds used numbers after (end + (2 + byte_pages (length held))) (given block (asked_of valid held) value)
+    pub whole_record : IsWhole pages after end block held valid → LogHolds used numbers after (end + (2 + byte_pages (length held))) (given block (asked_of valid held) value)
     whole_record is =
         let entry : Entry = record { page = end; block = block; length = length held; valid = valid; complete = true } in
         record {
@@ -88,14 +88,14 @@ module _ (used : ℕ) (numbers : List ℕ) (pages after : List (List ℕ)) (end 
 
     -- whatever a cut leaves, the log holds the old values or the new ones
     pub left_record : RecordLeft pages after end block held valid
-        → ((last : ℕ) × Holds used numbers after last value) ⊎ ((last : ℕ) × Holds used numbers after last (given block (asked_of valid held) value))
+        → ((last : ℕ) × LogHolds used numbers after last value) ⊎ ((last : ℕ) × LogHolds used numbers after last (given block (asked_of valid held) value))
     left_record (inl torn) = inl (torn_head torn (omega arith))
     left_record (inr (inl stands)) = inl (last, open_record stands)
     left_record (inr (inr whole)) = inr (last, whole_record whole)
 
 -- pages that agree from page 2 on hold the same
 pub held_same : (used : ℕ) (numbers : List ℕ) (pages after : List (List ℕ)) (end : ℕ) (value : ℕ → Content) → 2 ≤ used → length after ≡ length pages
-    → ((k : ℕ) → 2 ≤ k → get_or after k [] ≡ get_or pages k []) → Holds used numbers pages end value → Holds used numbers after end value
+    → ((k : ℕ) → 2 ≤ k → get_or after k [] ≡ get_or pages k []) → LogHolds used numbers pages end value → LogHolds used numbers after end value
 held_same used numbers pages after end value begins size agree holds =
     let least = end_least used numbers pages after holds.entries end begins holds.is (λ k low lt. agree k low) in
     record {

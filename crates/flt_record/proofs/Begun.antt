@@ -14,7 +14,7 @@ use Rattle.flt_code.proofs.WordCode.{word_code, word_page}
 use Rattle.flt_code.proofs.Unspoiled.{unspoiled_word}
 use Rattle.flt_record.specs.Blank.{AreBlank}
 use Rattle.flt_sector.specs.Gates.{gate_by_code, gate_by, started_by, activated_by, both_gates, gates_of}
-use Rattle.flt_record.specs.Holds.{Holds}
+use Rattle.flt_record.specs.LogHolds.{LogHolds}
 use Rattle.flt_record.proofs.LogOn.{ended}
 
 pub unspoiled_blank : is_spoiled blank_page ≡ false
@@ -31,7 +31,7 @@ names says fault word proper =
     ∙ ap says (word_of-word_bytes word proper)
 
 -- an empty log
-pub holds_nothing : (used : ℕ) (numbers : List ℕ) (pages : List (List ℕ)) → 2 ≤ used → AreBlank pages 2 used → Holds used numbers pages 2 (λ block. missing)
+pub holds_nothing : (used : ℕ) (numbers : List ℕ) (pages : List (List ℕ)) → 2 ≤ used → AreBlank pages 2 used → LogHolds used numbers pages 2 (λ block. missing)
 holds_nothing used numbers pages least blank = record { entries = []; is = ended used numbers pages (used + 1) 2 (omega arith) least blank; gives = λ block. refl }
 
 module _ (used sequence : ℕ) (fits : used < 2 ^ 16) (counts : sequence < 2 ^ 32) where

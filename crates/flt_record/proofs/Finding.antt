@@ -10,9 +10,9 @@ use Rattle.flt_sector.specs.Blocks.{content_of, or_earlier, last_complete}
 use Rattle.flt_sector.specs.declared.log.Item.{Item}
 use Rattle.flt_sector.specs.declared.log.Item.TheVariants.{End, Torn, Kept}
 use Rattle.flt_pages.specs.Told.{told}
-use Rattle.flt_record.specs.declared.place.Place.{Place}
+use Rattle.flt_record.specs.declared.place.RecordPlace.{RecordPlace}
 use Rattle.flt_record.specs.Live.{held_in}
-use Rattle.flt_record.specs.Place.{record_at, record_found, IsWithin, IsInLog, IsAt, content_at, pages_found}
+use Rattle.flt_record.specs.RecordPlace.{record_at, record_found, IsWithin, IsInLog, IsAt, content_at, pages_found}
 use Rattle.flt_record.proofs.Items.{item_within}
 use Rattle.flt_record.proofs.Proper.{proper_item}
 use Rattle.flt_record.proofs.PageBytes.{content_pages}
@@ -27,7 +27,7 @@ nothing_found (Some later) = refl
 nothing_found None = refl
 
 -- the last record of the block in the log from a page on, or else the one found so far, is that of the whole log
-pub record Seeks (used : ℕ) (numbers : List ℕ) (pages : List (List ℕ)) (block page : ℕ) (found : Option Place) : Type 0 where
+pub record Seeks (used : ℕ) (numbers : List ℕ) (pages : List (List ℕ)) (block page : ℕ) (found : Option RecordPlace) : Type 0 where
   pub left : ℕ
   pub enough : used < page + left
   pub least : 2 ≤ page
@@ -55,7 +55,7 @@ module _ (used : ℕ) (numbers : List ℕ) (pages : List (List ℕ)) (block : �
     inside = tt;
   }
 
-  module _ (page : ℕ) (found : Option Place) (is : Seeks used numbers pages block page found) where
+  module _ (page : ℕ) (found : Option RecordPlace) (is : Seeks used numbers pages block page found) where
     -- one item of the log
     step : (left : ℕ) (at : Result Item ℕ) → item_at used numbers pages page ≡ at → log_from used numbers pages page (suc left) ≡ log_after used pages page (λ next. log_from used numbers pages next left) at
     unfolding log_from
@@ -73,11 +73,11 @@ module _ (used : ℕ) (numbers : List ℕ) (pages : List (List ℕ)) (block : �
     pub found_at : item_at used numbers pages page ≡ Ok End → IsAt pages page (held_in used numbers pages block) found
     found_at here = record { holds = ap (content_of pages) (found_last here) ∙ content_found found; inside = is.inside }
       where
-        content_found : (found : Option Place) → content_of pages (record_found block found) ≡ content_at pages found
+        content_found : (found : Option RecordPlace) → content_of pages (record_found block found) ≡ content_at pages found
         content_found None = refl
         content_found (Some place) = refl
 
-    farther : (next : ℕ) → page ≤ next → (found : Option Place) → IfSome found (λ place. IsInLog page place) → IfSome found (λ place. IsInLog next place)
+    farther : (next : ℕ) → page ≤ next → (found : Option RecordPlace) → IfSome found (λ place. IsInLog page place) → IfSome found (λ place. IsInLog next place)
     farther next on None inside = tt
     farther next on (Some place) inside = record { begun = inside.begun; within = record { below = omega (arith, inside.within.below); kind = inside.within.kind } }
 
@@ -105,7 +105,7 @@ module _ (used : ℕ) (numbers : List ℕ) (pages : List (List ℕ)) (block : �
       pub record_room : page + record_pages size ≤ used
       record_room = item_within used numbers pages page (Kept of size valid complete) (λ e. cc e) is.below here
 
-      abbrev place : Place
+      abbrev place : RecordPlace
       place = record { page = page; length = size; valid = valid }
 
       joined : (later : Option Entry) → or_found (or_earlier later (record { page = page; block = of; length = size; valid = valid; complete = complete }) block) (record_found block found)
@@ -146,7 +146,7 @@ module _ (used : ℕ) (numbers : List ℕ) (pages : List (List ℕ)) (block : �
           }
 
 -- the pages of the record that was found are those of what its block holds
-pub found_pages : (used : ℕ) (pages : List (List ℕ)) (sizes : ArePages pages) → used ≤ length pages → (block : ℕ) (found : Option Place) → IfSome found (λ place. IsWithin used place)
+pub found_pages : (used : ℕ) (pages : List (List ℕ)) (sizes : ArePages pages) → used ≤ length pages → (block : ℕ) (found : Option RecordPlace) → IfSome found (λ place. IsWithin used place)
     → pages_of (content_of pages (record_found block found)) ≡ pages_found found
 found_pages used pages sizes most block None within = refl
 found_pages used pages sizes most block (Some place) within = content_pages pages sizes (record_at block place) (omega (arith, within.below)) within.kind

@@ -1,7 +1,7 @@
 pub mod Blank
-pub mod Holds
+pub mod LogHolds
 pub mod Record
 pub mod Recorded
 pub mod Scan
-pub mod Place
+pub mod RecordPlace
 pub mod Live

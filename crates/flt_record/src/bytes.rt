@@ -4,11 +4,11 @@ ghost use Rattle.flt_flash.specs.Image.{sector_at};
 ghost use Rattle.flt_flash.specs.State.{OnlyReads, HasRisenBy};
 ghost use Rattle.flt_flash.specs.Blocks.{byte_pages, record_pages};
 ghost use Rattle.flt_record.specs.Blank.{AreBlank};
-ghost use Rattle.flt_record.specs.Place.{IsWithin, bytes_at};
+ghost use Rattle.flt_record.specs.RecordPlace.{IsWithin, bytes_at};
 ghost use Rattle.flt_record.specs.Recorded.{Fills, Records};
 
 use crate::byte_pages;
-use crate::place::Place;
+use crate::place::RecordPlace;
 use flt_flash::{Flash, FlashFailed};
 use flt_pages::{append_gate, append_head, append_piece};
 
@@ -16,7 +16,7 @@ use flt_pages::{append_gate, append_head, append_piece};
 pub fn read_record<F: Flash>(
     flash: &mut F,
     sector: u8,
-    place: Place,
+    place: RecordPlace,
     out: &mut [u8; 128],
 ) -> Result<(), FlashFailed>
     requires sector { sector < 2 }
@@ -51,7 +51,7 @@ fn piece_size(length: u16, index: u16) -> usize
 fn copy_bytes<F: Flash>(
     flash: &mut F,
     sector: u8,
-    place: Place,
+    place: RecordPlace,
     other: u8,
     first: u16,
 ) -> Result<(), FlashFailed>
@@ -78,7 +78,7 @@ fn copy_bytes<F: Flash>(
 pub fn copy_record<F: Flash>(
     flash: &mut F,
     sector: u8,
-    place: Place,
+    place: RecordPlace,
     block: u16,
     other: u8,
     page: u16,

@@ -2,13 +2,13 @@
 ghost use Rattle.std.specs.Prelude.{◌≡◌, ◌<◌, ◌≤◌, sum_by};
 ghost use Rattle.std.specs.List.{All};
 ghost use Rattle.std.specs.Option.{ForSome};
-ghost use Rattle.flt_record.specs.Place.{pages_found};
+ghost use Rattle.flt_record.specs.RecordPlace.{pages_found};
 
 use crate::byte_pages;
-use crate::place::Place;
+use crate::place::RecordPlace;
 
 // The pages of the record that was found.
-fn pages_of(found: Option<Place>) -> u16
+fn pages_at(found: Option<RecordPlace>) -> u16
     requires { ForSome found (λ place. place.length ≤ 128) }
     ensures { result ≡ pages_found found }
 {
@@ -19,14 +19,14 @@ fn pages_of(found: Option<Place>) -> u16
 }
 
 /// The pages of the current records of all blocks, by the table of their places.
-pub fn live_pages(places: &[Option<Place>]) -> u16
+pub fn live_pages(places: &[Option<RecordPlace>]) -> u16
     requires lengths { All (λ found. ForSome found (λ place. place.length ≤ 128)) places.now }
     requires most { sum_by pages_found places.now < 65536 }
     ensures { result ≡ sum_by pages_found places.now }
 {
     let mut live = 0;
     for found in places {
-        live += pages_of(*found);
+        live += pages_at(*found);
     }
     live
 }

@@ -1,13 +1,13 @@
 // The places of current records.
 ghost use Rattle.std.specs.Prelude.{◌≡◌, ◌≢◌, ◌<◌, ◌==◌, ◌&&◌, ℕ, if◌then◌else◌, Some, None, IfSome, IfNone, Contains, length, slice_index_or};
 ghost use Rattle.std.specs.List.{AllPairs};
-ghost use Rattle.flt_record.specs.Place.{IsPlaceOf};
+ghost use Rattle.flt_record.specs.RecordPlace.{IsPlaceOf};
 
 use flt_pages::Numbers;
 
 /// Where a complete record stands, and what its head says of it.
 #[derive(Clone, Copy, Debug, PartialEq, Eq)]
-pub struct Place {
+pub struct RecordPlace {
     /// The page of the head.
     pub page: u16,
     /// The bytes that it holds, 1 to 128, or 0 where it makes its block invalid.
@@ -17,7 +17,11 @@ pub struct Place {
 }
 
 /// The place of one of the blocks, by the table.
-pub fn place_of(numbers: &Numbers, places: &[Option<Place>], block: u16) -> Option<Place>
+pub fn place_of(
+    numbers: &Numbers,
+    places: &[Option<RecordPlace>],
+    block: u16,
+) -> Option<RecordPlace>
     requires size { length places.now ≡ length numbers.now }
     requires number { Contains numbers.now block }
     ensures { IsPlaceOf numbers.now places.now block result }
@@ -31,10 +35,10 @@ pub fn place_of(numbers: &Numbers, places: &[Option<Place>], block: u16) -> Opti
 /// Notes a record as the current one of its block, where it is complete, in the table of places.
 pub fn note(
     numbers: &Numbers,
-    places: &mut [Option<Place>],
+    places: &mut [Option<RecordPlace>],
     block: u16,
     complete: bool,
-    place: Place,
+    place: RecordPlace,
 )
     requires size { length places.old ≡ length numbers.now }
     requires distinct { AllPairs (λ a b. a ≢ b) numbers.now }
@@ -50,7 +54,7 @@ pub fn note(
 }
 
 /// Makes each place of a table that of a block without a record.
-pub fn forget(places: &mut [Option<Place>])
+pub fn forget(places: &mut [Option<RecordPlace>])
     ensures size { length places.new ≡ length places.old }
     ensures none { (k : ℕ) → k < length places.old → slice_index_or places.new k None ≡ None }
 {

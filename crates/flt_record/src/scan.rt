@@ -6,10 +6,10 @@ ghost use Rattle.flt_flash.specs.State.{OnlyReads, HasRisenBy};
 ghost use Rattle.flt_sector.specs.Log.{log};
 ghost use Rattle.flt_pages.specs.Told.{TellsOrFails};
 ghost use Rattle.flt_record.specs.Live.{held_in};
-ghost use Rattle.flt_record.specs.Place.{Tells};
+ghost use Rattle.flt_record.specs.RecordPlace.{Tells};
 ghost use Rattle.flt_record.specs.Scan.{told_end};
 
-use crate::place::{Place, forget, note};
+use crate::place::{RecordPlace, forget, note};
 use flt_flash::Flash;
 use flt_pages::{Item, Numbers, PageFault, blank_from, item};
 
@@ -22,7 +22,7 @@ pub fn find_places<F: Flash>(
     sector: u8,
     used: u16,
     numbers: &Numbers,
-    places: &mut [Option<Place>],
+    places: &mut [Option<RecordPlace>],
 ) -> Result<u16, PageFault>
     requires sector { sector < 2 }
     requires least { 2 ≤ used }
@@ -50,7 +50,7 @@ pub fn find_places<F: Flash>(
                 valid,
                 complete,
             } => {
-                let here = Place {
+                let here = RecordPlace {
                     page,
                     length,
                     valid,

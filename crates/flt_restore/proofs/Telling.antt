@@ -13,7 +13,7 @@ use Rattle.flt_restore.specs.Found.{Reads}
 use Rattle.flt_restore.specs.Judging.{told_as, as_told, Tells}
 
 pub no_reads : (state : BlocksState) → Reads state state
-no_reads state = record { values = λ block. refl; follows = no_call state; stays = λ is. is; image = λ is. refl }
+no_reads state = record { values = λ block. refl; follows = no_call state; stays = λ is. is; image = λ is. refl; spent = refl }
 
 pub more_reads : (first second third : BlocksState) → Reads first second → Reads second third → Reads first third
 more_reads first second third one two = record {
@@ -21,6 +21,7 @@ more_reads first second third one two = record {
   follows = more_calls first second third one.follows two.follows;
   stays = λ is. two.stays (one.stays is);
   image = λ is. two.image (one.stays is) ∙ one.image is;
+  spent = two.spent ∙ one.spent;
 }
 
 -- reads leave one map of contents

@@ -2,7 +2,7 @@
 use Rattle.std.specs.Prelude.{ℕ, ◌≤◌, ◌<◌, IsFalse, IsSomeAnd}
 use Rattle.flt_flash.specs.Content.{Content, missing, invalid, bytes}
 use Rattle.flt_flash.specs.Blocks.{BlocksState}
-use Rattle.flt_flash.specs.Calls.{Follows, SameImage, SameValues}
+use Rattle.flt_flash.specs.Calls.{Follows, SameImage, SameSpent, SameValues}
 use Rattle.flt_flash.specs.declared.blocks.Found.{Found}
 use Rattle.flt_flash.specs.declared.blocks.Found.TheVariants.{Bytes as FoundBytes, Missing as FoundMissing, Invalid as FoundInvalid}
 use Rattle.flt_nvm.specs.declared.got.Got.{Got}
@@ -27,10 +27,10 @@ size_found FoundMissing = 0
 size_found FoundInvalid = 0
 
 -- a read gave no more bytes than a block has
-abbrev pub IsWithin : Got → Type 0
-IsWithin (GotBytes length copy) = length ≤ 128
-IsWithin GotMissing = Unit {0}
-IsWithin GotInvalid = Unit {0}
+abbrev pub IsShortRead : Got → Type 0
+IsShortRead (GotBytes length copy) = length ≤ 128
+IsShortRead GotMissing = Unit {0}
+IsShortRead GotInvalid = Unit {0}
 
 -- a block of one copy, and an index that it has
 abbrev pub IsIndexOf : Kind → ℕ → Type 0
@@ -41,9 +41,10 @@ IsIndexOf (Dataset indices) index = index < indices
 abbrev pub IsSingle : ℕ → ℕ → Type 0
 IsSingle id index = IsSomeAnd (block_in block_table id) (λ block. IsIndexOf block.kind index)
 
--- any number of reads, which change no block; they leave the image of a driver that is not stale
+-- any number of reads, which change no block and use no sequence number; they leave the image of a driver that is not stale
 pub record Reads (before after : BlocksState) : Type 0 where
   pub values : SameValues before after
   pub follows : Follows before after
   pub stays : IsFalse before.is_stale → IsFalse after.is_stale
   pub image : IsFalse before.is_stale → SameImage before after
+  pub spent : SameSpent before after

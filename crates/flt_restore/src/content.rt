@@ -2,7 +2,7 @@
 ghost use Rattle.std.specs.Prelude.{◌≡◌, ◌≤◌, ℕ, List, length, take};
 ghost use Rattle.flt_flash.specs.Content.{Content};
 ghost use Rattle.flt_nvm.specs.Leaves.{GotOf};
-ghost use Rattle.flt_restore.specs.Found.{content_of, IsWithin};
+ghost use Rattle.flt_restore.specs.Found.{content_of, IsShortRead};
 
 use arrayvec::ArrayVec;
 use flt_image::BlockBytes;
@@ -31,7 +31,7 @@ fn first_bytes(out: &[u8; 128], length: usize) -> BlockBytes
 
 /// What was got, whose bytes stand at the start of `out`.
 pub(crate) fn held_in(got: Got, out: &[u8; 128]) -> Held
-    requires { IsWithin got }
+    requires { IsShortRead got }
     ensures { (copy : ℕ) (content : Content) (before : List ℕ) → GotOf copy content got before out.now → content_of result ≡ content }
 {
     match got {

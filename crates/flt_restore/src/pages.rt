@@ -1,6 +1,6 @@
 //! How many pages the records of an image take beyond the configuration's own.
 ghost use Rattle.std.specs.Prelude.{◌≡◌, ◌≤◌};
-ghost use Rattle.flt_flash.specs.Blocks.{pages_of as pages_of_content, record_pages};
+ghost use Rattle.flt_flash.specs.Blocks.{pages_of, record_pages};
 ghost use Rattle.flt_flash.specs.Calls.{found_of};
 ghost use Rattle.flt_flash.specs.Content.{Content};
 ghost use Rattle.flt_generation.specs.Excess.{is_own_part, is_own_application, own_pages};
@@ -29,9 +29,9 @@ fn record_pages(length: usize) -> u32
 }
 
 /// The pages of the record that gives a block the content of which a read would find this.
-pub(crate) fn pages_of(found: Found) -> u32
+pub(crate) fn found_pages(found: Found) -> u32
     requires { size_found found ≤ 128 }
-    ensures pages { (content : Content) → found ≡ found_of content → result ≡ pages_of_content content }
+    ensures pages { (content : Content) → found ≡ found_of content → result ≡ pages_of content }
     ensures most { result ≤ 6 }
 {
     match found {

@@ -1,6 +1,6 @@
 // Start-up's reading: the image is judged block by block, in the order of its definition.
 ghost use Rattle.std.specs.Prelude.{◌≡◌, IfOk, IfErr, OnOk, Err, IsErrOf, IsTrue, IsFalse};
-ghost use Rattle.flt_flash.specs.Calls.{Follows, SameImage, SameValues};
+ghost use Rattle.flt_flash.specs.Calls.{Follows, SameImage, SameSpent, SameValues};
 ghost use Rattle.flt_nvm.specs.Driver.{driver_of, table_of};
 ghost use Rattle.flt_image.specs.Table.{block_table};
 ghost use Rattle.flt_restore.specs.declared.fault.StartFault.TheVariants.{Flash, SequenceSpent};
@@ -47,6 +47,7 @@ pub fn restore<B: Blocks + Drop>(
     ensures unread { IsErrOf result Flash → IsImageUnread config.now (driver_of nvm.old) (driver_of nvm.new) }
     ensures values { SameValues (driver_of nvm.old) (driver_of nvm.new) }
     ensures image { SameImage (driver_of nvm.old) (driver_of nvm.new) }
+    ensures spent { SameSpent (driver_of nvm.old) (driver_of nvm.new) }
     ensures follows { Follows (driver_of nvm.old) (driver_of nvm.new) }
     ensures table { table_of nvm.new ≡ table_of nvm.old }
 {

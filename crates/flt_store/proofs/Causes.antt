@@ -11,7 +11,7 @@ use Rattle.flt_flash.specs.declared.blocks.BlockFault.TheVariants.{Flash, Full, 
 use Rattle.flt_flash.proofs.CallsInARow.{no_call, more_calls}
 use Rattle.flt_config.specs.declared.config.Config.{Config}
 use Rattle.flt_nvm.specs.Table.{number_of}
-use Rattle.flt_nvm.specs.Leaves.{FailsThrice as FailsInThree, Gives, GivesBoth}
+use Rattle.flt_nvm.specs.Leaves.{FlashTakesThree, Gives, GivesBoth}
 use Rattle.flt_generation.specs.Layout.{numbers, commit_id, first_commit, second_commit}
 use Rattle.flt_generation.specs.Excess.{own_pages, excess, IsBorne}
 use Rattle.flt_generation.specs.Laws.{IsGiven}
@@ -37,7 +37,7 @@ writes_on before middle after result first then_ = record {
   mounted = λ has. then_.mounted (first.once_mounted has);
 }
 
-module _ (before after : BlocksState) (result : Result (Unit {0}) BlockFault) (calls : Calls before after result) (three : FailsInThree before after result) where
+module _ (before after : BlocksState) (result : Result (Unit {0}) BlockFault) (calls : Calls before after result) (three : FlashTakesThree before after result) where
   not_mounted : IsTrue before.has_mounted → (sector page : ℕ) → IsErrOf result (Damaged sector page) → ⊥
   not_mounted has sector page told = let none = (calls.damaged sector page told).1 in absurd (cc (has, none))
 

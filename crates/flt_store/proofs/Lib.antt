@@ -15,3 +15,4 @@ pub mod Marks
 pub mod Beginning
 pub mod Faults
 pub mod Dark
+pub mod OutOfNumbers

@@ -4,7 +4,7 @@ use Rattle.std.specs.Prelude.{IfSome, IsSomeAnd}
 use Rattle.flt_nvm.specs.declared.table.Kind.{Kind}
 use Rattle.flt_nvm.specs.declared.table.Kind.TheVariants.{Native, Redundant, Dataset}
 use Rattle.flt_nvm.specs.declared.table.BlockCfg.{BlockCfg}
-use Rattle.flt_nvm.specs.Table.{block_in, indices_of, ByKind, AsKept, HasIndex, Holds, IsRedundant}
+use Rattle.flt_nvm.specs.Table.{block_in, indices_of, ByKind, AsKept, HasIndex, FitsBlock, IsRedundant}
 use Rattle.flt_generation.specs.Layout.{mark_id, commit_id, first_part, end_part, first_application, applications, part_of}
 use Rattle.flt_generation.specs.Form.{part_length}
 use Rattle.flt_image.specs.Table.{row, block_table}
@@ -17,7 +17,7 @@ module _ (table : List BlockCfg) (is : table ≡ block_table) where
   has_index : (id index length : ℕ) (kind : Kind) → block_in block_table id ≡ Some (row kind length id) → index < indices_of kind → HasIndex table id index
   has_index id index length kind at within = subst (λ (found : Option BlockCfg). IsSomeAnd found (λ block. index < indices_of block.kind)) (row_in id (Some (row kind length id)) at) within
 
-  holds : (id size length : ℕ) (kind : Kind) → block_in block_table id ≡ Some (row kind length id) → size ≤ length → Holds table id size
+  holds : (id size length : ℕ) (kind : Kind) → block_in block_table id ≡ Some (row kind length id) → size ≤ length → FitsBlock table id size
   holds id size length kind at within = subst (λ (found : Option BlockCfg). IsSomeAnd found (λ block. size ≤ block.length)) (row_in id (Some (row kind length id)) at) within
 
   kept_as : (id length : ℕ) (kind : Kind) (Single Both : Type 0) → block_in block_table id ≡ Some (row kind length id) → AsKept table id Single Both → ByKind kind Single Both
@@ -26,7 +26,7 @@ module _ (table : List BlockCfg) (is : table ≡ block_table) where
   pub mark_index : HasIndex table mark_id 0
   mark_index = has_index mark_id 0 8 Native mark_row (omega arith)
 
-  pub mark_fits : (size : ℕ) → size ≤ 8 → Holds table mark_id size
+  pub mark_fits : (size : ℕ) → size ≤ 8 → FitsBlock table mark_id size
   mark_fits size within = holds mark_id size 8 Native mark_row within
 
   pub mark_alone : (Single Both : Type 0) → AsKept table mark_id Single Both → Single
@@ -38,7 +38,7 @@ module _ (table : List BlockCfg) (is : table ≡ block_table) where
   pub commit_twice : IsRedundant table commit_id
   commit_twice = subst (λ (found : Option BlockCfg). IsSomeAnd found (λ block. block.kind ≡ Redundant)) (row_in commit_id (Some (row Redundant 26 commit_id)) commit_row) refl
 
-  pub commit_fits : (size : ℕ) → size ≤ 26 → Holds table commit_id size
+  pub commit_fits : (size : ℕ) → size ≤ 26 → FitsBlock table commit_id size
   commit_fits size within = holds commit_id size 26 Redundant commit_row within
 
   pub commit_both : (Single Both : Type 0) → AsKept table commit_id Single Both → Both
@@ -48,7 +48,7 @@ module _ (table : List BlockCfg) (is : table ≡ block_table) where
     pub part_index : (index : ℕ) → index ≤ 1 → HasIndex table id index
     part_index index small = has_index id index (part_length (part_of id)) (Dataset 2) (part_row id low high) (omega (arith, small))
 
-    pub part_fits : (size : ℕ) → size ≤ part_length (part_of id) → Holds table id size
+    pub part_fits : (size : ℕ) → size ≤ part_length (part_of id) → FitsBlock table id size
     part_fits size within = holds id size (part_length (part_of id)) (Dataset 2) (part_row id low high) within
 
     pub part_alone : (Single Both : Type 0) → AsKept table id Single Both → Single
@@ -58,7 +58,7 @@ module _ (table : List BlockCfg) (is : table ≡ block_table) where
     pub application_index : HasIndex table (first_application + block) 0
     application_index = has_index (first_application + block) 0 32 Native (application_row block within) (omega arith)
 
-    pub application_fits : (size : ℕ) → size ≤ 32 → Holds table (first_application + block) size
+    pub application_fits : (size : ℕ) → size ≤ 32 → FitsBlock table (first_application + block) size
     application_fits size short = holds (first_application + block) size 32 Native (application_row block within) short
 
     pub application_alone : (Single Both : Type 0) → AsKept table (first_application + block) Single Both → Single

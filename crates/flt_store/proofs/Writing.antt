@@ -26,15 +26,15 @@ use Rattle.flt_store.proofs.Causes.{both_within, borne_stays}
 use Rattle.flt_store.proofs.Saving.{settled, blocks_hold, committed, interrupted, kept_low, kept_application}
 
 module _ (c : Config) (current : Option Commit) (next : Commit) (bytes_of : ℕ → List ℕ) where
-  abbrev Holds : (ℕ → Content) → ℕ → Type 0
-  Holds value id = value (number_of id (index_in next id)) ≡ bytes (bytes_of id)
+  abbrev StandsNamed : (ℕ → Content) → ℕ → Type 0
+  StandsNamed value id = value (number_of id (index_in next id)) ≡ bytes (bytes_of id)
 
   pub written_more : WritesWithin c current next → (now : ℕ) (before after : ℕ → Content) → OnlyNewBlock c current next bytes_of now before after
       → (IsTrue (is_written c current next now) → after (number_of now (index_in next now)) ≡ bytes (bytes_of now))
       → ((id : ℕ) → id < now → IsTrue (is_written c current next id) → before (number_of id (index_in next id)) ≡ bytes (bytes_of id))
       → (id : ℕ) → id < now + 1 → IsTrue (is_written c current next id) → after (number_of id (index_in next id)) ≡ bytes (bytes_of id)
   written_more within now before after only here earlier id below written = elim (cases_eq id now) [
-    | inl same ↦ subst (Holds after) (sym same) (here (subst (λ (n : ℕ). IsTrue (is_written c current next n)) same written))
+    | inl same ↦ subst (StandsNamed after) (sym same) (here (subst (λ (n : ℕ). IsTrue (is_written c current next n)) same written))
     | inr apart ↦ ⊎_elim
         (λ kept. kept ∙ earlier id (omega (arith, below, apart)) written)
         (λ new.

@@ -7,3 +7,4 @@ pub mod Keeping
 pub mod Store
 pub mod Start
 pub mod Dark
+pub mod Spent

@@ -58,6 +58,10 @@ module _ {B : Type 0} {b : Ghosts B} where
     pub settled : IsTrue (is_settled store) → IsStarted c (driver_of store).value (commit_of store) held
     pub known : IsTrue (is_settled store) → Knows c (kept_of store) held.state
 
+  -- a fact of the two generations that the image of a running store holds
+  abbrev pub WhileRunning : Config → Store B b → (Generation → Generation → Type 0) → Type 0
+  WhileRunning c store fact = (held spare : Generation) → IsRunning c held spare store → fact held spare
+
   -- both copies name the generation from which a save goes on, of which the store keeps what it knows
   pub record IsReady (c : Config) (g : Generation) (store : Store B b) : Type 0 where
     pub served : IsServed c (driver_of store)
@@ -78,8 +82,8 @@ module _ {B : Type 0} {b : Ghosts B} where
     pub commit : (commit : Commit) → HasCommit c (driver_of before).value commit → commit_of after ≡ Some commit
     pub known : KnowsNamed c (commit_of after) (kept_of after) held.state
 
-  -- a start-up after a save that failed: both copies name the generation from which the next save goes on
-  pub record Settles (c : Config) (held spare : Generation) (before after : Store B b) : Type 0 where
+  -- a start-up after a save that failed chose the generation from which the next save goes on: both copies name it
+  pub record Chooses (c : Config) (held spare : Generation) (before after : Store B b) : Type 0 where
     pub chosen : Generation
     pub is : IsChosen held spare chosen before after
     pub ready : IsReady c chosen after

@@ -10,6 +10,7 @@ ghost use Rattle.flt_generation.specs.Holding.{MarkAllows};
 ghost use Rattle.flt_image.specs.Table.{block_table};
 ghost use Rattle.flt_store.specs.Cause.{Writes};
 ghost use Rattle.flt_store.specs.Dark.{IsMarkUnwritten};
+ghost use Rattle.flt_store.specs.Spent.{IsMarkStuck};
 ghost use Rattle.flt_store.specs.Started.{HasMark, IsMarkTried};
 
 use flt_flash::{BlockFault, Blocks};
@@ -28,6 +29,7 @@ pub(crate) fn write_missing_mark<B: Blocks + Drop>(
     ensures others { OthersKept mark_number (driver_of nvm.old) (driver_of nvm.new) }
     ensures fresh { OnOk result (IsFalse (driver_of nvm.new).is_stale) }
     ensures unwritten { IsErrOf result BlockFault.Flash → IsMarkUnwritten (driver_of nvm.old) (driver_of nvm.new) }
+    ensures stuck { (c : Config) → mark.now ≡ mark_of c → IsErrOf result BlockFault.SequenceSpent → IsMarkStuck c (driver_of nvm.old) (driver_of nvm.new) }
     ensures writes { Writes (driver_of nvm.old) (driver_of nvm.new) result }
     ensures table { table_of nvm.new ≡ table_of nvm.old }
 {

@@ -13,6 +13,7 @@ ghost use Rattle.flt_image.specs.Table.{block_table};
 ghost use Rattle.flt_store.specs.Cause.{IsWithinOwn, Writes};
 ghost use Rattle.flt_store.specs.Dark.{IsUnrestarted};
 ghost use Rattle.flt_store.specs.Keeping.{IsOfFirst};
+ghost use Rattle.flt_store.specs.Spent.{IsCommitStuck};
 ghost use Rattle.flt_store.specs.Started.{HasMark, IsStarted, AgreeButForCommit, StartsEither};
 
 use flt_config::ValidConfig;
@@ -72,6 +73,7 @@ pub(crate) fn repair_by<B: Blocks + Drop>(
     ensures within { IsWithinOwn config.now (driver_of nvm.old).value (driver_of nvm.new).value }
     ensures unmended { (g : Generation) → Holds config.now (driver_of nvm.old).value (holding bytes.now) g
         → IsErrOf result BlockFault.Flash → IsUnmended (driver_of nvm.old) (driver_of nvm.new) (number_of commit_id (2 - copy)) (holding bytes.now) }
+    ensures stuck { IsErrOf result BlockFault.SequenceSpent → IsCommitStuck (driver_of nvm.old) (driver_of nvm.new) }
     ensures writes { (g : Generation) → Holds config.now (driver_of nvm.old).value (holding bytes.now) g → Writes (driver_of nvm.old) (driver_of nvm.new) result }
     ensures follows { Follows (driver_of nvm.old) (driver_of nvm.new) }
     ensures table { table_of nvm.new ≡ table_of nvm.old }

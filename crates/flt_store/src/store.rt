@@ -51,7 +51,7 @@ fn number_in(commit: &Option<Commit>) -> u32
 }
 
 impl<B: Blocks + Drop> Store<B> {
-    ghost use Rattle.flt_store.specs.Store.{driver_of, commit_of, kept_of, is_settled, numbered, IsReady, IsRunning, IsLast, IsUndisturbed, Leaves, Saves, Settles};
+    ghost use Rattle.flt_store.specs.Store.{driver_of, commit_of, kept_of, is_settled, numbered, IsReady, IsRunning, IsLast, IsUndisturbed, Leaves, Saves, Chooses, WhileRunning};
 
     /// A store over the blocks of an image: the table is `block_table`'s, over a driver that was made with `fee_numbers`. It is
     /// not started.
@@ -70,13 +70,13 @@ impl<B: Blocks + Drop> Store<B> {
 
     // Finds out which generation stands, and what its blocks have, where a save failed.
     fn settle(&mut self, config: &ValidConfig) -> Result<(), SaveFault>
-        ensures settles { (held spare : Generation) → IsRunning config.now held spare self.old → OnOk result (Settles config.now held spare self.old self.new) }
-        ensures failed { (held spare : Generation) (state : Persist) → IsRunning config.now held spare self.old → OnErr result (Leaves config.now held spare state self.old self.new) }
-        ensures flash { (held spare : Generation) → IsRunning config.now held spare self.old → IsErrOf result SaveFault.Flash → FailsThrice (driver_of self.old) (driver_of self.new) }
-        ensures unrestarted { (held spare : Generation) → IsRunning config.now held spare self.old → IsErrOf result SaveFault.Flash → IsUnrestarted (driver_of self.old) (driver_of self.new) }
+        ensures settles { WhileRunning config.now self.old (λ held spare. OnOk result (Chooses config.now held spare self.old self.new)) }
+        ensures failed { (state : Persist) → WhileRunning config.now self.old (λ held spare. OnErr result (Leaves config.now held spare state self.old self.new)) }
+        ensures flash { WhileRunning config.now self.old (λ held spare. IsErrOf result SaveFault.Flash → FailsThrice (driver_of self.old) (driver_of self.new)) }
+        ensures unrestarted { WhileRunning config.now self.old (λ held spare. IsErrOf result SaveFault.Flash → IsUnrestarted (driver_of self.old) (driver_of self.new)) }
         ensures not_spent { IsErrOf result SaveFault.Spent → ⊥ }
         ensures at_once { IsTrue (is_settled self.old) → IsErr result → ⊥ }
-        ensures sequence { (held spare : Generation) → IsRunning config.now held spare self.old → IsErrOf result SaveFault.SequenceSpent → IsStuck (driver_of self.new) }
+        ensures sequence { WhileRunning config.now self.old (λ held spare. IsErrOf result SaveFault.SequenceSpent → IsStuck (driver_of self.new)) }
         ensures applications { SameApplications (driver_of self.old).value (driver_of self.new).value }
         ensures unsettled { OnErr result (IsFalse (is_settled self.new)) }
         ensures still { IsTrue (is_settled self.old) → self.new ≡ self.old }
@@ -145,29 +145,29 @@ impl<B: Blocks + Drop> Store<B> {
     /// `Spent` comes where the generation before has the number 2^32 - 1.
     pub fn save(&mut self, config: &ValidConfig, state: &Persist) -> Result<u32, SaveFault>
         requires { Fits config.now state.now }
-        ensures saved { (held spare : Generation) → IsRunning config.now held spare self.old → IfOk result (λ number. Saves config.now held spare state.now number self.old self.new) }
-        ensures failed { (held spare : Generation) → IsRunning config.now held spare self.old → OnErr result (Leaves config.now held spare state.now self.old self.new) }
-        ensures flash { (held spare : Generation) → IsRunning config.now held spare self.old → IsErrOf result SaveFault.Flash → FailsThrice (driver_of self.old) (driver_of self.new) }
-        ensures unsaved { (held spare : Generation) → IsRunning config.now held spare self.old → IsErrOf result SaveFault.Flash → IsUnsaved config.now (is_settled self.old) (driver_of self.old) (driver_of self.new) }
-        ensures spent { (held spare : Generation) → IsRunning config.now held spare self.old → IsErrOf result SaveFault.Spent → IsLast config.now held spare self.old self.new }
-        ensures last { (held spare : Generation) → IsRunning config.now held spare self.old → IsTrue (is_settled self.old) → held.number ≡ 4294967295 → result ≡ Err SaveFault.Spent }
-        ensures sequence { (held spare : Generation) → IsRunning config.now held spare self.old → IsErrOf result SaveFault.SequenceSpent → IsStuck (driver_of self.new) }
+        ensures saved { WhileRunning config.now self.old (λ held spare. IfOk result (λ number. Saves config.now held spare state.now number self.old self.new)) }
+        ensures failed { WhileRunning config.now self.old (λ held spare. OnErr result (Leaves config.now held spare state.now self.old self.new)) }
+        ensures flash { WhileRunning config.now self.old (λ held spare. IsErrOf result SaveFault.Flash → FailsThrice (driver_of self.old) (driver_of self.new)) }
+        ensures unsaved { WhileRunning config.now self.old (λ held spare. IsErrOf result SaveFault.Flash → IsUnsaved config.now (is_settled self.old) (driver_of self.old) (driver_of self.new)) }
+        ensures spent { WhileRunning config.now self.old (λ held spare. IsErrOf result SaveFault.Spent → IsLast config.now held spare self.old self.new) }
+        ensures last { WhileRunning config.now self.old (λ held spare. IsTrue (is_settled self.old) → held.number ≡ 4294967295 → result ≡ Err SaveFault.Spent) }
+        ensures sequence { WhileRunning config.now self.old (λ held spare. IsErrOf result SaveFault.SequenceSpent → IsStuck (driver_of self.new)) }
         ensures applications { SameApplications (driver_of self.old).value (driver_of self.new).value }
         ensures settled { OnOk result (IsTrue (is_settled self.new)) }
         ensures unsettled { OnErr result (IsFalse (is_settled self.new)) }
 
         // A block whose bytes stayed stands where it stood; where a save failed before, unless the flash failed three times in this one.
         // The first save writes each block at index 0.
-        ensures places { (held spare : Generation) → IsRunning config.now held spare self.old → IsUndisturbed self.old self.new
-            → OnOk result (KeepsPlaces config.now held.state state.now (driver_of self.old).value (driver_of self.new).value) }
-        ensures first { (held spare : Generation) → IsRunning config.now held spare self.old → held.number ≡ 0 → OnOk result (StandAtZero config.now (driver_of self.new).value) }
+        ensures places { WhileRunning config.now self.old (λ held spare. IsUndisturbed self.old self.new
+            → OnOk result (KeepsPlaces config.now held.state state.now (driver_of self.old).value (driver_of self.new).value)) }
+        ensures first { WhileRunning config.now self.old (λ held spare. held.number ≡ 0 → OnOk result (StandAtZero config.now (driver_of self.new).value)) }
 
         // What a save costs that follows no failed one.
-        ensures by_changes { (held spare : Generation) → IsRunning config.now held spare self.old → IsTrue (is_settled self.old) → held.number ≢ 0 → IsFalse (driver_of self.old).is_stale
+        ensures by_changes { WhileRunning config.now self.old (λ held spare. IsTrue (is_settled self.old) → held.number ≢ 0 → IsFalse (driver_of self.old).is_stale
             → NoFault (driver_of self.old) (driver_of self.new) → NoErase (driver_of self.old) (driver_of self.new)
-            → CostsAtMost (6 + changed_pages config.now (block_bytes held.state) (block_bytes state.now)) (driver_of self.old) (driver_of self.new) }
-        ensures at_most { (held spare : Generation) → IsRunning config.now held spare self.old → IsTrue (is_settled self.old) → IsFalse (driver_of self.old).is_stale
-            → NoFault (driver_of self.old) (driver_of self.new) → CostsAtMost ((length (used_ids config.now) + 2) * (2 * config.now.pages + 4)) (driver_of self.old) (driver_of self.new) }
+            → CostsAtMost (6 + changed_pages config.now (block_bytes held.state) (block_bytes state.now)) (driver_of self.old) (driver_of self.new)) }
+        ensures at_most { WhileRunning config.now self.old (λ held spare. IsTrue (is_settled self.old) → IsFalse (driver_of self.old).is_stale
+            → NoFault (driver_of self.old) (driver_of self.new) → CostsAtMost ((length (used_ids config.now) + 2) * (2 * config.now.pages + 4)) (driver_of self.old) (driver_of self.new)) }
         ensures fresh { OnOk result (IsFalse (driver_of self.new).is_stale) }
         ensures follows { Follows (driver_of self.old) (driver_of self.new) }
     {

@@ -1,4 +1,4 @@
-//! Saves of a state of 64 events and a full memory.
+//! Saves and start-ups of a state of 64 events and a full memory.
 ghost use Rattle.std.specs.Prelude.{◌≡◌, IfSome};
 ghost use Rattle.flt_nvm.specs.Driver.{driver_of as driver_beneath, table_of};
 ghost use Rattle.flt_generation.specs.Layout.{numbers};
@@ -112,6 +112,27 @@ fn save_again<B: Blocks + Drop>(
     Some(())
 }
 
+// Starts up again and again on the image of a save.
+fn start_again<B: Blocks + Drop>(
+    store: &mut Store<B>,
+    config: &ValidConfig,
+    times: u16,
+) -> Option<()>
+    requires { HasRoom config.now (driver_of store.old).room }
+{
+    let mut found = initial(config);
+    store.start_up(config, &mut found).ok()?;
+    let state = full_state(config);
+    if !fits(config, &state) {
+        return None;
+    }
+    store.save(config, &state).ok()?;
+    for _turn in 0..times {
+        store.start_up(config, &mut found).ok()?;
+    }
+    Some(())
+}
+
 // Blocks by identifier over a blank flash whose sectors have the configuration's pages.
 fn blocks_over(alloc: Global, config: &ValidConfig) -> Option<Nvm<Fee<FlashMem>>>
     ensures numbers { IfSome result (λ nvm. (driver_beneath nvm).numbers ≡ numbers) }
@@ -129,6 +150,14 @@ fn blocks_over(alloc: Global, config: &ValidConfig) -> Option<Nvm<Fee<FlashMem>>
         Ok(driver) => Some(Nvm::make(driver, block_table(alloc).ok()?)),
         Err(_) => None,
     }
+}
+
+/// Starts up on a blank flash, saves a state whose every block is new, and then starts up again as often as asked.
+pub fn run_start_ups(alloc: Global, times: u16) -> Option<FlashMem> {
+    let config = config()?;
+    let mut store = Store::make(blocks_over(alloc, &config)?);
+    start_again(&mut store, &config, times)?;
+    Some(store.retire().retire())
 }
 
 /// Starts up on a blank flash, saves a state whose every block is new, and then saves as often as asked what the word names.

@@ -1,8 +1,8 @@
-//! Makes mounts, reads, writes or saves on the flash in memory, and prints how many operations of the flash and how many erases they
-//! took. `bench/storage.sh` takes the time and the instructions.
+//! Makes mounts, reads, writes, start-ups or saves on the flash in memory, and prints how many operations of the flash and how many
+//! erases they took. `bench/storage.sh` takes the time and the instructions.
 //!
-//! The words are `mounts`, `reads`, `writes`, `saves-of-nothing`, `saves-of-one` or `saves-of-all`, and how often. It stands on
-//! `flt_fee` and `flt_store`, and keeps no contract of its own.
+//! The words are `mounts`, `reads`, `writes`, `start-ups`, `saves-of-nothing`, `saves-of-one` or `saves-of-all`, and how often. It
+//! stands on `flt_fee` and `flt_store`, and keeps no contract of its own.
 #![tactic(auto)]
 
 mod blocks;
@@ -10,7 +10,7 @@ mod generations;
 
 use blocks::run_blocks;
 use flt_flash::{Flash, FlashMem};
-use generations::run_saves;
+use generations::{run_saves, run_start_ups};
 use std::process::ExitCode;
 use std::rt::Env;
 use std::{env, io};
@@ -36,6 +36,7 @@ fn run(rt: &impl AllocGlobal, words: &[String]) -> Option<FlashMem> {
     let what = what.as_str();
     match what {
         "mounts" | "reads" | "writes" => run_blocks(rt.alloc(), what, times),
+        "start-ups" => run_start_ups(rt.alloc(), times),
         _ => run_saves(rt.alloc(), what, times),
     }
 }

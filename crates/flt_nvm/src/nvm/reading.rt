@@ -8,13 +8,14 @@ impl<B: Blocks + Drop> Nvm<B> {
     ghost use Rattle.std.specs.Prelude.{◌≡◌, ◌≢◌, ◌⊎◌, ◌≤◌, ◌-◌, ℕ, length, Some, None, Result, IsFalse, IsErrOf, IfOk, OnOk, OnErr};
     ghost use Rattle.flt_flash.specs.Content.{bytes as holding};
     ghost use Rattle.flt_flash.specs.State.{HasRisenBy};
-    ghost use Rattle.flt_flash.specs.Calls.{Calls, Follows, NeverFull, ReadCosts, SameImage, SameValues};
+    ghost use Rattle.flt_flash.specs.Calls.{Calls, Follows, NeverFull, ReadCosts, SameImage, SameSpent, SameValues};
     ghost use Rattle.flt_flash.specs.declared.blocks.BlockFault.TheVariants.{Flash, Full, SequenceSpent};
-    ghost use Rattle.flt_nvm.specs.Table.{number_of, AsKept, HasIndex, Holds, IsRedundant};
-    ghost use Rattle.flt_nvm.specs.Leaves.{FailsThrice, Gives, GotOf, GotOfBoth, GotOfSecond, HasNoBytes};
+    ghost use Rattle.flt_nvm.specs.Table.{number_of, AsKept, HasIndex, FitsBlock, IsRedundant};
+    ghost use Rattle.flt_nvm.specs.Leaves.{FlashTakesThree, Gives, GotOf, GotOfBoth, GotOfSecond, HasNoBytes};
     ghost use Rattle.flt_nvm.specs.declared.got.Got.{Got};
     ghost use Rattle.flt_flash.specs.declared.blocks.BlockFault.{BlockFault};
     ghost use Rattle.flt_nvm.specs.Reads.{IsUnread, IsUnmended, LooksInAJob, LooksInTwoJobs, MendsInTwoJobs, ReadsBothCosts};
+    ghost use Rattle.flt_nvm.specs.Tries.{ReadsAlone};
     ghost use Rattle.flt_nvm.specs.Driver.{driver_of, table_of};
 
     /// Reads copy 1 or copy 2 of a redundant block alone, in one job, to the start of `out`. What lies past its bytes, and all of
@@ -26,14 +27,9 @@ impl<B: Blocks + Drop> Nvm<B> {
         ensures job { LooksInAJob (number_of id (copy - 1)) (driver_of self.old) (driver_of self.new) result }
         ensures got { IfOk result (λ got. GotOf copy ((driver_of self.old).value (number_of id (copy - 1))) got out.old out.new) }
         ensures nothing { OnErr result (out.new ≡ out.old) }
-        ensures values { SameValues (driver_of self.old) (driver_of self.new) }
-        ensures calls { Calls (driver_of self.old) (driver_of self.new) result }
-        ensures never_full { NeverFull result }
-        ensures settled { OnOk result (IsFalse (driver_of self.new).is_stale) }
-        ensures stale { IsFalse (driver_of self.old).is_stale → IsFalse (driver_of self.new).is_stale }
-        ensures image { IsFalse (driver_of self.old).is_stale → SameImage (driver_of self.old) (driver_of self.new) }
+        ensures reads { ReadsAlone (driver_of self.old) (driver_of self.new) result }
         ensures costs { ReadCosts (driver_of self.old) (driver_of self.new) (number_of id (copy - 1)) }
-        ensures three { FailsThrice (driver_of self.old) (driver_of self.new) result }
+        ensures three { FlashTakesThree (driver_of self.old) (driver_of self.new) result }
         ensures table { table_of self.new ≡ table_of self.old }
     {
         let number = self.number(id, copy - 1);
@@ -56,6 +52,7 @@ impl<B: Blocks + Drop> Nvm<B> {
         ensures damaged { (sector page : ℕ) → IsErrOf result (BlockFault.Damaged sector page) → ((driver_of self.old).damage ≡ Some (sector, page)) × IsFalse (driver_of self.old).has_mounted }
         ensures refuses_damage { OnOk result ((driver_of self.old).damage ≡ None) }
         ensures never_full { NeverFull result }
+        ensures spent { SameSpent (driver_of self.old) (driver_of self.new) }
         ensures settled { OnOk result (IsFalse (driver_of self.new).is_stale) }
         ensures stale { IsFalse (driver_of self.old).is_stale → IsFalse (driver_of self.new).is_stale }
         ensures image { IsFalse (driver_of self.old).is_stale → SameImage (driver_of self.old) (driver_of self.new) }
@@ -75,16 +72,11 @@ impl<B: Blocks + Drop> Nvm<B> {
         requires { IsRedundant (table_of self.old) id }
         ensures got { IfOk result (λ got. GotOfBoth (driver_of self.old) (driver_of self.new) id got out.old out.new) }
         ensures nothing { OnErr result (out.new ≡ out.old) }
-        ensures values { SameValues (driver_of self.old) (driver_of self.new) }
-        ensures calls { Calls (driver_of self.old) (driver_of self.new) result }
-        ensures never_full { NeverFull result }
-        ensures settled { OnOk result (IsFalse (driver_of self.new).is_stale) }
-        ensures stale { IsFalse (driver_of self.old).is_stale → IsFalse (driver_of self.new).is_stale }
-        ensures image { IsFalse (driver_of self.old).is_stale → SameImage (driver_of self.old) (driver_of self.new) }
+        ensures reads { ReadsAlone (driver_of self.old) (driver_of self.new) result }
         ensures costs { ReadsBothCosts (driver_of self.old) (driver_of self.new) id }
         ensures jobs { LooksInTwoJobs id (driver_of self.old) (driver_of self.new) result }
         ensures unread { IsErrOf result Flash → IsUnread (driver_of self.old) (driver_of self.new) id }
-        ensures three { FailsThrice (driver_of self.old) (driver_of self.new) result }
+        ensures three { FlashTakesThree (driver_of self.old) (driver_of self.new) result }
         ensures table { table_of self.new ≡ table_of self.old }
     {
         match self.read_copy(id, 1, out) {
@@ -103,15 +95,10 @@ impl<B: Blocks + Drop> Nvm<B> {
         requires { HasIndex (table_of self.old) id index }
         ensures got { IfOk result (λ got. AsKept (table_of self.old) id (GotOf 1 ((driver_of self.old).value (number_of id index)) got out.old out.new) (GotOfBoth (driver_of self.old) (driver_of self.new) id got out.old out.new)) }
         ensures nothing { OnErr result (out.new ≡ out.old) }
-        ensures values { SameValues (driver_of self.old) (driver_of self.new) }
-        ensures calls { Calls (driver_of self.old) (driver_of self.new) result }
-        ensures never_full { NeverFull result }
-        ensures settled { OnOk result (IsFalse (driver_of self.new).is_stale) }
-        ensures stale { IsFalse (driver_of self.old).is_stale → IsFalse (driver_of self.new).is_stale }
-        ensures image { IsFalse (driver_of self.old).is_stale → SameImage (driver_of self.old) (driver_of self.new) }
+        ensures reads { ReadsAlone (driver_of self.old) (driver_of self.new) result }
         ensures costs { AsKept (table_of self.old) id (ReadCosts (driver_of self.old) (driver_of self.new) (number_of id index)) (ReadsBothCosts (driver_of self.old) (driver_of self.new) id) }
         ensures jobs { AsKept (table_of self.old) id (LooksInAJob (number_of id index) (driver_of self.old) (driver_of self.new) result) (LooksInTwoJobs id (driver_of self.old) (driver_of self.new) result) }
-        ensures three { FailsThrice (driver_of self.old) (driver_of self.new) result }
+        ensures three { FlashTakesThree (driver_of self.old) (driver_of self.new) result }
 
         // Of a redundant block, `Flash` comes only where neither copy gave its bytes.
         ensures unread { IsErrOf result Flash → AsKept (table_of self.old) id (HasRisenBy 3 (driver_of self.old).device.faults (driver_of self.new).device.faults) (IsUnread (driver_of self.old) (driver_of self.new) id) }
@@ -134,14 +121,14 @@ impl<B: Blocks + Drop> Nvm<B> {
         requires most_copy { copy ≤ 2 }
         requires holds { (driver_of self.old).value (number_of id (copy - 1)) ≡ holding bytes.now }
         requires least { 1 ≤ length bytes.now }
-        requires fits { Holds (table_of self.old) id (length bytes.now) }
+        requires fits { FitsBlock (table_of self.old) id (length bytes.now) }
         ensures first { OnOk result ((driver_of self.new).value (number_of id 0) ≡ holding bytes.now) }
         ensures second { OnOk result ((driver_of self.new).value (number_of id 1) ≡ holding bytes.now) }
         ensures gives { Gives (driver_of self.old) (driver_of self.new) (number_of id (2 - copy)) (holding bytes.now) (length bytes.now) result }
         ensures calls { Calls (driver_of self.old) (driver_of self.new) result }
         ensures settled { OnOk result (IsFalse (driver_of self.new).is_stale) }
         ensures jobs { MendsInTwoJobs Got (number_of id (2 - copy)) (holding bytes.now) (length bytes.now) (driver_of self.old) (driver_of self.new) result }
-        ensures three { FailsThrice (driver_of self.old) (driver_of self.new) result }
+        ensures three { FlashTakesThree (driver_of self.old) (driver_of self.new) result }
 
         // `Flash` comes only where the other copy could be neither read nor written, or needs to be written and could not.
         ensures unmended { IsErrOf result Flash → IsUnmended (driver_of self.old) (driver_of self.new) (number_of id (2 - copy)) (holding bytes.now) }

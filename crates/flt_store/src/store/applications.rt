@@ -2,8 +2,9 @@
 ghost use Rattle.std.specs.Prelude.{◌≡◌, ◌≤◌, ◌<◌, ◌+◌, ◌++◌, length, IsFalse, IfOk, OnOk};
 ghost use Rattle.flt_flash.specs.Content.{bytes as holding};
 ghost use Rattle.flt_nvm.specs.Driver.{driver_of as driver_beneath, table_of};
-ghost use Rattle.flt_flash.specs.Calls.{Calls, NeverFull, SameValues};
-ghost use Rattle.flt_nvm.specs.Leaves.{FailsThrice as FailsInThree, Gives, GotOf};
+ghost use Rattle.flt_flash.specs.Calls.{SameValues};
+ghost use Rattle.flt_nvm.specs.Leaves.{FlashTakesThree, Gives, GotOf};
+ghost use Rattle.flt_nvm.specs.Tries.{ReadsAlone};
 ghost use Rattle.flt_generation.specs.Layout.{applications, application_number};
 ghost use Rattle.flt_image.specs.Table.{block_table};
 ghost use Rattle.flt_store.specs.Cause.{Writes};
@@ -53,11 +54,8 @@ fn read_application<B: Blocks + Drop>(
     requires table { table_of nvm.old ≡ block_table }
     requires block { block < applications }
     ensures got { IfOk result (λ got. GotOf 1 ((driver_beneath nvm.old).value (application_number block)) got out.old out.new) }
-    ensures values { SameValues (driver_beneath nvm.old) (driver_beneath nvm.new) }
-    ensures calls { Calls (driver_beneath nvm.old) (driver_beneath nvm.new) result }
-    ensures stays { IsFalse (driver_beneath nvm.old).is_stale → IsFalse (driver_beneath nvm.new).is_stale }
-    ensures never_full { NeverFull result }
-    ensures three { FailsInThree (driver_beneath nvm.old) (driver_beneath nvm.new) result }
+    ensures reads { ReadsAlone (driver_beneath nvm.old) (driver_beneath nvm.new) result }
+    ensures three { FlashTakesThree (driver_beneath nvm.old) (driver_beneath nvm.new) result }
     ensures table { table_of nvm.new ≡ table_of nvm.old }
 {
     nvm.read(FIRST_APPLICATION + block as u16, 0, out)
@@ -68,9 +66,8 @@ impl<B: Blocks + Drop> Store<B> {
     ghost use Rattle.flt_flash.specs.Calls.{Follows, OthersKept};
     ghost use Rattle.flt_nvm.specs.Leaves.{IsEither};
     ghost use Rattle.flt_config.specs.declared.config.Config.{Config};
-    ghost use Rattle.flt_generation.specs.Holding.{Generation};
     ghost use Rattle.flt_store.specs.Cause.{FailsThrice};
-    ghost use Rattle.flt_store.specs.Store.{driver_of, is_settled, Gets, IsRunning};
+    ghost use Rattle.flt_store.specs.Store.{driver_of, is_settled, Gets, IsRunning, WhileRunning};
 
     /// Puts 1 to 32 bytes into application block `block`, which is below the configuration's number of blocks.
     ///
@@ -83,8 +80,8 @@ impl<B: Blocks + Drop> Store<B> {
         ensures put { OnOk result ((driver_of self.new).value (application_number block) ≡ holding bytes.now) }
         ensures either { IsEither (driver_of self.old) (driver_of self.new) (application_number block) (holding bytes.now) }
         ensures others { OthersKept (application_number block) (driver_of self.old) (driver_of self.new) }
-        ensures running { (c : Config) (held spare : Generation) → block < c.blocks → IsRunning c held spare self.old → IsRunning c held spare self.new }
-        ensures flash { (c : Config) (held spare : Generation) → block < c.blocks → IsRunning c held spare self.old → IsErrOf result PutFault.Flash → FailsThrice (driver_of self.old) (driver_of self.new) }
+        ensures running { (c : Config) → block < c.blocks → WhileRunning c self.old (λ held spare. IsRunning c held spare self.new) }
+        ensures flash { (c : Config) → block < c.blocks → WhileRunning c self.old (λ held spare. IsErrOf result PutFault.Flash → FailsThrice (driver_of self.old) (driver_of self.new)) }
         ensures sequence { IsErrOf result PutFault.SequenceSpent → IsTrue ((driver_of self.new).is_stuck (application_number block) (length bytes.now)) }
         ensures settled { is_settled self.new ≡ is_settled self.old }
         ensures fresh { OnOk result (IsFalse (driver_of self.new).is_stale) }
@@ -104,10 +101,10 @@ impl<B: Blocks + Drop> Store<B> {
         out: &mut ArrayVec<u8, APPLICATION>,
     ) -> Result<bool, FlashFailed>
         requires { block < applications }
-        ensures got { (c : Config) (held spare : Generation) → IsRunning c held spare self.old → IfOk result (λ found. Gets ((driver_of self.old).value (application_number block)) found out.new.items) }
-        ensures flash { (c : Config) (held spare : Generation) → IsRunning c held spare self.old → OnErr result (FailsThrice (driver_of self.old) (driver_of self.new)) }
+        ensures got { (c : Config) → WhileRunning c self.old (λ held spare. IfOk result (λ found. Gets ((driver_of self.old).value (application_number block)) found out.new.items)) }
+        ensures flash { (c : Config) → WhileRunning c self.old (λ held spare. OnErr result (FailsThrice (driver_of self.old) (driver_of self.new))) }
         ensures values { SameValues (driver_of self.old) (driver_of self.new) }
-        ensures running { (c : Config) (held spare : Generation) → IsRunning c held spare self.old → IsRunning c held spare self.new }
+        ensures running { (c : Config) → WhileRunning c self.old (λ held spare. IsRunning c held spare self.new) }
         ensures settled { is_settled self.new ≡ is_settled self.old }
         ensures stays { IsFalse (driver_of self.old).is_stale → IsFalse (driver_of self.new).is_stale }
         ensures follows { Follows (driver_of self.old) (driver_of self.new) }

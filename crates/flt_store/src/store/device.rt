@@ -8,8 +8,7 @@ impl<B: Blocks + Drop> Store<B> {
     ghost use Rattle.flt_flash.specs.State.{CanArm};
     ghost use Rattle.flt_flash.specs.Calls.{ArmsDriver, PowersUpDriver};
     ghost use Rattle.flt_config.specs.declared.config.Config.{Config};
-    ghost use Rattle.flt_generation.specs.Holding.{Generation};
-    ghost use Rattle.flt_store.specs.Store.{driver_of, is_settled, IsRunning};
+    ghost use Rattle.flt_store.specs.Store.{driver_of, is_settled, IsRunning, WhileRunning};
 
     /// How often the power may still come back.
     pub fn boots_left(&self) -> u16
@@ -30,7 +29,7 @@ impl<B: Blocks + Drop> Store<B> {
         requires room { (driver_of self.old).device.bench.armed < 64 }
         requires number { CanArm arm }
         ensures arms { ArmsDriver arm (driver_of self.old) (driver_of self.new) }
-        ensures running { (c : Config) (held spare : Generation) → IsRunning c held spare self.old → IsRunning c held spare self.new }
+        ensures running { (c : Config) → WhileRunning c self.old (λ held spare. IsRunning c held spare self.new) }
         ensures settled { is_settled self.new ≡ is_settled self.old }
     {
         self.nvm.arm(arm)

@@ -11,6 +11,7 @@ ghost use Rattle.flt_store.specs.Cause.{HasRoom, Writes};
 ghost use Rattle.flt_store.specs.Started.{IsStarted};
 ghost use Rattle.flt_store.specs.Start.{Begins, IsFoundIn, told_of_mount, told_of_write};
 ghost use Rattle.flt_store.specs.Dark.{IsUnbegun, IsDark, IsOfBlocks, IsMountedAlone};
+ghost use Rattle.flt_store.specs.Spent.{IsBegunStuck, IsOutOfNumbers};
 ghost use Rattle.flt_restore.specs.Unread.{IsImageUnread};
 
 use super::{Store, number_in};
@@ -57,6 +58,7 @@ fn begin_by<B: Blocks + Drop>(
     ensures tried { (held spare g : Generation) → IsSound config.now (driver_beneath nvm.old).value held spare → Begins config.now (driver_beneath nvm.old).value found g
         → OnErr result (OldOrNew config.now (driver_beneath nvm.new).value held spare held) }
     ensures unbegun { (g : Generation) → Begins config.now (driver_beneath nvm.old).value found g → IsErrOf result BlockFault.Flash → IsUnbegun (driver_beneath nvm.old) (driver_beneath nvm.new) }
+    ensures stuck { IsErrOf result BlockFault.SequenceSpent → IsBegunStuck config.now (driver_beneath nvm.old) (driver_beneath nvm.new) }
     ensures writes { (g : Generation) → Begins config.now (driver_beneath nvm.old).value found g → Writes (driver_beneath nvm.old) (driver_beneath nvm.new) result }
     ensures borne { (g : Generation) → Begins config.now (driver_beneath nvm.old).value found g → IsBorne config.now (driver_beneath nvm.new).value }
     ensures fresh { OnOk result (IsFalse (driver_beneath nvm.new).is_stale) }
@@ -89,6 +91,7 @@ impl<B: Blocks + Drop> Store<B> {
         ensures refused { IfErr result (RefusedFor config.now self.old self.new) }
         ensures unready { IsErrOf result StartFault.Flash → IsImageUnread config.now (driver_of self.old) (driver_of self.new) ⊎ IsUnbegun (driver_of self.old) (driver_of self.new) }
         ensures unwritten { IfErr result (λ fault. IsOfBlocks fault → SameImage (driver_of self.old) (driver_of self.new)) }
+        ensures spent { IsErrOf result StartFault.SequenceSpent → IsOutOfNumbers config.now (driver_of self.old) (driver_of self.new) }
         ensures left { (held spare : Generation) → IsSound config.now (driver_of self.old).value held spare → OnErr result (OldOrNew config.now (driver_of self.new).value held spare held) }
         ensures fits { OnOk result (Fits config.now out.new) }
         ensures fresh { OnOk result (IsFalse (driver_of self.new).is_stale) }
@@ -116,14 +119,19 @@ impl<B: Blocks + Drop> Store<B> {
     /// the configuration's pages less two.
     ///
     /// What is answered is what copy 1 of the commit names, or, where that can't be read in three tries, what copy 2 names. Of an
-    /// image that is damaged, or another configuration's, no block is changed, and nothing is written but by the mount. After an error `out` holds anything that fits its
-    /// type, and of a sound image each of the two generations is one of those before.
+    /// image that is damaged, or another configuration's, no block is changed, and nothing is written but by the mount.
+    /// `SequenceSpent` comes where the last sequence number was in use before, or where the mark or a copy of the commit has to be
+    /// written and can't be any more. After an error `out` holds anything that fits its type, and of a sound image each of the two
+    /// generations is one of those before.
     pub fn start_up(&mut self, config: &ValidConfig, out: &mut Persist) -> Result<u32, StartFault>
         requires { HasRoom config.now (driver_of self.old).room }
         ensures started { IfOk result (λ number. Starts config.now number out.new self.old self.new) }
         ensures refused { IfErr result (RefusedFor config.now self.old self.new) }
         ensures dark { IsErrOf result StartFault.Flash → IsDark config.now (driver_of self.old) (driver_of self.new) }
         ensures unwritten { IfErr result (λ fault. IsOfBlocks fault → IsMountedAlone (driver_of self.old) (driver_of self.new)) }
+
+        // No start-up uses a sequence number and then answers that none is left.
+        ensures spent { IsErrOf result StartFault.SequenceSpent → IsOutOfNumbers config.now (driver_of self.old) (driver_of self.new) }
         ensures left { (held spare : Generation) → IsSound config.now (driver_of self.old).value held spare → OnErr result (OldOrNew config.now (driver_of self.new).value held spare held) }
         ensures fits { OnOk result (Fits config.now out.new) }
         ensures fresh { OnOk result (IsFalse (driver_of self.new).is_stale) }

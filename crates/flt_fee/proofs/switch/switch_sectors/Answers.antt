@@ -1,8 +1,8 @@
 use Rattle.std.proofs.Common.{◌+◌, ◌≤◌, ◌∙◌, ℕ, List, sym, subst, arith}
 use Rattle.flt_flash.proofs.Following.{runs_on, one_run}
-use Rattle.flt_record.specs.Holds.{Holds}
+use Rattle.flt_record.specs.LogHolds.{LogHolds}
 use Rattle.flt_record.specs.Live.{held_in, current_pages}
-use Rattle.flt_record.specs.Place.{Tells}
+use Rattle.flt_record.specs.RecordPlace.{Tells}
 use Rattle.flt_fee.proofs.Switching.{switch_unbegun, begun_blank, source_stays, keeps_inactive, active_blank, goes_over, table_over, activation_left}
 use Rattle.flt_fee.proofs.switch.switch_sectors.Goals as goal
 
@@ -38,7 +38,7 @@ returns-in_err-activate-clause-left g c =
     activation_left c.args.used c.args.numbers.now (g.F.Flash.state c.args.flash.now) (g.met.F.Flash.shape c.args.flash.now) c.args.sector c.args.sequence c.requires.sector c.requires.least (omega arith) c.requires.most
     c.requires.current c.requires.sound c.requires.next (g.F.Flash.state c.begin.new.flash) (g.met.F.Flash.shape c.begin.new.flash) c.in_ok-begin.ensures.begins.done
     (g.F.Flash.state c.copy_blocks.new.flash) copies.pages copies.on copies.gates c.in_ok-end.end
-    (subst (λ (p : List (List ℕ)). Holds c.args.used c.args.numbers.now copies.pages c.in_ok-end.end (held_in c.args.used c.args.numbers.now p)) source copies.done)
+    (subst (λ (p : List (List ℕ)). LogHolds c.args.used c.args.numbers.now copies.pages c.in_ok-end.end (held_in c.args.used c.args.numbers.now p)) source copies.done)
     (g.F.Flash.state c.activate.new.flash) c.activate.result c.activate.ensures.appends
 
 pub returns-clause-switched : goal.returns-clause-switched
@@ -49,7 +49,7 @@ returns-clause-switched g c =
     goes_over c.args.used c.args.numbers.now (g.F.Flash.state c.args.flash.now) (g.met.F.Flash.shape c.args.flash.now) c.args.sector c.args.sequence c.requires.sector c.requires.least (omega arith) c.requires.most
     c.requires.current c.requires.sound c.requires.next (g.F.Flash.state c.begin.new.flash) (g.met.F.Flash.shape c.begin.new.flash) c.in_ok-begin.ensures.begins.done
     (g.F.Flash.state c.copy_blocks.new.flash) copies.pages copies.on copies.gates c.in_ok-end.end
-    (subst (λ (p : List (List ℕ)). Holds c.args.used c.args.numbers.now copies.pages c.in_ok-end.end (held_in c.args.used c.args.numbers.now p)) source copies.done)
+    (subst (λ (p : List (List ℕ)). LogHolds c.args.used c.args.numbers.now copies.pages c.in_ok-end.end (held_in c.args.used c.args.numbers.now p)) source copies.done)
     (g.F.Flash.state c.activate.new.flash) c.in_ok-activate.ensures.appends.done
 
 pub returns-clause-left : goal.returns-clause-left
@@ -60,7 +60,7 @@ returns-clause-left g c =
     activation_left c.args.used c.args.numbers.now (g.F.Flash.state c.args.flash.now) (g.met.F.Flash.shape c.args.flash.now) c.args.sector c.args.sequence c.requires.sector c.requires.least (omega arith) c.requires.most
     c.requires.current c.requires.sound c.requires.next (g.F.Flash.state c.begin.new.flash) (g.met.F.Flash.shape c.begin.new.flash) c.in_ok-begin.ensures.begins.done
     (g.F.Flash.state c.copy_blocks.new.flash) copies.pages copies.on copies.gates c.in_ok-end.end
-    (subst (λ (p : List (List ℕ)). Holds c.args.used c.args.numbers.now copies.pages c.in_ok-end.end (held_in c.args.used c.args.numbers.now p)) source copies.done)
+    (subst (λ (p : List (List ℕ)). LogHolds c.args.used c.args.numbers.now copies.pages c.in_ok-end.end (held_in c.args.used c.args.numbers.now p)) source copies.done)
     (g.F.Flash.state c.activate.new.flash) c.activate.result c.activate.ensures.appends
 
 pub returns-clause-runs : goal.returns-clause-runs

@@ -1,10 +1,10 @@
-use Rattle.std.proofs.Common.{◌≡◌}
+use Rattle.std.proofs.Common.{◌≡◌, ℕ, List, length}
 use Rattle.flt_generation.specs.Reading.{with_states}
-use Rattle.flt_image.specs.Taking.{HaveShortCounts}
+use Rattle.flt_image.specs.Taking.{block_states}
 use Rattle.flt_image.proofs.states.set_states.Given as goal
 
 abbrev pub invariant-loop-place : goal.invariant-loop-place
 invariant-loop-place l = record {
-  states : l.states.items ≡ with_states l.bytes l.first l.place l.initial.states.items;
-  short : HaveShortCounts l.initial.states.items → HaveShortCounts l.states.items;
+  states : (held : List ℕ) → l.states ≡ block_states held (length l.states) → l.into.items ≡ with_states held l.first l.place l.initial.into.items;
+  size : length l.into.items ≡ length l.initial.into.items;
 }

@@ -2,7 +2,7 @@ use Rattle.std.proofs.Common.{◌≡◌, ◌<◌, length, arith}
 use Rattle.flt_flash.specs.Image.{sector_at}
 use Rattle.flt_flash.specs.Blocks.{byte_pages}
 use Rattle.flt_flash.proofs.Following.{one_read}
-use Rattle.flt_record.specs.Place.{record_at, bytes_at}
+use Rattle.flt_record.specs.RecordPlace.{record_at, bytes_at}
 use Rattle.flt_record.proofs.Filling.{filled_all}
 use Rattle.flt_record.proofs.PageBytes.{bytes_size}
 use Rattle.flt_record.proofs.Copying.{copy_unread, copy_torn, copied}

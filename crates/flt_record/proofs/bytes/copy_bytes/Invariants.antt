@@ -1,7 +1,7 @@
 use Rattle.std.proofs.Common.{◌+◌, ◌≤◌, ◌*◌}
 use Rattle.flt_flash.specs.Image.{sector_at}
 use Rattle.flt_record.specs.Record.{KeptApart}
-use Rattle.flt_record.specs.Place.{bytes_at}
+use Rattle.flt_record.specs.RecordPlace.{bytes_at}
 use Rattle.flt_record.specs.Recorded.{OnSector}
 use Rattle.flt_record.proofs.Filling.{Filled}
 use Rattle.flt_record.proofs.bytes.copy_bytes.Given as goal

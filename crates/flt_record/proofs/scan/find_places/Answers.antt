@@ -6,7 +6,7 @@ use Rattle.flt_sector.specs.Log.{item_at, log, first_written}
 use Rattle.flt_pages.specs.Told.{TellsOrFails}
 use Rattle.flt_record.specs.Scan.{told_end}
 use Rattle.flt_record.proofs.Scanning.{GoesOn, from_start, item_told, torn_on, kept_on, at_end, at_fault, handed_on, item_fault, blank_fault, blank_end}
-use Rattle.flt_record.specs.declared.place.Place.{Place}
+use Rattle.flt_record.specs.declared.place.RecordPlace.{RecordPlace}
 use Rattle.flt_record.proofs.Finding.{Seeks, seek, seek_on, seek_behind, found_at}
 use Rattle.flt_record.proofs.scan.find_places.Goals as goal
 
@@ -15,7 +15,7 @@ log-init g c = record {
   reads = no_reads (g.F.Flash.state c.args.flash.now);
   goes_on = from_start c.args.used c.args.numbers.now (sector_at (g.F.Flash.state c.args.flash.now).image c.args.sector) c.requires.least;
   size = c.forget.ensures.size ∙ c.requires.size;
-  seeks = λ k within. subst (λ (found : Option Place). Seeks c.args.used c.args.numbers.now (sector_at (g.F.Flash.state c.args.flash.now).image c.args.sector) (get_or c.args.numbers.now k 0) 2 found)
+  seeks = λ k within. subst (λ (found : Option RecordPlace). Seeks c.args.used c.args.numbers.now (sector_at (g.F.Flash.state c.args.flash.now).image c.args.sector) (get_or c.args.numbers.now k 0) 2 found)
       (sym (c.forget.ensures.none k (omega (arith, within, c.requires.size))))
       (seek c.args.used c.args.numbers.now (sector_at (g.F.Flash.state c.args.flash.now).image c.args.sector) (get_or c.args.numbers.now k 0) c.requires.least);
 }
@@ -67,7 +67,7 @@ log-preserved g c =
       goes_on = subst (GoesOn c.args.used c.args.numbers.now pages) next (kept_on c.args.used c.args.numbers.now pages c.log.page c.log.invariant.goes_on c.in-Kept.block c.in-Kept.length c.in-Kept.valid c.in-Kept.complete found);
       size = c.note.ensures.size ∙ c.log.invariant.size;
       seeks = λ k within. subst (λ n. Seeks c.args.used c.args.numbers.now pages (get_or c.args.numbers.now k 0) n (get_or c.note.new.places k None)) next
-          (subst (λ (place : Option Place). Seeks c.args.used c.args.numbers.now pages (get_or c.args.numbers.now k 0) (c.log.page + 2 + byte_pages c.in-Kept.length) place) (sym (c.note.ensures.noted k within))
+          (subst (λ (place : Option RecordPlace). Seeks c.args.used c.args.numbers.now pages (get_or c.args.numbers.now k 0) (c.log.page + 2 + byte_pages c.in-Kept.length) place) (sym (c.note.ensures.noted k within))
           (seek_behind c.args.used c.args.numbers.now pages (get_or c.args.numbers.now k 0) c.log.page (get_or c.log.places k None) (c.log.invariant.seeks k within) c.in-Kept.block c.in-Kept.length c.in-Kept.valid c.in-Kept.complete found));
     }
 

@@ -3,6 +3,7 @@ use Rattle.flt_nvm.specs.Driver.{driver_of}
 use Rattle.flt_generation.proofs.Commits.{read_commit}
 use Rattle.flt_store.proofs.TableUse.{commit_twice, commit_fits}
 use Rattle.flt_store.proofs.Causes.{one_write, borne_stays, writes_as}
+use Rattle.flt_store.proofs.Dark.{err_as}
 use Rattle.flt_store.proofs.Repairing.{one_commit, repaired, copy_within, bytes_of_commit, but_for_copy}
 use Rattle.flt_store.proofs.restarting.repair_by.Goals as goal
 
@@ -58,3 +59,16 @@ returns-in-None-clause-unmended g c = λ h holds flash.
     let none = c.in-None.is in
     let read_as = found.1 in
     absurd (cc (read, none, read_as))
+
+pub returns-in-Err-clause-stuck : goal.returns-in-Err-clause-stuck
+returns-in-Err-clause-stuck g c = λ spent.
+    let told = err_as c.in-Err.fault _ spent in
+    record {
+      copy = c.args.copy;
+      least = c.requires.least;
+      most = c.requires.most;
+      raw = c.args.bytes.now;
+      holds = c.requires.held;
+      needed = c.in-Err.ensures.spent told;
+      stuck = c.in-Err.ensures.gives.spent told;
+    }

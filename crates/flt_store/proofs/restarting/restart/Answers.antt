@@ -42,7 +42,7 @@ repair_by-requires-clause-held g c =
     let raw = take c.in-Ok-Bytes.length c.read.new.out in
     let found = copy_read (driver_of c.args.nvm.now) (driver_of c.read.new.self) c.in-Ok-Bytes.length c.in-Ok-Bytes.copy _ c.read.new.out got in
     let at = at_of (driver_of c.args.nvm.now) (driver_of c.read.new.self) raw c.in-Ok-Bytes.copy found in
-    held_at c.args.config.now (driver_of c.args.nvm.now) (driver_of c.read.new.self) raw c.in-Ok-Bytes.copy c.read.ensures.values at
+    held_at c.args.config.now (driver_of c.args.nvm.now) (driver_of c.read.new.self) raw c.in-Ok-Bytes.copy c.read.ensures.reads.values at
 
 pub returns-in-Ok-clause-started : goal.returns-in-Ok-clause-started
 returns-in-Ok-clause-started g c = λ h s sound mark.
@@ -50,7 +50,7 @@ returns-in-Ok-clause-started g c = λ h s sound mark.
     let raw = take c.in-Ok-Bytes.length c.read.new.out in
     let found = copy_read (driver_of c.args.nvm.now) (driver_of c.read.new.self) c.in-Ok-Bytes.length c.in-Ok-Bytes.copy _ c.read.new.out got in
     let at = at_of (driver_of c.args.nvm.now) (driver_of c.read.new.self) raw c.in-Ok-Bytes.copy found in
-    started_by c.args.config.now (driver_of c.args.nvm.now) (driver_of c.read.new.self) raw c.in-Ok-Bytes.copy c.read.ensures.values at h s sound (driver_of c.repair_by.new.nvm) c.in-Ok.commit found c.repair_by.ensures.follows.counts c.in-Ok.ensures.started
+    started_by c.args.config.now (driver_of c.args.nvm.now) (driver_of c.read.new.self) raw c.in-Ok-Bytes.copy c.read.ensures.reads.values at h s sound (driver_of c.repair_by.new.nvm) c.in-Ok.commit found c.repair_by.ensures.follows.counts c.in-Ok.ensures.started
 
 pub returns-in-Ok-clause-kept : goal.returns-in-Ok-clause-kept
 returns-in-Ok-clause-kept g c = λ number first second.
@@ -59,7 +59,7 @@ returns-in-Ok-clause-kept g c = λ number first second.
     let found = copy_read (driver_of c.args.nvm.now) (driver_of c.read.new.self) c.in-Ok-Bytes.length c.in-Ok-Bytes.copy _ c.read.new.out got in
     let at = at_of (driver_of c.args.nvm.now) (driver_of c.read.new.self) raw c.in-Ok-Bytes.copy found in
     let range = copy_range (driver_of c.args.nvm.now).value raw c.in-Ok-Bytes.copy at in
-    but_for_copy (driver_of c.read.new.self).value (driver_of c.repair_by.new.nvm).value c.in-Ok-Bytes.copy range.0 range.1 c.repair_by.ensures.others number first second ∙ c.read.ensures.values number
+    but_for_copy (driver_of c.read.new.self).value (driver_of c.repair_by.new.nvm).value c.in-Ok-Bytes.copy range.0 range.1 c.repair_by.ensures.others number first second ∙ c.read.ensures.reads.values number
 
 pub returns-in-Err-repair_by-clause-failed : goal.returns-in-Err-repair_by-clause-failed
 returns-in-Err-repair_by-clause-failed g c = λ h s new sound.
@@ -67,7 +67,7 @@ returns-in-Err-repair_by-clause-failed g c = λ h s new sound.
     let raw = take c.in-Ok-Bytes.length c.read.new.out in
     let found = copy_read (driver_of c.args.nvm.now) (driver_of c.read.new.self) c.in-Ok-Bytes.length c.in-Ok-Bytes.copy _ c.read.new.out got in
     let at = at_of (driver_of c.args.nvm.now) (driver_of c.read.new.self) raw c.in-Ok-Bytes.copy found in
-    tried_by c.args.config.now (driver_of c.args.nvm.now) (driver_of c.read.new.self) raw c.in-Ok-Bytes.copy c.read.ensures.values at h s sound (driver_of c.repair_by.new.nvm) new c.repair_by.ensures.within c.repair_by.ensures.other c.repair_by.ensures.others
+    tried_by c.args.config.now (driver_of c.args.nvm.now) (driver_of c.read.new.self) raw c.in-Ok-Bytes.copy c.read.ensures.reads.values at h s sound (driver_of c.repair_by.new.nvm) new c.repair_by.ensures.within c.repair_by.ensures.other c.repair_by.ensures.others
 
 pub returns-in-Err-repair_by-clause-writes : goal.returns-in-Err-repair_by-clause-writes
 returns-in-Err-repair_by-clause-writes g c = λ h s sound.
@@ -75,8 +75,8 @@ returns-in-Err-repair_by-clause-writes g c = λ h s sound.
     let raw = take c.in-Ok-Bytes.length c.read.new.out in
     let found = copy_read (driver_of c.args.nvm.now) (driver_of c.read.new.self) c.in-Ok-Bytes.length c.in-Ok-Bytes.copy _ c.read.new.out got in
     let at = at_of (driver_of c.args.nvm.now) (driver_of c.read.new.self) raw c.in-Ok-Bytes.copy found in
-    let some = some_holds c.args.config.now (driver_of c.args.nvm.now) (driver_of c.read.new.self) raw c.in-Ok-Bytes.copy c.read.ensures.values at h s sound in
-    writes_as (driver_of c.args.nvm.now) (driver_of c.repair_by.new.nvm) _ (writes_on (driver_of c.args.nvm.now) (driver_of c.read.new.self) (driver_of c.repair_by.new.nvm) _ c.read.ensures.calls.follows (c.in-Err-repair_by.ensures.writes some.0 some.1))
+    let some = some_holds c.args.config.now (driver_of c.args.nvm.now) (driver_of c.read.new.self) raw c.in-Ok-Bytes.copy c.read.ensures.reads.values at h s sound in
+    writes_as (driver_of c.args.nvm.now) (driver_of c.repair_by.new.nvm) _ (writes_on (driver_of c.args.nvm.now) (driver_of c.read.new.self) (driver_of c.repair_by.new.nvm) _ c.read.ensures.reads.calls.follows (c.in-Err-repair_by.ensures.writes some.0 some.1))
 
 pub returns-in-Err-repair_by-clause-kept : goal.returns-in-Err-repair_by-clause-kept
 returns-in-Err-repair_by-clause-kept g c = λ number first second.
@@ -85,13 +85,13 @@ returns-in-Err-repair_by-clause-kept g c = λ number first second.
     let found = copy_read (driver_of c.args.nvm.now) (driver_of c.read.new.self) c.in-Ok-Bytes.length c.in-Ok-Bytes.copy _ c.read.new.out got in
     let at = at_of (driver_of c.args.nvm.now) (driver_of c.read.new.self) raw c.in-Ok-Bytes.copy found in
     let range = copy_range (driver_of c.args.nvm.now).value raw c.in-Ok-Bytes.copy at in
-    but_for_copy (driver_of c.read.new.self).value (driver_of c.repair_by.new.nvm).value c.in-Ok-Bytes.copy range.0 range.1 c.repair_by.ensures.others number first second ∙ c.read.ensures.values number
+    but_for_copy (driver_of c.read.new.self).value (driver_of c.repair_by.new.nvm).value c.in-Ok-Bytes.copy range.0 range.1 c.repair_by.ensures.others number first second ∙ c.read.ensures.reads.values number
 
 pub returns-in-Ok-Missing-clause-started : goal.returns-in-Ok-Missing-clause-started
 returns-in-Ok-Missing-clause-started g c = λ h s sound mark.
     let got = commit_both _ c.requires _ _ (rw c.in-Ok-Missing.field-0-is at c.in-Ok-Missing.ensures.got) in
     let first = missing_read ((driver_of c.args.nvm.now).value 16) _ _ got.0 in
-    inl (started_kept c.args.config.now (driver_of c.args.nvm.now).value (driver_of c.read.new.self).value c.read.ensures.values _ h (no_commit c.args.config.now (driver_of c.args.nvm.now).value h s sound mark first got.1))
+    inl (started_kept c.args.config.now (driver_of c.args.nvm.now).value (driver_of c.read.new.self).value c.read.ensures.reads.values _ h (no_commit c.args.config.now (driver_of c.args.nvm.now).value h s sound mark first got.1))
 
 pub returns-in-Ok-Invalid-clause-started : goal.returns-in-Ok-Invalid-clause-started
 returns-in-Ok-Invalid-clause-started g c = λ h s sound mark.
@@ -100,7 +100,7 @@ returns-in-Ok-Invalid-clause-started g c = λ h s sound mark.
     absurd (not_invalid c.args.config.now (driver_of c.args.nvm.now).value h s sound first got.1)
 
 pub returns-in-Err-clause-failed : goal.returns-in-Err-clause-failed
-returns-in-Err-clause-failed g c = λ h s new sound. both_old c.args.config.now (driver_of c.read.new.self).value h s new (sound_kept c.args.config.now (driver_of c.args.nvm.now).value (driver_of c.read.new.self).value h s c.read.ensures.values sound)
+returns-in-Err-clause-failed g c = λ h s new sound. both_old c.args.config.now (driver_of c.read.new.self).value h s new (sound_kept c.args.config.now (driver_of c.args.nvm.now).value (driver_of c.read.new.self).value h s c.read.ensures.reads.values sound)
 
 pub returns-in-Ok-clause-first : goal.returns-in-Ok-clause-first
 returns-in-Ok-clause-first g c =
@@ -131,9 +131,9 @@ returns-in-Err-repair_by-clause-unrestarted g c = λ h s sound flash.
     let found = copy_read start read c.in-Ok-Bytes.length c.in-Ok-Bytes.copy _ c.read.new.out got in
     let at = at_of start read raw c.in-Ok-Bytes.copy found in
     let range = copy_range start.value raw c.in-Ok-Bytes.copy at in
-    let some = some_holds c.args.config.now start read raw c.in-Ok-Bytes.copy c.read.ensures.values at h s sound in
-    let holds = held_at c.args.config.now start read raw c.in-Ok-Bytes.copy c.read.ensures.values at in
-    unrestarted_from start read after c.read.ensures.calls.follows c.read.ensures.values
+    let some = some_holds c.args.config.now start read raw c.in-Ok-Bytes.copy c.read.ensures.reads.values at h s sound in
+    let holds = held_at c.args.config.now start read raw c.in-Ok-Bytes.copy c.read.ensures.reads.values at in
+    unrestarted_from start read after c.read.ensures.reads.calls.follows c.read.ensures.reads.values
     (unmended_at read after raw c.in-Ok-Bytes.copy range.0 range.1 holds (c.in-Err-repair_by.ensures.unmended some.0 some.1 (err_as c.in-Err-repair_by.fault _ flash)))
 
 pub returns-in-Err-clause-unrestarted : goal.returns-in-Err-clause-unrestarted

@@ -6,13 +6,13 @@ use Rattle.flt_code.specs.Word.{IsWord}
 use Rattle.flt_code.specs.declared.words.Word.TheVariants.{Head}
 use Rattle.flt_flash.specs.Blocks.{byte_pages}
 use Rattle.flt_sector.specs.Blocks.{block_value}
-use Rattle.flt_record.specs.Holds.{asked_of, given}
+use Rattle.flt_record.specs.LogHolds.{asked_of, given}
 use Rattle.flt_fee.specs.Mounted.{Stands}
 use Rattle.flt_fee.proofs.Standing.{mounted_stands, stale_mounted, stands_mounted, is_among, current_stays}
 use Rattle.flt_fee.proofs.Appended.{blank_at_end, left_sound, failed_changes, failed_calls, done_calls, done_changes, now_stands}
-use Rattle.flt_record.specs.declared.place.Place.{Place}
+use Rattle.flt_record.specs.declared.place.RecordPlace.{RecordPlace}
 use Rattle.flt_flash.specs.Image.{sector_at}
-use Rattle.flt_record.specs.Place.{Tells}
+use Rattle.flt_record.specs.RecordPlace.{Tells}
 use Rattle.flt_fee.proofs.Placed.{tells_appended}
 use Rattle.flt_fee.proofs.Wearing.{even_same}
 use Rattle.flt_fee.proofs.fee.Fee.append.Goals as goal
@@ -57,8 +57,8 @@ invariant_of-self-in-Ok g c =
     self.is_stale self.has_mounted (self.mounted.mounted c.requires.settled) c.in-Ok.ensures.records in
     let last : self.end + (2 + byte_pages (length c.args.bytes.now)) ≡ self.end + 2 + c.byte_pages.result = omega (arith, c.byte_pages.ensures) in
     let same = with_items_is self.places c.note.new.places (omega (arith, c.note.ensures.size, ap length c.deref_mut.ensures.value, self.places.ok.0)) in
-    let place : Place = record { page = self.end; length = length c.args.bytes.now; valid = c.args.valid } in
-    let noted = subst (λ (places : List (Option Place)). (k : ℕ) → k < length self.numbers → get_or c.note.new.places k None ≡ (if true && (c.args.block == get_or self.numbers k 0) then Some place else get_or places k None)) c.deref_mut.ensures.value
+    let place : RecordPlace = record { page = self.end; length = length c.args.bytes.now; valid = c.args.valid } in
+    let noted = subst (λ (places : List (Option RecordPlace)). (k : ℕ) → k < length self.numbers → get_or c.note.new.places k None ≡ (if true && (c.args.block == get_or self.numbers k 0) then Some place else get_or places k None)) c.deref_mut.ensures.value
     c.note.ensures.noted in
     record {
       within = omega (arith, self.within, c.in-Ok.ensures.records.on.runs.pages);
@@ -66,7 +66,7 @@ invariant_of-self-in-Ok g c =
       sectors = self.sectors;
       distinct = self.distinct;
       sized = ap length same ∙ c.note.ensures.size ∙ ap length c.deref_mut.ensures.value ∙ self.sized;
-      table = λ fresh. subst (λ (places : List (Option Place)). Tells self.numbers places (sector_at after self.sector) (self.end + 2 + c.byte_pages.result) (block_value self.used self.numbers after)) (sym same) (tells_appended self.used self.numbers (g.F.Flash.state self.flash) (g.F.Flash.state c.append_record.new.flash) (g.met.F.Flash.shape self.flash) self.sector self.sequence self.end c.args.block c.args.bytes.now c.args.valid
+      table = λ fresh. subst (λ (places : List (Option RecordPlace)). Tells self.numbers places (sector_at after self.sector) (self.end + 2 + c.byte_pages.result) (block_value self.used self.numbers after)) (sym same) (tells_appended self.used self.numbers (g.F.Flash.state self.flash) (g.F.Flash.state c.append_record.new.flash) (g.met.F.Flash.shape self.flash) self.sector self.sequence self.end c.args.block c.args.bytes.now c.args.valid
           self.sectors (omega (arith, self.least)) stands proper c.in-Ok.ensures.records now self.places.items c.note.new.places (self.table c.requires.settled) place refl noted (self.end + 2 + c.byte_pages.result) last);
       mounted = stands_mounted self.has_mounted (self.mounted.mounted c.requires.settled) self.used self.numbers after self.sector self.sequence (self.end + 2 + c.byte_pages.result) value
           (subst (λ n. Stands self.used self.numbers after self.sector self.sequence n value) last now);

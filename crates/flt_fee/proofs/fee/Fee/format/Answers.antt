@@ -2,11 +2,11 @@ use Rattle.std.proofs.Common.{true, false, List, Option, sym, subst, Err, arith,
 use Rattle.std.proofs.lemmas.List.{with_items_is}
 use Rattle.flt_flash.specs.declared.blocks.BlockFault.TheVariants.{Flash}
 use Rattle.flt_fee.proofs.Standing.{stale_mounted}
-use Rattle.flt_fee.proofs.Formatting.{fresh_mounted, nothing_held, nothing_wrong, nothing_changes, formatting_calls}
+use Rattle.flt_fee.proofs.Formatting.{fresh_mounted, nothing_held, nothing_wrong, nothing_changes, nothing_spent, formatting_calls}
 use Rattle.flt_flash.specs.Image.{sector_at}
 use Rattle.flt_sector.specs.Blocks.{block_value}
-use Rattle.flt_record.specs.declared.place.Place.{Place}
-use Rattle.flt_record.specs.Place.{Tells}
+use Rattle.flt_record.specs.declared.place.RecordPlace.{RecordPlace}
+use Rattle.flt_record.specs.RecordPlace.{Tells}
 use Rattle.flt_record.proofs.Telling.{tells_nothing}
 use Rattle.flt_fee.proofs.fee.Fee.format.Goals as goal
 
@@ -35,7 +35,7 @@ invariant_of-self-in-Ok g c =
       sectors = omega arith;
       distinct = self.distinct;
       sized = ap length same ∙ c.forget.ensures.size ∙ ap length c.deref_mut.ensures.value ∙ self.sized;
-      table = λ fresh. subst (λ (places : List (Option Place)). Tells self.numbers places (sector_at after 0) 2 (block_value self.used self.numbers after)) (sym same) (tells_nothing self.numbers c.forget.new.places (sector_at (g.F.Flash.state c.set_up_flash.new.flash).image 0) 2 (block_value self.used self.numbers (g.F.Flash.state c.set_up_flash.new.flash).image)
+      table = λ fresh. subst (λ (places : List (Option RecordPlace)). Tells self.numbers places (sector_at after 0) 2 (block_value self.used self.numbers after)) (sym same) (tells_nothing self.numbers c.forget.new.places (sector_at (g.F.Flash.state c.set_up_flash.new.flash).image 0) 2 (block_value self.used self.numbers (g.F.Flash.state c.set_up_flash.new.flash).image)
           (nothing_held self.used self.numbers (omega (arith, self.least)) (g.F.Flash.state c.set_up_flash.new.flash).image c.in-Ok.ensures.left)
           (λ k within. c.forget.ensures.none k (omega (arith, within, ap length c.deref_mut.ensures.value, self.sized))));
       mounted = fresh_mounted self.used self.numbers (omega (arith, self.least)) (g.F.Flash.state c.set_up_flash.new.flash).image c.in-Ok.ensures.fresh;
@@ -57,4 +57,16 @@ pub returns-in-Ok-clause-values : goal.returns-in-Ok-clause-values
 returns-in-Ok-clause-values g c =
     let self = c.args.self.now in
     nothing_changes self.used self.numbers (omega (arith, self.least)) (g.F.Flash.state self.flash) (g.F.Flash.state c.set_up_flash.new.flash) c.requires c.in-Ok.ensures.left
+    self.is_stale self.has_mounted false true
+
+pub returns-in-Err-clause-spent : goal.returns-in-Err-clause-spent
+returns-in-Err-clause-spent g c =
+    let self = c.args.self.now in
+    nothing_spent self.used self.numbers (omega (arith, self.least)) (g.F.Flash.state self.flash) (g.F.Flash.state c.set_up_flash.new.flash) c.requires c.in-Err.ensures.left
+    self.is_stale self.has_mounted true self.has_mounted
+
+pub returns-in-Ok-clause-spent : goal.returns-in-Ok-clause-spent
+returns-in-Ok-clause-spent g c =
+    let self = c.args.self.now in
+    nothing_spent self.used self.numbers (omega (arith, self.least)) (g.F.Flash.state self.flash) (g.F.Flash.state c.set_up_flash.new.flash) c.requires c.in-Ok.ensures.left
     self.is_stale self.has_mounted false true

@@ -1,14 +1,14 @@
 use Rattle.std.proofs.Common.{◌∙◌, ◌<◌, List, Option, ap, sym, subst}
 use Rattle.std.specs.Prelude.{sum_by}
-use Rattle.flt_record.specs.declared.place.Place.{Place}
-use Rattle.flt_record.specs.Place.{pages_found}
+use Rattle.flt_record.specs.declared.place.RecordPlace.{RecordPlace}
+use Rattle.flt_record.specs.RecordPlace.{pages_found}
 use Rattle.flt_fee.proofs.Placed.{live_of_table, live_fits}
 use Rattle.flt_fee.proofs.fee.Fee.live.Goals as goal
 
 pub live_pages-requires-clause-most : goal.live_pages-requires-clause-most
 live_pages-requires-clause-most g c =
     let self = c.args.self.now in
-    subst (λ (places : List (Option Place)). sum_by pages_found places < 65536) (sym c.deref.ensures.value)
+    subst (λ (places : List (Option RecordPlace)). sum_by pages_found places < 65536) (sym c.deref.ensures.value)
     (live_fits self.is_stale self.has_mounted c.requires self.used self.numbers (g.F.Flash.state self.flash) (g.met.F.Flash.shape self.flash) self.sector self.sequence self.end self.least self.within self.sectors self.distinct self.mounted self.places.items self.sized (self.table c.requires))
 
 pub returns : goal.returns

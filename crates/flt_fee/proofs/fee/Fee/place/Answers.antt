@@ -1,6 +1,6 @@
 use Rattle.std.proofs.Common.{List, Option, subst}
-use Rattle.flt_record.specs.declared.place.Place.{Place}
-use Rattle.flt_record.specs.Place.{IsPlaceOf}
+use Rattle.flt_record.specs.declared.place.RecordPlace.{RecordPlace}
+use Rattle.flt_record.specs.RecordPlace.{IsPlaceOf}
 use Rattle.flt_fee.proofs.Placed.{placed}
 use Rattle.flt_fee.proofs.fee.Fee.place.Goals as goal
 
@@ -9,4 +9,4 @@ returns g c =
     let self = c.args.self.now in
     placed self.is_stale self.has_mounted c.requires.settled self.used self.numbers (g.F.Flash.state self.flash) (g.met.F.Flash.shape self.flash) self.sector self.sequence self.end self.least self.within self.sectors self.distinct self.mounted self.places.items self.sized (self.table c.requires.settled)
     c.args.block c.place_of.result
-    (subst (λ (places : List (Option Place)). IsPlaceOf self.numbers places c.args.block c.place_of.result) c.deref.ensures.value c.place_of.ensures)
+    (subst (λ (places : List (Option RecordPlace)). IsPlaceOf self.numbers places c.args.block c.place_of.result) c.deref.ensures.value c.place_of.ensures)

@@ -8,7 +8,7 @@ use Rattle.flt_store.proofs.Applying.{borne_on, mark_put, sound_put, started_put
 use Rattle.flt_store.proofs.store.Store.put_block.Goals as goal
 
 pub returns-in-Ok-clause-running : goal.returns-in-Ok-clause-running
-returns-in-Ok-clause-running g c = λ config h s below running.
+returns-in-Ok-clause-running g c = λ config below h s running.
     let before = driver_of c.args.self.now in
     let after = driver_beneath c.write_application.new.nvm in
     let gives = c.write_application.ensures.gives in
@@ -21,7 +21,7 @@ returns-in-Ok-clause-running g c = λ config h s below running.
     }
 
 pub returns-in-Err-clause-running : goal.returns-in-Err-clause-running
-returns-in-Err-clause-running g c = λ config h s below running.
+returns-in-Err-clause-running g c = λ config below h s running.
     let before = driver_of c.args.self.now in
     let after = driver_beneath c.write_application.new.nvm in
     let gives = c.write_application.ensures.gives in
@@ -34,7 +34,7 @@ returns-in-Err-clause-running g c = λ config h s below running.
     }
 
 pub returns-in-Err-clause-flash : goal.returns-in-Err-clause-flash
-returns-in-Err-clause-flash g c = λ config h s below running told.
+returns-in-Err-clause-flash g c = λ config below h s running told.
     let before = driver_of c.args.self.now in
     let after = driver_beneath c.write_application.new.nvm in
     let gives = c.write_application.ensures.gives in

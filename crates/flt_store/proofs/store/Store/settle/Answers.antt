@@ -66,7 +66,7 @@ returns-in-Ok-clause-settles g c = λ h s running.
     (c.in-Ok.ensures.started h s running.sound running.mark)
 
 pub returns-in-Err-clause-failed : goal.returns-in-Err-clause-failed
-returns-in-Err-clause-failed g c = λ h s state running.
+returns-in-Err-clause-failed g c = λ state h s running.
     let before = driver_of c.args.self.now in
     let after = driver_beneath c.restart.new.nvm in
     let left = c.in-Err.ensures.failed h s (numbered (h.number + 1) state) running.sound in

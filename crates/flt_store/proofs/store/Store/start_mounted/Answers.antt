@@ -2,7 +2,7 @@ use Rattle.std.proofs.Common.{◌≡◌, inl, inr, Ok, Err, refl, sym, ◌∙◌
 use Rattle.flt_flash.proofs.CallsInARow.{more_calls}
 use Rattle.flt_nvm.specs.Driver.{driver_of as driver_beneath}
 use Rattle.flt_generation.specs.Holding.{Generation}
-use Rattle.flt_restore.specs.Restored.{generation, IsJudged}
+use Rattle.flt_restore.specs.Restored.{generation, IsJudged, Refuses}
 use Rattle.flt_store.specs.Dark.{IsOfBlocks}
 use Rattle.flt_store.specs.Start.{RefusedFor}
 use Rattle.flt_store.specs.Started.{IsStarted}
@@ -14,9 +14,10 @@ use Rattle.flt_store.proofs.Repairing.{sound_kept, both_old}
 use Rattle.flt_store.proofs.Running.{served_on}
 use Rattle.flt_store.proofs.Beginning.{begins_of, restored_fits, judged_of, judged_in, same_generation, not_spent}
 use Rattle.flt_store.proofs.Faults.{refused_by_reading, refused_by_writing}
-use Rattle.flt_restore.specs.declared.fault.StartFault.TheVariants.{Flash}
+use Rattle.flt_restore.specs.declared.fault.StartFault.TheVariants.{Flash, SequenceSpent}
 use Rattle.flt_store.specs.Start.{told_of_write}
 use Rattle.flt_store.proofs.Dark.{err_as, not_by_write, unbegun_from, was_flash_of_write}
+use Rattle.flt_store.proofs.OutOfNumbers.{begun_stuck_from, was_stuck}
 use Rattle.flt_store.proofs.store.Store.start_mounted.Goals as goal
 
 pub returns-in-Ok-begin_by-clause-started : goal.returns-in-Ok-begin_by-clause-started
@@ -105,3 +106,16 @@ returns-in-Err-clause-unready g c = λ flash. inl (c.in-Err.ensures.unread (err_
 
 pub returns-in-Err-begin_by-clause-unwritten : goal.returns-in-Err-begin_by-clause-unwritten
 returns-in-Err-begin_by-clause-unwritten g c = λ judged. absurd (not_by_write c.in-Err-begin_by.fault (subst IsOfBlocks c.write_fault.ensures judged))
+
+pub returns-in-Err-clause-spent : goal.returns-in-Err-clause-spent
+returns-in-Err-clause-spent g c = λ spent.
+    let same : c.in-Err.fault ≡ SequenceSpent = cc spent in
+    let last = subst (Refuses c.args.config.now (driver_of c.args.self.now) (driver_beneath c.restore.new.nvm)) same (c.restore.ensures.refused c.in-Err.fault c.in-Err.is) in
+    inl (sym c.restore.ensures.spent ∙ last.1)
+
+pub returns-in-Err-begin_by-clause-spent : goal.returns-in-Err-begin_by-clause-spent
+returns-in-Err-begin_by-clause-spent g c = λ spent.
+    let told = c.write_fault.ensures in
+    let is : told_of_write c.in-Err-begin_by.fault ≡ SequenceSpent = cc (spent, told) in
+    let stuck = c.in-Err-begin_by.ensures.stuck (ap Err (was_stuck c.in-Err-begin_by.fault is)) in
+    inr (begun_stuck_from c.args.config.now (driver_of c.args.self.now) (driver_beneath c.restore.new.nvm) (driver_beneath c.begin_by.new.nvm) c.restore.ensures.follows c.restore.ensures.values stuck)

@@ -1,4 +1,4 @@
-use Rattle.std.proofs.Common.{subst, inr}
+use Rattle.std.proofs.Common.{◌≡◌, subst, inr}
 use Rattle.flt_nvm.specs.Driver.{driver_of as driver_beneath}
 use Rattle.flt_store.specs.Dark.{IsOfBlocks}
 use Rattle.flt_store.specs.Store.{driver_of}
@@ -6,6 +6,9 @@ use Rattle.flt_store.proofs.Repairing.{sound_kept, both_old}
 use Rattle.flt_store.proofs.Running.{ok_map}
 use Rattle.flt_store.proofs.Faults.{refused_through, starts_through, err_told}
 use Rattle.flt_store.proofs.Dark.{not_by_mount, unready_from}
+use Rattle.flt_restore.specs.declared.fault.StartFault.TheVariants.{SequenceSpent}
+use Rattle.flt_store.specs.Start.{told_of_mount}
+use Rattle.flt_store.proofs.OutOfNumbers.{not_spent_by_mount, out_of_numbers_from}
 use Rattle.flt_store.proofs.store.Store.start_up.Goals as goal
 
 pub returns-in-Ok-clause-started : goal.returns-in-Ok-clause-started
@@ -39,3 +42,14 @@ returns-in-Ok-clause-unwritten g c =
 
 pub returns-in-Err-clause-unwritten : goal.returns-in-Err-clause-unwritten
 returns-in-Err-clause-unwritten g c = λ judged. absurd (not_by_mount c.in-Err.fault (subst IsOfBlocks c.mount_fault.ensures judged))
+
+pub returns-in-Ok-clause-spent : goal.returns-in-Ok-clause-spent
+returns-in-Ok-clause-spent g c = λ spent.
+    out_of_numbers_from c.args.config.now (driver_of c.args.self.now) (driver_beneath c.start.new.self) (driver_of c.start_mounted.new.self) c.start.ensures.calls.follows c.start.ensures.values c.start.ensures.spent
+    (c.start_mounted.ensures.spent spent)
+
+pub returns-in-Err-clause-spent : goal.returns-in-Err-clause-spent
+returns-in-Err-clause-spent g c = λ spent.
+    let told = c.mount_fault.ensures in
+    let is : told_of_mount c.in-Err.fault ≡ SequenceSpent = cc (spent, told) in
+    absurd (not_spent_by_mount c.in-Err.fault is)

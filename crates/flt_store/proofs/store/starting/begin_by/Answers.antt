@@ -1,4 +1,4 @@
-use Rattle.std.proofs.Common.{◌≡◌, inr, ℕ, ◌-◌, List, refl, sym, subst}
+use Rattle.std.proofs.Common.{◌≡◌, inl, inr, ℕ, ◌-◌, List, refl, sym, subst}
 use Rattle.flt_flash.specs.Content.{bytes}
 use Rattle.flt_generation.specs.Holding.{Holds}
 use Rattle.flt_nvm.specs.Driver.{driver_of}
@@ -59,3 +59,9 @@ returns-in-Err-repair_by-clause-unbegun g c = λ h begins flash.
     let holds = subst (λ (raw : List ℕ). Holds c.args.config.now before.value (bytes raw) h) (sym c.deref.ensures.0) from.0 in
     let stands = subst (λ (raw : List ℕ). before.value (number_of commit_id (copy - 1)) ≡ bytes raw) (sym c.deref.ensures.0) from.1.holds in
     inr (unmended_at before (driver_of c.repair_by.new.nvm) c.deref.result.now copy from.1.least from.1.most stands (c.in-Err-repair_by.ensures.unmended h holds (err_as c.in-Err-repair_by.fault _ flash)))
+
+pub returns-in-Err-clause-stuck : goal.returns-in-Err-clause-stuck
+returns-in-Err-clause-stuck g c = λ spent. inl (c.in-Err.ensures.stuck c.args.config.now c.requires.mark (err_as c.in-Err.fault _ spent))
+
+pub returns-in-Err-repair_by-clause-stuck : goal.returns-in-Err-repair_by-clause-stuck
+returns-in-Err-repair_by-clause-stuck g c = λ spent. inr (c.in-Err-repair_by.ensures.stuck (err_as c.in-Err-repair_by.fault _ spent))
