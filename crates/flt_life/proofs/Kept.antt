@@ -48,19 +48,8 @@ told_more bytes more before answer within =
 
 -- ---- and each lies within as many or more
 
-reply_within_more : (few many : ℕ) → few ≤ many → (reply : KeptReply) → IsReplyWithin few reply → IsReplyWithin many reply
-reply_within_more few many less kept.Taken within = tt
-reply_within_more few many less (kept.Ignored cause) within = tt
-reply_within_more few many less (kept.Shown shown) within = tt
-reply_within_more few many less (kept.Response from size) within = omega (arith, less, within)
-reply_within_more few many less kept.Silent within = tt
-
 within_more : (few many : ℕ) → few ≤ many → (answer : StepAnswer KeptReply) → IsWithin few answer → IsWithin many answer
-within_more few many less (answers.Dem told) within = reply_within_more few many less told.reply within
-within_more few many less (answers.Saved number) within = tt
-within_more few many less (answers.SaveFailed fault) within = tt
-within_more few many less answers.Armed within = tt
-within_more few many less answers.Dark within = tt
+within_more few many less answer within = omega (arith, less, within)
 
 pub all_within_more : (few many : ℕ) → few ≤ many → (before : List (StepAnswer KeptReply)) (answer : StepAnswer KeptReply) → All (IsWithin few) before → IsWithin many answer
     → All (IsWithin many) (before ++ answer ∷ [])

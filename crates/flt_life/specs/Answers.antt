@@ -31,15 +31,23 @@ reply_in bytes (Shown shown) = replies.Shown shown
 reply_in bytes (Response from size) = reply_of (take size (drop from bytes))
 reply_in bytes Silent = replies.Silent
 
+-- where a response that is kept ends, or 0 where there is none
+abbrev pub end_of_reply : KeptReply → ℕ
+end_of_reply (Response from size) = from + size
+end_of_reply _ = 0
+
+-- the same of the response in an answer
+abbrev pub end_of : StepAnswer KeptReply → ℕ
+end_of (Dem told) = end_of_reply told.reply
+end_of _ = 0
+
 -- a response that is kept lies within so many bytes
 abbrev pub IsReplyWithin : ℕ → KeptReply → Type 0
-IsReplyWithin bytes (Response from size) = from + size ≤ bytes
-IsReplyWithin bytes _ = Unit {0}
+IsReplyWithin bytes kept = end_of_reply kept ≤ bytes
 
 -- the same of the response in an answer
 abbrev pub IsWithin : ℕ → StepAnswer KeptReply → Type 0
-IsWithin bytes (Dem told) = IsReplyWithin bytes told.reply
-IsWithin bytes _ = Unit {0}
+IsWithin bytes answer = end_of answer ≤ bytes
 
 -- the answers that are kept beside these bytes, in their order
 abbrev pub told_by : List ℕ → List (StepAnswer KeptReply) → List Told
