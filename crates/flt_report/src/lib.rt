@@ -15,3 +15,6 @@ mod step;
 pub use boot::put_boot;
 pub use fault::put_script_fault;
 pub use step::put_step;
+
+#[cfg(test)]
+mod tests;
