@@ -1,5 +1,5 @@
 // The line that begins a life.
-ghost use Rattle.std.specs.Prelude.{◌≡◌, ◌≢◌, ◌≤◌, ◌+◌, ◌++◌, ◌∷◌, [], OnOk, OnErr, vec_len};
+ghost use Rattle.std.specs.Prelude.{◌≡◌, ◌≢◌, ◌≤◌, ◌<◌, ◌+◌, ◌++◌, ◌∷◌, [], OnOk, OnErr, vec_len};
 ghost use Rattle.std.specs.Vec.{vec_capacity};
 ghost use Rattle.flt_restore.specs.declared.fault.StartFault.TheVariants as faults;
 ghost use Rattle.flt_report.specs.Boot.{place_text, mark_text, refusal_text, boot_text, boot_line};
@@ -91,11 +91,13 @@ fn put_start(boot: &Boot, out: &mut Vec<u8>)
     }
 }
 
-/// Puts the line that begins the life of this number, counted from 1. Where memory is short it puts nothing.
+/// Puts the line that begins the life of this number, counted from 1. Where memory is short it puts nothing;
+/// with room for 160 bytes it takes none.
 pub fn put_boot(life: u32, boot: &Boot, out: &mut Vec<u8>) -> Result<(), AllocError>
     requires { boot.now ≢ Boot.Refused faults.Flash }
     ensures ok { OnOk result (out.new.items ≡ out.old.items ++ boot_line life boot.now) }
     ensures err { OnErr result (out.new.items ≡ out.old.items) }
+    ensures full { OnErr result (vec_capacity out.old < vec_len out.old + 160) }
 {
     out.reserve(BOOT_ROOM)?;
     put_text(b"life ", out);
