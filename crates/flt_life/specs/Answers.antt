@@ -31,6 +31,16 @@ reply_in bytes (Shown shown) = replies.Shown shown
 reply_in bytes (Response from size) = reply_of (take size (drop from bytes))
 reply_in bytes Silent = replies.Silent
 
+-- where a response that is kept ends, or 0 where there is none
+abbrev pub end_of_reply : KeptReply → ℕ
+end_of_reply (Response from size) = from + size
+end_of_reply _ = 0
+
+-- the same of the response in an answer
+abbrev pub end_of : StepAnswer KeptReply → ℕ
+end_of (Dem told) = end_of_reply told.reply
+end_of _ = 0
+
 -- a response that is kept lies within so many bytes
 abbrev pub is_reply_within : ℕ → KeptReply → Bool
 is_reply_within bytes (Response from size) = nat_le (from + size) bytes

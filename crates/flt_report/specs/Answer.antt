@@ -1,0 +1,63 @@
+-- The line of a step: its words, an arrow and its answer.
+use Rattle.std.specs.Prelude.{ℕ, List, [], ◌∷◌, ◌++◌, Bool, true, false, codes}
+use Rattle.std.specs.Fmt.{decimal, signed_decimal}
+use Rattle.flt_model.specs.declared.call.Cause.{Cause}
+use Rattle.flt_model.specs.declared.call.Cause.TheVariants.{SettingOff, NotStarted}
+use Rattle.flt_model.specs.declared.call.Shown.{Shown as Event}
+use Rattle.flt_model.specs.declared.call.Reply.{Reply}
+use Rattle.flt_model.specs.declared.call.Reply.TheVariants.{Taken, Ignored, Shown, Response, Silent}
+use Rattle.flt_store.specs.declared.fault.SaveFault.{SaveFault}
+use Rattle.flt_store.specs.declared.fault.SaveFault.TheVariants.{Flash, Spent, SequenceSpent}
+use Rattle.flt_script.specs.Bytes.{two_digits, bytes_text}
+use Rattle.flt_script.specs.Step.{step_text}
+use Rattle.flt_script.specs.declared.step.Step.{Step}
+use Rattle.flt_life.specs.declared.answer.StepAnswer.TheVariants.{Dem, Saved, SaveFailed, Armed, Dark}
+use Rattle.flt_life.specs.Answers.{Told}
+
+-- 0 or 1.
+abbrev pub flag_text : Bool → List ℕ
+flag_text false = codes "0"
+flag_text true = codes "1"
+
+-- What is shown of an event: its status byte, the fault detection counter, the failed and the clean cycles, the occurrences
+-- that its entry counts, and whether the fault memory overflowed.
+unfoldable pub shown_text : Event → List ℕ
+shown_text shown =
+    codes "status " ++ two_digits shown.status ++ codes " fdc " ++ signed_decimal shown.fdc
+    ++ codes " failed " ++ decimal shown.failed ++ codes " clean " ++ decimal shown.clean
+    ++ codes " stored " ++ decimal shown.stored ++ codes " overflow " ++ flag_text shown.overflow
+
+-- Why a report was ignored.
+abbrev pub ignored_text : Cause → List ℕ
+ignored_text SettingOff = codes "ignored setting"
+ignored_text NotStarted = codes "ignored cycle"
+
+-- The status machine's reply.
+abbrev pub reply_text : Reply → List ℕ
+reply_text Taken = codes "taken"
+reply_text (Ignored cause) = ignored_text cause
+reply_text (Shown shown) = shown_text shown
+reply_text (Response bytes) = bytes_text bytes.items
+reply_text Silent = codes "silent"
+
+-- Why a state was not saved.
+abbrev pub save_fault_text : SaveFault → List ℕ
+save_fault_text Flash = codes "flash"
+save_fault_text Spent = codes "spent"
+save_fault_text SequenceSpent = codes "sequence"
+
+-- The answer to a step: the machine's reply, the number of the generation that was saved, or one word.
+abbrev pub answer_text : Told → List ℕ
+answer_text (Dem told) = reply_text told.reply
+answer_text (Saved generation) = decimal generation
+answer_text (SaveFailed fault) = save_fault_text fault
+answer_text Armed = codes "armed"
+answer_text Dark = codes "dark"
+
+-- What stands behind the step: an arrow, the answer and the end of the line.
+abbrev pub answer_part : Told → List ℕ
+answer_part told = codes " -> " ++ answer_text told ++ 10 ∷ []
+
+-- The line of a step.
+abbrev pub step_line : Step → Told → List ℕ
+step_line step told = step_text step ++ answer_part told

@@ -1,0 +1,4 @@
+pub mod Answer
+pub mod Boot
+pub mod Line
+pub mod Room

@@ -1,0 +1,115 @@
+// The line of a step.
+ghost use Rattle.std.specs.Prelude.{◌≡◌, ◌≤◌, ◌+◌, ◌++◌, OnOk, OnErr, length, vec_len};
+ghost use Rattle.std.specs.Vec.{vec_capacity};
+ghost use Rattle.flt_script.specs.Bytes.{letter_of};
+ghost use Rattle.flt_script.specs.Step.{step_text};
+ghost use Rattle.flt_life.specs.Answers.{IsWithin, reply_in, with_reply};
+ghost use Rattle.flt_report.specs.Answer.{step_line};
+ghost use Rattle.flt_report.specs.Line.{AppendsFront};
+
+use crate::answer::put_answer;
+use crate::digits::{put_bytes, put_number, put_text};
+use arrayvec::ArrayVec;
+use flt_life::{KeptReply, StepAnswer};
+use flt_model::{REQUEST, Report};
+use flt_script::Step;
+use std::alloc::AllocError;
+use std::fmt::Write;
+
+/// How many bytes the words of a step have at most that the formatter does not write.
+const WORDS_ROOM: usize = 64;
+
+/// Puts the words of a report of this kind, in at most 18 bytes.
+fn put_report(event: u16, report: Report, out: &mut Vec<u8>)
+    requires { vec_len out.old + 18 ≤ vec_capacity out.old }
+    ensures items { out.new.items ≡ out.old.items ++ step_text (Step.Report event report) }
+    ensures len { vec_len out.new ≤ vec_len out.old + 18 }
+    ensures room { vec_capacity out.old ≤ vec_capacity out.new }
+{
+    match report {
+        Report::Passed => put_text(b"pass ", out),
+        Report::Failed => put_text(b"fail ", out),
+        Report::PrePassed => put_text(b"prepass ", out),
+        Report::PreFailed => put_text(b"prefail ", out),
+    }
+    put_number(u32::from(event), out);
+}
+
+/// Puts the words of a signal, in at most 25 bytes.
+fn put_signal(index: u8, value: u16, out: &mut Vec<u8>)
+    requires { vec_len out.old + 25 ≤ vec_capacity out.old }
+    ensures items { out.new.items ≡ out.old.items ++ step_text (Step.Signal index value) }
+    ensures len { vec_len out.new ≤ vec_len out.old + 25 }
+    ensures room { vec_capacity out.old ≤ vec_capacity out.new }
+{
+    put_text(b"sig ", out);
+    put_number(u32::from(index), out);
+    put_text(b" ", out);
+    put_number(u32::from(value), out);
+}
+
+/// Puts the words of a request, in at most 52 bytes.
+fn put_request(tester: u8, bytes: &ArrayVec<u8, REQUEST>, out: &mut Vec<u8>)
+    requires { vec_len out.old + 52 ≤ vec_capacity out.old }
+    ensures items { out.new.items ≡ out.old.items ++ step_text (Step.Request tester bytes.now) }
+    ensures len { vec_len out.new ≤ vec_len out.old + 52 }
+    ensures room { vec_capacity out.old ≤ vec_capacity out.new }
+{
+    put_text(b"t ", out);
+    out.push_reserved(b'A' + tester.min(3));
+    put_text(b" ", out);
+    put_bytes(bytes, out);
+}
+
+/// Puts a step as the formatter prints it.
+fn put_printed(step: &Step, out: &mut Vec<u8>) -> Result<(), AllocError>
+    ensures ok { OnOk result (out.new.items ≡ out.old.items ++ step_text step.now) }
+    ensures err { OnErr result (out.new.items ≡ out.old.items) }
+{
+    let words = format!(in *out.allocator(); "{step}")?;
+    out.extend_from_slice(words.as_bytes())
+}
+
+/// Puts the words of a step. Where memory is short it puts nothing.
+fn put_words(step: &Step, out: &mut Vec<u8>) -> Result<(), AllocError>
+    ensures ok { OnOk result (out.new.items ≡ out.old.items ++ step_text step.now) }
+    ensures err { OnErr result (out.new.items ≡ out.old.items) }
+{
+    out.reserve(WORDS_ROOM)?;
+    match step {
+        Step::Report { event, report } => put_report(*event, *report, out),
+        Step::Show { event } => {
+            put_text(b"show ", out);
+            put_number(u32::from(*event), out);
+        }
+        Step::Cycle { cycle } => {
+            put_text(b"cycle ", out);
+            put_number(u32::from(*cycle), out);
+        }
+        Step::Tick { ticks } => {
+            put_text(b"tick ", out);
+            put_number(u32::from(*ticks), out);
+        }
+        Step::Signal { index, value } => put_signal(*index, *value, out),
+        Step::Request { tester, bytes } => put_request(*tester, bytes, out),
+        Step::Save => put_text(b"save", out),
+        Step::Arming(_) => return put_printed(step, out),
+    }
+    Ok(())
+}
+
+/// Puts the line of a step: its words, ` -> ` and its answer, whose response lies among these bytes. Where memory is short it
+/// puts a front of the line.
+pub fn put_step(
+    step: &Step,
+    answer: &StepAnswer<KeptReply>,
+    responses: &[u8],
+    out: &mut Vec<u8>,
+) -> Result<(), AllocError>
+    requires { IsWithin (length responses.now) answer.now }
+    ensures ok { OnOk result (out.new.items ≡ out.old.items ++ step_line step.now (with_reply (reply_in responses.now) answer.now)) }
+    ensures err { OnErr result (AppendsFront out.old.items out.new.items (step_line step.now (with_reply (reply_in responses.now) answer.now))) }
+{
+    put_words(step, out)?;
+    put_answer(answer, responses, out)
+}
