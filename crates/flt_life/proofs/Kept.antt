@@ -1,7 +1,6 @@
 -- One more answer that a lane keeps.
-use Rattle.std.proofs.Common.{◌≡◌, ℕ, ◌+◌, ◌≤◌, List, [], ◌∷◌, ◌++◌, take, drop, length, refl, ap, arith, ◌∙◌}
-use Rattle.std.specs.Prelude.{All, IsTrue}
-use Rattle.std.proofs.lemmas.Bool.{leb-true, le-leb}
+use Rattle.std.proofs.Common.{◌≡◌, ℕ, ◌+◌, ◌≤◌, List, [], ◌∷◌, ◌++◌, map, take, drop, length, refl, ap, arith, ◌∙◌}
+use Rattle.std.specs.Prelude.{All}
 use Rattle.std.proofs.lemmas.List.{take-append-le, drop-append-le, length-drop, map-append}
 use Rattle.std.proofs.lemmas.List.Elements.{All-head, All-tail, All-cons, All-nil, All-append, All-weaker}
 use Rattle.flt_model.specs.Response.{reply_of}
@@ -9,7 +8,7 @@ use Rattle.flt_life.specs.declared.answer.KeptReply.{KeptReply}
 use Rattle.flt_life.specs.declared.answer.KeptReply.TheVariants as kept
 use Rattle.flt_life.specs.declared.answer.StepAnswer.{StepAnswer}
 use Rattle.flt_life.specs.declared.answer.StepAnswer.TheVariants as answers
-use Rattle.flt_life.specs.Answers.{is_reply_within, IsWithin, reply_in, with_reply, told_by}
+use Rattle.flt_life.specs.Answers.{Told, IsReplyWithin, IsWithin, reply_in, with_reply, told_by}
 
 -- ---- more bytes behind those of the responses change no reply that is kept
 
@@ -20,11 +19,11 @@ piece_stays bytes more from size within =
     let fits : size ≤ length (drop from bytes) = omega (arith, within, rest) in
     ap (take size) (drop-append-le from bytes more front) ∙ take-append-le size (drop from bytes) more fits
 
-reply_stays : (bytes more : List ℕ) (reply : KeptReply) → IsTrue (is_reply_within (length bytes) reply) → reply_in (bytes ++ more) reply ≡ reply_in bytes reply
+reply_stays : (bytes more : List ℕ) (reply : KeptReply) → IsReplyWithin (length bytes) reply → reply_in (bytes ++ more) reply ≡ reply_in bytes reply
 reply_stays bytes more kept.Taken within = refl
 reply_stays bytes more (kept.Ignored cause) within = refl
 reply_stays bytes more (kept.Shown shown) within = refl
-reply_stays bytes more (kept.Response from size) within = ap reply_of (piece_stays bytes more from size (leb-true (from + size) (length bytes) within))
+reply_stays bytes more (kept.Response from size) within = ap reply_of (piece_stays bytes more from size within)
 reply_stays bytes more kept.Silent within = refl
 
 answer_stays : (bytes more : List ℕ) (answer : StepAnswer KeptReply) → IsWithin (length bytes) answer → with_reply (reply_in (bytes ++ more)) answer ≡ with_reply (reply_in bytes) answer
@@ -49,19 +48,8 @@ told_more bytes more before answer within =
 
 -- ---- and each lies within as many or more
 
-reply_within_more : (few many : ℕ) → few ≤ many → (reply : KeptReply) → IsTrue (is_reply_within few reply) → IsTrue (is_reply_within many reply)
-reply_within_more few many less kept.Taken within = refl
-reply_within_more few many less (kept.Ignored cause) within = refl
-reply_within_more few many less (kept.Shown shown) within = refl
-reply_within_more few many less (kept.Response from size) within = let inside = leb-true (from + size) few within in le-leb (from + size) many (omega (arith, less, inside))
-reply_within_more few many less kept.Silent within = refl
-
 within_more : (few many : ℕ) → few ≤ many → (answer : StepAnswer KeptReply) → IsWithin few answer → IsWithin many answer
-within_more few many less (answers.Dem told) within = reply_within_more few many less told.reply within
-within_more few many less (answers.Saved number) within = refl
-within_more few many less (answers.SaveFailed fault) within = refl
-within_more few many less answers.Armed within = refl
-within_more few many less answers.Dark within = refl
+within_more few many less answer within = omega (arith, less, within)
 
 pub all_within_more : (few many : ℕ) → few ≤ many → (before : List (StepAnswer KeptReply)) (answer : StepAnswer KeptReply) → All (IsWithin few) before → IsWithin many answer
     → All (IsWithin many) (before ++ answer ∷ [])

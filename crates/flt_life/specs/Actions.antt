@@ -1,5 +1,5 @@
 -- What the steps of a script do, and what a step needs to be made.
-use Rattle.std.specs.Prelude.{ℕ, List, [], ◌∷◌, ◌++◌, map}
+use Rattle.std.specs.Prelude.{ℕ, ◌+◌, List, [], ◌∷◌, ◌++◌, map}
 use Rattle.flt_flash.specs.State.{CanArm}
 use Rattle.flt_flash.specs.declared.arm.Arm.{Arm as Arming}
 use Rattle.flt_config.specs.declared.config.Config.{Config}

@@ -1,5 +1,5 @@
 -- The answers to steps, with the machine's replies whole.
-use Rattle.std.specs.Prelude.{ℕ, ◌+◌, List, Bool, true, IsTrue, nat_le, map, take, drop, length}
+use Rattle.std.specs.Prelude.{◌≤◌, ℕ, ◌+◌, List, [], ◌∷◌, map, take, drop, length}
 use Rattle.flt_dcm.specs.declared.reply_kind.ReplyKind.{ReplyKind}
 use Rattle.flt_dcm.specs.declared.reply_kind.ReplyKind.TheVariants as kinds
 use Rattle.flt_dcm.specs.ReplyKind.{reply_with}
@@ -42,17 +42,12 @@ end_of (Dem told) = end_of_reply told.reply
 end_of _ = 0
 
 -- a response that is kept lies within so many bytes
-abbrev pub is_reply_within : ℕ → KeptReply → Bool
-is_reply_within bytes (Response from size) = nat_le (from + size) bytes
-is_reply_within bytes _ = true
+abbrev pub IsReplyWithin : ℕ → KeptReply → Type 0
+IsReplyWithin bytes kept = end_of_reply kept ≤ bytes
 
 -- the same of the response in an answer
-abbrev pub is_within : ℕ → StepAnswer KeptReply → Bool
-is_within bytes (Dem told) = is_reply_within bytes told.reply
-is_within bytes _ = true
-
 abbrev pub IsWithin : ℕ → StepAnswer KeptReply → Type 0
-IsWithin bytes answer = IsTrue (is_within bytes answer)
+IsWithin bytes answer = end_of answer ≤ bytes
 
 -- the answers that are kept beside these bytes, in their order
 abbrev pub told_by : List ℕ → List (StepAnswer KeptReply) → List Told

@@ -1,8 +1,8 @@
 // The answers of a lane.
-ghost use Rattle.std.specs.Prelude.{◌≡◌, ◌≤◌, ◌<◌, ◌+◌, ◌++◌, ◌∷◌, [], ℕ, List, All, IfOk, IsTrue, length, vec_len};
+ghost use Rattle.std.specs.Prelude.{◌≡◌, ◌≤◌, ◌<◌, ◌+◌, ◌++◌, ◌∷◌, [], ℕ, List, All, IfOk, length, vec_len};
 ghost use Rattle.std.specs.Vec.{vec_capacity};
 ghost use Rattle.flt_dcm.specs.ReplyKind.{reply_with};
-ghost use Rattle.flt_life.specs.Answers.{is_reply_within, IsWithin, reply_in, with_reply, told_by, told_with, size_of, response_length};
+ghost use Rattle.flt_life.specs.Answers.{IsReplyWithin, IsWithin, reply_in, with_reply, told_by, told_with, size_of, response_length};
 
 use crate::answer::{KeptReply, StepAnswer};
 use flt_dcm::ReplyKind;
@@ -64,7 +64,7 @@ impl LaneReplies {
 fn kept_reply(kind: ReplyKind, response: &[u8], responses: &mut Vec<u8>) -> KeptReply
     requires { vec_len responses.old + size_of kind response.now ≤ vec_capacity responses.old }
     ensures reply { reply_in responses.new.items result ≡ reply_with kind response.now }
-    ensures within { IsTrue (is_reply_within (length responses.new.items) result) }
+    ensures within { IsReplyWithin (length responses.new.items) result }
     ensures more { (more : List ℕ) × (responses.new.items ≡ responses.old.items ++ more) }
     ensures bytes { vec_len responses.new ≡ vec_len responses.old + size_of kind response.now }
     ensures room { vec_capacity responses.old ≤ vec_capacity responses.new }
