@@ -2,11 +2,11 @@
 //!
 //! Stands on `flt_config`, whose check of a configuration ends the reading, on `flt_did`, whose table has the data
 //! identifiers that events may use, on `flt_model`, which declares the reports and bounds a request, and on `flt_flash`,
-//! which declares the faults that a step arms. The layer above
-//! calls `parse`: by its clause `exact` it answers, for all bytes, the script or the first fault that the definition
-//! `script_of` gives; by `served` the table has what the events use; and the type `Script` keeps what the steps have in
-//! common. Read `specs/Text` first, then `specs/Line` (a line by itself), `specs/Refusal` (a line against those before
-//! it, whose sum is `specs/Behind`) and `specs/Script` (the whole); `docs/SCRIPT.md` tells the language in plain words.
+//! which declares the faults that a step arms. The layer above calls `parse`: by its clause `exact` it answers, for all
+//! bytes, the script or the first fault that the definition `script_of` gives; by `served` the table has what the events
+//! use; and the type `Script` keeps what the steps have in common. Read `specs/Text` first, then `specs/Line` (a line by
+//! itself), `specs/Behind` (what the lines before a line gave), `specs/Refusal` (a line against those) and `specs/Script`
+//! (the whole); `docs/SCRIPT.md` tells the language in plain words.
 #![tactic(auto)]
 
 mod arm;

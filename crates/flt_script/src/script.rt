@@ -1,4 +1,4 @@
-ghost use Rattle.std.specs.Prelude.{◌<◌, ◌≤◌, IsTrue, length, sum_by, vec_len};
+ghost use Rattle.std.specs.Prelude.{◌<◌, ◌≤◌, IsTrue, sum_by, vec_len};
 ghost use Rattle.std.specs.List.{list_all};
 ghost use Rattle.flt_script.specs.Step.{are_parts_in, arms_of};
 
