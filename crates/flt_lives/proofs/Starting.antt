@@ -1,6 +1,5 @@
 -- What a start-up finds, and what it leaves where it fails.
-use Rattle.std.proofs.Common.{◌≡◌, List, inl, inr, ⊎_elim, ℕ, ◌+◌, [], ◌∷◌, length, Option, Some, None, Result, Ok, Err, refl, sym, ap, subst, arith, ◌∙◌}
-use Rattle.std.specs.Prelude.{IfOk}
+use Rattle.std.proofs.Common.{◌≡◌, List, inl, inr, ⊎_elim, ℕ, ◌+◌, [], ◌∷◌, length, Option, Some, None, Result, Ok, refl, sym, ap, subst, arith, ◌∙◌}
 use Rattle.std.proofs.lemmas.List.{length-append}
 use Rattle.flt_flash.specs.Blocks.{BlocksState}
 use Rattle.flt_flash.specs.Calls.{Follows, SameValues, PowersUpDriver}

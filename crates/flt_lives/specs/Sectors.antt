@@ -1,12 +1,11 @@
 -- Lives over the two sectors of a flash.
-use Rattle.std.specs.Prelude.{◌≡◌, ℕ, List}
+use Rattle.std.specs.Prelude.{List}
 use Rattle.flt_flash.specs.State.{FlashState}
 use Rattle.flt_sector.specs.Blocks.{current}
 use Rattle.flt_config.specs.declared.config.Config.{Config}
-use Rattle.flt_generation.specs.Holding.{Generation}
 use Rattle.flt_whole.specs.Image.{image_damage, image_blocks}
 use Rattle.flt_fee.specs.Fee.{device_of, is_last}
-use Rattle.flt_life.specs.Moment.{Medium, Moment, moment_at, boot_in}
+use Rattle.flt_life.specs.Moment.{Medium, moment_at, boot_in}
 use Rattle.flt_life.specs.Chain.{LifeView}
 use Rattle.flt_life.specs.Lives.{StaysSound, IsLinked}
 

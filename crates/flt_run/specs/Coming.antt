@@ -1,5 +1,5 @@
 -- What a run comes to by what it reads, before anything is written.
-use Rattle.std.specs.Prelude.{◌≡◌, ℕ, List, Option}
+use Rattle.std.specs.Prelude.{ℕ, List, Option}
 use Rattle.flt_config.specs.declared.config.DidUse.{DidUse}
 use Rattle.flt_flash.specs.State.{FlashState}
 use Rattle.flt_run.specs.declared.command.Command.{Command}

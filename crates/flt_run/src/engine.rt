@@ -6,9 +6,10 @@ ghost use Rattle.flt_lives.specs.Sectors.{FlashStaysSound};
 ghost use Rattle.flt_run.specs.Ending.{IsLivedBy};
 
 use crate::ending::Ending;
+use crate::made::Made;
 use flt_did::{DID_ROWS, DidTable};
 use flt_flash::Bench;
-use flt_lives::run_on_bench;
+use flt_lives::{Run, run_on_bench};
 use flt_script::Script;
 use std::alloc::Global;
 
@@ -34,12 +35,21 @@ pub(crate) fn live<B: Bench + Drop>(
     ensures sound { FlashStaysSound script.config (B.state bench) (B.state result.bench) }
 {
     let Script { config, lives, .. } = script;
-    let run = run_on_bench(alloc, bench, &config, dids, &lives);
-    Performed {
-        ending: run.lives.map(|lived| Ending::Ran {
-            script: lives,
-            lives: lived,
-        }),
-        bench: run.bench,
+    let Run {
+        lives: lived,
+        bench,
+    } = run_on_bench(alloc, bench, &config, dids, &lives);
+    match lived {
+        Some(lived) => Performed {
+            ending: Some(Ending::Ran(Made {
+                script: lives,
+                lives: lived,
+            })),
+            bench,
+        },
+        None => Performed {
+            ending: None,
+            bench,
+        },
     }
 }

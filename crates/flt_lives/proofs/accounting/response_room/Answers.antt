@@ -1,7 +1,7 @@
-use Rattle.std.proofs.Common.{◌≡◌, ◌∙◌, arith, ap}
+use Rattle.std.proofs.Common.{arith}
 use Rattle.std.proofs.lemmas.List.{length-take-le}
 use Rattle.flt_life.specs.Actions.{action_in}
-use Rattle.std.proofs.Common.{take, length}
+use Rattle.std.proofs.Common.{take}
 use Rattle.flt_lives.proofs.Rooms.{responses_most, response_most}
 use Rattle.flt_lives.proofs.accounting.response_room.Goals as goal
 

@@ -10,7 +10,7 @@ use Rattle.flt_store.specs.Store.{driver_of}
 use Rattle.flt_store.specs.Cause.{HasRoom}
 use Rattle.flt_life.specs.declared.action.Action.{Action}
 use Rattle.flt_life.specs.declared.life.Life.{Life}
-use Rattle.flt_life.specs.Actions.{action_in, actions_in, arm_count}
+use Rattle.flt_life.specs.Actions.{actions_in, arm_count}
 use Rattle.flt_life.specs.Chain.{LifeView}
 use Rattle.flt_life.specs.Lives.{ArePlayed, AreEnded, IsPlayed, arms_by, arms_given, first_lives, is_refused, lists, view_of}
 use Rattle.flt_lives.specs.Going.{WereGiven}

@@ -1,5 +1,5 @@
 use Rattle.std.proofs.Common.{◌≡◌, ◌+◌, ◌≤◌, length, drop, map, reverse}
-use Rattle.std.specs.Prelude.{sum_by, vec_len, All, IsFalse}
+use Rattle.std.specs.Prelude.{sum_by, All, IsFalse}
 use Rattle.flt_dcm.specs.Whole.{config_of}
 use Rattle.flt_store.specs.Store.{driver_of}
 use Rattle.flt_store.specs.Cause.{HasRoom}

@@ -7,7 +7,7 @@ use Rattle.flt_turn.specs.declared.vault.Entry.{Entry}
 use Rattle.flt_model.specs.declared.call.Op.{Op}
 use Rattle.flt_life.specs.Actions.{actions_in}
 use Rattle.flt_life.specs.Chain.{LifeView}
-use Rattle.flt_life.specs.Lives.{StaysSound, IsPlayed, view_of}
+use Rattle.flt_life.specs.Lives.{StaysSound, view_of}
 use Rattle.flt_life.specs.Moment.{Moment, moment_of}
 use Rattle.flt_life.specs.declared.life.Boot.TheVariants.{Dark}
 use Rattle.flt_lives.specs.Living.{IsLived, told_in}

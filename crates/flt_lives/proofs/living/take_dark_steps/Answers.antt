@@ -1,4 +1,4 @@
-use Rattle.std.proofs.Common.{◌≡◌, ◌∙◌, ◌+◌, ◌∷◌, [], ◌++◌, reverse, map, ap, sym, subst, refl, take, drop, length, arith, List}
+use Rattle.std.proofs.Common.{◌≡◌, ◌∙◌, ◌+◌, ◌∷◌, [], reverse, map, ap, sym, subst, refl, take, drop, length, arith}
 use Rattle.std.specs.Prelude.{sum_by, All}
 use Rattle.std.proofs.lemmas.List.{reverse-append, map-append}
 use Rattle.std.proofs.lemmas.List.Sums.{sum_by-cons}
@@ -12,7 +12,7 @@ use Rattle.flt_lives.specs.Going.{WereGiven}
 use Rattle.flt_lives.specs.Living.{HasRoomFor}
 use Rattle.flt_lives.proofs.Riding.{goes_further}
 use Rattle.flt_lives.proofs.Giving.{given_further, arms_more}
-use Rattle.flt_lives.proofs.Rooms.{left_more, made_more, one_of, room_after}
+use Rattle.flt_lives.proofs.Rooms.{left_more, made_more, room_after}
 use Rattle.flt_lives.proofs.living.take_dark_steps.Goals as goal
 
 pub take_dark_step-answer-requires-clause-possible : goal.take_dark_step-answer-requires-clause-possible

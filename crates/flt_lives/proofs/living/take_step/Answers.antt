@@ -1,4 +1,4 @@
-use Rattle.std.proofs.Common.{◌≡◌, ◌≤◌, ◌∙◌, ◌∷◌, [], List, reverse, refl, ap, sym, subst, arith}
+use Rattle.std.proofs.Common.{◌≤◌, ◌∙◌, ◌∷◌, [], List, reverse, ap, sym, subst, arith}
 use Rattle.std.proofs.lemmas.List.{reverse-append}
 use Rattle.flt_dcm.specs.Whole.{state_of}
 use Rattle.flt_life.specs.declared.action.Action.{Action}

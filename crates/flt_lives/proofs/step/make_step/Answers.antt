@@ -1,11 +1,9 @@
-use Rattle.std.proofs.Common.{◌≡◌, ◌∷◌, ◌∙◌, ap, sym, subst, refl, ◌≤◌, reverse, length}
+use Rattle.std.proofs.Common.{◌≡◌, ◌∷◌, ◌∙◌, ap, sym, subst, ◌≤◌, reverse, length}
 use Rattle.std.proofs.lemmas.List.{length-reverse}
 use Rattle.flt_dcm.specs.ReplyKind.{reply_with}
-use Rattle.flt_dcm.specs.Unit.{IsRequest}
-use Rattle.flt_model.specs.declared.call.Op.{Op}
 use Rattle.flt_model.specs.declared.call.Reply.{Reply}
 use Rattle.flt_turn.specs.declared.answer.Answer.{Answer}
-use Rattle.flt_life.specs.Answers.{Told, size_of}
+use Rattle.flt_life.specs.Answers.{size_of}
 use Rattle.flt_life.specs.Carried.{answer_at}
 use Rattle.flt_life.specs.Actions.{arms_of}
 use Rattle.flt_lives.specs.Going.{WereGiven}

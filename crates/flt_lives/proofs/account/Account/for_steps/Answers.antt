@@ -1,4 +1,4 @@
-use Rattle.std.proofs.Common.{◌∙◌, arith}
+use Rattle.std.proofs.Common.{arith}
 use Rattle.std.proofs.lemmas.List.{length-map}
 use Rattle.flt_life.specs.Actions.{action_in}
 use Rattle.flt_lives.proofs.Rooms.{calls_most}

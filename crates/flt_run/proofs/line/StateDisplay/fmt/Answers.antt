@@ -1,7 +1,0 @@
-use Rattle.std.proofs.Common.{append_assoc, rules}
-use Rattle.flt_run.specs.Report.{state_text}
-use Rattle.flt_run.proofs.line.StateDisplay.fmt.Goals as goal
-
-pub returns-clause-writes : goal.returns-clause-writes
-unfolding state_text
-returns-clause-writes g c = search (rules, append_assoc)

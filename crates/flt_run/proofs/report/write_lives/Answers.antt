@@ -1,0 +1,72 @@
+use Rattle.std.proofs.Common.{◌≡◌, ◌<◌, ◌+◌, length, get_or, ap, subst, arith, ◌∙◌}
+use Rattle.std.specs.Prelude.{Vec}
+use Rattle.std.specs.Io.KnownBytes.{Appends}
+use Rattle.flt_io.specs.Sink.{AppendsFront}
+use Rattle.flt_script.specs.declared.step.Part.{Part}
+use Rattle.flt_life.specs.Lives.{lists}
+use Rattle.flt_run.specs.Report.{life_text, lives_text}
+use Rattle.flt_run.proofs.Taken.{always_on_err}
+use Rattle.flt_run.proofs.Written.{IsWritten, goes_on, stops, ends, lives_left, lives_more, lives_end}
+use Rattle.flt_run.proofs.report.write_lives.Goals as goal
+
+pub loop-index-preserved : goal.loop-index-preserved
+loop-index-preserved g c =
+    let script = c.args.made.now.script.items in
+    let lives = c.args.made.now.lives.items in
+    let index = c.loop-index.index in
+    let whole = lives_text 1 (lists script) lives in
+    let there = c.loop-index-test.true in
+    let count = c.min-count.ensures in
+    let scripts = c.len.ensures in
+    let script_size = c.args.made.now.script.ok.0 in
+    let many = c.len-2.ensures in
+    let size = c.args.made.now.lives.ok.0 in
+    let in_script : index < length script = omega (arith, there, count, scripts, script_size) in
+    let in_lives : index < length lives = omega (arith, there, count, many, size) in
+    let parts = c.index.result.now in
+    let life = c.index-in-loop-index.result.now in
+    let left = lives_more script lives index parts life in_script in_lives in
+    let on = subst (λ left. IsWritten (g.K.Sink.held c.args.sink.now) (g.K.Sink.held c.loop-index.sink) left whole) left c.loop-index.invariant.written in
+    let piece = life_text (index + 1) (get_or script index parts).items (get_or lives index life) in
+    let same : life_text (index + 1) c.deref.result.now life ≡ piece = λ i. life_text (index + 1) ((c.deref.ensures.value ∙ ap (λ (v : Vec Part _). v.items) c.index.ensures) i) (c.index-in-loop-index.ensures i) in
+    let was = c.loop-index.invariant.later in
+    let later = c.in_ok-write_life.ensures.later in
+    record {
+      later = omega (arith, was, later);
+      written = goes_on _ _ piece (lives_left script lives (index + 1)) whole on _ (subst (Appends (g.K.Sink.held c.loop-index.sink) (g.K.Sink.held c.write_life.new.sink)) same c.in_ok-write_life.ensures.ok);
+    }
+
+pub returns-in_err-write_life-clause-err : goal.returns-in_err-write_life-clause-err
+returns-in_err-write_life-clause-err g c =
+    let script = c.args.made.now.script.items in
+    let lives = c.args.made.now.lives.items in
+    let index = c.loop-index.index in
+    let whole = lives_text 1 (lists script) lives in
+    let there = c.loop-index-test.true in
+    let count = c.min-count.ensures in
+    let scripts = c.len.ensures in
+    let script_size = c.args.made.now.script.ok.0 in
+    let many = c.len-2.ensures in
+    let size = c.args.made.now.lives.ok.0 in
+    let in_script : index < length script = omega (arith, there, count, scripts, script_size) in
+    let in_lives : index < length lives = omega (arith, there, count, many, size) in
+    let parts = c.index.result.now in
+    let life = c.index-in-loop-index.result.now in
+    let left = lives_more script lives index parts life in_script in_lives in
+    let on = subst (λ left. IsWritten (g.K.Sink.held c.args.sink.now) (g.K.Sink.held c.loop-index.sink) left whole) left c.loop-index.invariant.written in
+    let piece = life_text (index + 1) (get_or script index parts).items (get_or lives index life) in
+    let same : life_text (index + 1) c.deref.result.now life ≡ piece = λ i. life_text (index + 1) ((c.deref.ensures.value ∙ ap (λ (v : Vec Part _). v.items) c.index.ensures) i) (c.index-in-loop-index.ensures i) in
+    always_on_err c.from_residual.result
+    (stops _ _ piece (lives_left script lives (index + 1)) whole on _ (subst (AppendsFront (g.K.Sink.held c.loop-index.sink) (g.K.Sink.held c.write_life.new.sink)) same c.in_err-write_life.ensures.err))
+
+pub returns-clause-ok : goal.returns-clause-ok
+returns-clause-ok g c =
+    let script = c.args.made.now.script.items in
+    let lives = c.args.made.now.lives.items in
+    let past = c.loop-index-test.false in
+    let count = c.min-count.ensures in
+    let scripts = c.len.ensures in
+    let script_size = c.args.made.now.script.ok.0 in
+    let many = c.len-2.ensures in
+    let size = c.args.made.now.lives.ok.0 in
+    ends _ _ (lives_left script lives c.loop-index.index) _ (lives_end script lives c.loop-index.index (omega (arith, past, count, scripts, script_size, many, size))) c.loop-index.invariant.written
