@@ -1,9 +1,8 @@
 // Two lanes that are at work at the same time.
-ghost use Rattle.std.specs.Prelude.{◌≡◌, ◌≤◌, ◌∷◌, [], ℕ, All, IfOk, sum_by};
+ghost use Rattle.std.specs.Prelude.{◌≡◌, ◌≤◌, ◌∷◌, [], ℕ, All, IfOk, length, sum_by};
 ghost use Rattle.flt_script.specs.declared.step.Step.TheVariants.{Cycle};
-ghost use Rattle.flt_lane.specs.Life.{lists};
-ghost use Rattle.flt_lane.specs.declared.life.LifePart.TheVariants.{Lanes};
-ghost use Rattle.flt_lane.specs.Lived.{IsPartAmong, calls_in, widths};
+ghost use Rattle.flt_lane.specs.Life.{IsPartAmong, calls_in, lists, parts_of};
+ghost use Rattle.flt_lane.specs.Making.{widths};
 
 use crate::{Gate, LifePart, Lived, run_life};
 use arrayvec::ArrayVec;
@@ -76,8 +75,8 @@ fn lanes(alloc: Global) -> Result<Vec<Vec<Step>>, AllocError>
 
 // A life of one block.
 fn block(alloc: Global) -> Result<Vec<LifePart>, AllocError>
-    ensures among { IfOk result (λ parts. (events : ℕ) → All (IsPartAmong events) parts.items) }
-    ensures calls { IfOk result (λ parts. (sum_by calls_in parts.items ≤ 2) × (widths parts.items ≤ 2)) }
+    ensures among { IfOk result (λ parts. (events : ℕ) → All (IsPartAmong events) (parts_of parts.items)) }
+    ensures calls { IfOk result (λ parts. (sum_by calls_in (parts_of parts.items) ≤ 2) × (widths (parts_of parts.items) ≤ 2) × (length parts.items ≤ 2)) }
 {
     let lanes = lanes(alloc)?;
     let mut parts = Vec::new(alloc);
@@ -127,12 +126,13 @@ fn lanes_overlap(rt: HostRuntime) -> Result<(), Fail> {
         alone: AtomicU64::new(0),
     };
     let parts = block(rt.alloc())?;
-    let Lived { end, told } = run_life(&rt, rt.alloc(), lock, main, &parts, &gate)?;
+    let Lived { end, answers } = run_life(&rt, rt.alloc(), lock, main, &parts, &gate)?;
     assert_eq!(rt; gate.alone.load(Ordering::SeqCst), 0);
     assert_eq!(rt; gate.first.load(Ordering::SeqCst), 1);
     assert_eq!(rt; gate.second.load(Ordering::SeqCst), 1);
     assert_eq!(rt; gate.after.load(Ordering::SeqCst), 2);
     assert_eq!(rt; end.journal.len(), 2);
-    assert_eq!(rt; told.len(), 1);
+    assert_eq!(rt; answers.own.len(), 0);
+    assert_eq!(rt; answers.lanes.len(), 2);
     Ok(())
 }
