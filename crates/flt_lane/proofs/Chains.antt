@@ -1,13 +1,13 @@
 -- What a chain of calls leaves of its seat.
-use Rattle.std.proofs.Common.{◌≡◌, ◌⊎◌, inl, inr, ℕ, zero, suc, ◌≤◌, ◌+◌, List, [], ◌∷◌, ◌++◌, All, length, map, take, get_or, Some, arith, refl, sym, ap, subst, ◌∙◌}
+use Rattle.std.proofs.Common.{◌≡◌, ◌⊎◌, inl, inr, ℕ, zero, suc, ◌≤◌, ◌+◌, List, [], ◌∷◌, ◌++◌, All, length, take, get_or, Some, arith, refl, sym, ap, subst, ◌∙◌}
 use Rattle.std.specs.Prelude.{Contains, slice_get}
-use Rattle.std.proofs.lemmas.List.{length-append, append-nil, append_assoc, map-append}
+use Rattle.std.proofs.lemmas.List.{length-append, append-nil, append_assoc}
 use Rattle.std.proofs.lemmas.List.Elements.{All-contains, All-nil, All-cons}
 use mathlib.Core.List.{IsPrefix}
 use Rattle.flt_turn.specs.declared.vault.Entry.{Entry}
 use Rattle.flt_turn.specs.Call.{IsCall}
 use Rattle.flt_turn.specs.Journal.{entry, ops_of, calls_of}
-use Rattle.flt_turn.specs.Seats.{Seated, Extends, ops_before}
+use Rattle.flt_turn.specs.Seats.{Seated}
 use Rattle.flt_turn.proofs.Journals.{calls_of_own, prefix_refl, prefix_longer}
 use Rattle.flt_lane.specs.Chain.{Call, Chain, Rise, ops_asked}
 use Rattle.flt_lane.specs.Journal.{IsTold, Block, BlockTold}

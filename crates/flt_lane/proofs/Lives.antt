@@ -1,25 +1,21 @@
 -- A life after some of its parts.
-use Rattle.std.proofs.Common.{◌≡◌, inl, inr, ℕ, ◌<◌, ◌≤◌, ◌+◌, ◌^◌, List, [], ◌∷◌, ◌++◌, All, length, map, arith, refl, sym, ap, subst, ◌∙◌}
+use Rattle.std.proofs.Common.{◌≡◌, inl, inr, ◌<◌, ◌≤◌, ◌+◌, ◌^◌, List, [], ◌∷◌, ◌++◌, All, length, map, arith, refl, sym, ap, subst, ◌∙◌}
 use Rattle.std.specs.Prelude.{Vec, vec_len}
 use Rattle.std.specs.Vec.{vec_capacity}
 use Rattle.std.specs.List.{sum_by}
 use Rattle.std.proofs.lemmas.List.Sums.{sum_by-append, sum_by-cons, sum_by_push}
 use Rattle.std.proofs.lemmas.List.{map-append, length-append, length-map, append_assoc, append-nil}
-use Rattle.flt_model.specs.declared.call.Op.{Op}
-use Rattle.flt_model.specs.declared.call.Reply.{Reply}
 use Rattle.flt_script.specs.declared.step.Step.{Step}
 use Rattle.flt_shared.specs.declared.lock.DemLock.{DemLock}
 use Rattle.flt_shared.specs.Call.{Seat, MayBeAsked, reply_after}
 use Rattle.flt_shared.specs.Lock.{IsSeatOf}
-use Rattle.flt_lane.specs.declared.room.LifeRoom.{LifeRoom}
 use Rattle.flt_lane.specs.declared.room.PartRoom.{PartRoom}
 use Rattle.flt_lane.specs.declared.step.StepAnswer.{StepAnswer}
 use Rattle.flt_lane.specs.Calls.{MadeBy}
-use Rattle.flt_lane.specs.Journal.{Block}
 use Rattle.flt_lane.specs.Life.{lists, calls_in}
 use Rattle.flt_lane.specs.Lived.{IsMain, HasLived}
 use Rattle.flt_lane.specs.Making.{PartOf, PartsMake, width, widths}
-use Rattle.flt_lane.specs.Room.{IsPartRoom, IsLifeRoom, part_in, steps_of}
+use Rattle.flt_lane.specs.Room.{part_in}
 use Rattle.flt_lane.specs.Block.{HasStepped, RunsLanes, Gains, HasRunParts}
 use Rattle.flt_lane.proofs.Makings.{widths_more, widths-append, parts_none, parts_more}
 use Rattle.flt_lane.proofs.Parts.{chain_part, lived_none, lived_more}

@@ -1,6 +1,6 @@
 -- What the calls of the main seat leave of it, and where they stand in any journal in which the lock could be closed then.
-use Rattle.std.proofs.Common.{◌≡◌, ℕ, zero, suc, ◌≤◌, ◌+◌, List, [], ◌∷◌, ◌++◌, All, length, map, get_or, Some, arith, refl, sym, ap, subst, ◌∙◌}
-use Rattle.std.specs.Prelude.{Contains, slice_get}
+use Rattle.std.proofs.Common.{◌≡◌, ℕ, zero, suc, ◌≤◌, ◌+◌, List, [], ◌∷◌, ◌++◌, All, length, get_or, arith, refl, sym, ap, subst, ◌∙◌}
+use Rattle.std.specs.Prelude.{Contains}
 use Rattle.std.proofs.lemmas.List.{append-nil, append_assoc, map-append}
 use Rattle.std.proofs.lemmas.List.Elements.{All-contains, All-nil, All-cons, All-append, All-head}
 use mathlib.Core.List.{IsPrefix}
@@ -8,7 +8,7 @@ use Rattle.flt_turn.specs.declared.vault.Entry.{Entry}
 use Rattle.flt_turn.specs.Call.{IsCall}
 use Rattle.flt_turn.specs.Journal.{entry, calls_of}
 use Rattle.flt_turn.specs.Seats.{Seated, Extends}
-use Rattle.flt_turn.proofs.Journals.{calls_of-append, calls_of_own, calls_of_other, prefix_longer}
+use Rattle.flt_turn.proofs.Journals.{calls_of-append, calls_of_other, prefix_longer}
 use Rattle.flt_lane.specs.Chain.{Call, Chain, ops_asked}
 use Rattle.flt_lane.specs.Journal.{Mixes, Block, Follows, asked_of, IsTold, BlockTold}
 use Rattle.flt_lane.specs.Lived.{IsEnded, IsMain, IsWhole, Trails, HasLived}

@@ -16,7 +16,7 @@ use Rattle.flt_lane.specs.declared.step.StepAnswer.TheVariants.{Dem}
 use Rattle.flt_lane.specs.Calls.{MadeBy, op_of_step}
 use Rattle.flt_lane.specs.Chain.{Call, Chain}
 use Rattle.flt_lane.specs.Making.{AreMadeBy}
-use Rattle.flt_lane.specs.Runs.{MakesCalls, Makes, Runs}
+use Rattle.flt_lane.specs.Runs.{MakesCalls, Makes}
 use Rattle.flt_lane.specs.Work.{IsReady, HasRun}
 use Rattle.flt_lane.proofs.Chains.{IsFact, chain_fact, chain_more, chain_of_one}
 use Rattle.flt_lane.proofs.Makings.{made_more}

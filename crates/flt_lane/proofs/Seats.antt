@@ -1,8 +1,7 @@
 -- The seats of a block's lanes, one after the other.
-use Rattle.std.proofs.Common.{◌≡◌, ℕ, zero, suc, ◌<◌, ◌≤◌, ◌+◌, List, [], ◌∷◌, ◌++◌, All, length, map, take, get_or, arith, refl, sym, ap, subst, ◌∙◌}
+use Rattle.std.proofs.Common.{◌≡◌, ℕ, ◌<◌, ◌≤◌, ◌+◌, List, [], ◌∷◌, ◌++◌, All, length, map, arith, refl, sym, ap, subst, ◌∙◌}
 use Rattle.std.specs.Prelude.{Vec, vec_len}
 use Rattle.std.specs.Vec.{vec_capacity}
-use Rattle.std.specs.List.{sum_by}
 use Rattle.std.proofs.lemmas.List.{append-nil, append_assoc, map-append, length-append, length-map}
 use Rattle.std.proofs.lemmas.List.Sums.{sum_by-append, sum_by-cons, sum_by_push}
 use Rattle.std.proofs.lemmas.List.Elements.{All-cons, All-nil, All-head}
@@ -18,7 +17,7 @@ use Rattle.flt_lane.specs.Life.{lists, IsLaneAmong, steps_in}
 use Rattle.flt_lane.specs.Room.{IsLaneRoom, steps_of}
 use Rattle.flt_lane.specs.Work.{IsReady}
 use Rattle.flt_lane.specs.Block.{IsSplit, AreSplit, IsSplitOff, AreJoined}
-use Rattle.flt_lane.proofs.Blocks.{all_left, all_right}
+use Rattle.flt_lane.proofs.Blocks.{all_right}
 
 -- ---- joining
 

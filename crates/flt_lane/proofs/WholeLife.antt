@@ -6,7 +6,7 @@ use Rattle.flt_script.specs.declared.step.Step.{Step}
 use Rattle.flt_turn.specs.declared.vault.Entry.{Entry}
 use Rattle.flt_turn.specs.Journal.{calls_of, Interleaves}
 use Rattle.flt_turn.specs.Seats.{Seated, main_seat}
-use Rattle.flt_shared.specs.Call.{Journal, Seat, reply_after}
+use Rattle.flt_shared.specs.Call.{Journal, Seat}
 use Rattle.flt_lane.specs.declared.step.StepAnswer.{StepAnswer}
 use Rattle.flt_lane.specs.Calls.{MadeBy}
 use Rattle.flt_lane.specs.Journal.{Mixes, Follows}

@@ -1,5 +1,5 @@
 -- How the journal of a life follows its script, and how its steps are answered there.
-use Rattle.std.specs.Prelude.{◌≡◌, ◌⊎◌, ℕ, ◌≤◌, List, All, Vec, IsTrue, map, length}
+use Rattle.std.specs.Prelude.{ℕ, ◌≤◌, List, All, Vec, IsTrue, map, length}
 use Rattle.std.proofs.Common.{inl, inr}
 use Rattle.std.specs.List.{sum_by}
 use Rattle.flt_model.specs.declared.call.Op.{Op}
@@ -13,7 +13,7 @@ use Rattle.flt_lane.specs.declared.life.LifePart.TheVariants.{One, Lanes}
 use Rattle.flt_lane.specs.declared.step.StepAnswer.{StepAnswer}
 use Rattle.flt_lane.specs.Calls.{MadeBy, needs}
 use Rattle.flt_lane.specs.Journal.{Block, Follows, BlockTold}
-use Rattle.flt_lane.specs.Making.{PartOf, PartsMake, widths}
+use Rattle.flt_lane.specs.Making.{PartOf, PartsMake}
 
 -- Lists without where they lie in memory.
 abbrev pub lists : {A X : Type 0} → List (Vec X A) → List (List X)

@@ -1,5 +1,5 @@
 -- What the steps of a lane do: each makes its calls, each call at its own place of the journal, and is answered by them.
-use Rattle.std.specs.Prelude.{◌≡◌, ℕ, ◌+◌, ◌≤◌, List, length}
+use Rattle.std.specs.Prelude.{◌+◌, ◌≤◌, List, length}
 use Rattle.flt_model.specs.declared.call.Op.{Op}
 use Rattle.flt_model.specs.declared.call.Reply.{Reply}
 use Rattle.flt_script.specs.declared.step.Step.{Step}

@@ -46,12 +46,7 @@ impl<M: Machine> Vault<M> {
         reply
     }
     // The same without a buffer: nothing is written.
-    pub(crate) fn apply_alone(
-        &mut self,
-        context: &M::Context,
-        lane: u32,
-        op: M::Op,
-    ) -> M::Reply
+    pub(crate) fn apply_alone(&mut self, context: &M::Context, lane: u32, op: M::Op) -> M::Reply
     where
         M: StepAlone,
         requires serves { M.StepAlone.serves context.now (M.start self.old.machine) }

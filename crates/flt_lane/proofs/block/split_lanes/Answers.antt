@@ -1,6 +1,5 @@
 use Rattle.std.proofs.Common.{length, [], ◌∷◌, ◌∙◌, refl, arith}
 use Rattle.std.proofs.lemmas.List.{length-append}
-use Rattle.flt_lane.specs.Life.{IsLaneAmong}
 use Rattle.flt_lane.specs.Room.{IsLaneRoom}
 use Rattle.flt_lane.proofs.Seats.{splitting_begins, splitting_more, room_for, lane_among, next_of}
 use Rattle.flt_lane.proofs.block.split_lanes.Goals as goal
