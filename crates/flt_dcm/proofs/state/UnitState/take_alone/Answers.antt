@@ -1,6 +1,5 @@
-use Rattle.std.proofs.Common.{◌≡◌, ◌∷◌, sym, subst}
+use Rattle.std.proofs.Common.{◌∷◌, sym, subst}
 use Rattle.flt_model.specs.Life.{Life, History}
-use Rattle.flt_model.specs.declared.call.Op.{Op}
 use Rattle.flt_model.specs.declared.call.Op.TheVariants as ops
 use Rattle.flt_dem.proofs.IdleLemmas.{stands_idle}
 use Rattle.flt_dcm.specs.Unit.{UnitView, Stands}
