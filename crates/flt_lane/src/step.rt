@@ -1,10 +1,10 @@
 //! One step of a lane.
-ghost use Rattle.std.specs.Prelude.{◌≡◌, ◌<◌, IsTrue, IsErr, IfOk, length};
+ghost use Rattle.std.specs.Prelude.{◌≡◌, ◌≤◌, IsTrue, IsErr, IfOk, length};
 ghost use mathlib.Core.Logic.{◌↔◌};
 ghost use Rattle.flt_script.specs.Step.{is_step_among};
 ghost use Rattle.flt_shared.specs.Call.{IsCall};
 ghost use Rattle.flt_shared.specs.Lock.{IsSeatOf};
-ghost use Rattle.flt_lane.specs.Calls.{op_of_step};
+ghost use Rattle.flt_lane.specs.Calls.{op_of_step, needs};
 ghost use Rattle.flt_lane.specs.Runs.{Makes};
 
 use flt_script::Step;
@@ -36,11 +36,11 @@ fn call<R: Wait>(rt: &R, dem: &DemLock, seat: &mut DemSeat, step: &Step) -> DemA
     }
 }
 
-/// Makes the call of a step on a seat that has one left, and answers by it.
+/// Makes the calls of a step on a seat that has enough left, and answers by them.
 pub fn do_step<R: Wait>(rt: &R, dem: &DemLock, seat: &mut DemSeat, step: &Step) -> StepAnswer
     requires lock { IsSeatOf dem.now seat.old }
     requires step { IsTrue (is_step_among (length seat.old.start.config.events.items) step.now) }
-    requires left { 0 < seat.old.left }
+    requires left { needs step.now ≤ seat.old.left }
     ensures made { Makes seat.old step.now result seat.new }
     ensures lock { IsSeatOf dem.now seat.new }
 {
