@@ -3,6 +3,8 @@ use Rattle.std.proofs.Common.{◌≡◌, ℕ, zero, suc, ◌<◌, ◌≤◌, ◌
 use Rattle.std.specs.Prelude.{vec_len}
 use Rattle.std.specs.Vec.{vec_capacity}
 use Rattle.std.proofs.lemmas.List.{take_more, append-nil, append_assoc}
+use Rattle.flt_life.specs.Actions.{action_of}
+use Rattle.flt_life.specs.declared.action.Action.TheVariants as action
 use Rattle.flt_model.specs.declared.call.Op.{Op}
 use Rattle.flt_model.specs.declared.call.Reply.{Reply}
 use Rattle.flt_script.specs.declared.step.Step.{Step}
@@ -13,7 +15,7 @@ use Rattle.flt_shared.specs.Call.{Seat, IsCall, MayBeAsked, reply_after}
 use Rattle.flt_lane.specs.declared.lane.LaneWork.{LaneWork}
 use Rattle.flt_lane.specs.declared.step.StepAnswer.{StepAnswer}
 use Rattle.flt_lane.specs.declared.step.StepAnswer.TheVariants.{Dem}
-use Rattle.flt_lane.specs.Calls.{MadeBy, op_of_step}
+use Rattle.flt_lane.specs.Calls.{MadeBy}
 use Rattle.flt_lane.specs.Chain.{Call, Chain}
 use Rattle.flt_lane.specs.Making.{AreMadeBy}
 use Rattle.flt_lane.specs.Runs.{MakesCalls, Makes}
@@ -25,11 +27,11 @@ abbrev fact_of : (before : Seat) (calls : List (Call Op Reply)) (after : Seat) �
 fact_of before calls after chain = chain_fact MayBeAsked reply_after before calls after chain
 
 -- a step of one call
-pub one_made : (before : Seat) (step : Step) (told : Answer Reply) (after : Seat) → IsCall before after (op_of_step step) told → Makes before step (Dem told) after
-one_made before step told after call = record {
-  calls = record { op = op_of_step step; told = told } ∷ [];
-  made = refl;
-  chain = chain_of_one MayBeAsked reply_after before record { op = op_of_step step; told = told } after call;
+pub one_made : (before : Seat) (step : Step) (op : Op) (told : Answer Reply) (after : Seat) → action_of step ≡ action.Call op → IsCall before after op told → Makes before step (Dem told) after
+one_made before step op told after makes call = record {
+  calls = record { op = op; told = told } ∷ [];
+  made = (op, makes, refl);
+  chain = chain_of_one MayBeAsked reply_after before record { op = op; told = told } after call;
   left = let left = call.place.left in omega (arith, left);
 }
 

@@ -5,6 +5,7 @@ use Rattle.std.specs.Vec.{vec_capacity}
 use Rattle.std.proofs.lemmas.List.{append-nil, append_assoc, map-append, length-append, length-map}
 use Rattle.std.proofs.lemmas.List.Sums.{sum_by-append, sum_by-cons, sum_by_push}
 use Rattle.std.proofs.lemmas.List.Elements.{All-cons, All-nil, All-head}
+use Rattle.flt_config.specs.declared.config.Config.{Config}
 use Rattle.flt_script.specs.declared.step.Step.{Step}
 use Rattle.flt_turn.specs.Seats.{split_off, split_seat, joined_seat}
 use Rattle.flt_shared.specs.declared.lock.DemLock.{DemLock}
@@ -13,7 +14,7 @@ use Rattle.flt_shared.specs.Lock.{IsSeatOf}
 use Rattle.flt_lane.specs.declared.lane.LaneWork.{LaneWork}
 use Rattle.flt_lane.specs.declared.room.LaneRoom.{LaneRoom}
 use Rattle.flt_lane.specs.declared.step.StepAnswer.{StepAnswer}
-use Rattle.flt_lane.specs.Life.{lists, IsLaneAmong, steps_in}
+use Rattle.flt_lane.specs.Life.{lists, IsLaneFor, steps_in}
 use Rattle.flt_lane.specs.Room.{IsLaneRoom, steps_of}
 use Rattle.flt_lane.specs.Work.{IsReady}
 use Rattle.flt_lane.specs.Block.{IsSplit, AreSplit, IsSplitOff, AreJoined}
@@ -135,9 +136,9 @@ steps_of-append rooms more = map-append (λ (room : LaneRoom). room.steps.items)
 pub next_of : {X : Type 0} (P : X → Type 0) (all done rest later : List X) (x : X) → done ++ rest ≡ all → rest ≡ x ∷ later → All P all → P x
 next_of P all done rest later x is next holds = All-head P x later (subst (All P) next (all_right P done rest (subst (All P) (sym is) holds)))
 
-pub lane_among : (events : ℕ) (rooms done rest later : List LaneRoom) (room : LaneRoom) → done ++ rest ≡ rooms → rest ≡ room ∷ later → All (IsLaneAmong events) (steps_of rooms) → IsLaneAmong events room.steps.items
-lane_among events rooms done rest later room is next among =
-    next_of (IsLaneAmong events) (steps_of rooms) (steps_of done) (steps_of rest) (steps_of later) room.steps.items (sym (steps_of-append done rest) ∙ ap steps_of is) (ap steps_of next) among
+pub lane_for : (config : Config) (rooms done rest later : List LaneRoom) (room : LaneRoom) → done ++ rest ≡ rooms → rest ≡ room ∷ later → All (IsLaneFor config) (steps_of rooms) → IsLaneFor config room.steps.items
+lane_for config rooms done rest later room is next steps =
+    next_of (IsLaneFor config) (steps_of rooms) (steps_of done) (steps_of rest) (steps_of later) room.steps.items (sym (steps_of-append done rest) ∙ ap steps_of is) (ap steps_of next) steps
 
 all_steps : (rooms done rest later : List LaneRoom) (room : LaneRoom) → done ++ rest ≡ rooms → rest ≡ room ∷ later → steps_in (steps_of rooms) ≡ steps_in (steps_of done) + (length room.steps.items + steps_in (steps_of later))
 all_steps rooms done rest later room is next = ap (λ l. steps_in (steps_of l)) (sym is) ∙ ap steps_in (steps_of-append done rest) ∙ steps_in-append (steps_of done) (steps_of rest)
@@ -167,7 +168,7 @@ seat_for lock main now rooms works done rest later room is next =
     omega (arith, count, some)
 
 pub splitting_more : {F : _} {g : _} (lock : DemLock F g) (main now after : Seat) (rooms : List LaneRoom) (works more : List LaneWork) (done rest later : List LaneRoom) (room : LaneRoom) (work : LaneWork)
-    → IsSplitting lock main now rooms works done rest → rest ≡ room ∷ later → length room.steps.items ≤ now.left → IsSeatOf lock main → IsLaneAmong (length main.start.config.events.items) room.steps.items → IsLaneRoom room
+    → IsSplitting lock main now rooms works done rest → rest ≡ room ∷ later → length room.steps.items ≤ now.left → IsSeatOf lock main → IsLaneFor main.start.config room.steps.items → IsLaneRoom room
     → after ≡ split_off (length room.steps.items) now → work.seat ≡ split_seat (length room.steps.items) now → work.number ≡ work.seat.number → work.steps ≡ room.steps → work.answers ≡ room.answers
     → more ≡ works ++ work ∷ [] → IsSplitting lock main after rooms more (done ++ room ∷ []) later
 splitting_more lock main now after rooms works more done rest later room work is next enough owned among ready after_is seat_is number steps_are answers_are items =

@@ -1,17 +1,17 @@
 -- How the journal of a life follows its script, and how its steps are answered there.
-use Rattle.std.specs.Prelude.{ℕ, ◌≤◌, List, All, Vec, IsTrue, map, length}
+use Rattle.std.specs.Prelude.{ℕ, ◌≤◌, List, All, Vec, map, length}
 use Rattle.std.proofs.Common.{inl, inr}
 use Rattle.std.specs.List.{sum_by}
+use Rattle.flt_config.specs.declared.config.Config.{Config}
 use Rattle.flt_model.specs.declared.call.Op.{Op}
 use Rattle.flt_model.specs.declared.call.Reply.{Reply}
 use Rattle.flt_model.specs.declared.life.DemStart.{DemStart}
 use Rattle.flt_script.specs.declared.step.Step.{Step}
-use Rattle.flt_script.specs.Step.{is_step_among}
 use Rattle.flt_shared.specs.Call.{Journal, reply_after}
 use Rattle.flt_lane.specs.declared.life.LifePart.{LifePart}
 use Rattle.flt_lane.specs.declared.life.LifePart.TheVariants.{One, Lanes}
 use Rattle.flt_lane.specs.declared.step.StepAnswer.{StepAnswer}
-use Rattle.flt_lane.specs.Calls.{MadeBy, needs}
+use Rattle.flt_lane.specs.Calls.{IsStepFor, MadeBy, needs}
 use Rattle.flt_lane.specs.Journal.{Block, Follows, BlockTold}
 use Rattle.flt_lane.specs.Making.{PartOf, PartsMake}
 
@@ -46,10 +46,10 @@ abbrev pub calls_in : PartOf Step → ℕ
 calls_in (inl step) = needs step
 calls_in (inr lanes) = steps_in lanes
 
--- The steps of a lane are in their ranges, among so many events, and are at most as many as a script has.
-abbrev pub IsLaneAmong : ℕ → List Step → Type 0
-IsLaneAmong events steps = All (λ step. IsTrue (is_step_among events step)) steps × (length steps ≤ 65536)
+-- The steps of a lane are such as a lane can make, and are at most as many as a script has; and so are those of a part.
+abbrev pub IsLaneFor : Config → List Step → Type 0
+IsLaneFor config steps = All (IsStepFor config) steps × (length steps ≤ 65536)
 
-abbrev pub IsPartAmong : ℕ → PartOf Step → Type 0
-IsPartAmong events (inl step) = IsTrue (is_step_among events step)
-IsPartAmong events (inr lanes) = All (IsLaneAmong events) lanes
+abbrev pub IsPartFor : Config → PartOf Step → Type 0
+IsPartFor config (inl step) = IsStepFor config step
+IsPartFor config (inr lanes) = All (IsLaneFor config) lanes

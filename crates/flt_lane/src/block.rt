@@ -5,7 +5,7 @@ ghost use Rattle.flt_turn.specs.Seats.{split_off, split_seat};
 ghost use Rattle.flt_shared.specs.Lock.{IsSeatOf};
 ghost use Rattle.flt_lane.specs.declared.lane.LaneWork.{LaneWork};
 ghost use Rattle.flt_lane.specs.Work.{IsReady, HasRun};
-ghost use Rattle.flt_lane.specs.Life.{lists, IsLaneAmong, steps_in};
+ghost use Rattle.flt_lane.specs.Life.{lists, IsLaneFor, steps_in};
 ghost use Rattle.flt_lane.specs.Lived.{IsMain};
 ghost use Rattle.flt_lane.specs.Room.{IsLaneRoom, steps_of};
 ghost use Rattle.flt_lane.specs.Block.{AreSplit, IsSplitOff, AreJoined, RunsLanes};
@@ -49,7 +49,7 @@ fn split_lanes(dem: &DemLock, main: &mut DemSeat, rooms: Vec<LaneRoom>, works: &
     requires lock { IsSeatOf dem.now main.old }
     requires main { main.old.number ≡ 0 }
     requires room { All IsLaneRoom rooms.items }
-    requires among { All (IsLaneAmong (length main.old.start.config.events.items)) (steps_of rooms.items) }
+    requires steps { All (IsLaneFor main.old.start.config) (steps_of rooms.items) }
     requires calls { steps_in (steps_of rooms.items) ≤ main.old.left }
     requires children { main.old.children + length rooms.items < 2 ^ 32 }
     requires none { works.old.items ≡ [] }
@@ -120,7 +120,7 @@ pub(crate) fn run_lanes<R: Threads + Wait + Sync, G: Gate + Sync>(
     requires lock { IsSeatOf dem.now main.old }
     requires main { IsMain main.old }
     requires room { All IsLaneRoom rooms.items }
-    requires among { All (IsLaneAmong (length main.old.start.config.events.items)) (steps_of rooms.items) }
+    requires steps { All (IsLaneFor main.old.start.config) (steps_of rooms.items) }
     requires calls { steps_in (steps_of rooms.items) ≤ main.old.left }
     requires children { main.old.children + length rooms.items < 2 ^ 32 }
     requires none { works.items ≡ [] }

@@ -7,10 +7,8 @@ ghost use Rattle.flt_turn.specs.Journal.{ops_of};
 ghost use Rattle.flt_turn.specs.Seats.{main_seat};
 ghost use Rattle.flt_shared.specs.Lock.{IsSeatOf};
 ghost use Rattle.flt_shared.specs.Start.{start_of};
-ghost use Rattle.flt_script.specs.Step.{is_step_among};
-ghost use Rattle.std.specs.Prelude.{IsTrue};
-ghost use Rattle.flt_lane.specs.Calls.{needs};
-ghost use Rattle.flt_lane.specs.Life.{IsLife, IsPartAmong, calls_in, lists, parts_of};
+ghost use Rattle.flt_lane.specs.Calls.{IsStepFor, needs};
+ghost use Rattle.flt_lane.specs.Life.{IsLife, IsPartFor, calls_in, lists, parts_of};
 ghost use Rattle.flt_lane.specs.Lived.{IsMain};
 ghost use Rattle.flt_lane.specs.Making.{width, widths};
 ghost use Rattle.flt_lane.specs.Room.{IsPartRoom, IsLifeRoom, part_in};
@@ -55,7 +53,7 @@ fn run_one<R: Wait, G: Gate>(
     gate: &G,
 )
     requires lock { IsSeatOf dem.now main.old }
-    requires step { IsTrue (is_step_among (length main.old.start.config.events.items) step.now) }
+    requires step { IsStepFor main.old.start.config step.now }
     requires calls { needs step.now ≤ main.old.left }
     requires index { vec_len own.old < 2 ^ 32 }
     requires room { vec_len own.old < vec_capacity own.old }
@@ -84,7 +82,7 @@ fn run_part<R: Threads + Wait + Sync, G: Gate + Sync>(
     requires lock { IsSeatOf dem.now main.old }
     requires main { IsMain main.old }
     requires part { IsPartRoom part }
-    requires among { IsPartAmong (length main.old.start.config.events.items) (part_in part) }
+    requires steps { IsPartFor main.old.start.config (part_in part) }
     requires calls { calls_in (part_in part) ≤ main.old.left }
     requires children { main.old.children + width (part_in part) < 2 ^ 32 }
     requires index { vec_len own.old < 2 ^ 32 }
@@ -117,7 +115,7 @@ fn run_parts<R: Threads + Wait + Sync, G: Gate + Sync>(
     requires lock { IsSeatOf dem.now main.old }
     requires main { IsMain main.old }
     requires room { IsLifeRoom (map part_in room.parts.items) room }
-    requires among { All (IsPartAmong (length main.old.start.config.events.items)) (map part_in room.parts.items) }
+    requires steps { All (IsPartFor main.old.start.config) (map part_in room.parts.items) }
     requires calls { sum_by calls_in (map part_in room.parts.items) ≤ main.old.left }
     requires children { main.old.children + widths (map part_in room.parts.items) < 2 ^ 32 }
     requires few { length room.parts.items < 2 ^ 32 }
@@ -146,7 +144,7 @@ pub fn run_life<R: Threads + Wait + Sync, G: Gate + Sync>(
 ) -> Result<Lived, AllocError>
     requires lock { IsSeatOf dem main }
     requires fresh { main ≡ main_seat main.lock main.start main.left }
-    requires among { All (IsPartAmong (length main.start.config.events.items)) (parts_of parts.now) }
+    requires steps { All (IsPartFor main.start.config) (parts_of parts.now) }
     requires calls { sum_by calls_in (parts_of parts.now) ≤ main.left }
     requires lanes { widths (parts_of parts.now) + 1 < 2 ^ 32 }
     requires few { length parts.now < 2 ^ 32 }

@@ -63,6 +63,8 @@ fn copy_of_step(step: &Step) -> Step
             tester: *tester,
             bytes: copy_of_bytes(bytes),
         },
+        Step::Save => Step::Save,
+        Step::Arming(arm) => Step::Arming(*arm),
     }
 }
 

@@ -1,7 +1,7 @@
 // Two lanes that are at work at the same time.
 ghost use Rattle.std.specs.Prelude.{◌≡◌, ◌≤◌, ◌∷◌, [], ℕ, All, IfOk, length, sum_by};
 ghost use Rattle.flt_script.specs.declared.step.Step.TheVariants.{Cycle};
-ghost use Rattle.flt_lane.specs.Life.{IsPartAmong, calls_in, lists, parts_of};
+ghost use Rattle.flt_lane.specs.Life.{IsPartFor, calls_in, lists, parts_of};
 ghost use Rattle.flt_lane.specs.Making.{widths};
 
 use crate::{Gate, LifePart, Lived, run_life};
@@ -80,7 +80,7 @@ fn lanes(alloc: Global) -> Result<Vec<Vec<Step>>, AllocError>
 
 // A life of a step by itself and one block.
 fn block(alloc: Global) -> Result<Vec<LifePart>, AllocError>
-    ensures among { IfOk result (λ parts. (events : ℕ) → All (IsPartAmong events) (parts_of parts.items)) }
+    ensures steps { IfOk result (λ parts. (config : Config) → All (IsPartFor config) (parts_of parts.items)) }
     ensures calls { IfOk result (λ parts. (sum_by calls_in (parts_of parts.items) ≤ 3) × (widths (parts_of parts.items) ≤ 2) × (length parts.items ≤ 2)) }
 {
     let lanes = lanes(alloc)?;

@@ -1,7 +1,7 @@
 use Rattle.std.proofs.Common.{length, [], ◌∷◌, ◌∙◌, refl, arith}
 use Rattle.std.proofs.lemmas.List.{length-append}
 use Rattle.flt_lane.specs.Room.{IsLaneRoom}
-use Rattle.flt_lane.proofs.Seats.{splitting_begins, splitting_more, room_for, lane_among, next_of}
+use Rattle.flt_lane.proofs.Seats.{splitting_begins, splitting_more, room_for, lane_for, next_of}
 use Rattle.flt_lane.proofs.block.split_lanes.Goals as goal
 
 pub loop-room-init : goal.loop-room-init
@@ -12,8 +12,8 @@ loop-room-init g c = record {
 }
 
 pub split_lane-work-requires-clause-few : goal.split_lane-work-requires-clause-few
-split_lane-work-requires-clause-few g c = (lane_among (length c.args.main.now.start.config.events.items) c.args.rooms.items c.loop-room.yielded c.loop-room.room-iterator.rest.items c.next.new.self.rest.items c.in-Some.room
-    c.loop-room.invariant.seats.all c.in-Some.ensures.steps.0 c.requires.among).1
+split_lane-work-requires-clause-few g c = (lane_for c.args.main.now.start.config c.args.rooms.items c.loop-room.yielded c.loop-room.room-iterator.rest.items c.next.new.self.rest.items c.in-Some.room
+    c.loop-room.invariant.seats.all c.in-Some.ensures.steps.0 c.requires.steps).1
 
 pub loop-room-preserved : goal.loop-room-preserved
 loop-room-preserved g c =
@@ -29,7 +29,7 @@ loop-room-preserved g c =
     record {
       seats = splitting_more c.args.dem.now c.args.main.now c.loop-room.main c.split_lane-work.new.main rooms c.loop-room.works.items c.push_reserved.new.self.items done rest later room c.split_lane-work.result is next
           (room_for c.args.dem.now c.args.main.now c.loop-room.main rooms c.loop-room.works.items done rest later room is next c.requires.calls) c.requires.lock
-          (lane_among (length c.args.main.now.start.config.events.items) rooms done rest later room is.all next c.requires.among)
+          (lane_for c.args.main.now.start.config rooms done rest later room is.all next c.requires.steps)
           (next_of IsLaneRoom rooms done rest later room is.all next c.requires.room)
           told.main told.seat told.number told.steps told.answers c.push_reserved.ensures.items;
       len = omega (arith, c.push_reserved.ensures.len, c.loop-room.invariant.len, count);
