@@ -278,12 +278,11 @@ impl UnitState {
         self.dem.show(event)
     }
 
-    /// Carries out a call, and answers it.
-    fn take(
+    /// Carries out a call, and answers it, but writes no durable state.
+    fn take_alone(
         &mut self,
         dids: &DidTable<DID_ROWS>,
         op: &Op,
-        out: &mut Persist,
         response: &mut ArrayVec<u8, RESPONSE>,
     ) -> ReplyKind
         requires served { Serves (dids_of dids.now) self.old.dem.faults.config.events.items }
@@ -293,8 +292,6 @@ impl UnitState {
         ensures stands { (life : Life) (past : History) → Stands life past self.old → Stands life (op.now ∷ past) self.new }
         ensures answer { (life : Life) (past : History) → Stands life past self.old → reply_with result response.new.items ≡ answer life past op.now }
         ensures unsent { ¬ IsRequest op.now → response.new ≡ response.old }
-        ensures written { (life : Life) (past : History) → Stands life past self.old → out.new ≡ written life past op.now out.old }
-        ensures kept { op.now ≢ ops.Snapshot → out.new ≡ out.old }
         ensures reading { IsReading op.now → self.new ≡ self.old }
         ensures negative { (tester : ℕ) (bytes : RequestBytes) → op.now ≡ ops.Request tester bytes → IsNegative (reply_with result response.new.items)
             → self.new ≡ record self.old { sessions = slice_set self.old.sessions tester (heard (session_at self.old.sessions tester)) } }
@@ -319,12 +316,37 @@ impl UnitState {
                 ReplyKind::of_request(self.request(*tester, bytes, response))
             }
             Op::Show { event } => ReplyKind::Shown(self.show(*event)),
-            Op::Snapshot => {
-                self.dem.persist(out);
-                ReplyKind::Taken
-            }
+            Op::Snapshot => ReplyKind::Taken,
             Op::Saved { .. } => ReplyKind::Taken,
         }
+    }
+
+    /// Carries out a call, and answers it.
+    fn take(
+        &mut self,
+        dids: &DidTable<DID_ROWS>,
+        op: &Op,
+        out: &mut Persist,
+        response: &mut ArrayVec<u8, RESPONSE>,
+    ) -> ReplyKind
+        requires served { Serves (dids_of dids.now) self.old.dem.faults.config.events.items }
+        requires admitted { IsAdmitted self.old.dem.faults.config op.now }
+        ensures config { self.new.dem.faults.config ≡ self.old.dem.faults.config }
+        ensures base { self.new.base ≡ self.old.base }
+        ensures stands { (life : Life) (past : History) → Stands life past self.old → Stands life (op.now ∷ past) self.new }
+        ensures answer { (life : Life) (past : History) → Stands life past self.old → reply_with result response.new.items ≡ answer life past op.now }
+        ensures unsent { ¬ IsRequest op.now → response.new ≡ response.old }
+        ensures written { (life : Life) (past : History) → Stands life past self.old → out.new ≡ written life past op.now out.old }
+        ensures kept { op.now ≢ ops.Snapshot → out.new ≡ out.old }
+        ensures reading { IsReading op.now → self.new ≡ self.old }
+        ensures negative { (tester : ℕ) (bytes : RequestBytes) → op.now ≡ ops.Request tester bytes → IsNegative (reply_with result response.new.items)
+            → self.new ≡ record self.old { sessions = slice_set self.old.sessions tester (heard (session_at self.old.sessions tester)) } }
+    {
+        match op {
+            Op::Snapshot => self.dem.persist(out),
+            _ => {}
+        }
+        self.take_alone(dids, op, response)
     }
 
     /// Carries out a call, and answers it: the one way in which a unit that runs is changed or asked. The bytes of a response are
@@ -370,6 +392,22 @@ impl UnitState {
     {
         let mut response = ArrayVec::new();
         let kind = self.apply_into(dids, op, out, &mut response);
+        kind.with(response)
+    }
+    /// Carries out a call, and answers it, as `apply` does, for callers that want no durable state: a snapshot writes none.
+    pub fn apply_alone(&mut self, dids: &DidTable<DID_ROWS>, op: &Op) -> Reply
+        requires served { Serves (dids_of dids.now) self.old.dem.faults.config.events.items }
+        requires admitted { IsAdmitted self.old.dem.faults.config op.now }
+        ensures config { self.new.dem.faults.config ≡ self.old.dem.faults.config }
+        ensures base { self.new.base ≡ self.old.base }
+        ensures stands { (life : Life) (past : History) → Stands life past self.old → Stands life (op.now ∷ past) self.new }
+        ensures answer { (life : Life) (past : History) → Stands life past self.old → result ≡ answer life past op.now }
+        ensures reading { IsReading op.now → self.new ≡ self.old }
+        ensures negative { (tester : ℕ) (bytes : RequestBytes) → op.now ≡ ops.Request tester bytes → IsNegative result
+            → self.new ≡ record self.old { sessions = slice_set self.old.sessions tester (heard (session_at self.old.sessions tester)) } }
+    {
+        let mut response = ArrayVec::new();
+        let kind = self.take_alone(dids, op, &mut response);
         kind.with(response)
     }
 }

@@ -1,11 +1,10 @@
-pub mod Running
 pub mod Journals
+pub mod Chains
 pub mod Parts
-pub mod Facts
 pub mod Blocks
-pub mod Trails
+pub mod Makings
+pub mod Running
 pub mod Seats
 pub mod BlockRuns
-pub mod Lifetimes
+pub mod Lives
 pub mod WholeLife
-pub mod Rising

@@ -1,127 +1,245 @@
--- What a part of a life leaves of the main seat, and where its calls stand in any journal in which the lock could be closed then.
-use Rattle.std.proofs.Common.{◌≡◌, ℕ, zero, suc, ◌≤◌, [], ◌∷◌, ◌++◌, All, length, get_or, Some, arith, refl, sym, ap, subst, ◌∙◌}
-use Rattle.std.specs.Prelude.{Contains, slice_get}
-use Rattle.std.proofs.lemmas.List.{append-nil}
-use Rattle.std.proofs.lemmas.List.Elements.{All-contains, All-nil, All-cons}
+-- What the calls of the main seat leave of it, and where they stand in any journal in which the lock could be closed then.
+use Rattle.std.proofs.Common.{◌≡◌, ℕ, zero, suc, ◌≤◌, ◌+◌, List, [], ◌∷◌, ◌++◌, All, length, get_or, arith, refl, sym, ap, subst, ◌∙◌}
+use Rattle.std.specs.Prelude.{Contains}
+use Rattle.std.proofs.lemmas.List.{append-nil, append_assoc, map-append}
+use Rattle.std.proofs.lemmas.List.Elements.{All-contains, All-nil, All-cons, All-append, All-head}
 use mathlib.Core.List.{IsPrefix}
-use Rattle.flt_model.specs.Answer.{answer}
-use Rattle.flt_model.specs.declared.call.Op.{Op}
-use Rattle.flt_script.specs.declared.step.Step.{Step}
 use Rattle.flt_turn.specs.declared.vault.Entry.{Entry}
+use Rattle.flt_turn.specs.Call.{IsCall}
 use Rattle.flt_turn.specs.Journal.{entry, calls_of}
-use Rattle.flt_turn.specs.Seats.{Extends}
-use Rattle.flt_turn.proofs.Journals.{calls_of_own, calls_of_other, prefix_longer}
-use Rattle.flt_shared.specs.Call.{Journal, Seat, past}
-use Rattle.flt_lane.specs.declared.step.StepAnswer.{StepAnswer}
-use Rattle.flt_lane.specs.declared.step.StepAnswer.TheVariants.{Dem}
-use Rattle.flt_lane.specs.Calls.{op_of_step}
-use Rattle.flt_lane.specs.Runs.{Makes}
-use Rattle.flt_lane.specs.Life.{Mixes, AreTold, LanesTold}
-use Rattle.flt_lane.specs.Lived.{IsEnded, IsMain, IsWhole}
-use Rattle.flt_lane.specs.Block.{Leads, IsPart}
+use Rattle.flt_turn.specs.Seats.{Seated, Extends}
+use Rattle.flt_turn.proofs.Journals.{calls_of-append, calls_of_other, prefix_longer}
+use Rattle.flt_lane.specs.Chain.{Call, Chain, ops_asked}
+use Rattle.flt_lane.specs.Journal.{Mixes, Block, Follows, asked_of, IsTold, BlockTold}
+use Rattle.flt_lane.specs.Lived.{IsEnded, IsMain, IsWhole, Trails, HasLived}
 use Rattle.flt_lane.proofs.Journals.{more_calls, none_left, no_call_before, one_call, no_call_of_others}
+use Rattle.flt_lane.proofs.Chains.{call_own, call_told, calls_longer, blocks_longer}
 
--- ---- a step by itself
+-- ---- the calls of blocks
 
-pub at_end : (front : Journal) (e : Entry Op) (place : ℕ) → length front ≡ place → slice_get (front ++ e ∷ []) place ≡ Some e
-at_end [] e zero is = refl
-at_end [] e (suc place) is = absurd (omega arith)
-at_end (x ∷ front) e zero is = absurd (omega arith)
-at_end (x ∷ front) e (suc place) is = at_end front e place (omega arith)
-
-pub one_part : (main after : Seat) (step : Step) (answer : StepAnswer) → IsMain main → Makes main step answer after → IsPart main after 0 ((0, step ∷ []) ∷ []) ((answer ∷ []) ∷ [])
-unfolding AreTold LanesTold
-one_part main after step (Dem told) is makes = record {
-  main_after = main_after;
-  start_is = ext.rest.1;
-  lock_is = ext.lock;
-  children_is = omega (arith, ext.rest.2);
-  leads = leads;
+nothing_mixes : {O : Type 0} (number : ℕ) → Mixes {O = O} [] ((number, []) ∷ [])
+nothing_mixes {O} number = record {
+  each = All-cons (λ (lane : ℕ × List O). calls_of lane.0 [] ≡ lane.1) (number, []) [] refl (All-nil (λ (lane : ℕ × List O). calls_of lane.0 [] ≡ lane.1));
+  others = λ n apart. refl;
 }
-  where
-    op : Op
-    op = op_of_step step
 
-    ext : Extends main after op told.place
-    ext = makes.place
+module _ {O R : Type 0} where
+  pub follows_one : (lanes : Block O R) (journal : List (Entry O)) → Follows (lanes ∷ []) journal → Mixes journal (asked_of lanes)
+  unfolding Follows
+  follows_one lanes journal f = subst (λ j. Mixes j (asked_of lanes)) (sym (f.2 ∙ ap (λ l. f.0 ++ l) f.4 ∙ append-nil f.0)) f.3
 
-    front : Journal
-    front = main.seen ++ ext.between
+  pub one_follows : (lanes : Block O R) (journal : List (Entry O)) → Mixes journal (asked_of lanes) → Follows (lanes ∷ []) journal
+  unfolding Follows
+  one_follows lanes journal mixes = (journal, [], sym (append-nil journal), mixes, refl)
 
-    number_is : after.number ≡ main.number
-    number_is = ext.rest.0
+  pub follow_more : (blocks more : List (Block O R)) (journal rest : List (Entry O)) → Follows blocks journal → Follows more rest → Follows (blocks ++ more) (journal ++ rest)
+  unfolding Follows
+  follow_more [] more journal rest none second = subst (λ l. Follows more (l ++ rest)) (sym none) second
+  follow_more (lanes ∷ blocks) more journal rest f second =
+      (f.0, f.1 ++ rest, ap (λ l. l ++ rest) f.2 ∙ append_assoc f.0 f.1 rest, f.3, follow_more blocks more f.1 rest f.4 second)
 
-    own_calls : calls_of after.number after.seen ≡ after.mine
-    own_calls = ap (λ n. calls_of n after.seen) number_is ∙ ap (calls_of main.number) ext.seen ∙ calls_of_own main.number op front ∙ ap (λ l. l ++ op ∷ []) ext.own ∙ sym ext.mine
+  -- the calls of one lane, one behind the other
+  alone_more : (number : ℕ) (xs ys : List (Call O R)) (first second : List (Entry O)) → Mixes first (asked_of ((number, xs) ∷ [])) → Mixes second (asked_of ((number, ys) ∷ []))
+      → Mixes (first ++ second) (asked_of ((number, xs ++ ys) ∷ []))
+  alone_more number xs ys first second a b =
+      let IsAsked : (ℕ × List O) → Type 0 = λ lane. calls_of lane.0 (first ++ second) ≡ lane.1 in
+      let front : calls_of number first ≡ ops_asked xs = All-head (λ lane. calls_of lane.0 first ≡ lane.1) (number, ops_asked xs) [] a.each in
+      let back : calls_of number second ≡ ops_asked ys = All-head (λ lane. calls_of lane.0 second ≡ lane.1) (number, ops_asked ys) [] b.each in
+      record {
+        each = All-cons IsAsked (number, ops_asked (xs ++ ys)) []
+            (calls_of-append number first second ∙ (λ i. front i ++ back i) ∙ sym (map-append (λ (c : Call O R). c.op) xs ys)) (All-nil IsAsked);
+        others = λ n apart. calls_of-append n first second ∙ (λ i. a.others n apart i ++ b.others n apart i);
+      }
 
-    ended_after : All (IsEnded after) main.ended
-    ended_after k d within = let e = is.ended k d within in record {
-      some = e.some;
-      given = omega (arith, e.given, ext.rest.2);
-      known = e.known;
-      among = subst (λ l. Contains l e.known) (sym ext.rest.3) e.among;
-      all = e.all;
-    }
+module _ {S O R : Type 0} (admits : S → O → Type 0) (answer : S → List O → O → R) where
+  -- ---- no call, and blocks behind others
 
-    main_after : IsMain after
-    main_after = record {
-      number_is = number_is ∙ is.number_is;
-      own = omega (arith, ap length own_calls);
-      ended = subst (All (IsEnded after)) (sym ext.rest.4) ended_after;
-      joined = ap length ext.rest.4 ∙ is.joined ∙ sym ext.rest.2;
-    }
+  pub lived_none : (main : Seated S O) → IsMain main → HasLived {R = R} answer main main 0 []
+  unfolding Follows
+  lived_none main is = record {
+    main_after = is;
+    start_is = refl;
+    lock_is = refl;
+    children_is = omega arith;
+    trails = λ journal whole. record { before = journal; rest = []; split = sym (append-nil journal); whole = whole; follows = refl; told = All-nil (BlockTold answer main.start journal) };
+  }
 
-    first : Entry Op
-    first = entry 0 op
-
-    front_is : after.seen ≡ front ++ first ∷ []
-    front_is = ext.seen ∙ ap (λ n. front ++ entry n op ∷ []) is.number_is
-
-    lanes_are : (after.number, after.mine) ∷ after.ended ≡ (main.number, main.mine ++ op ∷ []) ∷ main.ended
-    lanes_are = λ i. (number_is i, ext.mine i) ∷ ext.rest.4 i
-
-    olds_seen : All (λ old. IsPrefix old after.seen) after.olds
-    olds_seen = subst (All (λ old. IsPrefix old after.seen)) (sym ext.rest.3) (λ k d within. subst (IsPrefix (get_or main.olds k d)) (sym front_is) (prefix_longer (get_or main.olds k d) front (first ∷ []) (ext.olds k d within)))
-
-    enough : All (λ lane. length lane.1 ≤ length (calls_of lane.0 after.seen)) ((after.number, after.mine) ∷ after.ended)
-    enough = All-cons (λ lane. length lane.1 ≤ length (calls_of lane.0 after.seen)) (after.number, after.mine) after.ended main_after.own
-        (λ k d within. let e = main_after.ended k d within in
-        let more = more_calls (get_or after.ended k d).0 e.known after.seen (All-contains (λ old. IsPrefix old after.seen) after.olds e.known olds_seen e.among) in
-        omega (arith, e.all, more))
-
-    nothing_after : (journal : Journal) (whole : IsWhole after journal) → whole.seen.0 ≡ []
-    nothing_after journal whole = none_left after.seen whole.seen.0 ((after.number, after.mine) ∷ after.ended)
-        (subst (λ j. Mixes j ((after.number, after.mine) ∷ after.ended)) (sym whole.seen.1) whole.mixes) enough
-
-    seen_is : (journal : Journal) → IsWhole after journal → after.seen ≡ journal
-    seen_is journal whole = sym (append-nil after.seen) ∙ ap (λ l. after.seen ++ l) (sym (nothing_after journal whole)) ∙ whole.seen.1
-
-    before_mixes : Mixes (front ++ first ∷ []) ((main.number, main.mine ++ op ∷ []) ∷ main.ended) → Mixes front ((main.number, main.mine) ∷ main.ended)
-    before_mixes m = record {
-      each = All-cons (λ lane. calls_of lane.0 front ≡ lane.1) (main.number, main.mine) main.ended ext.own
-          (λ k d within. sym (calls_of_other (get_or main.ended k d).0 0 op front (λ same. absurd (omega (arith, same, (is.ended k d within).some)))) ∙ m.each (suc k) d (omega (arith, within)));
-      others = λ n apart. no_call_before n front (first ∷ []) (m.others n apart);
-    }
-
-    block_mixes : Mixes (first ∷ []) ((0, op ∷ []) ∷ [])
-    block_mixes = record {
-      each = All-cons (λ lane. calls_of lane.0 (first ∷ []) ≡ lane.1) (0, op ∷ []) [] (one_call 0 op) (All-nil (λ lane. calls_of lane.0 (first ∷ []) ≡ lane.1));
-      others = λ n apart. no_call_of_others n 0 op (λ same. apart (zero, omega arith, same));
-    }
-
-    leads : (journal : Journal) → IsWhole after journal → Leads main ((0, step ∷ []) ∷ []) ((Dem told ∷ []) ∷ []) journal
-    leads journal whole =
-        let same = seen_is journal whole in
-        let journal_is : journal ≡ front ++ first ∷ [] = sym same ∙ front_is in
+  pub lived_more : (main mid after : Seated S O) (seats more_seats : ℕ) (blocks more : List (Block O R)) → HasLived answer main mid seats blocks → HasLived answer mid after more_seats more
+      → HasLived answer main after (seats + more_seats) (blocks ++ more)
+  lived_more main mid after seats more_seats blocks more lived is = record {
+    main_after = is.main_after;
+    start_is = is.start_is ∙ lived.start_is;
+    lock_is = is.lock_is ∙ lived.lock_is;
+    children_is = omega (arith, is.children_is, lived.children_is);
+    trails = λ journal whole.
+        let last = is.trails journal whole in
+        let trail = lived.trails last.before last.whole in
         record {
-          before = front;
-          block = first ∷ [];
-          split = journal_is;
-          whole = record {
-            seen = (ext.between, refl);
-            olds = ext.olds;
-            mixes = before_mixes (subst (λ j. Mixes j ((main.number, main.mine ++ op ∷ []) ∷ main.ended)) journal_is (subst (Mixes journal) lanes_are whole.mixes));
-          };
-          mixes = block_mixes;
-          answered = (((ap (λ j. slice_get j told.place) journal_is ∙ at_end front first told.place ext.place_is, makes.reply ∙ ap (λ j. answer main.start (past told.place j) op) same), tt), tt);
-        }
+          before = trail.before;
+          rest = trail.rest ++ last.rest;
+          split = last.split ∙ ap (λ l. l ++ last.rest) trail.split ∙ append_assoc trail.before trail.rest last.rest;
+          whole = trail.whole;
+          follows = follow_more blocks more trail.rest last.rest trail.follows last.follows;
+          told = All-append (BlockTold answer main.start journal) blocks more
+              (blocks_longer answer main.start last.before journal blocks (last.rest, sym last.split) trail.told)
+              (subst (λ s. All (BlockTold answer s journal) more) lived.start_is last.told);
+        };
+  }
+
+  -- ---- a step by itself
+
+  abbrev LivesAlone : Seated S O → List (Call O R) → Seated S O → Type 0
+  LivesAlone main calls after = HasLived answer main after 0 (((0, calls) ∷ []) ∷ [])
+
+  alone_told : (start : S) (journal : List (Entry O)) (calls : List (Call O R)) → All (IsTold answer start journal 0) calls → All (BlockTold answer start journal) (((0, calls) ∷ []) ∷ [])
+  alone_told start journal calls told = All-cons (BlockTold answer start journal) ((0, calls) ∷ []) []
+      (All-cons (λ (lane : ℕ × List (Call O R)). All (IsTold answer start journal lane.0) lane.1) (0, calls) [] told (All-nil (λ (lane : ℕ × List (Call O R)). All (IsTold answer start journal lane.0) lane.1)))
+      (All-nil (BlockTold answer start journal))
+
+  told_alone : (start : S) (journal : List (Entry O)) (calls : List (Call O R)) → All (BlockTold answer start journal) (((0, calls) ∷ []) ∷ []) → All (IsTold answer start journal 0) calls
+  told_alone start journal calls told = All-head (λ (lane : ℕ × List (Call O R)). All (IsTold answer start journal lane.0) lane.1) (0, calls) []
+      (All-head (BlockTold answer start journal) ((0, calls) ∷ []) [] told)
+
+  no_call : (main : Seated S O) → IsMain main → LivesAlone main [] main
+  no_call main is = record {
+    main_after = is;
+    start_is = refl;
+    lock_is = refl;
+    children_is = omega arith;
+    trails = λ journal whole. record {
+      before = journal;
+      rest = [];
+      split = sym (append-nil journal);
+      whole = whole;
+      follows = one_follows ((0, []) ∷ []) [] (nothing_mixes 0);
+      told = alone_told main.start journal [] (All-nil (IsTold answer main.start journal 0));
+    };
+  }
+
+  more_alone : (main mid after : Seated S O) (xs ys : List (Call O R)) → LivesAlone main xs mid → LivesAlone mid ys after → LivesAlone main (xs ++ ys) after
+  more_alone main mid after xs ys lived is = record {
+    main_after = is.main_after;
+    start_is = is.start_is ∙ lived.start_is;
+    lock_is = is.lock_is ∙ lived.lock_is;
+    children_is = omega (arith, is.children_is, lived.children_is);
+    trails = λ journal whole.
+        let last = is.trails journal whole in
+        let trail = lived.trails last.before last.whole in
+        record {
+          before = trail.before;
+          rest = trail.rest ++ last.rest;
+          split = last.split ∙ ap (λ l. l ++ last.rest) trail.split ∙ append_assoc trail.before trail.rest last.rest;
+          whole = trail.whole;
+          follows = one_follows ((0, xs ++ ys) ∷ []) (trail.rest ++ last.rest)
+              (alone_more 0 xs ys trail.rest last.rest (follows_one ((0, xs) ∷ []) trail.rest trail.follows) (follows_one ((0, ys) ∷ []) last.rest last.follows));
+          told = alone_told main.start journal (xs ++ ys) (All-append (IsTold answer main.start journal 0) xs ys
+              (calls_longer answer main.start last.before journal 0 xs (last.rest, sym last.split) (told_alone main.start last.before xs trail.told))
+              (subst (λ s. All (IsTold answer s journal 0) ys) lived.start_is (told_alone mid.start journal ys last.told)));
+        };
+  }
+
+  one_call_alone : (main after : Seated S O) (call : Call O R) → IsMain main → IsCall admits answer main after call.op call.told → LivesAlone main (call ∷ []) after
+  one_call_alone main after call is makes = record {
+    main_after = main_after;
+    start_is = ext.rest.1;
+    lock_is = ext.lock;
+    children_is = omega (arith, ext.rest.2);
+    trails = trails;
+  }
+    where
+      op : O
+      op = call.op
+
+      ext : Extends main after op call.told.place
+      ext = makes.place
+
+      front : List (Entry O)
+      front = main.seen ++ ext.between
+
+      number_is : after.number ≡ main.number
+      number_is = ext.rest.0
+
+      own_calls : calls_of after.number after.seen ≡ after.mine
+      own_calls = call_own admits answer main after call makes
+
+      ended_after : All (IsEnded after) main.ended
+      ended_after k d within = let e = is.ended k d within in record {
+        some = e.some;
+        given = omega (arith, e.given, ext.rest.2);
+        known = e.known;
+        among = subst (λ l. Contains l e.known) (sym ext.rest.3) e.among;
+        all = e.all;
+      }
+
+      main_after : IsMain after
+      main_after = record {
+        number_is = number_is ∙ is.number_is;
+        own = omega (arith, ap length own_calls);
+        ended = subst (All (IsEnded after)) (sym ext.rest.4) ended_after;
+        joined = ap length ext.rest.4 ∙ is.joined ∙ sym ext.rest.2;
+      }
+
+      first : Entry O
+      first = entry 0 op
+
+      front_is : after.seen ≡ front ++ first ∷ []
+      front_is = ext.seen ∙ ap (λ n. front ++ entry n op ∷ []) is.number_is
+
+      lanes_are : (after.number, after.mine) ∷ after.ended ≡ (main.number, main.mine ++ op ∷ []) ∷ main.ended
+      lanes_are = λ i. (number_is i, ext.mine i) ∷ ext.rest.4 i
+
+      olds_seen : All (λ old. IsPrefix old after.seen) after.olds
+      olds_seen = subst (All (λ old. IsPrefix old after.seen)) (sym ext.rest.3) (λ k d within. subst (IsPrefix (get_or main.olds k d)) (sym front_is) (prefix_longer (get_or main.olds k d) front (first ∷ []) (ext.olds k d within)))
+
+      enough : All (λ lane. length lane.1 ≤ length (calls_of lane.0 after.seen)) ((after.number, after.mine) ∷ after.ended)
+      enough = All-cons (λ lane. length lane.1 ≤ length (calls_of lane.0 after.seen)) (after.number, after.mine) after.ended main_after.own
+          (λ k d within. let e = main_after.ended k d within in
+          let more = more_calls (get_or after.ended k d).0 e.known after.seen (All-contains (λ old. IsPrefix old after.seen) after.olds e.known olds_seen e.among) in
+          omega (arith, e.all, more))
+
+      nothing_after : (journal : List (Entry O)) (whole : IsWhole after journal) → whole.seen.0 ≡ []
+      nothing_after journal whole = none_left after.seen whole.seen.0 ((after.number, after.mine) ∷ after.ended)
+          (subst (λ j. Mixes j ((after.number, after.mine) ∷ after.ended)) (sym whole.seen.1) whole.mixes) enough
+
+      seen_is : (journal : List (Entry O)) → IsWhole after journal → after.seen ≡ journal
+      seen_is journal whole = sym (append-nil after.seen) ∙ ap (λ l. after.seen ++ l) (sym (nothing_after journal whole)) ∙ whole.seen.1
+
+      before_mixes : Mixes (front ++ first ∷ []) ((main.number, main.mine ++ op ∷ []) ∷ main.ended) → Mixes front ((main.number, main.mine) ∷ main.ended)
+      before_mixes m = record {
+        each = All-cons (λ lane. calls_of lane.0 front ≡ lane.1) (main.number, main.mine) main.ended ext.own
+            (λ k d within. sym (calls_of_other (get_or main.ended k d).0 0 op front (λ same. absurd (omega (arith, same, (is.ended k d within).some)))) ∙ m.each (suc k) d (omega (arith, within)));
+        others = λ n apart. no_call_before n front (first ∷ []) (m.others n apart);
+      }
+
+      block_mixes : Mixes (first ∷ []) ((0, op ∷ []) ∷ [])
+      block_mixes = record {
+        each = All-cons (λ lane. calls_of lane.0 (first ∷ []) ≡ lane.1) (0, op ∷ []) [] (one_call 0 op) (All-nil (λ lane. calls_of lane.0 (first ∷ []) ≡ lane.1));
+        others = λ n apart. no_call_of_others n 0 op (λ same. apart (zero, omega arith, same));
+      }
+
+      trails : (journal : List (Entry O)) → IsWhole after journal → Trails answer main (((0, call ∷ []) ∷ []) ∷ []) journal
+      trails journal whole =
+          let same = seen_is journal whole in
+          let journal_is : journal ≡ front ++ first ∷ [] = sym same ∙ front_is in
+          let told : IsTold answer main.start journal 0 call = subst (λ n. IsTold answer main.start journal n call) is.number_is
+          (subst (λ j. IsTold answer main.start j main.number call) same (call_told admits answer main after call makes)) in
+          record {
+            before = front;
+            rest = first ∷ [];
+            split = journal_is;
+            whole = record {
+              seen = (ext.between, refl);
+              olds = ext.olds;
+              mixes = before_mixes (subst (λ j. Mixes j ((main.number, main.mine ++ op ∷ []) ∷ main.ended)) journal_is (subst (Mixes journal) lanes_are whole.mixes));
+            };
+            follows = one_follows ((0, call ∷ []) ∷ []) (first ∷ []) block_mixes;
+            told = alone_told main.start journal (call ∷ []) (All-cons (IsTold answer main.start journal 0) call [] told (All-nil (IsTold answer main.start journal 0)));
+          }
+
+  -- calls of the main seat are those of lane 0, in a block of their own
+  pub chain_part : (main : Seated S O) (calls : List (Call O R)) (after : Seated S O) → IsMain main → Chain admits answer main calls after → LivesAlone main calls after
+  unfolding Chain
+  chain_part main [] after is same = subst (LivesAlone main []) (sym same) (no_call main is)
+  chain_part main (call ∷ calls) after is chain =
+      let first : LivesAlone main (call ∷ []) chain.0 = one_call_alone main chain.0 call is chain.1 in
+      more_alone main chain.0 after (call ∷ []) calls first (chain_part chain.0 calls after first.main_after chain.2)

@@ -1,31 +1,36 @@
 -- The seats of a block's lanes, one after the other.
-use Rattle.std.proofs.Common.{◌≡◌, ℕ, zero, suc, ◌<◌, ◌≤◌, ◌+◌, List, [], ◌∷◌, ◌++◌, All, length, map, take, get_or, arith, refl, sym, ap, subst, ◌∙◌}
+use Rattle.std.proofs.Common.{◌≡◌, ℕ, ◌<◌, ◌≤◌, ◌+◌, List, [], ◌∷◌, ◌++◌, All, length, map, arith, refl, sym, ap, subst, ◌∙◌}
 use Rattle.std.specs.Prelude.{Vec, vec_len}
 use Rattle.std.specs.Vec.{vec_capacity}
-use Rattle.std.proofs.lemmas.List.{append-nil, append_assoc, map-append, take_more, get_or-map, length-map}
-use Rattle.std.proofs.lemmas.List.Sums.{sum_by_more, sum_by_more_le}
-use Rattle.std.proofs.lemmas.List.Elements.{All-cons, All-nil}
+use Rattle.std.proofs.lemmas.List.{append-nil, append_assoc, map-append, length-append, length-map}
+use Rattle.std.proofs.lemmas.List.Sums.{sum_by-append, sum_by-cons, sum_by_push}
+use Rattle.std.proofs.lemmas.List.Elements.{All-cons, All-nil, All-head}
+use Rattle.flt_config.specs.declared.config.Config.{Config}
 use Rattle.flt_script.specs.declared.step.Step.{Step}
 use Rattle.flt_turn.specs.Seats.{split_off, split_seat, joined_seat}
 use Rattle.flt_shared.specs.declared.lock.DemLock.{DemLock}
 use Rattle.flt_shared.specs.Call.{Seat}
 use Rattle.flt_shared.specs.Lock.{IsSeatOf}
 use Rattle.flt_lane.specs.declared.lane.LaneWork.{LaneWork}
+use Rattle.flt_lane.specs.declared.room.LaneRoom.{LaneRoom}
 use Rattle.flt_lane.specs.declared.step.StepAnswer.{StepAnswer}
-use Rattle.flt_lane.specs.Life.{lists}
-use Rattle.flt_lane.specs.Lived.{IsLaneAmong, steps_in, answer_lists}
+use Rattle.flt_lane.specs.Life.{lists, IsLaneFor, steps_in}
+use Rattle.flt_lane.specs.Room.{IsLaneRoom, steps_of}
 use Rattle.flt_lane.specs.Work.{IsReady}
 use Rattle.flt_lane.specs.Block.{IsSplit, AreSplit, IsSplitOff, AreJoined}
+use Rattle.flt_lane.proofs.Blocks.{all_right}
 
 -- ---- joining
 
-pub record IsJoining {A : Type 0} (main now : Seat) (works : List LaneWork) (told : List (Vec StepAnswer A)) (joined rest : List LaneWork) : Type 0 where
+pub record IsJoining {A B : Type 0} (main now : Seat) (works : List LaneWork) (before told : Vec (Vec StepAnswer A) B) (joined rest : List LaneWork) : Type 0 where
   pub all : joined ++ rest ≡ works
   pub seats : AreJoined main now (map (λ (work : LaneWork). work.seat) joined)
-  pub answers : answer_lists told ≡ map (λ (work : LaneWork). work.answers.items) joined
+  pub answers : lists told.items ≡ lists before.items ++ map (λ (work : LaneWork). work.answers.items) joined
+  pub len : vec_len told ≡ vec_len before + length joined
+  pub room : vec_capacity told ≡ vec_capacity before
 
-pub joining_begins : {A : Type 0} (main : Seat) (works rest : List LaneWork) → rest ≡ works → IsJoining {A = A} main main works [] [] rest
-joining_begins main works rest is = record {
+pub joining_begins : {A B : Type 0} (main : Seat) (works rest : List LaneWork) (told : Vec (Vec StepAnswer A) B) → rest ≡ works → IsJoining main main works told told [] rest
+joining_begins main works rest told is = record {
   all = is;
   seats = record {
     number_is = refl;
@@ -38,7 +43,9 @@ joining_begins main works rest is = record {
     ended_are = sym (append-nil main.ended);
     left_is = omega arith;
   };
-  answers = refl;
+  answers = sym (append-nil (lists told.items));
+  len = omega arith;
+  room = refl;
 }
 
 seats_more : (works : List LaneWork) (work : LaneWork) → map (λ (w : LaneWork). w.seat) (works ++ work ∷ []) ≡ map (λ (w : LaneWork). w.seat) works ++ work.seat ∷ []
@@ -59,23 +66,38 @@ joined_more main now after seats seat are is = record {
   left_is = let left = ap (λ (s : Seat). s.left) is in omega (arith, left, are.left_is);
 }
 
-pub joining_more : {A : Type 0} (main now after : Seat) (works : List LaneWork) (told more : List (Vec StepAnswer A)) (answers : Vec StepAnswer A) (joined rest later : List LaneWork) (work : LaneWork)
-    → IsJoining main now works told joined rest → rest ≡ work ∷ later → after ≡ joined_seat now work.seat → more ≡ told ++ answers ∷ [] → answers.items ≡ work.answers.items → IsJoining main after works more (joined ++ work ∷ []) later
-joining_more main now after works told more answers joined rest later work is next seat items same = record {
+pub joining_more : {A B : Type 0} (main now after : Seat) (works : List LaneWork) (before told more : Vec (Vec StepAnswer A) B) (answers : Vec StepAnswer A) (joined rest later : List LaneWork) (work : LaneWork)
+    → IsJoining main now works before told joined rest → rest ≡ work ∷ later → after ≡ joined_seat now work.seat → more.items ≡ told.items ++ answers ∷ [] → answers.items ≡ work.answers.items
+    → vec_len more ≡ vec_len told + 1 → vec_capacity more ≡ vec_capacity told → IsJoining main after works before more (joined ++ work ∷ []) later
+joining_more main now after works before told more answers joined rest later work is next seat items same len room = record {
   all = append_assoc joined (work ∷ []) later ∙ ap (λ l. joined ++ l) (sym next) ∙ is.all;
   seats = subst (AreJoined main after) (sym (seats_more joined work)) (joined_more main now after (map (λ (w : LaneWork). w.seat) joined) work.seat is.seats seat);
-  answers = ap answer_lists items ∙ map-append (λ (lane : Vec StepAnswer _). lane.items) told (answers ∷ []) ∙ (λ i. is.answers i ++ same i ∷ []) ∙ sym (map-append (λ (w : LaneWork). w.answers.items) joined (work ∷ []));
+  answers = ap lists items ∙ map-append (λ (lane : Vec StepAnswer _). lane.items) told.items (answers ∷ []) ∙ (λ i. is.answers i ++ same i ∷ [])
+      ∙ append_assoc (lists before.items) (map (λ (w : LaneWork). w.answers.items) joined) (work.answers.items ∷ [])
+      ∙ ap (λ l. lists before.items ++ l) (sym (map-append (λ (w : LaneWork). w.answers.items) joined (work ∷ [])));
+  len = let count = length-append joined (work ∷ []) in omega (arith, len, is.len, count);
+  room = room ∙ is.room;
 }
+
+-- there is room for the answers of the next lane
+pub room_to_join : {A B : Type 0} (main now : Seat) (works : List LaneWork) (before told : Vec (Vec StepAnswer A) B) (joined rest later : List LaneWork) (work : LaneWork) → IsJoining main now works before told joined rest → rest ≡ work ∷ later
+    → vec_len before + length works ≤ vec_capacity before → vec_len told < vec_capacity told
+room_to_join main now works before told joined rest later work is next enough =
+    let count = ap length (sym is.all) ∙ length-append joined rest in
+    let some = ap length next in
+    omega (arith, count, some, enough, is.len, is.room)
 
 -- ---- splitting
 
-pub record IsSplitting {F : _} {g : _} (lock : DemLock F g) (main now : Seat) (lanes : List (List Step)) (works : List LaneWork) (index : ℕ) : Type 0 where
-  pub off : IsSplitOff main now index (steps_in (take index lanes))
-  pub split : AreSplit lock main (main.children + 1) (take index lanes) works
+pub record IsSplitting {F : _} {g : _} (lock : DemLock F g) (main now : Seat) (rooms : List LaneRoom) (works : List LaneWork) (done rest : List LaneRoom) : Type 0 where
+  pub all : done ++ rest ≡ rooms
+  pub off : IsSplitOff main now (length done) (steps_in (steps_of done))
+  pub split : AreSplit lock main (main.children + 1) (steps_of done) works
 
-pub splitting_begins : {F : _} {g : _} (lock : DemLock F g) (main : Seat) (lanes : List (List Step)) (works : List LaneWork) → works ≡ [] → IsSplitting lock main main lanes works 0
+pub splitting_begins : {F : _} {g : _} (lock : DemLock F g) (main : Seat) (rooms rest : List LaneRoom) (works : List LaneWork) → rest ≡ rooms → works ≡ [] → IsSplitting lock main main rooms works [] rest
 unfolding AreSplit
-splitting_begins lock main lanes works none = record {
+splitting_begins lock main rooms rest works is none = record {
+  all = is;
   off = record {
     number_is = refl;
     start_is = refl;
@@ -98,39 +120,82 @@ split_more lock main number next [] (w ∷ works) steps work is are one = absurd
 split_more lock main number next (l ∷ lanes) [] steps work is are one = absurd are
 split_more lock main number next (l ∷ lanes) (w ∷ works) steps work is are one = (are.0, split_more lock main (number + 1) next lanes works steps work (omega (arith, is)) are.1 one)
 
-length_take : {X : Type 0} (n : ℕ) (xs : List X) → n ≤ length xs → length (take n xs) ≡ n
-length_take zero xs within = refl
-length_take (suc n) [] within = absurd (omega arith)
-length_take (suc n) (x ∷ xs) within = let more = length_take n xs (omega arith) in omega (arith, more)
+pub steps_of_length : (rooms : List LaneRoom) → length (steps_of rooms) ≡ length rooms
+steps_of_length rooms = length-map rooms (λ (room : LaneRoom). room.steps.items)
+
+steps_in-append : (lanes more : List (List Step)) → steps_in (lanes ++ more) ≡ steps_in lanes + steps_in more
+steps_in-append lanes more = sum_by-append (λ (l : List Step). length l) lanes more
+
+steps_in-cons : (steps : List Step) (lanes : List (List Step)) → steps_in (steps ∷ lanes) ≡ length steps + steps_in lanes
+steps_in-cons steps lanes = sum_by-cons (λ (l : List Step). length l) steps lanes
+
+steps_of-append : (rooms more : List LaneRoom) → steps_of (rooms ++ more) ≡ steps_of rooms ++ steps_of more
+steps_of-append rooms more = map-append (λ (room : LaneRoom). room.steps.items) rooms more
+
+-- what holds of each lane, holds of the next
+pub next_of : {X : Type 0} (P : X → Type 0) (all done rest later : List X) (x : X) → done ++ rest ≡ all → rest ≡ x ∷ later → All P all → P x
+next_of P all done rest later x is next holds = All-head P x later (subst (All P) next (all_right P done rest (subst (All P) (sym is) holds)))
+
+pub lane_for : (config : Config) (rooms done rest later : List LaneRoom) (room : LaneRoom) → done ++ rest ≡ rooms → rest ≡ room ∷ later → All (IsLaneFor config) (steps_of rooms) → IsLaneFor config room.steps.items
+lane_for config rooms done rest later room is next steps =
+    next_of (IsLaneFor config) (steps_of rooms) (steps_of done) (steps_of rest) (steps_of later) room.steps.items (sym (steps_of-append done rest) ∙ ap steps_of is) (ap steps_of next) steps
+
+all_steps : (rooms done rest later : List LaneRoom) (room : LaneRoom) → done ++ rest ≡ rooms → rest ≡ room ∷ later → steps_in (steps_of rooms) ≡ steps_in (steps_of done) + (length room.steps.items + steps_in (steps_of later))
+all_steps rooms done rest later room is next = ap (λ l. steps_in (steps_of l)) (sym is) ∙ ap steps_in (steps_of-append done rest) ∙ steps_in-append (steps_of done) (steps_of rest)
+    ∙ ap (λ l. steps_in (steps_of done) + steps_in (steps_of l)) next ∙ ap (λ n. steps_in (steps_of done) + n) (steps_in-cons room.steps.items (steps_of later))
 
 -- there is a call for each step of the next lane
-pub room_for : {F : _} {g : _} (lock : DemLock F g) (main now : Seat) (lanes : List (List Step)) (works : List LaneWork) (index : ℕ) (d : List Step) → IsSplitting lock main now lanes works index → index < length lanes
-    → steps_in lanes ≤ main.left → length (get_or lanes index d) ≤ now.left
-room_for lock main now lanes works index d is within enough =
-    let sum = sum_by_more_le (λ (l : List Step). length l) lanes index d within in
+pub room_for : {F : _} {g : _} (lock : DemLock F g) (main now : Seat) (rooms : List LaneRoom) (works : List LaneWork) (done rest later : List LaneRoom) (room : LaneRoom) → IsSplitting lock main now rooms works done rest → rest ≡ room ∷ later
+    → steps_in (steps_of rooms) ≤ main.left → length room.steps.items ≤ now.left
+room_for lock main now rooms works done rest later room is next enough =
+    let sum = all_steps rooms done rest later room is.all next in
     omega (arith, sum, is.off.left_is, enough)
 
-pub splitting_more : {F : _} {g : _} (lock : DemLock F g) (main now after : Seat) (lanes : List (List Step)) (works more : List LaneWork) (index : ℕ) (steps : List Step) (work : LaneWork) → IsSplitting lock main now lanes works index
-    → index < length lanes → steps ≡ get_or lanes index steps → length steps ≤ now.left → IsSeatOf lock main → IsLaneAmong (length main.start.config.events.items) steps
-    → after ≡ split_off (length steps) now → work.seat ≡ split_seat (length steps) now → work.steps.items ≡ steps → vec_len work.steps ≡ length steps → work.answers.items ≡ [] → vec_len work.answers ≡ 0
-    → length steps ≤ vec_capacity work.answers → more ≡ works ++ work ∷ [] → IsSplitting lock main after lanes more (index + 1)
-splitting_more lock main now after lanes works more index steps work is within step_is enough owned among after_is seat_is steps_are len none no_len room items =
+-- and a number
+pub number_for : {F : _} {g : _} (lock : DemLock F g) (main now : Seat) (rooms : List LaneRoom) (works : List LaneWork) (done rest later : List LaneRoom) (room : LaneRoom) → IsSplitting lock main now rooms works done rest → rest ≡ room ∷ later
+    → now.children + 1 ≤ main.children + length rooms
+number_for lock main now rooms works done rest later room is next =
+    let count = ap length (sym is.all) ∙ length-append done rest in
+    let some = ap length next in
+    omega (arith, count, some, is.off.children_is)
+
+-- and room for its seat
+pub seat_for : {F : _} {g : _} (lock : DemLock F g) (main now : Seat) (rooms : List LaneRoom) (works : List LaneWork) (done rest later : List LaneRoom) (room : LaneRoom) → IsSplitting lock main now rooms works done rest → rest ≡ room ∷ later
+    → length done + 1 ≤ length rooms
+seat_for lock main now rooms works done rest later room is next =
+    let count = ap length (sym is.all) ∙ length-append done rest in
+    let some = ap length next in
+    omega (arith, count, some)
+
+pub splitting_more : {F : _} {g : _} (lock : DemLock F g) (main now after : Seat) (rooms : List LaneRoom) (works more : List LaneWork) (done rest later : List LaneRoom) (room : LaneRoom) (work : LaneWork)
+    → IsSplitting lock main now rooms works done rest → rest ≡ room ∷ later → length room.steps.items ≤ now.left → IsSeatOf lock main → IsLaneFor main.start.config room.steps.items → IsLaneRoom room
+    → after ≡ split_off (length room.steps.items) now → work.seat ≡ split_seat (length room.steps.items) now → work.number ≡ work.seat.number → work.steps ≡ room.steps → work.answers ≡ room.answers
+    → more ≡ works ++ work ∷ [] → IsSplitting lock main after rooms more (done ++ room ∷ []) later
+splitting_more lock main now after rooms works more done rest later room work is next enough owned among ready after_is seat_is number steps_are answers_are items =
     let off = is.off in
-    let taken : take (index + 1) lanes ≡ take index lanes ++ steps ∷ [] = take_more lanes index steps within ∙ ap (λ l. take index lanes ++ l ∷ []) (sym step_is) in
-    let sum : steps_in (take (index + 1) lanes) ≡ steps_in (take index lanes) + length steps = sum_by_more (λ (l : List Step). length l) lanes index steps within ∙ ap (λ l. steps_in (take index lanes) + length l) (sym step_is) in
+    let steps = room.steps.items in
+    let lanes : steps_of (done ++ room ∷ []) ≡ steps_of done ++ steps ∷ [] = steps_of-append done (room ∷ []) in
+    let sum : steps_in (steps_of (done ++ room ∷ [])) ≡ steps_in (steps_of done) + length steps =
+    ap steps_in lanes ∙ sum_by_push (λ (l : List Step). length l) (steps_of done) steps in
+    let count : length (done ++ room ∷ []) ≡ length done + 1 = length-append done (room ∷ []) in
     let start : work.seat.start ≡ main.start = ap (λ (s : Seat). s.start) seat_is ∙ off.start_is in
     let lock_is = ap (λ (s : Seat). s.lock) seat_is ∙ off.lock_is in
     let left : work.seat.left ≡ length steps = ap (λ (s : Seat). s.left) seat_is in
+    let step_list : work.steps.items ≡ steps = ap (λ (v : Vec Step _). v.items) steps_are in
+    let len = ap (λ (v : Vec Step _). vec_len v) steps_are in
+    let told_len = ap (λ (v : Vec StepAnswer _). vec_len v) answers_are in
+    let told_room = ap (λ (v : Vec StepAnswer _). vec_capacity v) answers_are in
     let one : IsSplit lock main (now.children + 1) steps work = record {
       ready = record {
         seat = (lock_is ∙ owned.0, ap (λ s. s.config) start ∙ owned.1);
-        steps = rw (start, steps_are) among.0;
-        few = omega (arith, len, among.1);
-        calls = omega (arith, len, left);
-        room = omega (arith, len, no_len, room);
+        number = number;
+        steps = rw (start, step_list) among.0;
+        few = omega (arith, len, ready.len, among.1);
+        calls = omega (arith, len, ready.len, left);
+        room = omega (arith, len, ready.len, told_len, told_room, ready.empty, ready.enough);
       };
-      steps_are = steps_are;
-      no_answers = none;
+      steps_are = step_list;
+      no_answers = ap (λ (v : Vec StepAnswer _). v.items) answers_are ∙ ready.none;
       number_is = ap (λ (s : Seat). s.number) seat_is;
       start_is = start;
       seen_is = ap (λ (s : Seat). s.seen) seat_is ∙ off.seen_is;
@@ -139,6 +204,7 @@ splitting_more lock main now after lanes works more index steps work is within s
       left_is = left;
     } in
     record {
+      all = append_assoc done (room ∷ []) later ∙ ap (λ l. done ++ l) (sym next) ∙ is.all;
       off = record {
         number_is = ap (λ (s : Seat). s.number) after_is ∙ off.number_is;
         start_is = ap (λ (s : Seat). s.start) after_is ∙ off.start_is;
@@ -147,20 +213,12 @@ splitting_more lock main now after lanes works more index steps work is within s
         mine_is = ap (λ (s : Seat). s.mine) after_is ∙ off.mine_is;
         olds_are = ap (λ (s : Seat). s.olds) after_is ∙ off.olds_are;
         ended_are = ap (λ (s : Seat). s.ended) after_is ∙ off.ended_are;
-        children_is = let c = ap (λ (s : Seat). s.children) after_is in omega (arith, c, off.children_is);
+        children_is = let c = ap (λ (s : Seat). s.children) after_is in omega (arith, c, count, off.children_is);
         left_is = let l = ap (λ (s : Seat). s.left) after_is in omega (arith, l, sum, off.left_is, enough);
       };
-      split = subst (λ l. AreSplit lock main (main.children + 1) l more) (sym taken) (subst (AreSplit lock main (main.children + 1) (take index lanes ++ steps ∷ [])) (sym items)
-          (split_more lock main (main.children + 1) (now.children + 1) (take index lanes) works steps work (let n = length_take index lanes (omega (arith, within)) in omega (arith, n, off.children_is)) is.split one));
+      split = subst (λ l. AreSplit lock main (main.children + 1) l more) (sym lanes) (subst (AreSplit lock main (main.children + 1) (steps_of done ++ steps ∷ [])) (sym items)
+          (split_more lock main (main.children + 1) (now.children + 1) (steps_of done) works steps work (let n = steps_of_length done in omega (arith, n, off.children_is)) is.split one));
     }
-
--- a lane's steps, without where they lie
-pub lane_at : {A : Type 0} (lanes : List (Vec Step A)) (k : ℕ) (d : Vec Step A) (steps : List Step) → k < length lanes → d ≡ get_or lanes k d → steps ≡ d.items → steps ≡ get_or (lists lanes) k steps
-lane_at lanes k d steps within is same = subst (λ (l : List Step). l ≡ get_or (lists lanes) k l) (sym same)
-    (ap (λ (v : Vec Step _). v.items) is ∙ sym (get_or-map (λ (v : Vec Step _). v.items) lanes k d d.items within))
-
-pub lists_length : {A : Type 0} (lanes : List (Vec Step A)) → length (lists lanes) ≡ length lanes
-lists_length lanes = length-map lanes (λ (v : Vec Step _). v.items)
 
 pub all_ready : {F : _} {g : _} (lock : DemLock F g) (main : Seat) (number : ℕ) (lanes : List (List Step)) (works : List LaneWork) → AreSplit lock main number lanes works → All (IsReady lock) works
 unfolding AreSplit

@@ -1,12 +1,17 @@
--- The seats of a block's lanes: split from the main seat, and joined again.
+-- The seats of a block's lanes: split from the main seat, and joined again; and what a part of a life leaves.
 use Rattle.std.specs.Prelude.{◌≡◌, ℕ, ◌+◌, ◌≤◌, List, [], ◌∷◌, ◌++◌, map, length}
+use Rattle.flt_model.specs.declared.call.Op.{Op}
+use Rattle.flt_model.specs.declared.call.Reply.{Reply}
 use Rattle.flt_script.specs.declared.step.Step.{Step}
 use Rattle.flt_shared.specs.declared.lock.DemLock.{DemLock}
-use Rattle.flt_shared.specs.Call.{Journal, Seat}
+use Rattle.flt_shared.specs.Call.{Seat, reply_after}
 use Rattle.flt_lane.specs.declared.lane.LaneWork.{LaneWork}
 use Rattle.flt_lane.specs.declared.step.StepAnswer.{StepAnswer}
-use Rattle.flt_lane.specs.Life.{Mixes, LanesTold, calls, numbered}
-use Rattle.flt_lane.specs.Lived.{IsMain, IsWhole}
+use Rattle.flt_lane.specs.Calls.{MadeBy}
+use Rattle.flt_lane.specs.Journal.{Block}
+use Rattle.flt_lane.specs.Lived.{HasLived}
+use Rattle.flt_lane.specs.Making.{PartOf, LanesMake, PartMakes, PartsMake, width, widths}
+use Rattle.flt_lane.specs.Runs.{Makes}
 use Rattle.flt_lane.specs.Work.{IsReady}
 
 -- A lane that was made ready: its seat knows what the main seat knew, and has exactly the calls of its steps.
@@ -52,23 +57,36 @@ pub record AreJoined (main after : Seat) (seats : List Seat) : Type 0 where
   pub ended_are : after.ended ≡ main.ended ++ map (λ (s : Seat). (s.number, s.mine)) seats
   pub left_is : main.left ≤ after.left
 
--- The calls of these lanes stand behind a journal in which the lock could be closed before, and are answered
-pub record Leads (main : Seat) (lanes : List (ℕ × List Step)) (told : List (List StepAnswer)) (journal : Journal) : Type 0 where
-  pub before : Journal
-  pub block : Journal
-  pub split : journal ≡ before ++ block
-  pub whole : IsWhole main before
-  pub mixes : Mixes block (calls lanes)
-  pub answered : LanesTold main.start journal lanes told
+-- The lanes of a block were run, and were answered so.
+pub record HasRunBlock (main after : Seat) (lanes : List (List Step)) (told : List (List StepAnswer)) : Type 0 where
+  pub made : Block Op Reply
+  pub makes : LanesMake MadeBy (main.children + 1) lanes told made
+  pub lived : HasLived reply_after main after (length lanes) (made ∷ [])
 
--- A part was carried out
-pub record IsPart (main after : Seat) (width : ℕ) (lanes : List (ℕ × List Step)) (told : List (List StepAnswer)) : Type 0 where
-  pub main_after : IsMain after
-  pub start_is : after.start ≡ main.start
-  pub lock_is : after.lock ≡ main.lock
-  pub children_is : after.children ≡ main.children + width
-  pub leads : (journal : Journal) → IsWhole after journal → Leads main lanes told journal
+-- The lanes of a block were run, and their answers were put behind those of the lanes before.
+pub record RunsLanes (main after : Seat) (lanes : List (List Step)) (told told_after : List (List StepAnswer)) : Type 0 where
+  pub others : List (List StepAnswer)
+  pub told_are : told_after ≡ told ++ others
+  pub run : HasRunBlock main after lanes others
 
--- A block was carried out.
-abbrev pub IsBlock : Seat → Seat → List (List Step) → List (List StepAnswer) → Type 0
-IsBlock main after lanes told = IsPart main after (length lanes) (numbered (main.children + 1) lanes) told
+-- Lane 0 made a step, and the answer was put behind those that it has.
+pub record HasStepped (main after : Seat) (step : Step) (own own_after : List StepAnswer) : Type 0 where
+  pub answer : StepAnswer
+  pub own_are : own_after ≡ own ++ answer ∷ []
+  pub makes : Makes main step answer after
+
+-- A part was carried out, and its answers were put behind those of lane 0 and of the lanes before.
+pub record Gains (main after : Seat) (part : PartOf Step) (own own_after : List StepAnswer) (lanes lanes_after : List (List StepAnswer)) : Type 0 where
+  pub mine : List StepAnswer
+  pub others : List (List StepAnswer)
+  pub own_are : own_after ≡ own ++ mine
+  pub lanes_are : lanes_after ≡ lanes ++ others
+  pub made : Block Op Reply
+  pub makes : PartMakes MadeBy (main.children + 1) part mine others made
+  pub lived : HasLived reply_after main after (width part) (made ∷ [])
+
+-- All parts were carried out, and were answered so.
+pub record HasRunParts (main after : Seat) (parts : List (PartOf Step)) (own : List StepAnswer) (lanes : List (List StepAnswer)) : Type 0 where
+  pub blocks : List (Block Op Reply)
+  pub made : PartsMake MadeBy (main.children + 1) parts own lanes blocks
+  pub lived : HasLived reply_after main after (widths parts) blocks

@@ -1,6 +1,10 @@
+pub mod Chain
+pub mod Journal
+pub mod Lived
+pub mod Making
 pub mod Calls
 pub mod Runs
 pub mod Work
 pub mod Life
-pub mod Lived
 pub mod Block
+pub mod Room

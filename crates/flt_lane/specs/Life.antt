@@ -1,78 +1,55 @@
 -- How the journal of a life follows its script, and how its steps are answered there.
-use Rattle.std.specs.Prelude.{◌≡◌, ℕ, ◌+◌, List, [], ◌∷◌, ◌++◌, All, Contains, Vec, map, length, slice_get, Some}
-use Rattle.flt_model.specs.Answer.{answer}
+use Rattle.std.specs.Prelude.{ℕ, ◌≤◌, List, All, Vec, map, length}
+use Rattle.std.proofs.Common.{inl, inr}
+use Rattle.std.specs.List.{sum_by}
+use Rattle.flt_config.specs.declared.config.Config.{Config}
 use Rattle.flt_model.specs.declared.call.Op.{Op}
+use Rattle.flt_model.specs.declared.call.Reply.{Reply}
 use Rattle.flt_model.specs.declared.life.DemStart.{DemStart}
 use Rattle.flt_script.specs.declared.step.Step.{Step}
-use Rattle.flt_turn.specs.Journal.{entry, calls_of}
-use Rattle.flt_shared.specs.Call.{Journal, past}
+use Rattle.flt_shared.specs.Call.{Journal, reply_after}
 use Rattle.flt_lane.specs.declared.life.LifePart.{LifePart}
 use Rattle.flt_lane.specs.declared.life.LifePart.TheVariants.{One, Lanes}
 use Rattle.flt_lane.specs.declared.step.StepAnswer.{StepAnswer}
-use Rattle.flt_lane.specs.declared.step.StepAnswer.TheVariants.{Dem}
-use Rattle.flt_lane.specs.Calls.{op_of_step}
+use Rattle.flt_lane.specs.Calls.{IsStepFor, MadeBy, needs}
+use Rattle.flt_lane.specs.Journal.{Block, Follows, BlockTold}
+use Rattle.flt_lane.specs.Making.{PartOf, PartsMake}
 
--- ---- the journal
-
--- A journal has the calls of these lanes, those of each in its order, and no others.
-pub record Mixes (journal : Journal) (lanes : List (ℕ × List Op)) : Type 0 where
-  pub each : All (λ lane. calls_of lane.0 journal ≡ lane.1) lanes
-  pub others : (number : ℕ) → ¬ Contains (map (λ lane. lane.0) lanes) number → calls_of number journal ≡ []
-
--- Lanes with their numbers, which go on from this one.
-unfoldable pub numbered : ℕ → List (List Step) → List (ℕ × List Step)
-numbered number [] = []
-numbered number (steps ∷ lanes) = (number, steps) ∷ numbered (number + 1) lanes
-
--- Lists of steps without where they lie in memory.
+-- Lists without where they lie in memory.
 abbrev pub lists : {A X : Type 0} → List (Vec X A) → List (List X)
 lists lanes = map (λ lane. lane.items) lanes
 
--- The lanes of a part, where its block goes on from this number. A step by itself is lane 0's.
-abbrev pub lanes_of : ℕ → LifePart → List (ℕ × List Step)
-lanes_of number (One step) = (0, step ∷ []) ∷ []
-lanes_of number (Lanes lanes) = numbered number (lists lanes.items)
+-- A part without where it lies in memory, and all parts.
+abbrev pub part_of : LifePart → PartOf Step
+part_of (One step) = inl step
+part_of (Lanes lanes) = inr (lists lanes.items)
 
--- How many lanes a part's block has.
-abbrev pub width : LifePart → ℕ
-width (One step) = 0
-width (Lanes lanes) = length lanes.items
+abbrev pub parts_of : List LifePart → List (PartOf Step)
+parts_of parts = map part_of parts
 
--- The calls of lanes.
-abbrev pub calls : List (ℕ × List Step) → List (ℕ × List Op)
-calls lanes = map (λ lane. (lane.0, map op_of_step lane.1)) lanes
+-- The journal has the calls of the parts, those of each part together and behind those of the parts before it, those of each lane
+-- in its order, and no others; and each answer, of lane 0 and of the lanes of the blocks, whose numbers go on from 1, is the
+-- machine's at the places of its calls.
+pub record IsLife (start : DemStart) (parts : List (PartOf Step)) (own : List StepAnswer) (lanes : List (List StepAnswer)) (journal : Journal) : Type 0 where
+  pub blocks : List (Block Op Reply)
+  pub made : PartsMake MadeBy 1 parts own lanes blocks
+  pub follows : Follows blocks journal
+  pub told : All (BlockTold reply_after start journal) blocks
 
--- The journal follows the parts of a life: the calls of each part stand together, behind those of the parts before it.
-unfoldable pub Follows : ℕ → List LifePart → Journal → Type 0
-Follows number [] journal = journal ≡ []
-Follows number (part ∷ parts) journal =
-    (block : Journal) × (rest : Journal) × (journal ≡ block ++ rest) × Mixes block (calls (lanes_of number part)) × Follows (number + width part) parts rest
+-- ---- what is asked of the parts
 
--- ---- the answers
+-- How many calls the steps of lanes need, and those of a part, and those of all parts.
+abbrev pub steps_in : List (List Step) → ℕ
+steps_in lanes = sum_by length lanes
 
--- A step of this lane stands at the place that it was told, and is answered after the calls before that place.
-abbrev pub IsTold : DemStart → Journal → ℕ → Step → StepAnswer → Type 0
-IsTold start journal lane step (Dem told) =
-    (slice_get journal told.place ≡ Some (entry lane (op_of_step step))) × (told.reply ≡ answer start (past told.place journal) (op_of_step step))
+abbrev pub calls_in : PartOf Step → ℕ
+calls_in (inl step) = needs step
+calls_in (inr lanes) = steps_in lanes
 
--- So is each step of a lane.
-unfoldable pub AreTold : DemStart → Journal → ℕ → List Step → List StepAnswer → Type 0
-AreTold start journal lane [] [] = Unit {0}
-AreTold start journal lane [] (answer ∷ answers) = ⊥
-AreTold start journal lane (step ∷ steps) [] = ⊥
-AreTold start journal lane (step ∷ steps) (answer ∷ answers) = IsTold start journal lane step answer × AreTold start journal lane steps answers
+-- The steps of a lane are such as a lane can make, and are at most as many as a script has; and so are those of a part.
+abbrev pub IsLaneFor : Config → List Step → Type 0
+IsLaneFor config steps = All (IsStepFor config) steps × (length steps ≤ 65536)
 
--- So is each step of each lane.
-unfoldable pub LanesTold : DemStart → Journal → List (ℕ × List Step) → List (List StepAnswer) → Type 0
-LanesTold start journal [] [] = Unit {0}
-LanesTold start journal [] (answers ∷ more) = ⊥
-LanesTold start journal (lane ∷ lanes) [] = ⊥
-LanesTold start journal (lane ∷ lanes) (answers ∷ more) = AreTold start journal lane.0 lane.1 answers × LanesTold start journal lanes more
-
--- So is each step of each part of a life.
-unfoldable pub Answered : DemStart → Journal → ℕ → List LifePart → List (List (List StepAnswer)) → Type 0
-Answered start journal number [] [] = Unit {0}
-Answered start journal number [] (answers ∷ more) = ⊥
-Answered start journal number (part ∷ parts) [] = ⊥
-Answered start journal number (part ∷ parts) (answers ∷ more) =
-    LanesTold start journal (lanes_of number part) answers × Answered start journal (number + width part) parts more
+abbrev pub IsPartFor : Config → PartOf Step → Type 0
+IsPartFor config (inl step) = IsStepFor config step
+IsPartFor config (inr lanes) = All (IsLaneFor config) lanes

@@ -1,132 +1,84 @@
 //! A block: its lanes get their seats, run, and are joined.
-ghost use Rattle.std.specs.Prelude.{◌≡◌, ◌<◌, ◌≤◌, ◌+◌, ◌*◌, ◌^◌, [], ℕ, All, IfOk, OnOk, IsTrue, length, map, vec_len, slice_index_or};
+ghost use Rattle.std.specs.Prelude.{◌≡◌, ◌<◌, ◌≤◌, ◌+◌, ◌*◌, ◌^◌, ◌++◌, [], ℕ, All, length, map, vec_len, slice_index_or};
 ghost use Rattle.std.specs.Vec.{vec_capacity};
 ghost use Rattle.flt_turn.specs.Seats.{split_off, split_seat};
 ghost use Rattle.flt_shared.specs.Lock.{IsSeatOf};
 ghost use Rattle.flt_lane.specs.declared.lane.LaneWork.{LaneWork};
 ghost use Rattle.flt_lane.specs.Work.{IsReady, HasRun};
-ghost use Rattle.flt_lane.specs.Life.{lists, numbered};
-ghost use Rattle.flt_lane.specs.Lived.{IsMain, IsLaneAmong, steps_in, answer_lists};
-ghost use Rattle.flt_lane.specs.Block.{AreSplit, IsSplitOff, AreJoined, IsBlock};
+ghost use Rattle.flt_lane.specs.Life.{lists, IsLaneFor, steps_in};
+ghost use Rattle.flt_lane.specs.Lived.{IsMain};
+ghost use Rattle.flt_lane.specs.Room.{IsLaneRoom, steps_of};
+ghost use Rattle.flt_lane.specs.Block.{AreSplit, IsSplitOff, AreJoined, RunsLanes};
 
 use crate::gate::Gate;
 use crate::lane::{LaneWork, run_block};
+use crate::room::LaneRoom;
 use crate::step::StepAnswer;
-use arrayvec::ArrayVec;
-use flt_model::REQUEST;
-use flt_script::Step;
 use flt_shared::{DemLock, DemSeat};
-use std::alloc::{AllocError, Global};
 use std::marker::Sync;
 use std::sync::Wait;
 use std::thread::Threads;
 
-/// A copy of the bytes of a request, which takes no memory.
-fn copy_of_bytes(bytes: &ArrayVec<u8, REQUEST>) -> ArrayVec<u8, REQUEST>
-    ensures { result ≡ bytes.now }
-{
-    bytes.clone().unwrap()
-}
-
-/// A copy of a step, which takes no memory.
-fn copy_of_step(step: &Step) -> Step
-    ensures { result ≡ step.now }
-{
-    match step {
-        Step::Report { event, report } => Step::Report {
-            event: *event,
-            report: *report,
-        },
-        Step::Show { event } => Step::Show { event: *event },
-        Step::Cycle { cycle } => Step::Cycle { cycle: *cycle },
-        Step::Tick { ticks } => Step::Tick { ticks: *ticks },
-        Step::Signal { index, value } => Step::Signal {
-            index: *index,
-            value: *value,
-        },
-        Step::Request { tester, bytes } => Step::Request {
-            tester: *tester,
-            bytes: copy_of_bytes(bytes),
-        },
-    }
-}
-
-/// A copy of the steps of a lane.
-fn copy_of(alloc: Global, steps: &[Step]) -> Result<Vec<Step>, AllocError>
-    ensures { IfOk result (λ copy. copy.items ≡ steps.now) }
-{
-    let mut copy = Vec::with_capacity(alloc, steps.len())?;
-    for step in steps {
-        copy.push(copy_of_step(step))?;
-    }
-    Ok(copy)
-}
-
-/// Splits a seat for a lane, with exactly the calls that its steps need, and makes room for its answers.
-fn split_lane(
-    alloc: Global,
-    dem: &DemLock,
-    main: &mut DemSeat,
-    lane: &[Step],
-) -> Result<LaneWork, AllocError>
+/// Splits a seat for a lane, with exactly the calls that its steps need.
+fn split_lane(dem: &DemLock, main: &mut DemSeat, room: LaneRoom) -> LaneWork
     requires lock { IsSeatOf dem.now main.old }
     requires main { main.old.number ≡ 0 }
-    requires few { length lane.now ≤ 65536 }
-    requires calls { length lane.now ≤ main.old.left }
+    requires room { IsLaneRoom room }
+    requires few { length room.steps.items ≤ 65536 }
+    requires calls { length room.steps.items ≤ main.old.left }
     requires children { main.old.children + 1 < 2 ^ 32 }
-    ensures main { OnOk result (main.new ≡ split_off (length lane.now) main.old) }
-    ensures seat { IfOk result (λ work. work.seat ≡ split_seat (length lane.now) main.old) }
-    ensures steps { IfOk result (λ work. (work.steps.items ≡ lane.now) × (vec_len work.steps ≡ length lane.now)) }
-    ensures answers { IfOk result (λ work. (work.answers.items ≡ []) × (vec_len work.answers ≡ 0) × (length lane.now ≤ vec_capacity work.answers)) }
+    ensures main { main.new ≡ split_off (length room.steps.items) main.old }
+    ensures seat { result.seat ≡ split_seat (length room.steps.items) main.old }
+    ensures number { result.number ≡ result.seat.number }
+    ensures steps { result.steps ≡ room.steps }
+    ensures answers { result.answers ≡ room.answers }
 {
-    let steps = copy_of(alloc, lane)?;
-    let answers = Vec::with_capacity(alloc, lane.len())?;
-    let seat = dem.split(main, lane.len() as u32);
+    let LaneRoom { steps, answers } = room;
+    let seat = dem.split(main, steps.len() as u32);
     let number = seat.number();
-    Ok(LaneWork {
+    LaneWork {
         number,
         steps,
         seat,
         answers,
-    })
+    }
 }
 
 /// Splits a seat for each lane, with exactly the calls that its steps need.
-fn split_lanes(
-    alloc: Global,
-    dem: &DemLock,
-    main: &mut DemSeat,
-    lanes: &[Vec<Step>],
-) -> Result<Vec<LaneWork>, AllocError>
+fn split_lanes(dem: &DemLock, main: &mut DemSeat, rooms: Vec<LaneRoom>, works: &mut Vec<LaneWork>)
     requires lock { IsSeatOf dem.now main.old }
     requires main { main.old.number ≡ 0 }
-    requires among { All (IsLaneAmong (length main.old.start.config.events.items)) (lists lanes.now) }
-    requires calls { steps_in (lists lanes.now) ≤ main.old.left }
-    requires children { main.old.children + length lanes.now < 2 ^ 32 }
-    ensures works { IfOk result (λ works. AreSplit dem.now main.old (main.old.children + 1) (lists lanes.now) works.items) }
-    ensures main { OnOk result (IsSplitOff main.old main.new (length lanes.now) (steps_in (lists lanes.now))) }
+    requires room { All IsLaneRoom rooms.items }
+    requires steps { All (IsLaneFor main.old.start.config) (steps_of rooms.items) }
+    requires calls { steps_in (steps_of rooms.items) ≤ main.old.left }
+    requires children { main.old.children + length rooms.items < 2 ^ 32 }
+    requires none { works.old.items ≡ [] }
+    requires empty { vec_len works.old ≡ 0 }
+    requires seats { length rooms.items ≤ vec_capacity works.old }
+    ensures works { AreSplit dem.now main.old (main.old.children + 1) (steps_of rooms.items) works.new.items }
+    ensures main { IsSplitOff main.old main.new (length rooms.items) (steps_in (steps_of rooms.items)) }
 {
-    let mut works = Vec::with_capacity(alloc, lanes.len())?;
-    for lane in lanes {
-        let work = split_lane(alloc, dem, main, lane)?;
-        works.push(work)?;
+    for room in rooms {
+        let work = split_lane(dem, main, room);
+        works.push_reserved(work);
     }
-    Ok(works)
 }
 
-/// Joins the seats of lanes, and hands out their answers.
+/// Joins the seats of lanes, and puts their answers behind those that are there.
 fn join_lanes(
-    alloc: Global,
     dem: &DemLock,
     main: &mut DemSeat,
     works: Vec<LaneWork>,
-) -> Result<Vec<Vec<StepAnswer>>, AllocError>
+    told: &mut Vec<Vec<StepAnswer>>,
+)
     requires lock { IsSeatOf dem.now main.old × All (λ work. IsSeatOf dem.now work.seat) works.items }
     requires main { main.old.number ≡ 0 }
-    ensures told { IfOk result (λ told. answer_lists told.items ≡ map (λ work. work.answers.items) works.items) }
-    ensures joined { OnOk result (AreJoined main.old main.new (map (λ work. work.seat) works.items)) }
+    requires room { vec_len told.old + length works.items ≤ vec_capacity told.old }
+    ensures told { lists told.new.items ≡ lists told.old.items ++ map (λ work. work.answers.items) works.items }
+    ensures len { vec_len told.new ≡ vec_len told.old + length works.items }
+    ensures capacity { vec_capacity told.new ≡ vec_capacity told.old }
+    ensures joined { AreJoined main.old main.new (map (λ work. work.seat) works.items) }
 {
-    let mut told = Vec::with_capacity(alloc, works.len())?;
     for work in works {
         let LaneWork {
             number: _,
@@ -135,9 +87,8 @@ fn join_lanes(
             answers,
         } = work;
         dem.join(main, seat);
-        told.push(answers)?;
+        told.push_reserved(answers);
     }
-    Ok(told)
 }
 
 /// Runs lanes that are ready.
@@ -155,25 +106,35 @@ fn run_works<R: Threads + Wait + Sync, G: Gate + Sync>(
     run_block(rt, dem, works.as_mut_slice(), gate);
 }
 
-/// Runs the lanes of a block: the answers of each.
+/// Runs the lanes of a block, and puts their answers behind those that are there. No memory is taken: there is room for the seats
+/// in `works`, and in `told` for the answers.
 pub(crate) fn run_lanes<R: Threads + Wait + Sync, G: Gate + Sync>(
     rt: &R,
-    alloc: Global,
     dem: &DemLock,
     main: &mut DemSeat,
-    lanes: &[Vec<Step>],
+    rooms: Vec<LaneRoom>,
+    works: Vec<LaneWork>,
+    told: &mut Vec<Vec<StepAnswer>>,
     gate: &G,
-) -> Result<Vec<Vec<StepAnswer>>, AllocError>
+)
     requires lock { IsSeatOf dem.now main.old }
     requires main { IsMain main.old }
-    requires among { All (IsLaneAmong (length main.old.start.config.events.items)) (lists lanes.now) }
-    requires calls { steps_in (lists lanes.now) ≤ main.old.left }
-    requires children { main.old.children + length lanes.now < 2 ^ 32 }
-    ensures part { IfOk result (λ told. IsBlock main.old main.new (lists lanes.now) (answer_lists told.items)) }
-    ensures lock { OnOk result (IsSeatOf dem.now main.new) }
-    ensures left { OnOk result (main.old.left ≤ main.new.left + steps_in (lists lanes.now)) }
+    requires room { All IsLaneRoom rooms.items }
+    requires steps { All (IsLaneFor main.old.start.config) (steps_of rooms.items) }
+    requires calls { steps_in (steps_of rooms.items) ≤ main.old.left }
+    requires children { main.old.children + length rooms.items < 2 ^ 32 }
+    requires none { works.items ≡ [] }
+    requires empty { vec_len works ≡ 0 }
+    requires seats { length rooms.items ≤ vec_capacity works }
+    requires told { vec_len told.old + length rooms.items ≤ vec_capacity told.old }
+    ensures part { RunsLanes main.old main.new (steps_of rooms.items) (lists told.old.items) (lists told.new.items) }
+    ensures len { vec_len told.new ≡ vec_len told.old + length rooms.items }
+    ensures capacity { vec_capacity told.new ≡ vec_capacity told.old }
+    ensures lock { IsSeatOf dem.now main.new }
+    ensures left { main.old.left ≤ main.new.left + steps_in (steps_of rooms.items) }
 {
-    let mut works = split_lanes(alloc, dem, main, lanes)?;
+    let mut works = works;
+    split_lanes(dem, main, rooms, &mut works);
     run_works(rt, dem, &mut works, gate);
-    join_lanes(alloc, dem, main, works)
+    join_lanes(dem, main, works, told);
 }

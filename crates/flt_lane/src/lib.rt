@@ -1,7 +1,8 @@
 //! The lanes of a script: each makes the calls of its steps on the shared status machine, at the same time as the others.
 //!
-//! Stands on `flt_shared` and `flt_script`. Read `specs/Runs.antt` first: what a lane does; then `specs/Life.antt`: how the journal
-//! of a life follows the script.
+//! Stands on `flt_shared` and `flt_script`. The layer above uses `run_life`. Read `specs/Life.antt` first: what it says of the journal
+//! and of the answers. `specs/Chain.antt`, `Journal.antt`, `Lived.antt` and `Making.antt` are stated over any machine and any kind of
+//! steps; `Calls.antt` has which calls a step makes.
 #![tactic(auto)]
 
 mod beside;
@@ -10,6 +11,7 @@ mod gate;
 mod lane;
 mod life;
 mod living;
+mod room;
 mod step;
 #[cfg(test)]
 mod tests;
@@ -17,5 +19,5 @@ mod tests;
 pub use gate::{Gate, OpenGate};
 pub use lane::{LaneWork, run_block};
 pub use life::LifePart;
-pub use living::{Lived, run_life, run_parts};
+pub use living::{LifeAnswers, Lived, run_life};
 pub use step::{StepAnswer, do_step};

@@ -1,9 +1,8 @@
 // Two lanes that are at work at the same time.
-ghost use Rattle.std.specs.Prelude.{◌≡◌, ◌≤◌, ◌∷◌, [], ℕ, All, IfOk, sum_by};
+ghost use Rattle.std.specs.Prelude.{◌≡◌, ◌≤◌, ◌∷◌, [], ℕ, All, IfOk, length, sum_by};
 ghost use Rattle.flt_script.specs.declared.step.Step.TheVariants.{Cycle};
-ghost use Rattle.flt_lane.specs.Life.{lists};
-ghost use Rattle.flt_lane.specs.declared.life.LifePart.TheVariants.{Lanes};
-ghost use Rattle.flt_lane.specs.Lived.{IsPartAmong, calls_in, widths};
+ghost use Rattle.flt_lane.specs.Life.{IsPartFor, calls_in, lists, parts_of};
+ghost use Rattle.flt_lane.specs.Making.{widths};
 
 use crate::{Gate, LifePart, Lived, run_life};
 use arrayvec::ArrayVec;
@@ -22,9 +21,10 @@ use std::thread::yield_now;
 // How often a lane looks for the other.
 const TURNS: u32 = 1_000_000;
 
-// Holds each of two lanes ahead of its step until the other has come to its own.
+// Holds each of two lanes ahead of its step until the other has come to its own, and counts the steps of lane 0.
 #[derive(Drop)]
 struct Meeting {
+    own: AtomicU64,
     first: AtomicU64,
     second: AtomicU64,
     after: AtomicU64,
@@ -33,6 +33,10 @@ struct Meeting {
 
 impl Gate for Meeting {
     fn before<R: Wait>(&self, _rt: &R, lane: u32, _step: u32) {
+        if lane == 0 {
+            self.own.fetch_add(1, Ordering::SeqCst);
+            return;
+        }
         let (mine, other) = if lane == 1 {
             (&self.first, &self.second)
         } else {
@@ -74,13 +78,14 @@ fn lanes(alloc: Global) -> Result<Vec<Vec<Step>>, AllocError>
     Ok(lanes)
 }
 
-// A life of one block.
+// A life of a step by itself and one block.
 fn block(alloc: Global) -> Result<Vec<LifePart>, AllocError>
-    ensures among { IfOk result (λ parts. (events : ℕ) → All (IsPartAmong events) parts.items) }
-    ensures calls { IfOk result (λ parts. (sum_by calls_in parts.items ≤ 2) × (widths parts.items ≤ 2)) }
+    ensures steps { IfOk result (λ parts. (config : Config) → All (IsPartFor config) (parts_of parts.items)) }
+    ensures calls { IfOk result (λ parts. (sum_by calls_in (parts_of parts.items) ≤ 3) × (widths (parts_of parts.items) ≤ 2) × (length parts.items ≤ 2)) }
 {
     let lanes = lanes(alloc)?;
     let mut parts = Vec::new(alloc);
+    parts.push(LifePart::One(Step::Cycle { cycle: 1 }))?;
     parts.push(LifePart::Lanes(lanes))?;
     Ok(parts)
 }
@@ -117,22 +122,26 @@ fn lanes_overlap(rt: HostRuntime) -> Result<(), Fail> {
         return Err(Fail::from("table"));
     }
     let unit = Unit::make(Dem::make(config, dids));
-    let Ok((lock, main)) = DemLock::make(rt.alloc(), unit, 2) else {
+    let Ok((lock, main)) = DemLock::make(rt.alloc(), unit, 3) else {
         return Err(Fail::from("memory"));
     };
     let gate = Meeting {
+        own: AtomicU64::new(0),
         first: AtomicU64::new(0),
         second: AtomicU64::new(0),
         after: AtomicU64::new(0),
         alone: AtomicU64::new(0),
     };
     let parts = block(rt.alloc())?;
-    let Lived { end, told } = run_life(&rt, rt.alloc(), lock, main, &parts, &gate)?;
+    let Lived { end, answers } = run_life(&rt, rt.alloc(), lock, main, &parts, &gate)?;
     assert_eq!(rt; gate.alone.load(Ordering::SeqCst), 0);
+    assert_eq!(rt; gate.own.load(Ordering::SeqCst), 1);
     assert_eq!(rt; gate.first.load(Ordering::SeqCst), 1);
     assert_eq!(rt; gate.second.load(Ordering::SeqCst), 1);
-    assert_eq!(rt; gate.after.load(Ordering::SeqCst), 2);
-    assert_eq!(rt; end.journal.len(), 2);
-    assert_eq!(rt; told.len(), 1);
+    assert_eq!(rt; gate.after.load(Ordering::SeqCst), 3);
+    assert_eq!(rt; end.journal.len(), 3);
+    assert_eq!(rt; end.journal[0].lane, 0);
+    assert_eq!(rt; answers.own.len(), 1);
+    assert_eq!(rt; answers.lanes.len(), 2);
     Ok(())
 }

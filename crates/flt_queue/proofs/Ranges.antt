@@ -7,7 +7,8 @@ use Rattle.flt_queue.specs.declared.job.QueueOp.{QueueOp}
 use Rattle.flt_queue.specs.declared.job.QueueOp.TheVariants as ops
 use Rattle.flt_queue.specs.declared.job.QueueReply.{QueueReply}
 use Rattle.flt_queue.specs.Queue.{History, Posted, posted, IsJob, IsAdmitted, IsFor, waiting, pending, some_urgent, earliest, without_earliest, handed_out}
-use Rattle.flt_queue.specs.Call.{Seat, past, IsCall}
+use Rattle.flt_queue.specs.Call.{Seat, IsCall}
+use Rattle.flt_turn.specs.Call.{past}
 use Rattle.flt_turn.specs.declared.answer.Answer.{Answer}
 use Rattle.flt_turn.specs.declared.answer.HistoryFull.{HistoryFull}
 use Rattle.flt_turn.specs.Seats.{ops_before}

@@ -5,7 +5,8 @@ ghost use mathlib.Core.List.{IsPrefix};
 ghost use Rattle.flt_queue.specs.declared.job.QueueOp.TheVariants as ops;
 ghost use Rattle.flt_queue.specs.Queue.{IsAdmitted, IsFor, IsJob};
 ghost use Rattle.flt_queue.specs.Stands.{Stands};
-ghost use Rattle.flt_queue.specs.Call.{IsCall, IsRefusal};
+ghost use Rattle.flt_queue.specs.Call.{IsCall};
+ghost use Rattle.flt_turn.specs.Call.{IsRefusal};
 ghost use Rattle.flt_turn.specs.Journal.{Interleaves, ops_of};
 ghost use Rattle.flt_turn.specs.Seats.{IsSeatOf, main_seat, split_off, split_seat, joined_seat};
 

@@ -1,6 +1,7 @@
 //! The queue itself: two lists of jobs, and a table of the blocks.
 ghost use Rattle.std.specs.Prelude.{◌≡◌, ◌≤◌, ◌<◌, ◌∷◌, [], ℕ, All, length, reverse};
 ghost use Rattle.flt_queue.specs.Queue.{History, IsAdmitted, IsFor, IsJob, answer_q, result_of as result_is};
+ghost use Rattle.flt_queue.specs.Call.{reply_after};
 ghost use Rattle.flt_queue.specs.declared.job.QueueOp.TheVariants as ops;
 
 use crate::job::{BLOCKS, Job, LastResult, QueueOp, QueueReply, WAITING};
@@ -182,7 +183,7 @@ impl Machine for JobQueue {
 
     ghost stands_for = { λ queue blocks ops. Stands blocks (reverse ops) queue };
 
-    ghost answer = { λ _ ops op. answer_q (reverse ops) op };
+    ghost answer = { reply_after };
 
     ghost written = { λ _ _ _ out. out };
 }

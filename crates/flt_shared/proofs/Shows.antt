@@ -11,7 +11,8 @@ use Rattle.flt_model.specs.declared.call.Reply.{Reply}
 use Rattle.flt_dcm.proofs.StandardLemmas.{bits_behind_a_clear, bits_from_the_start}
 use Rattle.flt_turn.specs.declared.answer.Answer.{Answer}
 use Rattle.flt_turn.specs.declared.answer.HistoryFull.{HistoryFull}
-use Rattle.flt_shared.specs.Call.{Seat, IsCall, ShowsStandard, past}
+use Rattle.flt_turn.specs.Call.{past}
+use Rattle.flt_shared.specs.Call.{Seat, IsCall, ShowsStandard}
 
 shows_standard : (life : Life) (before : History) (event : ℕ) (reply : Reply) → reply ≡ answer life before (ops.Show event) → ShowsStandard life before event reply
 shows_standard life before event reply is =

@@ -1,5 +1,5 @@
 -- What a call of the locked status machine tells.
-use Rattle.std.specs.Prelude.{◌≡◌, ℕ, List, All, reverse}
+use Rattle.std.specs.Prelude.{ℕ, List, reverse}
 use Rattle.flt_model.specs.Life.{Life, History}
 use Rattle.flt_model.specs.Answer.{answer}
 use Rattle.flt_model.specs.Mark.{marks_of}
@@ -12,9 +12,9 @@ use Rattle.flt_model.specs.declared.life.DemStart.{DemStart}
 use Rattle.flt_dcm.specs.Unit.{IsAdmitted}
 use Rattle.flt_dcm.specs.Standard.{StandardBits, IsFromStart}
 use Rattle.flt_turn.specs.declared.answer.Answer.{Answer}
-use Rattle.flt_turn.specs.declared.answer.HistoryFull.{HistoryFull}
 use Rattle.flt_turn.specs.declared.vault.Entry.{Entry}
-use Rattle.flt_turn.specs.Seats.{Seated, Extends, ops_before}
+use Rattle.flt_turn.specs.Call as turn
+use Rattle.flt_turn.specs.Seats.{Seated}
 
 -- The calls of a lock in their order, each with the number of its seat.
 abbrev pub Journal : Type 0
@@ -24,20 +24,17 @@ Journal = List (Entry Op)
 abbrev pub Seat : Type 0
 Seat = Seated DemStart Op
 
--- The calls before a place, the newest first.
-abbrev pub past : ℕ → Journal → History
-past place journal = reverse (ops_before place journal)
+-- What may be asked of a machine with this start.
+abbrev pub MayBeAsked : DemStart → Op → Type 0
+MayBeAsked start op = IsAdmitted start.config op
+
+-- The machine's reply after these calls, the oldest first.
+abbrev pub reply_after : DemStart → List Op → Op → Reply
+reply_after start calls op = answer start (reverse calls) op
 
 -- A call stands at the place that it was told, and its reply is the machine's after the calls before that place.
-pub record IsCall (before after : Seat) (op : Op) (told : Answer Reply) : Type 0 where
-  pub place : Extends before after op told.place
-  pub reply : told.reply ≡ answer before.start (past told.place after.seen) op
-  pub admitted : All (λ entry. IsAdmitted before.start.config entry.op) after.seen
-
--- No call was left to the seat, and nothing was done.
-pub record IsRefusal (before after : Seat) (op : Op) (full : HistoryFull Op) : Type 0 where
-  pub op_is : full.op ≡ op
-  pub same : after ≡ before
+abbrev pub IsCall : Seat → Seat → Op → Answer Reply → Type 0
+IsCall before after op told = turn.IsCall MayBeAsked reply_after before after op told
 
 -- The status byte that is shown of an event says what the standard says of its marks.
 abbrev pub ShowsStandard : Life → History → ℕ → Reply → Type 0

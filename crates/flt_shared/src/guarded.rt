@@ -1,15 +1,15 @@
 //! What lies under the lock.
 ghost use Rattle.std.specs.Prelude.{reverse};
-ghost use Rattle.flt_model.specs.Answer.{answer};
 ghost use Rattle.flt_did.specs.Serves.{Serves};
 ghost use Rattle.flt_did.specs.Table.{dids_of};
-ghost use Rattle.flt_dcm.specs.Unit.{Stands, IsAdmitted, written};
+ghost use Rattle.flt_dcm.specs.Unit.{Stands, written};
+ghost use Rattle.flt_shared.specs.Call.{MayBeAsked, reply_after};
 ghost use Rattle.flt_shared.specs.Start.{some_start, start_of};
 
 use flt_config::Persist;
 use flt_dcm::{DemStart, Op, Reply, UnitState};
 use flt_did::{DID_ROWS, DidTable};
-use flt_turn::{Machine, Step};
+use flt_turn::{Machine, Step, StepAlone};
 
 /// The status machine without the functions of its table, which are lent to each of its steps.
 #[derive(Drop)]
@@ -30,11 +30,11 @@ impl Machine for Guarded {
 
     ghost start = { λ guarded. start_of guarded.state };
 
-    ghost admits = { λ start op. IsAdmitted start.config op };
+    ghost admits = { MayBeAsked };
 
     ghost stands_for = { λ guarded start ops. Stands start (reverse ops) guarded.state };
 
-    ghost answer = { λ start ops op. answer start (reverse ops) op };
+    ghost answer = { reply_after };
 
     ghost written = { λ start ops op out. written start (reverse ops) op out };
 }
@@ -46,5 +46,11 @@ impl Step for Guarded {
 
     fn step(&mut self, dids: &DidTable<DID_ROWS>, op: &Op, out: &mut Persist) -> Reply {
         self.state.apply(dids, op, out)
+    }
+}
+
+impl StepAlone for Guarded {
+    fn step_alone(&mut self, dids: &DidTable<DID_ROWS>, op: &Op) -> Reply {
+        self.state.apply_alone(dids, op)
     }
 }

@@ -10,7 +10,8 @@ ghost use Rattle.flt_did.specs.Table.{dids_of};
 ghost use Rattle.flt_dcm.specs.Unit.{IsAdmitted, Stands, written};
 ghost use Rattle.flt_turn.specs.Journal.{Interleaves, ops_of};
 ghost use Rattle.flt_turn.specs.Seats.{main_seat, split_off, split_seat, joined_seat};
-ghost use Rattle.flt_shared.specs.Call.{IsCall, IsRefusal, ShowsStandard, past};
+ghost use Rattle.flt_turn.specs.Call.{IsRefusal, past};
+ghost use Rattle.flt_shared.specs.Call.{IsCall, ShowsStandard};
 ghost use Rattle.flt_shared.specs.Start.{start_of};
 
 use crate::guarded::Guarded;
@@ -45,19 +46,6 @@ pub struct DemLock {
     pub dids: DidTable<DID_ROWS>,
     pub config: Snapshot<Config>,
     ghost served: { Serves (dids_of dids) config.value.events.items } by { Prim.hlevel props },
-}
-
-/// A durable state of nothing, which a call without a buffer lends.
-fn nothing() -> Persist {
-    Persist {
-        events: ArrayVec::new(),
-        entries: ArrayVec::new(),
-        overflow: false,
-        first_failed: None,
-        first_confirmed: None,
-        recent_failed: None,
-        recent_confirmed: None,
-    }
 }
 
 /// A copy of the bytes of a request, which takes no memory.
@@ -98,17 +86,15 @@ impl DemLock {
         }
     }
 
-    /// Makes a call when its turn comes. A snapshot writes the durable state to `out`; nothing else writes it.
-    fn call<R: Wait>(&self, rt: &R, seat: &mut DemSeat, op: Op, out: &mut Persist) -> DemAnswer
+    /// Makes a call when its turn comes. It has no buffer, so that a snapshot would write nothing.
+    fn call<R: Wait>(&self, rt: &R, seat: &mut DemSeat, op: Op) -> DemAnswer
         requires lock { IsSeatOf self.now seat.old }
         requires admitted { IsAdmitted seat.old.start.config op }
         ensures full { IsErr result ↔ (seat.old.left ≡ 0) }
         ensures refused { IfErr result (IsRefusal seat.old seat.new op) }
-        ensures kept { OnErr result (out.new ≡ out.old) }
         ensures call { IfOk result (IsCall seat.old seat.new op) }
-        ensures written { IfOk result (λ told. out.new ≡ written seat.old.start (past told.place seat.new.seen) op out.old) }
     {
-        self.turn.call(rt, seat, &self.dids, op, out)
+        self.turn.call_alone(rt, seat, &self.dids, op)
     }
 
     /// Sets a signal, of the number 0 to 7.
@@ -119,7 +105,7 @@ impl DemLock {
         ensures refused { IfErr result (IsRefusal seat.old seat.new (ops.Signal index value)) }
         ensures call { IfOk result (IsCall seat.old seat.new (ops.Signal index value)) }
     {
-        self.call(rt, seat, Op::Signal { index, value }, &mut nothing())
+        self.call(rt, seat, Op::Signal { index, value })
     }
 
     /// Reports an event's result.
@@ -136,7 +122,7 @@ impl DemLock {
         ensures refused { IfErr result (IsRefusal seat.old seat.new (ops.Report event report)) }
         ensures call { IfOk result (IsCall seat.old seat.new (ops.Report event report)) }
     {
-        self.call(rt, seat, Op::Report { event, report }, &mut nothing())
+        self.call(rt, seat, Op::Report { event, report })
     }
 
     /// Lets ticks of 10 ms go by.
@@ -146,7 +132,7 @@ impl DemLock {
         ensures refused { IfErr result (IsRefusal seat.old seat.new (ops.Tick ticks)) }
         ensures call { IfOk result (IsCall seat.old seat.new (ops.Tick ticks)) }
     {
-        self.call(rt, seat, Op::Tick { ticks }, &mut nothing())
+        self.call(rt, seat, Op::Tick { ticks })
     }
 
     /// Ends an operation cycle, of the number 0 to 3, and starts the next.
@@ -157,7 +143,7 @@ impl DemLock {
         ensures refused { IfErr result (IsRefusal seat.old seat.new (ops.Cycle cycle)) }
         ensures call { IfOk result (IsCall seat.old seat.new (ops.Cycle cycle)) }
     {
-        self.call(rt, seat, Op::Cycle { cycle }, &mut nothing())
+        self.call(rt, seat, Op::Cycle { cycle })
     }
 
     /// Sends a request of a tester, of the number 0 to 3.
@@ -176,7 +162,7 @@ impl DemLock {
         ensures call { IfOk result (IsCall seat.old seat.new (ops.Request tester bytes.now)) }
     {
         let bytes = copy_of(bytes);
-        self.call(rt, seat, Op::Request { tester, bytes }, &mut nothing())
+        self.call(rt, seat, Op::Request { tester, bytes })
     }
 
     /// Asks for the state of an event.
@@ -188,7 +174,7 @@ impl DemLock {
         ensures call { IfOk result (IsCall seat.old seat.new (ops.Show event)) }
         ensures standard { IfOk result (λ told. ShowsStandard seat.old.start (past told.place seat.new.seen) event told.reply) }
     {
-        self.call(rt, seat, Op::Show { event }, &mut nothing())
+        self.call(rt, seat, Op::Show { event })
     }
 
     /// Writes the durable state to `out`.
@@ -200,7 +186,7 @@ impl DemLock {
         ensures call { IfOk result (IsCall seat.old seat.new ops.Snapshot) }
         ensures state { IfOk result (λ told. out.new ≡ saved_after seat.old.start (past told.place seat.new.seen)) }
     {
-        self.call(rt, seat, Op::Snapshot, out)
+        self.turn.call(rt, seat, &self.dids, Op::Snapshot, out)
     }
 
     /// Notes that a durable state was saved under this number.
@@ -210,7 +196,7 @@ impl DemLock {
         ensures refused { IfErr result (IsRefusal seat.old seat.new (ops.Saved generation)) }
         ensures call { IfOk result (IsCall seat.old seat.new (ops.Saved generation)) }
     {
-        self.call(rt, seat, Op::Saved { generation }, &mut nothing())
+        self.call(rt, seat, Op::Saved { generation })
     }
 
     /// Splits a seat from the main seat, with this many of its calls.

@@ -1,3 +1,4 @@
+pub mod Call
 pub mod Journal
 pub mod Order
 pub mod Plays

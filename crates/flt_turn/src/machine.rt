@@ -50,3 +50,14 @@ pub trait Step: Machine {
         ensures answer { (ops : List Self.Op) → Self.stands_for self.old (Self.start self.old) ops → result ≡ Self.answer (Self.start self.old) ops op.now }
         ensures written { (ops : List Self.Op) → Self.stands_for self.old (Self.start self.old) ops → out.new ≡ Self.written (Self.start self.old) ops op.now out.old };
 }
+
+/// A machine that makes its steps without a buffer too, for callers that want nothing written.
+pub trait StepAlone: Step {
+    /// Takes one operation as [`Step::step`] does, and writes nothing.
+    fn step_alone(&mut self, context: &Self::Context, op: &Self::Op) -> Self::Reply
+        requires serves { Self.serves context.now (Self.start self.old) }
+        requires admitted { Self.admits (Self.start self.old) op.now }
+        ensures start { Self.start self.new ≡ Self.start self.old }
+        ensures stands { (ops : List Self.Op) → Self.stands_for self.old (Self.start self.old) ops → Self.stands_for self.new (Self.start self.old) (ops ++ op.now ∷ []) }
+        ensures answer { (ops : List Self.Op) → Self.stands_for self.old (Self.start self.old) ops → result ≡ Self.answer (Self.start self.old) ops op.now };
+}

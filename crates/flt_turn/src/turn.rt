@@ -1,15 +1,16 @@
 //! The lock, and its calls.
-ghost use Rattle.std.specs.Prelude.{◌≡◌, ◌≢◌, [], ◌∷◌, ◌++◌, ◌<◌, ◌≤◌, ◌+◌, ◌^◌, IfOk, IfErr, IsErr, All, Some, None, length};
+ghost use Rattle.std.specs.Prelude.{◌≡◌, ◌≢◌, [], ◌∷◌, ◌++◌, ◌<◌, ◌≤◌, ◌+◌, ◌^◌, IfOk, IfErr, IsErr, OnErr, All, Some, None, length};
 ghost use mathlib.Core.List.{IsPrefix};
 ghost use mathlib.Core.Logic.{◌↔◌};
 ghost use Rattle.flt_turn.specs.declared.view.Stage.TheVariants.{Idle};
+ghost use Rattle.flt_turn.specs.Call.{IsCall, IsRefusal};
 ghost use Rattle.flt_turn.specs.Journal.{entry, ops_of, Interleaves};
 ghost use Rattle.flt_turn.specs.Plays.{IsFound, IsTurn};
 ghost use Rattle.flt_turn.specs.Seats.{IsSeatOf, main_seat, Extends, ops_before, split_off, split_seat, joined_seat};
 ghost use Rattle.flt_turn.specs.Views.{drawn, turned, done, parent, child};
 
 use crate::answer::{Answer, HistoryFull, MachineBack};
-use crate::machine::{Machine, Step};
+use crate::machine::{Machine, Step, StepAlone};
 use crate::rule::{Count, Cut, Draw, Look, Merge, Order, Serve, Share, Terms};
 use crate::seat::Seat;
 use crate::vault::Vault;
@@ -117,18 +118,45 @@ impl<M: Machine> Turn<M> {
         requires admitted { M.admits seat.old.start op }
 
         ensures full { IsErr result ↔ (seat.old.left ≡ 0) }
-        ensures refused { IfErr result (λ full. (full.op ≡ op) × (seat.new ≡ seat.old) × (out.new ≡ out.old)) }
-
-        ensures place { IfOk result (λ answer. Extends seat.old seat.new op answer.place) }
-        ensures reply { IfOk result (λ answer. answer.reply ≡ M.answer seat.old.start (ops_before answer.place seat.new.seen) op) }
-        ensures written { IfOk result (λ answer. out.new ≡ M.written seat.old.start (ops_before answer.place seat.new.seen) op out.old) }
-        ensures admitted { IfOk result (λ _. All (λ entry. M.admits seat.old.start entry.op) seat.new.seen) }
+        ensures refused { IfErr result (IsRefusal seat.old seat.new op) }
+        ensures kept { OnErr result (out.new ≡ out.old) }
+        ensures call { IfOk result (IsCall M.admits M.answer seat.old seat.new op) }
+        ensures written { IfOk result (λ told. out.new ≡ M.written seat.old.start (ops_before told.place seat.new.seen) op out.old) }
     {
         if seat.left == 0 {
             return Err(HistoryFull { op });
         }
         let (place, mut vault) = self.take_turn(rt, &mut seat.token);
         let reply = vault.apply(context, seat.number, op, out);
+        self.end_turn(&mut seat.token, vault);
+        self.wake_after(place);
+        seat.left -= 1;
+        Ok(Answer { place, reply })
+    }
+
+    /// Makes a call as `call` does, without a buffer: what the operation would write is not written.
+    pub fn call_alone<R: Wait>(
+        &self,
+        rt: &R,
+        seat: &mut Seat<M>,
+        context: &M::Context,
+        op: M::Op,
+    ) -> Result<Answer<M::Reply>, HistoryFull<M::Op>>
+    where
+        M: StepAlone,
+        requires lock { IsSeatOf self.now seat.old }
+        requires serves { M.StepAlone.serves context.now seat.old.start }
+        requires admitted { M.admits seat.old.start op }
+
+        ensures full { IsErr result ↔ (seat.old.left ≡ 0) }
+        ensures refused { IfErr result (IsRefusal seat.old seat.new op) }
+        ensures call { IfOk result (IsCall M.admits M.answer seat.old seat.new op) }
+    {
+        if seat.left() == 0 {
+            return Err(HistoryFull { op });
+        }
+        let (place, mut vault) = self.take_turn(rt, &mut seat.token);
+        let reply = vault.apply_alone(context, seat.number, op);
         self.end_turn(&mut seat.token, vault);
         self.wake_after(place);
         seat.left -= 1;

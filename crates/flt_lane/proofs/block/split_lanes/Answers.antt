@@ -1,38 +1,37 @@
-use Rattle.std.proofs.Common.{◌<◌, length, arith, sym, subst, ◌≤◌}
-use Rattle.flt_lane.specs.Life.{lists}
-use Rattle.flt_lane.specs.Lived.{IsLaneAmong}
-use Rattle.flt_lane.proofs.Seats.{splitting_begins, splitting_more, room_for, lane_at, lists_length}
+use Rattle.std.proofs.Common.{length, [], ◌∷◌, ◌∙◌, refl, arith}
+use Rattle.std.proofs.lemmas.List.{length-append}
+use Rattle.flt_lane.specs.Room.{IsLaneRoom}
+use Rattle.flt_lane.proofs.Seats.{splitting_begins, splitting_more, room_for, lane_for, next_of}
 use Rattle.flt_lane.proofs.block.split_lanes.Goals as goal
 
-pub loop-lane-init : goal.loop-lane-init
-loop-lane-init g c = splitting_begins c.args.dem.now c.args.main.now _ _ c.in_ok-works.ensures.items
+pub loop-room-init : goal.loop-room-init
+loop-room-init g c = record {
+  seats = splitting_begins c.args.dem.now c.args.main.now c.args.rooms.items _ c.args.works.now.items c.into_iter-room-iterator.ensures.into_iter_gives.0 c.requires.none;
+  len = c.requires.empty;
+  room = refl;
+}
 
-pub split_lane-requires-clause-few : goal.split_lane-requires-clause-few
-split_lane-requires-clause-few g c =
-    let lanes = c.args.lanes.now in
-    let k = c.loop-lane.lane-index in
-    let within : k < length (lists lanes) = omega (arith, c.loop-lane-test.true, lists_length lanes) in
-    let is = lane_at lanes k c.lane-item.result c.deref.result.now c.loop-lane-test.true c.lane-item.is c.deref.ensures.value in
-    (subst (IsLaneAmong (length c.args.main.now.start.config.events.items)) (sym is) (c.requires.among k c.deref.result.now within)).1
+pub split_lane-work-requires-clause-few : goal.split_lane-work-requires-clause-few
+split_lane-work-requires-clause-few g c = (lane_for c.args.main.now.start.config c.args.rooms.items c.loop-room.yielded c.loop-room.room-iterator.rest.items c.next.new.self.rest.items c.in-Some.room
+    c.loop-room.invariant.seats.all c.in-Some.ensures.steps.0 c.requires.steps).1
 
-pub split_lane-requires-clause-calls : goal.split_lane-requires-clause-calls
-split_lane-requires-clause-calls g c =
-    let lanes = c.args.lanes.now in
-    let k = c.loop-lane.lane-index in
-    let within : k < length (lists lanes) = omega (arith, c.loop-lane-test.true, lists_length lanes) in
-    let is = lane_at lanes k c.lane-item.result c.deref.result.now c.loop-lane-test.true c.lane-item.is c.deref.ensures.value in
-    subst (λ l. length l ≤ c.loop-lane.main.left) (sym is) (room_for c.args.dem.now c.args.main.now c.loop-lane.main (lists lanes) c.loop-lane.works.items k c.deref.result.now c.loop-lane.invariant within c.requires.calls)
-
-pub loop-lane-preserved : goal.loop-lane-preserved
-loop-lane-preserved g c =
-    let lanes = c.args.lanes.now in
-    let k = c.loop-lane.lane-index in
-    let steps = c.deref.result.now in
-    let within : k < length (lists lanes) = omega (arith, c.loop-lane-test.true, lists_length lanes) in
-    let is = lane_at lanes k c.lane-item.result steps c.loop-lane-test.true c.lane-item.is c.deref.ensures.value in
-    let among = subst (IsLaneAmong (length c.args.main.now.start.config.events.items)) (sym is) (c.requires.among k steps within) in
-    let room = subst (λ l. length l ≤ c.loop-lane.main.left) (sym is) (room_for c.args.dem.now c.args.main.now c.loop-lane.main (lists lanes) c.loop-lane.works.items k steps c.loop-lane.invariant within c.requires.calls) in
-    let work = c.in_ok-work.work in
-    let told = c.in_ok-work.ensures in
-    splitting_more c.args.dem.now c.args.main.now c.loop-lane.main c.split_lane.new.main (lists lanes) c.loop-lane.works.items c.push.new.self.items k steps work c.loop-lane.invariant within is room c.requires.lock among
-    told.main told.seat told.steps.0 told.steps.1 told.answers.0 told.answers.1 told.answers.2 c.in_ok-push.ensures.items
+pub loop-room-preserved : goal.loop-room-preserved
+loop-room-preserved g c =
+    let rooms = c.args.rooms.items in
+    let done = c.loop-room.yielded in
+    let rest = c.loop-room.room-iterator.rest.items in
+    let later = c.next.new.self.rest.items in
+    let room = c.in-Some.room in
+    let is = c.loop-room.invariant.seats in
+    let next = c.in-Some.ensures.steps.0 in
+    let told = c.split_lane-work.ensures in
+    let count = length-append done (room ∷ []) in
+    record {
+      seats = splitting_more c.args.dem.now c.args.main.now c.loop-room.main c.split_lane-work.new.main rooms c.loop-room.works.items c.push_reserved.new.self.items done rest later room c.split_lane-work.result is next
+          (room_for c.args.dem.now c.args.main.now c.loop-room.main rooms c.loop-room.works.items done rest later room is next c.requires.calls) c.requires.lock
+          (lane_for c.args.main.now.start.config rooms done rest later room is.all next c.requires.steps)
+          (next_of IsLaneRoom rooms done rest later room is.all next c.requires.room)
+          told.main told.seat told.number told.steps told.answers c.push_reserved.ensures.items;
+      len = omega (arith, c.push_reserved.ensures.len, c.loop-room.invariant.len, count);
+      room = c.push_reserved.ensures.capacity ∙ c.loop-room.invariant.room;
+    }

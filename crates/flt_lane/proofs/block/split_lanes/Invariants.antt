@@ -1,6 +1,12 @@
-use Rattle.flt_lane.specs.Life.{lists}
+use Rattle.std.proofs.Common.{◌≡◌, length}
+use Rattle.std.specs.Prelude.{vec_len}
+use Rattle.std.specs.Vec.{vec_capacity}
 use Rattle.flt_lane.proofs.Seats.{IsSplitting}
 use Rattle.flt_lane.proofs.block.split_lanes.Given as goal
 
-abbrev pub invariant-loop-lane : goal.invariant-loop-lane
-invariant-loop-lane g l = IsSplitting l.dem l.initial.main l.main (lists l.lanes) l.works.items l.lane-index
+abbrev pub invariant-loop-room : goal.invariant-loop-room
+invariant-loop-room g l = record {
+  seats : IsSplitting l.dem l.initial.main l.main l.fn.rooms.items l.works.items l.yielded l.room-iterator.rest.items;
+  len : vec_len l.works ≡ length l.yielded;
+  room : vec_capacity l.works ≡ vec_capacity l.initial.works;
+}

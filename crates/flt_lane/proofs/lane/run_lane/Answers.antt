@@ -1,6 +1,5 @@
 use Rattle.std.proofs.Common.{refl, rules}
-use Rattle.flt_lane.proofs.Running.{begins, goes_on}
-use Rattle.flt_lane.proofs.Rising.{has_run}
+use Rattle.flt_lane.proofs.Running.{begins, goes_on, has_run}
 use Rattle.flt_lane.proofs.lane.run_lane.Goals as goal
 
 pub loop-index-init : goal.loop-index-init

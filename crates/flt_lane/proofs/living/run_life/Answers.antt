@@ -1,15 +1,14 @@
-use Rattle.flt_lane.specs.Lived.{part_lists}
-use Rattle.flt_lane.proofs.WholeLife.{closed, life_follows, life_answered}
+use Rattle.std.proofs.Common.{subst}
+use Rattle.flt_lane.specs.Life.{lists, parts_of}
+use Rattle.flt_lane.specs.Block.{HasRunParts}
+use Rattle.flt_lane.proofs.WholeLife.{closed, life_of}
 use Rattle.flt_lane.proofs.living.run_life.Goals as goal
 
-pub returns-clause-follows : goal.returns-clause-follows
-returns-clause-follows g c =
+pub returns-clause-life : goal.returns-clause-life
+returns-clause-life g c =
+    let after = c.run_parts-answers.new.main in
+    let answers = c.run_parts-answers.result in
+    let journal = c.close-end.result.journal.items in
     let end = c.close-end.ensures in
-    life_follows c.args.main c.run_parts.new.main c.args.parts.now (part_lists c.in_ok-told.told.items) c.close-end.result.journal.items c.requires.fresh c.in_ok-told.ensures.lived
-    (closed c.run_parts.new.main c.close-end.result.journal.items end.seen end.olds end.calls)
-
-pub returns-clause-answered : goal.returns-clause-answered
-returns-clause-answered g c =
-    let end = c.close-end.ensures in
-    life_answered c.args.main c.run_parts.new.main c.args.parts.now (part_lists c.in_ok-told.told.items) c.close-end.result.journal.items c.requires.fresh c.in_ok-told.ensures.lived
-    (closed c.run_parts.new.main c.close-end.result.journal.items end.seen end.olds end.calls)
+    let ran = subst (λ l. HasRunParts c.args.main after l answers.own.items (lists answers.lanes.items)) c.in_ok-room.ensures.parts_are c.run_parts-answers.ensures.lived in
+    life_of c.args.main after (parts_of c.args.parts.now) answers.own.items (lists answers.lanes.items) journal c.requires.fresh ran (closed after journal end.seen end.olds end.calls)

@@ -1,0 +1,33 @@
+use Rattle.std.proofs.Common.{◌∷◌, sym, subst}
+use Rattle.flt_model.specs.Life.{Life, History}
+use Rattle.flt_model.specs.declared.call.Op.TheVariants as ops
+use Rattle.flt_dem.proofs.IdleLemmas.{stands_idle}
+use Rattle.flt_dcm.specs.Unit.{UnitView, Stands}
+use Rattle.flt_dcm.proofs.SessionLemmas.{sessions_kept}
+use Rattle.flt_dcm.proofs.state.UnitState.take_alone.Goals as goal
+
+stands_snapshot : (life : Life) (past : History) (unit : UnitView) → Stands life past unit → Stands life (ops.Snapshot ∷ past) unit
+stands_snapshot life past unit s = record {
+  dem = stands_idle life past unit.dem ops.Snapshot tt s.dem;
+  sessions = sessions_kept past ops.Snapshot unit.sessions tt s.sessions;
+  base = s.base;
+}
+
+stands_saved : (life : Life) (past : History) (generation : _) (unit : UnitView) → Stands life past unit → Stands life (ops.Saved generation ∷ past) unit
+stands_saved life past generation unit s = record {
+  dem = stands_idle life past unit.dem (ops.Saved generation) tt s.dem;
+  sessions = sessions_kept past (ops.Saved generation) unit.sessions tt s.sessions;
+  base = s.base;
+}
+
+pub returns-in-Request-clause-stands : goal.returns-in-Request-clause-stands
+returns-in-Request-clause-stands g c = λ life past s.
+    subst (λ call. Stands life (call ∷ past) c.request.new.self) (sym c.in-Request.is) (c.request.ensures.stands life past s)
+
+pub returns-in-Snapshot-clause-stands : goal.returns-in-Snapshot-clause-stands
+returns-in-Snapshot-clause-stands g c = λ life past s.
+    subst (λ call. Stands life (call ∷ past) c.args.self.now) (sym c.in-Snapshot.is) (stands_snapshot life past c.args.self.now s)
+
+pub returns-in-Saved-clause-stands : goal.returns-in-Saved-clause-stands
+returns-in-Saved-clause-stands g c = λ life past s.
+    subst (λ call. Stands life (call ∷ past) c.args.self.now) (sym c.in-Saved.is) (stands_saved life past c.in-Saved.generation c.args.self.now s)

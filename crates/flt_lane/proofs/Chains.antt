@@ -1,0 +1,140 @@
+-- What a chain of calls leaves of its seat.
+use Rattle.std.proofs.Common.{◌≡◌, ◌⊎◌, inl, inr, ℕ, zero, suc, ◌≤◌, ◌+◌, List, [], ◌∷◌, ◌++◌, All, length, take, get_or, Some, arith, refl, sym, ap, subst, ◌∙◌}
+use Rattle.std.specs.Prelude.{Contains, slice_get}
+use Rattle.std.proofs.lemmas.List.{length-append, append-nil, append_assoc}
+use Rattle.std.proofs.lemmas.List.Elements.{All-contains, All-nil, All-cons}
+use mathlib.Core.List.{IsPrefix}
+use Rattle.flt_turn.specs.declared.vault.Entry.{Entry}
+use Rattle.flt_turn.specs.Call.{IsCall}
+use Rattle.flt_turn.specs.Journal.{entry, ops_of, calls_of}
+use Rattle.flt_turn.specs.Seats.{Seated}
+use Rattle.flt_turn.proofs.Journals.{calls_of_own, prefix_refl, prefix_longer}
+use Rattle.flt_lane.specs.Chain.{Call, Chain, Rise, ops_asked}
+use Rattle.flt_lane.specs.Journal.{IsTold, Block, BlockTold}
+use Rattle.flt_lane.proofs.Journals.{no_call_before, prefix_trans}
+
+module _ {X : Type 0} where
+  get_longer : (xs ys : List X) (k : ℕ) (x : X) → slice_get xs k ≡ Some x → slice_get (xs ++ ys) k ≡ Some x
+  get_longer [] ys k x is = absurd (cc)
+  get_longer (y ∷ xs) ys zero x is = is
+  get_longer (y ∷ xs) ys (suc k) x is = get_longer xs ys k x is
+
+  take_longer : (xs ys : List X) (k : ℕ) (x : X) → slice_get xs k ≡ Some x → take k (xs ++ ys) ≡ take k xs
+  take_longer [] ys k x is = absurd (cc)
+  take_longer (y ∷ xs) ys zero x is = refl
+  take_longer (y ∷ xs) ys (suc k) x is = ap (λ l. y ∷ l) (take_longer xs ys k x is)
+
+  pub at_end : (front : List X) (e : X) (place : ℕ) → length front ≡ place → slice_get (front ++ e ∷ []) place ≡ Some e
+  at_end [] e zero is = refl
+  at_end [] e (suc place) is = absurd (omega arith)
+  at_end (x ∷ front) e zero is = absurd (omega arith)
+  at_end (x ∷ front) e (suc place) is = at_end front e place (omega arith)
+
+-- what is told in a journal is told in a longer one
+module _ {S O R : Type 0} (answer : S → List O → O → R) (start : S) where
+  pub told_longer : (journal longer : List (Entry O)) (lane : ℕ) (call : Call O R) → IsPrefix journal longer → IsTold answer start journal lane call → IsTold answer start longer lane call
+  told_longer journal longer lane call pre is = subst (λ j. IsTold answer start j lane call) pre.1 record {
+    stands = get_longer journal pre.0 call.told.place _ is.stands;
+    reply = is.reply ∙ ap (λ l. answer start (ops_of l) call.op) (sym (take_longer journal pre.0 call.told.place _ is.stands));
+  }
+
+  pub calls_longer : (journal longer : List (Entry O)) (lane : ℕ) (calls : List (Call O R)) → IsPrefix journal longer → All (IsTold answer start journal lane) calls → All (IsTold answer start longer lane) calls
+  calls_longer journal longer lane calls pre all k d within = told_longer journal longer lane (get_or calls k d) pre (all k d within)
+
+  pub block_longer : (journal longer : List (Entry O)) (lanes : Block O R) → IsPrefix journal longer → BlockTold answer start journal lanes → BlockTold answer start longer lanes
+  block_longer journal longer lanes pre all k d within = calls_longer journal longer (get_or lanes k d).0 (get_or lanes k d).1 pre (all k d within)
+
+  pub blocks_longer : (journal longer : List (Entry O)) (blocks : List (Block O R)) → IsPrefix journal longer → All (BlockTold answer start journal) blocks → All (BlockTold answer start longer) blocks
+  blocks_longer journal longer blocks pre all k d within = block_longer journal longer (get_or blocks k d) pre (all k d within)
+
+module _ {S O R : Type 0} (admits : S → O → Type 0) (answer : S → List O → O → R) where
+  -- what a chain leaves
+  pub record IsFact (before : Seated S O) (calls : List (Call O R)) (after : Seated S O) : Type 0 where
+    pub number_is : after.number ≡ before.number
+    pub start_is : after.start ≡ before.start
+    pub lock_is : after.lock ≡ before.lock
+    pub left_is : after.left + length calls ≡ before.left
+    pub mine_is : after.mine ≡ before.mine ++ ops_asked calls
+    pub own : length before.mine ≤ length (calls_of before.number before.seen) → length after.mine ≤ length (calls_of after.number after.seen)
+    pub longer : IsPrefix before.seen after.seen
+    pub fresh : before.mine ≡ [] → (old : List (Entry O)) → (IsPrefix old before.seen ⊎ Contains before.olds old) → (calls ≡ []) ⊎ (calls_of before.number old ≡ [])
+    pub told : All (IsTold answer before.start after.seen before.number) calls
+    pub rising : Rise (length before.seen) calls
+
+  -- what one call leaves
+  pub call_told : (before after : Seated S O) (call : Call O R) → IsCall admits answer before after call.op call.told → IsTold answer before.start after.seen before.number call
+  call_told before after call is = let ext = is.place in record {
+    stands = ap (λ j. slice_get j call.told.place) ext.seen ∙ at_end (before.seen ++ ext.between) (entry before.number call.op) call.told.place ext.place_is;
+    reply = is.reply;
+  }
+
+  pub call_own : (before after : Seated S O) (call : Call O R) → IsCall admits answer before after call.op call.told → calls_of after.number after.seen ≡ after.mine
+  call_own before after call is = let ext = is.place in
+      ap (λ n. calls_of n after.seen) ext.rest.0 ∙ ap (calls_of before.number) ext.seen ∙ calls_of_own before.number call.op (before.seen ++ ext.between) ∙ ap (λ l. l ++ call.op ∷ []) ext.own ∙ sym ext.mine
+
+  old_before : (before after : Seated S O) (call : Call O R) → IsCall admits answer before after call.op call.told → before.mine ≡ [] → (old : List (Entry O)) → (IsPrefix old before.seen ⊎ Contains before.olds old)
+      → calls_of before.number old ≡ []
+  old_before before after call is none old (inl pre) = let ext = is.place in
+      let whole = prefix_trans old before.seen (before.seen ++ ext.between) pre (ext.between, refl) in
+      no_call_before before.number old whole.0 (ap (calls_of before.number) whole.1 ∙ ext.own ∙ none)
+  old_before before after call is none old (inr among) = let ext = is.place in
+      let whole = All-contains (λ o. IsPrefix o (before.seen ++ ext.between)) before.olds old ext.olds among in
+      no_call_before before.number old whole.0 (ap (calls_of before.number) whole.1 ∙ ext.own ∙ none)
+
+  call_longer : (before after : Seated S O) (call : Call O R) → IsCall admits answer before after call.op call.told → IsPrefix before.seen after.seen
+  call_longer before after call is = let ext = is.place in
+      subst (IsPrefix before.seen) (sym ext.seen) (prefix_longer before.seen (before.seen ++ ext.between) (entry before.number call.op ∷ []) (ext.between, refl))
+
+  call_rises : (before after : Seated S O) (call : Call O R) (calls : List (Call O R)) → IsCall admits answer before after call.op call.told → Rise (length after.seen) calls → Rise (length before.seen) (call ∷ calls)
+  unfolding Rise
+  call_rises before after call calls is rising =
+      let ext = is.place in
+      let lengths = length-append before.seen ext.between in
+      let all = ap length ext.seen ∙ length-append (before.seen ++ ext.between) (entry before.number call.op ∷ []) in
+      (omega (arith, lengths, ext.place_is), subst (λ n. Rise n calls) (omega (arith, all, ext.place_is)) rising)
+
+  pub chain_fact : (before : Seated S O) (calls : List (Call O R)) (after : Seated S O) → Chain admits answer before calls after → IsFact before calls after
+  unfolding Chain Rise
+  chain_fact before [] after same = record {
+    number_is = ap (λ (s : Seated S O). s.number) same;
+    start_is = ap (λ (s : Seated S O). s.start) same;
+    lock_is = ap (λ (s : Seated S O). s.lock) same;
+    left_is = let left = ap (λ (s : Seated S O). s.left) same in omega (arith, left);
+    mine_is = ap (λ (s : Seated S O). s.mine) same ∙ sym (append-nil before.mine);
+    own = λ enough. subst (λ (s : Seated S O). length s.mine ≤ length (calls_of s.number s.seen)) (sym same) enough;
+    longer = subst (λ (s : Seated S O). IsPrefix before.seen s.seen) (sym same) (prefix_refl before.seen);
+    fresh = λ none old where_known. inl refl;
+    told = All-nil (IsTold answer before.start after.seen before.number);
+    rising = tt;
+  }
+  chain_fact before (call ∷ calls) after chain =
+      let mid = chain.0 in
+      let is = chain.1 in
+      let ext = is.place in
+      let rest = chain_fact mid calls after chain.2 in
+      let own_mid = call_own before mid call is in
+      record {
+        number_is = rest.number_is ∙ ext.rest.0;
+        start_is = rest.start_is ∙ ext.rest.1;
+        lock_is = rest.lock_is ∙ ext.lock;
+        left_is = omega (arith, rest.left_is, ext.left);
+        mine_is = rest.mine_is ∙ ap (λ l. l ++ ops_asked calls) ext.mine ∙ append_assoc before.mine (call.op ∷ []) (ops_asked calls);
+        own = λ enough. rest.own (omega (arith, ap length own_mid));
+        longer = prefix_trans before.seen mid.seen after.seen (call_longer before mid call is) rest.longer;
+        fresh = λ none old where_known. inr (old_before before mid call is none old where_known);
+        told = All-cons (IsTold answer before.start after.seen before.number) call calls
+            (told_longer answer before.start mid.seen after.seen before.number call rest.longer (call_told before mid call is))
+            (subst (λ n. All (IsTold answer before.start after.seen n) calls) ext.rest.0 (subst (λ s. All (IsTold answer s after.seen mid.number) calls) ext.rest.1 rest.told));
+        rising = call_rises before mid call calls is rest.rising;
+      }
+
+  -- chains one behind the other
+  pub chain_more : (before : Seated S O) (calls : List (Call O R)) (mid : Seated S O) (more : List (Call O R)) (after : Seated S O) → Chain admits answer before calls mid → Chain admits answer mid more after
+      → Chain admits answer before (calls ++ more) after
+  unfolding Chain
+  chain_more before [] mid more after same second = subst (λ (s : Seated S O). Chain admits answer s more after) same second
+  chain_more before (call ∷ calls) mid more after first second = (first.0, first.1, chain_more first.0 calls mid more after first.2 second)
+
+  pub chain_of_one : (before : Seated S O) (call : Call O R) (after : Seated S O) → IsCall admits answer before after call.op call.told → Chain admits answer before (call ∷ []) after
+  unfolding Chain
+  chain_of_one before call after is = (after, is, refl)

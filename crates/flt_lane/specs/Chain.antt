@@ -1,0 +1,25 @@
+-- Calls that one seat of a lock makes, one after the other, whatever machine is under the lock.
+use Rattle.std.specs.Prelude.{◌≡◌, ℕ, ◌+◌, ◌≤◌, List, [], ◌∷◌, map}
+use Rattle.flt_turn.specs.declared.answer.Answer.{Answer}
+use Rattle.flt_turn.specs.Call.{IsCall}
+use Rattle.flt_turn.specs.Seats.{Seated}
+
+-- A call, and what it was told.
+pub record Call (O R : Type 0) : Type 0 where
+  pub op : O
+  pub told : Answer R
+
+-- What was asked.
+abbrev pub ops_asked : {O R : Type 0} → List (Call O R) → List O
+ops_asked calls = map (λ call. call.op) calls
+
+-- The calls of a seat, between what it knew before and after.
+unfoldable pub Chain : {S O R : Type 0} → (S → O → Type 0) → (S → List O → O → R) → Seated S O → List (Call O R) → Seated S O → Type 0
+Chain admits answer before [] after = after ≡ before
+Chain {S} {O} {R} admits answer before (call ∷ calls) after =
+    (between : Seated S O) × IsCall admits answer before between call.op call.told × Chain admits answer between calls after
+
+-- The places that they are told rise, from this one on.
+unfoldable pub Rise : {O R : Type 0} → ℕ → List (Call O R) → Type 0
+Rise low [] = Unit {0}
+Rise low (call ∷ calls) = (low ≤ call.told.place) × Rise (call.told.place + 1) calls

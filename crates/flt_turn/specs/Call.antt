@@ -1,0 +1,22 @@
+-- What a call of a lock tells, whatever machine is under the lock. The machine admits some operations at a start, and answers an
+-- operation by its start and the operations before.
+use Rattle.std.specs.Prelude.{◌≡◌, ℕ, List, All, reverse}
+use Rattle.flt_turn.specs.declared.answer.Answer.{Answer}
+use Rattle.flt_turn.specs.declared.answer.HistoryFull.{HistoryFull}
+use Rattle.flt_turn.specs.declared.vault.Entry.{Entry}
+use Rattle.flt_turn.specs.Seats.{Seated, Extends, ops_before}
+
+-- the operations before a place, the newest first
+abbrev pub past : {O : Type 0} → ℕ → List (Entry O) → List O
+past place journal = reverse (ops_before place journal)
+
+-- a call stands at the place that it was told, and its reply is the machine's after the operations before that place
+pub record IsCall {S O R : Type 0} (admits : S → O → Type 0) (answer : S → List O → O → R) (before after : Seated S O) (op : O) (told : Answer R) : Type 0 where
+  pub place : Extends before after op told.place
+  pub reply : told.reply ≡ answer before.start (ops_before told.place after.seen) op
+  pub admitted : All (λ entry. admits before.start entry.op) after.seen
+
+-- no call was left to the seat, and nothing was done
+pub record IsRefusal {S O : Type 0} (before after : Seated S O) (op : O) (full : HistoryFull O) : Type 0 where
+  pub op_is : full.op ≡ op
+  pub same : after ≡ before
