@@ -4,7 +4,7 @@ use Rattle.flt_run.proofs.Taken.{script_taken}
 use Rattle.flt_run.proofs.running.perform.Goals as goal
 
 pub returns-in-Ok-parse-clause-sound : goal.returns-in-Ok-parse-clause-sound
-returns-in-Ok-parse-clause-sound g c = λ held held_after write_faults write_faults_after.
+returns-in-Ok-parse-clause-sound g c =
     let command = sym c.read_command.ensures ∙ c.in-Some.is ∙ ap Some c.in-Run.is in
     let bytes = c.deref.ensures.value in
     let script = script_taken _ _ c.in-Ok.bytes.items (content c.in-Ok-parse.script) c.in-Ok.ensures.read (rw bytes at c.in-Ok-parse.ensures.exact) in
