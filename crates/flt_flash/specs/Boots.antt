@@ -1,5 +1,5 @@
 -- What the saved boots of a flash in memory are.
-use Rattle.std.specs.Prelude.{◌≡◌, ◌<◌, ℕ, List, [], ◌∷◌, length, slice_index_or}
+use Rattle.std.specs.Prelude.{◌≡◌, ◌<◌, ◌≤◌, ℕ, List, [], ◌∷◌, length, slice_index_or, vec_capacity}
 use Rattle.flt_flash.specs.State.{Boot}
 use Rattle.flt_flash.specs.declared.boot.SavedBoot.{SavedBoot}
 
@@ -15,6 +15,20 @@ no_boot = record { faults = 0; image = [] }
 abbrev pub boot_at : List Boot → ℕ → Boot
 boot_at boots number = slice_index_or boots number no_boot
 
+-- a saved boot has room for two sectors of this many pages
+pub record HasRoom (pages : ℕ) (saved : SavedBoot) : Type 0 where
+  pub first : pages ≤ vec_capacity saved.first
+  pub second : pages ≤ vec_capacity saved.second
+
+-- a saved boot holds two sectors of this many pages
+pub record HoldsPages (pages : ℕ) (saved : SavedBoot) : Type 0 where
+  pub first : length saved.first.items ≡ pages
+  pub second : length saved.second.items ≡ pages
+
 -- each saved boot has room for two sectors of this many pages
 abbrev pub HaveRoom : ℕ → List SavedBoot → Type 0
-HaveRoom pages saved = (k : ℕ) (d : SavedBoot) → k < length saved → (length (slice_index_or saved k d).first.items ≡ pages) × (length (slice_index_or saved k d).second.items ≡ pages)
+HaveRoom pages saved = (k : ℕ) (d : SavedBoot) → k < length saved → HasRoom pages (slice_index_or saved k d)
+
+-- each saved boot holds two sectors of this many pages
+abbrev pub HoldPages : ℕ → List SavedBoot → Type 0
+HoldPages pages saved = (k : ℕ) (d : SavedBoot) → k < length saved → HoldsPages pages (slice_index_or saved k d)

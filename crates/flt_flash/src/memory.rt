@@ -6,7 +6,7 @@ ghost use Rattle.flt_flash.specs.Tearing.{IsTornSector, IsTorn};
 ghost use Rattle.flt_flash.specs.Image.{page_at, sector_at, programmed, erased, blank_page, ArePages};
 ghost use Rattle.flt_flash.specs.Arms.{IsProgrammedBy, IsErasedBy, told_with};
 ghost use Rattle.flt_flash.specs.Power.{first_power};
-ghost use Rattle.flt_flash.specs.Boots.{HaveRoom, boot_at};
+ghost use Rattle.flt_flash.specs.Boots.{HaveRoom, HoldPages, boot_at};
 
 use crate::boot::SavedBoot;
 use crate::power::Power;
@@ -39,6 +39,7 @@ pub struct FlashMem {
     ghost boots_fit: { boots_used ≤ length boots.items },
     ghost boots_number: { length boots.items < 65536 },
     ghost boots_room: { HaveRoom pages boots.items },
+    ghost boots_pages: { HoldPages pages (take boots_used boots.items) },
 }
 
 impl FlashMem {
@@ -86,7 +87,7 @@ impl FlashMem {
         ensures state { IfOk result (λ flash. state_of flash ≡ first_state pages first.items second.items boots) }
         ensures power { IfOk result (λ flash. power_of flash ≡ first_power) }
     {
-        let boots = blank_boots(alloc, pages as usize, boots)?;
+        let boots = reserved_boots(alloc, pages as usize, boots)?;
         Ok(FlashMem {
             pages,
             first,
@@ -293,17 +294,14 @@ fn sector_of(alloc: Global, pages: &[[u8; 32]]) -> Result<Vec<[u8; 32]>, AllocEr
     Ok(sector)
 }
 
-fn blank_boots(alloc: Global, pages: usize, boots: u16) -> Result<Vec<SavedBoot>, AllocError>
+// The room of this many power-ups, which is filled as they come.
+fn reserved_boots(alloc: Global, pages: usize, boots: u16) -> Result<Vec<SavedBoot>, AllocError>
     ensures number { IfOk result (λ made. length made.items ≡ boots) }
     ensures room { IfOk result (λ made. HaveRoom pages made.items) }
 {
-    let mut made = Vec::new(alloc);
+    let mut made = Vec::with_capacity(alloc, boots as usize)?;
     for _boot in 0..boots {
-        made.push(SavedBoot {
-            faults: 0,
-            first: blank_pages(alloc, pages)?,
-            second: blank_pages(alloc, pages)?,
-        })?;
+        made.push(SavedBoot::reserved(alloc, pages)?)?;
     }
     Ok(made)
 }

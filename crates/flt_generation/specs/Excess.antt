@@ -1,25 +1,25 @@
 -- How many pages the records of an image take beyond what the configuration's own would.
-use Rattle.std.specs.Prelude.{ℕ, ◌+◌, ◌-◌, ◌/◌, ◌%◌, ◌≤◌, Bool, ◌==◌, ◌&&◌, ◌||◌, nat_le, nat_lt, if◌then◌else◌, sum_by}
+use Rattle.std.specs.Prelude.{ℕ, ◌+◌, ◌-◌, ◌≤◌, Bool, ◌==◌, ◌&&◌, ◌||◌, nat_le, nat_lt, if◌then◌else◌, sum_by}
 use Rattle.flt_config.specs.declared.config.Config.{Config}
 use Rattle.flt_config.specs.Validity.{needed_pages}
 use Rattle.flt_flash.specs.Content.{Content}
 use Rattle.flt_flash.specs.Blocks.{pages_of, record_pages}
-use Rattle.flt_generation.specs.Layout.{numbers, mark_number, first_commit, second_commit, first_application, is_used, part_of}
+use Rattle.flt_generation.specs.Layout.{numbers, id_of, index_of, mark_number, first_commit, second_commit, first_application, is_used, part_of}
 use Rattle.flt_generation.specs.Form.{part_length, mark_length, commit_length, application_length}
 
 -- a number of a block of this configuration: an index of a used one, or an application block
 abbrev pub is_own_part : Config → ℕ → Bool
-is_own_part c number = is_used c (number / 8) && nat_le (number % 8) 1
+is_own_part c number = is_used c (id_of number) && nat_le (index_of number) 1
 
 abbrev pub is_own_application : Config → ℕ → Bool
-is_own_application c number = (number % 8 == 0) && nat_le first_application (number / 8) && nat_lt (number / 8) (first_application + c.blocks)
+is_own_application c number = (index_of number == 0) && nat_le first_application (id_of number) && nat_lt (id_of number) (first_application + c.blocks)
 
 -- the pages of the longest record that this configuration keeps under a number, 0 where it keeps none
 unfoldable pub own_pages : Config → ℕ → ℕ
 own_pages c number =
     if number == mark_number then record_pages mark_length
     else if (number == first_commit) || (number == second_commit) then record_pages commit_length
-    else if is_own_part c number then record_pages (part_length (part_of (number / 8)))
+    else if is_own_part c number then record_pages (part_length (part_of (id_of number)))
     else if is_own_application c number then record_pages application_length
     else 0
 

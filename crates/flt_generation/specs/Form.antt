@@ -11,7 +11,7 @@ use Rattle.flt_generation.specs.declared.mark.Mark.{Mark}
 use Rattle.flt_generation.specs.declared.commit.Commit.{Commit}
 use Rattle.flt_generation.specs.declared.part.Part.{Part}
 use Rattle.flt_generation.specs.declared.part.Part.TheVariants.{Summary, States, Entry}
-use Rattle.flt_generation.specs.Layout.{first_part, end_part, parts, part_of, is_used, index_in}
+use Rattle.flt_generation.specs.Layout.{first_part, end_part, parts, states_per_block, part_of, is_used, index_in}
 
 abbrev pub be16 : ℕ → List ℕ
 be16 = to_be_bytes w16
@@ -86,9 +86,9 @@ unfoldable pub first_states : List EventState → ℕ → ℕ → List ℕ
 first_states states first count =
     concat (map (λ place. state_bytes (slice_index_or states (first + place) start_state)) (range_with_len 0 count))
 
--- sixteen of them
+-- those of one block
 abbrev pub states_bytes : List EventState → ℕ → List ℕ
-states_bytes states first = first_states states first 16
+states_bytes states first = first_states states first states_per_block
 
 -- a frame, filled up with 00 to 32 bytes
 abbrev pub padded : List ℕ → List ℕ
@@ -118,18 +118,27 @@ part_bytes p (Entry place) = place_bytes (slice_get p.entries.items place)
 abbrev pub block_bytes : Persist → ℕ → List ℕ
 block_bytes p id = part_bytes p (part_of id)
 
--- how many bytes a part has
-abbrev pub part_length : Part → ℕ
-part_length Summary = 32
-part_length (States first) = 64
-part_length (Entry place) = 68
-
--- how many bytes the mark and a commit have, and how many an application block may have
+-- how many bytes the mark, a commit, the summary, a block of states and an entry have, and how many an application block may have
 abbrev pub mark_length : ℕ
 mark_length = 8
 
 abbrev pub commit_length : ℕ
 commit_length = 26
 
+abbrev pub summary_length : ℕ
+summary_length = 32
+
+abbrev pub states_length : ℕ
+states_length = 64
+
+abbrev pub entry_length : ℕ
+entry_length = 68
+
 abbrev pub application_length : ℕ
 application_length = 32
+
+-- how many bytes a part has
+abbrev pub part_length : Part → ℕ
+part_length Summary = summary_length
+part_length (States first) = states_length
+part_length (Entry place) = entry_length

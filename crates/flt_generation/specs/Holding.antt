@@ -1,5 +1,5 @@
 -- What an image holds: the generation that its first commit copy names, the one that the second names, and whether both are good.
-use Rattle.std.specs.Prelude.{◌≡◌, ◌⊎◌, ℕ, zero, suc, ◌+◌, ◌≤◌, ◌<◌, Bool, true, false, not, ◌==◌, ◌&&◌, nat_le, if◌then◌else◌, length, find, IsTrue, Option, Some, None, Result, Ok, Err}
+use Rattle.std.specs.Prelude.{◌≡◌, ◌⊎◌, ℕ, zero, suc, ◌+◌, ◌-◌, ◌^◌, ◌≤◌, ◌<◌, Bool, true, false, not, ◌==◌, ◌&&◌, nat_le, if◌then◌else◌, length, find, IsTrue, Option, Some, None, Result, Ok, Err}
 use Rattle.std.specs.List.{range_with_len}
 use Rattle.flt_flash.specs.Content.{Content, missing, invalid, bytes}
 use Rattle.flt_config.specs.declared.config.Config.{Config}
@@ -19,6 +19,10 @@ use Rattle.flt_generation.specs.Excess.{excess, IsBorne}
 pub record Generation : Type 0 where
   pub number : ℕ
   pub state : Persist
+
+-- the number of the last generation: no other follows it
+abbrev pub last_number : ℕ
+last_number = 2 ^ 32 - 1
 
 abbrev pub first_generation : Config → Generation
 first_generation c = record { number = 0; state = initial_state c }

@@ -1,5 +1,5 @@
 -- Which blocks an image has, under which numbers of the driver, and which part of a generation each of them holds.
-use Rattle.std.specs.Prelude.{ℕ, ◌+◌, ◌-◌, ◌*◌, Bool, true, ◌==◌, ◌&&◌, nat_lt, nat_le, if◌then◌else◌, List, [], ◌∷◌, ◌++◌, length, map, filter, flat_map, slice_index}
+use Rattle.std.specs.Prelude.{ℕ, ◌+◌, ◌-◌, ◌*◌, ◌/◌, ◌%◌, Bool, true, ◌==◌, ◌&&◌, nat_lt, nat_le, if◌then◌else◌, List, [], ◌∷◌, ◌++◌, length, map, filter, flat_map, slice_index}
 use Rattle.std.specs.List.{range_with_len}
 use Rattle.flt_config.specs.declared.config.Config.{Config}
 use Rattle.flt_generation.specs.declared.commit.Commit.{Commit}
@@ -22,15 +22,46 @@ parts = 21
 abbrev pub end_part : ℕ
 end_part = first_part + parts
 
+-- among the parts: the summary, then the blocks of states, and the entries
+abbrev pub summary_id : ℕ
+summary_id = 3
+
+abbrev pub first_states_id : ℕ
+first_states_id = 4
+
+abbrev pub states_blocks : ℕ
+states_blocks = 4
+
+abbrev pub first_entry_id : ℕ
+first_entry_id = 8
+
+abbrev pub entries : ℕ
+entries = 16
+
+-- how many events have their states in one block
+abbrev pub states_per_block : ℕ
+states_per_block = 16
+
 abbrev pub first_application : ℕ
 first_application = 64
 
 abbrev pub applications : ℕ
 applications = 40
 
+-- how many of the driver's numbers belong to a block
+abbrev pub numbers_per_block : ℕ
+numbers_per_block = 8
+
 -- the driver's number of a block's copy or index
 abbrev pub number_of : ℕ → ℕ → ℕ
-number_of id index = id * 8 + index
+number_of id index = id * numbers_per_block + index
+
+-- the block and the index of a number
+abbrev pub id_of : ℕ → ℕ
+id_of number = number / numbers_per_block
+
+abbrev pub index_of : ℕ → ℕ
+index_of number = number % numbers_per_block
 
 abbrev pub mark_number : ℕ
 mark_number = number_of mark_id 0
@@ -55,12 +86,12 @@ numbers =
     ++ flat_map both_indices (range_with_len first_part parts)
     ++ map application_number (range_with_len 0 applications)
 
--- the part that a block holds: the summary, the states of sixteen events, an entry
+-- the part that a block holds: the summary, the states of some events, an entry
 abbrev pub part_of : ℕ → Part
 part_of id =
-    if id == 3 then Summary
-    else if nat_lt id 8 then States (16 * (id - 4))
-    else Entry (id - 8)
+    if id == summary_id then Summary
+    else if nat_lt id first_entry_id then States (states_per_block * (id - first_states_id))
+    else Entry (id - first_entry_id)
 
 -- a part that each generation of this configuration has
 abbrev pub has_part : Config → Part → Bool

@@ -1,4 +1,4 @@
-// The identifiers of the blocks of an image (this profile).
+// The identifiers of the blocks of an image (this profile), and the numbers under which the driver keeps them.
 
 /// The block of the mark.
 pub const MARK_ID: u16 = 1;
@@ -6,8 +6,17 @@ pub const MARK_ID: u16 = 1;
 /// The redundant block of the commit.
 pub const COMMIT_ID: u16 = 2;
 
-/// The first block of a part of a generation.
+/// The first block of a part of a generation: that of the summary.
 pub const FIRST_PART: u16 = 3;
+
+/// The first block of states.
+pub const FIRST_STATES: u16 = 4;
+
+/// How many blocks of states the driver keeps.
+pub const STATES_BLOCKS: u16 = 4;
+
+/// The first block of an entry.
+pub const FIRST_ENTRY: u16 = 8;
 
 /// The identifier behind the last part's.
 pub const END_PART: u16 = 24;
@@ -17,3 +26,15 @@ pub const FIRST_APPLICATION: u16 = 64;
 
 /// How many application blocks the driver keeps.
 pub const APPLICATIONS: u16 = 40;
+
+/// How many of the driver's numbers belong to a block: the first to its copy 1 or index 0, the next ones to the others.
+pub const NUMBERS_PER_BLOCK: u16 = 8;
+
+/// The number of the mark.
+pub const MARK_NUMBER: u16 = MARK_ID * NUMBERS_PER_BLOCK;
+
+/// The number of the first copy of the commit.
+pub const FIRST_COMMIT: u16 = COMMIT_ID * NUMBERS_PER_BLOCK;
+
+/// The number of the second copy of the commit.
+pub const SECOND_COMMIT: u16 = FIRST_COMMIT + 1;

@@ -11,13 +11,21 @@
 mod commit;
 mod identifier;
 pub mod laws;
+mod length;
 mod mark;
 mod part;
 mod place;
 pub mod worked;
 
-pub use commit::{Commit, INDICES};
-pub use identifier::{APPLICATIONS, COMMIT_ID, END_PART, FIRST_APPLICATION, FIRST_PART, MARK_ID};
+pub use commit::{Commit, INDICES, LAST_NUMBER};
+pub use identifier::{
+    APPLICATIONS, COMMIT_ID, END_PART, FIRST_APPLICATION, FIRST_COMMIT, FIRST_ENTRY, FIRST_PART,
+    FIRST_STATES, MARK_ID, MARK_NUMBER, NUMBERS_PER_BLOCK, SECOND_COMMIT, STATES_BLOCKS,
+};
+pub use length::{
+    APPLICATION_LENGTH, COMMIT_LENGTH, ENTRY_LENGTH, MARK_LENGTH, STATES_LENGTH, STATES_PER_BLOCK,
+    SUMMARY_LENGTH,
+};
 pub use mark::Mark;
 pub use part::Part;
 pub use place::Place;

@@ -4,7 +4,8 @@ use Rattle.std.specs.List.{range_with_len}
 use Rattle.flt_nvm.specs.declared.table.Kind.{Kind}
 use Rattle.flt_nvm.specs.declared.table.Kind.TheVariants.{Native, Redundant, Dataset}
 use Rattle.flt_nvm.specs.declared.table.BlockCfg.{BlockCfg}
-use Rattle.flt_generation.specs.Layout.{mark_id, commit_id, first_part, first_application, applications}
+use Rattle.flt_generation.specs.Layout.{mark_id, commit_id, summary_id, first_states_id, states_blocks, first_entry_id, entries, first_application, applications}
+use Rattle.flt_generation.specs.Form.{mark_length, commit_length, summary_length, states_length, entry_length, application_length}
 
 -- a block of this kind that holds so many bytes
 abbrev pub row : Kind → ℕ → ℕ → BlockCfg
@@ -14,12 +15,16 @@ row kind length id = record { id = id; kind = kind; length = length }
 unfoldable pub rows : Kind → ℕ → ℕ → ℕ → List BlockCfg
 rows kind length first count = map (row kind length) (range_with_len first count)
 
+-- a part stands at one of two indices
+abbrev pub part : Kind
+part = Dataset 2
+
 -- the mark, the commit, the summary, the states, the entries, and the application blocks
 unfoldable pub block_table : List BlockCfg
 block_table =
-    rows Native 8 mark_id 1
-    ++ rows Redundant 26 commit_id 1
-    ++ rows (Dataset 2) 32 first_part 1
-    ++ rows (Dataset 2) 64 4 4
-    ++ rows (Dataset 2) 68 8 16
-    ++ rows Native 32 first_application applications
+    rows Native mark_length mark_id 1
+    ++ rows Redundant commit_length commit_id 1
+    ++ rows part summary_length summary_id 1
+    ++ rows part states_length first_states_id states_blocks
+    ++ rows part entry_length first_entry_id entries
+    ++ rows Native application_length first_application applications

@@ -12,10 +12,10 @@ use crate::pushing::{BlockBytes, push_all};
 use crate::states::{put_states, take_states};
 use crate::summary::{summary_bytes, take_summary};
 use flt_config::{Persist, ValidConfig};
-use flt_generation::Part;
+use flt_generation::{ENTRY_LENGTH, Part, STATES_LENGTH, SUMMARY_LENGTH};
 
-/// Puts the bytes of a used block of a state that fits in place of what `out` held: 32 of the summary, 64 of the states of
-/// sixteen events, 68 of an entry.
+/// Puts the bytes of a used block of a state that fits in place of what `out` held: those of the summary, of the states of
+/// some events, or of an entry.
 pub fn put_block(config: &ValidConfig, state: &Persist, id: u16, out: &mut BlockBytes)
     requires used { IsTrue (is_used config.now id) }
     requires fits { Fits config.now state.now }
@@ -34,9 +34,9 @@ fn part_length(part: Part) -> usize
     ensures { result ≡ part_length part }
 {
     match part {
-        Part::Summary => 32,
-        Part::States { .. } => 64,
-        Part::Entry { .. } => 68,
+        Part::Summary => SUMMARY_LENGTH,
+        Part::States { .. } => STATES_LENGTH,
+        Part::Entry { .. } => ENTRY_LENGTH,
     }
 }
 

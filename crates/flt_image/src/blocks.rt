@@ -9,10 +9,10 @@ use crate::layout::is_used;
 use crate::pushing::BlockBytes;
 use arrayvec::ArrayVec;
 use flt_config::{Persist, ValidConfig};
-use flt_generation::{END_PART, FIRST_PART, INDICES};
+use flt_generation::{END_PART, ENTRY_LENGTH, FIRST_PART, INDICES};
 
 /// The most bytes of a block of a state: those of an entry.
-pub const LONGEST: usize = 68;
+pub const LONGEST: usize = ENTRY_LENGTH;
 
 // The bytes that are kept of one block.
 type KeptBytes = ArrayVec<u8, LONGEST>;

@@ -1,7 +1,8 @@
 // The record that names the blocks of a generation.
 ghost use Rattle.std.specs.Prelude.{◌≡◌, ◌≢◌, ℕ, ◌<◌, ◌≤◌, ◌+◌, IfSome, Some, List, length, bytes_eq, IsTrue, IsFalse};
 ghost use Rattle.std.specs.List.{list_all, range_with_len};
-ghost use Rattle.flt_generation.specs.Form.{commit_bytes};
+ghost use Rattle.flt_generation.specs.Form.{commit_length, commit_bytes};
+ghost use Rattle.flt_generation.specs.Holding.{last_number};
 ghost use Rattle.flt_generation.specs.Layout.{first_part, parts, end_part, index_in};
 ghost use Rattle.flt_generation.specs.Reading.{commit_from, commit_in, is_index, is_commit};
 ghost use Rattle.flt_generation.specs.Successor.{IsNext, IsNextIndex, number_in};
@@ -10,17 +11,17 @@ ghost use Rattle.flt_image.specs.Blocks.{bytes_at};
 use crate::blocks::StateBlocks;
 use crate::layout::is_used;
 use flt_config::ValidConfig;
-use flt_generation::{Commit, END_PART, FIRST_PART, INDICES};
+use flt_generation::{COMMIT_LENGTH, Commit, END_PART, FIRST_PART, INDICES};
 
 /// What a commit has for a block that is not used.
 const UNUSED: u8 = 0xFF;
 
 /// The bytes of a commit: 01, the number of the generation in four bytes, big-endian, and the index of each block.
 #[tactic(auto, unfolding(flt_generation::specs::Form::commit_bytes))]
-pub fn put_commit(commit: &Commit) -> [u8; 26]
+pub fn put_commit(commit: &Commit) -> [u8; COMMIT_LENGTH]
     ensures { result ≡ commit_bytes commit.now }
 {
-    let mut bytes = [0; 26];
+    let mut bytes = [0; COMMIT_LENGTH];
     bytes[0] = 1;
     bytes[1..5].copy_from_slice(&commit.generation.to_be_bytes());
     bytes[5..].copy_from_slice(&commit.index);
@@ -35,7 +36,7 @@ pub fn next_commit(
     before: &StateBlocks,
     after: &StateBlocks,
 ) -> Commit
-    requires { number_in current.now + 1 < 4294967296 }
+    requires { number_in current.now < last_number }
     ensures { IsNext config.now current.now (bytes_at before.now) (bytes_at after.now) result }
 {
     let generation = match current {
@@ -122,7 +123,7 @@ fn is_commit(config: &ValidConfig, commit: &Commit) -> bool
 // The commit whose numbers stand in these bytes.
 #[tactic(auto, unfolding(flt_generation::specs::Reading::commit_from))]
 fn commit_from(bytes: &[u8]) -> Commit
-    requires { length bytes.now ≡ 26 }
+    requires { length bytes.now ≡ commit_length }
     ensures { result ≡ commit_from bytes.now }
 {
     let mut generation = [0; 4];
@@ -140,7 +141,7 @@ fn commit_from(bytes: &[u8]) -> Commit
 pub fn get_commit(config: &ValidConfig, bytes: &[u8]) -> Option<Commit>
     ensures { result ≡ commit_in config.now bytes.now }
 {
-    if bytes.len() != 26 {
+    if bytes.len() != COMMIT_LENGTH {
         return None;
     }
     let commit = commit_from(bytes);

@@ -2,18 +2,19 @@
 ghost use Rattle.std.specs.Prelude.{◌≡◌, ◌+◌, ◌<◌, ◌≤◌, ◌++◌, length, slice_get, slice_set, bytes_eq};
 ghost use Rattle.flt_generation.specs.declared.part.Part.TheVariants.{Entry};
 ghost use Rattle.flt_generation.specs.Fit.{is_alone};
-ghost use Rattle.flt_generation.specs.Form.{padded, entry_bytes, no_entry_bytes, place_bytes};
+ghost use Rattle.flt_generation.specs.Form.{entry_length, padded, entry_bytes, no_entry_bytes, place_bytes};
 ghost use Rattle.flt_generation.specs.Reading.{frame_at, entry_from, taken};
 ghost use Rattle.flt_image.specs.Taking.{Takes};
 
 use crate::pushing::{BlockBytes, push_all, push_zeros, word_at};
 use arrayvec::ArrayVec;
 use flt_config::{ENTRIES, EntryState, FRAME, Frame, Persist, ValidConfig, is_entry_of, place_of};
+use flt_generation::ENTRY_LENGTH;
 
 fn put_frame(frame: &Frame, out: &mut BlockBytes)
-    requires { length out.old.items + 32 ≤ 128 }
+    requires { length out.old.items + FRAME ≤ 128 }
     ensures items { out.new.items ≡ out.old.items ++ padded frame.now.items }
-    ensures size { length out.new.items ≡ length out.old.items + 32 }
+    ensures size { length out.new.items ≡ length out.old.items + FRAME }
 {
     let bytes = frame.as_slice();
     push_all(out, bytes);
@@ -24,7 +25,7 @@ fn put_frame(frame: &Frame, out: &mut BlockBytes)
 fn put_entry(entry: &EntryState, out: &mut BlockBytes)
     requires { length out.old.items ≡ 0 }
     ensures items { out.new.items ≡ entry_bytes entry.now }
-    ensures size { length out.new.items ≡ 68 }
+    ensures size { length out.new.items ≡ entry_length }
 {
     let [high, low] = entry.event.to_be_bytes();
     push_all(out, &[high, low, entry.occurrence, entry.first.len() as u8]);
@@ -36,17 +37,17 @@ fn put_entry(entry: &EntryState, out: &mut BlockBytes)
 fn put_no_entry(out: &mut BlockBytes)
     requires { length out.old.items ≡ 0 }
     ensures items { out.new.items ≡ no_entry_bytes }
-    ensures size { length out.new.items ≡ 68 }
+    ensures size { length out.new.items ≡ entry_length }
 {
     push_all(out, &[0xFF, 0xFF]);
-    push_zeros(out, 66);
+    push_zeros(out, ENTRY_LENGTH - 2);
 }
 
 /// Puts the entry at a place, or what stands for none.
 pub(crate) fn put_place(entries: &[EntryState], place: u16, out: &mut BlockBytes)
     requires { length out.old.items ≡ 0 }
     ensures items { out.new.items ≡ place_bytes (slice_get entries.now place) }
-    ensures size { length out.new.items ≡ 68 }
+    ensures size { length out.new.items ≡ entry_length }
 {
     match entries.get(place as usize) {
         Some(entry) => put_entry(entry, out),
@@ -71,8 +72,8 @@ fn are_bytes_of_none(bytes: &[u8]) -> bool
 }
 
 fn frame_at(bytes: &[u8], at: usize) -> Frame
-    requires size { length bytes.now ≡ 68 }
-    requires at { at ≤ 36 }
+    requires size { length bytes.now ≡ entry_length }
+    requires at { at + FRAME ≤ entry_length }
     ensures { result.items ≡ frame_at bytes.now at }
 {
     let count = (bytes[3] as usize).min(FRAME);
@@ -85,7 +86,7 @@ fn frame_at(bytes: &[u8], at: usize) -> Frame
 
 #[tactic(auto, unfolding(flt_generation::specs::Reading::entry_from))]
 fn entry_from(bytes: &[u8]) -> EntryState
-    requires { length bytes.now ≡ 68 }
+    requires { length bytes.now ≡ entry_length }
     ensures { result ≡ entry_from bytes.now }
 {
     EntryState {
@@ -113,7 +114,7 @@ fn set_entry(entries: &mut ArrayVec<EntryState, ENTRIES>, place: u16, entry: Ent
 
 /// Takes the entry at a place from its bytes; a place past the entries has none. Where they are none that fit, nothing changes.
 pub(crate) fn take_entry(config: &ValidConfig, place: u16, bytes: &[u8], into: &mut Persist) -> bool
-    requires { length bytes.now ≡ 68 }
+    requires { length bytes.now ≡ entry_length }
     ensures { Takes (taken config.now (Entry place) bytes.now into.old) result into.old into.new }
 {
     let at = place as usize;

@@ -1,24 +1,28 @@
 // Which blocks a configuration has, and which part of a generation each of them holds.
 ghost use Rattle.std.specs.Prelude.{◌≡◌, ◌<◌, ◌≤◌, ◌+◌, ◌++◌, [], ◌∷◌, if◌then◌else◌, length};
-ghost use Rattle.flt_generation.specs.Layout.{part_of, parts, has_part, is_used, used_ids};
+ghost use Rattle.flt_generation.specs.Layout.{first_part, part_of, parts, has_part, is_used, used_ids};
 
 use arrayvec::ArrayVec;
 use flt_config::ValidConfig;
-use flt_generation::{END_PART, FIRST_PART, INDICES, Part};
+use flt_generation::{
+    END_PART, FIRST_ENTRY, FIRST_PART, FIRST_STATES, INDICES, Part, STATES_PER_BLOCK,
+};
 
 /// The part of a generation that a block holds.
 pub(crate) fn part_of(id: u16) -> Part
-    requires { 3 ≤ id }
+    requires { first_part ≤ id }
     ensures { result ≡ part_of id }
 {
-    if id == 3 {
+    if id == FIRST_PART {
         Part::Summary
-    } else if id < 8 {
+    } else if id < FIRST_ENTRY {
         Part::States {
-            first: 16 * (id - 4),
+            first: (id - FIRST_STATES) * STATES_PER_BLOCK as u16,
         }
     } else {
-        Part::Entry { place: id - 8 }
+        Part::Entry {
+            place: id - FIRST_ENTRY,
+        }
     }
 }
 

@@ -1,12 +1,12 @@
 // The mark of a configuration.
 ghost use Rattle.std.specs.Prelude.{◌≡◌, length};
-ghost use Rattle.flt_generation.specs.Form.{mark_of, mark_bytes, IsMark};
+ghost use Rattle.flt_generation.specs.Form.{mark_length, mark_of, mark_bytes, IsMark};
 ghost use Rattle.flt_generation.specs.Reading.{mark_from, mark_in};
 ghost use Rattle.flt_generation.specs.Laws.{IsGiven};
 
 use crate::pushing::word_at;
 use flt_config::ValidConfig;
-use flt_generation::Mark;
+use flt_generation::{MARK_LENGTH, Mark};
 
 /// The mark of a configuration, whose numbers are those of its type.
 pub fn mark_of(config: &ValidConfig) -> Mark
@@ -31,7 +31,7 @@ fn mark_with(id: u16, events: u16, entries: u8) -> Mark
 
 /// The bytes of a mark: 01, the configuration, its events, its entries, 00 00; numbers of two bytes are big-endian.
 #[tactic(auto, unfolding(flt_generation::specs::Form::mark_bytes))]
-pub fn put_mark(mark: &Mark) -> [u8; 8]
+pub fn put_mark(mark: &Mark) -> [u8; MARK_LENGTH]
     ensures { result ≡ mark_bytes mark.now }
 {
     let [a, b] = mark.id.to_be_bytes();
@@ -42,7 +42,7 @@ pub fn put_mark(mark: &Mark) -> [u8; 8]
 // The mark whose numbers stand in these bytes.
 #[tactic(auto, unfolding(flt_generation::specs::Reading::mark_from))]
 fn mark_from(bytes: &[u8]) -> Mark
-    requires { length bytes.now ≡ 8 }
+    requires { length bytes.now ≡ mark_length }
     ensures value { result ≡ mark_from bytes.now }
     ensures fields { IsMark result }
 {
@@ -53,7 +53,7 @@ fn mark_from(bytes: &[u8]) -> Mark
 pub fn get_mark(bytes: &[u8]) -> Option<Mark>
     ensures { result ≡ mark_in bytes.now }
 {
-    if bytes.len() != 8 {
+    if bytes.len() != MARK_LENGTH {
         return None;
     }
     let mark = mark_from(bytes);

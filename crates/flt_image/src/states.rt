@@ -2,13 +2,15 @@
 ghost use Rattle.std.specs.Prelude.{◌≡◌, ℕ, ◌+◌, ◌*◌, ◌<◌, ◌≤◌, ◌++◌, IsTrue, List, length, slice_index_or, slice_set, bytes_eq};
 ghost use Rattle.flt_config.specs.Durable.{start_state};
 ghost use Rattle.flt_generation.specs.declared.part.Part.TheVariants.{States};
-ghost use Rattle.flt_generation.specs.Form.{state_bytes, states_bytes};
+ghost use Rattle.flt_generation.specs.Layout.{states_per_block};
+ghost use Rattle.flt_generation.specs.Form.{states_length, state_bytes, states_bytes};
 ghost use Rattle.flt_generation.specs.Reading.{state_from, with_states, taken};
 ghost use Rattle.flt_image.specs.Taking.{Takes, HaveShortCounts, block_states};
 
 use crate::pushing::{BlockBytes, push_all, word_at};
 use arrayvec::ArrayVec;
 use flt_config::{EVENTS, EventState, Persist, ValidConfig, are_states_of};
+use flt_generation::STATES_PER_BLOCK;
 
 /// An event that was not tested since it was cleared.
 const START: EventState = EventState {
@@ -20,9 +22,6 @@ const START: EventState = EventState {
 
 /// What is set beside the clean count of an event that is lit.
 const LIT: u16 = 0x8000;
-
-/// The states of one block.
-const STATES: usize = 16;
 
 #[tactic(auto, unfolding(flt_generation::specs::Form::state_bytes))]
 fn put_state(state: EventState, out: &mut BlockBytes)
@@ -43,21 +42,21 @@ fn state_at(states: &[EventState], event: usize) -> EventState
 
 /// Puts the states of sixteen events from `first` on; those past the last event are start states.
 pub(crate) fn put_states(states: &[EventState], first: u16, out: &mut BlockBytes)
-    requires first { first < 64 }
+    requires first { first < EVENTS }
     requires clean { HaveShortCounts states.now }
     requires empty { length out.old.items ≡ 0 }
     ensures items { out.new.items ≡ states_bytes states.now first }
-    ensures size { length out.new.items ≡ 64 }
+    ensures size { length out.new.items ≡ states_length }
 {
-    for place in 0..STATES {
+    for place in 0..STATES_PER_BLOCK {
         put_state(state_at(states, first as usize + place), out);
     }
 }
 
 #[tactic(auto, unfolding(flt_generation::specs::Reading::state_from))]
 fn state_from(bytes: &[u8], place: usize) -> EventState
-    requires size { length bytes.now ≡ 64 }
-    requires place { place < 16 }
+    requires size { length bytes.now ≡ states_length }
+    requires place { place < states_per_block }
     ensures { result ≡ state_from bytes.now place }
 {
     let word = word_at(bytes, 4 * place + 2);
@@ -70,9 +69,9 @@ fn state_from(bytes: &[u8], place: usize) -> EventState
 }
 
 // The first states of a block.
-fn states_from(bytes: &[u8], count: usize) -> ArrayVec<EventState, STATES>
-    requires size { length bytes.now ≡ 64 }
-    requires count { count ≤ 16 }
+fn states_from(bytes: &[u8], count: usize) -> ArrayVec<EventState, STATES_PER_BLOCK>
+    requires size { length bytes.now ≡ states_length }
+    requires count { count ≤ states_per_block }
     ensures { result.items ≡ block_states bytes.now count }
 {
     let mut states = ArrayVec::new();
@@ -117,13 +116,13 @@ pub(crate) fn take_states(
     bytes: &[u8],
     into: &mut Persist,
 ) -> bool
-    requires size { length bytes.now ≡ 64 }
+    requires size { length bytes.now ≡ states_length }
     requires first { first < length config.now.events.items }
     requires states { length into.old.events.items ≡ length config.now.events.items }
     ensures { Takes (taken config.now (States first) bytes.now into.old) result into.old into.new }
 {
     let events = &config.config().events;
-    let count = (events.len() - first as usize).min(STATES);
+    let count = (events.len() - first as usize).min(STATES_PER_BLOCK);
     let states = states_from(bytes, count);
     if !are_states_of(&events[first as usize..first as usize + count], &states) {
         return false;

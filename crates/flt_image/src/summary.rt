@@ -1,13 +1,14 @@
 // The summary of a generation: its overflow flag, its number of entries and its noted events.
 ghost use Rattle.std.specs.Prelude.{◌≡◌, ◌↔◌, ◌+◌, ◌<◌, ◌≤◌, IsTrue, length, replicate, min};
 ghost use Rattle.flt_generation.specs.declared.part.Part.TheVariants.{Summary};
-ghost use Rattle.flt_generation.specs.Form.{note_word, note_bytes, summary_bytes};
+ghost use Rattle.flt_generation.specs.Form.{summary_length, note_word, note_bytes, summary_bytes};
 ghost use Rattle.flt_generation.specs.Reading.{note_at, untaken_entry, with_summary, taken};
 ghost use Rattle.flt_image.specs.Taking.{no_state, summed_up, IsSummaryOf, Takes};
 
 use crate::pushing::word_at;
 use arrayvec::ArrayVec;
 use flt_config::{ENTRIES, EntryState, Persist, ValidConfig, is_noted};
+use flt_generation::SUMMARY_LENGTH;
 
 /// What stands for no event.
 const NO_EVENT: u16 = 0xFFFF;
@@ -29,7 +30,7 @@ fn note_word(note: Option<u16>) -> u16
 
 /// The bytes of the summary of a state.
 #[tactic(auto, unfolding(flt_generation::specs::Form::summary_bytes))]
-pub(crate) fn summary_bytes(state: &Persist) -> [u8; 32]
+pub(crate) fn summary_bytes(state: &Persist) -> [u8; SUMMARY_LENGTH]
     ensures { result ≡ summary_bytes state.now }
 {
     let [a, b] = note_bytes(state.first_failed);
@@ -64,7 +65,7 @@ fn untaken_entry() -> EntryState
 }
 
 fn untaken_entries(count: u8) -> ArrayVec<EntryState, ENTRIES>
-    ensures { result.items ≡ replicate (min count 16) untaken_entry }
+    ensures { result.items ≡ replicate (min count ENTRIES) untaken_entry }
 {
     let mut entries = ArrayVec::new();
     let places = (count as usize).min(ENTRIES);
@@ -77,7 +78,7 @@ fn untaken_entries(count: u8) -> ArrayVec<EntryState, ENTRIES>
 // A state that holds the summary in these bytes, and no events.
 #[tactic(auto, unfolding(flt_generation::specs::Reading::with_summary))]
 fn summary_from(bytes: &[u8]) -> Persist
-    requires { length bytes.now ≡ 32 }
+    requires { length bytes.now ≡ summary_length }
     ensures { result ≡ with_summary bytes.now no_state }
 {
     Persist {
@@ -117,7 +118,7 @@ fn set_summary(read: Persist, into: &mut Persist)
 
 /// Takes the summary from its bytes. Where they are none that fits, nothing changes.
 pub(crate) fn take_summary(config: &ValidConfig, bytes: &[u8], into: &mut Persist) -> bool
-    requires { length bytes.now ≡ 32 }
+    requires { length bytes.now ≡ summary_length }
     ensures { Takes (taken config.now Summary bytes.now into.old) result into.old into.new }
 {
     let read = summary_from(bytes);

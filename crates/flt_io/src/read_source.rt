@@ -1,4 +1,7 @@
-ghost use Rattle.std.specs.Prelude.{◌≡◌};
+ghost use Rattle.std.specs.Prelude.{◌≡◌, is_err, if◌then◌else◌};
+ghost use Rattle.std.specs.Io.{ReadsAtMost};
+ghost use Rattle.std.specs.Io.KnownBytes.{ReadConsumes};
+ghost use Rattle.flt_io.specs.Fault.{HasCause, one_more};
 
 use crate::TRIES;
 use crate::stream::{Failed, Source};
@@ -27,11 +30,18 @@ impl<R> ReadSource<R> {
 }
 
 impl<R: Read> Source for ReadSource<R> {
-    ghost left = { λ s. R.remaining s.inner };
+    ghost use Rattle.flt_io.specs.Stream.{reader_of, read_faults};
 
-    ghost faults = { λ s. s.faults };
+    ghost left = { λ s. R.remaining (reader_of s) };
 
-    fn pull(&mut self, out: &mut [u8]) -> Result<usize, Failed> {
+    ghost faults = { λ s. read_faults s };
+
+    fn pull(&mut self, out: &mut [u8]) -> Result<usize, Failed>
+        ensures bound { ReadsAtMost result out.new }
+        ensures bytes { ReadConsumes (R.remaining (reader_of self.old)) (R.remaining (reader_of self.new)) result out.new }
+        ensures cause { HasCause (read_faults self.old) (read_faults self.new) result }
+        ensures counted { read_faults self.new ≡ (if is_err result then one_more (read_faults self.old) else read_faults self.old) }
+    {
         for _ in 0..TRIES {
             match self.inner.read(out) {
                 Ok(count) => return Ok(count),

@@ -1,7 +1,8 @@
-ghost use Rattle.std.specs.Prelude.{◌≡◌, ◌<◌, length, IfOk};
+ghost use Rattle.std.specs.Prelude.{◌≡◌, ◌<◌, length, is_err, IfOk, OnOk, OnErr, if◌then◌else◌};
 ghost use Rattle.std.specs.Io.{WritesAtMost};
-ghost use Rattle.std.specs.Io.KnownBytes.{WriteAppends};
-ghost use Rattle.flt_io.specs.Fault.{HasCause};
+ghost use Rattle.std.specs.Io.KnownBytes.{Appends, WriteAppends};
+ghost use Rattle.flt_io.specs.Fault.{HasCause, one_more};
+ghost use Rattle.flt_io.specs.Sink.{AppendsFront};
 
 use crate::TRIES;
 use crate::stream::{Failed, Sink};
@@ -39,13 +40,15 @@ impl<W> WriteSink<W> {
 }
 
 impl<W: Write> WriteSink<W> {
+    ghost use Rattle.flt_io.specs.Stream.{writer_of, write_faults};
+
     /// Writes a front of a piece that is not empty, at least one byte, and answers how many.
     fn write_front(&mut self, piece: &[u8]) -> Result<usize, Failed>
         requires { 0 < length piece.now }
         ensures some { IfOk result (λ n. 0 < n) }
         ensures bound { WritesAtMost result piece.now }
-        ensures bytes { WriteAppends (W.contents self.old.inner) (W.contents self.new.inner) result piece.now }
-        ensures cause { HasCause self.old.faults self.new.faults result }
+        ensures bytes { WriteAppends (W.contents (writer_of self.old)) (W.contents (writer_of self.new)) result piece.now }
+        ensures counted { write_faults self.new ≡ (if is_err result then one_more (write_faults self.old) else write_faults self.old) }
     {
         for _ in 0..TRIES {
             match self.inner.write(piece) {
@@ -61,11 +64,18 @@ impl<W: Write> WriteSink<W> {
 }
 
 impl<W: Write> Sink for WriteSink<W> {
-    ghost held = { λ s. W.contents s.inner };
+    ghost use Rattle.flt_io.specs.Stream.{writer_of, write_faults};
 
-    ghost faults = { λ s. s.faults };
+    ghost held = { λ s. W.contents (writer_of s) };
 
-    fn push(&mut self, piece: &[u8]) -> Result<(), Failed> {
+    ghost faults = { λ s. write_faults s };
+
+    fn push(&mut self, piece: &[u8]) -> Result<(), Failed>
+        ensures ok { OnOk result (Appends (W.contents (writer_of self.old)) (W.contents (writer_of self.new)) piece.now) }
+        ensures err { OnErr result (AppendsFront (W.contents (writer_of self.old)) (W.contents (writer_of self.new)) piece.now) }
+        ensures cause { HasCause (write_faults self.old) (write_faults self.new) result }
+        ensures counted { write_faults self.new ≡ (if is_err result then one_more (write_faults self.old) else write_faults self.old) }
+    {
         let mut sent = 0;
         while sent < piece.len() {
             sent += self.write_front(&piece[sent..])?;

@@ -8,12 +8,13 @@ use Rattle.flt_script.specs.declared.step.Step.{Step}
 use Rattle.flt_shared.specs.declared.lock.DemLock.{DemLock}
 use Rattle.flt_shared.specs.Call.{Seat, MayBeAsked, reply_after}
 use Rattle.flt_lane.specs.declared.lane.LaneWork.{LaneWork}
-use Rattle.flt_lane.specs.declared.step.StepAnswer.{StepAnswer}
-use Rattle.flt_lane.specs.Calls.{MadeBy}
-use Rattle.flt_lane.specs.Journal.{Block}
+use Rattle.flt_life.specs.Answers.{Told}
+use Rattle.flt_life.specs.Played.{StepMakes}
+use Rattle.flt_life.specs.Mixing.{Block}
 use Rattle.flt_lane.specs.Lived.{IsMain}
-use Rattle.flt_lane.specs.Life.{steps_in}
-use Rattle.flt_lane.specs.Making.{AreMadeBy, LanesMake}
+use Rattle.flt_life.specs.Room.{told_in}
+use Rattle.flt_lane.specs.Room.{steps_in}
+use Rattle.flt_life.specs.Making.{AreMadeBy, LanesMake}
 use Rattle.flt_lane.specs.Work.{HasRun}
 use Rattle.flt_lane.specs.Block.{IsSplit, AreSplit, IsSplitOff, AreJoined, HasRunBlock, RunsLanes}
 use Rattle.flt_lane.proofs.Blocks.{IsLane, AreLanes, IsNumberOf, lane_fact, block_part}
@@ -21,8 +22,8 @@ use Rattle.flt_lane.proofs.Blocks.{IsLane, AreLanes, IsNumberOf, lane_fact, bloc
 abbrev pub HaveRun : List LaneWork → List LaneWork → Type 0
 HaveRun works after = (k : ℕ) (d : LaneWork) → k < length works → HasRun (get_or works k d) (get_or after k d)
 
-abbrev answers_of : List LaneWork → List (List StepAnswer)
-answers_of works = map (λ (w : LaneWork). w.answers.items) works
+abbrev answers_of : List LaneWork → List (List Told)
+answers_of works = map (λ (w : LaneWork). told_in w.replies) works
 
 abbrev seats_of : List LaneWork → List Seat
 seats_of works = map (λ (w : LaneWork). w.seat) works
@@ -39,14 +40,14 @@ one_ran lock main number steps work after is ran = lane_fact MayBeAsked reply_af
   chain = ran.runs.chain;
 }
 
-one_made : {F : _} {g : _} (lock : DemLock F g) (main : Seat) (number : ℕ) (steps : List Step) (work after : LaneWork) → IsSplit lock main number steps work → (ran : HasRun work after) → AreMadeBy MadeBy steps after.answers.items ran.runs.calls
-one_made lock main number steps work after is ran = subst (λ l. AreMadeBy MadeBy l after.answers.items ran.runs.calls) is.steps_are
-    (subst (λ l. AreMadeBy MadeBy work.steps.items l ran.runs.calls) (sym (ran.answers ∙ ap (λ l. l ++ ran.told) is.no_answers)) ran.runs.made)
+one_made : {F : _} {g : _} (lock : DemLock F g) (main : Seat) (number : ℕ) (steps : List Step) (work after : LaneWork) → IsSplit lock main number steps work → (ran : HasRun work after) → AreMadeBy StepMakes steps (told_in after.replies) ran.runs.calls
+one_made lock main number steps work after is ran = subst (λ l. AreMadeBy StepMakes l (told_in after.replies) ran.runs.calls) is.steps_are
+    (subst (λ l. AreMadeBy StepMakes work.steps.now l ran.runs.calls) (sym (ran.answers ∙ ap (λ l. l ++ ran.told) is.no_answers)) ran.runs.made)
 
 -- the calls that the lanes made
 record HaveMade (main : Seat) (width number : ℕ) (lanes : List (List Step)) (after : List LaneWork) : Type 0 where
   pub made : Block Op Reply
-  pub makes : LanesMake MadeBy number lanes (answers_of after) made
+  pub makes : LanesMake StepMakes number lanes (answers_of after) made
   pub are : AreLanes MayBeAsked reply_after main made (seats_of after)
   pub numbers : All (IsNumberOf main width) made
 
@@ -100,7 +101,7 @@ ran_block lock main off after lanes works ran is split is_off same have joined =
       };
     }
 
-pub ran_lanes : {F : _} {g : _} (lock : DemLock F g) (main off after : Seat) (lanes : List (List Step)) (works ran : List LaneWork) (told more : List (List StepAnswer)) → IsMain main → AreSplit lock main (main.children + 1) lanes works
+pub ran_lanes : {F : _} {g : _} (lock : DemLock F g) (main off after : Seat) (lanes : List (List Step)) (works ran : List LaneWork) (told more : List (List Told)) → IsMain main → AreSplit lock main (main.children + 1) lanes works
     → IsSplitOff main off (length lanes) (steps_in lanes) → length ran ≡ length works → HaveRun works ran → AreJoined off after (seats_of ran) → more ≡ told ++ answers_of ran → RunsLanes main after lanes told more
 ran_lanes lock main off after lanes works ran told more is split is_off same have joined told_are =
     record { others = answers_of ran; told_are = told_are; run = ran_block lock main off after lanes works ran is split is_off same have joined }

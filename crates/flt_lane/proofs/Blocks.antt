@@ -8,12 +8,14 @@ use Rattle.flt_turn.specs.declared.vault.Entry.{Entry}
 use Rattle.flt_turn.specs.Journal.{calls_of}
 use Rattle.flt_turn.specs.Seats.{Seated}
 use Rattle.flt_turn.proofs.Journals.{calls_of-append}
-use Rattle.flt_lane.specs.Chain.{Call, Chain, ops_asked}
-use Rattle.flt_lane.specs.Journal.{Mixes, Block, asked_of, IsTold, BlockTold}
+use Rattle.flt_life.specs.Mixing.{Call, ops_asked}
+use Rattle.flt_lane.specs.Chain.{Chain}
+use Rattle.flt_life.specs.Mixing.{Mixes, Block, asked_of, IsTold, BlockTold}
 use Rattle.flt_lane.specs.Lived.{IsEnded, IsMain, IsWhole, Trails, HasLived}
 use Rattle.flt_lane.proofs.Journals.{none_of, IsFull, full_front, more_calls, no_call_behind, no_call_before, low_front, high_rest, cut_at, low_prefix, low_calls}
-use Rattle.flt_lane.proofs.Chains.{chain_fact, calls_longer}
-use Rattle.flt_lane.proofs.Parts.{one_follows}
+use Rattle.flt_lane.proofs.Chains.{chain_fact}
+use Rattle.flt_life.proofs.Mixings.{calls_longer}
+use Rattle.flt_life.proofs.Mixings.{one_follows}
 
 -- ---- lists
 

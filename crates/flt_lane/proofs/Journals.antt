@@ -7,7 +7,7 @@ use mathlib.Core.List.{IsPrefix}
 use Rattle.flt_turn.specs.declared.vault.Entry.{Entry}
 use Rattle.flt_turn.specs.Journal.{entry, calls_of}
 use Rattle.flt_turn.proofs.Journals.{calls_of-append, calls_of_own, calls_of_other, nothing_in_front, prefix_longer}
-use Rattle.flt_lane.specs.Journal.{Mixes}
+use Rattle.flt_life.specs.Mixing.{Mixes}
 
 module _ {X : Type 0} where
   pub empty_unless : (xs : List X) → ((x : X) (rest : List X) → xs ≡ x ∷ rest → ⊥) → xs ≡ []

@@ -2,9 +2,14 @@ pub mod Journals
 pub mod Chains
 pub mod Parts
 pub mod Blocks
-pub mod Makings
 pub mod Running
+pub mod Rooms
 pub mod Seats
 pub mod BlockRuns
 pub mod Lives
 pub mod WholeLife
+pub mod Keeping
+pub mod Carrying
+pub mod Cleanness
+pub mod CallCounts
+pub mod Endings

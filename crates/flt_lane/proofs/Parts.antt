@@ -9,11 +9,13 @@ use Rattle.flt_turn.specs.Call.{IsCall}
 use Rattle.flt_turn.specs.Journal.{entry, calls_of}
 use Rattle.flt_turn.specs.Seats.{Seated, Extends}
 use Rattle.flt_turn.proofs.Journals.{calls_of-append, calls_of_other, prefix_longer}
-use Rattle.flt_lane.specs.Chain.{Call, Chain, ops_asked}
-use Rattle.flt_lane.specs.Journal.{Mixes, Block, Follows, asked_of, IsTold, BlockTold}
+use Rattle.flt_life.specs.Mixing.{Call, ops_asked}
+use Rattle.flt_lane.specs.Chain.{Chain}
+use Rattle.flt_life.specs.Mixing.{Mixes, Block, Follows, asked_of, IsTold, BlockTold}
 use Rattle.flt_lane.specs.Lived.{IsEnded, IsMain, IsWhole, Trails, HasLived}
 use Rattle.flt_lane.proofs.Journals.{more_calls, none_left, no_call_before, one_call, no_call_of_others}
-use Rattle.flt_lane.proofs.Chains.{call_own, call_told, calls_longer, blocks_longer}
+use Rattle.flt_lane.proofs.Chains.{call_own, call_told}
+use Rattle.flt_life.proofs.Mixings.{calls_longer, blocks_longer, follow_more, follows_one, one_follows}
 
 -- ---- the calls of blocks
 
@@ -24,20 +26,6 @@ nothing_mixes {O} number = record {
 }
 
 module _ {O R : Type 0} where
-  pub follows_one : (lanes : Block O R) (journal : List (Entry O)) → Follows (lanes ∷ []) journal → Mixes journal (asked_of lanes)
-  unfolding Follows
-  follows_one lanes journal f = subst (λ j. Mixes j (asked_of lanes)) (sym (f.2 ∙ ap (λ l. f.0 ++ l) f.4 ∙ append-nil f.0)) f.3
-
-  pub one_follows : (lanes : Block O R) (journal : List (Entry O)) → Mixes journal (asked_of lanes) → Follows (lanes ∷ []) journal
-  unfolding Follows
-  one_follows lanes journal mixes = (journal, [], sym (append-nil journal), mixes, refl)
-
-  pub follow_more : (blocks more : List (Block O R)) (journal rest : List (Entry O)) → Follows blocks journal → Follows more rest → Follows (blocks ++ more) (journal ++ rest)
-  unfolding Follows
-  follow_more [] more journal rest none second = subst (λ l. Follows more (l ++ rest)) (sym none) second
-  follow_more (lanes ∷ blocks) more journal rest f second =
-      (f.0, f.1 ++ rest, ap (λ l. l ++ rest) f.2 ∙ append_assoc f.0 f.1 rest, f.3, follow_more blocks more f.1 rest f.4 second)
-
   -- the calls of one lane, one behind the other
   alone_more : (number : ℕ) (xs ys : List (Call O R)) (first second : List (Entry O)) → Mixes first (asked_of ((number, xs) ∷ [])) → Mixes second (asked_of ((number, ys) ∷ []))
       → Mixes (first ++ second) (asked_of ((number, xs ++ ys) ∷ []))

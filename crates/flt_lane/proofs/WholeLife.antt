@@ -7,12 +7,12 @@ use Rattle.flt_turn.specs.declared.vault.Entry.{Entry}
 use Rattle.flt_turn.specs.Journal.{calls_of, Interleaves}
 use Rattle.flt_turn.specs.Seats.{Seated, main_seat}
 use Rattle.flt_shared.specs.Call.{Journal, Seat}
-use Rattle.flt_lane.specs.declared.step.StepAnswer.{StepAnswer}
-use Rattle.flt_lane.specs.Calls.{MadeBy}
-use Rattle.flt_lane.specs.Journal.{Mixes, Follows}
-use Rattle.flt_lane.specs.Life.{IsLife}
+use Rattle.flt_life.specs.Answers.{Told}
+use Rattle.flt_life.specs.Played.{IsLife, StepMakes}
+use Rattle.flt_life.specs.Mixing.{Mixes, Follows}
 use Rattle.flt_lane.specs.Lived.{IsEnded, IsMain, IsWhole}
-use Rattle.flt_lane.specs.Making.{PartOf, PartsMake}
+use Rattle.flt_script.specs.Part.{PartOf}
+use Rattle.flt_life.specs.Making.{PartsMake}
 use Rattle.flt_lane.specs.Block.{HasRunParts}
 use Rattle.flt_lane.proofs.Journals.{no_calls, none_of}
 
@@ -36,7 +36,7 @@ module _ {S O : Type 0} where
   empty_before : (main : Seated S O) (before : List (Entry O)) → main ≡ main_seat main.lock main.start main.left → IsWhole main before → before ≡ []
   empty_before main before fresh whole = nothing_yet before (subst (λ (s : Seated S O). Mixes before ((s.number, s.mine) ∷ s.ended)) fresh whole.mixes)
 
-pub life_of : (main after : Seat) (parts : List (PartOf Step)) (own : List StepAnswer) (lanes : List (List StepAnswer)) (journal : Journal) → main ≡ main_seat main.lock main.start main.left
+pub life_of : (main after : Seat) (parts : List (PartOf Step)) (own : List Told) (lanes : List (List Told)) (journal : Journal) → main ≡ main_seat main.lock main.start main.left
     → HasRunParts main after parts own lanes → IsWhole after journal → IsLife main.start parts own lanes journal
 life_of main after parts own lanes journal fresh ran whole =
     let trail = ran.lived.trails journal whole in
@@ -44,7 +44,7 @@ life_of main after parts own lanes journal fresh ran whole =
     let first : main.children + 1 ≡ 1 = ap (λ (s : Seat). s.children + 1) fresh in
     record {
       blocks = ran.blocks;
-      made = subst (λ n. PartsMake MadeBy n parts own lanes ran.blocks) first ran.made;
+      made = subst (λ n. PartsMake StepMakes n parts own lanes ran.blocks) first ran.made;
       follows = subst (Follows ran.blocks) (sym journal_is) trail.follows;
       told = trail.told;
     }

@@ -6,19 +6,22 @@ use Rattle.flt_script.specs.declared.step.Step.{Step}
 use Rattle.flt_shared.specs.declared.lock.DemLock.{DemLock}
 use Rattle.flt_shared.specs.Call.{Seat, reply_after}
 use Rattle.flt_lane.specs.declared.lane.LaneWork.{LaneWork}
-use Rattle.flt_lane.specs.declared.step.StepAnswer.{StepAnswer}
-use Rattle.flt_lane.specs.Calls.{MadeBy}
-use Rattle.flt_lane.specs.Journal.{Block}
+use Rattle.flt_life.specs.Answers.{Told}
+use Rattle.flt_life.specs.Played.{StepMakes}
+use Rattle.flt_life.specs.Room.{told_in}
+use Rattle.flt_life.specs.Mixing.{Block}
 use Rattle.flt_lane.specs.Lived.{HasLived}
-use Rattle.flt_lane.specs.Making.{PartOf, LanesMake, PartMakes, PartsMake, width, widths}
+use Rattle.flt_script.specs.Part.{PartOf}
+use Rattle.flt_life.specs.Making.{LanesMake, PartMakes, PartsMake}
+use Rattle.flt_life.specs.Parts.{width, widths}
 use Rattle.flt_lane.specs.Runs.{Makes}
 use Rattle.flt_lane.specs.Work.{IsReady}
 
 -- A lane that was made ready: its seat knows what the main seat knew, and has exactly the calls of its steps.
 pub record IsSplit {F : _} {g : _} (lock : DemLock F g) (main : Seat) (number : ℕ) (steps : List Step) (work : LaneWork) : Type 0 where
   pub ready : IsReady lock work
-  pub steps_are : work.steps.items ≡ steps
-  pub no_answers : work.answers.items ≡ []
+  pub steps_are : work.steps.now ≡ steps
+  pub no_answers : told_in work.replies ≡ []
   pub number_is : work.seat.number ≡ number
   pub start_is : work.seat.start ≡ main.start
   pub seen_is : work.seat.seen ≡ main.seen
@@ -58,35 +61,35 @@ pub record AreJoined (main after : Seat) (seats : List Seat) : Type 0 where
   pub left_is : main.left ≤ after.left
 
 -- The lanes of a block were run, and were answered so.
-pub record HasRunBlock (main after : Seat) (lanes : List (List Step)) (told : List (List StepAnswer)) : Type 0 where
+pub record HasRunBlock (main after : Seat) (lanes : List (List Step)) (told : List (List Told)) : Type 0 where
   pub made : Block Op Reply
-  pub makes : LanesMake MadeBy (main.children + 1) lanes told made
+  pub makes : LanesMake StepMakes (main.children + 1) lanes told made
   pub lived : HasLived reply_after main after (length lanes) (made ∷ [])
 
 -- The lanes of a block were run, and their answers were put behind those of the lanes before.
-pub record RunsLanes (main after : Seat) (lanes : List (List Step)) (told told_after : List (List StepAnswer)) : Type 0 where
-  pub others : List (List StepAnswer)
+pub record RunsLanes (main after : Seat) (lanes : List (List Step)) (told told_after : List (List Told)) : Type 0 where
+  pub others : List (List Told)
   pub told_are : told_after ≡ told ++ others
   pub run : HasRunBlock main after lanes others
 
 -- Lane 0 made a step, and the answer was put behind those that it has.
-pub record HasStepped (main after : Seat) (step : Step) (own own_after : List StepAnswer) : Type 0 where
-  pub answer : StepAnswer
+pub record HasStepped (main after : Seat) (step : Step) (own own_after : List Told) : Type 0 where
+  pub answer : Told
   pub own_are : own_after ≡ own ++ answer ∷ []
   pub makes : Makes main step answer after
 
 -- A part was carried out, and its answers were put behind those of lane 0 and of the lanes before.
-pub record Gains (main after : Seat) (part : PartOf Step) (own own_after : List StepAnswer) (lanes lanes_after : List (List StepAnswer)) : Type 0 where
-  pub mine : List StepAnswer
-  pub others : List (List StepAnswer)
+pub record Gains (main after : Seat) (part : PartOf Step) (own own_after : List Told) (lanes lanes_after : List (List Told)) : Type 0 where
+  pub mine : List Told
+  pub others : List (List Told)
   pub own_are : own_after ≡ own ++ mine
   pub lanes_are : lanes_after ≡ lanes ++ others
   pub made : Block Op Reply
-  pub makes : PartMakes MadeBy (main.children + 1) part mine others made
+  pub makes : PartMakes StepMakes (main.children + 1) part mine others made
   pub lived : HasLived reply_after main after (width part) (made ∷ [])
 
 -- All parts were carried out, and were answered so.
-pub record HasRunParts (main after : Seat) (parts : List (PartOf Step)) (own : List StepAnswer) (lanes : List (List StepAnswer)) : Type 0 where
+pub record HasRunParts (main after : Seat) (parts : List (PartOf Step)) (own : List Told) (lanes : List (List Told)) : Type 0 where
   pub blocks : List (Block Op Reply)
-  pub made : PartsMake MadeBy (main.children + 1) parts own lanes blocks
+  pub made : PartsMake StepMakes (main.children + 1) parts own lanes blocks
   pub lived : HasLived reply_after main after (widths parts) blocks

@@ -1,17 +1,8 @@
 -- Calls that one seat of a lock makes, one after the other, whatever machine is under the lock.
-use Rattle.std.specs.Prelude.{◌≡◌, ℕ, ◌+◌, ◌≤◌, List, [], ◌∷◌, map}
-use Rattle.flt_turn.specs.declared.answer.Answer.{Answer}
+use Rattle.std.specs.Prelude.{◌≡◌, ℕ, ◌+◌, ◌≤◌, List, [], ◌∷◌}
 use Rattle.flt_turn.specs.Call.{IsCall}
 use Rattle.flt_turn.specs.Seats.{Seated}
-
--- A call, and what it was told.
-pub record Call (O R : Type 0) : Type 0 where
-  pub op : O
-  pub told : Answer R
-
--- What was asked.
-abbrev pub ops_asked : {O R : Type 0} → List (Call O R) → List O
-ops_asked calls = map (λ call. call.op) calls
+use Rattle.flt_life.specs.Mixing.{Call}
 
 -- The calls of a seat, between what it knew before and after.
 unfoldable pub Chain : {S O R : Type 0} → (S → O → Type 0) → (S → List O → O → R) → Seated S O → List (Call O R) → Seated S O → Type 0

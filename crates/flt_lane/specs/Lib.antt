@@ -1,10 +1,7 @@
 pub mod Chain
-pub mod Journal
 pub mod Lived
-pub mod Making
-pub mod Calls
 pub mod Runs
-pub mod Work
-pub mod Life
-pub mod Block
 pub mod Room
+pub mod Work
+pub mod Block
+pub mod Living

@@ -4,7 +4,7 @@ use mathlib.Core.List.{IsPrefix}
 use Rattle.flt_turn.specs.declared.vault.Entry.{Entry}
 use Rattle.flt_turn.specs.Journal.{calls_of}
 use Rattle.flt_turn.specs.Seats.{Seated}
-use Rattle.flt_lane.specs.Journal.{Mixes, Block, Follows, BlockTold}
+use Rattle.flt_life.specs.Mixing.{Mixes, Block, Follows, BlockTold}
 
 -- A joined lane: its number was given out, and a joined seat knew all of its calls.
 pub record IsEnded {S O : Type 0} (main : Seated S O) (lane : ℕ × List O) : Type 0 where

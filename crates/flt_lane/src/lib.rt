@@ -1,12 +1,16 @@
-//! The lanes of a script: each makes the calls of its steps on the shared status machine, at the same time as the others.
+//! The lanes of a life under the lock: lane 0 makes the steps by themselves, with its saves and arms over the store, and the lanes of
+//! each block make the calls of theirs at the same time as one another.
 //!
-//! Stands on `flt_shared` and `flt_script`. The layer above uses `run_life`. Read `specs/Life.antt` first: what it says of the journal
-//! and of the answers. `specs/Chain.antt`, `Journal.antt`, `Lived.antt` and `Making.antt` are stated over any machine and any kind of
-//! steps; `Calls.antt` has which calls a step makes.
+//! Stands on `flt_shared` for the lock, on `flt_life` for what a life is told in, on `flt_store`, and on `flt_lives` for lives one after
+//! the other. The layer above uses `run_in_lanes`, whose `LockEngine` makes the steps of each life by `live_on_lock`; what the journal
+//! and the answers of a life are is said in `specs/Played.antt` of `flt_life`. Read `specs/Living.antt` first (what the saves leave while a life goes on), then
+//! `specs/Block.antt`; `specs/Chain.antt` and `Lived.antt` are stated over any machine.
 #![tactic(auto)]
 
+mod bench;
 mod beside;
 mod block;
+mod engine;
 mod gate;
 mod lane;
 mod life;
@@ -16,8 +20,8 @@ mod step;
 #[cfg(test)]
 mod tests;
 
+pub use bench::run_in_lanes;
+pub use engine::LockEngine;
 pub use gate::{Gate, OpenGate};
 pub use lane::{LaneWork, run_block};
-pub use life::LifePart;
-pub use living::{LifeAnswers, Lived, run_life};
-pub use step::{StepAnswer, do_step};
+pub use life::{Lived, live_on_lock};

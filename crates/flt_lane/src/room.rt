@@ -1,154 +1,85 @@
-//! What a life takes of memory: all of it at its start.
-ghost use Rattle.std.specs.Prelude.{◌≡◌, ◌<◌, ◌≤◌, ◌+◌, ◌^◌, ◌∷◌, [], ℕ, All, IfOk, length, map, vec_len};
-ghost use Rattle.std.specs.Vec.{vec_capacity};
-ghost use Rattle.flt_lane.specs.Life.{lists, part_of, parts_of};
-ghost use Rattle.flt_lane.specs.Making.{widths};
-ghost use Rattle.flt_lane.specs.Room.{IsLaneRoom, IsPartRoom, IsLifeRoom, steps_of, part_in};
+//! What the blocks of a life take of memory: all of it at its start.
+ghost use Rattle.std.specs.Prelude.{◌≡◌, ◌≤◌, ◌++◌, ◌∷◌, [], List, All, IfOk, OnOk, length, map};
+ghost use Rattle.flt_life.specs.Parts.{lanes_in};
+ghost use Rattle.flt_life.specs.Room.{IsLaneRoom, steps_of};
+ghost use Rattle.flt_script.specs.Part.{part_of, parts_of};
+ghost use Rattle.flt_script.specs.declared.step.Step.{Step};
+ghost use Rattle.flt_lane.specs.Room.{IsPartRoom, part_in};
 
 use crate::lane::LaneWork;
-use crate::life::LifePart;
-use crate::step::StepAnswer;
-use arrayvec::ArrayVec;
-use flt_model::REQUEST;
-use flt_script::Step;
+use flt_life::LaneRoom;
+use flt_script::{Part, Step};
 use std::alloc::{AllocError, Global};
-
-/// The steps of a lane that was not split off yet, and room for an answer to each.
-#[derive(Drop)]
-pub(crate) struct LaneRoom {
-    pub(crate) steps: Vec<Step>,
-    pub(crate) answers: Vec<StepAnswer>,
-}
+use std::vec::IntoIter;
 
 /// A part of a life, with the memory that it needs.
 #[derive(Drop)]
-pub(crate) enum PartRoom {
-    One(Step),
+pub(crate) enum PartRoom<'a> {
+    One(&'a Step),
     /// The lanes of a block, and room for as many seats.
-    Lanes(Vec<LaneRoom>, Vec<LaneWork>),
+    Lanes(Vec<LaneRoom<'a>>, Vec<LaneWork<'a>>),
 }
 
-/// The parts of a life, with room for the answers of lane 0 and of the lanes of all blocks.
-#[derive(Drop)]
-pub(crate) struct LifeRoom {
-    pub(crate) parts: Vec<PartRoom>,
-    pub(crate) own: Vec<StepAnswer>,
-    pub(crate) lanes: Vec<Vec<StepAnswer>>,
-}
-
-/// A copy of the bytes of a request, which takes no memory.
-fn copy_of_bytes(bytes: &ArrayVec<u8, REQUEST>) -> ArrayVec<u8, REQUEST>
-    ensures { result ≡ bytes.now }
+/// Takes the next lanes, so many.
+fn next_lanes<'a>(
+    alloc: Global,
+    count: usize,
+    lanes: &mut IntoIter<LaneRoom<'a>>,
+) -> Result<Vec<LaneRoom<'a>>, AllocError>
+    requires { count ≤ length lanes.old.rest.items }
+    ensures lanes { IfOk result (λ rooms. rooms.items ++ lanes.new.rest.items ≡ lanes.old.rest.items) }
+    ensures count { IfOk result (λ rooms. length rooms.items ≡ count) }
 {
-    bytes.clone().unwrap()
-}
-
-/// A copy of a step, which takes no memory.
-fn copy_of_step(step: &Step) -> Step
-    ensures { result ≡ step.now }
-{
-    match step {
-        Step::Report { event, report } => Step::Report {
-            event: *event,
-            report: *report,
-        },
-        Step::Show { event } => Step::Show { event: *event },
-        Step::Cycle { cycle } => Step::Cycle { cycle: *cycle },
-        Step::Tick { ticks } => Step::Tick { ticks: *ticks },
-        Step::Signal { index, value } => Step::Signal {
-            index: *index,
-            value: *value,
-        },
-        Step::Request { tester, bytes } => Step::Request {
-            tester: *tester,
-            bytes: copy_of_bytes(bytes),
-        },
-        Step::Save => Step::Save,
-        Step::Arming(arm) => Step::Arming(*arm),
-    }
-}
-
-/// A copy of the steps of a lane.
-fn copy_of(alloc: Global, steps: &[Step]) -> Result<Vec<Step>, AllocError>
-    ensures items { IfOk result (λ copy. copy.items ≡ steps.now) }
-    ensures len { IfOk result (λ copy. vec_len copy ≡ length steps.now) }
-{
-    let mut copy = Vec::with_capacity(alloc, steps.len())?;
-    for step in steps {
-        copy.push(copy_of_step(step))?;
-    }
-    Ok(copy)
-}
-
-fn lane_room(alloc: Global, lane: &[Step]) -> Result<LaneRoom, AllocError>
-    ensures steps { IfOk result (λ room. room.steps.items ≡ lane.now) }
-    ensures room { IfOk result IsLaneRoom }
-{
-    let steps = copy_of(alloc, lane)?;
-    let answers = Vec::with_capacity(alloc, lane.len())?;
-    Ok(LaneRoom { steps, answers })
-}
-
-fn lane_rooms(alloc: Global, lanes: &[Vec<Step>]) -> Result<Vec<LaneRoom>, AllocError>
-    ensures steps { IfOk result (λ rooms. steps_of rooms.items ≡ lists lanes.now) }
-    ensures room { IfOk result (λ rooms. All IsLaneRoom rooms.items) }
-{
-    let mut rooms = Vec::with_capacity(alloc, lanes.len())?;
-    for lane in lanes {
-        let room = lane_room(alloc, lane)?;
+    let mut rooms = Vec::with_capacity(alloc, count)?;
+    for taken in 0..count {
+        let Some(room) = lanes.next() else {
+            unreachable!()
+        };
         rooms.push(room)?;
     }
     Ok(rooms)
 }
 
-fn part_room(alloc: Global, part: &LifePart) -> Result<PartRoom, AllocError>
+/// A part with its lanes, which are the next ones.
+fn part_room<'a>(
+    alloc: Global,
+    part: &'a Part,
+    lanes: &mut IntoIter<LaneRoom<'a>>,
+) -> Result<PartRoom<'a>, AllocError>
+    requires lanes { (later : List (List Step)) × (steps_of lanes.old.rest.items ≡ lanes_in (part_of part.now ∷ []) ++ later) }
+    requires ready { All IsLaneRoom lanes.old.rest.items }
     ensures part { IfOk result (λ room. part_in room ≡ part_of part.now) }
     ensures room { IfOk result IsPartRoom }
+    ensures later { OnOk result ((later : List (List Step)) → steps_of lanes.old.rest.items ≡ lanes_in (part_of part.now ∷ []) ++ later
+        → steps_of lanes.new.rest.items ≡ later) }
+    ensures ready { OnOk result (All IsLaneRoom lanes.new.rest.items) }
 {
     match part {
-        LifePart::One(step) => Ok(PartRoom::One(copy_of_step(step))),
-        LifePart::Lanes(lanes) => {
-            let rooms = lane_rooms(alloc, lanes)?;
-            let works = Vec::with_capacity(alloc, lanes.len())?;
+        Part::One(step) => Ok(PartRoom::One(step)),
+        Part::Lanes(block) => {
+            let rooms = next_lanes(alloc, block.len(), lanes)?;
+            let works = Vec::with_capacity(alloc, block.len())?;
             Ok(PartRoom::Lanes(rooms, works))
         }
     }
 }
 
-fn part_rooms(alloc: Global, parts: &[LifePart]) -> Result<Vec<PartRoom>, AllocError>
+/// The parts of a life, each block with its lanes, and with room for their seats.
+pub(crate) fn part_rooms<'a>(
+    alloc: Global,
+    parts: &'a [Part],
+    lanes: Vec<LaneRoom<'a>>,
+) -> Result<Vec<PartRoom<'a>>, AllocError>
+    requires lanes { steps_of lanes.items ≡ lanes_in (parts_of parts.now) }
+    requires ready { All IsLaneRoom lanes.items }
     ensures parts { IfOk result (λ rooms. map part_in rooms.items ≡ parts_of parts.now) }
-    ensures room { IfOk result (λ rooms. All IsPartRoom rooms.items) }
+    ensures ready { IfOk result (λ rooms. All IsPartRoom rooms.items) }
 {
+    let mut lanes = lanes.into_iter();
     let mut rooms = Vec::with_capacity(alloc, parts.len())?;
     for part in parts {
-        let room = part_room(alloc, part)?;
+        let room = part_room(alloc, part, &mut lanes)?;
         rooms.push(room)?;
     }
     Ok(rooms)
-}
-
-/// How many lanes the blocks of these parts have.
-fn count_of_lanes(parts: &[LifePart]) -> usize
-    requires { widths (parts_of parts.now) < 2 ^ 32 }
-    ensures { result ≡ widths (parts_of parts.now) }
-{
-    let mut count = 0;
-    for part in parts {
-        match part {
-            LifePart::One(_) => {}
-            LifePart::Lanes(lanes) => count += lanes.len(),
-        }
-    }
-    count
-}
-
-/// Takes all memory that a life of these parts needs.
-pub(crate) fn room_of(alloc: Global, parts: &[LifePart]) -> Result<LifeRoom, AllocError>
-    requires { widths (parts_of parts.now) < 2 ^ 32 }
-    ensures { IfOk result (λ room. IsLifeRoom (parts_of parts.now) room) }
-{
-    let own = Vec::with_capacity(alloc, parts.len())?;
-    let lanes = Vec::with_capacity(alloc, count_of_lanes(parts))?;
-    let parts = part_rooms(alloc, parts)?;
-    Ok(LifeRoom { parts, own, lanes })
 }

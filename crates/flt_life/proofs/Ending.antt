@@ -1,6 +1,5 @@
 -- The status of a run has its cause.
-use Rattle.std.proofs.Common.{◌≡◌, ⊎_elim, inl, inr, ℕ, List, Some, None, Ok, Err, refl, arith}
-use Rattle.std.specs.Prelude.{IsTrue, IsFalse}
+use Rattle.std.proofs.Common.{◌≡◌, ⊎_elim, inl, inr, ℕ, None, Ok, Err, refl, arith}
 use Rattle.flt_flash.specs.State.{HasRisenBy}
 use Rattle.flt_config.specs.declared.config.Config.{Config}
 use Rattle.flt_generation.specs.declared.place.Place.TheVariants.{Page, Block}
@@ -9,9 +8,9 @@ use Rattle.flt_restore.specs.declared.fault.StartFault.{StartFault}
 use Rattle.flt_restore.specs.declared.fault.StartFault.TheVariants as faults
 use Rattle.flt_life.specs.declared.life.Boot.{Boot}
 use Rattle.flt_life.specs.declared.life.Boot.TheVariants.{Started, Dark, Refused}
-use Rattle.flt_life.specs.Chain.{LifeView, Finds, HoldsBy, IsFound, IsRefused}
+use Rattle.flt_life.specs.Chain.{LifeView, HoldsBy, IsFound, IsRefused}
 use Rattle.flt_life.specs.Moment.{Moment}
-use Rattle.flt_life.specs.Statuses.{IsJudgedFaulty, IsJudgedWhole, StatusHasCause, status_by}
+use Rattle.flt_life.specs.Statuses.{IsJudgedFaulty, StatusHasCause, status_by}
 
 module _ (c : Config) (boot next : Moment) (ended : ℕ) where
   -- an image in which a generation is held is judged faulty only by its second copy

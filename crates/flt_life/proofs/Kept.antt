@@ -1,5 +1,5 @@
 -- One more answer that a lane keeps.
-use Rattle.std.proofs.Common.{◌≡◌, ℕ, ◌+◌, ◌≤◌, List, [], ◌∷◌, ◌++◌, map, take, drop, length, refl, ap, arith, ◌∙◌}
+use Rattle.std.proofs.Common.{◌≡◌, ℕ, ◌+◌, ◌≤◌, List, [], ◌∷◌, ◌++◌, take, drop, length, refl, ap, arith, ◌∙◌}
 use Rattle.std.specs.Prelude.{All}
 use Rattle.std.proofs.lemmas.List.{take-append-le, drop-append-le, length-drop, map-append}
 use Rattle.std.proofs.lemmas.List.Elements.{All-head, All-tail, All-cons, All-nil, All-append, All-weaker}
@@ -8,7 +8,7 @@ use Rattle.flt_life.specs.declared.answer.KeptReply.{KeptReply}
 use Rattle.flt_life.specs.declared.answer.KeptReply.TheVariants as kept
 use Rattle.flt_life.specs.declared.answer.StepAnswer.{StepAnswer}
 use Rattle.flt_life.specs.declared.answer.StepAnswer.TheVariants as answers
-use Rattle.flt_life.specs.Answers.{Told, IsReplyWithin, IsWithin, reply_in, with_reply, told_by}
+use Rattle.flt_life.specs.Answers.{IsReplyWithin, IsWithin, reply_in, with_reply, told_by}
 
 -- ---- more bytes behind those of the responses change no reply that is kept
 

@@ -1,3 +1,6 @@
 pub mod Soundness
 pub mod Kept
 pub mod Ending
+pub mod Makings
+pub mod Mixings
+pub mod Sizes

@@ -1,13 +1,11 @@
 -- What the steps of a script do, and what a step needs to be made.
-use Rattle.std.specs.Prelude.{ℕ, ◌+◌, List, [], ◌∷◌, ◌++◌, map}
+use Rattle.std.specs.Prelude.{ℕ, List, [], ◌∷◌, ◌++◌}
 use Rattle.flt_flash.specs.State.{CanArm}
 use Rattle.flt_flash.specs.declared.arm.Arm.{Arm as Arming}
 use Rattle.flt_config.specs.declared.config.Config.{Config}
 use Rattle.flt_model.specs.declared.call.Op.{Op}
 use Rattle.flt_model.specs.declared.call.Op.TheVariants as ops
 use Rattle.flt_dcm.specs.Unit.{IsAdmitted}
-use Rattle.flt_script.specs.declared.step.Part.{Part}
-use Rattle.flt_script.specs.declared.step.Part.TheVariants.{One}
 use Rattle.flt_script.specs.declared.step.Step.{Step}
 use Rattle.flt_script.specs.declared.step.Step.TheVariants as steps
 use Rattle.flt_life.specs.declared.action.Action.{Action}
@@ -23,14 +21,6 @@ action_of (steps.Signal index value) = Call (ops.Signal index value)
 action_of (steps.Request tester bytes) = Call (ops.Request tester bytes)
 action_of steps.Save = Save
 action_of (steps.Arming arm) = Arm arm
-
--- what the step of a part does
-abbrev pub action_in : Part → Action
-action_in (One step) = action_of step
-
--- what the steps of a life do, in order
-abbrev pub actions_in : List Part → List Action
-actions_in parts = map action_in parts
 
 -- a call of a step is none that a save makes
 abbrev pub IsStepCall : Op → Type 0

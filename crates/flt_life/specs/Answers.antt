@@ -1,5 +1,5 @@
 -- The answers to steps, with the machine's replies whole.
-use Rattle.std.specs.Prelude.{◌≤◌, ℕ, ◌+◌, List, [], ◌∷◌, map, take, drop, length}
+use Rattle.std.specs.Prelude.{◌≤◌, ℕ, ◌+◌, List, map, take, drop, length}
 use Rattle.flt_dcm.specs.declared.reply_kind.ReplyKind.{ReplyKind}
 use Rattle.flt_dcm.specs.declared.reply_kind.ReplyKind.TheVariants as kinds
 use Rattle.flt_dcm.specs.ReplyKind.{reply_with}
@@ -65,3 +65,12 @@ size_of _ response = 0
 abbrev pub response_length : StepAnswer ReplyKind → List ℕ → ℕ
 response_length (Dem told) response = size_of told.reply response
 response_length _ response = 0
+
+-- how many bytes a reply has that is a response, and the same of an answer
+abbrev pub reply_size : Reply → ℕ
+reply_size (replies.Response bytes) = length bytes.items
+reply_size _ = 0
+
+abbrev pub told_size : Told → ℕ
+told_size (Dem told) = reply_size told.reply
+told_size _ = 0

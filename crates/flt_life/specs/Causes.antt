@@ -1,5 +1,5 @@
 -- Why saves of a life failed.
-use Rattle.std.specs.Prelude.{◌≡◌, ◌⊎◌, ℕ, ◌+◌, ◌*◌, List, [], ◌∷◌, Ok, IsTrue}
+use Rattle.std.specs.Prelude.{◌≡◌, ◌⊎◌, ℕ, ◌+◌, ◌-◌, ◌*◌, ◌^◌, List, [], ◌∷◌, Ok, IsTrue}
 use Rattle.flt_flash.specs.State.{HasRisenBy}
 use Rattle.flt_config.specs.declared.config.Config.{Config}
 use Rattle.flt_generation.specs.Holding.{Generation, held}
@@ -25,5 +25,5 @@ HasFailedBy fault (_ ∷ earlier) = HasFailedBy fault earlier
 -- the last sequence number there
 pub record AreCaused (c : Config) (boot next : Moment) (told : List Told) : Type 0 where
   pub flash : HasRisenBy (3 * flash_failures told) boot.faults next.faults
-  pub spent : HasFailedBy Spent told → (g : Generation) × (held c next.value ≡ Ok g) × (g.number ≡ 4294967295)
+  pub spent : HasFailedBy Spent told → (g : Generation) × (held c next.value ≡ Ok g) × (g.number ≡ 2 ^ 32 - 1)
   pub sequence : HasFailedBy SequenceSpent told → IsTrue next.is_spent

@@ -19,11 +19,12 @@ use Rattle.flt_life.specs.Journal.{Journal, Acknowledges}
 use Rattle.flt_life.specs.Causes.{AreCaused}
 use Rattle.flt_life.specs.Saving.{IsLeft, AreRising}
 
--- a life, its calls and its answers the newest first
+-- a life: its calls and the answers of lane 0, the newest first, and the answers of the other lanes, the oldest first
 pub record LifeView : Type 0 where
   pub boot : Boot
   pub journal : Journal
   pub answers : List Told
+  pub lanes : List (List Told)
 
 -- what the machine starts from
 abbrev pub start_from : Config → Persist → Life

@@ -1,11 +1,15 @@
 pub mod Actions
 pub mod Answers
-pub mod Carried
 pub mod Causes
 pub mod Chain
 pub mod Journal
 pub mod Laws
 pub mod Lives
+pub mod Making
+pub mod Mixing
 pub mod Moment
+pub mod Parts
+pub mod Played
+pub mod Room
 pub mod Saving
 pub mod Statuses

@@ -1,4 +1,4 @@
--- The lives of a run: how they follow the steps of a script, and how they are linked by their boots; all lists begin with the
+-- The lives of a run: how they follow the parts of a script, and how they are linked by their boots; all lists begin with the
 -- newest.
 use Rattle.std.specs.Prelude.{◌≡◌, ◌⊎◌, ℕ, ◌+◌, Bool, true, false, List, [], ◌∷◌, ◌++◌, length, map, reverse, take, All, IfSome, Option, IsTrue, IsFalse, Vec}
 use Rattle.flt_flash.specs.declared.arm.Arm.{Arm}
@@ -7,51 +7,45 @@ use Rattle.flt_flash.specs.State.{Boot as PowerUp}
 use Rattle.flt_flash.specs.Blocks.{DeviceState}
 use Rattle.flt_config.specs.declared.config.Config.{Config}
 use Rattle.flt_script.specs.declared.step.Part.{Part}
+use Rattle.flt_script.specs.declared.step.Step.{Step}
+use Rattle.flt_script.specs.Part.{PartOf, parts_of}
 use Rattle.flt_generation.specs.Holding.{Generation}
-use Rattle.flt_life.specs.declared.action.Action.{Action}
-use Rattle.flt_life.specs.declared.action.Action.TheVariants as actions
-use Rattle.flt_life.specs.declared.answer.StepAnswer.TheVariants as answers
 use Rattle.flt_life.specs.declared.life.Boot.{Boot}
 use Rattle.flt_life.specs.declared.life.Boot.TheVariants.{Started, Dark, Refused}
 use Rattle.flt_life.specs.declared.life.Life.{Life}
 use Rattle.flt_life.specs.declared.replies.LaneReplies.{LaneReplies}
-use Rattle.flt_life.specs.Actions.{actions_in, all_arms}
+use Rattle.flt_life.specs.Actions.{all_arms}
 use Rattle.flt_life.specs.Answers.{Told, told_by}
-use Rattle.flt_life.specs.Carried.{AreCarriedOut}
-use Rattle.flt_life.specs.Chain.{LifeView, start_from, AreLinked, arms_between}
-use Rattle.flt_life.specs.Journal.{Journal}
+use Rattle.flt_life.specs.Chain.{LifeView, AreLinked, arms_between}
 use Rattle.flt_life.specs.Moment.{Moment, Medium, IsSoundAt, boot_in}
+use Rattle.flt_life.specs.Parts.{own_actions}
+use Rattle.flt_life.specs.Played.{IsPlayed}
 
 -- the answers of lane 0, in their order
 abbrev pub told_of : List LaneReplies → List Told
 told_of [] = []
 told_of (lane ∷ lanes) = told_by lane.responses.items lane.answers.items
 
+-- the answers of the other lanes, each in their order
+abbrev pub lanes_told : List LaneReplies → List (List Told)
+lanes_told [] = []
+lanes_told (lane ∷ lanes) = map (λ (l : LaneReplies). told_by l.responses.items l.answers.items) lanes
+
 -- a life as contracts see it
 abbrev pub view_of : Life → LifeView
-view_of life = record { boot = life.boot; journal = reverse life.journal.items; answers = reverse (told_of life.replies.items) }
+view_of life = record {
+  boot = life.boot;
+  journal = reverse life.journal.items;
+  answers = reverse (told_of life.replies.items);
+  lanes = lanes_told life.replies.items;
+}
 
--- what a dark life answers to a step
-abbrev pub dark_answer : Action → Told
-dark_answer (actions.Call op) = answers.Dark
-dark_answer actions.Save = answers.Dark
-dark_answer (actions.Arm arm) = answers.Armed
-
--- the calls and the answers of a life are those of its steps, by how it began
-abbrev pub IsPlayedBy : Config → List Action → Journal → List Told → Boot → Type 0
-IsPlayedBy c steps journal told (Started number state) = AreCarriedOut (start_from c state) (reverse steps) journal told
-IsPlayedBy c steps journal told Dark = (journal ≡ []) × (told ≡ reverse (map dark_answer steps))
-IsPlayedBy c steps journal told (Refused fault) = (journal ≡ []) × (told ≡ [])
-
-abbrev pub IsPlayed : Config → List Action → LifeView → Type 0
-IsPlayed c steps life = IsPlayedBy c steps life.journal life.answers life.boot
-
--- the lives of these steps
-abbrev pub ArePlayed : Config → List (List Action) → List LifeView → Type 0
+-- the lives of these parts
+abbrev pub ArePlayed : Config → List (List (PartOf Step)) → List LifeView → Type 0
 ArePlayed c [] [] = Unit {0}
 ArePlayed c [] (life ∷ lives) = ⊥
-ArePlayed c (steps ∷ earlier) [] = ⊥
-ArePlayed c (steps ∷ earlier) (life ∷ lives) = IsPlayed c steps life × ArePlayed c earlier lives
+ArePlayed c (parts ∷ earlier) [] = ⊥
+ArePlayed c (parts ∷ earlier) (life ∷ lives) = IsPlayed c parts life × ArePlayed c earlier lives
 
 abbrev pub is_refused : Boot → Bool
 is_refused (Started number state) = false
@@ -63,25 +57,25 @@ abbrev pub AreEnded : ℕ → List LifeView → Type 0
 AreEnded many [] = many ≡ 0
 AreEnded many (life ∷ earlier) = All (λ l. IsFalse (is_refused l.boot)) earlier × (IsTrue (is_refused life.boot) ⊎ (many ≡ length earlier + 1))
 
--- what the steps of so many of the first lives of a script do, the newest first
-abbrev pub first_lives : ℕ → List (List Part) → List (List Action)
-first_lives many script = reverse (map actions_in (take many script))
+-- the first lives of a script, so many, the newest first
+abbrev pub first_lives : ℕ → List (List (PartOf Step)) → List (List (PartOf Step))
+first_lives many script = reverse (take many script)
 
 -- lives without where they lie in memory
-abbrev pub lists : {A : Type 0} → List (Vec Part A) → List (List Part)
-lists lives = map (λ life. life.items) lives
+abbrev pub lists : {A : Type 0} → List (Vec Part A) → List (List (PartOf Step))
+lists lives = map (λ life. parts_of life.items) lives
 
 -- the arms that the steps of a life give to the bench: a refused life makes no step
-abbrev pub arms_by : List Action → Boot → List Arm
-arms_by steps (Started number state) = all_arms steps
-arms_by steps Dark = all_arms steps
-arms_by steps (Refused fault) = []
+abbrev pub arms_by : List (PartOf Step) → Boot → List Arm
+arms_by parts (Started number state) = all_arms (own_actions parts)
+arms_by parts Dark = all_arms (own_actions parts)
+arms_by parts (Refused fault) = []
 
 -- the arms of lives, in the order in which they are given
-abbrev pub arms_given : List (List Action) → List LifeView → List Arm
+abbrev pub arms_given : List (List (PartOf Step)) → List LifeView → List Arm
 arms_given [] lives = []
-arms_given (steps ∷ earlier) [] = []
-arms_given (steps ∷ earlier) (life ∷ lives) = arms_given earlier lives ++ arms_by steps life.boot
+arms_given (parts ∷ earlier) [] = []
+arms_given (parts ∷ earlier) (life ∷ lives) = arms_given earlier lives ++ arms_by parts life.boot
 
 -- the arms that were made between two states of a bench, where both tell theirs, are these
 abbrev pub AreGiven : List Arm → Option (List ArmMade) → Option (List ArmMade) → Type 0

@@ -1,11 +1,11 @@
 // What the steps of a script do.
 ghost use Rattle.std.specs.Prelude.{◌≡◌};
-ghost use Rattle.flt_life.specs.Actions.{action_of, action_in, call_count, response_size};
+ghost use Rattle.flt_life.specs.Actions.{action_of, call_count, response_size};
 
 use arrayvec::ArrayVec;
 use flt_flash::Arm;
 use flt_model::{Op, REQUEST, RESPONSE};
-use flt_script::{Part, Step};
+use flt_script::Step;
 
 /// What a step of a life does.
 #[derive(Drop)]
@@ -26,7 +26,7 @@ fn copy_of(bytes: &ArrayVec<u8, REQUEST>) -> ArrayVec<u8, REQUEST>
 }
 
 /// What a step does.
-fn action_of(step: &Step) -> Action
+pub fn action_of(step: &Step) -> Action
     ensures { result ≡ action_of step.now }
 {
     match step {
@@ -50,19 +50,10 @@ fn action_of(step: &Step) -> Action
     }
 }
 
-/// What the step of a part does.
-pub fn action_in(part: &Part) -> Action
-    ensures { result ≡ action_in part.now }
+/// How many calls a step makes at most: a save takes a snapshot, and is acknowledged.
+pub fn call_count(step: &Step) -> usize
+    ensures { result ≡ call_count (action_of step.now) }
 {
-    let Part::One(step) = part;
-    action_of(step)
-}
-
-/// How many calls the step of a part makes at most: a save takes a snapshot, and is acknowledged.
-pub fn call_count(part: &Part) -> usize
-    ensures { result ≡ call_count (action_in part.now) }
-{
-    let Part::One(step) = part;
     match step {
         Step::Save => 2,
         Step::Arming(_) => 0,
@@ -70,11 +61,10 @@ pub fn call_count(part: &Part) -> usize
     }
 }
 
-/// The bytes of the longest response to the step of a part: a request has one.
-pub fn response_size(part: &Part) -> usize
-    ensures { result ≡ response_size (action_in part.now) }
+/// The bytes of the longest response to a step: a request has one.
+pub fn response_size(step: &Step) -> usize
+    ensures { result ≡ response_size (action_of step.now) }
 {
-    let Part::One(step) = part;
     match step {
         Step::Request { .. } => RESPONSE,
         _ => 0,

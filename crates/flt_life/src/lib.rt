@@ -3,8 +3,9 @@
 //!
 //! The definitions of the chain of lives stand here, over any machine that keeps blocks, and the types in which a life is told.
 //! It stands on `flt_script` for the steps, on `flt_model` and `flt_turn` for the calls and their answers, and on the column of
-//! the storage for what an image holds. The layers above make lives: without a lock, and in lanes. Read `specs/Chain` first (what
-//! holds of a life and its two power-ups), then `Carried` (the calls and the answer of a step), `Journal`, `Saving` and `Causes`.
+//! the storage for what an image holds. The layers above make lives: without a lock, and in lanes. Read `specs/Played` first (which
+//! calls the parts of a life make, and how each step is answered), then `Chain` (what holds of a life and its two power-ups),
+//! `Journal`, `Saving` and `Causes`; `Mixing` and `Making` are stated over any machine and any kind of steps.
 #![tactic(auto)]
 
 mod action;
@@ -12,9 +13,14 @@ mod answer;
 pub mod laws;
 mod life;
 mod replies;
+mod room;
 
-pub use action::{Action, action_in, call_count, response_size};
+pub use action::{Action, action_of, call_count, response_size};
 pub use answer::{KeptReply, StepAnswer};
 pub use flt_turn::{Answer, Entry};
 pub use life::{Boot, Life};
 pub use replies::LaneReplies;
+pub use room::{LaneRoom, LifeRoom, life_of};
+
+#[cfg(test)]
+mod tests;

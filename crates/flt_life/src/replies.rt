@@ -2,10 +2,11 @@
 ghost use Rattle.std.specs.Prelude.{◌≡◌, ◌≤◌, ◌<◌, ◌+◌, ◌++◌, ◌∷◌, [], ℕ, List, All, IfOk, length, vec_len};
 ghost use Rattle.std.specs.Vec.{vec_capacity};
 ghost use Rattle.flt_dcm.specs.ReplyKind.{reply_with};
-ghost use Rattle.flt_life.specs.Answers.{IsReplyWithin, IsWithin, reply_in, with_reply, told_by, told_with, size_of, response_length};
+ghost use Rattle.flt_life.specs.Answers.{IsReplyWithin, IsWithin, reply_in, with_reply, told_by, told_with, told_size, reply_size, size_of, response_length};
+ghost use Rattle.flt_life.specs.declared.answer.StepAnswer.TheVariants.{Dem};
 
 use crate::answer::{KeptReply, StepAnswer};
-use flt_dcm::ReplyKind;
+use flt_dcm::{Reply, ReplyKind};
 use flt_turn::Answer;
 use std::alloc::{AllocError, Global};
 
@@ -57,6 +58,47 @@ impl LaneReplies {
     {
         let answer = kept(answer, response, &mut self.responses);
         self.answers.push_reserved(answer);
+    }
+
+    /// Keeps the answer to one more step, whose reply is whole.
+    pub fn keep_whole(&mut self, answer: StepAnswer<Reply>)
+        requires answers { vec_len self.old.answers < vec_capacity self.old.answers }
+        requires responses { vec_len self.old.responses + told_size answer ≤ vec_capacity self.old.responses }
+        ensures lane { self.new.lane ≡ self.old.lane }
+        ensures told { told_by self.new.responses.items self.new.answers.items ≡ told_by self.old.responses.items self.old.answers.items ++ answer ∷ [] }
+        ensures answers { vec_len self.new.answers ≡ vec_len self.old.answers + 1 }
+        ensures room { vec_capacity self.new.answers ≡ vec_capacity self.old.answers }
+        ensures responses { vec_len self.new.responses ≡ vec_len self.old.responses + told_size answer }
+        ensures bytes { vec_capacity self.old.responses ≤ vec_capacity self.new.responses }
+    {
+        match answer {
+            StepAnswer::Dem(Answer { place, reply }) => self.keep_reply(place, reply),
+            StepAnswer::Saved(generation) => self.keep(StepAnswer::Saved(generation), &[]),
+            StepAnswer::SaveFailed(fault) => self.keep(StepAnswer::SaveFailed(fault), &[]),
+            StepAnswer::Armed => self.keep(StepAnswer::Armed, &[]),
+            StepAnswer::Dark => self.keep(StepAnswer::Dark, &[]),
+        }
+    }
+
+    /// Keeps a reply of the machine at this place.
+    fn keep_reply(&mut self, place: u32, reply: Reply)
+        requires answers { vec_len self.old.answers < vec_capacity self.old.answers }
+        requires responses { vec_len self.old.responses + reply_size reply ≤ vec_capacity self.old.responses }
+        ensures lane { self.new.lane ≡ self.old.lane }
+        ensures told { told_by self.new.responses.items self.new.answers.items ≡ told_by self.old.responses.items self.old.answers.items ++ Dem (record { place = place; reply = reply }) ∷ [] }
+        ensures answers { vec_len self.new.answers ≡ vec_len self.old.answers + 1 }
+        ensures room { vec_capacity self.new.answers ≡ vec_capacity self.old.answers }
+        ensures responses { vec_len self.new.responses ≡ vec_len self.old.responses + reply_size reply }
+        ensures bytes { vec_capacity self.old.responses ≤ vec_capacity self.new.responses }
+    {
+        let (kind, response) = match &reply {
+            Reply::Taken => (ReplyKind::Taken, &[][..]),
+            Reply::Ignored(cause) => (ReplyKind::Ignored(*cause), &[][..]),
+            Reply::Shown(shown) => (ReplyKind::Shown(*shown), &[][..]),
+            Reply::Response(bytes) => (ReplyKind::Response, bytes.as_slice()),
+            Reply::Silent => (ReplyKind::Silent, &[][..]),
+        };
+        self.keep(StepAnswer::Dem(Answer { place, reply: kind }), response);
     }
 }
 

@@ -1,5 +1,5 @@
 -- What each step leaves of the causes of the saves that failed.
-use Rattle.std.proofs.Common.{◌≡◌, ⊎_elim, ℕ, ◌≤◌, List, ◌∷◌, refl, ap, subst, sym, arith}
+use Rattle.std.proofs.Common.{◌≡◌, ⊎_elim, ℕ, ◌-◌, ◌^◌, ◌≤◌, List, ◌∷◌, refl, ap, subst, sym, arith}
 use Rattle.std.specs.Prelude.{IsTrue}
 use Rattle.flt_flash.specs.Content.{Content, missing, invalid, bytes}
 use Rattle.flt_flash.specs.State.{HasRisenBy}
@@ -24,7 +24,7 @@ use Rattle.flt_life.specs.Moment.{Moment, moment_of}
 use Rattle.flt_life.specs.Causes.{AreCaused}
 use Rattle.flt_lives.specs.Living.{IsCaused}
 
-number_small : (c : Config) (value : ℕ → Content) (commit : Content) (g : Generation) → Names c value commit g → g.number ≤ 4294967295
+number_small : (c : Config) (value : ℕ → Content) (commit : Content) (g : Generation) → Names c value commit g → g.number ≤ 2 ^ 32 - 1
 number_small c value missing g names = let is = ap (λ (d : Generation). d.number) names in omega (arith, is)
 number_small c value invalid g names = absurd names
 number_small c value (bytes held) g names = let is = names.2.number in let most = names.2.form.most in omega (arith, is, most)

@@ -31,6 +31,11 @@ pub arms_more : (steps : List Action) (step : Action) → all_arms (steps ++ ste
 arms_more [] step = append-nil (arms_of step)
 arms_more (first ∷ rest) step = ap (λ back. arms_of first ++ back) (arms_more rest step) ∙ sym (append_assoc (arms_of first) (all_arms rest) (arms_of step))
 
+-- those of more steps
+pub all_arms-append : (steps more : List Action) → all_arms (steps ++ more) ≡ all_arms steps ++ all_arms more
+all_arms-append [] more = refl
+all_arms-append (first ∷ rest) more = ap (λ back. arms_of first ++ back) (all_arms-append rest more) ∙ sym (append_assoc (arms_of first) (all_arms rest) (all_arms more))
+
 -- all of them
 pub all_given : (arms : List Arm) (before after : Option (List ArmMade)) → WereGiven arms before after → AreGiven arms before after
 all_given arms None None given = tt

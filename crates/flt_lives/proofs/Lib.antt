@@ -1,6 +1,6 @@
 pub mod Keeping
 pub mod Riding
-pub mod Carrying
+pub mod Playing
 pub mod Starting
 pub mod Linking
 pub mod Bridge

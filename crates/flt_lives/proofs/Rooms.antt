@@ -1,10 +1,10 @@
 -- The room that the steps of a life need.
-use Rattle.std.proofs.Common.{◌≡◌, ℕ, suc, ◌+◌, ◌*◌, ◌<◌, ◌≤◌, List, [], ◌∷◌, ◌++◌, length, take, drop, get_or, ap, sym, arith, drop-cons, add-one, ◌∙◌}
-use Rattle.std.specs.Prelude.{sum_by, All, vec_len}
+use Rattle.std.proofs.Common.{◌≡◌, inl, inr, ℕ, suc, ◌+◌, ◌*◌, ◌<◌, ◌≤◌, List, [], ◌∷◌, ◌++◌, length, map, take, drop, get_or, refl, ap, sym, subst, arith, drop-cons, add-one, ◌∙◌}
+use Rattle.std.specs.Prelude.{sum_by, All, IsTrue, vec_len}
 use Rattle.std.specs.Vec.{vec_capacity}
-use Rattle.std.proofs.lemmas.List.{map_more, length-map}
-use Rattle.std.proofs.lemmas.List.Sums.{sum_by-cons, sum_by-le}
-use Rattle.std.proofs.lemmas.List.Elements.{All-nil, All-cons, All-weaker}
+use Rattle.std.proofs.lemmas.List.{get_or-map, length-append, length-map, map-append, take-append-drop}
+use Rattle.std.proofs.lemmas.List.Sums.{sum_by-cons}
+use Rattle.std.proofs.lemmas.List.Elements.{All-nil, All-cons, All-head, All-tail, All-append, All-weaker}
 use Rattle.flt_config.specs.declared.config.Config.{Config}
 use Rattle.flt_dcm.specs.Unit.{IsRequest}
 use Rattle.flt_dcm.specs.declared.reply_kind.ReplyKind.{ReplyKind}
@@ -15,7 +15,18 @@ use Rattle.flt_life.specs.Answers.{size_of}
 use Rattle.flt_life.specs.declared.action.Action.{Action}
 use Rattle.flt_life.specs.declared.action.Action.TheVariants.{Call, Save, Arm}
 use Rattle.flt_script.specs.declared.step.Part.{Part}
-use Rattle.flt_life.specs.Actions.{IsPossible, IsPossibleArm, action_in, actions_in, call_count, response_size}
+use Rattle.flt_script.specs.declared.step.Part.TheVariants.{One}
+use Rattle.flt_script.specs.declared.step.Step.{Step}
+use Rattle.flt_script.specs.Part.{PartOf, part_of, parts_of}
+use Rattle.flt_life.specs.Actions.{IsPossible, IsPossibleArm, action_of, arm_count, call_count, response_size}
+use Rattle.flt_life.specs.Parts.{IsPossibleInLane, IsPossiblePart, arms_in, calls_in, lanes_in, own_actions, own_steps, steps_in}
+use Rattle.flt_script.specs.declared.step.Step.TheVariants as steps
+use Rattle.flt_life.specs.declared.answer.StepAnswer.TheVariants as answers
+use Rattle.flt_life.specs.Played.{dark_answer}
+use Rattle.flt_life.proofs.Sizes.{own_more, own_steps-append, parts_more_by}
+use Rattle.flt_script.specs.Step.{is_lane_step}
+use Rattle.flt_lives.specs.Alone.{IsAlone, AreAlone, actions_in}
+use Rattle.flt_lives.specs.Dark.{IsLaneSteps}
 use Rattle.flt_lives.specs.declared.account.Account.{Account}
 use Rattle.flt_lives.specs.Living.{HasRoomFor}
 
@@ -26,42 +37,61 @@ call_most (Call op) = omega arith
 call_most Save = omega arith
 call_most (Arm arm) = omega arith
 
-pub response_most : (action : Action) → response_size action ≤ 512
-response_most (Call (ops.Signal index value)) = omega arith
-response_most (Call (ops.Report event report)) = omega arith
-response_most (Call (ops.Tick ticks)) = omega arith
-response_most (Call (ops.Cycle cycle)) = omega arith
-response_most (Call (ops.Request tester bytes)) = omega arith
-response_most (Call (ops.Show event)) = omega arith
-response_most (Call ops.Snapshot) = omega arith
-response_most (Call (ops.Saved number)) = omega arith
-response_most Save = omega arith
-response_most (Arm arm) = omega arith
+-- the calls of steps by themselves
+pub alone_calls : (parts : List (PartOf Step)) → AreAlone parts → sum_by calls_in parts ≡ sum_by call_count (own_actions parts)
+alone_calls [] alone = refl
+alone_calls (inl step ∷ parts) alone =
+    let rest = alone_calls parts (All-tail IsAlone (inl step) parts alone) in
+    let sum = sum_by-cons calls_in (inl step) parts in
+    let actions = sum_by-cons call_count (action_of step) (own_actions parts) in
+    omega (arith, rest, sum, actions)
+alone_calls (inr lanes ∷ parts) alone = absurd (All-head IsAlone (inr lanes) parts alone)
 
-each : (P : Action → Type 0) → ((action : Action) → P action) → (actions : List Action) → All P actions
-each P holds [] = All-nil P
-each P holds (action ∷ rest) = All-cons P action rest (holds action) (each P holds rest)
+pub calls_most : (parts : List (PartOf Step)) → sum_by call_count (own_actions parts) ≤ sum_by steps_in parts * 2
+calls_most [] = omega arith
+calls_most (inl step ∷ parts) =
+    let rest = calls_most parts in
+    let sum = sum_by-cons steps_in (inl step) parts in
+    let actions = sum_by-cons call_count (action_of step) (own_actions parts) in
+    let one = call_most (action_of step) in
+    omega (arith, rest, sum, actions, one)
+calls_most (inr lanes ∷ parts) = let rest = calls_most parts in let sum = sum_by-cons steps_in (inr lanes) parts in omega (arith, rest, sum)
 
-pub calls_most : (parts : List Part) → sum_by call_count (actions_in parts) ≤ length parts * 2
-calls_most parts =
-    let most = sum_by-le call_count 2 (actions_in parts) (each (λ action. call_count action ≤ 2) call_most (actions_in parts)) in
-    let size = length-map parts action_in in
-    omega (arith, most, size)
+-- and those of all parts
+pub part_calls_most : (part : PartOf Step) → calls_in part ≤ steps_in part * 2
+part_calls_most (inl step) = call_most (action_of step)
+part_calls_most (inr lanes) = omega arith
 
-pub responses_most : (parts : List Part) → sum_by response_size (actions_in parts) ≤ length parts * 512
-responses_most parts =
-    let most = sum_by-le response_size 512 (actions_in parts) (each (λ action. response_size action ≤ 512) response_most (actions_in parts)) in
-    let size = length-map parts action_in in
-    omega (arith, most, size)
+pub all_calls_most : (parts : List (PartOf Step)) → sum_by calls_in parts ≤ sum_by steps_in parts * 2
+all_calls_most [] = omega arith
+all_calls_most (part ∷ parts) =
+    let rest = all_calls_most parts in
+    let sum = sum_by-cons steps_in part parts in
+    let calls = sum_by-cons calls_in part parts in
+    let one = part_calls_most part in
+    omega (arith, rest, sum, calls, one)
+
+-- the arms of a part are those of its step
+pub arms_are : (parts : List (PartOf Step)) → sum_by arms_in parts ≡ sum_by arm_count (own_actions parts)
+arms_are [] = refl
+arms_are (inl step ∷ parts) =
+    let rest = arms_are parts in
+    let sum = sum_by-cons arms_in (inl step) parts in
+    let actions = sum_by-cons arm_count (action_of step) (own_actions parts) in
+    omega (arith, rest, sum, actions)
+arms_are (inr lanes ∷ parts) = let rest = arms_are parts in let sum = sum_by-cons arms_in (inr lanes) parts in omega (arith, rest, sum)
 
 -- ---- one step of those that are left, and one more of those that were made
 
-pub left_more : (parts : List Part) (index : ℕ) (part : Part) → index < length parts → part ≡ get_or parts index part → actions_in (drop index parts) ≡ action_in part ∷ actions_in (drop (index + 1) parts)
-left_more parts index part within is =
-    rw (drop-cons parts index part within, add-one) (ap (λ (p : Part). action_in p ∷ actions_in (drop (suc index) parts)) (sym is))
+module _ (parts : List Part) (index : ℕ) (part : Part) (within : index < length parts) (is : part ≡ get_or parts index part) (step : Step) (one : part ≡ One step) where
+  pub left_more : actions_in (drop index parts) ≡ action_of step ∷ actions_in (drop (index + 1) parts)
+  left_more = rw (drop-cons parts index part within, add-one) (ap (λ (p : Part). actions_in (p ∷ drop (suc index) parts)) (sym is ∙ one))
 
-pub made_more : (parts : List Part) (index : ℕ) (part : Part) → index < length parts → part ≡ get_or parts index part → actions_in (take (index + 1) parts) ≡ actions_in (take index parts) ++ action_in part ∷ []
-made_more parts index part within is = map_more action_in parts index part within ∙ ap (λ (p : Part). actions_in (take index parts) ++ action_in p ∷ []) (sym is)
+  pub made_more : actions_in (take (index + 1) parts) ≡ actions_in (take index parts) ++ action_of step ∷ []
+  made_more = ap (map action_of) (own_more parts index part within is step one) ∙ map-append action_of (own_steps (parts_of (take index parts))) (step ∷ [])
+
+  pub parts_are : parts_of (take (index + 1) parts) ≡ parts_of (take index parts) ++ inl step ∷ []
+  parts_are = parts_more_by parts index part within is ∙ ap (λ (p : Part). parts_of (take index parts) ++ part_of p ∷ []) one
 
 pub one_of : (account : Account) (first : Action) (rest : List Action) → HasRoomFor account (first ∷ rest) → HasRoomFor account (first ∷ [])
 one_of account first rest room =
@@ -127,5 +157,86 @@ possible_arm c (Call op) possible = tt
 possible_arm c Save possible = tt
 possible_arm c (Arm arm) possible = possible
 
-pub possible_arms : (c : Config) (actions : List Action) → All (IsPossible c) actions → All IsPossibleArm actions
-possible_arms c actions possible = All-weaker (IsPossible c) IsPossibleArm (possible_arm c) actions possible
+pub possible_own : (c : Config) (parts : List (PartOf Step)) → All (IsPossiblePart c) parts → All IsPossibleArm (own_actions parts)
+possible_own c [] possible = All-nil IsPossibleArm
+possible_own c (inl step ∷ parts) possible =
+    All-cons IsPossibleArm (action_of step) (own_actions parts) (possible_arm c (action_of step) (All-head (IsPossiblePart c) (inl step) parts possible))
+    (possible_own c parts (All-tail (IsPossiblePart c) (inl step) parts possible))
+possible_own c (inr lanes ∷ parts) possible = possible_own c parts (All-tail (IsPossiblePart c) (inr lanes) parts possible)
+
+pub possible_alone : (c : Config) (parts : List (PartOf Step)) → All (IsPossiblePart c) parts → All (IsPossible c) (own_actions parts)
+possible_alone c [] possible = All-nil (IsPossible c)
+possible_alone c (inl step ∷ parts) possible =
+    All-cons (IsPossible c) (action_of step) (own_actions parts) (All-head (IsPossiblePart c) (inl step) parts possible) (possible_alone c parts (All-tail (IsPossiblePart c) (inl step) parts possible))
+possible_alone c (inr lanes ∷ parts) possible = possible_alone c parts (All-tail (IsPossiblePart c) (inr lanes) parts possible)
+
+lanes_possible : (c : Config) (lanes : List (List Step)) → All (λ lane. All (IsPossibleInLane c) lane) lanes → All IsLaneSteps lanes
+lanes_possible c lanes possible =
+    All-weaker (λ lane. All (IsPossibleInLane c) lane) IsLaneSteps (λ lane all. All-weaker (IsPossibleInLane c) (λ step. IsTrue (is_lane_step step)) (λ step one. one.0) lane all) lanes possible
+
+pub possible_lanes : (c : Config) (parts : List (PartOf Step)) → All (IsPossiblePart c) parts → All IsLaneSteps (lanes_in parts)
+possible_lanes c [] possible = All-nil IsLaneSteps
+possible_lanes c (inl step ∷ parts) possible = possible_lanes c parts (All-tail (IsPossiblePart c) (inl step) parts possible)
+possible_lanes c (inr lanes ∷ parts) possible =
+    All-append IsLaneSteps lanes (lanes_in parts) (lanes_possible c lanes (All-head (IsPossiblePart c) (inr lanes) parts possible)) (possible_lanes c parts (All-tail (IsPossiblePart c) (inr lanes) parts possible))
+
+-- ---- parts one after the other
+
+module _ {X : Type 0} (P : X → Type 0) where
+  all_left : (xs ys : List X) → All P (xs ++ ys) → All P xs
+  all_left [] ys all = All-nil P
+  all_left (x ∷ xs) ys all = All-cons P x xs (All-head P x (xs ++ ys) all) (all_left xs ys (All-tail P x (xs ++ ys) all))
+
+  all_right : (xs ys : List X) → All P (xs ++ ys) → All P ys
+  all_right [] ys all = all
+  all_right (x ∷ xs) ys all = all_right xs ys (All-tail P x (xs ++ ys) all)
+
+-- the next one of those that are left
+pub next_of : {X : Type 0} (P : X → Type 0) (done later : List X) (next : X) → All P (done ++ next ∷ later) → P next
+next_of P done later next all = All-head P next later (all_right P done (next ∷ later) all)
+
+pub own_actions-append : (parts more : List (PartOf Step)) → own_actions (parts ++ more) ≡ own_actions parts ++ own_actions more
+own_actions-append parts more = ap (map action_of) (own_steps-append parts more) ∙ map-append action_of (own_steps parts) (own_steps more)
+
+module _ (parts : List Part) (index : ℕ) (part : Part) (within : index < length parts) (is : part ≡ get_or parts index part) where
+  pub actions_are : own_actions (parts_of (take (index + 1) parts)) ≡ own_actions (parts_of (take index parts)) ++ own_actions (part_of part ∷ [])
+  actions_are = ap own_actions (parts_more_by parts index part within is) ∙ own_actions-append (parts_of (take index parts)) (part_of part ∷ [])
+
+  pub steps_are : own_steps (parts_of (take (index + 1) parts)) ≡ own_steps (parts_of (take index parts)) ++ own_steps (part_of part ∷ [])
+  steps_are = ap own_steps (parts_more_by parts index part within is) ∙ own_steps-append (parts_of (take index parts)) (part_of part ∷ [])
+
+  whole : parts_of parts ≡ parts_of (take (index + 1) parts) ++ parts_of (drop (index + 1) parts)
+  whole = ap parts_of (sym (take-append-drop (index + 1) parts)) ∙ map-append part_of (take (index + 1) parts) (drop (index + 1) parts)
+
+  pub own_among : (P : Action → Type 0) → All P (own_actions (parts_of parts)) → All P (own_actions (part_of part ∷ []))
+  own_among P all =
+      let back = own_actions (parts_of (drop (index + 1) parts)) in
+      let split = ap own_actions whole ∙ own_actions-append (parts_of (take (index + 1) parts)) (parts_of (drop (index + 1) parts)) in
+      all_right P (own_actions (parts_of (take index parts))) (own_actions (part_of part ∷ []))
+      (subst (All P) actions_are (all_left P (own_actions (parts_of (take (index + 1) parts))) back (subst (All P) split all)))
+
+  pub own_steps_within : length (own_steps (parts_of (take index parts))) + length (own_steps (part_of part ∷ [])) ≤ length (own_steps (parts_of parts))
+  own_steps_within =
+      let front = parts_of (take (index + 1) parts) in
+      let back = parts_of (drop (index + 1) parts) in
+      let all = ap (λ ps. length (own_steps ps)) whole ∙ ap length (own_steps-append front back) ∙ length-append (own_steps front) (own_steps back) in
+      let more = ap length steps_are ∙ length-append (own_steps (parts_of (take index parts))) (own_steps (part_of part ∷ [])) in
+      omega (arith, all, more)
+
+-- ---- a step in a lane is not made in a dark life
+
+pub dark_in_lane : (step : Step) → IsTrue (is_lane_step step) → dark_answer (action_of step) ≡ answers.Dark
+dark_in_lane (steps.Report event report) may = refl
+dark_in_lane (steps.Show event) may = refl
+dark_in_lane (steps.Cycle cycle) may = refl
+dark_in_lane (steps.Tick ticks) may = refl
+dark_in_lane (steps.Signal index value) may = refl
+dark_in_lane (steps.Request tester bytes) may = refl
+dark_in_lane steps.Save may = refl
+dark_in_lane (steps.Arming arm) may = absurd (cc)
+
+-- each of parts by themselves is one
+pub one_alone : (parts : List Part) (index : ℕ) (part : Part) → index < length parts → part ≡ get_or parts index part → AreAlone (parts_of parts) → IsAlone (part_of part)
+one_alone parts index part within is alone =
+    let size = length-map parts part_of in
+    subst IsAlone (get_or-map part_of parts index part (part_of part) within ∙ ap part_of (sym is)) (alone index (part_of part) (omega (arith, within, size)))

@@ -1,5 +1,6 @@
 -- What a start-up finds, and what it leaves where it fails.
-use Rattle.std.proofs.Common.{◌≡◌, List, inl, inr, ⊎_elim, ℕ, ◌+◌, [], ◌∷◌, length, Option, Some, None, Result, Ok, refl, sym, ap, subst, arith, ◌∙◌}
+use Rattle.std.proofs.Common.{◌≡◌, List, inl, inr, ⊎_elim, ℕ, ◌+◌, [], ◌∷◌, length, Option, Some, None, Result, Ok, refl, sym, ap, subst, arith, ◌∙◌, Err}
+use Rattle.std.specs.Prelude.{IfOk}
 use Rattle.std.proofs.lemmas.List.{length-append}
 use Rattle.flt_flash.specs.Blocks.{BlocksState}
 use Rattle.flt_flash.specs.Calls.{Follows, SameValues, PowersUpDriver}
@@ -100,10 +101,10 @@ module _ (first second : BlocksState) (powers : PowersUpDriver first second) whe
 module _ {B : Type 0} {b : Ghosts B} (c : Config) (first : BlocksState) (before after : Store B b) (powers : PowersUpDriver first (driver_of before)) where
   pub lived_refused : (fault : StartFault) → Refuses fault → Follows (driver_of before) (driver_of after) → RefusedFor c before after fault
       → KeepsSound c (moment_of (driver_of before)) (moment_of (driver_of after))
-      → IsLived c first (driver_of after) (record { boot = Refused fault; journal = []; answers = [] })
+      → IsLived c first (driver_of after) (record { boot = Refused fault; journal = []; answers = []; lanes = [] })
   lived_refused fault refuses follows told kept = record {
     ended = (driver_of after).device.faults;
-    holds = subst (λ (m : Moment). Holds c m (moment_of (driver_of after)) (driver_of after).device.faults (record { boot = Refused fault; journal = []; answers = [] }))
+    holds = subst (λ (m : Moment). Holds c m (moment_of (driver_of after)) (driver_of after).device.faults (record { boot = Refused fault; journal = []; answers = []; lanes = [] }))
         (same_moment first (driver_of before) powers) (refused_is c before after fault refuses follows told kept, refl, refl);
     later = omega arith;
     arms = life_arms first (driver_of before) powers (driver_of after) (driver_of after) follows (goes_nowhere (driver_of after));
@@ -121,14 +122,19 @@ module _ {B : Type 0} {b : Ghosts B} (c : Config) (first : BlocksState) (before 
     arms = life_arms first (driver_of before) powers (driver_of after) last follows goes;
   }
 
-  pub lived_dark : (last : BlocksState) (told : List Told) → HasRisenBy 3 (driver_of before).device.faults (driver_of after).device.faults → Follows (driver_of before) (driver_of after)
+  pub lived_dark : (last : BlocksState) (told : List Told) (lanes : List (List Told)) → HasRisenBy 3 (driver_of before).device.faults (driver_of after).device.faults → Follows (driver_of before) (driver_of after)
       → GoesOn (driver_of after) last → moment_of last ≡ moment_of (driver_of after) → KeepsSound c (moment_of (driver_of before)) (moment_of (driver_of after))
-      → IsLived c first last (record { boot = Dark; journal = []; answers = told })
-  lived_dark last told three follows goes same kept = record {
+      → IsLived c first last (record { boot = Dark; journal = []; answers = told; lanes = lanes })
+  lived_dark last told lanes three follows goes same kept = record {
     ended = (driver_of after).device.faults;
-    holds = subst (λ (m : Moment). Holds c m (moment_of last) (driver_of after).device.faults (record { boot = Dark; journal = []; answers = told }))
+    holds = subst (λ (m : Moment). Holds c m (moment_of last) (driver_of after).device.faults (record { boot = Dark; journal = []; answers = told; lanes = lanes }))
         (same_moment first (driver_of before) powers)
         (three, refl, subst (λ (m : Moment). KeepsSound c (moment_of (driver_of before)) m) (sym same) kept);
     later = goes.counts;
     arms = life_arms first (driver_of before) powers (driver_of after) last follows goes;
   }
+
+-- what holds of a result that is there
+pub if_ok : {T E : Type 0} {P Q R S : T → Type 0} (result : Result T E) → ((t : T) → P t → Q t → R t → S t) → IfOk result P → IfOk result Q → IfOk result R → IfOk result S
+if_ok (Ok t) more p q r = more t p q r
+if_ok (Err e) more p q r = tt

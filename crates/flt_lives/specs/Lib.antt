@@ -1,3 +1,7 @@
+pub mod Alive
+pub mod Alone
+pub mod Carried
+pub mod Dark
 pub mod Going
 pub mod Living
 pub mod Linked

@@ -1,5 +1,5 @@
 -- A life on its way: what holds of its unit, its store, its journal and its answers after each step.
-use Rattle.std.specs.Prelude.{◌≡◌, ℕ, ◌+◌, ◌*◌, ◌≤◌, List, ◌∷◌, length, reverse, sum_by, vec_len, IsTrue}
+use Rattle.std.specs.Prelude.{◌≡◌, ℕ, ◌+◌, ◌-◌, ◌*◌, ◌^◌, ◌≤◌, List, ◌∷◌, length, reverse, sum_by, vec_len, IsTrue}
 use Rattle.std.specs.Vec.{vec_capacity}
 use Rattle.flt_flash.specs.State.{HasRisenBy}
 use Rattle.flt_flash.specs.Blocks.{BlocksState}
@@ -16,7 +16,7 @@ use Rattle.flt_store.specs.Store.{driver_of, IsRunning}
 use Rattle.flt_life.specs.declared.action.Action.{Action}
 use Rattle.flt_life.specs.Actions.{call_count, response_size}
 use Rattle.flt_life.specs.Answers.{Told, told_by}
-use Rattle.flt_life.specs.Carried.{IsCarriedOut}
+use Rattle.flt_lives.specs.Carried.{IsCarriedOut}
 use Rattle.flt_life.specs.Causes.{HasFailedBy, flash_failures}
 use Rattle.flt_life.specs.Chain.{LifeView, start_from, Holds}
 use Rattle.flt_life.specs.Journal.{Journal, calls_of, Acknowledges}
@@ -66,12 +66,6 @@ pub record IsKept (c : Config) (first : Generation) (journal : Journal) (told : 
   pub rising : AreRising first.number told
 
 module _ {B : Type 0} {b : Ghosts B} where
-  -- the store runs with two generations
-  pub record IsAlive (c : Config) (store : Store B b) : Type 0 where
-    pub held : Generation
-    pub spare : Generation
-    pub running : IsRunning c held spare store
-
   pub record IsLiving (c : Config) (first : Generation) (journal : Journal) (told : List Told) (unit : UnitView) (store : Store B b) : Type 0 where
     pub stands : Stands (start_from c first.state) (calls_of journal) unit
     pub held : Generation
@@ -85,5 +79,5 @@ module _ {B : Type 0} {b : Ghosts B} where
     pub spare_now : Generation
     pub running : IsRunning c held_now spare_now store
     pub flash : HasRisenBy (3 * flash_failures told) begun (driver_of store).device.faults
-    pub spent : HasFailedBy Spent told → 4294967295 ≤ spare_now.number
+    pub spent : HasFailedBy Spent told → 2 ^ 32 - 1 ≤ spare_now.number
     pub sequence : HasFailedBy SequenceSpent told → IsTrue (driver_of store).is_spent

@@ -1,7 +1,4 @@
-// What a life has come to so far.
-ghost use Rattle.std.specs.Prelude.{◌≡◌, ◌<◌, [], vec_len};
-ghost use Rattle.std.specs.Vec.{vec_capacity};
-
+// What a life of lane 0 has come to so far.
 use flt_life::{Entry, LaneReplies};
 use flt_model::Op;
 
@@ -10,8 +7,4 @@ use flt_model::Op;
 pub(crate) struct Account {
     pub(crate) journal: Vec<Entry<Op>>,
     pub(crate) replies: LaneReplies,
-    // Where the replies go in the end.
-    pub(crate) lanes: Vec<LaneReplies>,
-    ghost empty: { lanes.items ≡ [] },
-    ghost place: { vec_len lanes < vec_capacity lanes },
 }

@@ -1,4 +1,7 @@
 // What calls of the machine write to.
+ghost use Rattle.std.specs.Prelude.{◌≡◌, []};
+ghost use Rattle.flt_config.specs.Durable.{initial_state};
+
 use arrayvec::ArrayVec;
 use flt_config::{Persist, ValidConfig, initial};
 use flt_model::RESPONSE;
@@ -14,7 +17,10 @@ pub struct Buffers {
 
 impl Buffers {
     /// The state of a controller that never ran, and no response.
-    pub fn new(config: &ValidConfig) -> Buffers {
+    pub fn new(config: &ValidConfig) -> Buffers
+        ensures state { result.state ≡ initial_state config.now }
+        ensures response { result.response.items ≡ [] }
+    {
         Buffers {
             state: initial(config),
             response: ArrayVec::new(),

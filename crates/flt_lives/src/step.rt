@@ -13,11 +13,12 @@ ghost use Rattle.flt_dcm.specs.Whole.{config_of, state_of};
 ghost use Rattle.flt_store.specs.Store.{driver_of};
 ghost use Rattle.flt_life.specs.Actions.{IsPossible, IsStepCall, arm_count, arms_of, call_count, response_size};
 ghost use Rattle.flt_life.specs.Answers.{Told, told_with, response_length, size_of};
-ghost use Rattle.flt_life.specs.Carried.{IsCarriedOut, SaveIsCarriedOut};
+ghost use Rattle.flt_lives.specs.Carried.{IsCarriedOut, SaveIsCarriedOut};
 ghost use Rattle.flt_life.specs.Chain.{start_from};
 ghost use Rattle.flt_life.specs.Journal.{entry, calls_of};
 ghost use Rattle.flt_lives.specs.Going.{GoesOn, WereGiven};
-ghost use Rattle.flt_lives.specs.Living.{IsUnderWay, IsAlive, IsLiving, IsCaused};
+ghost use Rattle.flt_lives.specs.Alive.{IsAlive};
+ghost use Rattle.flt_lives.specs.Living.{IsUnderWay, IsLiving, IsCaused};
 
 use crate::buffers::Buffers;
 use flt_config::ValidConfig;

@@ -1,4 +1,5 @@
 pub mod Answer
+pub mod Block
 pub mod Boot
 pub mod Line
 pub mod Room

@@ -232,3 +232,15 @@ fn faults_of_scripts(rt: HostRuntime) -> Result<(), Fail> {
     }
     Ok(())
 }
+
+#[test]
+fn lines_of_a_block(rt: HostRuntime) -> Result<(), Fail> {
+    let mut out = Vec::new(rt.alloc());
+    put_par(&mut out)?;
+    put_lane(1, &mut out)?;
+    put_lane(u32::MAX, &mut out)?;
+    put_end(&mut out)?;
+    let wanted = "par\nlane 1\nlane 4294967295\nend\n";
+    assert_eq!(rt; out.as_slice(), wanted.as_bytes());
+    Ok(())
+}

@@ -10,7 +10,7 @@ use crate::content::Held;
 use crate::fault::StartFault;
 use flt_config::ValidConfig;
 use flt_flash::Found;
-use flt_generation::{MARK_ID, Mark, Place};
+use flt_generation::{APPLICATION_LENGTH, MARK_ID, Mark, Place};
 use flt_image::{get_mark, mark_of};
 
 /// The fault of a block.
@@ -54,13 +54,13 @@ pub(crate) fn judge_mark(config: &ValidConfig, mark: &Held, commit: &Held) -> Re
     }
 }
 
-/// An application block has at most 32 bytes, or was never written.
+/// An application block has no more bytes than one may have, or was never written.
 pub(crate) fn is_application(found: Found) -> bool
     ensures { (content : Content) → found ≡ found_of content → result ≡ is_application content }
 {
     match found {
         Found::Missing => true,
         Found::Invalid => false,
-        Found::Bytes(length) => length <= 32,
+        Found::Bytes(length) => length <= APPLICATION_LENGTH,
     }
 }

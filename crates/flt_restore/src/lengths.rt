@@ -13,7 +13,9 @@ use crate::judging::{damaged, is_application};
 use crate::pages::{found_pages, own_pages};
 use flt_config::{ValidConfig, needed_pages};
 use flt_flash::Blocks;
-use flt_generation::{APPLICATIONS, COMMIT_ID, END_PART, FIRST_APPLICATION, FIRST_PART, MARK_ID};
+use flt_generation::{
+    APPLICATIONS, COMMIT_ID, END_PART, FIRST_APPLICATION, FIRST_PART, MARK_ID, NUMBERS_PER_BLOCK,
+};
 use flt_nvm::Nvm;
 
 // Judges one application block.
@@ -59,7 +61,8 @@ fn pages_beyond<B: Blocks + Drop>(nvm: &Nvm<B>, config: &ValidConfig, id: u16, i
     ensures pages { result ≡ beyond config.now (driver_of nvm.now).value (number_of id index) }
     ensures most { result ≤ 6 }
 {
-    found_pages(nvm.look_up(id, index)).saturating_sub(own_pages(config, id * 8 + index as u16))
+    let number = id * NUMBERS_PER_BLOCK + index as u16;
+    found_pages(nvm.look_up(id, index)).saturating_sub(own_pages(config, number))
 }
 
 fn pages_beyond_of_part<B: Blocks + Drop>(nvm: &Nvm<B>, config: &ValidConfig, id: u16) -> u32

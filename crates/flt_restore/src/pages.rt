@@ -5,20 +5,17 @@ ghost use Rattle.flt_flash.specs.Calls.{found_of};
 ghost use Rattle.flt_flash.specs.Content.{Content};
 ghost use Rattle.flt_generation.specs.Excess.{is_own_part, is_own_application, own_pages};
 ghost use Rattle.flt_generation.specs.Form.{part_length};
-ghost use Rattle.flt_generation.specs.Layout.{part_of};
+ghost use Rattle.flt_generation.specs.Layout.{id_of, index_of, part_of};
 ghost use Rattle.flt_restore.specs.Found.{size_found};
 
 use flt_config::ValidConfig;
 use flt_flash::Found;
-use flt_generation::FIRST_APPLICATION;
+use flt_generation::{
+    APPLICATION_LENGTH, COMMIT_LENGTH, ENTRY_LENGTH, FIRST_APPLICATION, FIRST_COMMIT, FIRST_ENTRY,
+    FIRST_PART, MARK_LENGTH, MARK_NUMBER, NUMBERS_PER_BLOCK, SECOND_COMMIT, STATES_LENGTH,
+    SUMMARY_LENGTH,
+};
 use flt_image::is_used;
-
-/// The number of the mark, and those of the copies of the commit.
-const MARK: u16 = 8;
-
-const FIRST_COMMIT: u16 = 16;
-
-const SECOND_COMMIT: u16 = 17;
 
 // The pages of a record of so many bytes.
 fn record_pages(length: usize) -> u32
@@ -41,31 +38,46 @@ pub(crate) fn found_pages(found: Found) -> u32
     }
 }
 
-// The bytes of a part: the summary, the states of sixteen events, or an entry.
+// The bytes of a part: the summary, the states of some events, or an entry.
 fn part_length(id: u16) -> usize
     ensures length { result ≡ part_length (part_of id) }
     ensures most { result ≤ 128 }
 {
-    if id == 3 {
-        32
-    } else if id < 8 {
-        64
+    if id == FIRST_PART {
+        SUMMARY_LENGTH
+    } else if id < FIRST_ENTRY {
+        STATES_LENGTH
     } else {
-        68
+        ENTRY_LENGTH
     }
+}
+
+// The block of a number.
+fn id_of(number: u16) -> u16
+    ensures { result ≡ id_of number }
+{
+    number / NUMBERS_PER_BLOCK
+}
+
+// The index, or the copy from 0, of a number.
+fn index_of(number: u16) -> u16
+    ensures { result ≡ index_of number }
+{
+    number % NUMBERS_PER_BLOCK
 }
 
 fn is_own_part(config: &ValidConfig, number: u16) -> bool
     ensures { result ≡ is_own_part config.now number }
 {
-    is_used(config, number / 8) && number % 8 <= 1
+    is_used(config, id_of(number)) && index_of(number) <= 1
 }
 
 fn is_own_application(config: &ValidConfig, number: u16) -> bool
     ensures { result ≡ is_own_application config.now number }
 {
     let end = FIRST_APPLICATION + config.config().blocks as u16;
-    number % 8 == 0 && FIRST_APPLICATION <= number / 8 && number / 8 < end
+    let id = id_of(number);
+    index_of(number) == 0 && FIRST_APPLICATION <= id && id < end
 }
 
 /// The pages of the longest record that the configuration keeps under a number, 0 where it keeps none.
@@ -73,14 +85,14 @@ fn is_own_application(config: &ValidConfig, number: u16) -> bool
 pub(crate) fn own_pages(config: &ValidConfig, number: u16) -> u32
     ensures { result ≡ own_pages config.now number }
 {
-    if number == MARK {
-        record_pages(8)
+    if number == MARK_NUMBER {
+        record_pages(MARK_LENGTH)
     } else if number == FIRST_COMMIT || number == SECOND_COMMIT {
-        record_pages(26)
+        record_pages(COMMIT_LENGTH)
     } else if is_own_part(config, number) {
-        record_pages(part_length(number / 8))
+        record_pages(part_length(id_of(number)))
     } else if is_own_application(config, number) {
-        record_pages(32)
+        record_pages(APPLICATION_LENGTH)
     } else {
         0
     }

@@ -1,6 +1,6 @@
--- The steps of a script are possible, and few.
-use Rattle.std.proofs.Common.{◌≡◌, ℕ, leb, ltb, arith, true, List, [], ◌∷◌, length, refl, ap}
-use Rattle.std.specs.Prelude.{Vec, All, sum_by}
+-- The parts of a script are possible, and few.
+use Rattle.std.proofs.Common.{◌≡◌, ℕ, ◌+◌, ◌<◌, ◌≤◌, leb, ltb, arith, true, List, [], ◌∷◌, length, map, refl, ap, inl, inr}
+use Rattle.std.specs.Prelude.{Vec, All, sum_by, ◌&&◌}
 use Rattle.std.specs.List.{list_all}
 use Rattle.std.proofs.lemmas.Bool.{and_parts, leb-true, ltb-true}
 use Rattle.std.proofs.lemmas.List.Elements.{All-nil, All-cons}
@@ -9,12 +9,14 @@ use Rattle.flt_config.specs.declared.config.Config.{Config}
 use Rattle.flt_flash.specs.State.{CanArm}
 use Rattle.flt_flash.specs.declared.arm.Arm.{Arm}
 use Rattle.flt_flash.specs.declared.arm.Arm.TheVariants.{Cut, Fault, Mute}
-use Rattle.flt_script.specs.Step.{is_step_in, is_part_in, are_parts_in, is_arm_in, arms_of, arms_of_part}
+use Rattle.flt_script.specs.Part.{PartOf, parts_of}
+use Rattle.flt_script.specs.Step.{is_step_in, is_lane_step, is_lane_in, is_part_in, are_parts_in, is_arm_in, arms_of, arms_of_part, lanes_of, lanes_of_part}
+use Rattle.flt_script.specs.Step as script
 use Rattle.flt_script.specs.declared.step.Part.{Part}
-use Rattle.flt_script.specs.declared.step.Part.TheVariants.{One}
 use Rattle.flt_script.specs.declared.step.Step.{Step}
 use Rattle.flt_script.specs.declared.step.Step.TheVariants as steps
-use Rattle.flt_life.specs.Actions.{IsPossible, action_of, action_in, actions_in, arm_count}
+use Rattle.flt_life.specs.Actions.{IsPossible, action_of, arm_count}
+use Rattle.flt_life.specs.Parts.{IsPossiblePart, IsPossibleInLane, arms_in, widths}
 
 possible_arm : (arm : Arm) → is_arm_in arm ≡ true → CanArm arm
 possible_arm (Cut after pattern) is = let least = leb-true 1 after (and_parts (leb 1 after) (leb after 65535) is).0 in omega (arith, least)
@@ -34,42 +36,84 @@ possible_step config (steps.Request tester bytes) is =
 possible_step config steps.Save is = tt
 possible_step config (steps.Arming arm) is = possible_arm arm is
 
-possible_part : (config : Config) (part : Part) → is_part_in config part ≡ true → IsPossible config (action_in part)
-possible_part config (One step) is = possible_step config step is
+possible_lane : (config : Config) (lane : List Step) → is_lane_in config lane ≡ true → All (IsPossibleInLane config) lane
+possible_lane config [] all = All-nil (IsPossibleInLane config)
+possible_lane config (step ∷ rest) all =
+    let both = and_parts (is_step_in config step && is_lane_step step) (is_lane_in config rest) all in
+    let this = and_parts (is_step_in config step) (is_lane_step step) both.0 in
+    All-cons (IsPossibleInLane config) step rest (this.1, possible_step config step this.0) (possible_lane config rest both.1)
 
-possible_parts : (config : Config) (parts : List Part) → are_parts_in config parts ≡ true → All (IsPossible config) (actions_in parts)
-possible_parts config [] all = All-nil (IsPossible config)
+possible_lanes : (config : Config) (lanes : List (List Step)) → list_all (is_lane_in config) lanes ≡ true → All (λ (lane : List Step). All (IsPossibleInLane config) lane) lanes
+possible_lanes config [] all = All-nil _
+possible_lanes config (lane ∷ rest) all =
+    let both = and_parts (is_lane_in config lane) (list_all (is_lane_in config) rest) all in
+    All-cons (λ (lane : List Step). All (IsPossibleInLane config) lane) lane rest (possible_lane config lane both.0) (possible_lanes config rest both.1)
+
+possible_part : (config : Config) (part : PartOf Step) → is_part_in config part ≡ true → IsPossiblePart config part
+possible_part config (inl step) is = possible_step config step is
+possible_part config (inr lanes) is =
+    possible_lanes config lanes (and_parts (leb 1 (length lanes) && leb (length lanes) 8) (list_all (is_lane_in config) lanes) is).1
+
+possible_parts : (config : Config) (parts : List (PartOf Step)) → are_parts_in config parts ≡ true → All (IsPossiblePart config) parts
+possible_parts config [] all = All-nil (IsPossiblePart config)
 possible_parts config (part ∷ rest) all =
     let both = and_parts (is_part_in config part) (are_parts_in config rest) all in
-    All-cons (IsPossible config) (action_in part) (actions_in rest) (possible_part config part both.0) (possible_parts config rest both.1)
+    All-cons (IsPossiblePart config) part rest (possible_part config part both.0) (possible_parts config rest both.1)
 
-pub possible_lives : {A : Type 0} (config : Config) (lives : List (Vec Part A)) → list_all (λ (life : Vec Part A). are_parts_in config life.items) lives ≡ true
-    → All (λ (life : Vec Part A). All (IsPossible config) (actions_in life.items)) lives
+pub possible_lives : {A : Type 0} (config : Config) (lives : List (Vec Part A)) → list_all (λ (life : Vec Part A). are_parts_in config (parts_of life.items)) lives ≡ true
+    → All (λ (life : Vec Part A). All (IsPossiblePart config) (parts_of life.items)) lives
 possible_lives config [] all = All-nil _
 possible_lives {A = A} config (life ∷ rest) all =
-    let both = and_parts (are_parts_in config life.items) (list_all (λ (life : Vec Part A). are_parts_in config life.items) rest) all in
-    All-cons (λ (life : Vec Part A). All (IsPossible config) (actions_in life.items)) life rest (possible_parts config life.items both.0) (possible_lives config rest both.1)
+    let both = and_parts (are_parts_in config (parts_of life.items)) (list_all (λ (life : Vec Part A). are_parts_in config (parts_of life.items)) rest) all in
+    All-cons (λ (life : Vec Part A). All (IsPossiblePart config) (parts_of life.items)) life rest (possible_parts config (parts_of life.items) both.0) (possible_lives config rest both.1)
 
 -- ---- arms
 
-same_arm : (part : Part) → arm_count (action_in part) ≡ arms_of_part part
-same_arm (One (steps.Report event report)) = refl
-same_arm (One (steps.Show event)) = refl
-same_arm (One (steps.Cycle cycle)) = refl
-same_arm (One (steps.Tick ticks)) = refl
-same_arm (One (steps.Signal index value)) = refl
-same_arm (One (steps.Request tester bytes)) = refl
-same_arm (One steps.Save) = refl
-same_arm (One (steps.Arming arm)) = refl
+same_arm : (step : Step) → arm_count (action_of step) ≡ script.arm_count step
+same_arm (steps.Report event report) = refl
+same_arm (steps.Show event) = refl
+same_arm (steps.Cycle cycle) = refl
+same_arm (steps.Tick ticks) = refl
+same_arm (steps.Signal index value) = refl
+same_arm (steps.Request tester bytes) = refl
+same_arm steps.Save = refl
+same_arm (steps.Arming arm) = refl
 
-same_arms : (parts : List Part) → sum_by arm_count (actions_in parts) ≡ arms_of parts
-same_arms [] = refl
-same_arms (part ∷ rest) =
-    let one = sum_by-cons arm_count (action_in part) (actions_in rest) in
-    let other = sum_by-cons arms_of_part part rest in
-    let this = same_arm part in
-    let those = same_arms rest in
-    omega (arith, one, other, this, those)
+same_part : (part : PartOf Step) → arms_in part ≡ arms_of_part part
+same_part (inl step) = same_arm step
+same_part (inr lanes) = refl
 
-pub all_arms_same : {A : Type 0} (lives : List (Vec Part A)) → sum_by (λ (life : Vec Part A). sum_by arm_count (actions_in life.items)) lives ≡ sum_by (λ (life : Vec Part A). arms_of life.items) lives
-all_arms_same {A = A} lives = ap (λ (count : Vec Part A → ℕ). sum_by count lives) (λ i life. same_arms life.items i)
+same_arms : (parts : List (PartOf Step)) → sum_by arms_in parts ≡ arms_of parts
+same_arms parts = ap (λ (count : PartOf Step → ℕ). sum_by count parts) (λ i part. same_part part i)
+
+pub all_arms_same : {A : Type 0} (lives : List (Vec Part A)) → sum_by (λ (life : Vec Part A). sum_by arms_in (parts_of life.items)) lives ≡ sum_by (λ (life : Vec Part A). arms_of (parts_of life.items)) lives
+all_arms_same {A = A} lives = ap (λ (count : Vec Part A → ℕ). sum_by count lives) (λ i life. same_arms (parts_of life.items) i)
+
+-- ---- lanes
+
+same_width : (part : PartOf Step) (parts : List (PartOf Step)) → lanes_of (part ∷ parts) ≡ lanes_of_part part + lanes_of parts
+same_width part parts = sum_by-cons lanes_of_part part parts
+
+pub widths_same : (parts : List (PartOf Step)) → widths parts ≡ lanes_of parts
+widths_same [] = refl
+widths_same (inl step ∷ rest) =
+    let one = same_width (inl step) rest in
+    let those = widths_same rest in
+    omega (arith, one, those)
+widths_same (inr lanes ∷ rest) =
+    let one = same_width (inr lanes) rest in
+    let those = widths_same rest in
+    omega (arith, one, those)
+
+pub all_widths_same : {A : Type 0} (lives : List (Vec Part A))
+    → sum_by (λ (life : Vec Part A). length life.items + widths (parts_of life.items)) lives ≡ sum_by (λ (life : Vec Part A). length life.items + lanes_of (parts_of life.items)) lives
+all_widths_same {A = A} lives = ap (λ (count : Vec Part A → ℕ). sum_by count lives) (λ i life. length life.items + widths_same (parts_of life.items) i)
+
+-- each life has few lanes
+pub each_few : {A : Type 0} (lives : List (Vec Part A)) (most : ℕ) → sum_by (λ (life : Vec Part A). length life.items + lanes_of (parts_of life.items)) lives ≤ most
+    → All (λ (life : Vec Part A). widths (parts_of life.items) ≤ most) lives
+each_few [] most few = All-nil _
+each_few {A = A} (life ∷ rest) most few =
+    let one = sum_by-cons (λ (life : Vec Part A). length life.items + lanes_of (parts_of life.items)) life rest in
+    let same = widths_same (parts_of life.items) in
+    All-cons (λ (life : Vec Part A). widths (parts_of life.items) ≤ most) life rest (omega (arith, few, one, same)) (each_few rest most (omega (arith, few, one)))

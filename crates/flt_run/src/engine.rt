@@ -1,55 +1,156 @@
-ghost use Rattle.std.specs.Prelude.{◌≡◌, ◌≤◌, IfSome};
+// The lives of a script over a bench.
+ghost use Rattle.std.specs.Prelude.{◌≡◌, ◌≢◌, ◌≤◌, Some, All, IfSome, IsTrue};
 ghost use Rattle.flt_did.specs.Serves.{Serves};
 ghost use Rattle.flt_did.specs.Table.{dids_of};
+ghost use Rattle.flt_dcm.specs.Whole.{config_of};
+ghost use Rattle.flt_script.specs.Part.{part_of, parts_of};
 ghost use Rattle.flt_script.specs.Script.{content};
+ghost use Rattle.flt_restore.specs.declared.fault.StartFault.TheVariants.{Flash};
+ghost use Rattle.flt_life.specs.declared.life.Boot.TheVariants.{Refused};
+ghost use Rattle.flt_life.specs.Lives.{lists};
+ghost use Rattle.flt_lives.specs.Alone.{AreAlone, IsAlone};
 ghost use Rattle.flt_lives.specs.Sectors.{FlashStaysSound};
 ghost use Rattle.flt_run.specs.Ending.{IsLivedBy};
 
-use crate::ending::Ending;
 use crate::made::Made;
+use flt_config::ValidConfig;
+use flt_dcm::Unit;
+use flt_dem::Dem;
 use flt_did::{DID_ROWS, DidTable};
 use flt_flash::Bench;
-use flt_lives::{Run, run_on_bench};
-use flt_script::Script;
+use flt_lane::run_in_lanes;
+use flt_lives::{Run, run_alone};
+use flt_script::{Part, Script};
 use std::alloc::Global;
+use std::marker::Sync;
+use std::sync::Wait;
+use std::thread::Threads;
 
-/// What a run comes to, or nothing for want of memory, and the bench as it was left.
+/// The lives that were made, or none for want of memory, and the bench as they left it.
 #[derive(Drop)]
-pub(crate) struct Performed<B> {
-    pub(crate) ending: Option<Ending>,
+pub(crate) struct Lived<B> {
+    pub(crate) made: Option<Made>,
     pub(crate) bench: B,
 }
 
-/// Makes the lives of a script, one after the other, up to the first that is refused.
-pub(crate) fn live<B: Bench + Drop>(
+/// The machine of a script.
+pub(crate) fn unit_of(config: &ValidConfig, dids: DidTable<DID_ROWS>) -> Unit
+    requires { Serves (dids_of dids) config.now.events.items }
+    ensures { config_of result ≡ config.now }
+{
+    Unit::make(Dem::make(config.twin(), dids))
+}
+
+/// The lives of a script, as they were made.
+fn made_of<B: Drop>(script: Script, run: Run<B>) -> Lived<B>
+    requires { IfSome run.lives (λ lives. All (λ life. life.boot ≢ Refused Flash) lives.items) }
+    ensures bench { result.bench ≡ run.bench }
+    ensures made { IfSome result.made (λ made. (lists made.script.items ≡ lists script.lives.items) × (run.lives ≡ Some made.lives)) }
+{
+    let Script { lives: script, .. } = script;
+    let Run { lives, bench } = run;
+    match lives {
+        Some(lives) => Lived {
+            made: Some(Made { script, lives }),
+            bench,
+        },
+        None => Lived { made: None, bench },
+    }
+}
+
+/// Makes the lives of a script without blocks of lanes, one after the other, up to the first that is refused, on a machine without a
+/// lock.
+pub(crate) fn live_alone<B: Bench + Drop>(
     alloc: Global,
+    unit: Unit,
     bench: B,
     script: Script,
-    dids: DidTable<DID_ROWS>,
-) -> Performed<B>
-    requires served { Serves (dids_of dids) script.config.events.items }
+) -> Lived<B>
+    requires same { config_of unit ≡ script.config }
+    requires alone { All (λ life. AreAlone (parts_of life.items)) script.lives.items }
     requires pages { (B.state bench).pages ≡ 1024 }
     requires boots { 256 ≤ (B.state bench).bench.boots_left }
     requires unarmed { (B.state bench).bench.armed ≡ 0 }
-    ensures lived { IfSome result.ending (IsLivedBy (content script) (B.state bench) (B.state result.bench)) }
+    ensures lived { IfSome result.made (IsLivedBy (content script) (B.state bench) (B.state result.bench)) }
     ensures sound { FlashStaysSound script.config (B.state bench) (B.state result.bench) }
 {
-    let Script { config, lives, .. } = script;
-    let Run {
-        lives: lived,
-        bench,
-    } = run_on_bench(alloc, bench, &config, dids, &lives);
-    match lived {
-        Some(lived) => Performed {
-            ending: Some(Ending::Ran(Made {
-                script: lives,
-                lives: lived,
-            })),
-            bench,
-        },
-        None => Performed {
-            ending: None,
-            bench,
-        },
+    let run = run_alone(alloc, unit, bench, &script.config, &script.lives);
+    made_of(script, run)
+}
+
+/// Makes the lives of a script one after the other, up to the first that is refused, the lanes of a block at the same time under a
+/// lock.
+pub(crate) fn live_in_lanes<R: Threads + Wait + Sync, B: Bench + Drop>(
+    rt: &R,
+    alloc: Global,
+    unit: Unit,
+    bench: B,
+    script: Script,
+) -> Lived<B>
+    requires same { config_of unit ≡ script.config }
+    requires pages { (B.state bench).pages ≡ 1024 }
+    requires boots { 256 ≤ (B.state bench).bench.boots_left }
+    requires unarmed { (B.state bench).bench.armed ≡ 0 }
+    ensures lived { IfSome result.made (IsLivedBy (content script) (B.state bench) (B.state result.bench)) }
+    ensures sound { FlashStaysSound script.config (B.state bench) (B.state result.bench) }
+{
+    let run = run_in_lanes(rt, alloc, unit, bench, &script.config, &script.lives);
+    made_of(script, run)
+}
+
+/// Whether a part is a step of lane 0.
+fn is_alone(part: &Part) -> bool
+    ensures { IsTrue result → IsAlone (part_of part.now) }
+{
+    match part {
+        Part::One(_step) => true,
+        Part::Lanes(_lanes) => false,
+    }
+}
+
+/// Whether no part is a block of lanes.
+fn are_alone(parts: &[Part]) -> bool
+    ensures { IsTrue result → AreAlone (parts_of parts.now) }
+{
+    for part in parts {
+        if !is_alone(part) {
+            return false;
+        }
+    }
+    true
+}
+
+/// Whether no life has a block of lanes.
+fn have_no_lanes(lives: &[Vec<Part>]) -> bool
+    ensures { IsTrue result → All (λ life. AreAlone (parts_of life.items)) lives.now }
+{
+    for life in lives {
+        if !are_alone(life) {
+            return false;
+        }
+    }
+    true
+}
+
+/// Makes the lives of a script one after the other, up to the first that is refused. Where lane 0 is alone in all of them it shares
+/// the machine with nobody, and there is no lock.
+pub(crate) fn live<R: Threads + Wait + Sync, B: Bench + Drop>(
+    rt: &R,
+    alloc: Global,
+    unit: Unit,
+    bench: B,
+    script: Script,
+) -> Lived<B>
+    requires same { config_of unit ≡ script.config }
+    requires pages { (B.state bench).pages ≡ 1024 }
+    requires boots { 256 ≤ (B.state bench).bench.boots_left }
+    requires unarmed { (B.state bench).bench.armed ≡ 0 }
+    ensures lived { IfSome result.made (IsLivedBy (content script) (B.state bench) (B.state result.bench)) }
+    ensures sound { FlashStaysSound script.config (B.state bench) (B.state result.bench) }
+{
+    if have_no_lanes(&script.lives) {
+        live_alone(alloc, unit, bench, script)
+    } else {
+        live_in_lanes(rt, alloc, unit, bench, script)
     }
 }

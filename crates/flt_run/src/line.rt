@@ -3,6 +3,8 @@ ghost use Rattle.std.specs.String.{string_bytes};
 ghost use Rattle.flt_config.specs.Validity.{needed_pages};
 ghost use Rattle.flt_life.specs.Lives.{lists};
 ghost use Rattle.flt_script.specs.Script.{content};
+ghost use Rattle.flt_script.specs.Part.{part_of, parts_of};
+ghost use Rattle.flt_script.specs.Step.{steps_of, steps_of_part};
 ghost use Rattle.flt_run.specs.Report.{accepted_text, step_count};
 
 use flt_config::needed_pages;
@@ -71,5 +73,32 @@ fn step_count(lives: &[Vec<Part>]) -> usize
     requires { step_count (lists lives.now) ≤ 65536 }
     ensures { result ≡ step_count (lists lives.now) }
 {
-    lives.iter().map(|life| life.len()).sum()
+    let mut count = 0;
+    for life in lives {
+        count += steps_of(life);
+    }
+    count
+}
+
+/// How many steps parts have.
+fn steps_of(parts: &[Part]) -> usize
+    requires { steps_of (parts_of parts.now) ≤ 65536 }
+    ensures { result ≡ steps_of (parts_of parts.now) }
+{
+    let mut count = 0;
+    for part in parts {
+        count += steps_of_part(part);
+    }
+    count
+}
+
+/// How many steps a part has.
+fn steps_of_part(part: &Part) -> usize
+    requires { steps_of_part (part_of part.now) ≤ 65536 }
+    ensures { result ≡ steps_of_part (part_of part.now) }
+{
+    match part {
+        Part::One(_step) => 1,
+        Part::Lanes(lanes) => lanes.iter().map(|lane| lane.len()).sum(),
+    }
 }

@@ -1,7 +1,9 @@
 // The lives of a script that were made.
 ghost use Rattle.std.specs.Prelude.{◌≢◌, ◌<◌, ◌≤◌, All, vec_len};
 ghost use Rattle.flt_restore.specs.declared.fault.StartFault.TheVariants.{Flash};
+ghost use Rattle.flt_script.specs.Part.{parts_of};
 ghost use Rattle.flt_life.specs.declared.life.Boot.TheVariants.{Refused};
+ghost use Rattle.flt_life.specs.Parts.{widths};
 
 use flt_life::Life;
 use flt_script::Part;
@@ -16,5 +18,6 @@ pub(crate) struct Made {
     pub(crate) ghost some: { 0 < vec_len script },
     pub(crate) ghost few: { vec_len script ≤ 256 },
     /// A life whose start-up met three faults is dark, and not refused.
+    pub(crate) ghost small: { All (λ life. widths (parts_of life.items) ≤ 1048577) script.items },
     pub(crate) ghost none_by_flash: { All (λ life. life.boot ≢ Refused Flash) lives.items },
 }

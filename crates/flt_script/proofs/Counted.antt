@@ -1,6 +1,6 @@
 -- What is kept of lines that were not refused says how many there are of each kind.
-use Rattle.std.proofs.Common.{◌≡◌, ℕ, ◌+◌, ◌<◌, List, [], ◌∷◌, ◌++◌, length, Bool, true, false, cond, ◌&&◌, ◌||◌, ltb, leb, if◌then◌else◌, Option, Some, None, refl, ap, ◌∙◌, arith, length-append}
-use Rattle.std.specs.Prelude.{count_by, find, is_none, not, ◌==◌, option_map, option_to_list, slice_get}
+use Rattle.std.proofs.Common.{◌≡◌, ℕ, ◌+◌, ◌<◌, List, [], ◌∷◌, ◌++◌, length, Bool, true, false, cond, ◌&&◌, ◌||◌, ltb, leb, if◌then◌else◌, Option, Some, None, refl, ap, ◌∙◌, arith, length-append, inl, inr}
+use Rattle.std.specs.Prelude.{count_by, find, is_some, is_none, not, ◌==◌, option_map, option_to_list, slice_get}
 use Rattle.std.proofs.lemmas.Bool.{lt-ltb}
 use Rattle.std.proofs.lemmas.List.Sums.{sum_by-cons}
 use Rattle.flt_config.specs.declared.config.Config.{Config}
@@ -17,16 +17,18 @@ use Rattle.flt_script.specs.declared.line.StepLine.{StepLine}
 use Rattle.flt_script.specs.declared.line.StepLine.TheVariants.{Report, Show, Cycle, Tick, Signal, Request, Save, Arming}
 use Rattle.flt_script.specs.declared.step.Step.{Step}
 use Rattle.flt_script.specs.declared.step.Step.TheVariants as step
-use Rattle.flt_script.specs.declared.step.Part.TheVariants.{One}
-use Rattle.flt_script.specs.Behind.{Behind, added, behind, event_count, arm_of, has_begun, step_of, arms_with}
+use Rattle.flt_script.specs.Behind.{Behind, added, behind, event_count, arm_of, has_begun, lane_count, has_lane, in_last_lane, with_step, step_of, arms_with}
 use Rattle.flt_script.specs.Causes.{arms_written}
 use Rattle.flt_script.specs.Counts.{is_step, is_arming, is_power, is_event, IsCounted}
 use Rattle.flt_script.specs.Event.{event_held}
 use Rattle.flt_script.specs.Gives.{◌⇒◌, given_by}
 use Rattle.flt_script.specs.Laws.{AcceptedLinesAreCounted}
-use Rattle.flt_script.specs.Refusal.{event_refusal, step_refusal, refusal}
+use Rattle.flt_script.specs.Part.{PartOf}
+use Rattle.flt_script.specs.Refusal.{event_refusal, step_refusal, lane_refusal, end_refusal, refusal}
 use Rattle.flt_script.specs.Step.{arm_count}
 use Rattle.flt_script.proofs.Accepted.{length_used, of_accepted_lines}
+use Rattle.flt_script.proofs.Blocks.{same_some, some_of, as_many_lanes, lane_more}
+use Rattle.flt_script.proofs.Bools.{or_true, not_false}
 use Rattle.flt_script.proofs.Kept.{kept}
 
 count_more : (p : Line → Bool) (l : Line) (past : List Line) → count_by p (l ∷ past) ≡ cond (p l) 1 0 + count_by p past
@@ -65,14 +67,31 @@ step_read : (b : Behind) (s : StepLine) → step_refusal b s ≡ None → is_non
 unfolding step_refusal
 step_read b s e = first_is_false (is_none (step_of b.config s)) cause.Range _ e
 
-begun_with : (read : Option Step) (b : Behind) → is_none read ≡ false
-    → (ltb 0 (length (b.parts ++ option_to_list (option_map One read))) || ltb 0 (length b.lives)) ≡ true
-begun_with None b e = absurd cc
-begun_with (Some s) b e =
-    let some : 0 < length (b.parts ++ One s ∷ []) = rw length-append (omega arith) in rw (lt-ltb 0 (length (b.parts ++ One s ∷ [])) some) refl
+begun_with : (read : Option Step) (b : Behind) (block : Option (List (List Step))) → is_none read ≡ false
+    → (ltb 0 (length (with_step block read b.parts)) || ltb 0 (length b.lives) || is_some (option_map (in_last_lane read) block)) ≡ true
+begun_with None b block e = absurd cc
+begun_with (Some s) b None e =
+    let some : 0 < length (b.parts ++ inl s ∷ []) = rw length-append (omega arith) in rw (lt-ltb 0 (length (b.parts ++ inl s ∷ [])) some) refl
+begun_with (Some s) b (Some lanes) e = or_true (ltb 0 (length b.parts) || ltb 0 (length b.lives))
 
-ended_life : (b : Behind) → (ltb 0 0 || ltb 0 (length (b.lives ++ b.parts ∷ []))) ≡ true
+ended_life : (b : Behind) → (ltb 0 0 || ltb 0 (length (b.lives ++ b.parts ∷ [])) || is_some b.block) ≡ true
 ended_life b = let some : 0 < length (b.lives ++ b.parts ∷ []) = rw length-append (omega arith) in rw (lt-ltb 0 (length (b.lives ++ b.parts ∷ [])) some) refl
+
+lane_in_block : (b : Behind) → lane_refusal b ≡ None → is_some b.block ≡ true
+unfolding lane_refusal
+lane_in_block b e = some_of b.block (second_is_false (leb 8 (lane_count b.block)) (is_none b.block) cause.Many cause.Block None e)
+
+end_of_lanes : (b : Behind) → end_refusal b ≡ None → has_lane b.block ≡ true
+unfolding end_refusal
+end_of_lanes b e = not_false (has_lane b.block) (first_is_false (not (has_lane b.block)) cause.Block None e)
+
+-- A block that ends has begun, and is a part of its life from then on.
+begun_by_block : (block : Option (List (List Step))) (parts : List (PartOf Step)) (lives : List (List (PartOf Step))) → has_lane block ≡ true
+    → (ltb 0 (length (parts ++ option_to_list (option_map inr block))) || ltb 0 (length lives) || false) ≡ (ltb 0 (length parts) || ltb 0 (length lives) || is_some block)
+begun_by_block None parts lives e = absurd cc
+begun_by_block (Some lanes) parts lives e =
+    let some : 0 < length (parts ++ inr lanes ∷ []) = rw length-append (omega arith) in
+    rw (lt-ltb 0 (length (parts ++ inr lanes ∷ [])) some, or_true (ltb 0 (length parts) || ltb 0 (length lives))) refl
 
 -- ---- the arms of a step that was read
 
@@ -137,6 +156,8 @@ module _ (dids : List DidUse) where
     arms = count_no is_arming line.Skipped past _ refl c.arms;
     lives = count_no is_power line.Skipped past _ refl c.lives;
     events = count_no is_event line.Skipped past _ refl c.events;
+    block = c.block;
+    lanes = c.lanes;
     begun = c.begun;
     config = c.config;
     memory = c.memory;
@@ -148,6 +169,8 @@ module _ (dids : List DidUse) where
     arms = count_no is_arming (line.Config id) past _ refl c.arms;
     lives = count_no is_power (line.Config id) past _ refl c.lives;
     events = count_no is_event (line.Config id) past _ refl c.events;
+    block = c.block;
+    lanes = c.lanes;
     begun = c.begun;
     config = refl;
     memory = c.memory;
@@ -159,6 +182,8 @@ module _ (dids : List DidUse) where
     arms = count_no is_arming (line.Memory entries) past _ refl c.arms;
     lives = count_no is_power (line.Memory entries) past _ refl c.lives;
     events = count_no is_event (line.Memory entries) past _ refl c.events;
+    block = c.block;
+    lanes = c.lanes;
     begun = c.begun;
     config = c.config;
     memory = refl;
@@ -170,6 +195,8 @@ module _ (dids : List DidUse) where
     arms = count_no is_arming (line.Blocks blocks) past _ refl c.arms;
     lives = count_no is_power (line.Blocks blocks) past _ refl c.lives;
     events = count_no is_event (line.Blocks blocks) past _ refl c.events;
+    block = c.block;
+    lanes = c.lanes;
     begun = c.begun;
     config = c.config;
     memory = c.memory;
@@ -181,6 +208,8 @@ module _ (dids : List DidUse) where
     arms = count_no is_arming (line.Flash sectors pages) past _ refl c.arms;
     lives = count_no is_power (line.Flash sectors pages) past _ refl c.lives;
     events = count_no is_event (line.Flash sectors pages) past _ refl c.events;
+    block = c.block;
+    lanes = c.lanes;
     begun = c.begun;
     config = c.config;
     memory = c.memory;
@@ -192,6 +221,8 @@ module _ (dids : List DidUse) where
     arms = count_no is_arming (line.Event event) past _ refl c.arms;
     lives = count_no is_power (line.Event event) past _ refl c.lives;
     events = event_adds (behind dids past) event e ∙ count_yes is_event (line.Event event) past _ refl c.events;
+    block = c.block;
+    lanes = c.lanes;
     begun = c.begun;
     config = c.config;
     memory = c.memory;
@@ -205,6 +236,8 @@ module _ (dids : List DidUse) where
     events =
         let items = (behind dids past).config.events.items in
         length_used (find (is_did id) dids) items event (slice_get items event) ∙ count_no is_event (line.Did event id) past _ refl c.events;
+    block = c.block;
+    lanes = c.lanes;
     begun = c.begun;
     config = c.config;
     memory = c.memory;
@@ -218,7 +251,9 @@ module _ (dids : List DidUse) where
         arms = arms_counted b s past read c.arms;
         lives = count_no is_power (line.Step s) past _ refl c.lives;
         events = count_no is_event (line.Step s) past _ refl c.events;
-        begun = begun_with (step_of b.config s) b read;
+        block = same_some (in_last_lane (step_of b.config s)) b.block ∙ c.block;
+        lanes = as_many_lanes (step_of b.config s) b.block ∙ c.lanes;
+        begun = begun_with (step_of b.config s) b b.block read;
         config = c.config;
         memory = c.memory;
         blocks = c.blocks;
@@ -230,7 +265,52 @@ module _ (dids : List DidUse) where
         arms = count_no is_arming line.Power past _ refl c.arms;
         lives = length-append b.lives (b.parts ∷ []) ∙ count_yes is_power line.Power past _ refl c.lives;
         events = count_no is_event line.Power past _ refl c.events;
+        block = c.block;
+        lanes = c.lanes;
         begun = ended_life b;
+        config = c.config;
+        memory = c.memory;
+        blocks = c.blocks;
+        flash = c.flash;
+      }
+  more line.Par past e c =
+      let b = behind dids past in record {
+        steps = count_no is_step line.Par past _ refl c.steps;
+        arms = count_no is_arming line.Par past _ refl c.arms;
+        lives = count_no is_power line.Par past _ refl c.lives;
+        events = count_no is_event line.Par past _ refl c.events;
+        block = refl;
+        lanes = refl;
+        begun = or_true (ltb 0 (length b.parts) || ltb 0 (length b.lives));
+        config = c.config;
+        memory = c.memory;
+        blocks = c.blocks;
+        flash = c.flash;
+      }
+  more line.Lane past e c =
+      let b = behind dids past in
+      let same = same_some (λ (lanes : List (List Step)). lanes ++ [] ∷ []) b.block in record {
+        steps = count_no is_step line.Lane past _ refl c.steps;
+        arms = count_no is_arming line.Lane past _ refl c.arms;
+        lives = count_no is_power line.Lane past _ refl c.lives;
+        events = count_no is_event line.Lane past _ refl c.events;
+        block = same ∙ c.block;
+        lanes = lane_more b.block (lane_in_block b e) ∙ ap (λ n. n + 1) c.lanes;
+        begun = ap (λ under_way. ltb 0 (length b.parts) || ltb 0 (length b.lives) || under_way) same ∙ c.begun;
+        config = c.config;
+        memory = c.memory;
+        blocks = c.blocks;
+        flash = c.flash;
+      }
+  more line.End past e c =
+      let b = behind dids past in record {
+        steps = count_no is_step line.End past _ refl c.steps;
+        arms = count_no is_arming line.End past _ refl c.arms;
+        lives = count_no is_power line.End past _ refl c.lives;
+        events = count_no is_event line.End past _ refl c.events;
+        block = refl;
+        lanes = refl;
+        begun = begun_by_block b.block b.parts b.lives (end_of_lanes b e) ∙ c.begun;
         config = c.config;
         memory = c.memory;
         blocks = c.blocks;
@@ -238,7 +318,7 @@ module _ (dids : List DidUse) where
       }
 
 none_counted : (dids : List DidUse) → IsCounted dids []
-none_counted dids = record { steps = refl; arms = refl; lives = refl; events = refl; begun = refl; config = refl; memory = refl; blocks = refl; flash = refl }
+none_counted dids = record { steps = refl; arms = refl; lives = refl; events = refl; block = refl; lanes = refl; begun = refl; config = refl; memory = refl; blocks = refl; flash = refl }
 
 pub accepted_lines_are_counted : AcceptedLinesAreCounted
 accepted_lines_are_counted dids texts lines e =

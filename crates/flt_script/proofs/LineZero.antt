@@ -1,6 +1,6 @@
 -- Line 0 is told of a script that is too large, and of no other fault.
 use Rattle.std.proofs.Common.{◌≡◌, ℕ, ◌+◌, ◌<◌, ◌≤◌, zero, suc, List, [], ◌∷◌, ◌++◌, length, Bool, true, false, cond, ◌||◌, ltb, leb, if◌then◌else◌, Option, Some, None, Result, Ok, Err, refl, sym, ap, subst, ◌∙◌, arith, length-append}
-use Rattle.std.specs.Prelude.{◌≢◌, ◌↔◌, ℤ, pos, ◌≤ℤ◌, All, not, ◌==◌, is_none, find, slice_get, slice_index, option_to_list, unwrap_or}
+use Rattle.std.specs.Prelude.{◌≢◌, ◌↔◌, ℤ, pos, ◌≤ℤ◌, All, not, ◌==◌, is_some, is_none, find, slice_get, slice_index, option_to_list, unwrap_or}
 use Rattle.std.proofs.lemmas.Bool.{leb-false}
 use Rattle.std.proofs.lemmas.Int.{ints}
 use Rattle.std.proofs.lemmas.List.Elements.{All-append}
@@ -106,6 +106,9 @@ sound_added dids number b (line.Did event id) s some e =
     record { placed = rw same s.placed; few = rw same s.few; events = s.events; memory = s.memory; pages = s.pages; blocks = s.blocks }
 sound_added dids number b (line.Step step) s some e = record { placed = s.placed; few = s.few; events = s.events; memory = s.memory; pages = s.pages; blocks = s.blocks }
 sound_added dids number b line.Power s some e = record { placed = s.placed; few = s.few; events = s.events; memory = s.memory; pages = s.pages; blocks = s.blocks }
+sound_added dids number b line.Par s some e = record { placed = s.placed; few = s.few; events = s.events; memory = s.memory; pages = s.pages; blocks = s.blocks }
+sound_added dids number b line.Lane s some e = record { placed = s.placed; few = s.few; events = s.events; memory = s.memory; pages = s.pages; blocks = s.blocks }
+sound_added dids number b line.End s some e = record { placed = s.placed; few = s.few; events = s.events; memory = s.memory; pages = s.pages; blocks = s.blocks }
 
 -- ---- a fault of the configuration is told at a line
 
@@ -274,19 +277,29 @@ told_at_place b fault content (Ok config) is sound e = absurd cc
 told_at_place b fault content (Err f) is sound e =
     fault_of_line (line_of_fault b.places f) (cause.Config f) fault (fault_told b sound f (told_fault_is_first b.config f is)) (λ large. absurd cc) cc
 
-told_at_end : (b : Behind) (fault : ScriptFault) → IsSound b → ended b ≡ Err fault → IsOfLine fault
+-- A block that is not ended began at a line.
+some_line : (dids : List DidUse) (lines : List Line) → is_some (behind dids lines).block ≡ true → 0 < length lines
+some_line dids [] under_way = absurd cc
+some_line dids (l ∷ lines) under_way = omega arith
+
+told_at_end : (last : ℕ) (b : Behind) (under_way : Bool) (fault : ScriptFault) → is_some b.block ≡ under_way → (under_way ≡ true → 0 < last) → IsSound b → ended last b ≡ Err fault → IsOfLine fault
 unfolding ended
-told_at_end b fault sound e =
-    told_at_place b fault (λ (config : Config). record { config = config; lives = b.lives ++ b.parts ∷ [] }) (check_of b.config) refl sound e
+told_at_end last b true fault is some sound e =
+    let known = rw is at e in fault_of_line last cause.Block fault (some refl) (λ large. absurd cc) cc
+told_at_end last b false fault is some sound e =
+    let known = rw is at e in
+    told_at_place b fault (λ (config : Config). record { config = config; lives = b.lives ++ b.parts ∷ [] }) (check_of b.config) refl sound known
 
 told_of_lines : (dids : List DidUse) (texts : List (List ℕ)) (fault : ScriptFault) (read : Result (List Line) ScriptFault) → lines_behind dids [] texts ≡ read
-    → (read >>= λ lines. ended (behind dids lines)) ≡ Err fault → IsOfLine fault
+    → (read >>= λ lines. ended (length lines) (behind dids lines)) ≡ Err fault → IsOfLine fault
 told_of_lines dids texts fault (Err f) is e =
     let same : f ≡ fault = cc in told_at_line dids [] texts fault (is ∙ ap (λ (x : ScriptFault). Err x) same)
-told_of_lines dids texts fault (Ok lines) is e = told_at_end (behind dids lines) fault (sound_lines dids texts lines is) e
+told_of_lines dids texts fault (Ok lines) is e =
+    let b = behind dids lines in
+    told_at_end (length lines) b (is_some b.block) fault refl (some_line dids lines) (sound_lines dids texts lines is) e
 
 either_way : (dids : List DidUse) (bytes : List ℕ) (fault : ScriptFault) (large : Bool)
-    → (if large then Err (record { line = 0; cause = cause.Large }) else lines_behind dids [] (lines_of bytes) >>= λ lines. ended (behind dids lines)) ≡ Err fault
+    → (if large then Err (record { line = 0; cause = cause.Large }) else lines_behind dids [] (lines_of bytes) >>= λ lines. ended (length lines) (behind dids lines)) ≡ Err fault
     → (fault.line ≡ 0) ↔ (fault.cause ≡ cause.Large)
 either_way dids bytes fault true e =
     let large : ScriptFault = record { line = 0; cause = cause.Large } in

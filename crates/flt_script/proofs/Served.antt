@@ -1,6 +1,6 @@
 -- Each data identifier that an event uses is in the table, with its width.
-use Rattle.std.proofs.Common.{◌≡◌, ℕ, zero, suc, List, [], ◌∷◌, ◌==◌, Option, Some, None, Result, Ok, Err, refl, sym, subst, ◌∙◌, arith}
-use Rattle.std.specs.Prelude.{IfSome, IfOk, find, slice_get, option_to_list, All}
+use Rattle.std.proofs.Common.{◌≡◌, ℕ, zero, suc, List, [], ◌∷◌, ◌==◌, Bool, true, false, Option, Some, None, Result, Ok, Err, refl, sym, subst, ◌∙◌, arith}
+use Rattle.std.specs.Prelude.{IfSome, IfOk, is_some, find, slice_get, option_to_list, All}
 use Rattle.std.proofs.lemmas.List.Elements.{All-append, All-set}
 use Rattle.flt_config.specs.declared.config.Config.{Config}
 use Rattle.flt_config.specs.declared.config.CfgFault.{CfgFault}
@@ -107,18 +107,23 @@ serves dids (line.Did event id ∷ past) =
     serves-with_use_at dids id events event (slice_get events event) refl (serves dids past)
 serves dids (line.Step step ∷ past) = serves dids past
 serves dids (line.Power ∷ past) = serves dids past
+serves dids (line.Par ∷ past) = serves dids past
+serves dids (line.Lane ∷ past) = serves dids past
+serves dids (line.End ∷ past) = serves dids past
 
 -- What is accepted is what the lines configure.
-ended_config : (b : Behind) (checked : Result Config CfgFault) (given : Content) → check_of b.config ≡ checked → ended b ≡ Ok given → given.config ≡ b.config
+ended_config : (last : ℕ) (b : Behind) (under_way : Bool) (checked : Result Config CfgFault) (given : Content) → is_some b.block ≡ under_way → check_of b.config ≡ checked
+    → ended last b ≡ Ok given → given.config ≡ b.config
 unfolding ended
-ended_config b (Ok config) given e is =
-    let known = rw e at is in
+ended_config last b true checked given under_way e is = let known = rw under_way at is in absurd cc
+ended_config last b false (Ok config) given under_way e is =
+    let known = rw (under_way, e) at is in
     let same : config ≡ given.config = cc in
     sym same ∙ same_config b.config config e
-ended_config b (Err fault) given e is = let known = rw e at is in absurd cc
+ended_config last b false (Err fault) given under_way e is = let known = rw (under_way, e) at is in absurd cc
 
-pub served : (dids : List DidUse) (b : Behind) (lines : List Line) (result : Result Script ParseFault) → b ≡ behind dids lines
-    → Gives content fault_of result (ended b) → IfOk result (λ script. Serves dids script.config.events.items)
-served dids b lines (Err fault) stands given = tt
-served dids b lines (Ok script) stands given =
-    rw (ended_config b (check_of b.config) (content script) refl given, stands) (serves dids lines)
+pub served : (dids : List DidUse) (last : ℕ) (b : Behind) (lines : List Line) (result : Result Script ParseFault) → b ≡ behind dids lines
+    → Gives content fault_of result (ended last b) → IfOk result (λ script. Serves dids script.config.events.items)
+served dids last b lines (Err fault) stands given = tt
+served dids last b lines (Ok script) stands given =
+    rw (ended_config last b (is_some b.block) (check_of b.config) (content script) refl refl given, stands) (serves dids lines)

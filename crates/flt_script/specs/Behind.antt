@@ -1,5 +1,6 @@
 -- What the lines before a line gave, none of which was refused: nothing at first, and then what each line adds.
-use Rattle.std.specs.Prelude.{ℕ, ◌+◌, List, [], ◌∷◌, ◌++◌, length, Bool, Option, Some, None, option_map, option_to_list, nat_lt, nat_le, ◌&&◌, ◌||◌, if◌then◌else◌, find, slice_get, slice_set}
+use Rattle.std.specs.Prelude.{ℕ, ◌+◌, List, [], ◌∷◌, ◌++◌, length, Bool, true, false, Option, Some, None, is_some, option_map, option_to_list, nat_lt, nat_le, ◌&&◌, ◌||◌, if◌then◌else◌, find, slice_get, slice_set}
+use Rattle.std.proofs.Common.{inl, inr}
 use Rattle.flt_config.specs.declared.config.Config.{Config}
 use Rattle.flt_config.specs.declared.config.DidUse.{DidUse}
 use Rattle.flt_config.specs.declared.config.EventCfg.{EventCfg}
@@ -15,20 +16,21 @@ use Rattle.flt_script.specs.declared.line.Line.TheVariants as line
 use Rattle.flt_script.specs.declared.places.Places.{Places}
 use Rattle.flt_script.specs.declared.step.Step.{Step}
 use Rattle.flt_script.specs.declared.step.Step.TheVariants as step
-use Rattle.flt_script.specs.declared.step.Part.{Part}
-use Rattle.flt_script.specs.declared.step.Part.TheVariants.{One}
 use Rattle.flt_script.specs.Event.{event_held}
 use Rattle.flt_script.specs.Gives.{◌⇒◌, given_by}
 use Rattle.flt_script.specs.Numeral.{below, up_to, from_to}
+use Rattle.flt_script.specs.Part.{PartOf}
 use Rattle.flt_script.specs.Step.{arm_count}
 
 -- All that the rules for the next line look at: what is configured and by which lines, the lives that were ended, the
--- parts of the life under way, and how many steps, and how many of cut, fault and mute, stand in all lives together.
+-- parts of the life under way, the lanes of the block under way, if there is one, and how many steps, and how many of cut,
+-- fault and mute, stand in all lives together.
 pub record Behind : Type 0 where
   pub config : Config
   pub places : Places
-  pub lives : List (List Part)
-  pub parts : List Part
+  pub lives : List (List (PartOf Step))
+  pub parts : List (PartOf Step)
+  pub block : Option (List (List Step))
   pub steps : ℕ
   pub arms : ℕ
 
@@ -42,15 +44,25 @@ no_places = record { config = None; memory = None; blocks = None; flash = None; 
 
 -- No line.
 abbrev pub blank : Behind
-blank = record { config = default_config; places = no_places; lives = []; parts = []; steps = 0; arms = 0 }
+blank = record { config = default_config; places = no_places; lives = []; parts = []; block = None; steps = 0; arms = 0 }
 
 -- How many events are configured.
 abbrev pub event_count : Behind → ℕ
 event_count b = length b.config.events.items
 
--- A step or the end of a life stands already.
+-- A step, the end of a life or the beginning of a block stands already.
 abbrev pub has_begun : Behind → Bool
-has_begun b = nat_lt 0 (length b.parts) || nat_lt 0 (length b.lives)
+has_begun b = nat_lt 0 (length b.parts) || nat_lt 0 (length b.lives) || is_some b.block
+
+-- How many lanes the block under way has, 0 where there is none.
+abbrev pub lane_count : Option (List (List Step)) → ℕ
+lane_count block = given_by block 0 length
+
+-- A lane is under way.
+abbrev pub has_lane : Option (List (List Step)) → Bool
+has_lane None = false
+has_lane (Some []) = false
+has_lane (Some (lane ∷ lanes)) = true
 
 -- The data identifiers that the event of this number uses.
 abbrev pub uses_of : ℕ → List EventCfg → List DidUse
@@ -86,6 +98,17 @@ step_of config (Arming arm) = option_map step.Arming (arm_of arm)
 abbrev pub arms_with : Behind → StepLine → ℕ
 arms_with b step = b.arms + given_by (step_of b.config step) 0 arm_count
 
+-- A step more in the last lane, if there is one.
+abbrev pub in_last_lane : Option Step → List (List Step) → List (List Step)
+in_last_lane step [] = []
+in_last_lane step (lane ∷ []) = (lane ++ option_to_list step) ∷ []
+in_last_lane step (lane ∷ next ∷ lanes) = lane ∷ in_last_lane step (next ∷ lanes)
+
+-- A step more behind the parts of a life, unless it stands in a block.
+abbrev pub with_step : Option (List (List Step)) → Option Step → List (PartOf Step) → List (PartOf Step)
+with_step None step parts = parts ++ option_to_list (option_map inl step)
+with_step (Some lanes) step parts = parts
+
 -- What one more line adds, with these data identifiers in the table. The line's number is counted from 1.
 unfoldable pub added : List DidUse → ℕ → Behind → Line → Behind
 added dids number b line.Skipped = b
@@ -104,11 +127,15 @@ added dids number b (line.Event event) = record b {
 added dids number b (line.Did event id) =
     record b { config = record b.config { events = record { items = with_use_at event (find (is_did id) dids) b.config.events.items } } }
 added dids number b (line.Step step) = record b {
-  parts = b.parts ++ option_to_list (option_map One (step_of b.config step));
+  parts = with_step b.block (step_of b.config step) b.parts;
+  block = option_map (in_last_lane (step_of b.config step)) b.block;
   steps = b.steps + 1;
   arms = arms_with b step;
 }
 added dids number b line.Power = record b { lives = b.lives ++ b.parts ∷ []; parts = [] }
+added dids number b line.Par = record b { block = Some [] }
+added dids number b line.Lane = record b { block = option_map (λ lanes. lanes ++ [] ∷ []) b.block }
+added dids number b line.End = record b { parts = b.parts ++ option_to_list (option_map inr b.block); block = None }
 
 -- What these lines gave, the newest first, with these data identifiers in the table.
 abbrev pub behind : List DidUse → List Line → Behind

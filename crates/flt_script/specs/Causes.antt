@@ -12,19 +12,19 @@ use Rattle.flt_script.specs.declared.event.DebounceLine.{DebounceLine}
 use Rattle.flt_script.specs.declared.event.DebounceLine.TheVariants.{Counter, Time}
 use Rattle.flt_script.specs.declared.event.EventLine.{EventLine}
 use Rattle.flt_script.specs.declared.fault.LineCause.{LineCause}
-use Rattle.flt_script.specs.declared.fault.LineCause.TheVariants.{Long, Byte, Word, Form, Order, Range, Many, Did}
+use Rattle.flt_script.specs.declared.fault.LineCause.TheVariants.{Long, Byte, Word, Form, Order, Range, Many, Block, Did}
 use Rattle.flt_script.specs.declared.line.Line.{Line}
 use Rattle.flt_script.specs.declared.line.Line.TheVariants as line
 use Rattle.flt_script.specs.declared.line.StepLine.{StepLine}
 use Rattle.flt_script.specs.declared.line.StepLine.TheVariants.{Report, Show, Cycle, Tick, Signal, Request, Save, Arming}
-use Rattle.flt_script.specs.Behind.{Behind, event_count, has_begun, uses_of}
+use Rattle.flt_script.specs.Behind.{Behind, event_count, has_begun, lane_count, has_lane, uses_of}
 use Rattle.flt_script.specs.Gives.{◌⇒◌}
 use Rattle.flt_script.specs.Line.{spelling, keywords, keyword_of, line_with, is_comment}
 use Rattle.flt_script.specs.Text.{words_of}
 
 -- The causes of a line in the order of the table.
 abbrev pub causes : List LineCause
-causes = Long ∷ Byte ∷ Word ∷ Form ∷ Order ∷ Range ∷ Many ∷ Did ∷ []
+causes = Long ∷ Byte ∷ Word ∷ Form ∷ Order ∷ Range ∷ Many ∷ Block ∷ Did ∷ []
 
 -- A byte that is no tab, no space and no visible character of ASCII.
 abbrev pub is_strange : ℕ → Bool
@@ -114,14 +114,30 @@ abbrev pub arms_written : StepLine → ℕ
 arms_written (Arming arm) = 1
 arms_written _ = 0
 
--- It is the 65th event, the ninth data identifier of an event, the 65,537th step, the 65th of cut, fault and mute, or the
--- end of the 256th life.
+-- It is the 65th event, the ninth data identifier of an event, the ninth lane of a block, the 65,537th step, the 65th of cut,
+-- fault and mute, or the end of the 256th life.
 abbrev pub is_one_too_many : Behind → Line → Bool
 is_one_too_many b (line.Event event) = nat_le 64 (event_count b)
 is_one_too_many b (line.Did event id) = nat_le 8 (length (uses_of event b.config.events.items))
 is_one_too_many b (line.Step step) = nat_le 65536 b.steps || nat_lt 64 (b.arms + arms_written step)
 is_one_too_many b line.Power = nat_le 256 (length b.lives + 1)
+is_one_too_many b line.Lane = nat_le 8 (lane_count b.block)
 is_one_too_many b _ = false
+
+-- A step that stands in no lane: save, cut, fault and mute.
+abbrev pub is_for_no_lane : StepLine → Bool
+is_for_no_lane Save = true
+is_for_no_lane (Arming arm) = true
+is_for_no_lane _ = false
+
+-- In a block stand only its lanes, with steps that may stand there, and its end behind a lane; a lane and an end stand nowhere else.
+abbrev pub is_misplaced : Behind → Line → Bool
+is_misplaced b (line.Step step) = is_some b.block && (not (has_lane b.block) || is_for_no_lane step)
+is_misplaced b line.Power = is_some b.block
+is_misplaced b line.Par = is_some b.block
+is_misplaced b line.Lane = is_none b.block
+is_misplaced b line.End = is_none b.block || not (has_lane b.block)
+is_misplaced b _ = false
 
 -- The table has not the data identifier.
 abbrev pub is_did_unknown : List DidUse → Line → Bool
@@ -142,10 +158,11 @@ holds dids b text Form = is_none (line_said (words_of text))
 holds dids b text Order = on_line (λ line. configures line && has_begun b || is_set_already b line || has_wrong_event b line) (line_said (words_of text))
 holds dids b text Range = on_line (is_out_of_range b.config) (line_said (words_of text))
 holds dids b text Many = on_line (is_one_too_many b) (line_said (words_of text))
+holds dids b text Block = on_line (is_misplaced b) (line_said (words_of text))
 holds dids b text Did = on_line (is_did_unknown dids) (line_said (words_of text))
 holds dids b text _ = false
 
 -- The cause that is told, if one is.
 abbrev pub cause_told : Result Line LineCause → Option LineCause
-cause_told (Ok line) = None
+cause_told (Ok said) = None
 cause_told (Err cause) = Some cause

@@ -1,11 +1,11 @@
 -- What the lines before a line gave, told by the lines themselves: how many of a kind there are, and whether one stands.
-use Rattle.std.specs.Prelude.{◌≡◌, List, length, count_by, Bool, true, false, is_some}
+use Rattle.std.specs.Prelude.{◌≡◌, ℕ, ◌+◌, List, [], ◌∷◌, length, count_by, Bool, true, false, is_some}
 use Rattle.std.specs.List.{list_any}
 use Rattle.flt_config.specs.declared.config.DidUse.{DidUse}
 use Rattle.flt_script.specs.declared.line.Line.{Line}
 use Rattle.flt_script.specs.declared.line.Line.TheVariants as line
 use Rattle.flt_script.specs.declared.line.StepLine.TheVariants.{Arming}
-use Rattle.flt_script.specs.Behind.{behind, event_count, has_begun}
+use Rattle.flt_script.specs.Behind.{behind, event_count, has_begun, lane_count}
 
 -- A step.
 abbrev pub is_step : Line → Bool
@@ -22,10 +22,11 @@ abbrev pub is_power : Line → Bool
 is_power line.Power = true
 is_power _ = false
 
--- A step or the end of a life.
+-- A step, the end of a life or the beginning of a block.
 abbrev pub is_done : Line → Bool
 is_done (line.Step step) = true
 is_done line.Power = true
+is_done line.Par = true
 is_done _ = false
 
 -- An event.
@@ -50,12 +51,29 @@ abbrev pub is_flash : Line → Bool
 is_flash (line.Flash sectors pages) = true
 is_flash _ = false
 
+-- Of par and end the newest is a par: a block is under way.
+abbrev pub is_block_open : List Line → Bool
+is_block_open [] = false
+is_block_open (line.Par ∷ past) = true
+is_block_open (line.End ∷ past) = false
+is_block_open (_ ∷ past) = is_block_open past
+
+-- How many lanes stand behind the newest par or end.
+abbrev pub lanes_in_block : List Line → ℕ
+lanes_in_block [] = 0
+lanes_in_block (line.Par ∷ past) = 0
+lanes_in_block (line.End ∷ past) = 0
+lanes_in_block (line.Lane ∷ past) = lanes_in_block past + 1
+lanes_in_block (_ ∷ past) = lanes_in_block past
+
 -- What is kept of these lines says how many there are of each kind.
 pub record IsCounted (dids : List DidUse) (past : List Line) : Type 0 where
   pub steps : (behind dids past).steps ≡ count_by is_step past
   pub arms : (behind dids past).arms ≡ count_by is_arming past
   pub lives : length (behind dids past).lives ≡ count_by is_power past
   pub events : event_count (behind dids past) ≡ count_by is_event past
+  pub block : is_some (behind dids past).block ≡ is_block_open past
+  pub lanes : lane_count (behind dids past).block ≡ lanes_in_block past
   pub begun : has_begun (behind dids past) ≡ list_any is_done past
   pub config : is_some (behind dids past).places.config ≡ list_any is_config past
   pub memory : is_some (behind dids past).places.memory ≡ list_any is_memory past

@@ -4,7 +4,7 @@ use Rattle.std.specs.Fmt.{decimal}
 use Rattle.flt_config.specs.declared.config.CfgFault.TheVariants.{DtcTwice, NoRoom}
 use Rattle.flt_config.specs.declared.config.CfgFault.TheVariants as faults
 use Rattle.flt_script.specs.declared.fault.LineCause.{LineCause}
-use Rattle.flt_script.specs.declared.fault.LineCause.TheVariants.{Large, Long, Byte, Word, Form, Order, Range, Many, Did, Config}
+use Rattle.flt_script.specs.declared.fault.LineCause.TheVariants.{Large, Long, Byte, Word, Form, Order, Range, Many, Block, Did, Config}
 use Rattle.flt_script.specs.declared.fault.ParseFault.{ParseFault}
 use Rattle.flt_script.specs.declared.fault.ParseFault.TheVariants.{Memory, At}
 use Rattle.flt_script.specs.declared.fault.ScriptFault.{ScriptFault}
@@ -20,6 +20,7 @@ cause_text Form = codes "form"
 cause_text Order = codes "order"
 cause_text Range = codes "range"
 cause_text Many = codes "many"
+cause_text Block = codes "block"
 cause_text Did = codes "did"
 cause_text (Config (faults.Range event field value)) = codes "range"
 cause_text (Config (DtcTwice first second)) = with_two_numbers (codes "twice") first second

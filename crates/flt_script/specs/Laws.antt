@@ -1,10 +1,11 @@
 -- What the definitions come to.
-use Rattle.std.specs.Prelude.{◌≡◌, ◌↔◌, ℕ, ◌/◌, ◌%◌, ◌^◌, ◌<◌, ◌≤◌, ◌⊎◌, List, [], ◌∷◌, ◌++◌, length, codes, Bool, true, false, ◌&&◌, ◌||◌, nat_le, nat_lt, Some, None, Ok, Err}
+use Rattle.std.specs.Prelude.{◌≡◌, ◌↔◌, map, ℕ, ◌/◌, ◌%◌, ◌^◌, ◌<◌, ◌≤◌, ◌⊎◌, List, [], ◌∷◌, ◌++◌, length, codes, Bool, true, false, ◌&&◌, ◌||◌, nat_le, nat_lt, Some, None, Ok, Err}
 use Rattle.std.specs.List.{find, list_all}
 use Rattle.flt_config.specs.declared.config.Config.{Config}
 use Rattle.flt_config.specs.declared.config.DidUse.{DidUse}
 use Rattle.flt_flash.specs.declared.arm.Arm.{Arm}
 use Rattle.flt_flash.specs.State.{CanArm}
+use Rattle.flt_model.specs.declared.call.Report.TheVariants.{Failed, PrePassed, PreFailed}
 use Rattle.flt_script.specs.declared.fault.LineCause.TheVariants.{Large}
 use Rattle.flt_script.specs.declared.fault.ScriptFault.{ScriptFault}
 use Rattle.flt_script.specs.declared.line.StepLine.{StepLine}
@@ -19,6 +20,7 @@ use Rattle.flt_script.specs.Causes.{causes, holds, cause_told}
 use Rattle.flt_script.specs.Counts.{IsCounted}
 use Rattle.flt_script.specs.Event.{stands, event_of}
 use Rattle.flt_script.specs.Line.{line_of}
+use Rattle.flt_script.specs.Load.{load_number, load_lanes}
 use Rattle.flt_script.specs.Pair.{any_twice}
 use Rattle.flt_script.specs.Refusal.{line_behind}
 use Rattle.flt_script.specs.Script.{Content, lines_behind, script_of}
@@ -74,7 +76,8 @@ abbrev pub LineZeroIsLarge : Type 0
 LineZeroIsLarge =
     (dids : List DidUse) (bytes : List ℕ) (fault : ScriptFault) → IsFaulty dids bytes fault → (fault.line ≡ 0) ↔ (fault.cause ≡ Large)
 
--- The kept counts and settings of lines that were not refused are how many there are of each kind, and which stand.
+-- The kept counts and settings of lines that were not refused are how many there are of each kind, which stand, and whether a
+-- block is under way.
 abbrev pub AcceptedLinesAreCounted : Type 0
 AcceptedLinesAreCounted =
     (dids : List DidUse) (texts : List (List ℕ)) (lines : List Line) → lines_behind dids [] texts ≡ Ok lines → IsCounted dids lines
@@ -99,3 +102,9 @@ pub record OddEventsAreRefused : Type 0 where
   pub no_dtc : (number : List ℕ) (pairs : List (List ℕ)) → stands Dtc pairs ≡ false → event_of (number ∷ pairs) ≡ None
   pub both : (number : List ℕ) (pairs : List (List ℕ)) → stands Time pairs ≡ true
       → (stands Count pairs || stands JumpUp pairs || stands JumpDown pairs) ≡ true → event_of (number ∷ pairs) ≡ None
+
+-- A load of four reports, one of each lane: fail 1, prepass 6, prefail 11 and prefail 15.
+pub record LoadOfFour : Type 0 where
+  pub numbers : map (load_number 4) (1 ∷ 2 ∷ 3 ∷ 4 ∷ []) ≡ 119106029 ∷ 1583775778 ∷ 687545011 ∷ 243210352 ∷ []
+  pub steps : load_lanes 4 ≡
+      (step.Report 1 Failed ∷ []) ∷ (step.Report 6 PrePassed ∷ []) ∷ (step.Report 11 PreFailed ∷ []) ∷ (step.Report 15 PreFailed ∷ []) ∷ []

@@ -43,12 +43,16 @@ spelling keyword.Power = codes "power"
 spelling keyword.Cut = codes "cut"
 spelling keyword.Fault = codes "fault"
 spelling keyword.Mute = codes "mute"
+spelling keyword.Par = codes "par"
+spelling keyword.Lane = codes "lane"
+spelling keyword.End = codes "end"
 
 -- The table of lines.
 abbrev pub keywords : List Keyword
 keywords = keyword.Pass ∷ keyword.Fail ∷ keyword.PrePass ∷ keyword.PreFail ∷ keyword.Show ∷ keyword.Cycle ∷ keyword.Tick
     ∷ keyword.Signal ∷ keyword.Request ∷ keyword.Event ∷ keyword.Did ∷ keyword.Config ∷ keyword.Memory ∷ keyword.Blocks ∷ keyword.Flash
-    ∷ keyword.Save ∷ keyword.Power ∷ keyword.Cut ∷ keyword.Fault ∷ keyword.Mute ∷ []
+    ∷ keyword.Save ∷ keyword.Power ∷ keyword.Cut ∷ keyword.Fault ∷ keyword.Mute
+    ∷ keyword.Par ∷ keyword.Lane ∷ keyword.End ∷ []
 
 -- The keyword that a word spells.
 unfoldable pub keyword_of : List ℕ → Option Keyword
@@ -75,8 +79,8 @@ number_and_pattern _ = None
 
 -- The line, where no word is left.
 abbrev pub alone : Line → List (List ℕ) → Option Line
-alone line [] = Some line
-alone line (word ∷ words) = None
+alone said [] = Some said
+alone said (word ∷ words) = None
 
 -- An event, and a data identifier for its frames in four hexadecimal digits.
 unfoldable pub did_with : List (List ℕ) → Option Line
@@ -108,6 +112,9 @@ line_with keyword.Blocks words = option_map line.Blocks (only number words)
 line_with keyword.Flash words = option_map (λ numbers. line.Flash numbers.0 numbers.1) (two_numbers words)
 line_with keyword.Save words = alone (line.Step step.Save) words
 line_with keyword.Power words = alone line.Power words
+line_with keyword.Par words = alone line.Par words
+line_with keyword.Lane words = alone line.Lane words
+line_with keyword.End words = alone line.End words
 line_with keyword.Cut words = option_map (λ torn. line.Step (step.Arming (arm.Cut torn.0 torn.1))) (number_and_pattern words)
 line_with keyword.Fault words = option_map (λ torn. line.Step (step.Arming (arm.Fault torn.0 torn.1))) (number_and_pattern words)
 line_with keyword.Mute words = option_map (λ numbers. line.Step (step.Arming (arm.Mute numbers.0 numbers.1 numbers.2))) (three_numbers words)

@@ -1,24 +1,28 @@
 -- One more line, as the reader of the script takes it. This serves the proof; the manual is Line, Behind, Refusal and Script.
-use Rattle.std.specs.Prelude.{ℕ, List, Option, Some, None, map, option_map, Result}
+use Rattle.std.specs.Prelude.{ℕ, List, Option, Some, None, map, option_map, Result, Ok, Err, if◌then◌else◌}
 use Rattle.flt_config.specs.declared.config.DidUse.{DidUse}
 use Rattle.flt_script.specs.declared.draft.Draft.{Draft}
 use Rattle.flt_script.specs.declared.fault.LineCause.{LineCause}
+use Rattle.flt_script.specs.declared.fault.LineCause.TheVariants.{Block}
 use Rattle.flt_script.specs.declared.fault.LineFault.{LineFault}
 use Rattle.flt_script.specs.declared.fault.LineFault.TheVariants as line_faults
 use Rattle.flt_script.specs.declared.fault.ScriptFault.{ScriptFault}
 use Rattle.flt_script.specs.declared.line.Line.{Line}
-use Rattle.flt_script.specs.Behind.{Behind, added}
+use Rattle.flt_script.specs.declared.step.Step.{Step}
+use Rattle.flt_script.specs.Behind.{Behind, added, in_last_lane}
 use Rattle.flt_script.specs.Gives.{◌>>=◌}
 use Rattle.flt_script.specs.Line.{line_of}
-use Rattle.flt_script.specs.Refusal.{refusal, unless_refused}
+use Rattle.flt_script.specs.Part.{parts_of}
+use Rattle.flt_script.specs.Refusal.{refusal, unless_refused, is_step_misplaced}
 
 -- A draft without where it lies in memory.
 abbrev pub state : Draft → Behind
 state draft = record {
   config = draft.config;
   places = draft.places;
-  lives = map (λ life. life.items) draft.lives.items;
-  parts = draft.parts.items;
+  lives = map (λ life. parts_of life.items) draft.lives.items;
+  parts = parts_of draft.parts.items;
+  block = option_map (λ lanes. map (λ lane. lane.items) lanes.items) draft.block;
   steps = draft.steps;
   arms = draft.arms;
 }
@@ -30,6 +34,10 @@ with_line dids number b line = unless_refused (refusal dids b line) (added dids 
 -- The same of a line's text.
 unfoldable pub with_text : List DidUse → ℕ → Behind → List ℕ → Result Behind LineCause
 with_text dids number b text = line_of text >>= λ line. with_line dids number b line
+
+-- The lanes of a block with a step more, or that it may not stand there.
+abbrev pub with_lane_step : Step → List (List Step) → Result (List (List Step)) LineCause
+with_lane_step step lanes = if is_step_misplaced (Some lanes) step then Err Block else Ok (in_last_lane (Some step) lanes)
 
 -- What a line's fault tells, where it is not want of memory.
 abbrev pub cause_of : LineFault → Option LineCause

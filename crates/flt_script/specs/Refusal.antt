@@ -1,17 +1,19 @@
 -- A line against the lines before it: why it may not stand there.
-use Rattle.std.specs.Prelude.{ℕ, ◌+◌, List, [], ◌∷◌, length, find, Bool, ◌==◌, ◌||◌, nat_lt, nat_le, not, is_some, is_none, Option, Some, None, Result, Ok, Err, if◌then◌else◌}
+use Rattle.std.specs.Prelude.{ℕ, ◌+◌, List, [], ◌∷◌, length, find, Bool, true, false, ◌==◌, ◌||◌, nat_lt, nat_le, not, is_some, is_none, Option, Some, None, Result, Ok, Err, if◌then◌else◌}
 use Rattle.flt_config.specs.declared.config.DidUse.{DidUse}
 use Rattle.flt_did.specs.Rows.{is_did}
 use Rattle.flt_script.specs.declared.fault.LineCause.{LineCause}
-use Rattle.flt_script.specs.declared.fault.LineCause.TheVariants.{Order, Range, Many, Did}
+use Rattle.flt_script.specs.declared.fault.LineCause.TheVariants.{Order, Range, Many, Block, Did}
 use Rattle.flt_script.specs.declared.event.EventLine.{EventLine}
 use Rattle.flt_script.specs.declared.line.StepLine.{StepLine}
 use Rattle.flt_script.specs.declared.line.Line.{Line}
 use Rattle.flt_script.specs.declared.line.Line.TheVariants as line
-use Rattle.flt_script.specs.Behind.{Behind, behind, event_count, has_begun, uses_of, step_of, arms_with}
+use Rattle.flt_script.specs.declared.step.Step.{Step}
+use Rattle.flt_script.specs.Behind.{Behind, behind, event_count, has_begun, lane_count, has_lane, uses_of, step_of, arms_with}
 use Rattle.flt_script.specs.Event.{event_held}
-use Rattle.flt_script.specs.Gives.{◌>>=◌}
+use Rattle.flt_script.specs.Gives.{◌>>=◌, given_by}
 use Rattle.flt_script.specs.Line.{line_of}
+use Rattle.flt_script.specs.Step.{is_lane_step}
 
 -- The cause of the first test that holds.
 abbrev pub first_cause : List (Bool × LineCause) → Option LineCause
@@ -44,15 +46,38 @@ did_refusal dids b event id = first_cause (
     (nat_le 8 (length (uses_of event b.config.events.items)), Many) ∷
     (is_none (find (is_did id) dids), Did) ∷ [])
 
--- A step, of at most 65,536, of which at most 64 are cut, fault or mute.
+-- A step between the beginning of a block and its first lane, or in a lane one that may not stand there.
+abbrev pub is_step_misplaced : Option (List (List Step)) → Step → Bool
+is_step_misplaced None step = false
+is_step_misplaced (Some []) step = true
+is_step_misplaced (Some (lane ∷ lanes)) step = not (is_lane_step step)
+
+-- A step, of at most 65,536, of which at most 64 are cut, fault or mute, where it may stand.
 unfoldable pub step_refusal : Behind → StepLine → Option LineCause
 step_refusal b step = first_cause (
     (is_none (step_of b.config step), Range) ∷
-    (nat_le 65536 b.steps || nat_lt 64 (arms_with b step), Many) ∷ [])
+    (nat_le 65536 b.steps || nat_lt 64 (arms_with b step), Many) ∷
+    (given_by (step_of b.config step) false (is_step_misplaced b.block), Block) ∷ [])
 
--- The end of a life, of at most 256 with the life that begins then.
+-- The end of a life, of at most 256 with the life that begins then, in no block.
 unfoldable pub power_refusal : Behind → Option LineCause
-power_refusal b = first_cause ((nat_le 256 (length b.lives + 1), Many) ∷ [])
+power_refusal b = first_cause (
+    (nat_le 256 (length b.lives + 1), Many) ∷
+    (is_some b.block, Block) ∷ [])
+
+-- The beginning of a block, in no other.
+unfoldable pub par_refusal : Behind → Option LineCause
+par_refusal b = first_cause ((is_some b.block, Block) ∷ [])
+
+-- The beginning of a lane, of at most 8 of a block.
+unfoldable pub lane_refusal : Behind → Option LineCause
+lane_refusal b = first_cause (
+    (nat_le 8 (lane_count b.block), Many) ∷
+    (is_none b.block, Block) ∷ [])
+
+-- The end of a block, which has a lane.
+unfoldable pub end_refusal : Behind → Option LineCause
+end_refusal b = first_cause ((not (has_lane b.block), Block) ∷ [])
 
 -- Why a line may not stand behind these lines, row by row.
 unfoldable pub refusal : List DidUse → Behind → Line → Option LineCause
@@ -65,6 +90,9 @@ refusal dids b (line.Event event) = event_refusal b event
 refusal dids b (line.Did event id) = did_refusal dids b event id
 refusal dids b (line.Step step) = step_refusal b step
 refusal dids b line.Power = power_refusal b
+refusal dids b line.Par = par_refusal b
+refusal dids b line.Lane = lane_refusal b
+refusal dids b line.End = end_refusal b
 
 -- A value, unless there is a cause to refuse it.
 abbrev pub unless_refused : {A : Type 0} → Option LineCause → A → Result A LineCause

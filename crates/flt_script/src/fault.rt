@@ -21,14 +21,17 @@ pub enum LineCause {
     Word,
     /// The words behind the first are not as its kind of line has them.
     Form,
-    /// It configures behind a step or a `power`, or what is set already, or an event whose number is not the next, or a data
-    /// identifier of an event that is not there yet.
+    /// It configures behind a step, a `power` or a `par`, or what is set already, or an event whose number is not the next, or a
+    /// data identifier of an event that is not there yet.
     Order,
     /// A number of a step is out of its range, or one that configures is too large for its type.
     Range,
-    /// It is the 65th event, the ninth data identifier of an event, or the 65,537th step, it begins the 257th life, or it is
-    /// the 65th of `cut`, `fault` and `mute` together.
+    /// It is the 65th event, the ninth data identifier of an event, the ninth lane of a block, or the 65,537th step, it begins
+    /// the 257th life, or it is the 65th of `cut`, `fault` and `mute` together.
     Many,
+    /// It is a `lane` or an `end` outside a block, an `end` of a block without a lane, a step between `par` and the first `lane`,
+    /// or, in a block, one of `power`, `par`, `save`, `cut`, `fault` and `mute`; or it is the last line and the block is not ended.
+    Block,
     /// It names a data identifier that the table does not have.
     Did,
     /// No line is faulty by itself or by its order, but the configuration that they write is refused. It is told at the
@@ -69,6 +72,7 @@ impl fmt::Display for LineCause {
             LineCause::Order => write!(f, "order"),
             LineCause::Range | LineCause::Config(CfgFault::Range { .. }) => write!(f, "range"),
             LineCause::Many => write!(f, "many"),
+            LineCause::Block => write!(f, "block"),
             LineCause::Did => write!(f, "did"),
             LineCause::Config(CfgFault::DtcTwice { first, second }) => {
                 write!(f, "twice {first} {second}")

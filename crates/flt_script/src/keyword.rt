@@ -24,9 +24,12 @@ pub(crate) enum Keyword {
     Cut,
     Fault,
     Mute,
+    Par,
+    Lane,
+    End,
 }
 
-const KEYWORDS: [Keyword; 20] = [
+const KEYWORDS: [Keyword; 23] = [
     Keyword::Pass,
     Keyword::Fail,
     Keyword::PrePass,
@@ -47,6 +50,9 @@ const KEYWORDS: [Keyword; 20] = [
     Keyword::Cut,
     Keyword::Fault,
     Keyword::Mute,
+    Keyword::Par,
+    Keyword::Lane,
+    Keyword::End,
 ];
 
 fn spelling(keyword: Keyword) -> &'static [u8]
@@ -73,6 +79,9 @@ fn spelling(keyword: Keyword) -> &'static [u8]
         Keyword::Cut => b"cut",
         Keyword::Fault => b"fault",
         Keyword::Mute => b"mute",
+        Keyword::Par => b"par",
+        Keyword::Lane => b"lane",
+        Keyword::End => b"end",
     }
 }
 

@@ -1,5 +1,5 @@
 //! What the definitions come to.
-ghost use Rattle.flt_script.specs.Laws.{EachHasOneOutcome, PrintedStepIsReadAgain, EachArmCanBeMade, FirstCauseIsTold, LineZeroIsLarge, AcceptedLinesAreCounted, WrittenSettingsAreRead, OddEventsAreRefused};
+ghost use Rattle.flt_script.specs.Laws.{EachHasOneOutcome, PrintedStepIsReadAgain, EachArmCanBeMade, FirstCauseIsTold, LineZeroIsLarge, AcceptedLinesAreCounted, WrittenSettingsAreRead, OddEventsAreRefused, LoadOfFour};
 
 /// Any bytes are one script or have one fault, and never both.
 pub fn each_has_one_outcome()
@@ -26,8 +26,8 @@ pub fn line_zero_is_large()
     ensures { LineZeroIsLarge }
 {}
 
-/// What is kept of lines that were not refused, for the refusal of the next one, is how many there are of each kind, and
-/// which stand.
+/// What is kept of lines that were not refused, for the refusal of the next one, is how many there are of each kind, which
+/// stand, and whether a block is under way and how many lanes it has.
 pub fn accepted_lines_are_counted()
     ensures { AcceptedLinesAreCounted }
 {}
@@ -41,4 +41,9 @@ pub fn written_settings_are_read()
 /// `count`, `jumpup` or `jumpdown`.
 pub fn odd_events_are_refused()
     ensures { OddEventsAreRefused }
+{}
+
+/// The numbers and the steps of a load of four reports.
+pub fn load_of_four()
+    ensures { LoadOfFour }
 {}

@@ -4,9 +4,10 @@
 //! identifiers that events may use, on `flt_model`, which declares the reports and bounds a request, and on `flt_flash`,
 //! which declares the faults that a step arms. The layer above calls `parse`: by its clause `exact` it answers, for all
 //! bytes, the script or the first fault that the definition `script_of` gives; by `served` the table has what the events
-//! use; and the type `Script` keeps what the steps have in common. Read `specs/Text` first, then `specs/Line` (a line by
-//! itself), `specs/Behind` (what the lines before a line gave), `specs/Refusal` (a line against those) and `specs/Script`
-//! (the whole); `docs/SCRIPT.md` tells the language in plain words.
+//! use; and the type `Script` keeps what the steps have in common. `load` makes the script of a load, which no text spells.
+//! Read `specs/Text` first, then `specs/Line` (a line by itself), `specs/Part` (a step or a block of lanes), `specs/Behind`
+//! (what the lines before a line gave), `specs/Refusal` (a line against those), `specs/Script` (the whole) and `specs/Load`;
+//! `docs/SCRIPT.md` tells the language in plain words.
 #![tactic(auto)]
 
 mod arm;
@@ -16,8 +17,10 @@ mod draft;
 mod event;
 mod fault;
 mod keyword;
+mod lane;
 pub mod laws;
 mod line;
+mod loading;
 mod numeral;
 mod pair;
 mod parsing;
@@ -30,6 +33,8 @@ pub use bytes::{HexByte, HexBytes};
 pub use fault::{LineCause, ParseFault, ScriptFault};
 pub use flt_flash::{Arm, Pattern};
 pub use flt_model::Report;
+pub use loading::load;
+pub use numeral::read_number;
 pub use parsing::parse;
 pub use script::Script;
 pub use step::{Part, Step};

@@ -62,6 +62,9 @@ pub(crate) enum Line {
     Did { event: u64, id: u16 },
     Step(StepLine),
     Power,
+    Par,
+    Lane,
+    End,
 }
 
 /// The most bytes of a line, without what ends it.
@@ -264,6 +267,9 @@ fn line_with(alloc: Global, keyword: Keyword, words: Words<'_>) -> Result<Option
         }
         Keyword::Save => Ok(alone(Line::Step(StepLine::Save), words)),
         Keyword::Power => Ok(alone(Line::Power, words)),
+        Keyword::Par => Ok(alone(Line::Par, words)),
+        Keyword::Lane => Ok(alone(Line::Lane, words)),
+        Keyword::End => Ok(alone(Line::End, words)),
         Keyword::Cut => Ok(number_and_pattern(words).map(|(after, pattern)| {
             Line::Step(StepLine::Arming(ArmLine::Cut { after, pattern }))
         })),

@@ -40,5 +40,5 @@ pub fn parse(alloc: Global, bytes: &[u8], dids: &DidTable<DID_ROWS>) -> Result<S
             return Err(fault.at_line(number));
         }
     }
-    draft.finish()
+    draft.finish(number)
 }

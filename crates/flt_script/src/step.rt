@@ -1,6 +1,6 @@
 ghost use Rattle.std.specs.Prelude.{◌≡◌};
 ghost use Rattle.flt_script.specs.Bytes.{letter_of};
-ghost use Rattle.flt_script.specs.Step.{arm_count};
+ghost use Rattle.flt_script.specs.Step.{arm_count, is_lane_step};
 
 use crate::arm::ArmWords;
 use crate::bytes::HexBytes;
@@ -52,6 +52,8 @@ pub enum Step {
 pub enum Part {
     /// A step by itself.
     One(Step),
+    /// A block: lanes that make their steps at the same time.
+    Lanes(Vec<Vec<Step>>),
 }
 
 /// The number of the last tester, D.
@@ -73,6 +75,13 @@ impl Step {
             Step::Arming(_) => 1,
             _ => 0,
         }
+    }
+
+    /// Whether it may stand in a lane: it is neither `save` nor `cut`, `fault` or `mute`.
+    pub(crate) fn is_lane_step(&self) -> bool
+        ensures { result ≡ is_lane_step self.now }
+    {
+        !matches!(*self, Step::Save | Step::Arming(_))
     }
 }
 

@@ -1,8 +1,12 @@
 use super::*;
-use flt_config::{Debounce, DidUse, EventCfg};
 use flt_did::{DID_ROWS, DidTable, did_0101, did_0103, did_0107};
 use std::alloc::{AllocError, Global};
 use std::test::Fail;
+
+mod blocks;
+mod configuration;
+mod limits;
+mod loads;
 
 /// A table with three data identifiers, of 2, 1 and 8 bytes.
 fn table() -> DidTable<DID_ROWS> {
@@ -13,24 +17,45 @@ fn table() -> DidTable<DID_ROWS> {
     table
 }
 
-/// What is told of a script: its steps, each as it prints and with a full stop behind it, and a bar before each life but
-/// the first, or its fault.
-fn outcome(alloc: Global, bytes: &[u8]) -> Result<String, AllocError> {
-    let script = match parse(alloc, bytes, &table()) {
-        Ok(script) => script,
-        Err(fault) => return fault.to_string(alloc),
-    };
+/// Puts a part: a step as it prints with a full stop behind it, or a block in brackets, with a colon before the steps of
+/// each lane.
+fn put_part(text: &mut String, alloc: Global, part: &Part) -> Result<(), AllocError> {
+    match part {
+        Part::One(step) => text.push_str(format!(in alloc; "{step}.")?.as_str())?,
+        Part::Lanes(lanes) => {
+            text.push_str("[")?;
+            for lane in lanes {
+                text.push_str(":")?;
+                for step in lane {
+                    text.push_str(format!(in alloc; "{step}.")?.as_str())?;
+                }
+            }
+            text.push_str("]")?;
+        }
+    }
+    Ok(())
+}
+
+/// What is told of lives: their parts, and a bar before each life but the first.
+fn told_of(alloc: Global, lives: &[Vec<Part>]) -> Result<String, AllocError> {
     let mut text = String::new(alloc);
     let mut bar = "";
-    for life in &script.lives {
+    for life in lives {
         text.push_str(bar)?;
         bar = "|";
         for part in life {
-            let Part::One(step) = part;
-            text.push_str(format!(in alloc; "{step}.")?.as_str())?;
+            put_part(&mut text, alloc, part)?;
         }
     }
     Ok(text)
+}
+
+/// What is told of a script: its lives, or its fault.
+fn outcome(alloc: Global, bytes: &[u8]) -> Result<String, AllocError> {
+    match parse(alloc, bytes, &table()) {
+        Ok(script) => told_of(alloc, &script.lives),
+        Err(fault) => fault.to_string(alloc),
+    }
 }
 
 /// Scripts, and what is told of each.
@@ -57,7 +82,7 @@ static CASES: [(&str, &str); 184] = [
     ("nothing", "script line 1 word"),
     ("Cycle 0", "script line 1 word"),
     ("cycle0", "script line 1 word"),
-    ("par", "script line 1 word"),
+    ("pars", "script line 1 word"),
     ("Save", "script line 1 word"),
     ("powers", "script line 1 word"),
     ("save\n\tsave ", "save.save."),
@@ -311,97 +336,6 @@ fn first_faults(rt: HostRuntime) -> Result<(), Fail> {
     Ok(())
 }
 
-/// A piece, so many times.
-fn repeated(alloc: Global, piece: &str, times: usize) -> Result<String, AllocError> {
-    let mut text = String::new(alloc);
-    for _ in 0..times {
-        text.push_str(piece)?;
-    }
-    Ok(text)
-}
-
-/// Event lines with DTCs from 000001 on.
-fn events(alloc: Global, count: u32) -> Result<String, AllocError> {
-    let mut text = String::new(alloc);
-    for number in 0..count {
-        let dtc = number.wrapping_add(1);
-        text.push_str(format!(in alloc; "event {number} dtc {dtc:06X}\n")?.as_str())?;
-    }
-    Ok(text)
-}
-
-#[test]
-fn limits(rt: HostRuntime) -> Result<(), Fail> {
-    let alloc = rt.alloc();
-    let mut line = repeated(alloc, "#", 512)?;
-    assert_eq!(rt; outcome(alloc, line.as_bytes())?.as_str(), "");
-    line.push_str("\r\n#")?;
-    assert_eq!(rt; outcome(alloc, line.as_bytes())?.as_str(), "");
-    let script = repeated(alloc, "#\n", 524_288)?;
-    assert_eq!(rt; outcome(alloc, script.as_bytes())?.as_str(), "");
-    assert_eq!(rt; outcome(alloc, events(alloc, 64)?.as_bytes())?.as_str(), "");
-    let script = repeated(alloc, "cycle 0\n", 65_536)?;
-    assert_eq!(rt; outcome(alloc, script.as_bytes())?.len(), 524_288);
-    let script = repeated(alloc, "power\n", 255)?;
-    assert_eq!(rt; outcome(alloc, script.as_bytes())?.len(), 255);
-    Ok(())
-}
-
-/// Pieces that are repeated, what stands behind them, and what is told of both.
-static TOO_MANY: [(&str, usize, &str, &str); 16] = [
-    ("#", 513, "", "script line 1 long"),
-    ("#", 512, "\u{1}", "script line 1 long"),
-    ("#", 1_048_577, "", "script line 0 large"),
-    ("\u{1}", 1_048_577, "", "script line 0 large"),
-    ("cycle 0\n", 65_536, "cycle 0", "script line 65537 many"),
-    ("cycle 0\n", 65_536, "save", "script line 65537 many"),
-    ("cycle 0\n", 65_536, "cycle 4", "script line 65537 range"),
-    ("cycle 0\n", 65_536, "cycle", "script line 65537 form"),
-    ("cycle 0\n", 65_536, "config 0", "script line 65537 order"),
-    ("cycle 0\n", 65_536, "power\nsave", "script line 65538 many"),
-    ("power\n", 255, "power", "script line 256 many"),
-    ("power\n", 255, "power 1", "script line 256 form"),
-    ("cut 1 all\n", 64, "mute 0 0 1", "script line 65 many"),
-    (
-        "mute 0 0 1\npower\n",
-        64,
-        "fault 1 odd",
-        "script line 129 many",
-    ),
-    ("fault 2 none\n", 64, "cut 0 all", "script line 65 range"),
-    ("fault 2 none\n", 64, "cut 1 al", "script line 65 form"),
-];
-
-#[test]
-fn one_too_many(rt: HostRuntime) -> Result<(), Fail> {
-    let alloc = rt.alloc();
-    for case in &TOO_MANY {
-        let mut script = repeated(alloc, case.0, case.1)?;
-        script.push_str(case.2)?;
-        let told = outcome(alloc, script.as_bytes())?;
-        assert_eq!(rt; told.as_str(), case.3, "{:?} behind {:?}", case.2, case.0);
-    }
-    let mut script = events(alloc, 64)?;
-    script.push_str("event 64 dtc 000041 prio 25")?;
-    assert_eq!(rt;
-        outcome(alloc, script.as_bytes())?.as_str(),
-        "script line 65 many"
-    );
-    script.push_str("6")?;
-    assert_eq!(rt;
-        outcome(alloc, script.as_bytes())?.as_str(),
-        "script line 65 range"
-    );
-    let mut script = repeated(alloc, "fault 2 none\n", 64)?;
-    script.push_str("power\nsave")?;
-    let told = outcome(alloc, script.as_bytes())?;
-    assert!(rt; told.as_str().ends_with("fault 2 none.|save."));
-    let mut script = repeated(alloc, "power\n", 255)?;
-    script.push_str(repeated(alloc, "cycle 0\n", 65_536)?.as_str())?;
-    assert_eq!(rt; outcome(alloc, script.as_bytes())?.len(), 524_543);
-    Ok(())
-}
-
 #[test]
 fn arms_are_made_as_written(rt: HostRuntime) -> Result<(), Fail> {
     let text = "cut 2 tail\npower\nfault 3 odd\nmute 1 5 7";
@@ -428,73 +362,5 @@ fn arms_are_made_as_written(rt: HostRuntime) -> Result<(), Fail> {
         }
     }
     assert!(rt; wanted.next().is_none());
-    Ok(())
-}
-
-#[test]
-fn nothing_written(rt: HostRuntime) -> Result<(), Fail> {
-    let script = parse(rt.alloc(), b"", &table())?;
-    let config = script.config.config();
-    assert_eq!(rt; config.id, 0);
-    assert_eq!(rt; config.memory, 16);
-    assert_eq!(rt; config.blocks, 8);
-    assert_eq!(rt; config.pages, 512);
-    assert_eq!(rt; config.events.len(), 0);
-    assert_eq!(rt; script.lives.len(), 1);
-    Ok(())
-}
-
-#[test]
-fn whole_configuration(rt: HostRuntime) -> Result<(), Fail> {
-    let text =
-        "config 7\nmemory 2\nblocks 3\nflash 2 100\nevent 0 time 10 5 age 9 dtc 00000A lamp 1 prio 5 cycle 1 confirm 2 heal 4\nevent 1 dtc 00000B count 10 20 3 2 jumpup 9 jumpdown -19\nevent 2 dtc 00000C\ndid 1 0107\ndid 1 0101\n";
-    let script = parse(rt.alloc(), text.as_bytes(), &table())?;
-    let config = script.config.config();
-    assert_eq!(rt; config.id, 7);
-    assert_eq!(rt; config.memory, 2);
-    assert_eq!(rt; config.blocks, 3);
-    assert_eq!(rt; config.pages, 100);
-    assert_eq!(rt; config.events.len(), 3);
-    let first = EventCfg {
-        dtc: 10,
-        priority: 5,
-        cycle: 1,
-        confirm: 2,
-        heal: 4,
-        age: 9,
-        indicator: true,
-        debounce: Debounce::Time { fail: 10, pass: 5 },
-        ..EventCfg::default()
-    };
-    assert!(rt; config.events[0] == first);
-    let plain = EventCfg {
-        dtc: 12,
-        priority: 1,
-        confirm: 1,
-        heal: 3,
-        age: 40,
-        ..EventCfg::default()
-    };
-    assert!(rt; config.events[2] == plain);
-    let counter = Debounce::Counter {
-        fail_at: 10,
-        pass_at: -20,
-        up: 3,
-        down: 2,
-        jump_up: Some(9),
-        jump_down: Some(-19),
-    };
-    assert!(rt; config.events[1].debounce == counter);
-    let dids = [
-        DidUse {
-            id: 0x0107,
-            width: 8,
-        },
-        DidUse {
-            id: 0x0101,
-            width: 2,
-        },
-    ];
-    assert!(rt; config.events[1].dids.as_slice() == dids.as_slice());
     Ok(())
 }

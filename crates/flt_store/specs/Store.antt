@@ -8,7 +8,7 @@ use Rattle.flt_config.specs.declared.persist.Persist.{Persist}
 use Rattle.flt_nvm.specs.Driver.{driver_of as driver_beneath}
 use Rattle.flt_generation.specs.declared.commit.Commit.{Commit}
 use Rattle.flt_generation.specs.Laws.{IsGiven}
-use Rattle.flt_generation.specs.Holding.{Generation, IsSound, IsOneOf}
+use Rattle.flt_generation.specs.Holding.{Generation, last_number, IsSound, IsOneOf}
 use Rattle.flt_store.specs.declared.store.Store.{Store}
 use Rattle.flt_store.specs.Cause.{FailsThrice, HasRoom}
 use Rattle.flt_store.specs.Started.{HasMark, IsStarted}
@@ -111,5 +111,5 @@ module _ {B : Type 0} {b : Ghosts B} where
   pub record IsLast (c : Config) (held spare : Generation) (before after : Store B b) : Type 0 where
     pub last : Generation
     pub is : IsChosen held spare last before after
-    pub number : last.number ≡ 4294967295
+    pub number : last.number ≡ last_number
     pub running : IsRunning c last last after

@@ -8,7 +8,7 @@ ghost use Rattle.flt_nvm.specs.Leaves.{Gives};
 ghost use Rattle.flt_config.specs.Durable.{Fits};
 ghost use Rattle.flt_generation.specs.Layout.{first_part, parts, end_part, number_of, mark_number, index_in, part_of, used_ids};
 ghost use Rattle.flt_generation.specs.Form.{block_bytes, part_length};
-ghost use Rattle.flt_generation.specs.Holding.{Generation, OldOrNew, SameApplications};
+ghost use Rattle.flt_generation.specs.Holding.{Generation, OldOrNew, SameApplications, last_number};
 ghost use Rattle.flt_generation.specs.Successor.{IsNext, OnlyNewBlock, OnlyNewBlocks, WritesWithin, is_moved, is_written, number_in};
 ghost use Rattle.flt_image.specs.Blocks.{bytes_at, AreBlocksOf};
 ghost use Rattle.flt_image.specs.Table.{block_table};
@@ -146,7 +146,7 @@ pub(crate) fn write_generation<B: Blocks + Drop>(
     saved: &StateBlocks,
 ) -> Result<Written, BlockFault>
     requires table { table_of nvm.old ≡ block_table }
-    requires number { number_in current.now + 1 < 4294967296 }
+    requires number { number_in current.now < last_number }
     requires fits { Fits config.now state.now }
     ensures done { (g : Generation) → IsStarted config.now (driver_of nvm.old).value current.now g → MayKnow config.now current.now (bytes_at saved.now) g.state
         → IfOk result (λ written. IsStarted config.now (driver_of nvm.new).value (Some written.commit) (next_generation current.now state.now)) }

@@ -14,4 +14,4 @@ mod store;
 pub use fault::{PutFault, SaveFault};
 pub use flt_generation::{Mark, Place};
 pub use flt_restore::StartFault;
-pub use store::{APPLICATION, Store};
+pub use store::Store;

@@ -6,7 +6,7 @@ ghost use Rattle.flt_config.specs.declared.persist.Persist.{Persist};
 ghost use Rattle.flt_config.specs.Durable.{Fits};
 ghost use Rattle.flt_generation.specs.Form.{block_bytes};
 ghost use Rattle.flt_generation.specs.Layout.{numbers, used_ids};
-ghost use Rattle.flt_generation.specs.Holding.{Generation, OldOrNew, SameApplications};
+ghost use Rattle.flt_generation.specs.Holding.{Generation, OldOrNew, SameApplications, last_number};
 ghost use Rattle.flt_generation.specs.Successor.{changed_pages, number_in};
 ghost use Rattle.flt_image.specs.Table.{block_table};
 ghost use Rattle.flt_store.specs.Cause.{FailsThrice, IsStuck};
@@ -23,9 +23,9 @@ mod starting;
 use crate::fault::{SaveFault, save_fault};
 use crate::generation::{Written, write_generation};
 use crate::restarting::restart;
-pub use applications::APPLICATION;
 use flt_config::{Persist, ValidConfig};
 use flt_flash::Blocks;
+use flt_generation::LAST_NUMBER;
 use flt_image::{Commit, StateBlocks};
 use flt_nvm::Nvm;
 use flt_restore::read_blocks;
@@ -105,8 +105,8 @@ impl<B: Blocks + Drop> Store<B> {
         ensures flash { (g : Generation) → IsReady config.now g self.old
             → IsErrOf result SaveFault.Flash → FailsThrice (driver_of self.old) (driver_of self.new) }
         ensures spent { (g : Generation) → IsReady config.now g self.old
-            → IsErrOf result SaveFault.Spent → (g.number ≡ 4294967295) × IsStarted config.now (driver_of self.new).value (commit_of self.new) g }
-        ensures last { (g : Generation) → IsReady config.now g self.old → g.number ≡ 4294967295 → result ≡ Err SaveFault.Spent }
+            → IsErrOf result SaveFault.Spent → (g.number ≡ last_number) × IsStarted config.now (driver_of self.new).value (commit_of self.new) g }
+        ensures last { (g : Generation) → IsReady config.now g self.old → g.number ≡ last_number → result ≡ Err SaveFault.Spent }
         ensures sequence { IsErrOf result SaveFault.SequenceSpent → IsStuck (driver_of self.new) }
         ensures mark { HasMark config.now (driver_of self.old).value → HasMark config.now (driver_of self.new).value }
         ensures applications { SameApplications (driver_of self.old).value (driver_of self.new).value }
@@ -121,7 +121,7 @@ impl<B: Blocks + Drop> Store<B> {
         ensures follows { Follows (driver_of self.old) (driver_of self.new) }
     {
         self.is_settled = false;
-        if number_in(&self.commit) == u32::MAX {
+        if number_in(&self.commit) == LAST_NUMBER {
             return Err(SaveFault::Spent);
         }
         match write_generation(&mut self.nvm, config, state, &self.commit, &self.saved) {
@@ -150,7 +150,7 @@ impl<B: Blocks + Drop> Store<B> {
         ensures flash { WhileRunning config.now self.old (λ held spare. IsErrOf result SaveFault.Flash → FailsThrice (driver_of self.old) (driver_of self.new)) }
         ensures unsaved { WhileRunning config.now self.old (λ held spare. IsErrOf result SaveFault.Flash → IsUnsaved config.now (is_settled self.old) (driver_of self.old) (driver_of self.new)) }
         ensures spent { WhileRunning config.now self.old (λ held spare. IsErrOf result SaveFault.Spent → IsLast config.now held spare self.old self.new) }
-        ensures last { WhileRunning config.now self.old (λ held spare. IsTrue (is_settled self.old) → held.number ≡ 4294967295 → result ≡ Err SaveFault.Spent) }
+        ensures last { WhileRunning config.now self.old (λ held spare. IsTrue (is_settled self.old) → held.number ≡ last_number → result ≡ Err SaveFault.Spent) }
         ensures sequence { WhileRunning config.now self.old (λ held spare. IsErrOf result SaveFault.SequenceSpent → IsStuck (driver_of self.new)) }
         ensures applications { SameApplications (driver_of self.old).value (driver_of self.new).value }
         ensures settled { OnOk result (IsTrue (is_settled self.new)) }

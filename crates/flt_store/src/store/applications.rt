@@ -5,6 +5,7 @@ ghost use Rattle.flt_nvm.specs.Driver.{driver_of as driver_beneath, table_of};
 ghost use Rattle.flt_flash.specs.Calls.{SameValues};
 ghost use Rattle.flt_nvm.specs.Leaves.{FlashTakesThree, Gives, GotOf};
 ghost use Rattle.flt_nvm.specs.Tries.{ReadsAlone};
+ghost use Rattle.flt_generation.specs.Form.{application_length};
 ghost use Rattle.flt_generation.specs.Layout.{applications, application_number};
 ghost use Rattle.flt_image.specs.Table.{block_table};
 ghost use Rattle.flt_store.specs.Cause.{Writes};
@@ -13,15 +14,12 @@ use super::Store;
 use crate::fault::{PutFault, put_fault};
 use arrayvec::ArrayVec;
 use flt_flash::{BlockFault, Blocks, FlashFailed};
-use flt_generation::FIRST_APPLICATION;
+use flt_generation::{APPLICATION_LENGTH, FIRST_APPLICATION};
 use flt_nvm::{Got, Nvm};
 
-/// The most bytes of an application block.
-pub const APPLICATION: usize = 32;
-
 // The bytes, behind those that stand.
-fn push_all(bytes: &[u8], out: &mut ArrayVec<u8, APPLICATION>)
-    requires { length out.old.items + length bytes.now ≤ 32 }
+fn push_all(bytes: &[u8], out: &mut ArrayVec<u8, APPLICATION_LENGTH>)
+    requires { length out.old.items + length bytes.now ≤ application_length }
     ensures { out.new.items ≡ out.old.items ++ bytes.now }
 {
     for byte in bytes {
@@ -37,7 +35,7 @@ fn write_application<B: Blocks + Drop>(
     requires table { table_of nvm.old ≡ block_table }
     requires block { block < applications }
     requires least { 1 ≤ length bytes.now }
-    requires most { length bytes.now ≤ 32 }
+    requires most { length bytes.now ≤ application_length }
     ensures gives { Gives (driver_beneath nvm.old) (driver_beneath nvm.new) (application_number block) (holding bytes.now) (length bytes.now) result }
     ensures fresh { OnOk result (IsFalse (driver_beneath nvm.new).is_stale) }
     ensures writes { Writes (driver_beneath nvm.old) (driver_beneath nvm.new) result }
@@ -76,7 +74,7 @@ impl<B: Blocks + Drop> Store<B> {
     pub fn put_block(&mut self, block: u8, bytes: &[u8]) -> Result<(), PutFault>
         requires block { block < applications }
         requires least { 1 ≤ length bytes.now }
-        requires most { length bytes.now ≤ 32 }
+        requires most { length bytes.now ≤ application_length }
         ensures put { OnOk result ((driver_of self.new).value (application_number block) ≡ holding bytes.now) }
         ensures either { IsEither (driver_of self.old) (driver_of self.new) (application_number block) (holding bytes.now) }
         ensures others { OthersKept (application_number block) (driver_of self.old) (driver_of self.new) }
@@ -98,7 +96,7 @@ impl<B: Blocks + Drop> Store<B> {
     pub fn get_block(
         &mut self,
         block: u8,
-        out: &mut ArrayVec<u8, APPLICATION>,
+        out: &mut ArrayVec<u8, APPLICATION_LENGTH>,
     ) -> Result<bool, FlashFailed>
         requires { block < applications }
         ensures got { (c : Config) → WhileRunning c self.old (λ held spare. IfOk result (λ found. Gets ((driver_of self.old).value (application_number block)) found out.new.items)) }
@@ -113,7 +111,7 @@ impl<B: Blocks + Drop> Store<B> {
         out.clear();
         match read_application(&mut self.nvm, block, &mut bytes) {
             Ok(Got::Missing) => Ok(false),
-            Ok(Got::Bytes { length, .. }) if length <= APPLICATION => {
+            Ok(Got::Bytes { length, .. }) if length <= APPLICATION_LENGTH => {
                 push_all(&bytes[..length], out);
                 Ok(true)
             }

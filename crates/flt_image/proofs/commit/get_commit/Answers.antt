@@ -5,8 +5,8 @@ use Rattle.flt_generation.specs.Reading.{is_commit}
 use Rattle.flt_generation.proofs.Commits.{tested_commit_bytes, no_commit_by_bytes, no_commit_by_test, no_commit_by_size}
 use Rattle.flt_image.proofs.commit.get_commit.Goals as goal
 
-pub returns-then-bytes-ne26 : goal.returns-then-bytes-ne26
-returns-then-bytes-ne26 c = sym (no_commit_by_size c.args.config.now c.args.bytes.now (λ is. omega (arith, is, c.if-bytes-ne26.true)))
+pub returns-then-bytes-ne-COMMIT_LENGTH : goal.returns-then-bytes-ne-COMMIT_LENGTH
+returns-then-bytes-ne-COMMIT_LENGTH c = sym (no_commit_by_size c.args.config.now c.args.bytes.now (λ is. omega (arith, is, c.if-bytes-ne-COMMIT_LENGTH.true)))
 
 pub returns-then-not-is_commit : goal.returns-then-not-is_commit
 returns-then-not-is_commit c =

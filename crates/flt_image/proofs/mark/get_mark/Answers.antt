@@ -6,8 +6,8 @@ use Rattle.flt_generation.specs.Reading.{mark_from}
 use Rattle.flt_generation.proofs.Marks.{tested_mark, no_mark, no_mark_by_size}
 use Rattle.flt_image.proofs.mark.get_mark.Goals as goal
 
-pub returns-then-bytes-ne8 : goal.returns-then-bytes-ne8
-returns-then-bytes-ne8 c = sym (no_mark_by_size c.args.bytes.now (λ is. omega (arith, is, c.if-bytes-ne8.true)))
+pub returns-then-bytes-ne-MARK_LENGTH : goal.returns-then-bytes-ne-MARK_LENGTH
+returns-then-bytes-ne-MARK_LENGTH c = sym (no_mark_by_size c.args.bytes.now (λ is. omega (arith, is, c.if-bytes-ne-MARK_LENGTH.true)))
 
 pub returns-then-eq : goal.returns-then-eq
 unfolding mark_from

@@ -1,6 +1,6 @@
-use Rattle.std.proofs.Common.{arith, subst, sym}
-use Rattle.flt_lane.specs.Life.{lists, steps_in}
-use Rattle.flt_lane.specs.Room.{steps_of}
+use Rattle.std.proofs.Common.{arith, map, subst, sym}
+use Rattle.flt_life.specs.Room.{steps_of, told_in}
+use Rattle.flt_lane.specs.Room.{steps_in}
 use Rattle.flt_lane.specs.Block.{IsSplitOff}
 use Rattle.flt_lane.proofs.Seats.{all_ready, steps_of_length}
 use Rattle.flt_lane.proofs.BlockRuns.{ran_count, ran_lanes}
@@ -19,7 +19,7 @@ pub returns-clause-part : goal.returns-clause-part
 returns-clause-part g c =
     let lanes = steps_of c.args.rooms.items in
     let off = subst (λ n. IsSplitOff c.args.main.now c.split_lanes.new.main n (steps_in lanes)) (sym (steps_of_length c.args.rooms.items)) c.split_lanes.ensures.main in
-    ran_lanes c.args.dem.now c.args.main.now c.split_lanes.new.main c.join_lanes.new.main lanes c.split_lanes.new.works.items c.run_works.new.works.items (lists c.args.told.now.items) (lists c.join_lanes.new.told.items) c.requires.main
+    ran_lanes c.args.dem.now c.args.main.now c.split_lanes.new.main c.join_lanes.new.main lanes c.split_lanes.new.works.items c.run_works.new.works.items (map told_in c.args.told.now.items) (map told_in c.join_lanes.new.told.items) c.requires.main
     c.split_lanes.ensures.works off c.run_works.ensures.len c.run_works.ensures.ran c.join_lanes.ensures.joined c.join_lanes.ensures.told
 
 pub returns-clause-len : goal.returns-clause-len

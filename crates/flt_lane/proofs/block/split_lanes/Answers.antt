@@ -1,6 +1,6 @@
-use Rattle.std.proofs.Common.{length, [], ◌∷◌, ◌∙◌, refl, arith}
+use Rattle.std.proofs.Common.{[], ◌∷◌, ◌∙◌, refl, arith}
 use Rattle.std.proofs.lemmas.List.{length-append}
-use Rattle.flt_lane.specs.Room.{IsLaneRoom}
+use Rattle.flt_life.specs.Room.{IsLaneRoom}
 use Rattle.flt_lane.proofs.Seats.{splitting_begins, splitting_more, room_for, lane_for, next_of}
 use Rattle.flt_lane.proofs.block.split_lanes.Goals as goal
 
@@ -31,7 +31,7 @@ loop-room-preserved g c =
           (room_for c.args.dem.now c.args.main.now c.loop-room.main rooms c.loop-room.works.items done rest later room is next c.requires.calls) c.requires.lock
           (lane_for c.args.main.now.start.config rooms done rest later room is.all next c.requires.steps)
           (next_of IsLaneRoom rooms done rest later room is.all next c.requires.room)
-          told.main told.seat told.number told.steps told.answers c.push_reserved.ensures.items;
+          told.main told.seat told.number told.steps told.replies c.push_reserved.ensures.items;
       len = omega (arith, c.push_reserved.ensures.len, c.loop-room.invariant.len, count);
       room = c.push_reserved.ensures.capacity ∙ c.loop-room.invariant.room;
     }

@@ -1,29 +1,57 @@
-use Rattle.std.proofs.Common.{length, subst, sym}
-use Rattle.flt_model.specs.declared.life.DemStart.{DemStart}
-use Rattle.flt_lane.specs.Life.{IsPartFor}
-use Rattle.flt_lane.specs.Room.{part_in}
-use Rattle.flt_lane.proofs.Lives.{living_begins, living_more, numbers_left, lanes_left, part_among}
+use Rattle.std.proofs.Common.{List, [], reverse, refl, subst, sym}
+use Rattle.flt_flash.specs.declared.arm.Arm.{Arm}
+use Rattle.flt_life.specs.Answers.{Told}
+use Rattle.flt_life.specs.Room.{told_in}
+use Rattle.flt_lives.specs.Going.{WereGiven}
+use Rattle.flt_lane.specs.Living.{Carries}
+use Rattle.flt_lane.proofs.Carrying.{carries_nothing, carries_further}
+use Rattle.flt_lives.proofs.Giving.{none_given, given_further}
+use Rattle.flt_lives.proofs.Riding.{goes_nowhere, goes_further}
+use Rattle.flt_store.specs.Store.{driver_of}
+use Rattle.flt_lane.specs.Room.{IsPartFor}
+use Rattle.flt_lane.proofs.Lives.{living_begins, living_more, numbers_left, told_left, own_left, own_next, part_among, parts_in, arms_more_parts}
 use Rattle.flt_lane.proofs.living.run_parts.Goals as goal
 
 pub loop-part-init : goal.loop-part-init
-loop-part-init g c = let r = c.requires.room in
-    living_begins c.args.dem.now c.args.main.now c.args.room.parts.items _ c.args.room.own c.args.room.lanes c.into_iter-part-iterator.ensures.into_iter_gives.0 c.requires.main c.requires.lock
-    r.no_own r.own_empty r.own_room r.no_lanes r.lanes_empty r.lanes_room
+loop-part-init g c = let r = c.requires in record {
+  living = living_begins c.args.dem.now c.args.main.now c.args.parts.items _ c.args.own.now c.args.told.now (driver_of c.args.store.now).device.bench.armed c.into_iter-part-iterator.ensures.into_iter_gives.0
+      r.main r.lock r.no_answers r.own_room r.none_told r.told_room;
+  carries = subst (λ (l : List Told). Carries c.args.config.now c.args.main.now c.args.main.now [] (reverse l) c.args.store.now c.args.store.now) (sym r.no_answers.0)
+      (carries_nothing c.args.config.now c.args.main.now c.args.main.now [] c.args.store.now refl);
+  goes_on = goes_nowhere (driver_of c.args.store.now);
+  given = none_given (driver_of c.args.store.now).device.bench.arms;
+}
 
 pub run_part-requires-clause-steps : goal.run_part-requires-clause-steps
-run_part-requires-clause-steps g c κs within = subst (λ (s : DemStart). IsPartFor s.config (part_in c.in-Some.part)) (sym c.loop-part.invariant.ran.lived.start_is)
-    (part_among (IsPartFor c.args.main.now.start.config) c.args.room.parts.items c.loop-part.yielded c.loop-part.part-iterator.rest.items c.next.new.self.rest.items c.in-Some.part
-    c.loop-part.invariant.all c.in-Some.ensures.steps.0 c.requires.steps)
+run_part-requires-clause-steps g c κs within =
+    part_among (IsPartFor c.args.config.now) c.args.parts.items c.loop-part.yielded c.loop-part.part-iterator.rest.items c.next.new.self.rest.items c.in-Some.part
+    c.loop-part.invariant.living.all c.in-Some.ensures.steps.0 c.requires.steps
 
 pub run_part-requires-clause-children : goal.run_part-requires-clause-children
-run_part-requires-clause-children g c κs within = numbers_left c.args.dem.now c.args.main.now c.loop-part.main c.args.room.parts.items c.loop-part.own c.loop-part.lanes c.loop-part.yielded c.loop-part.part-iterator.rest.items
-    c.next.new.self.rest.items c.in-Some.part c.loop-part.invariant c.in-Some.ensures.steps.0 c.requires.children
+run_part-requires-clause-children g c κs within = numbers_left c.args.dem.now c.args.main.now c.loop-part.main c.args.parts.items c.loop-part.own c.loop-part.told (driver_of c.args.store.now).device.bench.armed
+    (driver_of c.loop-part.store).device.bench.armed c.loop-part.yielded c.loop-part.part-iterator.rest.items c.next.new.self.rest.items c.in-Some.part c.loop-part.invariant.living c.in-Some.ensures.steps.0 c.requires.children
 
-pub run_part-requires-clause-lanes_room : goal.run_part-requires-clause-lanes_room
-run_part-requires-clause-lanes_room g c κs within = lanes_left c.args.dem.now c.args.main.now c.loop-part.main c.args.room.parts.items c.loop-part.own c.loop-part.lanes c.loop-part.yielded c.loop-part.part-iterator.rest.items
-    c.next.new.self.rest.items c.in-Some.part c.loop-part.invariant c.in-Some.ensures.steps.0
+pub run_part-requires-clause-own_room : goal.run_part-requires-clause-own_room
+run_part-requires-clause-own_room g c κs within = own_next c.args.dem.now c.args.main.now c.loop-part.main c.args.parts.items c.loop-part.own c.loop-part.told (driver_of c.args.store.now).device.bench.armed
+    (driver_of c.loop-part.store).device.bench.armed c.loop-part.yielded c.loop-part.part-iterator.rest.items c.next.new.self.rest.items c.in-Some.part c.loop-part.invariant.living c.in-Some.ensures.steps.0
+
+pub run_part-requires-clause-told_room : goal.run_part-requires-clause-told_room
+run_part-requires-clause-told_room g c κs within = told_left c.args.dem.now c.args.main.now c.loop-part.main c.args.parts.items c.loop-part.own c.loop-part.told (driver_of c.args.store.now).device.bench.armed
+    (driver_of c.loop-part.store).device.bench.armed c.loop-part.yielded c.loop-part.part-iterator.rest.items c.next.new.self.rest.items c.in-Some.part c.loop-part.invariant.living c.in-Some.ensures.steps.0
 
 pub loop-part-preserved : goal.loop-part-preserved
-loop-part-preserved g c = let told = c.run_part.ensures in
-    living_more c.args.dem.now c.args.main.now c.loop-part.main c.args.room.parts.items c.loop-part.own c.loop-part.lanes c.loop-part.yielded c.loop-part.part-iterator.rest.items c.next.new.self.rest.items c.in-Some.part
-    c.run_part.new.main c.run_part.new.own c.run_part.new.lanes c.loop-part.invariant c.in-Some.ensures.steps.0 told.gains told.lock told.left told.own_len told.own_capacity told.lanes_len told.lanes_capacity
+loop-part-preserved g c =
+    let told = c.run_part.ensures in
+    let left = own_left c.args.dem.now c.args.main.now c.loop-part.main c.args.parts.items c.loop-part.own c.loop-part.told (driver_of c.args.store.now).device.bench.armed
+    (driver_of c.loop-part.store).device.bench.armed c.loop-part.yielded c.loop-part.part-iterator.rest.items c.next.new.self.rest.items c.in-Some.part c.loop-part.invariant.living c.in-Some.ensures.steps.0 in
+    record {
+      living = living_more c.args.dem.now c.args.main.now c.loop-part.main c.args.parts.items c.loop-part.own c.loop-part.told (driver_of c.args.store.now).device.bench.armed
+          (driver_of c.loop-part.store).device.bench.armed c.loop-part.yielded c.loop-part.part-iterator.rest.items c.next.new.self.rest.items c.in-Some.part c.loop-part.invariant.living c.in-Some.ensures.steps.0
+          c.run_part.new.main c.run_part.new.own c.run_part.new.told (driver_of c.run_part.new.store).device.bench.armed told.gains told.lock told.left told.armed told.own_len
+          (told.own_room (parts_in c.next.new.self.rest.items) left) told.told_len told.told_capacity;
+      carries = carries_further c.args.config.now c.args.main.now c.loop-part.main c.run_part.new.main [] (reverse (told_in c.loop-part.own)) (reverse (told_in c.run_part.new.own)) c.args.store.now c.loop-part.store c.run_part.new.store
+          c.loop-part.invariant.living.ran.lived.start_is c.loop-part.invariant.carries told.carries;
+      goes_on = goes_further (driver_of c.args.store.now) (driver_of c.loop-part.store) (driver_of c.run_part.new.store) c.loop-part.invariant.goes_on told.goes_on;
+      given = subst (λ (l : List Arm). WereGiven l (driver_of c.args.store.now).device.bench.arms (driver_of c.run_part.new.store).device.bench.arms) (sym (arms_more_parts c.loop-part.yielded c.in-Some.part))
+          (given_further _ _ (driver_of c.args.store.now).device.bench.arms (driver_of c.loop-part.store).device.bench.arms (driver_of c.run_part.new.store).device.bench.arms c.loop-part.invariant.given told.given);
+    }

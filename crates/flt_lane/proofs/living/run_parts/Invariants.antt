@@ -1,5 +1,17 @@
-use Rattle.flt_lane.proofs.Lives.{IsLiving}
+use Rattle.std.proofs.Common.{[], reverse}
+use Rattle.flt_store.specs.Store.{driver_of}
+use Rattle.flt_life.specs.Actions.{all_arms}
+use Rattle.flt_life.specs.Parts.{own_actions}
+use Rattle.flt_life.specs.Room.{told_in}
+use Rattle.flt_lives.specs.Going.{GoesOn, WereGiven}
+use Rattle.flt_lane.specs.Living.{Carries}
+use Rattle.flt_lane.proofs.Lives.{IsLiving, parts_in}
 use Rattle.flt_lane.proofs.living.run_parts.Given as goal
 
 abbrev pub invariant-loop-part : goal.invariant-loop-part
-invariant-loop-part g l = IsLiving l.dem l.initial.main l.main l.fn.room.parts.items l.own l.lanes l.yielded l.part-iterator.rest.items
+invariant-loop-part g l = record {
+  living : IsLiving l.dem l.initial.main l.main l.fn.parts.items l.own l.told (driver_of l.initial.store).device.bench.armed (driver_of l.store).device.bench.armed l.yielded l.part-iterator.rest.items;
+  carries : Carries l.config l.initial.main l.main [] (reverse (told_in l.own)) l.initial.store l.store;
+  goes_on : GoesOn (driver_of l.initial.store) (driver_of l.store);
+  given : WereGiven (all_arms (own_actions (parts_in l.yielded))) (driver_of l.initial.store).device.bench.arms (driver_of l.store).device.bench.arms;
+}

@@ -11,7 +11,7 @@ use Rattle.flt_lives.proofs.bench.live_on.Goals as goal
 
 pub returns-in-Ok-clause-sound : goal.returns-in-Ok-clause-sound
 returns-in-Ok-clause-sound g c =
-    let made : driver_of c.make-store.result ≡ state_of g.B.Flash.state c.args.fee = c.make-store.ensures ∙ c.make-2.ensures.driver in
+    let made : driver_of c.make-store.result ≡ state_of g.B.Flash.state c.args.fee = c.make-store.ensures ∙ c.make.ensures.driver in
     let last = c.run_lives-lived.new.store.nvm.blocks in
     let room = subst (HasRoom c.args.config.now) (sym (c.run_lives-lived.ensures.room ∙ ap (λ (d : BlocksState). d.room) made)) c.requires.room in
     sound_on_device c.args.config.now (sectors c.args.config.now) (driver_of c.make-store.result) (driver_of c.run_lives-lived.new.store)
@@ -25,7 +25,7 @@ returns-in-Ok-clause-sound g c =
 
 pub returns-in-Err-clause-sound : goal.returns-in-Err-clause-sound
 returns-in-Err-clause-sound g c =
-    let made : driver_of c.make-store.result ≡ state_of g.B.Flash.state c.args.fee = c.make-store.ensures ∙ c.make-2.ensures.driver in
+    let made : driver_of c.make-store.result ≡ state_of g.B.Flash.state c.args.fee = c.make-store.ensures ∙ c.make.ensures.driver in
     let last = c.run_lives-lived.new.store.nvm.blocks in
     let room = subst (HasRoom c.args.config.now) (sym (c.run_lives-lived.ensures.room ∙ ap (λ (d : BlocksState). d.room) made)) c.requires.room in
     sound_on_device c.args.config.now (sectors c.args.config.now) (driver_of c.make-store.result) (driver_of c.run_lives-lived.new.store)
@@ -39,7 +39,7 @@ returns-in-Err-clause-sound g c =
 
 pub returns-in-Ok-clause-linked : goal.returns-in-Ok-clause-linked
 returns-in-Ok-clause-linked g c =
-    let made : driver_of c.make-store.result ≡ state_of g.B.Flash.state c.args.fee = c.make-store.ensures ∙ c.make-2.ensures.driver in
+    let made : driver_of c.make-store.result ≡ state_of g.B.Flash.state c.args.fee = c.make-store.ensures ∙ c.make.ensures.driver in
     let linked = c.in-Ok.ensures.linked (sectors c.args.config.now)
     (λ driver numbers room. is_on_sectors c.args.config.now driver.used driver.numbers driver.is_stale driver.has_mounted (g.B.Flash.state driver.flash) driver.least numbers room) in
     subst (λ (d : DeviceState). IsLinked c.args.config.now (sectors c.args.config.now) (device_of (g.B.Flash.state c.args.fee.flash)) d (map view_of (reverse c.in-Ok.lives.items)))

@@ -1,9 +1,9 @@
 use Rattle.std.proofs.Common.{◌≡◌, ◌+◌, ◌≤◌, length, drop, map, reverse}
 use Rattle.std.specs.Prelude.{sum_by, All, IsFalse}
-use Rattle.flt_dcm.specs.Whole.{config_of}
+use Rattle.flt_script.specs.Part.{parts_of}
 use Rattle.flt_store.specs.Store.{driver_of}
 use Rattle.flt_store.specs.Cause.{HasRoom}
-use Rattle.flt_life.specs.Actions.{actions_in, arm_count}
+use Rattle.flt_life.specs.Parts.{arms_in}
 use Rattle.flt_life.specs.Chain.{LifeView}
 use Rattle.flt_life.specs.Lives.{ArePlayed, StaysSound, arms_given, first_lives, is_refused, lists, view_of}
 use Rattle.flt_life.specs.Moment.{Medium, moment_of}
@@ -13,11 +13,11 @@ use Rattle.flt_lives.proofs.lives.run_lives.Given as goal
 
 abbrev pub invariant-loop-parts : goal.invariant-loop-parts
 invariant-loop-parts g l = record {
-  config : config_of l.unit ≡ config_of l.fn.unit;
+  same : g.E.Engine.machine_config l.engine ≡ l.config;
   room : HasRoom l.config (driver_of l.store).room;
   same_room : (driver_of l.store).room ≡ (driver_of l.fn.store).room;
   boots : length l.lives ≤ (driver_of l.store).device.bench.boots_left + l.parts-index;
-  arms : (driver_of l.store).device.bench.armed + sum_by (λ life. sum_by arm_count (actions_in life.items)) (drop l.parts-index l.lives) ≤ 64;
+  arms : (driver_of l.store).device.bench.armed + sum_by (λ life. sum_by arms_in (parts_of life.items)) (drop l.parts-index l.lives) ≤ 64;
   sound : StaysSound l.config (moment_of (driver_of l.fn.store)) (moment_of (driver_of l.store));
   many : length l.lived.items ≡ l.parts-index;
   played : ArePlayed l.config (first_lives l.parts-index (lists l.lives)) (map view_of (reverse l.lived.items));

@@ -4,7 +4,7 @@ use Rattle.flt_dcm.specs.ReplyKind.{reply_with}
 use Rattle.flt_model.specs.declared.call.Reply.{Reply}
 use Rattle.flt_turn.specs.declared.answer.Answer.{Answer}
 use Rattle.flt_life.specs.Answers.{size_of}
-use Rattle.flt_life.specs.Carried.{answer_at}
+use Rattle.flt_lives.specs.Carried.{answer_at}
 use Rattle.flt_life.specs.Actions.{arms_of}
 use Rattle.flt_lives.specs.Going.{WereGiven}
 use Rattle.flt_life.specs.declared.action.Action.{Action}
@@ -13,10 +13,11 @@ use Rattle.flt_life.specs.declared.answer.StepAnswer.TheVariants as answers
 use Rattle.flt_store.specs.Store.{driver_of}
 use Rattle.flt_dcm.specs.Whole.{state_of}
 use Rattle.flt_life.specs.Actions.{IsPossible, response_size}
-use Rattle.flt_life.specs.Carried.{IsCarriedOut}
+use Rattle.flt_lives.specs.Carried.{IsCarriedOut}
 use Rattle.flt_life.specs.Chain.{start_from}
 use Rattle.flt_life.specs.Journal.{Journal, entry}
-use Rattle.flt_lives.specs.Living.{IsAlive, IsLiving}
+use Rattle.flt_lives.specs.Alive.{IsAlive}
+use Rattle.flt_lives.specs.Living.{IsLiving}
 use Rattle.flt_lives.proofs.Keeping.{kept_call, kept_arm}
 use Rattle.flt_lives.proofs.Riding.{goes_nowhere}
 use Rattle.flt_lives.proofs.Causing.{caused_call, caused_arm}

@@ -1,47 +1,34 @@
-use Rattle.std.proofs.Common.{◌≡◌, [], ◌++◌, List, ap, sym, subst, ◌∙◌}
-use Rattle.std.proofs.lemmas.List.{append-nil}
-use Rattle.std.proofs.KnownBytes.{Appends-trans}
-use Rattle.std.proofs.lemmas.Result.{on_ok_weaker, on_err_weaker}
-use Rattle.std.specs.Prelude.{OnOk, OnErr}
-use Rattle.std.specs.Io.KnownBytes.{Appends}
+use Rattle.std.proofs.Common.{◌≡◌, ◌++◌, List, ℕ, ap, sym, subst, ◌∙◌}
+use Rattle.std.proofs.lemmas.Result.{on_err_weaker}
+use Rattle.std.specs.Prelude.{OnErr}
 use Rattle.flt_io.specs.Sink.{AppendsFront}
 use Rattle.flt_report.specs.Boot.{boot_line}
-use Rattle.flt_life.specs.Answers.{Told, told_by}
-use Rattle.flt_life.specs.Lives.{told_of}
-use Rattle.flt_life.specs.declared.replies.LaneReplies.{LaneReplies}
-use Rattle.flt_run.specs.Report.{lines_text}
+use Rattle.flt_script.specs.Part.{parts_of}
+use Rattle.flt_life.specs.declared.life.Boot.{Boot}
+use Rattle.flt_run.specs.Report.{made_text, told_text}
 use Rattle.flt_run.proofs.Taken.{always_on_err}
-use Rattle.flt_run.proofs.Written.{front_first, front_next, no_answers, told_first, told_none}
+use Rattle.flt_run.proofs.Written.{front_first, front_next}
 use Rattle.flt_run.proofs.report.write_life.Goals as goal
 
 pub returns-in_err-write_boot-clause-err : goal.returns-in_err-write_boot-clause-err
 returns-in_err-write_boot-clause-err g c =
-    always_on_err c.from_residual.result (front_first _ _ (boot_line c.args.number c.args.life.now.boot) (lines_text c.args.parts.now (told_of c.args.life.now.replies.items)) c.in_err-write_boot.ensures.err)
+    always_on_err c.from_residual.result
+    (front_first _ _ (boot_line c.args.number c.args.life.now.boot) (made_text (parts_of c.args.parts.now) c.args.life.now.boot c.args.life.now.replies.items) c.in_err-write_boot.ensures.err)
 
-pub returns-in-len1-up-clause-ok : goal.returns-in-len1-up-clause-ok
-returns-in-len1-up-clause-ok g c =
+pub returns-in-Started-clause-err : goal.returns-in-Started-clause-err
+returns-in-Started-clause-err g c =
+    let parts = parts_of c.args.parts.now in
     let first = boot_line c.args.number c.args.life.now.boot in
-    let lanes : c.as_slice.result.now ≡ c.args.life.now.replies.items = c.as_slice.ensures.value in
-    let same = told_first c.as_slice.result.now c.replies-item.result c.in-len1-up.len_at_least in
-    let told : told_of c.args.life.now.replies.items ≡ told_by c.replies-item.result.responses.items c.replies-item.result.answers.items =
-    ap told_of (sym lanes) ∙ same ∙ ap (λ (lane : LaneReplies). told_by lane.responses.items lane.answers.items) (sym c.replies-item.is) in
-    subst (λ (told : List Told). OnOk c.write_steps.result (Appends (g.K.Sink.held c.args.sink.now) (g.K.Sink.held c.write_steps.new.sink) (first ++ lines_text c.args.parts.now told))) (sym told)
-    (on_ok_weaker c.write_steps.result (λ steps. Appends-trans _ _ _ first _ c.in_ok-write_boot.ensures.ok steps) c.write_steps.ensures.ok)
+    let made : made_text parts c.args.life.now.boot c.args.life.now.replies.items ≡ told_text parts c.deref.result.now =
+    ap (λ (boot : Boot). made_text parts boot c.args.life.now.replies.items) c.in-Started.is ∙ ap (told_text parts) (sym c.deref.ensures.value) in
+    subst (λ (text : List ℕ). OnErr c.write_told.result (AppendsFront (g.K.Sink.held c.args.sink.now) (g.K.Sink.held c.write_told.new.sink) (first ++ text))) (sym made)
+    (on_err_weaker c.write_told.result (λ told. front_next _ _ _ first (told_text parts c.deref.result.now) c.in_ok-write_boot.ensures.ok told) c.write_told.ensures.err)
 
-pub returns-in-len1-up-clause-err : goal.returns-in-len1-up-clause-err
-returns-in-len1-up-clause-err g c =
+pub returns-in-Dark-clause-err : goal.returns-in-Dark-clause-err
+returns-in-Dark-clause-err g c =
+    let parts = parts_of c.args.parts.now in
     let first = boot_line c.args.number c.args.life.now.boot in
-    let lanes : c.as_slice.result.now ≡ c.args.life.now.replies.items = c.as_slice.ensures.value in
-    let same = told_first c.as_slice.result.now c.replies-item.result c.in-len1-up.len_at_least in
-    let told : told_of c.args.life.now.replies.items ≡ told_by c.replies-item.result.responses.items c.replies-item.result.answers.items =
-    ap told_of (sym lanes) ∙ same ∙ ap (λ (lane : LaneReplies). told_by lane.responses.items lane.answers.items) (sym c.replies-item.is) in
-    subst (λ (told : List Told). OnErr c.write_steps.result (AppendsFront (g.K.Sink.held c.args.sink.now) (g.K.Sink.held c.write_steps.new.sink) (first ++ lines_text c.args.parts.now told))) (sym told)
-    (on_err_weaker c.write_steps.result (λ steps. front_next _ _ _ first _ c.in_ok-write_boot.ensures.ok steps) c.write_steps.ensures.err)
-
-pub returns-in-empty-clause-ok : goal.returns-in-empty-clause-ok
-returns-in-empty-clause-ok g c =
-    let first = boot_line c.args.number c.args.life.now.boot in
-    let lanes : c.as_slice.result.now ≡ c.args.life.now.replies.items = c.as_slice.ensures.value in
-    let told : told_of c.args.life.now.replies.items ≡ [] = ap told_of (sym lanes) ∙ told_none c.as_slice.result.now c.in-empty.len_below in
-    let none = ap (lines_text c.args.parts.now) told ∙ no_answers c.args.parts.now in
-    subst (Appends (g.K.Sink.held c.args.sink.now) (g.K.Sink.held c.write_boot.new.sink)) (sym (append-nil first) ∙ ap (λ rest. first ++ rest) (sym none)) c.in_ok-write_boot.ensures.ok
+    let made : made_text parts c.args.life.now.boot c.args.life.now.replies.items ≡ told_text parts c.deref-in-Dark.result.now =
+    ap (λ (boot : Boot). made_text parts boot c.args.life.now.replies.items) c.in-Dark.is ∙ ap (told_text parts) (sym c.deref-in-Dark.ensures.value) in
+    subst (λ (text : List ℕ). OnErr c.write_told-in-Dark.result (AppendsFront (g.K.Sink.held c.args.sink.now) (g.K.Sink.held c.write_told-in-Dark.new.sink) (first ++ text))) (sym made)
+    (on_err_weaker c.write_told-in-Dark.result (λ told. front_next _ _ _ first (told_text parts c.deref-in-Dark.result.now) c.in_ok-write_boot.ensures.ok told) c.write_told-in-Dark.ensures.err)

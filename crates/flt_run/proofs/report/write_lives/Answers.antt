@@ -3,10 +3,11 @@ use Rattle.std.specs.Prelude.{Vec}
 use Rattle.std.specs.Io.KnownBytes.{Appends}
 use Rattle.flt_io.specs.Sink.{AppendsFront}
 use Rattle.flt_script.specs.declared.step.Part.{Part}
-use Rattle.flt_life.specs.Lives.{lists}
-use Rattle.flt_run.specs.Report.{life_text, lives_text}
+use Rattle.flt_script.specs.Part.{parts_of}
+use Rattle.flt_run.specs.Left.{lives_left}
+use Rattle.flt_run.specs.Report.{life_text}
 use Rattle.flt_run.proofs.Taken.{always_on_err}
-use Rattle.flt_run.proofs.Written.{IsWritten, goes_on, stops, ends, lives_left, lives_more, lives_end}
+use Rattle.flt_run.proofs.Written.{IsWritten, goes_on, stops, ends, lives_more, lives_end}
 use Rattle.flt_run.proofs.report.write_lives.Goals as goal
 
 pub loop-index-preserved : goal.loop-index-preserved
@@ -14,7 +15,7 @@ loop-index-preserved g c =
     let script = c.args.made.now.script.items in
     let lives = c.args.made.now.lives.items in
     let index = c.loop-index.index in
-    let whole = lives_text 1 (lists script) lives in
+    let whole = lives_left script lives c.args.from in
     let there = c.loop-index-test.true in
     let count = c.min-count.ensures in
     let scripts = c.len.ensures in
@@ -27,13 +28,14 @@ loop-index-preserved g c =
     let life = c.index-in-loop-index.result.now in
     let left = lives_more script lives index parts life in_script in_lives in
     let on = subst (λ left. IsWritten (g.K.Sink.held c.args.sink.now) (g.K.Sink.held c.loop-index.sink) left whole) left c.loop-index.invariant.written in
-    let piece = life_text (index + 1) (get_or script index parts).items (get_or lives index life) in
-    let same : life_text (index + 1) c.deref.result.now life ≡ piece = λ i. life_text (index + 1) ((c.deref.ensures.value ∙ ap (λ (v : Vec Part _). v.items) c.index.ensures) i) (c.index-in-loop-index.ensures i) in
+    let piece = life_text (index + 1) (parts_of (get_or script index parts).items) (get_or lives index life) in
+    let same : life_text (index + 1) (parts_of c.deref.result.now) life ≡ piece = λ i. life_text (index + 1) (parts_of ((c.deref.ensures.value ∙ ap (λ (v : Vec Part _). v.items) c.index.ensures) i)) (c.index-in-loop-index.ensures i) in
     let was = c.loop-index.invariant.later in
     let later = c.in_ok-write_life.ensures.later in
     record {
       later = omega (arith, was, later);
       written = goes_on _ _ piece (lives_left script lives (index + 1)) whole on _ (subst (Appends (g.K.Sink.held c.loop-index.sink) (g.K.Sink.held c.write_life.new.sink)) same c.in_ok-write_life.ensures.ok);
+      from = omega (arith, c.loop-index.invariant.from);
     }
 
 pub returns-in_err-write_life-clause-err : goal.returns-in_err-write_life-clause-err
@@ -41,7 +43,7 @@ returns-in_err-write_life-clause-err g c =
     let script = c.args.made.now.script.items in
     let lives = c.args.made.now.lives.items in
     let index = c.loop-index.index in
-    let whole = lives_text 1 (lists script) lives in
+    let whole = lives_left script lives c.args.from in
     let there = c.loop-index-test.true in
     let count = c.min-count.ensures in
     let scripts = c.len.ensures in
@@ -54,8 +56,8 @@ returns-in_err-write_life-clause-err g c =
     let life = c.index-in-loop-index.result.now in
     let left = lives_more script lives index parts life in_script in_lives in
     let on = subst (λ left. IsWritten (g.K.Sink.held c.args.sink.now) (g.K.Sink.held c.loop-index.sink) left whole) left c.loop-index.invariant.written in
-    let piece = life_text (index + 1) (get_or script index parts).items (get_or lives index life) in
-    let same : life_text (index + 1) c.deref.result.now life ≡ piece = λ i. life_text (index + 1) ((c.deref.ensures.value ∙ ap (λ (v : Vec Part _). v.items) c.index.ensures) i) (c.index-in-loop-index.ensures i) in
+    let piece = life_text (index + 1) (parts_of (get_or script index parts).items) (get_or lives index life) in
+    let same : life_text (index + 1) (parts_of c.deref.result.now) life ≡ piece = λ i. life_text (index + 1) (parts_of ((c.deref.ensures.value ∙ ap (λ (v : Vec Part _). v.items) c.index.ensures) i)) (c.index-in-loop-index.ensures i) in
     always_on_err c.from_residual.result
     (stops _ _ piece (lives_left script lives (index + 1)) whole on _ (subst (AppendsFront (g.K.Sink.held c.loop-index.sink) (g.K.Sink.held c.write_life.new.sink)) same c.in_err-write_life.ensures.err))
 

@@ -1,5 +1,5 @@
 use Rattle.std.proofs.Common.{◌≤◌}
-use Rattle.flt_life.specs.Answers.{told_by}
+use Rattle.flt_life.specs.Room.{told_in}
 use Rattle.flt_run.specs.Report.{lines_text}
 use Rattle.flt_run.proofs.Written.{IsWritten, steps_left}
 use Rattle.flt_run.proofs.report.write_steps.Given as goal
@@ -7,6 +7,6 @@ use Rattle.flt_run.proofs.report.write_steps.Given as goal
 abbrev pub invariant-loop-index : goal.invariant-loop-index
 invariant-loop-index g l = record {
   later : g.K.Sink.faults l.fn.sink ≤ g.K.Sink.faults l.sink;
-  written : IsWritten (g.K.Sink.held l.fn.sink) (g.K.Sink.held l.sink) (steps_left l.replies.responses.items l.parts l.replies.answers.items l.index)
-      (lines_text l.parts (told_by l.replies.responses.items l.replies.answers.items));
+  written : IsWritten (g.K.Sink.held l.fn.sink) (g.K.Sink.held l.sink) (steps_left l.replies.responses.items l.steps l.replies.answers.items l.index)
+      (lines_text l.steps (told_in l.replies));
 }

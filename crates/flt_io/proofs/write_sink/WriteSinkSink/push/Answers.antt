@@ -1,4 +1,4 @@
-use Rattle.std.proofs.Common.{arith}
+use Rattle.std.proofs.Common.{arith, ◌∙◌}
 use Rattle.std.proofs.lemmas.List.{take_rest}
 use Rattle.std.proofs.Math.Seq.{take-add}
 use Rattle.std.proofs.KnownBytes.{Appends-trans}
@@ -9,6 +9,6 @@ loop-sent-preserved g c =
     let here = rw take_rest at c.in_ok-sent.ensures.bytes in
     record {
       within = omega (arith, c.in_ok-sent.ensures.bound);
-      later = omega (arith, c.loop-sent.invariant.later, c.in_ok-sent.ensures.cause.later);
+      sound = c.in_ok-sent.ensures.counted ∙ c.loop-sent.invariant.sound;
       front = rw take-add (Appends-trans _ _ _ _ _ c.loop-sent.invariant.front here);
     }

@@ -1,4 +1,3 @@
-use Rattle.std.proofs.Common.{◌≡◌, ℕ, ◌+◌, ◌≤◌, List, [], ◌∷◌, ◌++◌, length}
 use Rattle.flt_life.proofs.Kept.{told_more}
 use Rattle.flt_life.proofs.replies.LaneReplies.keep.Goals as goal
 

@@ -8,7 +8,7 @@ use Rattle.flt_store.specs.Known.{Knows}
 use Rattle.flt_store.proofs.Changed.{pages_of_later}
 use Rattle.flt_store.proofs.Costs.{switch_within}
 use Rattle.flt_store.proofs.Started.{numbered as number_of_started}
-use Rattle.flt_generation.specs.Holding.{Generation}
+use Rattle.flt_generation.specs.Holding.{Generation, last_number}
 use Rattle.flt_store.specs.Store.{driver_of, commit_of, kept_of, is_settled, numbered, IsReady}
 use Rattle.flt_store.proofs.Started.{sound_started}
 use Rattle.flt_store.proofs.Running.{served_on, undisturbed_until, held_is_chosen, ok_map, on_ok, err_taken, err_both, chosen_on, one_of_chosen, rises_from}
@@ -72,7 +72,7 @@ returns-in-Ok-clause-spent g c = λ h s running told.
 pub returns-in-Ok-clause-last : goal.returns-in-Ok-clause-last
 returns-in-Ok-clause-last g c = λ h s running yes last.
     let settled = c.in-Ok.ensures.settles h s running in
-    let number : settled.chosen.number ≡ 4294967295 = ⊎_elim (λ by_held. ap (λ (d : Generation). d.number) by_held ∙ last) (λ by_spare. (let no = by_spare.1 in absurd (cc (yes, no)))) settled.is in
+    let number : settled.chosen.number ≡ last_number = ⊎_elim (λ by_held. ap (λ (d : Generation). d.number) by_held ∙ last) (λ by_spare. (let no = by_spare.1 in absurd (cc (yes, no)))) settled.is in
     c.save_next.ensures.last settled.chosen settled.ready number
 
 pub returns-in-Err-clause-last : goal.returns-in-Err-clause-last

@@ -1,0 +1,45 @@
+//! Lives over the two sectors of a bench, under the lock.
+ghost use Rattle.std.specs.Prelude.{◌≡◌, ◌+◌, ◌≤◌, All, IfSome, length, map, reverse, sum_by};
+ghost use Rattle.flt_dcm.specs.Whole.{config_of};
+ghost use Rattle.flt_script.specs.Part.{parts_of};
+ghost use Rattle.flt_life.specs.Parts.{IsPossiblePart, arms_in, steps_in, widths};
+ghost use Rattle.flt_life.specs.Lives.{ArePlayed, AreEnded, AreGiven, arms_given, first_lives, lists, view_of};
+ghost use Rattle.flt_lives.specs.Sectors.{IsRunOf, FlashStaysSound};
+
+use crate::engine::LockEngine;
+use flt_config::ValidConfig;
+use flt_dcm::Unit;
+use flt_flash::Bench;
+use flt_lives::{Run, run_on_bench};
+use flt_script::Part;
+use std::alloc::Global;
+use std::marker::Sync;
+use std::sync::Wait;
+use std::thread::Threads;
+
+/// Lives one after the other over a bench, up to the first that is refused, on a machine under a lock: the lanes of each block make
+/// their steps at once.
+pub fn run_in_lanes<R: Threads + Wait + Sync, B: Bench + Drop>(
+    rt: &R,
+    alloc: Global,
+    unit: Unit,
+    bench: B,
+    config: &ValidConfig,
+    lives: &[Vec<Part>],
+) -> Run<B>
+    requires same { config_of unit ≡ config.now }
+    requires pages { config.now.pages ≤ (B.state bench).pages }
+    requires boots { length lives.now ≤ (B.state bench).bench.boots_left }
+    requires few { sum_by (λ life. sum_by steps_in (parts_of life.items)) lives.now ≤ 65536 }
+    requires small { sum_by (λ life. length life.items + widths (parts_of life.items)) lives.now ≤ 1048577 }
+    requires possible { All (λ life. All (IsPossiblePart config.now) (parts_of life.items)) lives.now }
+    requires arms { (B.state bench).bench.armed + sum_by (λ life. sum_by arms_in (parts_of life.items)) lives.now ≤ 64 }
+    ensures linked { IfSome result.lives (λ lived. IsRunOf config.now (B.state bench) (B.state result.bench) (map view_of (reverse lived.items))) }
+    ensures played { IfSome result.lives (λ lived. ArePlayed config.now (first_lives (length lived.items) (lists lives.now)) (map view_of (reverse lived.items))) }
+    ensures ended { IfSome result.lives (λ lived. AreEnded (length lives.now) (map view_of (reverse lived.items))) }
+    ensures given { IfSome result.lives (λ lived. AreGiven (arms_given (first_lives (length lived.items) (lists lives.now)) (map view_of (reverse lived.items)))
+        (B.state bench).bench.arms (B.state result.bench).bench.arms) }
+    ensures sound { FlashStaysSound config.now (B.state bench) (B.state result.bench) }
+{
+    run_on_bench(alloc, LockEngine { rt, unit }, bench, config, lives)
+}

@@ -1,0 +1,43 @@
+-- How the journal of a lock has the calls of blocks of lanes, one block behind the other, and how each call is answered there:
+-- stated of the journal of any machine.
+use Rattle.std.specs.Prelude.{◌≡◌, ℕ, List, [], ◌∷◌, ◌++◌, All, Contains, map, slice_get, Some}
+use Rattle.flt_turn.specs.declared.answer.Answer.{Answer}
+use Rattle.flt_turn.specs.declared.vault.Entry.{Entry}
+use Rattle.flt_turn.specs.Journal.{entry, calls_of}
+use Rattle.flt_turn.specs.Seats.{ops_before}
+
+-- A call, and what it was told.
+pub record Call (O R : Type 0) : Type 0 where
+  pub op : O
+  pub told : Answer R
+
+-- What was asked.
+abbrev pub ops_asked : {O R : Type 0} → List (Call O R) → List O
+ops_asked calls = map (λ call. call.op) calls
+
+-- A journal has the calls of these lanes, those of each in its order, and no others.
+pub record Mixes {O : Type 0} (journal : List (Entry O)) (lanes : List (ℕ × List O)) : Type 0 where
+  pub each : All (λ lane. calls_of lane.0 journal ≡ lane.1) lanes
+  pub others : (number : ℕ) → ¬ Contains (map (λ lane. lane.0) lanes) number → calls_of number journal ≡ []
+
+-- The lanes of a block by their numbers, each with the calls that it made. A step by itself is a block of lane 0.
+abbrev pub Block : Type 0 → Type 0 → Type 0
+Block O R = List (ℕ × List (Call O R))
+
+-- What each lane asked.
+abbrev pub asked_of : {O R : Type 0} → Block O R → List (ℕ × List O)
+asked_of lanes = map (λ lane. (lane.0, ops_asked lane.1)) lanes
+
+-- The journal has the calls of these blocks: those of each block stand together, behind those of the blocks before it.
+unfoldable pub Follows : {O R : Type 0} → List (Block O R) → List (Entry O) → Type 0
+Follows [] journal = journal ≡ []
+Follows {O} {R} (lanes ∷ blocks) journal = (block : List (Entry O)) × (rest : List (Entry O)) × (journal ≡ block ++ rest) × Mixes block (asked_of lanes) × Follows blocks rest
+
+-- A call of this lane stands at the place that it was told, and is answered after the calls before that place.
+pub record IsTold {S O R : Type 0} (answer : S → List O → O → R) (start : S) (journal : List (Entry O)) (lane : ℕ) (call : Call O R) : Type 0 where
+  pub stands : slice_get journal call.told.place ≡ Some (entry lane call.op)
+  pub reply : call.told.reply ≡ answer start (ops_before call.told.place journal) call.op
+
+-- So is each call of each lane of a block.
+abbrev pub BlockTold : {S O R : Type 0} → (S → List O → O → R) → S → List (Entry O) → Block O R → Type 0
+BlockTold answer start journal lanes = All (λ lane. All (IsTold answer start journal lane.0) lane.1) lanes

@@ -1,0 +1,56 @@
+-- The parts of a life: the steps that lane 0 makes by itself, and the lanes of its blocks.
+use Rattle.std.specs.Prelude.{ℕ, ◌+◌, List, [], ◌∷◌, ◌++◌, map, length, sum_by, All, IsTrue}
+use Rattle.std.proofs.Common.{inl, inr}
+use Rattle.flt_config.specs.declared.config.Config.{Config}
+use Rattle.flt_script.specs.declared.step.Step.{Step}
+use Rattle.flt_script.specs.Part.{PartOf}
+use Rattle.flt_script.specs.Step.{is_lane_step, steps_of_part}
+use Rattle.flt_life.specs.declared.action.Action.{Action}
+use Rattle.flt_life.specs.Actions.{action_of, IsPossible, arm_count, call_count}
+
+-- the steps of lane 0, in order
+abbrev pub own_steps : {T : Type 0} → List (PartOf T) → List T
+own_steps [] = []
+own_steps (inl step ∷ parts) = step ∷ own_steps parts
+own_steps (inr lanes ∷ parts) = own_steps parts
+
+-- the lanes of all blocks, in order
+abbrev pub lanes_in : {T : Type 0} → List (PartOf T) → List (List T)
+lanes_in [] = []
+lanes_in (inl step ∷ parts) = lanes_in parts
+lanes_in (inr lanes ∷ parts) = lanes ++ lanes_in parts
+
+-- how many lanes the block of a part has, and those of all parts
+abbrev pub width : {T : Type 0} → PartOf T → ℕ
+width (inl step) = 0
+width (inr lanes) = length lanes
+
+abbrev pub widths : {T : Type 0} → List (PartOf T) → ℕ
+widths [] = 0
+widths (part ∷ parts) = width part + widths parts
+
+-- what the steps of lane 0 do
+abbrev pub own_actions : List (PartOf Step) → List Action
+own_actions parts = map action_of (own_steps parts)
+
+-- the numbers of each step are in their ranges, and no lane saves or arms
+abbrev pub IsPossibleInLane : Config → Step → Type 0
+IsPossibleInLane c step = IsTrue (is_lane_step step) × IsPossible c (action_of step)
+
+abbrev pub IsPossiblePart : Config → PartOf Step → Type 0
+IsPossiblePart c (inl step) = IsPossible c (action_of step)
+IsPossiblePart c (inr lanes) = All (λ lane. All (IsPossibleInLane c) lane) lanes
+
+-- how many calls a part makes at most: a step in a lane makes one
+abbrev pub calls_in : PartOf Step → ℕ
+calls_in (inl step) = call_count (action_of step)
+calls_in (inr lanes) = sum_by length lanes
+
+-- how many steps a part has
+abbrev pub steps_in : PartOf Step → ℕ
+steps_in part = steps_of_part part
+
+-- how many arms a part makes
+abbrev pub arms_in : PartOf Step → ℕ
+arms_in (inl step) = arm_count (action_of step)
+arms_in (inr lanes) = 0

@@ -1,0 +1,70 @@
+-- How a life is made of the parts of its script: which calls each step makes, that the journal has them, and how each is answered.
+use Rattle.std.specs.Prelude.{◌≡◌, List, [], ◌∷◌, All, map, reverse}
+use Rattle.flt_turn.specs.declared.answer.Answer.{Answer}
+use Rattle.flt_config.specs.declared.config.Config.{Config}
+use Rattle.flt_model.specs.Life.{Life}
+use Rattle.flt_model.specs.Answer.{answer}
+use Rattle.flt_model.specs.declared.call.Op.{Op}
+use Rattle.flt_model.specs.declared.call.Op.TheVariants as ops
+use Rattle.flt_model.specs.declared.call.Reply.{Reply}
+use Rattle.flt_script.specs.declared.step.Step.{Step}
+use Rattle.flt_script.specs.Part.{PartOf}
+use Rattle.flt_life.specs.declared.action.Action.{Action}
+use Rattle.flt_life.specs.declared.action.Action.TheVariants as actions
+use Rattle.flt_life.specs.declared.answer.StepAnswer.TheVariants as answers
+use Rattle.flt_life.specs.declared.life.Boot.{Boot}
+use Rattle.flt_life.specs.declared.life.Boot.TheVariants.{Started, Dark, Refused}
+use Rattle.flt_life.specs.Actions.{action_of}
+use Rattle.flt_life.specs.Answers.{Told}
+use Rattle.flt_life.specs.Chain.{LifeView, start_from}
+use Rattle.flt_life.specs.Journal.{Journal}
+use Rattle.flt_life.specs.Making.{PartsMake}
+use Rattle.flt_life.specs.Mixing.{Call, Block, Follows, BlockTold}
+use Rattle.flt_life.specs.Parts.{own_actions, lanes_in}
+
+-- the machine's reply after these calls, the oldest first
+abbrev pub reply_after : Life → List Op → Op → Reply
+reply_after start calls op = answer start (reverse calls) op
+
+-- a save takes a snapshot, and then, where it is answered with a number, is acknowledged by it
+abbrev pub SaveMakes : Told → List (Call Op Reply) → Type 0
+SaveMakes (answers.Saved number) calls =
+    (taken : Answer Reply) × (noted : Answer Reply) × (calls ≡ record { op = ops.Snapshot; told = taken } ∷ record { op = ops.Saved number; told = noted } ∷ [])
+SaveMakes (answers.SaveFailed fault) calls = (taken : Answer Reply) × (calls ≡ record { op = ops.Snapshot; told = taken } ∷ [])
+SaveMakes _ calls = ⊥
+
+-- the calls of what a step does, where it was answered so: its answer is the machine's, or the store's
+abbrev pub ActionMakes : Action → Told → List (Call Op Reply) → Type 0
+ActionMakes (actions.Call op) told calls = (reply : Answer Reply) × (told ≡ answers.Dem reply) × (calls ≡ record { op = op; told = reply } ∷ [])
+ActionMakes actions.Save told calls = SaveMakes told calls
+ActionMakes (actions.Arm arm) told calls = (told ≡ answers.Armed) × (calls ≡ [])
+
+abbrev pub StepMakes : Step → Told → List (Call Op Reply) → Type 0
+StepMakes step told calls = ActionMakes (action_of step) told calls
+
+-- the journal has the calls of the parts, those of each part together and behind those of the parts before it, those of each lane
+-- in its order, and no others; and each answer, of lane 0 and of the lanes of the blocks, whose numbers go on from 1, is the
+-- machine's at the places of its calls, or the store's
+pub record IsLife (start : Life) (parts : List (PartOf Step)) (own : List Told) (lanes : List (List Told)) (journal : Journal) : Type 0 where
+  pub blocks : List (Block Op Reply)
+  pub made : PartsMake StepMakes 1 parts own lanes blocks
+  pub follows : Follows blocks journal
+  pub told : All (BlockTold reply_after start journal) blocks
+
+-- what a dark life answers to a step
+abbrev pub dark_answer : Action → Told
+dark_answer (actions.Call op) = answers.Dark
+dark_answer actions.Save = answers.Dark
+dark_answer (actions.Arm arm) = answers.Armed
+
+abbrev pub dark_answers : List Step → List Told
+dark_answers steps = map (λ step. dark_answer (action_of step)) steps
+
+-- the calls and the answers of a life, the oldest first, are those of its parts, by how it began
+abbrev pub IsPlayedBy : Config → List (PartOf Step) → Journal → List Told → List (List Told) → Boot → Type 0
+IsPlayedBy c parts journal own lanes (Started number state) = IsLife (start_from c state) parts own lanes journal
+IsPlayedBy c parts journal own lanes Dark = (journal ≡ []) × (own ≡ map dark_answer (own_actions parts)) × (lanes ≡ map dark_answers (lanes_in parts))
+IsPlayedBy c parts journal own lanes (Refused fault) = (journal ≡ []) × (own ≡ []) × (lanes ≡ [])
+
+abbrev pub IsPlayed : Config → List (PartOf Step) → LifeView → Type 0
+IsPlayed c parts life = IsPlayedBy c parts (reverse life.journal) (reverse life.answers) life.lanes life.boot

@@ -1,0 +1,151 @@
+// What a life takes of memory for its answers: all of it at its start.
+ghost use Rattle.std.specs.Prelude.{◌≡◌, ◌<◌, ◌≤◌, ◌+◌, ◌^◌, ◌++◌, ◌∷◌, [], All, IfOk, length, map, reverse, sum_by, vec_len};
+ghost use Rattle.std.specs.Vec.{vec_capacity};
+ghost use Rattle.flt_script.specs.Part.{parts_of};
+ghost use Rattle.flt_life.specs.Lives.{view_of};
+ghost use Rattle.flt_life.specs.Parts.{own_steps, lanes_in, steps_in, widths};
+ghost use Rattle.flt_life.specs.Room.{HasRoomForSteps, IsEmpty, IsLaneRoom, IsLifeRoom, steps_of, told_in};
+
+use crate::action::response_size;
+use crate::life::{Boot, Life};
+use crate::replies::LaneReplies;
+use flt_model::Op;
+use flt_script::{Part, Step};
+use flt_turn::Entry;
+use std::alloc::{AllocError, Global};
+
+/// The steps of a lane of a block, and room for an answer to each.
+#[derive(Drop)]
+pub struct LaneRoom<'a> {
+    pub steps: &'a [Step],
+    pub replies: LaneReplies,
+}
+
+/// Room for the answers of a life, with the places where they go in the end.
+#[derive(Drop)]
+pub struct LifeRoom<'a> {
+    /// For the answers of lane 0.
+    pub own: LaneReplies,
+    /// The lanes of all blocks, in order.
+    pub lanes: Vec<LaneRoom<'a>>,
+    /// Takes the answers of the lanes that made their steps.
+    pub told: Vec<LaneReplies>,
+    /// Takes the answers of all lanes in the end.
+    pub replies: Vec<LaneReplies>,
+}
+
+/// A lane of a block, with room for an answer to each of its steps.
+fn lane_room(alloc: Global, lane: u32, steps: &[Step]) -> Result<LaneRoom<'_>, AllocError>
+    requires { length steps.now ≤ 65536 }
+    ensures steps { IfOk result (λ room. room.steps.now ≡ steps.now) }
+    ensures room { IfOk result IsLaneRoom }
+{
+    let mut bytes = 0;
+    for step in steps {
+        bytes += response_size(step);
+    }
+    let replies = LaneReplies::with_room(alloc, lane, steps.len(), bytes)?;
+    Ok(LaneRoom { steps, replies })
+}
+
+/// Adds the lanes of a block, each with room for its answers.
+fn add_lanes<'a>(
+    alloc: Global,
+    lanes: &'a [Vec<Step>],
+    rooms: &mut Vec<LaneRoom<'a>>,
+) -> Result<(), AllocError>
+    requires few { All (λ lane. length lane.items ≤ 65536) lanes.now }
+    requires numbers { vec_len rooms.old + length lanes.now + 1 < 2 ^ 32 }
+    requires ready { All IsLaneRoom rooms.old.items }
+    ensures lanes { IfOk result (λ _. steps_of rooms.new.items ≡ steps_of rooms.old.items ++ map (λ lane. lane.items) lanes.now) }
+    ensures len { IfOk result (λ _. vec_len rooms.new ≡ vec_len rooms.old + length lanes.now) }
+    ensures ready { All IsLaneRoom rooms.new.items }
+{
+    for lane in lanes {
+        let number = rooms.len() as u32 + 1;
+        let room = lane_room(alloc, number, lane)?;
+        rooms.push(room)?;
+    }
+    Ok(())
+}
+
+/// The lanes of all blocks of these parts, each with room for its answers.
+fn lane_rooms<'a>(alloc: Global, parts: &'a [Part]) -> Result<Vec<LaneRoom<'a>>, AllocError>
+    requires few { sum_by steps_in (parts_of parts.now) ≤ 65536 }
+    requires numbers { widths (parts_of parts.now) + 1 < 2 ^ 32 }
+    ensures lanes { IfOk result (λ rooms. steps_of rooms.items ≡ lanes_in (parts_of parts.now)) }
+    ensures ready { IfOk result (λ rooms. All IsLaneRoom rooms.items) }
+{
+    let mut rooms = Vec::new(alloc);
+    for part in parts {
+        match part {
+            Part::One(_step) => {}
+            Part::Lanes(lanes) => add_lanes(alloc, lanes, &mut rooms)?,
+        }
+    }
+    Ok(rooms)
+}
+
+/// Room for the answers of lane 0 to these parts.
+fn own_room(alloc: Global, parts: &[Part]) -> Result<LaneReplies, AllocError>
+    requires few { sum_by steps_in (parts_of parts.now) ≤ 65536 }
+    ensures empty { IfOk result IsEmpty }
+    ensures room { IfOk result (λ replies. HasRoomForSteps replies (own_steps (parts_of parts.now))) }
+{
+    let mut answers = 0;
+    let mut bytes = 0;
+    for part in parts {
+        match part {
+            Part::One(step) => {
+                answers += 1;
+                bytes += response_size(step);
+            }
+            Part::Lanes(_) => {}
+        }
+    }
+    LaneReplies::with_room(alloc, 0, answers, bytes)
+}
+
+impl<'a> LifeRoom<'a> {
+    /// Takes all memory that the answers of a life with these parts need.
+    pub fn for_parts(alloc: Global, parts: &'a [Part]) -> Result<LifeRoom<'a>, AllocError>
+        requires few { sum_by steps_in (parts_of parts.now) ≤ 65536 }
+        requires numbers { widths (parts_of parts.now) + 1 < 2 ^ 32 }
+        ensures { IfOk result (λ room. IsLifeRoom (parts_of parts.now) room) }
+    {
+        let own = own_room(alloc, parts)?;
+        let lanes = lane_rooms(alloc, parts)?;
+        let told = Vec::with_capacity(alloc, lanes.len())?;
+        let replies = Vec::with_capacity(alloc, lanes.len() + 1)?;
+        Ok(LifeRoom {
+            own,
+            lanes,
+            told,
+            replies,
+        })
+    }
+}
+
+/// The life that began so and made these calls, with the answers of lane 0 and of the other lanes, which go to the reserved places.
+pub fn life_of(
+    boot: Boot,
+    journal: Vec<Entry<Op>>,
+    own: LaneReplies,
+    told: Vec<LaneReplies>,
+    replies: Vec<LaneReplies>,
+) -> Life
+    requires none { replies.items ≡ [] }
+    requires room { vec_len replies + length told.items + 1 ≤ vec_capacity replies }
+    ensures { view_of result ≡ record { boot = boot; journal = reverse journal.items; answers = reverse (told_in own); lanes = map told_in told.items } }
+{
+    let mut replies = replies;
+    replies.push_reserved(own);
+    for lane in told {
+        replies.push_reserved(lane);
+    }
+    Life {
+        boot,
+        journal,
+        replies,
+    }
+}

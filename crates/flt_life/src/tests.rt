@@ -1,0 +1,52 @@
+use super::*;
+use flt_dcm::{Reply, ReplyKind};
+use flt_script::{Part, Step};
+use std::test::Fail;
+
+#[test]
+fn answers_are_kept(rt: HostRuntime) -> Result<(), Fail> {
+    let mut replies = LaneReplies::with_room(rt.alloc(), 0, 3, 2)?;
+    let response = StepAnswer::Dem(Answer {
+        place: 0,
+        reply: ReplyKind::Response,
+    });
+    replies.keep(response, &[0x51, 0x01]);
+    let silent = StepAnswer::Dem(Answer {
+        place: 1,
+        reply: Reply::Silent,
+    });
+    replies.keep_whole(silent);
+    replies.keep(StepAnswer::Dark, &[0x7F]);
+    assert_eq!(rt; replies.answers.len(), 3);
+    assert_eq!(rt; replies.responses.as_slice(), [0x51, 0x01].as_slice());
+    Ok(())
+}
+
+#[test]
+fn room_is_taken_for_all_lanes(rt: HostRuntime) -> Result<(), Fail> {
+    let parts = [Part::One(Step::Save), Part::Lanes(Vec::new(rt.alloc()))];
+    let room = LifeRoom::for_parts(rt.alloc(), &parts)?;
+    let LifeRoom {
+        own,
+        lanes,
+        told,
+        replies,
+    } = room;
+    assert_eq!(rt; lanes.len(), 0);
+    let journal = Vec::new(rt.alloc());
+    let life = life_of(Boot::Dark, journal, own, told, replies);
+    assert_eq!(rt; life.replies.len(), 1);
+    Ok(())
+}
+
+#[test]
+fn steps_are_counted(rt: HostRuntime) {
+    for (step, calls, bytes) in [
+        (Step::Save, 2, 0),
+        (Step::Show { event: 0 }, 1, 0),
+        (Step::Cycle { cycle: 3 }, 1, 0),
+    ] {
+        assert_eq!(rt; call_count(&step), calls);
+        assert_eq!(rt; response_size(&step), bytes);
+    }
+}

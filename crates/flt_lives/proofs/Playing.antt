@@ -1,0 +1,166 @@
+-- One more step that was carried out, and the life as its parts tell it.
+use Rattle.std.proofs.Common.{◌≡◌, ◌∙◌, inl, ℕ, ◌+◌, List, [], ◌∷◌, ◌++◌, All, Some, length, map, take, reverse, refl, ap, sym, subst, arith}
+use Rattle.std.specs.Prelude.{slice_get}
+use Rattle.std.proofs.lemmas.List.{append-nil, append_assoc, reverse-append, reverse-reverse, length-reverse, map-append}
+use Rattle.std.proofs.lemmas.List.Elements.{All-nil, All-cons, All-append}
+use Rattle.flt_turn.specs.Journal.{ops_of, calls_of}
+use Rattle.flt_turn.proofs.Journals.{calls_of-append, calls_of_other}
+use Rattle.flt_model.specs.Life.{Life}
+use Rattle.flt_model.specs.Answer.{answer}
+use Rattle.flt_model.specs.declared.call.Op.{Op}
+use Rattle.flt_model.specs.declared.call.Op.TheVariants as ops
+use Rattle.flt_model.specs.declared.call.Reply.{Reply}
+use Rattle.flt_script.specs.declared.step.Step.{Step}
+use Rattle.flt_script.specs.Part.{PartOf}
+use Rattle.flt_life.specs.declared.action.Action.{Action}
+use Rattle.flt_life.specs.declared.action.Action.TheVariants as actions
+use Rattle.flt_life.specs.declared.answer.StepAnswer.TheVariants as answers
+use Rattle.flt_life.specs.Actions.{action_of}
+use Rattle.flt_life.specs.Answers.{Told}
+use Rattle.flt_life.specs.Journal.{Journal, entry}
+use Rattle.flt_life.specs.Making.{PartsMake}
+use Rattle.flt_life.specs.Mixing.{Call, Block, Mixes, Follows, asked_of, ops_asked, IsTold, BlockTold}
+use Rattle.flt_life.specs.Parts.{widths}
+use Rattle.flt_config.specs.declared.config.Config.{Config}
+use Rattle.flt_config.specs.declared.persist.Persist.{Persist}
+use Rattle.flt_life.specs.declared.life.Boot.TheVariants.{Started}
+use Rattle.flt_life.specs.Chain.{start_from}
+use Rattle.flt_life.specs.Played.{ActionMakes, IsLife, IsPlayed, StepMakes, reply_after}
+use Rattle.flt_life.proofs.Makings.{parts_more, parts_none}
+use Rattle.flt_life.proofs.Mixings.{blocks_longer, follow_more, one_follows}
+use Rattle.flt_lives.specs.Carried.{IsCarriedOut}
+
+module _ {X : Type 0} where
+  get_at : (front : List X) (x : X) (rest : List X) → slice_get (front ++ x ∷ rest) (length front) ≡ Some x
+  get_at [] x rest = refl
+  get_at (y ∷ front) x rest = get_at front x rest
+
+  take_at : (front rest : List X) → take (length front) (front ++ rest) ≡ front
+  take_at [] rest = refl
+  take_at (y ∷ front) rest = ap (λ l. y ∷ l) (take_at front rest)
+
+reverse_map : {X Y : Type 0} (f : X → Y) (xs : List X) → map f (reverse xs) ≡ reverse (map f xs)
+reverse_map f [] = refl
+reverse_map f (x ∷ xs) =
+    ap (map f) (reverse-append (x ∷ []) xs) ∙ map-append f (reverse xs) (x ∷ []) ∙ ap (λ l. l ++ f x ∷ []) (reverse_map f xs) ∙ sym (reverse-append (f x ∷ []) (map f xs))
+
+module _ (start : Life) where
+  -- calls of lane 0 behind a journal
+  abbrev calls_at : Journal → List Op → List (Call Op Reply)
+  calls_at journal [] = []
+  calls_at journal (op ∷ ops) =
+      record { op = op; told = record { place = length journal; reply = reply_after start (ops_of journal) op } } ∷ calls_at (journal ++ entry 0 op ∷ []) ops
+
+  asked_at : (journal : Journal) (ops : List Op) → ops_asked (calls_at journal ops) ≡ ops
+  asked_at journal [] = refl
+  asked_at journal (op ∷ ops) = ap (λ l. op ∷ l) (asked_at (journal ++ entry 0 op ∷ []) ops)
+
+  told_at : (journal : Journal) (ops : List Op) → All (IsTold reply_after start (journal ++ map (λ op. entry 0 op) ops) 0) (calls_at journal ops)
+  told_at journal [] = All-nil _
+  told_at journal (op ∷ ops) =
+      let rest = map (λ o. entry 0 o) ops in
+      let whole = journal ++ entry 0 op ∷ rest in
+      All-cons (IsTold reply_after start whole 0) _ (calls_at (journal ++ entry 0 op ∷ []) ops)
+      record {
+        stands = get_at journal (entry 0 op) rest;
+        reply = ap (λ l. reply_after start (ops_of l) op) (sym (take_at journal (entry 0 op ∷ rest)));
+      }
+      (subst (λ j. All (IsTold reply_after start j 0) (calls_at (journal ++ entry 0 op ∷ []) ops)) (append_assoc journal (entry 0 op ∷ []) rest) (told_at (journal ++ entry 0 op ∷ []) ops))
+
+  own_calls : (ops : List Op) → calls_of 0 (map (λ op. entry 0 op) ops) ≡ ops
+  own_calls [] = refl
+  own_calls (op ∷ ops) = ap (λ l. op ∷ l) (own_calls ops)
+
+  other_calls : (n : ℕ) → ¬ (0 ≡ n) → (ops : List Op) → calls_of n (map (λ op. entry 0 op) ops) ≡ []
+  other_calls n apart [] = refl
+  other_calls n apart (op ∷ ops) =
+      calls_of-append n (entry 0 op ∷ []) (map (λ o. entry 0 o) ops) ∙ (λ i. calls_of_other n 0 op [] apart i ++ other_calls n apart ops i)
+
+  mixes_at : (journal : Journal) (ops : List Op) → Mixes (map (λ op. entry 0 op) ops) (asked_of ((0, calls_at journal ops) ∷ []))
+  mixes_at journal ops = record {
+    each = All-cons (λ (lane : ℕ × List Op). calls_of lane.0 (map (λ op. entry 0 op) ops) ≡ lane.1) (0, ops_asked (calls_at journal ops)) [] (own_calls ops ∙ sym (asked_at journal ops))
+        (All-nil (λ (lane : ℕ × List Op). calls_of lane.0 (map (λ op. entry 0 op) ops) ≡ lane.1));
+    others = λ n apart. other_calls n (λ same. apart (0, omega arith, same)) ops;
+  }
+
+  module _ (parts : List (PartOf Step)) (own : List Told) (lanes : List (List Told)) (journal : Journal) (life : IsLife start parts own lanes journal) where
+    life_at : (step : Step) (told : Told) (ops : List Op) → StepMakes step told (calls_at journal ops)
+        → IsLife start (parts ++ inl step ∷ []) (own ++ told ∷ []) lanes (journal ++ map (λ op. entry 0 op) ops)
+    life_at step told ops makes =
+        let calls = calls_at journal ops in
+        let more = map (λ op. entry 0 op) ops in
+        let block : Block Op Reply = (0, calls) ∷ [] in
+        let whole = journal ++ more in
+        record {
+          blocks = life.blocks ++ block ∷ [];
+          made = subst (λ l. PartsMake StepMakes 1 (parts ++ inl step ∷ []) (own ++ told ∷ []) l (life.blocks ++ block ∷ [])) (append-nil lanes)
+              (parts_more StepMakes 1 (1 + widths parts) parts own lanes life.blocks (inl step) (told ∷ []) [] block refl life.made (told, calls, refl, refl, refl, makes));
+          follows = follow_more life.blocks (block ∷ []) journal more life.follows (one_follows block more (mixes_at journal ops));
+          told = All-append (BlockTold reply_after start whole) life.blocks (block ∷ [])
+              (blocks_longer reply_after start journal whole life.blocks (more, refl) life.told)
+              (All-cons (BlockTold reply_after start whole) block []
+              (All-cons (λ (lane : ℕ × List (Call Op Reply)). All (IsTold reply_after start whole lane.0) lane.1) (0, calls) [] (told_at journal ops)
+              (All-nil (λ (lane : ℕ × List (Call Op Reply)). All (IsTold reply_after start whole lane.0) lane.1)))
+              (All-nil (BlockTold reply_after start whole)));
+        }
+
+  -- what a step adds to the journal
+  record AddsOps (journal after : Journal) (action : Action) (told : Told) : Type 0 where
+    ops : List Op
+    makes : ActionMakes action told (calls_at journal ops)
+    is : after ≡ journal ++ map (λ op. entry 0 op) ops
+
+  module _ (journal after : Journal) where
+    -- the newest entries are those at the end
+    behind : (newest : Journal) → reverse after ≡ newest ++ reverse journal → after ≡ journal ++ reverse newest
+    behind newest is =
+        sym (reverse-reverse after) ∙ ap reverse is ∙ reverse-append newest (reverse journal) ∙ ap (λ l. l ++ reverse newest) (reverse-reverse journal)
+
+    place_is : length (reverse journal) ≡ length journal
+    place_is = length-reverse journal
+
+    past_is : map (λ e. e.op) (reverse journal) ≡ reverse (ops_of journal)
+    past_is = reverse_map (λ e. e.op) journal
+
+    ops_by : (action : Action) (told : Told) → IsCarriedOut start (reverse journal) action (reverse after) told → AddsOps journal after action told
+    ops_by (actions.Call op) told carried = record {
+      ops = op ∷ [];
+      makes = (_, carried.1 ∙ (λ i. answers.Dem (record { place = place_is i; reply = answer start (past_is i) op })), refl);
+      is = behind (entry 0 op ∷ []) carried.0;
+    }
+    ops_by actions.Save (answers.Saved number) carried = record {
+      ops = ops.Snapshot ∷ ops.Saved number ∷ [];
+      makes = (_, _, refl);
+      is = behind (entry 0 (ops.Saved number) ∷ entry 0 ops.Snapshot ∷ []) carried;
+    }
+    ops_by actions.Save (answers.SaveFailed fault) carried = record {
+      ops = ops.Snapshot ∷ [];
+      makes = (_, refl);
+      is = behind (entry 0 ops.Snapshot ∷ []) carried;
+    }
+    ops_by actions.Save (answers.Dem reply) carried = absurd carried
+    ops_by actions.Save answers.Armed carried = absurd carried
+    ops_by actions.Save answers.Dark carried = absurd carried
+    ops_by (actions.Arm arm) told carried = record { ops = []; makes = (carried.1, refl); is = behind [] carried.0 }
+
+-- no step
+pub no_parts : (start : Life) → IsLife start [] [] [] []
+unfolding Follows
+no_parts start = record { blocks = []; made = parts_none StepMakes 1; follows = refl; told = All-nil (BlockTold reply_after start []) }
+
+-- and one more
+pub life_more : (start : Life) (parts : List (PartOf Step)) (own : List Told) (lanes : List (List Told)) (journal after : Journal) (step : Step) (told : Told)
+    → IsLife start parts own lanes journal → IsCarriedOut start (reverse journal) (action_of step) (reverse after) told
+    → IsLife start (parts ++ inl step ∷ []) (own ++ told ∷ []) lanes after
+life_more start parts own lanes journal after step told life carried =
+    let adds = ops_by start journal after (action_of step) told carried in
+    subst (λ j. IsLife start (parts ++ inl step ∷ []) (own ++ told ∷ []) lanes j) (sym adds.is) (life_at start parts own lanes journal life step told adds.ops adds.makes)
+
+-- the life as it is told
+pub played_by : (c : Config) (parts : List (PartOf Step)) (generation : ℕ) (state start : Persist) (journal : Journal) (own : List Told) (lanes : List (List Told)) → start ≡ state → lanes ≡ []
+    → IsLife (start_from c state) parts (reverse own) [] journal
+    → IsPlayed c parts (record { boot = Started generation start; journal = reverse journal; answers = own; lanes = lanes })
+played_by c parts generation state start journal own lanes same none life =
+    subst (λ s. IsLife (start_from c s) parts (reverse own) lanes (reverse (reverse journal))) (sym same)
+    (subst (λ l. IsLife (start_from c state) parts (reverse own) l (reverse (reverse journal))) (sym none)
+    (subst (λ j. IsLife (start_from c state) parts (reverse own) [] j) (sym (reverse-reverse journal)) life))

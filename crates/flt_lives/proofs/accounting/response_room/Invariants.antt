@@ -1,7 +1,0 @@
-use Rattle.std.proofs.Common.{◌≡◌, take}
-use Rattle.std.specs.Prelude.{sum_by}
-use Rattle.flt_life.specs.Actions.{actions_in, response_size}
-use Rattle.flt_lives.proofs.accounting.response_room.Given as goal
-
-abbrev pub invariant-loop-part : goal.invariant-loop-part
-invariant-loop-part l = l.room ≡ sum_by response_size (actions_in (take l.part-index l.parts))

@@ -1,0 +1,25 @@
+use Rattle.std.proofs.Common.{◌≡◌, ◌+◌, ◌≤◌, take, map, length}
+use Rattle.std.specs.Prelude.{sum_by, vec_len}
+use Rattle.std.specs.Vec.{vec_capacity}
+use Rattle.flt_script.specs.Part.{parts_of}
+use Rattle.flt_store.specs.Store.{driver_of}
+use Rattle.flt_life.specs.Actions.{all_arms}
+use Rattle.flt_life.specs.Moment.{moment_of}
+use Rattle.flt_life.specs.Parts.{arms_in, own_actions, own_steps}
+use Rattle.flt_life.specs.Played.{dark_answer}
+use Rattle.flt_life.specs.Room.{told_in}
+use Rattle.flt_lives.specs.Going.{GoesOn, WereGiven}
+use Rattle.flt_lives.proofs.dark.take_dark_steps.Given as goal
+
+abbrev pub invariant-loop-part : goal.invariant-loop-part
+invariant-loop-part g l = record {
+  answers : told_in l.own ≡ map dark_answer (own_actions (parts_of (take l.part-index l.parts)));
+  len : vec_len l.own.answers ≡ vec_len l.fn.own.answers + length (own_steps (parts_of (take l.part-index l.parts)));
+  room : vec_capacity l.own.answers ≡ vec_capacity l.fn.own.answers;
+  responses : vec_len l.own.responses ≡ vec_len l.fn.own.responses;
+  bytes : vec_capacity l.fn.own.responses ≤ vec_capacity l.own.responses;
+  same : moment_of (driver_of l.store) ≡ moment_of (driver_of l.fn.store);
+  goes_on : GoesOn (driver_of l.fn.store) (driver_of l.store);
+  given : WereGiven (all_arms (own_actions (parts_of (take l.part-index l.parts)))) (driver_of l.fn.store).device.bench.arms (driver_of l.store).device.bench.arms;
+  armed : (driver_of l.store).device.bench.armed ≤ (driver_of l.fn.store).device.bench.armed + sum_by arms_in (parts_of (take l.part-index l.parts));
+}

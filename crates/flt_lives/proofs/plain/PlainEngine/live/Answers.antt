@@ -1,0 +1,109 @@
+use Rattle.std.proofs.Common.{[], reverse, map, ap, sym, subst, arith}
+use Rattle.std.proofs.lemmas.List.{length-map}
+use Rattle.flt_config.specs.declared.config.Config.{Config}
+use Rattle.flt_dcm.specs.Unit.{Stands}
+use Rattle.flt_dcm.specs.Whole.{state_of}
+use Rattle.flt_store.specs.Store.{numbered, driver_of}
+use Rattle.flt_script.specs.Part.{parts_of}
+use Rattle.flt_life.specs.Actions.{action_of}
+use Rattle.flt_life.specs.Causes.{AreCaused}
+use Rattle.flt_life.specs.Chain.{LifeView, Leaves, start_from}
+use Rattle.flt_life.specs.Moment.{moment_of}
+use Rattle.flt_life.specs.Parts.{own_steps}
+use Rattle.flt_life.specs.Played.{IsPlayed}
+use Rattle.flt_life.specs.Room.{told_in as told_now}
+use Rattle.flt_lives.specs.Living.{IsLiving, IsCaused, told_in}
+use Rattle.flt_lives.proofs.Causing.{are_caused}
+use Rattle.flt_lives.proofs.Keeping.{kept_first}
+use Rattle.flt_lives.proofs.Playing.{played_by}
+use Rattle.flt_lives.proofs.Rooms.{alone_calls, arms_are, calls_most, possible_alone}
+use Rattle.flt_lives.proofs.plain.PlainEngine.live.Goals as goal
+
+pub take_steps-requires-clause-possible : goal.take_steps-requires-clause-possible
+take_steps-requires-clause-possible g c = possible_alone c.args.config.now (parts_of c.args.parts.now) c.requires.possible
+
+pub take_steps-requires-clause-arms : goal.take_steps-requires-clause-arms
+take_steps-requires-clause-arms g c =
+    let same = arms_are (parts_of c.args.parts.now) in
+    let most = c.requires.arms in
+    omega (arith, same, most)
+
+pub take_steps-requires-clause-room : goal.take_steps-requires-clause-room
+take_steps-requires-clause-room g c =
+    let parts = parts_of c.args.parts.now in
+    let calls = alone_calls parts c.requires.can in
+    let most = calls_most parts in
+    let few = c.requires.few in
+    let none = c.in_ok-journal.ensures.len in
+    let capacity = c.in_ok-journal.ensures.capacity in
+    let count = c.call_room.ensures in
+    let answers = c.requires.room.own_room.answers in
+    let responses = c.requires.room.own_room.responses in
+    let many = length-map (own_steps parts) action_of in
+    record {
+      few = omega (arith, none, most, few);
+      calls = omega (arith, none, capacity, count, calls);
+      answers = omega (arith, answers, many);
+      responses = responses;
+    }
+
+pub returns-clause-leaves : goal.returns-clause-leaves
+returns-clause-leaves g c =
+    let first = numbered c.args.generation c.args.buffers.now.state in
+    let begun : IsLiving c.args.config.now first [] [] (state_of c.boot.new.self) c.args.store.now = record {
+      stands = subst (λ (k : Config). Stands (start_from k c.args.buffers.now.state) [] (state_of c.boot.new.self)) c.requires.same c.boot.ensures.stands;
+      held = first;
+      spare = first;
+      running = c.requires.running;
+      kept = kept_first c.args.config.now first;
+    } in
+    let living = c.take_steps.ensures.living first begun in
+    let account = c.take_steps.new.account in
+    let view : LifeView = record { boot = _; journal = reverse account.journal.items; answers = told_in account; lanes = _ } in
+    let leaves : Leaves c.args.config.now first view (moment_of (driver_of c.take_steps.new.store)) = record {
+      held = living.held;
+      spare = living.spare;
+      last = living.kept.last;
+      sound = record { undamaged = g.met.D.Blocks.mounted_is_sound c.take_steps.new.store.nvm.blocks living.running.served.mounted; sound = living.running.sound };
+      acknowledged = living.kept.acknowledged;
+      held_is = living.kept.held_is;
+      spare_is = living.kept.spare_is;
+      rising = living.kept.rising;
+    } in
+    subst (λ (view : LifeView). Leaves c.args.config.now first view (moment_of (driver_of c.take_steps.new.store))) (sym c.life_of.ensures) leaves
+
+pub returns-clause-caused : goal.returns-clause-caused
+returns-clause-caused g c = λ boot rose.
+    let first = numbered c.args.generation c.args.buffers.now.state in
+    let faults = (driver_of c.args.store.now).device.faults in
+    let begun : IsCaused c.args.config.now faults [] c.args.store.now = record {
+      held_now = first;
+      spare_now = first;
+      running = c.requires.running;
+      flash = omega arith;
+      spent = λ none. absurd none;
+      sequence = λ none. absurd none;
+    } in
+    subst (λ (view : LifeView). AreCaused c.args.config.now boot (moment_of (driver_of c.take_steps.new.store)) view.answers) (sym c.life_of.ensures)
+    (are_caused c.args.config.now faults (told_in c.take_steps.new.account) c.take_steps.new.store boot rose (c.take_steps.ensures.caused faults begun))
+
+pub returns-clause-played : goal.returns-clause-played
+returns-clause-played g c =
+    let first = numbered c.args.generation c.args.buffers.now.state in
+    let begun : IsLiving c.args.config.now first [] [] (state_of c.boot.new.self) c.args.store.now = record {
+      stands = subst (λ (k : Config). Stands (start_from k c.args.buffers.now.state) [] (state_of c.boot.new.self)) c.requires.same c.boot.ensures.stands;
+      held = first;
+      spare = first;
+      running = c.requires.running;
+      kept = kept_first c.args.config.now first;
+    } in
+    let account = c.take_steps.new.account in
+    subst (λ (view : LifeView). IsPlayed c.args.config.now (parts_of c.args.parts.now) view) (sym c.life_of.ensures)
+    (played_by c.args.config.now (parts_of c.args.parts.now) c.args.generation c.args.buffers.now.state c.copy_of-start.result account.journal.items (told_in account) (map told_now c.args.room.told.items)
+    c.copy_of-start.ensures (ap (map told_now) c.requires.room.none_told.0) (c.take_steps.ensures.played first begun))
+
+pub returns-clause-armed : goal.returns-clause-armed
+returns-clause-armed g c =
+    let same = arms_are (parts_of c.args.parts.now) in
+    let armed = c.take_steps.ensures.armed in
+    omega (arith, same, armed)

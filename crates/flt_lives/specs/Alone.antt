@@ -1,0 +1,20 @@
+-- Lives of lane 0 alone, without blocks of lanes.
+use Rattle.std.specs.Prelude.{List, All}
+use Rattle.std.proofs.Common.{inl, inr}
+use Rattle.flt_script.specs.declared.step.Part.{Part}
+use Rattle.flt_script.specs.declared.step.Step.{Step}
+use Rattle.flt_script.specs.Part.{PartOf, parts_of}
+use Rattle.flt_life.specs.declared.action.Action.{Action}
+use Rattle.flt_life.specs.Parts.{own_actions}
+
+-- a step by itself
+abbrev pub IsAlone : PartOf Step → Type 0
+IsAlone (inl step) = Unit {0}
+IsAlone (inr lanes) = ⊥
+
+abbrev pub AreAlone : List (PartOf Step) → Type 0
+AreAlone parts = All IsAlone parts
+
+-- what the steps of lane 0 do, in order
+abbrev pub actions_in : List Part → List Action
+actions_in parts = own_actions (parts_of parts)

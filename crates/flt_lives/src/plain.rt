@@ -1,0 +1,163 @@
+// The steps of lane 0, on a machine without a lock.
+ghost use Rattle.std.specs.Prelude.{◌≡◌, ◌+◌, ◌≤◌, ◌<◌, ◌^◌, ◌∷◌, [], ℕ, All, IfOk, List, length, reverse, sum_by, vec_len};
+ghost use Rattle.std.specs.Vec.{vec_capacity};
+ghost use Rattle.flt_config.specs.Durable.{Fits};
+ghost use Rattle.flt_flash.specs.State.{HasRisenBy};
+ghost use Rattle.flt_generation.specs.Holding.{Generation};
+ghost use Rattle.flt_dcm.specs.Whole.{config_of, state_of};
+ghost use Rattle.flt_script.specs.Part.{parts_of};
+ghost use Rattle.flt_store.specs.Store.{driver_of, numbered, IsRunning};
+ghost use Rattle.flt_life.specs.Actions.{action_of, IsPossible, arm_count, arms_of, all_arms, call_count, response_size};
+ghost use Rattle.flt_life.specs.declared.action.Action.{Action};
+ghost use Rattle.flt_life.specs.declared.life.Boot.TheVariants as boots;
+ghost use Rattle.flt_life.specs.Causes.{AreCaused};
+ghost use Rattle.flt_life.specs.Chain.{start_from, Leaves};
+ghost use Rattle.flt_life.specs.Lives.{view_of};
+ghost use Rattle.flt_life.specs.Moment.{Moment, moment_of};
+ghost use Rattle.flt_life.specs.Played.{IsLife};
+ghost use Rattle.flt_lives.specs.Alive.{IsAlive};
+ghost use Rattle.flt_lives.specs.Alone.{AreAlone, actions_in};
+ghost use Rattle.flt_lives.specs.Going.{GoesOn, WereGiven};
+ghost use Rattle.flt_lives.specs.Living.{IsUnderWay, IsLiving, IsCaused, AddsStep, told_in, HasRoomFor};
+
+use crate::account::Account;
+use crate::accounting::call_room;
+use crate::buffers::Buffers;
+use crate::engine::{Engine, Lived};
+use crate::step::make_step;
+use flt_config::{Persist, ValidConfig};
+use flt_dcm::Unit;
+use flt_flash::Blocks;
+use flt_life::{Boot, LifeRoom, action_of, life_of};
+use flt_script::{Part, Step};
+use flt_store::Store;
+use std::alloc::{AllocError, Global};
+
+/// Makes a step, and writes its calls and its answer behind those of the steps before it.
+fn take_step<D: Blocks + Drop>(
+    unit: &mut Unit,
+    store: &mut Store<D>,
+    config: &ValidConfig,
+    buffers: &mut Buffers,
+    step: &Step,
+    account: &mut Account,
+)
+    requires same { config_of unit.old ≡ config.now }
+    requires under_way { IsUnderWay config.now (state_of unit.old) }
+    requires possible { IsPossible config.now (action_of step.now) }
+    requires arms { (driver_of store.old).device.bench.armed + arm_count (action_of step.now) ≤ 64 }
+    requires room { HasRoomFor account.old (action_of step.now ∷ []) }
+    ensures config { config_of unit.new ≡ config_of unit.old }
+    ensures under_way { IsUnderWay config.now (state_of unit.new) }
+    ensures alive { IsAlive config.now store.old → IsAlive config.now store.new }
+    ensures living { (first : Generation) → IsLiving config.now first (reverse account.old.journal.items) (told_in account.old) (state_of unit.old) store.old
+        → IsLiving config.now first (reverse account.new.journal.items) (told_in account.new) (state_of unit.new) store.new }
+    ensures adds { (first : Generation) → IsLiving config.now first (reverse account.old.journal.items) (told_in account.old) (state_of unit.old) store.old
+        → AddsStep config.now first (action_of step.now) (reverse account.old.journal.items) (reverse account.new.journal.items) (told_in account.old) (told_in account.new) }
+    ensures caused { (begun : ℕ) → IsCaused config.now begun (told_in account.old) store.old → IsCaused config.now begun (told_in account.new) store.new }
+    ensures room { (rest : List Action) → HasRoomFor account.old (action_of step.now ∷ rest) → HasRoomFor account.new rest }
+    ensures goes_on { GoesOn (driver_of store.old) (driver_of store.new) }
+    ensures given { WereGiven (arms_of (action_of step.now)) (driver_of store.old).device.bench.arms (driver_of store.new).device.bench.arms }
+    ensures armed { (driver_of store.new).device.bench.armed ≤ (driver_of store.old).device.bench.armed + arm_count (action_of step.now) }
+{
+    let answer = make_step(
+        unit,
+        store,
+        config,
+        buffers,
+        action_of(step),
+        &mut account.journal,
+    );
+    account.replies.keep(answer, buffers.response.as_slice());
+}
+
+/// Makes steps one after the other.
+fn take_steps<D: Blocks + Drop>(
+    unit: &mut Unit,
+    store: &mut Store<D>,
+    config: &ValidConfig,
+    buffers: &mut Buffers,
+    parts: &[Part],
+    account: &mut Account,
+)
+    requires same { config_of unit.old ≡ config.now }
+    requires alone { AreAlone (parts_of parts.now) }
+    requires under_way { IsUnderWay config.now (state_of unit.old) }
+    requires possible { All (IsPossible config.now) (actions_in parts.now) }
+    requires arms { (driver_of store.old).device.bench.armed + sum_by arm_count (actions_in parts.now) ≤ 64 }
+    requires room { HasRoomFor account.old (actions_in parts.now) }
+    requires no_calls { account.old.journal.items ≡ [] }
+    requires no_answers { told_in account.old ≡ [] }
+    ensures config { config_of unit.new ≡ config_of unit.old }
+    ensures alive { IsAlive config.now store.old → IsAlive config.now store.new }
+    ensures living { (first : Generation) → IsLiving config.now first [] [] (state_of unit.old) store.old
+        → IsLiving config.now first (reverse account.new.journal.items) (told_in account.new) (state_of unit.new) store.new }
+    ensures played { (first : Generation) → IsLiving config.now first [] [] (state_of unit.old) store.old
+        → IsLife (start_from config.now first.state) (parts_of parts.now) (reverse (told_in account.new)) [] account.new.journal.items }
+    ensures caused { (begun : ℕ) → IsCaused config.now begun [] store.old → IsCaused config.now begun (told_in account.new) store.new }
+    ensures goes_on { GoesOn (driver_of store.old) (driver_of store.new) }
+    ensures given { WereGiven (all_arms (actions_in parts.now)) (driver_of store.old).device.bench.arms (driver_of store.new).device.bench.arms }
+    ensures armed { (driver_of store.new).device.bench.armed ≤ (driver_of store.old).device.bench.armed + sum_by arm_count (actions_in parts.now) }
+{
+    for part in parts {
+        let Part::One(step) = part else {
+            unreachable!()
+        };
+        take_step(unit, store, config, buffers, step, account);
+    }
+}
+
+// A copy of a state, which takes no memory.
+fn copy_of(state: &Persist) -> Persist
+    ensures { result ≡ state.now }
+{
+    state.clone().unwrap()
+}
+
+/// Makes the steps of lane 0, in lives without blocks of lanes, on a machine without a lock.
+#[derive(Drop)]
+pub struct Plain {
+    pub unit: Unit,
+}
+
+impl<D: Blocks + Drop> Engine<D> for Plain {
+    ghost machine_config = { λ plain. config_of plain.unit };
+
+    ghost can_make = { AreAlone };
+
+    fn live(
+        self,
+        alloc: Global,
+        store: &mut Store<D>,
+        config: &ValidConfig,
+        buffers: &mut Buffers,
+        generation: u32,
+        parts: &[Part],
+        room: LifeRoom<'_>,
+    ) -> Result<Lived<Plain>, AllocError> {
+        let Plain { mut unit } = self;
+        let LifeRoom {
+            own,
+            lanes: _,
+            told,
+            replies,
+        } = room;
+        let journal = Vec::with_capacity(alloc, call_room(parts))?;
+        let mut account = Account {
+            journal,
+            replies: own,
+        };
+        unit.boot(&buffers.state);
+        let start = copy_of(&buffers.state);
+        take_steps(&mut unit, store, config, buffers, parts, &mut account);
+        let Account {
+            journal,
+            replies: own,
+        } = account;
+        let boot = Boot::Started { generation, start };
+        Ok(Lived {
+            engine: Plain { unit },
+            life: life_of(boot, journal, own, told, replies),
+        })
+    }
+}

@@ -1,0 +1,45 @@
+-- The script of a load is served by all tables, and without lanes it has no block.
+use Rattle.std.proofs.Common.{◌≡◌, ℕ, List, [], ◌∷◌, ◌++◌, map, false, ap, sym, subst, inl, inr, Global}
+use Rattle.std.specs.Prelude.{All, Vec}
+use Rattle.std.specs.List.{flat_map, range_with_len}
+use Rattle.std.proofs.lemmas.List.Elements.{All-nil, All-cons, All-head, All-tail, All-append}
+use Rattle.flt_config.specs.declared.config.DidUse.{DidUse}
+use Rattle.flt_config.specs.declared.config.EventCfg.{EventCfg}
+use Rattle.flt_did.specs.Serves.{HasAll, Serves}
+use Rattle.flt_script.specs.declared.step.Part.{Part}
+use Rattle.flt_script.specs.declared.step.Step.{Step}
+use Rattle.flt_script.specs.declared.step.Step.TheVariants as steps
+use Rattle.flt_script.specs.Load.{load_config, load_event, load_lanes, load_life, load_parts, plain_parts, shown_life}
+use Rattle.flt_script.specs.Part.{PartOf, parts_of}
+use Rattle.flt_life.specs.Lives.{lists}
+use Rattle.flt_lives.specs.Alone.{IsAlone, AreAlone}
+
+served_events : (dids : List DidUse) (numbers : List ℕ) → Serves dids (map load_event numbers)
+served_events dids [] = All-nil _
+served_events dids (number ∷ rest) = All-cons (λ (event : EventCfg). HasAll dids event.dids.items) (load_event number) (map load_event rest) (All-nil _) (served_events dids rest)
+
+pub served_load : (dids : List DidUse) → Serves dids load_config.events.items
+unfolding load_config
+served_load dids = served_events dids (range_with_len 0 16)
+
+alone_steps : (all : List Step) → AreAlone (plain_parts all)
+alone_steps [] = All-nil _
+alone_steps (step ∷ rest) = All-cons IsAlone (inl step) (plain_parts rest) tt (alone_steps rest)
+
+alone_lanes : (lanes : List (List Step)) → AreAlone (flat_map plain_parts lanes)
+alone_lanes [] = All-nil _
+alone_lanes (lane ∷ rest) = All-append IsAlone (plain_parts lane) (flat_map plain_parts rest) (alone_steps lane) (alone_lanes rest)
+
+alone_load : (count : ℕ) → AreAlone (load_life count false)
+alone_load count =
+    All-cons IsAlone (inl (steps.Cycle 0)) (load_parts count false ++ inl steps.Save ∷ []) tt
+    (All-append IsAlone (load_parts count false) (inl steps.Save ∷ []) (alone_lanes (load_lanes count)) (All-cons IsAlone (inl steps.Save) [] tt (All-nil _)))
+
+of_lists : (lives : List (Vec Part Global)) → All AreAlone (lists lives) → All (λ (life : Vec Part Global). AreAlone (parts_of life.items)) lives
+of_lists [] all = All-nil _
+of_lists (life ∷ rest) all =
+    All-cons (λ (l : Vec Part Global). AreAlone (parts_of l.items)) life rest (All-head AreAlone (parts_of life.items) (lists rest) all) (of_lists rest (All-tail AreAlone (parts_of life.items) (lists rest) all))
+
+pub alone_lives : (count : ℕ) (lives : List (Vec Part Global)) → lists lives ≡ load_life count false ∷ shown_life ∷ [] → All (λ (life : Vec Part Global). AreAlone (parts_of life.items)) lives
+alone_lives count lives is =
+    of_lists lives (subst (All AreAlone) (sym is) (All-cons AreAlone (load_life count false) (shown_life ∷ []) (alone_load count) (All-cons AreAlone shown_life [] (alone_steps (map steps.Show (range_with_len 0 16))) (All-nil _))))

@@ -1,0 +1,141 @@
+-- The block under way: a step more in its last lane, and what is known of it where a line was not refused.
+use Rattle.std.proofs.Common.{◌≡◌, ℕ, ◌+◌, ◌≤◌, List, [], ◌∷◌, ◌++◌, length, Bool, true, false, ◌&&◌, leb, Option, Some, None, refl, arith, length-append, inl, inr}
+use Rattle.std.specs.Prelude.{is_some, is_none, option_map, option_to_list, sum_by}
+use Rattle.std.specs.List.{list_all}
+use Rattle.std.proofs.lemmas.Bool.{leb-false, le-leb}
+use Rattle.std.proofs.lemmas.List.{append-nil}
+use Rattle.std.proofs.lemmas.List.Folds.{list_all-append}
+use Rattle.std.proofs.lemmas.List.Sums.{sum_by-cons, sum_by_push}
+use Rattle.flt_config.specs.declared.config.Config.{Config}
+use Rattle.flt_script.specs.declared.step.Step.{Step}
+use Rattle.flt_script.specs.Behind.{lane_count, has_lane, in_last_lane, with_step}
+use Rattle.flt_script.specs.Gives.{given_by}
+use Rattle.flt_script.specs.Part.{PartOf}
+use Rattle.flt_script.specs.Refusal.{is_step_misplaced}
+use Rattle.flt_script.specs.Step.{is_step_in, is_lane_step, is_lane_in, is_part_in, are_parts_in, steps_of_part, steps_of, lanes_of_part, arm_count, arms_of_part, arms_of}
+use Rattle.flt_script.specs.Within.{marks_of}
+use Rattle.flt_script.proofs.Bools.{both_true, not_false}
+
+pub same_some : {X Y : Type 0} (f : X → Y) (o : Option X) → is_some (option_map f o) ≡ is_some o
+same_some f None = refl
+same_some f (Some x) = refl
+
+pub some_of : {X : Type 0} (o : Option X) → is_none o ≡ false → is_some o ≡ true
+some_of None e = absurd cc
+some_of (Some x) e = refl
+
+-- A step more leaves the number of the lanes.
+pub length-in_last_lane : (read : Option Step) (lanes : List (List Step)) → length (in_last_lane read lanes) ≡ length lanes
+length-in_last_lane read [] = refl
+length-in_last_lane read (lane ∷ []) = refl
+length-in_last_lane read (lane ∷ next ∷ lanes) = let more = length-in_last_lane read (next ∷ lanes) in omega (arith, more)
+
+pub as_many_lanes : (read : Option Step) (block : Option (List (List Step))) → lane_count (option_map (in_last_lane read) block) ≡ lane_count block
+as_many_lanes read None = refl
+as_many_lanes read (Some lanes) = length-in_last_lane read lanes
+
+pub lane_more : (block : Option (List (List Step))) → is_some block ≡ true → lane_count (option_map (λ lanes. lanes ++ [] ∷ []) block) ≡ lane_count block + 1
+lane_more None e = absurd cc
+lane_more (Some lanes) e = length-append lanes ([] ∷ [])
+
+-- ---- what a block comes to
+
+-- A block under way has at most 8 lanes, of steps that may stand there.
+abbrev pub is_block_in : Config → Option (List (List Step)) → Bool
+is_block_in config block = given_by block true (λ lanes. leb (length lanes) 8 && list_all (is_lane_in config) lanes)
+
+-- The steps of the block under way, and the lines at which it and its lanes began.
+abbrev pub block_steps : Option (List (List Step)) → ℕ
+block_steps block = given_by block 0 (sum_by length)
+
+abbrev pub block_marks : Option (List (List Step)) → ℕ
+block_marks block = given_by block 0 (λ lanes. length lanes + 1)
+
+module _ (config : Config) (s : Step) (within : is_step_in config s ≡ true) where
+  lane_with : (lane : List Step) → is_lane_step s ≡ true → is_lane_in config lane ≡ true → is_lane_in config (lane ++ s ∷ []) ≡ true
+  lane_with lane may all = rw (list_all-append (λ (x : Step). is_step_in config x && is_lane_step x) lane (s ∷ []), all, within, may) refl
+
+  lanes_with : (lanes : List (List Step)) → is_lane_step s ≡ true → list_all (is_lane_in config) lanes ≡ true → list_all (is_lane_in config) (in_last_lane (Some s) lanes) ≡ true
+  lanes_with [] may all = refl
+  lanes_with (lane ∷ []) may all =
+      let parts = both_true (is_lane_in config lane) true all in
+      rw (lane_with lane may parts.0) refl
+  lanes_with (lane ∷ next ∷ lanes) may all =
+      let parts = both_true (is_lane_in config lane) (list_all (is_lane_in config) (next ∷ lanes)) all in
+      rw (parts.0, lanes_with (next ∷ lanes) may parts.1) refl
+
+  pub block_with : (block : Option (List (List Step))) → is_step_misplaced block s ≡ false → is_block_in config block ≡ true
+      → is_block_in config (option_map (in_last_lane (Some s)) block) ≡ true
+  block_with None place all = refl
+  block_with (Some []) place all = absurd cc
+  block_with (Some (lane ∷ lanes)) place all =
+      let parts = both_true (leb (length (lane ∷ lanes)) 8) (list_all (is_lane_in config) (lane ∷ lanes)) all in
+      rw (length-in_last_lane (Some s) (lane ∷ lanes), parts.0, lanes_with (lane ∷ lanes) (not_false (is_lane_step s) place) parts.1) refl
+
+  pub parts_with : (block : Option (List (List Step))) (parts : List (PartOf Step)) → are_parts_in config parts ≡ true → are_parts_in config (with_step block (Some s) parts) ≡ true
+  parts_with None parts all = rw (list_all-append (is_part_in config) parts (inl s ∷ []), all, within) refl
+  parts_with (Some lanes) parts all = all
+
+steps_in_last : (s : Step) (lane : List Step) (lanes : List (List Step)) → sum_by length (in_last_lane (Some s) (lane ∷ lanes)) ≡ sum_by length (lane ∷ lanes) + 1
+steps_in_last s lane [] =
+    omega (arith, length-append lane (s ∷ []), sum_by-cons length (lane ++ s ∷ []) [], sum_by-cons length lane [])
+steps_in_last s lane (next ∷ lanes) =
+    let more = steps_in_last s next lanes in
+    omega (arith, more, sum_by-cons length lane (in_last_lane (Some s) (next ∷ lanes)), sum_by-cons length lane (next ∷ lanes))
+
+pub steps_with : (block : Option (List (List Step))) (s : Step) (parts : List (PartOf Step)) → is_step_misplaced block s ≡ false
+    → steps_of (with_step block (Some s) parts) + block_steps (option_map (in_last_lane (Some s)) block) ≡ steps_of parts + block_steps block + 1
+steps_with None s parts place = omega (arith, sum_by_push steps_of_part parts (inl s))
+steps_with (Some []) s parts place = absurd cc
+steps_with (Some (lane ∷ lanes)) s parts place = omega (arith, steps_in_last s lane lanes)
+
+pub arms_with_step : (block : Option (List (List Step))) (s : Step) (parts : List (PartOf Step)) → arms_of (with_step block (Some s) parts) ≤ arms_of parts + arm_count s
+arms_with_step None s parts = omega (arith, sum_by_push arms_of_part parts (inl s))
+arms_with_step (Some lanes) s parts = omega arith
+
+pub marks_with : (block : Option (List (List Step))) (s : Step) (parts : List (PartOf Step))
+    → marks_of (with_step block (Some s) parts) + block_marks (option_map (in_last_lane (Some s)) block) ≤ marks_of parts + block_marks block + 1
+marks_with None s parts = omega (arith, sum_by_push lanes_of_part parts (inl s), length-append parts (inl s ∷ []))
+marks_with (Some lanes) s parts = omega (arith, length-in_last_lane (Some s) lanes)
+
+-- ---- a lane more, and the end of a block
+
+module _ (config : Config) where
+  pub block_with_lane : (block : Option (List (List Step))) → leb 8 (lane_count block) ≡ false → is_block_in config block ≡ true
+      → is_block_in config (option_map (λ lanes. lanes ++ [] ∷ []) block) ≡ true
+  block_with_lane None few all = refl
+  block_with_lane (Some lanes) few all =
+      let parts = both_true (leb (length lanes) 8) (list_all (is_lane_in config) lanes) all in
+      let under = leb-false 8 (length lanes) few in
+      let fits : length (lanes ++ [] ∷ []) ≤ 8 = rw length-append (omega arith) in
+      rw (le-leb (length (lanes ++ [] ∷ [])) 8 fits, list_all-append (is_lane_in config) lanes ([] ∷ []), parts.1) refl
+
+  pub parts_with_block : (block : Option (List (List Step))) (parts : List (PartOf Step)) → has_lane block ≡ true → is_block_in config block ≡ true → are_parts_in config parts ≡ true
+      → are_parts_in config (parts ++ option_to_list (option_map inr block)) ≡ true
+  parts_with_block None parts some block all = absurd cc
+  parts_with_block (Some []) parts some block all = absurd cc
+  parts_with_block (Some (lane ∷ lanes)) parts some block all =
+      let held = both_true (leb (length (lane ∷ lanes)) 8) (list_all (is_lane_in config) (lane ∷ lanes)) block in
+      let one : 1 ≤ length (lane ∷ lanes) = omega arith in
+      let last : is_part_in config (inr (lane ∷ lanes)) ≡ true = rw (le-leb 1 (length (lane ∷ lanes)) one, held.0, held.1) refl in
+      rw (list_all-append (is_part_in config) parts (inr (lane ∷ lanes) ∷ []), all, last) refl
+
+pub steps_with_lane : (block : Option (List (List Step))) → block_steps (option_map (λ lanes. lanes ++ [] ∷ []) block) ≡ block_steps block
+steps_with_lane None = refl
+steps_with_lane (Some lanes) = omega (arith, sum_by_push length lanes [])
+
+pub marks_with_lane : (block : Option (List (List Step))) → block_marks (option_map (λ lanes. lanes ++ [] ∷ []) block) ≤ block_marks block + 1
+marks_with_lane None = omega arith
+marks_with_lane (Some lanes) = omega (arith, length-append lanes ([] ∷ []))
+
+pub steps_with_block : (block : Option (List (List Step))) (parts : List (PartOf Step)) → steps_of (parts ++ option_to_list (option_map inr block)) ≡ steps_of parts + block_steps block
+steps_with_block None parts = rw append-nil (omega arith)
+steps_with_block (Some lanes) parts = omega (arith, sum_by_push steps_of_part parts (inr lanes))
+
+pub arms_with_block : (block : Option (List (List Step))) (parts : List (PartOf Step)) → arms_of (parts ++ option_to_list (option_map inr block)) ≡ arms_of parts
+arms_with_block None parts = rw append-nil refl
+arms_with_block (Some lanes) parts = omega (arith, sum_by_push arms_of_part parts (inr lanes))
+
+pub marks_with_block : (block : Option (List (List Step))) (parts : List (PartOf Step)) → marks_of (parts ++ option_to_list (option_map inr block)) ≤ marks_of parts + block_marks block
+marks_with_block None parts = rw append-nil (omega arith)
+marks_with_block (Some lanes) parts = omega (arith, sum_by_push lanes_of_part parts (inr lanes), length-append parts (inr lanes ∷ []))

@@ -1,0 +1,266 @@
+-- The script of a load keeps to the limits of scripts.
+use Rattle.std.proofs.Common.{◌≡◌, ℕ, zero, suc, ◌+◌, ◌*◌, ◌/◌, ◌%◌, ◌<◌, ◌≤◌, List, [], ◌∷◌, ◌++◌, length, Bool, true, false, cond, ◌&&◌, Ok, refl, ap, ◌∙◌, arith, inl, inr, length-append, add-one}
+use Rattle.std.specs.Prelude.{◌==◌, filter, map, sum_by}
+use Rattle.std.specs.List.{list_all, flat_map, range_with_len}
+use Rattle.std.proofs.lemmas.Bool.{lt-ltb}
+use Rattle.std.proofs.lemmas.List.{length-map, map-append}
+use Rattle.std.proofs.lemmas.List.Elements.{filter-append}
+use Rattle.std.proofs.lemmas.List.Folds.{list_all-append}
+use Rattle.std.proofs.lemmas.List.FromFn.{length-range_with_len}
+use Rattle.std.proofs.lemmas.List.Sums.{sum_by-cons, sum_by-append}
+use Rattle.flt_config.specs.Check.{check_of, distinct_behind}
+use Rattle.flt_config.specs.Ranges.{global_settings, plain_settings, jump_settings, threshold_settings, counter_settings, debounce_settings, did_width_settings, did_settings, event_settings, events_settings, ranges_result}
+use Rattle.flt_script.specs.declared.step.Step.{Step}
+use Rattle.flt_script.specs.declared.step.Step.TheVariants as step
+use Rattle.flt_script.specs.Laws.{LoadOfFour}
+use Rattle.flt_script.specs.Load.{load_config, next_number, load_number, load_step, load_lane, load_lanes, plain_parts, load_parts, load_life, shown_life}
+use Rattle.flt_script.specs.Part.{PartOf}
+use Rattle.flt_script.specs.Step.{is_step_in, is_lane_step, is_lane_in, is_part_in, are_parts_in, steps_of_part, steps_of, lanes_of_part, lanes_of, arms_of_part, arms_of}
+use Rattle.flt_script.specs.Within.{marks_of, IsWithin}
+use Rattle.flt_script.proofs.Bools.{both_true}
+
+pub load_is_accepted : check_of load_config ≡ Ok load_config
+unfolding check_of load_config distinct_behind global_settings plain_settings jump_settings threshold_settings counter_settings debounce_settings did_width_settings did_settings event_settings events_settings ranges_result
+load_is_accepted = refl
+
+-- ---- the steps of a lane
+
+step_is_in : (lane number : ℕ) → lane < 4 → is_step_in load_config (load_step lane number) ≡ true
+unfolding load_config
+step_is_in lane number few = lt-ltb (4 * lane + number / 65536 % 4) 16 (omega arith)
+
+steps_are_in : (count lane : ℕ) → lane < 4 → (places : List ℕ) → is_lane_in load_config (map (λ place. load_step lane (load_number count (place + 1))) places) ≡ true
+steps_are_in count lane few [] = refl
+steps_are_in count lane few (place ∷ places) = rw (step_is_in lane (load_number count (place + 1)) few, steps_are_in count lane few places) refl
+
+lane_is_in : (count lane reports : ℕ) → lane < 4 → is_lane_in load_config (load_lane count lane reports) ≡ true
+unfolding load_lane
+lane_is_in count lane reports few = steps_are_in count lane few (filter (λ place. place % 4 == lane) (range_with_len 0 reports))
+
+lanes_are_in : (count : ℕ) → list_all (is_lane_in load_config) (load_lanes count) ≡ true
+lanes_are_in count =
+    rw (lane_is_in count 0 count (omega arith), lane_is_in count 1 count (omega arith), lane_is_in count 2 count (omega arith), lane_is_in count 3 count (omega arith)) refl
+
+-- ---- how many steps the lanes have
+
+one_more : {X : Type 0} (test : Bool) (x : X) (xs : List X) → length (cond test (x ∷ xs) xs) ≡ cond test 1 0 + length xs
+one_more true x xs = omega arith
+one_more false x xs = omega arith
+
+in_one_lane : (rest : ℕ) → rest < 4 → cond (rest == 0) 1 0 + cond (rest == 1) 1 0 + cond (rest == 2) 1 0 + cond (rest == 3) 1 0 ≡ 1
+in_one_lane zero few = refl
+in_one_lane (suc zero) few = refl
+in_one_lane (suc (suc zero)) few = refl
+in_one_lane (suc (suc (suc zero))) few = refl
+in_one_lane (suc (suc (suc (suc rest)))) few = absurd (omega (arith, few))
+
+abbrev of_lane : ℕ → List ℕ → List ℕ
+of_lane lane places = filter (λ place. place % 4 == lane) places
+
+each_in_one_lane : (places : List ℕ) → length (of_lane 0 places) + length (of_lane 1 places) + length (of_lane 2 places) + length (of_lane 3 places) ≡ length places
+each_in_one_lane [] = refl
+each_in_one_lane (place ∷ places) =
+    let more = each_in_one_lane places in
+    let small : place % 4 < 4 = omega arith in
+    let one = in_one_lane (place % 4) small in
+    omega (
+      arith,
+      more,
+      one,
+      one_more (place % 4 == 0) place (of_lane 0 places),
+      one_more (place % 4 == 1) place (of_lane 1 places),
+      one_more (place % 4 == 2) place (of_lane 2 places),
+      one_more (place % 4 == 3) place (of_lane 3 places),
+    )
+
+length-load_lane : (count lane : ℕ) → length (load_lane count lane count) ≡ length (of_lane lane (range_with_len 0 count))
+unfolding load_lane
+length-load_lane count lane = length-map (of_lane lane (range_with_len 0 count)) (λ (place : ℕ). load_step lane (load_number count (place + 1)))
+
+steps_in_lanes : (count : ℕ) → sum_by length (load_lanes count) ≡ count
+steps_in_lanes count =
+    let places = range_with_len 0 count in
+    omega (
+      arith,
+      each_in_one_lane places,
+      length-range_with_len 0 count,
+      length-load_lane count 0,
+      length-load_lane count 1,
+      length-load_lane count 2,
+      length-load_lane count 3,
+    )
+
+-- ---- steps by themselves
+
+plain_in : (steps : List Step) → is_lane_in load_config steps ≡ true → are_parts_in load_config (plain_parts steps) ≡ true
+plain_in [] all = refl
+plain_in (s ∷ steps) all =
+    let here = both_true (is_step_in load_config s && is_lane_step s) (is_lane_in load_config steps) all in
+    let first = both_true (is_step_in load_config s) (is_lane_step s) here.0 in
+    rw (first.0, plain_in steps here.1) refl
+
+steps_of-plain : (steps : List Step) → steps_of (plain_parts steps) ≡ length steps
+steps_of-plain [] = refl
+steps_of-plain (s ∷ steps) = omega (arith, steps_of-plain steps, sum_by-cons steps_of_part (inl s) (plain_parts steps))
+
+lanes_of-plain : (steps : List Step) → lanes_of (plain_parts steps) ≡ 0
+lanes_of-plain [] = refl
+lanes_of-plain (s ∷ steps) = omega (arith, lanes_of-plain steps, sum_by-cons lanes_of_part (inl s) (plain_parts steps))
+
+-- A step of a lane arms nothing.
+no_arm : (s : Step) → is_lane_step s ≡ true → arms_of_part (inl s) ≡ 0
+no_arm (step.Report event report) may = refl
+no_arm (step.Show event) may = refl
+no_arm (step.Cycle cycle) may = refl
+no_arm (step.Tick ticks) may = refl
+no_arm (step.Signal index value) may = refl
+no_arm (step.Request tester bytes) may = refl
+no_arm step.Save may = absurd cc
+no_arm (step.Arming arm) may = absurd cc
+
+arms_of-plain : (steps : List Step) → is_lane_in load_config steps ≡ true → arms_of (plain_parts steps) ≡ 0
+arms_of-plain [] all = refl
+arms_of-plain (s ∷ steps) all =
+    let here = both_true (is_step_in load_config s && is_lane_step s) (is_lane_in load_config steps) all in
+    let first = both_true (is_step_in load_config s) (is_lane_step s) here.0 in
+    omega (arith, arms_of-plain steps here.1, no_arm s first.1, sum_by-cons arms_of_part (inl s) (plain_parts steps))
+
+-- ---- the parts of the reports
+
+record IsPart (parts : List (PartOf Step)) (steps : ℕ) : Type 0 where
+  in_range : are_parts_in load_config parts ≡ true
+  few : steps_of parts ≡ steps
+  few_arms : arms_of parts ≡ 0
+  few_marks : marks_of parts ≤ steps + 5
+
+record IsPlain (parts : List (PartOf Step)) (steps : ℕ) : Type 0 where
+  in_range : are_parts_in load_config parts ≡ true
+  few : steps_of parts ≡ steps
+  no_arms : arms_of parts ≡ 0
+  no_lanes : lanes_of parts ≡ 0
+  long : length parts ≡ steps
+
+flat_plain : (lanes : List (List Step)) → list_all (is_lane_in load_config) lanes ≡ true → IsPlain (flat_map plain_parts lanes) (sum_by length lanes)
+flat_plain [] all = record { in_range = refl; few = refl; no_arms = refl; no_lanes = refl; long = refl }
+flat_plain (lane ∷ lanes) all =
+    let parts = both_true (is_lane_in load_config lane) (list_all (is_lane_in load_config) lanes) all in
+    let rest = flat_plain lanes parts.1 in
+    let first = plain_parts lane in
+    let others = flat_map plain_parts lanes in
+    let sum = sum_by-cons length lane lanes in
+    record {
+      in_range = rw (list_all-append (is_part_in load_config) first others, plain_in lane parts.0, rest.in_range) refl;
+      few = omega (arith, sum, sum_by-append steps_of_part first others, steps_of-plain lane, rest.few);
+      no_arms = omega (arith, sum_by-append arms_of_part first others, arms_of-plain lane parts.0, rest.no_arms);
+      no_lanes = omega (arith, sum_by-append lanes_of_part first others, lanes_of-plain lane, rest.no_lanes);
+      long = omega (arith, sum, length-append first others, length-map lane (λ (s : Step). let part : PartOf Step = inl s in part), rest.long);
+    }
+
+reports_are_part : (count : ℕ) (lanes : Bool) → IsPart (load_parts count lanes) count
+reports_are_part count true = record {
+  in_range = rw (lanes_are_in count) refl;
+  few = omega (arith, steps_in_lanes count, sum_by-cons steps_of_part (inr (load_lanes count)) []);
+  few_arms = refl;
+  few_marks = omega arith;
+}
+reports_are_part count false =
+    let plain = flat_plain (load_lanes count) (lanes_are_in count) in
+    let sum = steps_in_lanes count in
+    record {
+      in_range = plain.in_range;
+      few = omega (arith, plain.few, sum);
+      few_arms = plain.no_arms;
+      few_marks = omega (arith, plain.no_lanes, plain.long, sum);
+    }
+
+-- ---- both lives
+
+module _ (count : ℕ) (lanes : Bool) where
+  life_in : are_parts_in load_config (load_life count lanes) ≡ true
+  life_in = rw (list_all-append (is_part_in load_config) (load_parts count lanes) (inl step.Save ∷ []), (reports_are_part count lanes).in_range) refl
+
+  life_steps : steps_of (load_life count lanes) ≡ count + 2
+  life_steps = omega (
+    arith,
+    (reports_are_part count lanes).few,
+    sum_by-cons steps_of_part (inl (step.Cycle 0)) (load_parts count lanes ++ inl step.Save ∷ []),
+    sum_by-append steps_of_part (load_parts count lanes) (inl step.Save ∷ []),
+    sum_by-cons steps_of_part (inl step.Save) [],
+  )
+
+  life_arms : arms_of (load_life count lanes) ≡ 0
+  life_arms = omega (
+    arith,
+    (reports_are_part count lanes).few_arms,
+    sum_by-cons arms_of_part (inl (step.Cycle 0)) (load_parts count lanes ++ inl step.Save ∷ []),
+    sum_by-append arms_of_part (load_parts count lanes) (inl step.Save ∷ []),
+    sum_by-cons arms_of_part (inl step.Save) [],
+  )
+
+  life_marks : marks_of (load_life count lanes) ≤ count + 7
+  life_marks = omega (
+    arith,
+    (reports_are_part count lanes).few_marks,
+    sum_by-cons lanes_of_part (inl (step.Cycle 0)) (load_parts count lanes ++ inl step.Save ∷ []),
+    sum_by-append lanes_of_part (load_parts count lanes) (inl step.Save ∷ []),
+    sum_by-cons lanes_of_part (inl step.Save) [],
+    length-append (load_parts count lanes) (inl step.Save ∷ []),
+  )
+
+shown_in : are_parts_in load_config shown_life ≡ true
+unfolding load_config
+shown_in = refl
+
+shown_steps : steps_of shown_life ≡ 16
+shown_steps = refl
+
+shown_arms : arms_of shown_life ≡ 0
+shown_arms = refl
+
+shown_marks : marks_of shown_life ≡ 16
+shown_marks = refl
+
+-- The lives of a load are those of a script.
+pub load_within : (count : ℕ) (lanes : Bool) → count ≤ 60000 → IsWithin load_config (load_life count lanes ∷ shown_life ∷ [])
+load_within count lanes few = record {
+  in_range = rw (life_in count lanes, shown_in) refl;
+  few = omega (arith, life_steps count lanes, shown_steps, sum_by-cons steps_of (load_life count lanes) (shown_life ∷ []), sum_by-cons steps_of shown_life []);
+  few_arms = omega (arith, life_arms count lanes, shown_arms, sum_by-cons arms_of (load_life count lanes) (shown_life ∷ []), sum_by-cons arms_of shown_life []);
+  few_parts = omega (arith, life_marks count lanes, shown_marks, sum_by-cons marks_of (load_life count lanes) (shown_life ∷ []), sum_by-cons marks_of shown_life []);
+  few_lives = omega arith;
+}
+
+-- ---- one report more
+
+place_more : (first count last : ℕ) → first + count ≡ last → range_with_len first (suc count) ≡ range_with_len first count ++ last ∷ []
+place_more first zero last e = let same : first ≡ last = omega (arith, e) in ap (λ n. n ∷ []) same
+place_more first (suc count) last e = ap (λ (more : List ℕ). first ∷ more) (place_more (first + 1) count last (omega (arith, e)))
+
+mapped : {X : Type 0} (f : ℕ → X) (test : Bool) (place : ℕ) → map f (cond test (place ∷ []) []) ≡ cond test (f place ∷ []) []
+mapped f true place = refl
+mapped f false place = refl
+
+pub lane_more : (count lane place : ℕ) → load_lane count lane (place + 1) ≡ load_lane count lane place ++ cond (place % 4 == lane) (load_step lane (load_number count (place + 1)) ∷ []) []
+unfolding load_lane
+lane_more count lane place =
+    let test = λ (p : ℕ). p % 4 == lane in
+    let report = λ (p : ℕ). load_step lane (load_number count (p + 1)) in
+    ap (λ (n : ℕ). map report (filter test (range_with_len 0 n))) (add-one place)
+    ∙ ap (λ (places : List ℕ). map report (filter test places)) (place_more 0 place place (omega arith))
+    ∙ ap (map report) (filter-append test (range_with_len 0 place) (place ∷ []))
+    ∙ map-append report (filter test (range_with_len 0 place)) (filter test (place ∷ []))
+    ∙ ap (λ (last : List Step). map report (filter test (range_with_len 0 place)) ++ last) (mapped report (test place) place)
+
+pub number_more : (count place number next : ℕ) → number ≡ load_number count place → next ≡ next_number number → next ≡ load_number count (place + 1)
+unfolding load_number
+number_more count place number next e made = rw (add-one, made, e) refl
+
+pub plain_more : (steps : List Step) (s : Step) → plain_parts (steps ++ s ∷ []) ≡ plain_parts steps ++ inl s ∷ []
+plain_more [] s = refl
+plain_more (first ∷ steps) s = let rest = plain_more steps s in ap (λ (more : List (PartOf Step)). inl first ∷ more) rest
+
+-- ---- an example
+
+pub load_of_four : LoadOfFour
+unfolding load_number load_lane
+load_of_four = record { numbers = refl; steps = refl }
