@@ -14,7 +14,7 @@ use Rattle.flt_code.specs.declared.words.Word.TheVariants.{Head}
 use Rattle.flt_record.specs.declared.place.RecordPlace.{RecordPlace}
 use Rattle.flt_record.specs.LogHolds.{LogHolds, asked_of, given}
 use Rattle.flt_record.specs.Live.{held_in}
-use Rattle.flt_record.specs.RecordPlace.{record_at, IsWithin, IsAt, IsPlaceOf, bytes_at}
+use Rattle.flt_record.specs.RecordPlace.{record_at, IsPlaceWithin, IsAt, IsPlaceOf, bytes_at}
 use Rattle.flt_record.proofs.Recording.{pages_on}
 use Rattle.flt_record.proofs.Telling.{new_at}
 use Rattle.flt_record.specs.Record.{KeptApart, IsWhole, RecordLeft}
@@ -90,7 +90,7 @@ module _ (used : ℕ) (numbers : List ℕ) (before : FlashState) (shape : HasSha
 
   -- a block with a record
   module _ (place : RecordPlace) (is : IsAt (sector_at before.image sector) used (held_in used numbers (sector_at before.image sector) number) (Some place)) where
-    pub within : IsWithin used place
+    pub within : IsPlaceWithin used place
     within = is.inside.within
 
     size : length (bytes_at (sector_at before.image sector) place) ≡ place.length

@@ -10,7 +10,7 @@ ghost use Rattle.flt_flash.specs.declared.blocks.BlockFault.TheVariants.{Full, S
 ghost use Rattle.flt_code.specs.Word.{is_length};
 ghost use Rattle.flt_sector.specs.Blocks.{current, block_value};
 ghost use Rattle.flt_record.specs.LogHolds.{asked_of};
-ghost use Rattle.flt_record.specs.RecordPlace.{IsWithin, IsAt, Tells, bytes_at};
+ghost use Rattle.flt_record.specs.RecordPlace.{IsPlaceWithin, IsAt, Tells, bytes_at};
 ghost use Rattle.flt_fee.specs.Costs.{Spends, Erases, MakesRoom, StoreCosts, Stores, UnlessFailed};
 ghost use Rattle.flt_fee.specs.Mounted.{IsMounted};
 ghost use Rattle.flt_fee.specs.Place.{current_of};
@@ -348,7 +348,7 @@ impl<F: Flash> Fee<F> {
     // Reads the record at a place.
     fn take(&mut self, place: RecordPlace, out: &mut [u8; 128]) -> Result<Found, BlockFault>
         requires settled { IsFalse (state_of F.state self.old).is_stale }
-        requires within { IsWithin self.old.used place }
+        requires within { IsPlaceWithin self.old.used place }
         ensures found { IfOk result (λ found. Finds (asked_of place.valid (bytes_at (sector_at (F.state self.old.flash).image self.old.sector) place)) found out.old out.new) }
         ensures nothing { OnErr result (out.new ≡ out.old) }
         ensures values { SameValues (state_of F.state self.old) (state_of F.state self.new) }

@@ -7,6 +7,7 @@ ghost use Rattle.flt_life.specs.Lives.{ArePlayed, AreEnded, AreGiven, arms_given
 ghost use Rattle.flt_lives.specs.Sectors.{IsRunOf, FlashStaysSound};
 
 use crate::engine::LockEngine;
+use crate::gate::SharedGate;
 use flt_config::ValidConfig;
 use flt_dcm::Unit;
 use flt_flash::Bench;
@@ -18,9 +19,10 @@ use std::sync::Wait;
 use std::thread::Threads;
 
 /// Lives one after the other over a bench, up to the first that is refused, on a machine under a lock: the lanes of each block make
-/// their steps at once.
-pub fn run_in_lanes<R: Threads + Wait + Sync, B: Bench + Drop>(
+/// their steps at once. Each step is made between the two calls of the gate.
+pub fn run_in_lanes<R: Threads + Wait + Sync, G: SharedGate, B: Bench + Drop>(
     rt: &R,
+    gate: &G,
     alloc: Global,
     unit: Unit,
     bench: B,
@@ -41,5 +43,5 @@ pub fn run_in_lanes<R: Threads + Wait + Sync, B: Bench + Drop>(
         (B.state bench).bench.arms (B.state result.bench).bench.arms) }
     ensures sound { FlashStaysSound config.now (B.state bench) (B.state result.bench) }
 {
-    run_on_bench(alloc, LockEngine { rt, unit }, bench, config, lives)
+    run_on_bench(alloc, LockEngine { rt, gate, unit }, bench, config, lives)
 }

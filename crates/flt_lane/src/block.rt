@@ -10,8 +10,8 @@ ghost use Rattle.flt_lane.specs.Lived.{IsMain};
 ghost use Rattle.flt_lane.specs.Room.{IsLaneFor, steps_in};
 ghost use Rattle.flt_lane.specs.Block.{AreSplit, IsSplitOff, AreJoined, RunsLanes};
 
-use crate::gate::Gate;
-use crate::lane::{LaneWork, run_block};
+use crate::gate::SharedGate;
+use crate::lane::LaneWork;
 use flt_life::{LaneReplies, LaneRoom};
 use flt_shared::{DemLock, DemSeat};
 use std::marker::Sync;
@@ -96,7 +96,7 @@ fn join_lanes(
 }
 
 /// Runs lanes that are ready.
-fn run_works<R: Threads + Wait + Sync, G: Gate + Sync>(
+fn run_works<R: Threads + Wait + Sync, G: SharedGate>(
     rt: &R,
     dem: &DemLock,
     works: &mut Vec<LaneWork<'_>>,
@@ -107,12 +107,12 @@ fn run_works<R: Threads + Wait + Sync, G: Gate + Sync>(
     ensures ran { (k : ℕ) (d : LaneWork) → k < length works.old.items → HasRun (slice_index_or works.old.items k d) (slice_index_or works.new.items k d) }
     ensures lock { All (λ work. IsSeatOf dem.now work.seat) works.new.items }
 {
-    run_block(rt, dem, works.as_mut_slice(), gate);
+    gate.run_lanes(rt, dem, works.as_mut_slice());
 }
 
 /// Runs the lanes of a block, and puts their answers behind those that are there. No memory is taken: there is room for the seats
 /// in `works`, and in `told` for the answers.
-pub(crate) fn run_lanes<'a, R: Threads + Wait + Sync, G: Gate + Sync>(
+pub(crate) fn run_lanes<'a, R: Threads + Wait + Sync, G: SharedGate>(
     rt: &R,
     dem: &DemLock,
     main: &mut DemSeat,

@@ -2,7 +2,7 @@
 ghost use Rattle.std.specs.Thread.{IsSync};
 ghost use Rattle.flt_dcm.specs.Whole.{config_of};
 
-use crate::gate::OpenGate;
+use crate::gate::SharedGate;
 use crate::life::live_on_lock;
 use flt_config::ValidConfig;
 use flt_dcm::Unit;
@@ -16,14 +16,17 @@ use std::marker::Sync;
 use std::sync::Wait;
 use std::thread::Threads;
 
-/// Makes the steps of lives under a lock, with a runtime for the threads of their lanes.
+/// Makes the steps of lives under a lock, with a runtime for the threads of their lanes and a gate that may hold them.
 #[derive(Drop)]
-pub struct LockEngine<'a, R> {
+pub struct LockEngine<'a, R, G> {
     pub rt: &'a R,
+    pub gate: &'a G,
     pub unit: Unit,
 }
 
-impl<D: Blocks + Drop, R: Threads + Wait + Sync> Engine<D> for LockEngine<'_, R> {
+impl<D: Blocks + Drop, R: Threads + Wait + Sync, G: SharedGate> Engine<D>
+    for LockEngine<'_, R, G>
+{
     ghost machine_config = { λ engine. config_of engine.unit };
 
     ghost can_make = { λ parts. IsSync R.row };
@@ -38,10 +41,10 @@ impl<D: Blocks + Drop, R: Threads + Wait + Sync> Engine<D> for LockEngine<'_, R>
         parts: &[Part],
         room: LifeRoom<'_>,
     ) -> Result<Lived<Self>, AllocError> {
-        let LockEngine { rt, unit } = self;
+        let LockEngine { rt, gate, unit } = self;
         let lived = live_on_lock(
             rt,
-            &OpenGate,
+            gate,
             unit,
             alloc,
             store,
@@ -54,6 +57,7 @@ impl<D: Blocks + Drop, R: Threads + Wait + Sync> Engine<D> for LockEngine<'_, R>
         Ok(Lived {
             engine: LockEngine {
                 rt,
+                gate,
                 unit: lived.unit,
             },
             life: lived.life,

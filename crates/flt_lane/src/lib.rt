@@ -17,11 +17,9 @@ mod life;
 mod living;
 mod room;
 mod step;
-#[cfg(test)]
-mod tests;
 
 pub use bench::run_in_lanes;
 pub use engine::LockEngine;
-pub use gate::{Gate, OpenGate};
+pub use gate::{Gate, OpenGate, SharedGate};
 pub use lane::{LaneWork, run_block};
 pub use life::{Lived, live_on_lock};

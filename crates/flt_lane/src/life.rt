@@ -17,7 +17,7 @@ ghost use Rattle.flt_life.specs.Room.{IsLifeRoom};
 ghost use Rattle.flt_lives.specs.Alive.{IsAlive};
 ghost use Rattle.flt_lives.specs.Going.{GoesOn, WereGiven};
 
-use crate::gate::Gate;
+use crate::gate::SharedGate;
 use crate::living::run_parts;
 use crate::room::part_rooms;
 use flt_config::{Persist, ValidConfig};
@@ -50,7 +50,7 @@ fn copy_of(state: &Persist) -> Persist
 /// Lives on a lock from the state that a start-up restored under this number, over the store that it left: lane 0 makes its steps, and
 /// the lanes of each block at once. The answers go to the room that was taken for them. All memory is taken before the first call;
 /// where it is wanting no step was made.
-pub fn live_on_lock<R: Threads + Wait + Sync, G: Gate + Sync, B: Blocks + Drop>(
+pub fn live_on_lock<R: Threads + Wait + Sync, G: SharedGate, B: Blocks + Drop>(
     rt: &R,
     gate: &G,
     unit: Unit,

@@ -17,7 +17,7 @@ ghost use Rattle.flt_lane.specs.Room.{IsPartFor, IsPartRoom, part_in};
 ghost use Rattle.flt_lane.specs.Block.{HasStepped, Gains, HasRunParts};
 
 use crate::block::run_lanes;
-use crate::gate::Gate;
+use crate::gate::{Gate, SharedGate};
 use crate::room::PartRoom;
 use crate::step::do_step;
 use flt_config::ValidConfig;
@@ -68,7 +68,7 @@ fn run_one<R: Wait, G: Gate, B: Blocks + Drop>(
 }
 
 /// Carries out a part of a life, and puts its answers behind those that are there.
-fn run_part<'a, R: Threads + Wait + Sync, G: Gate + Sync, B: Blocks + Drop>(
+fn run_part<'a, R: Threads + Wait + Sync, G: SharedGate, B: Blocks + Drop>(
     rt: &R,
     dem: &DemLock,
     store: &mut Store<B>,
@@ -115,7 +115,7 @@ fn run_part<'a, R: Threads + Wait + Sync, G: Gate + Sync, B: Blocks + Drop>(
 }
 
 /// Carries out the parts of a life, one after the other. No memory is taken.
-pub(crate) fn run_parts<'a, R: Threads + Wait + Sync, G: Gate + Sync, B: Blocks + Drop>(
+pub(crate) fn run_parts<'a, R: Threads + Wait + Sync, G: SharedGate, B: Blocks + Drop>(
     rt: &R,
     dem: &DemLock,
     store: &mut Store<B>,

@@ -8,7 +8,7 @@ use Rattle.flt_restore.specs.declared.fault.StartFault.{StartFault}
 use Rattle.flt_restore.specs.declared.fault.StartFault.TheVariants as faults
 use Rattle.flt_life.specs.declared.life.Boot.{Boot}
 use Rattle.flt_life.specs.declared.life.Boot.TheVariants.{Started, Dark, Refused}
-use Rattle.flt_life.specs.Chain.{LifeView, HoldsBy, IsFound, IsRefused}
+use Rattle.flt_life.specs.Chain.{LifeView, IsLifeBegunBy, IsFound, IsRefused}
 use Rattle.flt_life.specs.Moment.{Moment}
 use Rattle.flt_life.specs.Statuses.{IsJudgedFaulty, StatusHasCause, status_by}
 
@@ -41,7 +41,7 @@ module _ (c : Config) (boot next : Moment) (ended : ℕ) where
     completed = λ undamaged g holds left few. (let spent = is.2 in absurd (cc (left, spent)));
   }
 
-  pub by_boot : (life : LifeView) (b : Boot) → HoldsBy c boot next ended life b → StatusHasCause c boot next ended (status_by b)
+  pub by_boot : (life : LifeView) (b : Boot) → IsLifeBegunBy c boot next ended life b → StatusHasCause c boot next ended (status_by b)
   by_boot life (Started number state) is = record {
     started = λ _. ((_, is.0), is.1);
     refused = λ e. absurd (omega (arith, e));

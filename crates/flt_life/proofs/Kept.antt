@@ -8,7 +8,7 @@ use Rattle.flt_life.specs.declared.answer.KeptReply.{KeptReply}
 use Rattle.flt_life.specs.declared.answer.KeptReply.TheVariants as kept
 use Rattle.flt_life.specs.declared.answer.StepAnswer.{StepAnswer}
 use Rattle.flt_life.specs.declared.answer.StepAnswer.TheVariants as answers
-use Rattle.flt_life.specs.Answers.{IsReplyWithin, IsWithin, reply_in, with_reply, told_by}
+use Rattle.flt_life.specs.Answers.{IsReplyWithin, IsAnswerWithin, reply_in, with_reply, told_by}
 
 -- ---- more bytes behind those of the responses change no reply that is kept
 
@@ -26,32 +26,32 @@ reply_stays bytes more (kept.Shown shown) within = refl
 reply_stays bytes more (kept.Response from size) within = ap reply_of (piece_stays bytes more from size within)
 reply_stays bytes more kept.Silent within = refl
 
-answer_stays : (bytes more : List ℕ) (answer : StepAnswer KeptReply) → IsWithin (length bytes) answer → with_reply (reply_in (bytes ++ more)) answer ≡ with_reply (reply_in bytes) answer
+answer_stays : (bytes more : List ℕ) (answer : StepAnswer KeptReply) → IsAnswerWithin (length bytes) answer → with_reply (reply_in (bytes ++ more)) answer ≡ with_reply (reply_in bytes) answer
 answer_stays bytes more (answers.Dem told) within = ap (λ reply. answers.Dem (record { place = told.place; reply = reply })) (reply_stays bytes more told.reply within)
 answer_stays bytes more (answers.Saved number) within = refl
 answer_stays bytes more (answers.SaveFailed fault) within = refl
 answer_stays bytes more answers.Armed within = refl
 answer_stays bytes more answers.Dark within = refl
 
-all_stay : (bytes more : List ℕ) (answers : List (StepAnswer KeptReply)) → All (IsWithin (length bytes)) answers → told_by (bytes ++ more) answers ≡ told_by bytes answers
+all_stay : (bytes more : List ℕ) (answers : List (StepAnswer KeptReply)) → All (IsAnswerWithin (length bytes)) answers → told_by (bytes ++ more) answers ≡ told_by bytes answers
 all_stay bytes more [] within = refl
 all_stay bytes more (answer ∷ rest) within =
-    let first = answer_stays bytes more answer (All-head (IsWithin (length bytes)) answer rest within) in
-    let others = all_stay bytes more rest (All-tail (IsWithin (length bytes)) answer rest within) in
+    let first = answer_stays bytes more answer (All-head (IsAnswerWithin (length bytes)) answer rest within) in
+    let others = all_stay bytes more rest (All-tail (IsAnswerWithin (length bytes)) answer rest within) in
     λ i. first i ∷ others i
 
 -- one answer more
-pub told_more : (bytes more : List ℕ) (before : List (StepAnswer KeptReply)) (answer : StepAnswer KeptReply) → All (IsWithin (length bytes)) before
+pub told_more : (bytes more : List ℕ) (before : List (StepAnswer KeptReply)) (answer : StepAnswer KeptReply) → All (IsAnswerWithin (length bytes)) before
     → told_by (bytes ++ more) (before ++ answer ∷ []) ≡ told_by bytes before ++ with_reply (reply_in (bytes ++ more)) answer ∷ []
 told_more bytes more before answer within =
     map-append (with_reply (reply_in (bytes ++ more))) before (answer ∷ []) ∙ ap (λ front. front ++ with_reply (reply_in (bytes ++ more)) answer ∷ []) (all_stay bytes more before within)
 
 -- ---- and each lies within as many or more
 
-within_more : (few many : ℕ) → few ≤ many → (answer : StepAnswer KeptReply) → IsWithin few answer → IsWithin many answer
+within_more : (few many : ℕ) → few ≤ many → (answer : StepAnswer KeptReply) → IsAnswerWithin few answer → IsAnswerWithin many answer
 within_more few many less answer within = omega (arith, less, within)
 
-pub all_within_more : (few many : ℕ) → few ≤ many → (before : List (StepAnswer KeptReply)) (answer : StepAnswer KeptReply) → All (IsWithin few) before → IsWithin many answer
-    → All (IsWithin many) (before ++ answer ∷ [])
+pub all_within_more : (few many : ℕ) → few ≤ many → (before : List (StepAnswer KeptReply)) (answer : StepAnswer KeptReply) → All (IsAnswerWithin few) before → IsAnswerWithin many answer
+    → All (IsAnswerWithin many) (before ++ answer ∷ [])
 all_within_more few many less before answer within last =
-    All-append (IsWithin many) before (answer ∷ []) (All-weaker (IsWithin few) (IsWithin many) (within_more few many less) before within) (All-cons (IsWithin many) answer [] last (All-nil _))
+    All-append (IsAnswerWithin many) before (answer ∷ []) (All-weaker (IsAnswerWithin few) (IsAnswerWithin many) (within_more few many less) before within) (All-cons (IsAnswerWithin many) answer [] last (All-nil _))

@@ -14,7 +14,7 @@ use Rattle.flt_restore.specs.declared.fault.StartFault.TheVariants as faults
 use Rattle.flt_life.specs.declared.life.Boot.{Boot}
 use Rattle.flt_life.specs.declared.life.Boot.TheVariants.{Started, Dark, Refused}
 use Rattle.flt_life.specs.Moment.{Moment, Medium, moment_at}
-use Rattle.flt_life.specs.Chain.{LifeView, IsFound, Unchanged, IsRefused, HoldsBy, AreLinked}
+use Rattle.flt_life.specs.Chain.{LifeView, IsFound, Unchanged, IsRefused, IsLifeBegunBy, AreLinked}
 use Rattle.flt_life.specs.Laws.{IsSoundIn, IsUndamaged, first_boot}
 
 unchanged_sound : (c : Config) (boot next : Moment) → Unchanged boot next → IsSoundIn c boot → IsSoundIn c next
@@ -36,7 +36,7 @@ refused_sound c boot next ended (faults.OtherConfig found wanted) is sound = unc
 refused_sound c boot next ended faults.SequenceSpent is sound =
     let kept = is.1 sound.0 sound.1 sound.2 in (kept.old.held, kept.old.spare, record { undamaged = kept.undamaged; sound = kept.old.sound })
 
-next_sound : (c : Config) (boot next : Moment) (ended : ℕ) (life : LifeView) (b : Boot) → HoldsBy c boot next ended life b → IsSoundIn c boot → IsSoundIn c next
+next_sound : (c : Config) (boot next : Moment) (ended : ℕ) (life : LifeView) (b : Boot) → IsLifeBegunBy c boot next ended life b → IsSoundIn c boot → IsSoundIn c next
 next_sound c boot next ended life (Started number state) is sound = (is.2.held, is.2.spare, is.2.sound)
 next_sound c boot next ended life Dark is sound =
     let kept = is.2 sound.0 sound.1 sound.2 in (kept.old.held, kept.old.spare, record { undamaged = kept.undamaged; sound = kept.old.sound })
@@ -51,7 +51,7 @@ module _ (c : Config) (given : IsGiven c) (held_stands : HeldStands) (spare_stan
       (λ is. (let read = (held_stands c given boot.value sound.0).1 sound.2.sound.holds in absurd (cc (is, read))))
       (λ is. (let other = is.0 in let read = (spare_stands c given boot.value sound.1).1 sound.2.sound.spares in absurd (cc (other, read))))
 
-  undamaged : (next : Moment) (life : LifeView) (b : Boot) → HoldsBy c boot next ended life b → IsUndamaged b
+  undamaged : (next : Moment) (life : LifeView) (b : Boot) → IsLifeBegunBy c boot next ended life b → IsUndamaged b
   undamaged next life (Started number state) is = tt
   undamaged next life Dark is = tt
   undamaged next life (Refused faults.Flash) is = is.0

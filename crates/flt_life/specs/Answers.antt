@@ -46,8 +46,8 @@ abbrev pub IsReplyWithin : ℕ → KeptReply → Type 0
 IsReplyWithin bytes kept = end_of_reply kept ≤ bytes
 
 -- the same of the response in an answer
-abbrev pub IsWithin : ℕ → StepAnswer KeptReply → Type 0
-IsWithin bytes answer = end_of answer ≤ bytes
+abbrev pub IsAnswerWithin : ℕ → StepAnswer KeptReply → Type 0
+IsAnswerWithin bytes answer = end_of answer ≤ bytes
 
 -- the answers that are kept beside these bytes, in their order
 abbrev pub told_by : List ℕ → List (StepAnswer KeptReply) → List Told

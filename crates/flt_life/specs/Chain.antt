@@ -74,14 +74,14 @@ IsRefused c boot next ended (faults.OtherConfig found wanted) = (boot.damage ≡
 IsRefused c boot next ended faults.SequenceSpent = ((g : Generation) × Finds c boot ended g) × KeepsSound c boot next × IsTrue next.is_spent
 
 -- what holds by how the life began
-abbrev pub HoldsBy : Config → Moment → Moment → ℕ → LifeView → Boot → Type 0
-HoldsBy c boot next ended life (Started number state) = Finds c boot ended (numbered number state) × IsFalse boot.is_spent × Leaves c (numbered number state) life next × AreCaused c boot next life.answers
-HoldsBy c boot next ended life Dark = HasRisenBy 3 boot.faults ended × (life.journal ≡ []) × KeepsSound c boot next
-HoldsBy c boot next ended life (Refused fault) = IsRefused c boot next ended fault × (life.journal ≡ []) × (life.answers ≡ [])
+abbrev pub IsLifeBegunBy : Config → Moment → Moment → ℕ → LifeView → Boot → Type 0
+IsLifeBegunBy c boot next ended life (Started number state) = Finds c boot ended (numbered number state) × IsFalse boot.is_spent × Leaves c (numbered number state) life next × AreCaused c boot next life.answers
+IsLifeBegunBy c boot next ended life Dark = HasRisenBy 3 boot.faults ended × (life.journal ≡ []) × KeepsSound c boot next
+IsLifeBegunBy c boot next ended life (Refused fault) = IsRefused c boot next ended fault × (life.journal ≡ []) × (life.answers ≡ [])
 
 -- what holds of a life between two power-ups; the count of faults came to `ended` by the end of its start
-abbrev pub Holds : Config → Moment → Moment → ℕ → LifeView → Type 0
-Holds c boot next ended life = HoldsBy c boot next ended life life.boot
+abbrev pub IsLifeBetween : Config → Moment → Moment → ℕ → LifeView → Type 0
+IsLifeBetween c boot next ended life = IsLifeBegunBy c boot next ended life life.boot
 
 -- the count of faults at an arm, if there is one, or else at the next power-up
 abbrev pub count_at : Option ArmMade → ℕ → ℕ
@@ -106,5 +106,5 @@ AreLinked c medium arms earlier next [] [] = Unit {0}
 AreLinked c medium arms earlier next [] (life ∷ lives) = ⊥
 AreLinked c medium arms earlier next (boot ∷ boots) [] = ⊥
 AreLinked c medium arms earlier next (boot ∷ boots) (life ∷ lives) =
-    Holds c (moment_at medium boot) (moment_at medium next) (start_count arms (earlier + length boots + 1) next.faults) life
+    IsLifeBetween c (moment_at medium boot) (moment_at medium next) (start_count arms (earlier + length boots + 1) next.faults) life
     × AreLinked c medium arms earlier boot boots lives

@@ -6,7 +6,7 @@ use Rattle.flt_generation.specs.Holding.{Generation, Fault, held}
 use Rattle.flt_restore.specs.declared.fault.StartFault.TheVariants as faults
 use Rattle.flt_life.specs.declared.life.Boot.{Boot}
 use Rattle.flt_life.specs.declared.life.Boot.TheVariants.{Started, Dark, Refused}
-use Rattle.flt_life.specs.Chain.{LifeView, Finds, Holds, IsFound}
+use Rattle.flt_life.specs.Chain.{LifeView, Finds, IsLifeBetween, IsFound}
 use Rattle.flt_life.specs.Moment.{Moment}
 
 -- the status by how the last life began: 0 where it was started, 5 where it is dark, 6 where its image is damaged or of another
@@ -46,4 +46,4 @@ pub record StatusHasCause (c : Config) (boot next : Moment) (ended status : ℕ)
 
 -- the status of a life has its cause
 abbrev pub StatusesHaveCauses : Type 0
-StatusesHaveCauses = (c : Config) (boot next : Moment) (ended : ℕ) (life : LifeView) → Holds c boot next ended life → StatusHasCause c boot next ended (status_by life.boot)
+StatusesHaveCauses = (c : Config) (boot next : Moment) (ended : ℕ) (life : LifeView) → IsLifeBetween c boot next ended life → StatusHasCause c boot next ended (status_by life.boot)

@@ -2,7 +2,7 @@
 ghost use Rattle.std.specs.Prelude.{◌≡◌, ◌≤◌, ◌<◌, ◌+◌, ◌++◌, ◌∷◌, [], ℕ, List, All, IfOk, length, vec_len};
 ghost use Rattle.std.specs.Vec.{vec_capacity};
 ghost use Rattle.flt_dcm.specs.ReplyKind.{reply_with};
-ghost use Rattle.flt_life.specs.Answers.{IsReplyWithin, IsWithin, reply_in, with_reply, told_by, told_with, told_size, reply_size, size_of, response_length};
+ghost use Rattle.flt_life.specs.Answers.{IsReplyWithin, IsAnswerWithin, reply_in, with_reply, told_by, told_with, told_size, reply_size, size_of, response_length};
 ghost use Rattle.flt_life.specs.declared.answer.StepAnswer.TheVariants.{Dem};
 
 use crate::answer::{KeptReply, StepAnswer};
@@ -19,7 +19,7 @@ pub struct LaneReplies {
     /// The bytes of its responses, one after the other.
     pub responses: Vec<u8>,
     /// Each response lies within these bytes.
-    pub ghost within: { All (IsWithin (length responses.items)) answers.items },
+    pub ghost within: { All (IsAnswerWithin (length responses.items)) answers.items },
 }
 
 impl LaneReplies {
@@ -135,7 +135,7 @@ fn kept(
 ) -> StepAnswer<KeptReply>
     requires { vec_len responses.old + response_length answer response.now ≤ vec_capacity responses.old }
     ensures told { with_reply (reply_in responses.new.items) result ≡ told_with response.now answer }
-    ensures within { IsWithin (length responses.new.items) result }
+    ensures within { IsAnswerWithin (length responses.new.items) result }
     ensures more { (more : List ℕ) × (responses.new.items ≡ responses.old.items ++ more) }
     ensures bytes { vec_len responses.new ≡ vec_len responses.old + response_length answer response.now }
     ensures room { vec_capacity responses.old ≤ vec_capacity responses.new }

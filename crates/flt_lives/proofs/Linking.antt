@@ -17,7 +17,7 @@ use Rattle.std.specs.Prelude.{Result}
 use Rattle.flt_life.specs.declared.life.Boot.{Boot}
 use Rattle.flt_life.specs.declared.life.Boot.TheVariants.{Started, Dark, Refused}
 use Rattle.flt_life.specs.Moment.{Moment, Medium, IsOn, moment_of, moment_at, boot_of}
-use Rattle.flt_life.specs.Chain.{LifeView, IsFound, Finds, IsRefused, Holds, HoldsBy, AreLinked, arms_between, start_count, count_at}
+use Rattle.flt_life.specs.Chain.{LifeView, IsFound, Finds, IsRefused, IsLifeBetween, IsLifeBegunBy, AreLinked, arms_between, start_count, count_at}
 use Rattle.flt_lives.specs.Going.{IsMadeIn, AddsArms, ArmsSince, AddsLife}
 use Rattle.flt_lives.specs.Living.{IsLived}
 use Rattle.flt_lives.specs.Linked.{IsPast, ArePast, AreLinkedBy, MadeInRun, IsLinkedBy}
@@ -39,7 +39,7 @@ module _ (c : Config) (boot next : Moment) (count later : ℕ) (rose : HasRisenB
   refused_later (faults.OtherConfig found wanted) is = (is.0, found_later _ is.1, is.2, is.3)
   refused_later faults.SequenceSpent is = ((is.0.0, finds_later is.0.0 is.0.1), is.1, is.2)
 
-  holds_by_later : (life : LifeView) (b : Boot) → HoldsBy c boot next count life b → HoldsBy c boot next later life b
+  holds_by_later : (life : LifeView) (b : Boot) → IsLifeBegunBy c boot next count life b → IsLifeBegunBy c boot next later life b
   holds_by_later life (Started number state) is = (finds_later _ is.0, is.1, is.2, is.3)
   holds_by_later life Dark is = ((let three = is.0 in omega (arith, three, rose)), is.1, is.2)
   holds_by_later life (Refused fault) is = (refused_later fault is.0, is.1, is.2)
@@ -139,8 +139,8 @@ links_more c medium before now next lives life on on_next linked lived adds =
       many = omega (arith, longer, many);
       as_many = omega (arith, as_many);
       linked = (
-        subst (λ (m : Moment). Holds c m (moment_at medium (boot_of next)) lived.ended life) (sym (at_moment medium now on))
-            (subst (λ (m : Moment). Holds c (moment_of now) m lived.ended life) (sym (at_moment medium next on_next)) lived.holds),
+        subst (λ (m : Moment). IsLifeBetween c m (moment_at medium (boot_of next)) lived.ended life) (sym (at_moment medium now on))
+            (subst (λ (m : Moment). IsLifeBetween c (moment_of now) m lived.ended life) (sym (at_moment medium next on_next)) lived.holds),
         lived.later,
         as_many,
         linked.linked,

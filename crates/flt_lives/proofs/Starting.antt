@@ -16,7 +16,7 @@ use Rattle.flt_store.specs.declared.store.Store.{Store}
 use Rattle.flt_store.specs.Store.{driver_of, numbered}
 use Rattle.flt_store.specs.Start.{Starts, RefusedFor}
 use Rattle.flt_life.specs.Moment.{Moment, moment_of, boot_of, IsSoundAt}
-use Rattle.flt_life.specs.Chain.{IsFound, Finds, KeepsSound, Unchanged, IsRefused, Holds, HoldsBy, Leaves, LifeView}
+use Rattle.flt_life.specs.Chain.{IsFound, Finds, KeepsSound, Unchanged, IsRefused, IsLifeBetween, IsLifeBegunBy, Leaves, LifeView}
 use Rattle.flt_life.specs.Lives.{StaysSound}
 use Rattle.flt_lives.specs.Living.{IsLived}
 use Rattle.flt_life.specs.declared.life.Boot.TheVariants.{Started, Dark, Refused}
@@ -104,7 +104,7 @@ module _ {B : Type 0} {b : Ghosts B} (c : Config) (first : BlocksState) (before 
       → IsLived c first (driver_of after) (record { boot = Refused fault; journal = []; answers = []; lanes = [] })
   lived_refused fault refuses follows told kept = record {
     ended = (driver_of after).device.faults;
-    holds = subst (λ (m : Moment). Holds c m (moment_of (driver_of after)) (driver_of after).device.faults (record { boot = Refused fault; journal = []; answers = []; lanes = [] }))
+    holds = subst (λ (m : Moment). IsLifeBetween c m (moment_of (driver_of after)) (driver_of after).device.faults (record { boot = Refused fault; journal = []; answers = []; lanes = [] }))
         (same_moment first (driver_of before) powers) (refused_is c before after fault refuses follows told kept, refl, refl);
     later = omega arith;
     arms = life_arms first (driver_of before) powers (driver_of after) (driver_of after) follows (goes_nowhere (driver_of after));
@@ -115,8 +115,8 @@ module _ {B : Type 0} {b : Ghosts B} (c : Config) (first : BlocksState) (before 
       → AreCaused c (moment_of (driver_of before)) (moment_of last) life.answers → IsLived c first last life
   lived_started number state last life starts follows goes boot leaves caused = record {
     ended = (driver_of after).device.faults;
-    holds = subst (λ (m : Moment). Holds c m (moment_of last) (driver_of after).device.faults life) (same_moment first (driver_of before) powers)
-        (subst (λ (b : Boot). HoldsBy c (moment_of (driver_of before)) (moment_of last) (driver_of after).device.faults life b) (sym boot)
+    holds = subst (λ (m : Moment). IsLifeBetween c m (moment_of last) (driver_of after).device.faults life) (same_moment first (driver_of before) powers)
+        (subst (λ (b : Boot). IsLifeBegunBy c (moment_of (driver_of before)) (moment_of last) (driver_of after).device.faults life b) (sym boot)
         (finds c before after number state starts, starts.usable, leaves, caused));
     later = goes.counts;
     arms = life_arms first (driver_of before) powers (driver_of after) last follows goes;
@@ -127,7 +127,7 @@ module _ {B : Type 0} {b : Ghosts B} (c : Config) (first : BlocksState) (before 
       → IsLived c first last (record { boot = Dark; journal = []; answers = told; lanes = lanes })
   lived_dark last told lanes three follows goes same kept = record {
     ended = (driver_of after).device.faults;
-    holds = subst (λ (m : Moment). Holds c m (moment_of last) (driver_of after).device.faults (record { boot = Dark; journal = []; answers = told; lanes = lanes }))
+    holds = subst (λ (m : Moment). IsLifeBetween c m (moment_of last) (driver_of after).device.faults (record { boot = Dark; journal = []; answers = told; lanes = lanes }))
         (same_moment first (driver_of before) powers)
         (three, refl, subst (λ (m : Moment). KeepsSound c (moment_of (driver_of before)) m) (sym same) kept);
     later = goes.counts;

@@ -8,7 +8,7 @@ use Rattle.flt_config.specs.declared.config.Config.{Config}
 use Rattle.flt_generation.specs.Layout.{numbers}
 use Rattle.flt_store.specs.Cause.{HasRoom}
 use Rattle.flt_life.specs.Moment.{Medium, IsOn, boot_of, moment_at}
-use Rattle.flt_life.specs.Chain.{LifeView, Holds}
+use Rattle.flt_life.specs.Chain.{LifeView, IsLifeBetween}
 
 -- a driver for the numbers of an image that leaves the configuration its room keeps its blocks as this medium does
 abbrev pub KeepsOn : {B : Type 0} → Ghosts B → Config → Medium → Type 0
@@ -31,7 +31,7 @@ AreLinkedBy c medium next [] (life ∷ lives) counts = ⊥
 AreLinkedBy c medium next (boot ∷ boots) [] counts = ⊥
 AreLinkedBy c medium next (boot ∷ boots) (life ∷ lives) [] = ⊥
 AreLinkedBy c medium next (boot ∷ boots) (life ∷ lives) (count ∷ counts) =
-    Holds c (moment_at medium boot) (moment_at medium next) count life × HasRisenBy 0 count next.faults × (length counts ≡ length boots)
+    IsLifeBetween c (moment_at medium boot) (moment_at medium next) count life × HasRisenBy 0 count next.faults × (length counts ≡ length boots)
     × AreLinkedBy c medium boot boots lives counts
 
 -- the arms of a run, each made past the count at the end of the start-up of its life, and in one of the lives so far

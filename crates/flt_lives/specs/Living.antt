@@ -18,7 +18,7 @@ use Rattle.flt_life.specs.Actions.{call_count, response_size}
 use Rattle.flt_life.specs.Answers.{Told, told_by}
 use Rattle.flt_lives.specs.Carried.{IsCarriedOut}
 use Rattle.flt_life.specs.Causes.{HasFailedBy, flash_failures}
-use Rattle.flt_life.specs.Chain.{LifeView, start_from, Holds}
+use Rattle.flt_life.specs.Chain.{LifeView, start_from, IsLifeBetween}
 use Rattle.flt_life.specs.Journal.{Journal, calls_of, Acknowledges}
 use Rattle.flt_life.specs.Moment.{moment_of}
 use Rattle.flt_life.specs.Saving.{IsLeft, AreRising, last_number}
@@ -52,7 +52,7 @@ pub record AddsStep (c : Config) (first : Generation) (step : Action) (before af
 -- what holds of a life, with the count of faults at the end of its start-up, and the arms that were made in it
 pub record IsLived (c : Config) (before after : BlocksState) (life : LifeView) : Type 0 where
   pub ended : ℕ
-  pub holds : Holds c (moment_of before) (moment_of after) ended life
+  pub holds : IsLifeBetween c (moment_of before) (moment_of after) ended life
   pub later : HasRisenBy 0 ended after.device.faults
   pub arms : ArmsSince (length before.device.bench.boots + 1) ended before.device.bench.arms after.device.bench.arms
 

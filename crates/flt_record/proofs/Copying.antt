@@ -13,7 +13,7 @@ use Rattle.flt_code.specs.declared.words.Word.TheVariants.{Head, Gate}
 use Rattle.flt_pages.specs.Append.{Appends, AppendsPiece, filled}
 use Rattle.flt_record.specs.declared.place.RecordPlace.{RecordPlace}
 use Rattle.flt_record.specs.Blank.{AreBlank}
-use Rattle.flt_record.specs.RecordPlace.{record_at, IsWithin, bytes_at}
+use Rattle.flt_record.specs.RecordPlace.{record_at, IsPlaceWithin, bytes_at}
 use Rattle.flt_record.specs.Record.{KeptApart}
 use Rattle.flt_record.specs.Recorded.{OnSector, Fills, Records}
 use Rattle.flt_record.proofs.Filling.{Filled}
@@ -28,7 +28,7 @@ other_stays before after sector other pages apart on =
 
 -- one page more
 module _ (before middle now : FlashState) (shape : HasShape before) (shape_now : HasShape now) (sector other first : ℕ) (place : RecordPlace) (index : ℕ)
-    (in_sector : sector < 2) (in_other : other < 2) (apart : other ≢ sector) (within : IsWithin before.pages place) (room : first + byte_pages place.length ≤ before.pages) (more : index < byte_pages place.length)
+    (in_sector : sector < 2) (in_other : other < 2) (apart : other ≢ sector) (within : IsPlaceWithin before.pages place) (room : first + byte_pages place.length ≤ before.pages) (more : index < byte_pages place.length)
     (reads : OnlyReads middle now) (on : OnSector before middle other (sector_at middle.image other))
     (kept : KeptApart (sector_at before.image other) (sector_at middle.image other) first (first + index)) where
   abbrev bytes : List ℕ
@@ -97,7 +97,7 @@ module _ (before middle now : FlashState) (shape : HasShape before) (shape_now :
 
 -- head, bytes and gate
 module _ (before : FlashState) (shape : HasShape before) (sector other page block : ℕ) (place : RecordPlace)
-    (in_sector : sector < 2) (in_other : other < 2) (apart : other ≢ sector) (within : IsWithin before.pages place) (room : page + record_pages place.length ≤ before.pages)
+    (in_sector : sector < 2) (in_other : other < 2) (apart : other ≢ sector) (within : IsPlaceWithin before.pages place) (room : page + record_pages place.length ≤ before.pages)
     (blank : AreBlank (sector_at before.image other) page (page + record_pages place.length)) where
   abbrev source : List ℕ
   source = bytes_at (sector_at before.image sector) place

@@ -12,7 +12,7 @@ use Rattle.flt_sector.specs.declared.log.Item.TheVariants.{End, Torn, Kept}
 use Rattle.flt_pages.specs.Told.{told}
 use Rattle.flt_record.specs.declared.place.RecordPlace.{RecordPlace}
 use Rattle.flt_record.specs.Live.{held_in}
-use Rattle.flt_record.specs.RecordPlace.{record_at, record_found, IsWithin, IsInLog, IsAt, content_at, pages_found}
+use Rattle.flt_record.specs.RecordPlace.{record_at, record_found, IsPlaceWithin, IsInLog, IsAt, content_at, pages_found}
 use Rattle.flt_record.proofs.Items.{item_within}
 use Rattle.flt_record.proofs.Proper.{proper_item}
 use Rattle.flt_record.proofs.PageBytes.{content_pages}
@@ -146,7 +146,7 @@ module _ (used : ℕ) (numbers : List ℕ) (pages : List (List ℕ)) (block : �
           }
 
 -- the pages of the record that was found are those of what its block holds
-pub found_pages : (used : ℕ) (pages : List (List ℕ)) (sizes : ArePages pages) → used ≤ length pages → (block : ℕ) (found : Option RecordPlace) → IfSome found (λ place. IsWithin used place)
+pub found_pages : (used : ℕ) (pages : List (List ℕ)) (sizes : ArePages pages) → used ≤ length pages → (block : ℕ) (found : Option RecordPlace) → IfSome found (λ place. IsPlaceWithin used place)
     → pages_of (content_of pages (record_found block found)) ≡ pages_found found
 found_pages used pages sizes most block None within = refl
 found_pages used pages sizes most block (Some place) within = content_pages pages sizes (record_at block place) (omega (arith, within.below)) within.kind

@@ -11,7 +11,7 @@ use Rattle.flt_flash.specs.Blocks.{byte_pages, pages_of}
 use Rattle.flt_code.specs.Word.{is_length}
 use Rattle.flt_record.specs.declared.place.RecordPlace.{RecordPlace}
 use Rattle.flt_record.specs.LogHolds.{asked_of, given}
-use Rattle.flt_record.specs.RecordPlace.{record_at, IsWithin, IsInLog, IsAt, IsPlaceOf, Tells, content_at, pages_found}
+use Rattle.flt_record.specs.RecordPlace.{record_at, IsPlaceWithin, IsInLog, IsAt, IsPlaceOf, Tells, content_at, pages_found}
 use Rattle.flt_record.specs.Record.{IsWhole}
 use Rattle.flt_record.proofs.Finding.{found_pages, length_most}
 use Rattle.flt_record.proofs.Values.{same_bytes}
@@ -24,7 +24,7 @@ inside_on end last on (Some place) inside = record { begun = inside.begun; withi
 pub farther_at : (pages : List (List ℕ)) (end last : ℕ) → end ≤ last → (content : Content) (found : Option RecordPlace) → IsAt pages end content found → IsAt pages last content found
 farther_at pages end last on content found is = record { holds = is.holds; inside = inside_on end last on found is.inside }
 
-pub within_at : (pages : List (List ℕ)) (end : ℕ) (content : Content) (place : RecordPlace) → IsAt pages end content (Some place) → IsWithin end place
+pub within_at : (pages : List (List ℕ)) (end : ℕ) (content : Content) (place : RecordPlace) → IsAt pages end content (Some place) → IsPlaceWithin end place
 within_at pages end content place is = is.inside.within
 
 -- pages that agree below the end of the log
@@ -75,7 +75,7 @@ told_place numbers places pages end value block found tells is =
 
 -- the pages of the places are those of what the blocks hold
 module _ (pages : List (List ℕ)) (sizes : ArePages pages) (end : ℕ) (most : end ≤ length pages) (value : ℕ → Content) where
-  within_of : (found : Option RecordPlace) → IfSome found (λ place. IsInLog end place) → IfSome found (λ place. IsWithin end place)
+  within_of : (found : Option RecordPlace) → IfSome found (λ place. IsInLog end place) → IfSome found (λ place. IsPlaceWithin end place)
   within_of None inside = tt
   within_of (Some place) inside = inside.within
 

@@ -18,7 +18,7 @@ record_found block None = None
 record_found block (Some place) = Some (record_at block place)
 
 -- a record at this place lies below a page, and has a length of its kind
-pub record IsWithin (bound : ℕ) (place : RecordPlace) : Type 0 where
+pub record IsPlaceWithin (bound : ℕ) (place : RecordPlace) : Type 0 where
   pub below : place.page + record_pages place.length ≤ bound
   pub kind : is_length place.valid place.length ≡ true
 
@@ -34,7 +34,7 @@ pages_found (Some place) = record_pages place.length
 -- a record at this place lies in the log that ends at a page
 pub record IsInLog (end : ℕ) (place : RecordPlace) : Type 0 where
   pub begun : 2 ≤ place.page
-  pub within : IsWithin end place
+  pub within : IsPlaceWithin end place
 
 -- what the record at a place holds, or nothing yet
 abbrev pub content_at : List (List ℕ) → Option RecordPlace → Content

@@ -4,7 +4,7 @@ ghost use Rattle.flt_flash.specs.Image.{sector_at};
 ghost use Rattle.flt_flash.specs.State.{OnlyReads, HasRisenBy};
 ghost use Rattle.flt_flash.specs.Blocks.{byte_pages, record_pages};
 ghost use Rattle.flt_record.specs.Blank.{AreBlank};
-ghost use Rattle.flt_record.specs.RecordPlace.{IsWithin, bytes_at};
+ghost use Rattle.flt_record.specs.RecordPlace.{IsPlaceWithin, bytes_at};
 ghost use Rattle.flt_record.specs.Recorded.{Fills, Records};
 
 use crate::byte_pages;
@@ -20,7 +20,7 @@ pub fn read_record<F: Flash>(
     out: &mut [u8; 128],
 ) -> Result<(), FlashFailed>
     requires sector { sector < 2 }
-    requires within { IsWithin (F.state flash.old).pages place }
+    requires within { IsPlaceWithin (F.state flash.old).pages place }
     ensures read { OnOk result (out.new ≡ bytes_at (sector_at (F.state flash.old).image sector) place ++ drop place.length out.old) }
     ensures nothing { OnErr result (out.new ≡ out.old) }
     ensures operations { OnOk result ((F.state flash.new).operations ≤ (F.state flash.old).operations + byte_pages place.length) }
@@ -58,7 +58,7 @@ fn copy_bytes<F: Flash>(
     requires sector { sector < 2 }
     requires other { other < 2 }
     requires apart { other ≢ sector }
-    requires within { IsWithin (F.state flash.old).pages place }
+    requires within { IsPlaceWithin (F.state flash.old).pages place }
     requires room { first + byte_pages place.length ≤ (F.state flash.old).pages }
     requires blank { AreBlank (sector_at (F.state flash.old).image other) first (first + byte_pages place.length) }
     ensures fills { Fills (F.state flash.old) (F.state flash.new) other first (bytes_at (sector_at (F.state flash.old).image sector) place) result }
@@ -86,7 +86,7 @@ pub fn copy_record<F: Flash>(
     requires sector { sector < 2 }
     requires other { other < 2 }
     requires apart { other ≢ sector }
-    requires within { IsWithin (F.state flash.old).pages place }
+    requires within { IsPlaceWithin (F.state flash.old).pages place }
     requires room { page + record_pages place.length ≤ (F.state flash.old).pages }
     requires blank { AreBlank (sector_at (F.state flash.old).image other) page (page + record_pages place.length) }
     ensures records { Records (F.state flash.old) (F.state flash.new) other page block (bytes_at (sector_at (F.state flash.old).image sector) place) place.valid result }

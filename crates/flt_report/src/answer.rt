@@ -1,7 +1,7 @@
 // The answer to a step.
 ghost use Rattle.std.specs.Prelude.{◌≡◌, ◌≤◌, ◌+◌, ◌++◌, ◌∷◌, [], OnOk, OnErr, IfSome, length, vec_len};
 ghost use Rattle.std.specs.Vec.{vec_capacity};
-ghost use Rattle.flt_life.specs.Answers.{IsReplyWithin, IsWithin, reply_in, with_reply};
+ghost use Rattle.flt_life.specs.Answers.{IsReplyWithin, IsAnswerWithin, reply_in, with_reply};
 ghost use Rattle.flt_report.specs.Room.{reply_room, answer_room};
 ghost use Rattle.flt_report.specs.Answer.{flag_text, shown_text, ignored_text, reply_text, save_fault_text, answer_text, answer_part};
 
@@ -108,7 +108,7 @@ fn put_reply(reply: &KeptReply, responses: &[u8], out: &mut Vec<u8>)
 
 /// Puts an answer.
 fn put_told(answer: &StepAnswer<KeptReply>, responses: &[u8], out: &mut Vec<u8>)
-    requires within { IsWithin (length responses.now) answer.now }
+    requires within { IsAnswerWithin (length responses.now) answer.now }
     requires room { vec_len out.old + answer_room answer.now ≤ vec_capacity out.old }
     ensures items { out.new.items ≡ out.old.items ++ answer_text (with_reply (reply_in responses.now) answer.now) }
     ensures len { vec_len out.new ≤ vec_len out.old + answer_room answer.now }
@@ -144,7 +144,7 @@ pub(crate) fn put_answer(
     responses: &[u8],
     out: &mut Vec<u8>,
 ) -> Result<(), AllocError>
-    requires { IsWithin (length responses.now) answer.now }
+    requires { IsAnswerWithin (length responses.now) answer.now }
     ensures ok { OnOk result (out.new.items ≡ out.old.items ++ answer_part (with_reply (reply_in responses.now) answer.now)) }
     ensures err { OnErr result (out.new.items ≡ out.old.items) }
 {

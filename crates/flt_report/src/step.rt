@@ -3,7 +3,7 @@ ghost use Rattle.std.specs.Prelude.{◌≡◌, ◌≤◌, ◌+◌, ◌++◌, OnO
 ghost use Rattle.std.specs.Vec.{vec_capacity};
 ghost use Rattle.flt_script.specs.Bytes.{letter_of};
 ghost use Rattle.flt_script.specs.Step.{step_text};
-ghost use Rattle.flt_life.specs.Answers.{IsWithin, reply_in, with_reply};
+ghost use Rattle.flt_life.specs.Answers.{IsAnswerWithin, reply_in, with_reply};
 ghost use Rattle.flt_report.specs.Answer.{step_line};
 ghost use Rattle.flt_report.specs.Line.{AppendsFront};
 
@@ -106,7 +106,7 @@ pub fn put_step(
     responses: &[u8],
     out: &mut Vec<u8>,
 ) -> Result<(), AllocError>
-    requires { IsWithin (length responses.now) answer.now }
+    requires { IsAnswerWithin (length responses.now) answer.now }
     ensures ok { OnOk result (out.new.items ≡ out.old.items ++ step_line step.now (with_reply (reply_in responses.now) answer.now)) }
     ensures err { OnErr result (AppendsFront out.old.items out.new.items (step_line step.now (with_reply (reply_in responses.now) answer.now))) }
 {

@@ -1,5 +1,5 @@
 ghost use Rattle.std.specs.Prelude.{◌≡◌, ◌≢◌};
-ghost use Rattle.flt_life.specs.Answers.{IsWithin};
+ghost use Rattle.flt_life.specs.Answers.{IsAnswerWithin};
 ghost use Rattle.flt_restore.specs.declared.fault.StartFault.TheVariants as faults;
 
 use super::*;
@@ -32,7 +32,7 @@ fn is_step(
     answer: &StepAnswer<KeptReply>,
     line: &str,
 ) -> Result<bool, AllocError>
-    requires { IsWithin 5 answer.now }
+    requires { IsAnswerWithin 5 answer.now }
 {
     let mut out = Vec::new(alloc);
     out.extend_from_slice(BEFORE)?;
@@ -42,7 +42,7 @@ fn is_step(
 
 /// Whether the answer of `cycle 3` is told so.
 fn is_answer(alloc: Global, answer: &StepAnswer<KeptReply>, line: &str) -> Result<bool, AllocError>
-    requires { IsWithin 5 answer.now }
+    requires { IsAnswerWithin 5 answer.now }
 {
     is_step(alloc, &Step::Cycle { cycle: 3 }, answer, line)
 }

@@ -9,7 +9,7 @@ use Rattle.flt_config.specs.declared.config.Config.{Config}
 use Rattle.flt_restore.specs.declared.fault.StartFault.TheVariants.{Flash}
 use Rattle.flt_life.specs.declared.life.Boot.TheVariants.{Refused}
 use Rattle.flt_life.specs.declared.life.Life.{Life}
-use Rattle.flt_life.specs.Chain.{LifeView, HoldsBy, AreLinked}
+use Rattle.flt_life.specs.Chain.{LifeView, IsLifeBegunBy, AreLinked}
 use Rattle.flt_life.specs.Lives.{AreEnded, AreGiven, ArePlayed, arms_given, first_lives, lists, view_of}
 use Rattle.flt_life.specs.Moment.{Moment, Medium, moment_at}
 use Rattle.flt_lives.specs.Sectors.{IsRunOf}
@@ -20,8 +20,8 @@ use Rattle.flt_script.specs.Script.{content}
 use Rattle.flt_run.specs.declared.made.Made.{Made}
 use Rattle.flt_run.specs.Ending.{IsLivedBy, views}
 
-not_flash : (c : Config) (boot next : Moment) (ended : ℕ) (life : LifeView) → HoldsBy c boot next ended life life.boot → life.boot ≢ Refused Flash
-not_flash c boot next ended life holds = λ is. (subst (HoldsBy c boot next ended life) is holds).0
+not_flash : (c : Config) (boot next : Moment) (ended : ℕ) (life : LifeView) → IsLifeBegunBy c boot next ended life life.boot → life.boot ≢ Refused Flash
+not_flash c boot next ended life holds = λ is. (subst (IsLifeBegunBy c boot next ended life) is holds).0
 
 views_not_flash : (c : Config) (medium : Medium) (arms : Option (List ArmMade)) (earlier : ℕ) (next : PowerUp) (boots : List PowerUp) (lives : List LifeView)
     → AreLinked c medium arms earlier next boots lives → All (λ (life : LifeView). life.boot ≢ Refused Flash) lives

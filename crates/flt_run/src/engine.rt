@@ -1,14 +1,14 @@
 // The lives of a script over a bench.
-ghost use Rattle.std.specs.Prelude.{◌≡◌, ◌≢◌, ◌≤◌, Some, All, IfSome, IsTrue};
+ghost use Rattle.std.specs.Prelude.{◌≡◌, ◌≢◌, ◌≤◌, Some, All, IfSome};
 ghost use Rattle.flt_did.specs.Serves.{Serves};
 ghost use Rattle.flt_did.specs.Table.{dids_of};
 ghost use Rattle.flt_dcm.specs.Whole.{config_of};
-ghost use Rattle.flt_script.specs.Part.{part_of, parts_of};
+ghost use Rattle.flt_script.specs.Part.{parts_of};
 ghost use Rattle.flt_script.specs.Script.{content};
 ghost use Rattle.flt_restore.specs.declared.fault.StartFault.TheVariants.{Flash};
 ghost use Rattle.flt_life.specs.declared.life.Boot.TheVariants.{Refused};
 ghost use Rattle.flt_life.specs.Lives.{lists};
-ghost use Rattle.flt_lives.specs.Alone.{AreAlone, IsAlone};
+ghost use Rattle.flt_lives.specs.Alone.{AreAlone};
 ghost use Rattle.flt_lives.specs.Sectors.{FlashStaysSound};
 ghost use Rattle.flt_run.specs.Ending.{IsLivedBy};
 
@@ -18,9 +18,9 @@ use flt_dcm::Unit;
 use flt_dem::Dem;
 use flt_did::{DID_ROWS, DidTable};
 use flt_flash::Bench;
-use flt_lane::run_in_lanes;
+use flt_lane::{SharedGate, run_in_lanes};
 use flt_lives::{Run, run_alone};
-use flt_script::{Part, Script};
+use flt_script::Script;
 use std::alloc::Global;
 use std::marker::Sync;
 use std::sync::Wait;
@@ -78,10 +78,11 @@ pub(crate) fn live_alone<B: Bench + Drop>(
     made_of(script, run)
 }
 
-/// Makes the lives of a script one after the other, up to the first that is refused, the lanes of a block at the same time under a
-/// lock.
-pub(crate) fn live_in_lanes<R: Threads + Wait + Sync, B: Bench + Drop>(
+/// Makes the lives of a script one after the other, up to the first that is refused, all calls of a life under one lock, and the lanes
+/// of a block at the same time. Each step is made between the two calls of the gate.
+pub(crate) fn live_in_lanes<R: Threads + Wait + Sync, G: SharedGate, B: Bench + Drop>(
     rt: &R,
+    gate: &G,
     alloc: Global,
     unit: Unit,
     bench: B,
@@ -94,63 +95,6 @@ pub(crate) fn live_in_lanes<R: Threads + Wait + Sync, B: Bench + Drop>(
     ensures lived { IfSome result.made (IsLivedBy (content script) (B.state bench) (B.state result.bench)) }
     ensures sound { FlashStaysSound script.config (B.state bench) (B.state result.bench) }
 {
-    let run = run_in_lanes(rt, alloc, unit, bench, &script.config, &script.lives);
+    let run = run_in_lanes(rt, gate, alloc, unit, bench, &script.config, &script.lives);
     made_of(script, run)
-}
-
-/// Whether a part is a step of lane 0.
-fn is_alone(part: &Part) -> bool
-    ensures { IsTrue result → IsAlone (part_of part.now) }
-{
-    match part {
-        Part::One(_step) => true,
-        Part::Lanes(_lanes) => false,
-    }
-}
-
-/// Whether no part is a block of lanes.
-fn are_alone(parts: &[Part]) -> bool
-    ensures { IsTrue result → AreAlone (parts_of parts.now) }
-{
-    for part in parts {
-        if !is_alone(part) {
-            return false;
-        }
-    }
-    true
-}
-
-/// Whether no life has a block of lanes.
-fn have_no_lanes(lives: &[Vec<Part>]) -> bool
-    ensures { IsTrue result → All (λ life. AreAlone (parts_of life.items)) lives.now }
-{
-    for life in lives {
-        if !are_alone(life) {
-            return false;
-        }
-    }
-    true
-}
-
-/// Makes the lives of a script one after the other, up to the first that is refused. Where lane 0 is alone in all of them it shares
-/// the machine with nobody, and there is no lock.
-pub(crate) fn live<R: Threads + Wait + Sync, B: Bench + Drop>(
-    rt: &R,
-    alloc: Global,
-    unit: Unit,
-    bench: B,
-    script: Script,
-) -> Lived<B>
-    requires same { config_of unit ≡ script.config }
-    requires pages { (B.state bench).pages ≡ 1024 }
-    requires boots { 256 ≤ (B.state bench).bench.boots_left }
-    requires unarmed { (B.state bench).bench.armed ≡ 0 }
-    ensures lived { IfSome result.made (IsLivedBy (content script) (B.state bench) (B.state result.bench)) }
-    ensures sound { FlashStaysSound script.config (B.state bench) (B.state result.bench) }
-{
-    if have_no_lanes(&script.lives) {
-        live_alone(alloc, unit, bench, script)
-    } else {
-        live_in_lanes(rt, alloc, unit, bench, script)
-    }
 }

@@ -11,11 +11,12 @@ ghost use Rattle.flt_run.specs.Ending.{HasCause, IsLeftSound, IsLivedBy};
 
 use crate::command::Command;
 use crate::ending::Ending;
-use crate::engine::{Lived, live, live_alone, live_in_lanes, unit_of};
+use crate::engine::{Lived, live_alone, live_in_lanes, unit_of};
 use crate::reading::{Fetched, fetch};
 use flt_did::{DID_ROWS, DidTable};
 use flt_flash::Bench;
 use flt_io::Source;
+use flt_lane::SharedGate;
 use flt_script::load;
 use std::alloc::Global;
 use std::marker::Sync;
@@ -134,8 +135,9 @@ pub(crate) fn perform_plain<S: Source, B: Bench + Drop>(
 }
 
 /// Makes the lives of a load in lanes.
-fn load_in_lanes<R: Threads + Wait + Sync, B: Bench + Drop>(
+fn load_in_lanes<R: Threads + Wait + Sync, G: SharedGate, B: Bench + Drop>(
     rt: &R,
+    gate: &G,
     alloc: Global,
     count: u32,
     bench: B,
@@ -152,15 +154,16 @@ fn load_in_lanes<R: Threads + Wait + Sync, B: Bench + Drop>(
     match load(alloc, count, true) {
         Ok(script) => {
             let unit = unit_of(&script.config, dids);
-            live_in_lanes(rt, alloc, unit, bench, script)
+            live_in_lanes(rt, gate, alloc, unit, bench, script)
         }
         Err(_) => Lived { made: None, bench },
     }
 }
 
 /// Reads the script, and makes its lives.
-fn run_script<R: Threads + Wait + Sync, S: Source, B: Bench + Drop>(
+fn run_script<R: Threads + Wait + Sync, G: SharedGate, S: Source, B: Bench + Drop>(
     rt: &R,
+    gate: &G,
     alloc: Global,
     source: &mut S,
     bench: B,
@@ -189,7 +192,7 @@ fn run_script<R: Threads + Wait + Sync, S: Source, B: Bench + Drop>(
     match fetch(alloc, source, &dids) {
         Fetched::Script(script) => {
             let unit = unit_of(&script.config, dids);
-            let Lived { made, bench } = live(rt, alloc, unit, bench, script);
+            let Lived { made, bench } = live_in_lanes(rt, gate, alloc, unit, bench, script);
             Performed {
                 ending: made.map(|made| Ending::Ran(made)),
                 bench,
@@ -211,8 +214,9 @@ fn run_script<R: Threads + Wait + Sync, S: Source, B: Bench + Drop>(
 }
 
 /// Carries out a command; no command is answered as words that are none.
-pub(crate) fn perform<R: Threads + Wait + Sync, S: Source, B: Bench + Drop>(
+pub(crate) fn perform<R: Threads + Wait + Sync, G: SharedGate, S: Source, B: Bench + Drop>(
     rt: &R,
+    gate: &G,
     alloc: Global,
     command: Option<Command>,
     source: &mut S,
@@ -244,10 +248,10 @@ pub(crate) fn perform<R: Threads + Wait + Sync, S: Source, B: Bench + Drop>(
         return usage(bench);
     };
     match word {
-        Command::Run => run_script(rt, alloc, source, bench, dids),
+        Command::Run => run_script(rt, gate, alloc, source, bench, dids),
         Command::Load { count, lanes } => {
             if lanes {
-                let Lived { made, bench } = load_in_lanes(rt, alloc, count, bench, dids);
+                let Lived { made, bench } = load_in_lanes(rt, gate, alloc, count, bench, dids);
                 Performed {
                     ending: made.map(|made| Ending::Loaded(made)),
                     bench,

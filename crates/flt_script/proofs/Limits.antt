@@ -23,7 +23,7 @@ use Rattle.flt_script.specs.Gives.{◌⇒◌, given_by}
 use Rattle.flt_script.specs.Refusal.{is_step_misplaced, setting_refusal, flash_refusal, event_refusal, did_refusal, step_refusal, power_refusal, par_refusal, lane_refusal, end_refusal, refusal}
 use Rattle.flt_script.specs.Script.{lines_behind}
 use Rattle.flt_script.specs.Step.{is_step_in, are_parts_in, steps_of, arm_count, arms_of}
-use Rattle.flt_script.specs.Within.{marks_of, IsWithin}
+use Rattle.flt_script.specs.Within.{marks_of, IsWithinLimits}
 use Rattle.flt_script.proofs.Accepted.{of_accepted_lines}
 use Rattle.flt_script.proofs.Blocks.{is_block_in, block_steps, block_marks, block_with, parts_with, steps_with, arms_with_step, marks_with, block_with_lane, parts_with_block, steps_with_lane, marks_with_lane, steps_with_block, arms_with_block, marks_with_block}
 use Rattle.flt_script.proofs.Bools.{both_false, not_false}
@@ -285,7 +285,7 @@ module _ (dids : List DidUse) where
 
   -- The lives that the lines give, with the one under way, are those of a script.
   pub within_limits : (texts : List (List ℕ)) (lines : List Line) → lines_behind dids [] texts ≡ Ok lines → length lines ≤ 1048577
-      → let b = behind dids lines in IsWithin b.config (b.lives ++ b.parts ∷ [])
+      → let b = behind dids lines in IsWithinLimits b.config (b.lives ++ b.parts ∷ [])
   within_limits texts lines e few =
       let b = behind dids lines in
       let k = of_accepted_lines dids (λ (past : List Line). IsKept (behind dids past) (length past)) one_more [] texts lines none_kept e in

@@ -16,7 +16,7 @@ use Rattle.flt_script.specs.Laws.{LoadOfFour}
 use Rattle.flt_script.specs.Load.{load_config, next_number, load_number, load_step, load_lane, load_lanes, plain_parts, load_parts, load_life, shown_life}
 use Rattle.flt_script.specs.Part.{PartOf}
 use Rattle.flt_script.specs.Step.{is_step_in, is_lane_step, is_lane_in, is_part_in, are_parts_in, steps_of_part, steps_of, lanes_of_part, lanes_of, arms_of_part, arms_of}
-use Rattle.flt_script.specs.Within.{marks_of, IsWithin}
+use Rattle.flt_script.specs.Within.{marks_of, IsWithinLimits}
 use Rattle.flt_script.proofs.Bools.{both_true}
 
 pub load_is_accepted : check_of load_config ≡ Ok load_config
@@ -221,7 +221,7 @@ shown_marks : marks_of shown_life ≡ 16
 shown_marks = refl
 
 -- The lives of a load are those of a script.
-pub load_within : (count : ℕ) (lanes : Bool) → count ≤ 60000 → IsWithin load_config (load_life count lanes ∷ shown_life ∷ [])
+pub load_within : (count : ℕ) (lanes : Bool) → count ≤ 60000 → IsWithinLimits load_config (load_life count lanes ∷ shown_life ∷ [])
 load_within count lanes few = record {
   in_range = rw (life_in count lanes, shown_in) refl;
   few = omega (arith, life_steps count lanes, shown_steps, sum_by-cons steps_of (load_life count lanes) (shown_life ∷ []), sum_by-cons steps_of shown_life []);

@@ -11,7 +11,7 @@ abbrev pub marks_of : List (PartOf Step) → ℕ
 marks_of parts = length parts + lanes_of parts
 
 -- Each step is in its ranges, and there are not too many steps, arms, parts, lanes and lives.
-pub record IsWithin (config : Config) (lives : List (List (PartOf Step))) : Type 0 where
+pub record IsWithinLimits (config : Config) (lives : List (List (PartOf Step))) : Type 0 where
   pub in_range : IsTrue (list_all (are_parts_in config) lives)
   pub few : sum_by steps_of lives ≤ 65536
   pub few_arms : sum_by arms_of lives ≤ 64

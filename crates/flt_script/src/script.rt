@@ -30,11 +30,11 @@ pub struct Script {
 impl Script {
     ghost use Rattle.std.specs.Prelude.{◌≡◌, map};
     ghost use Rattle.flt_script.specs.Script.{content};
-    ghost use Rattle.flt_script.specs.Within.{IsWithin};
+    ghost use Rattle.flt_script.specs.Within.{IsWithinLimits};
 
     /// The script of these lives, which keep to the limits of scripts.
     pub(crate) fn new(config: ValidConfig, lives: Vec<Vec<Part>>) -> Script
-        requires within { IsWithin config (map (λ life. parts_of life.items) lives.items) }
+        requires within { IsWithinLimits config (map (λ life. parts_of life.items) lives.items) }
         requires some { 0 < vec_len lives }
         ensures { content result ≡ record { config = config; lives = map (λ life. parts_of life.items) lives.items } }
     {

@@ -11,10 +11,11 @@ use flt_dcm::{DemStart, Op, Reply, UnitState};
 use flt_did::{DID_ROWS, DidTable};
 use flt_turn::{Machine, Step, StepAlone};
 
-/// The status machine without the functions of its table, which are lent to each of its steps.
+/// The status machine without the functions of its table, which are lent to each of its steps. It is boxed, since it goes out of the
+/// lock's slot and back with each call.
 #[derive(Drop)]
 pub struct Guarded {
-    pub(crate) state: UnitState,
+    pub(crate) state: Box<UnitState>,
 }
 
 impl Machine for Guarded {
@@ -28,11 +29,11 @@ impl Machine for Guarded {
 
     ghost some_start = { some_start };
 
-    ghost start = { λ guarded. start_of guarded.state };
+    ghost start = { λ guarded. start_of guarded.state.value };
 
     ghost admits = { MayBeAsked };
 
-    ghost stands_for = { λ guarded start ops. Stands start (reverse ops) guarded.state };
+    ghost stands_for = { λ guarded start ops. Stands start (reverse ops) guarded.state.value };
 
     ghost answer = { reply_after };
 

@@ -75,10 +75,20 @@ impl DemLock {
     {
         let Unit { state, dids, .. } = unit;
         let config = Snapshot::of(state.config().config());
+        let state = match Box::new(alloc, state) {
+            Ok(state) => state,
+            Err(failed) => {
+                let state = failed.value;
+                return Err(MachineBack {
+                    machine: Unit { state, dids },
+                });
+            }
+        };
         match Turn::make(alloc, Guarded { state }, room) {
             Ok((turn, seat)) => Ok((DemLock { turn, dids, config }, seat)),
             Err(MachineBack { machine }) => {
                 let Guarded { state } = machine;
+                let state = Box::into_inner(state);
                 Err(MachineBack {
                     machine: Unit { state, dids },
                 })
@@ -241,6 +251,7 @@ impl DemLock {
         } = self;
         let Vault { journal, machine } = turn.close(main);
         let Guarded { state } = machine;
+        let state = Box::into_inner(state);
         let unit = Unit { state, dids };
         DemEnd { journal, unit }
     }
