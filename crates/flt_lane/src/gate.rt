@@ -1,5 +1,6 @@
 //! Where a lane may be held.
 ghost use Rattle.std.specs.Prelude.{◌<◌, ℕ, length, slice_index_or};
+ghost use Rattle.std.specs.Thread.{IsSync};
 ghost use Rattle.flt_shared.specs.Lock.{IsSeatOf};
 ghost use Rattle.flt_lane.specs.Work.{IsReady, HasRun};
 ghost use Rattle.flt_lane.specs.declared.lane.LaneWork.{LaneWork};
@@ -27,6 +28,7 @@ pub trait SharedGate: Gate {
         dem: &DemLock,
         lanes: &mut [LaneWork<'_>],
     )
+        requires sync { IsSync R.row }
         requires ready { (k : ℕ) (d : LaneWork) → k < length lanes.old → IsReady dem.now (slice_index_or lanes.old k d) }
         ensures ran { (k : ℕ) (d : LaneWork) → k < length lanes.old → HasRun (slice_index_or lanes.old k d) (slice_index_or lanes.new k d)
             × IsSeatOf dem.now (slice_index_or lanes.new k d).seat };

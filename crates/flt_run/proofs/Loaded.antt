@@ -1,5 +1,5 @@
 -- The script of a load is served by all tables, and without lanes it has no block.
-use Rattle.std.proofs.Common.{◌≡◌, ℕ, List, [], ◌∷◌, ◌++◌, map, false, ap, sym, subst, inl, inr, Global}
+use Rattle.std.proofs.Common.{◌≡◌, ℕ, List, [], ◌∷◌, ◌++◌, map, false, sym, subst, inl, Global}
 use Rattle.std.specs.Prelude.{All, Vec}
 use Rattle.std.specs.List.{flat_map, range_with_len}
 use Rattle.std.proofs.lemmas.List.Elements.{All-nil, All-cons, All-head, All-tail, All-append}
@@ -10,7 +10,7 @@ use Rattle.flt_script.specs.declared.step.Part.{Part}
 use Rattle.flt_script.specs.declared.step.Step.{Step}
 use Rattle.flt_script.specs.declared.step.Step.TheVariants as steps
 use Rattle.flt_script.specs.Load.{load_config, load_event, load_lanes, load_life, load_parts, plain_parts, shown_life}
-use Rattle.flt_script.specs.Part.{PartOf, parts_of}
+use Rattle.flt_script.specs.Part.{parts_of}
 use Rattle.flt_life.specs.Lives.{lists}
 use Rattle.flt_lives.specs.Alone.{IsAlone, AreAlone}
 

@@ -1,5 +1,5 @@
 -- The parts of a script are possible, and few.
-use Rattle.std.proofs.Common.{◌≡◌, ℕ, ◌+◌, ◌<◌, ◌≤◌, leb, ltb, arith, true, List, [], ◌∷◌, length, map, refl, ap, inl, inr}
+use Rattle.std.proofs.Common.{◌≡◌, ℕ, ◌+◌, ◌≤◌, leb, ltb, arith, true, List, [], ◌∷◌, length, refl, ap, inl, inr}
 use Rattle.std.specs.Prelude.{Vec, All, sum_by, ◌&&◌}
 use Rattle.std.specs.List.{list_all}
 use Rattle.std.proofs.lemmas.Bool.{and_parts, leb-true, ltb-true}

@@ -1,10 +1,7 @@
-use Rattle.std.proofs.Common.{arith, sym, subst, ap, ◌≡◌, reverse, map, Option}
-use Rattle.std.specs.Prelude.{All, IfSome, Vec}
+use Rattle.std.proofs.Common.{arith, sym, subst}
+use Rattle.std.specs.Prelude.{All}
 use Rattle.flt_script.specs.Part.{parts_of}
-use Rattle.flt_life.specs.declared.life.Life.{Life}
 use Rattle.flt_life.specs.Parts.{IsPossiblePart}
-use Rattle.flt_lives.specs.Sectors.{FlashStaysSound}
-use Rattle.flt_run.specs.Ending.{IsLivedBy}
 use Rattle.flt_run.proofs.Possible.{possible_lives, all_arms_same, all_widths_same}
 use Rattle.flt_run.proofs.Lived.{if_some, lived_by, none_by_flash}
 use Rattle.flt_run.proofs.engine.live_alone.Goals as goal

@@ -1,9 +1,9 @@
-use Rattle.std.proofs.Common.{ap, sym, subst}
+use Rattle.std.proofs.Common.{sym, subst}
 use Rattle.flt_did.specs.Serves.{Serves}
 use Rattle.flt_did.specs.Table.{dids_of}
 use Rattle.flt_script.specs.Script.{Content}
 use Rattle.flt_lives.specs.Sectors.{FlashStaysSound}
-use Rattle.flt_run.proofs.Loaded.{served_load, alone_lives}
+use Rattle.flt_run.proofs.Loaded.{served_load}
 use Rattle.flt_run.proofs.performing.load_in_lanes.Goals as goal
 
 pub unit_of-unit-requires : goal.unit_of-unit-requires

@@ -1,4 +1,4 @@
-use Rattle.std.proofs.Common.{◌≡◌, ◌-◌, ◌≤◌, ℕ, List, take, ◌∷◌, [], drop, length, map, get_or, ap, refl, sym, subst, arith, ◌∙◌}
+use Rattle.std.proofs.Common.{◌≡◌, ◌-◌, ◌≤◌, ℕ, List, take, ◌∷◌, [], drop, length, map, get_or, ap, sym, subst, arith, ◌∙◌}
 use Rattle.std.specs.Prelude.{OnErr}
 use Rattle.flt_io.specs.Sink.{AppendsFront}
 use Rattle.flt_script.specs.Part.{parts_of}
