@@ -24,9 +24,7 @@ pub struct LockEngine<'a, R, G> {
     pub unit: Unit,
 }
 
-impl<D: Blocks + Drop, R: Threads + Wait + Sync, G: SharedGate> Engine<D>
-    for LockEngine<'_, R, G>
-{
+impl<D: Blocks + Drop, R: Threads + Wait + Sync, G: SharedGate> Engine<D> for LockEngine<'_, R, G> {
     ghost machine_config = { λ engine. config_of engine.unit };
 
     ghost can_make = { λ parts. IsSync R.row };

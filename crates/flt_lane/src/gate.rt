@@ -22,12 +22,7 @@ pub trait Gate {
 /// runs lanes on its own behalf: by `run_block(rt, dem, lanes, self)`.
 pub trait SharedGate: Gate {
     /// Makes the steps of each lane, all lanes at once, each step between the two calls of this gate.
-    fn run_lanes<R: Threads + Wait + Sync>(
-        &self,
-        rt: &R,
-        dem: &DemLock,
-        lanes: &mut [LaneWork<'_>],
-    )
+    fn run_lanes<R: Threads + Wait + Sync>(&self, rt: &R, dem: &DemLock, lanes: &mut [LaneWork<'_>])
         requires sync { IsSync R.row }
         requires ready { (k : ℕ) (d : LaneWork) → k < length lanes.old → IsReady dem.now (slice_index_or lanes.old k d) }
         ensures ran { (k : ℕ) (d : LaneWork) → k < length lanes.old → HasRun (slice_index_or lanes.old k d) (slice_index_or lanes.new k d)
