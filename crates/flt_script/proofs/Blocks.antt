@@ -1,20 +1,21 @@
 -- The block under way: a step more in its last lane, and what is known of it where a line was not refused.
 use Rattle.std.proofs.Common.{◌≡◌, ℕ, ◌+◌, ◌≤◌, List, [], ◌∷◌, ◌++◌, length, Bool, true, false, ◌&&◌, leb, Option, Some, None, refl, arith, length-append, inl, inr}
-use Rattle.std.specs.Prelude.{is_some, is_none, option_map, option_to_list, sum_by}
+use Rattle.std.specs.Prelude.{is_some, is_none, not, option_map, option_to_list, sum_by}
 use Rattle.std.specs.List.{list_all}
-use Rattle.std.proofs.lemmas.Bool.{leb-false, le-leb}
+use Rattle.std.proofs.lemmas.Bool.{leb-true, leb-false, le-leb}
 use Rattle.std.proofs.lemmas.List.{append-nil}
 use Rattle.std.proofs.lemmas.List.Folds.{list_all-append}
 use Rattle.std.proofs.lemmas.List.Sums.{sum_by-cons, sum_by_push}
 use Rattle.flt_config.specs.declared.config.Config.{Config}
 use Rattle.flt_script.specs.declared.step.Step.{Step}
-use Rattle.flt_script.specs.Behind.{lane_count, has_lane, in_last_lane, with_step}
+use Rattle.flt_script.specs.Behind.{lane_count, has_lane, has_earlier_store, in_last_lane, with_step}
 use Rattle.flt_script.specs.Gives.{given_by}
 use Rattle.flt_script.specs.Part.{PartOf}
 use Rattle.flt_script.specs.Refusal.{is_step_misplaced}
-use Rattle.flt_script.specs.Step.{is_step_in, is_lane_step, is_lane_in, is_part_in, are_parts_in, steps_of_part, steps_of, lanes_of_part, arm_count, arms_of_part, arms_of}
+use Rattle.flt_script.specs.Step.{is_step_in, is_lane_step, is_store_step, store_lanes, is_lane_in, is_part_in, are_parts_in, steps_of_part, steps_of, lanes_of_part, arm_count, arms_of_part, arms_of, drain_count, drains_of_lane, drains_of_part, drains_of}
 use Rattle.flt_script.specs.Within.{marks_of}
-use Rattle.flt_script.proofs.Bools.{both_true, not_false}
+use Rattle.flt_script.proofs.Bools.{both_true, both_false, not_false}
+use Rattle.flt_script.proofs.Stores.{few_with, few_with_lane}
 
 pub same_some : {X Y : Type 0} (f : X → Y) (o : Option X) → is_some (option_map f o) ≡ is_some o
 same_some f None = refl
@@ -40,13 +41,16 @@ lane_more (Some lanes) e = length-append lanes ([] ∷ [])
 
 -- ---- what a block comes to
 
--- A block under way has at most 8 lanes, of steps that may stand there.
+-- A block under way has at most 8 lanes, of steps that may stand there, and at most one has a save, drain or get.
 abbrev pub is_block_in : Config → Option (List (List Step)) → Bool
-is_block_in config block = given_by block true (λ lanes. leb (length lanes) 8 && list_all (is_lane_in config) lanes)
+is_block_in config block = given_by block true (λ lanes. leb (length lanes) 8 && list_all (is_lane_in config) lanes && leb (store_lanes lanes) 1)
 
 -- The steps of the block under way, and the lines at which it and its lanes began.
 abbrev pub block_steps : Option (List (List Step)) → ℕ
 block_steps block = given_by block 0 (sum_by length)
+
+abbrev pub block_drains : Option (List (List Step)) → ℕ
+block_drains block = given_by block 0 (sum_by drains_of_lane)
 
 abbrev pub block_marks : Option (List (List Step)) → ℕ
 block_marks block = given_by block 0 (λ lanes. length lanes + 1)
@@ -69,8 +73,16 @@ module _ (config : Config) (s : Step) (within : is_step_in config s ≡ true) wh
   block_with None place all = refl
   block_with (Some []) place all = absurd cc
   block_with (Some (lane ∷ lanes)) place all =
-      let parts = both_true (leb (length (lane ∷ lanes)) 8) (list_all (is_lane_in config) (lane ∷ lanes)) all in
-      rw (length-in_last_lane (Some s) (lane ∷ lanes), parts.0, lanes_with (lane ∷ lanes) (not_false (is_lane_step s) place) parts.1) refl
+      let both = both_true (leb (length (lane ∷ lanes)) 8 && list_all (is_lane_in config) (lane ∷ lanes)) (leb (store_lanes (lane ∷ lanes)) 1) all in
+      let parts = both_true (leb (length (lane ∷ lanes)) 8) (list_all (is_lane_in config) (lane ∷ lanes)) both.0 in
+      let told = both_false (not (is_lane_step s)) (is_store_step s && has_earlier_store (lane ∷ lanes)) place in
+      let few = few_with s (lane ∷ lanes) told.1 (leb-true (store_lanes (lane ∷ lanes)) 1 both.1) in
+      rw (
+        length-in_last_lane (Some s) (lane ∷ lanes),
+        parts.0,
+        lanes_with (lane ∷ lanes) (not_false (is_lane_step s) told.0) parts.1,
+        le-leb (store_lanes (in_last_lane (Some s) (lane ∷ lanes))) 1 few,
+      ) refl
 
   pub parts_with : (block : Option (List (List Step))) (parts : List (PartOf Step)) → are_parts_in config parts ≡ true → are_parts_in config (with_step block (Some s) parts) ≡ true
   parts_with None parts all = rw (list_all-append (is_part_in config) parts (inl s ∷ []), all, within) refl
@@ -93,6 +105,20 @@ pub arms_with_step : (block : Option (List (List Step))) (s : Step) (parts : Lis
 arms_with_step None s parts = omega (arith, sum_by_push arms_of_part parts (inl s))
 arms_with_step (Some lanes) s parts = omega arith
 
+drains_in_last : (s : Step) (lane : List Step) (lanes : List (List Step))
+    → sum_by drains_of_lane (in_last_lane (Some s) (lane ∷ lanes)) ≡ sum_by drains_of_lane (lane ∷ lanes) + drain_count s
+drains_in_last s lane [] =
+    omega (arith, sum_by_push drain_count lane s, sum_by-cons drains_of_lane (lane ++ s ∷ []) [], sum_by-cons drains_of_lane lane [])
+drains_in_last s lane (next ∷ lanes) =
+    let rest = drains_in_last s next lanes in
+    omega (arith, rest, sum_by-cons drains_of_lane lane (in_last_lane (Some s) (next ∷ lanes)), sum_by-cons drains_of_lane lane (next ∷ lanes))
+
+pub drains_with_step : (block : Option (List (List Step))) (s : Step) (parts : List (PartOf Step)) → is_step_misplaced block s ≡ false
+    → drains_of (with_step block (Some s) parts) + block_drains (option_map (in_last_lane (Some s)) block) ≡ drains_of parts + block_drains block + drain_count s
+drains_with_step None s parts place = omega (arith, sum_by_push drains_of_part parts (inl s))
+drains_with_step (Some []) s parts place = absurd cc
+drains_with_step (Some (lane ∷ lanes)) s parts place = omega (arith, drains_in_last s lane lanes)
+
 pub marks_with : (block : Option (List (List Step))) (s : Step) (parts : List (PartOf Step))
     → marks_of (with_step block (Some s) parts) + block_marks (option_map (in_last_lane (Some s)) block) ≤ marks_of parts + block_marks block + 1
 marks_with None s parts = omega (arith, sum_by_push lanes_of_part parts (inl s), length-append parts (inl s ∷ []))
@@ -105,24 +131,30 @@ module _ (config : Config) where
       → is_block_in config (option_map (λ lanes. lanes ++ [] ∷ []) block) ≡ true
   block_with_lane None few all = refl
   block_with_lane (Some lanes) few all =
-      let parts = both_true (leb (length lanes) 8) (list_all (is_lane_in config) lanes) all in
+      let both = both_true (leb (length lanes) 8 && list_all (is_lane_in config) lanes) (leb (store_lanes lanes) 1) all in
+      let parts = both_true (leb (length lanes) 8) (list_all (is_lane_in config) lanes) both.0 in
       let under = leb-false 8 (length lanes) few in
       let fits : length (lanes ++ [] ∷ []) ≤ 8 = rw length-append (omega arith) in
-      rw (le-leb (length (lanes ++ [] ∷ [])) 8 fits, list_all-append (is_lane_in config) lanes ([] ∷ []), parts.1) refl
+      rw (le-leb (length (lanes ++ [] ∷ [])) 8 fits, list_all-append (is_lane_in config) lanes ([] ∷ []), parts.1, few_with_lane lanes, both.1) refl
 
   pub parts_with_block : (block : Option (List (List Step))) (parts : List (PartOf Step)) → has_lane block ≡ true → is_block_in config block ≡ true → are_parts_in config parts ≡ true
       → are_parts_in config (parts ++ option_to_list (option_map inr block)) ≡ true
   parts_with_block None parts some block all = absurd cc
   parts_with_block (Some []) parts some block all = absurd cc
   parts_with_block (Some (lane ∷ lanes)) parts some block all =
-      let held = both_true (leb (length (lane ∷ lanes)) 8) (list_all (is_lane_in config) (lane ∷ lanes)) block in
+      let both = both_true (leb (length (lane ∷ lanes)) 8 && list_all (is_lane_in config) (lane ∷ lanes)) (leb (store_lanes (lane ∷ lanes)) 1) block in
+      let held = both_true (leb (length (lane ∷ lanes)) 8) (list_all (is_lane_in config) (lane ∷ lanes)) both.0 in
       let one : 1 ≤ length (lane ∷ lanes) = omega arith in
-      let last : is_part_in config (inr (lane ∷ lanes)) ≡ true = rw (le-leb 1 (length (lane ∷ lanes)) one, held.0, held.1) refl in
+      let last : is_part_in config (inr (lane ∷ lanes)) ≡ true = rw (le-leb 1 (length (lane ∷ lanes)) one, held.0, held.1, both.1) refl in
       rw (list_all-append (is_part_in config) parts (inr (lane ∷ lanes) ∷ []), all, last) refl
 
 pub steps_with_lane : (block : Option (List (List Step))) → block_steps (option_map (λ lanes. lanes ++ [] ∷ []) block) ≡ block_steps block
 steps_with_lane None = refl
 steps_with_lane (Some lanes) = omega (arith, sum_by_push length lanes [])
+
+pub drains_with_lane : (block : Option (List (List Step))) → block_drains (option_map (λ lanes. lanes ++ [] ∷ []) block) ≡ block_drains block
+drains_with_lane None = refl
+drains_with_lane (Some lanes) = omega (arith, sum_by_push drains_of_lane lanes [])
 
 pub marks_with_lane : (block : Option (List (List Step))) → block_marks (option_map (λ lanes. lanes ++ [] ∷ []) block) ≤ block_marks block + 1
 marks_with_lane None = omega arith
@@ -135,6 +167,10 @@ steps_with_block (Some lanes) parts = omega (arith, sum_by_push steps_of_part pa
 pub arms_with_block : (block : Option (List (List Step))) (parts : List (PartOf Step)) → arms_of (parts ++ option_to_list (option_map inr block)) ≡ arms_of parts
 arms_with_block None parts = rw append-nil refl
 arms_with_block (Some lanes) parts = omega (arith, sum_by_push arms_of_part parts (inr lanes))
+
+pub drains_with_block : (block : Option (List (List Step))) (parts : List (PartOf Step)) → drains_of (parts ++ option_to_list (option_map inr block)) ≡ drains_of parts + block_drains block
+drains_with_block None parts = rw append-nil (omega arith)
+drains_with_block (Some lanes) parts = omega (arith, sum_by_push drains_of_part parts (inr lanes))
 
 pub marks_with_block : (block : Option (List (List Step))) (parts : List (PartOf Step)) → marks_of (parts ++ option_to_list (option_map inr block)) ≤ marks_of parts + block_marks block
 marks_with_block None parts = rw append-nil (omega arith)

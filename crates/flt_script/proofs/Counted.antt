@@ -1,35 +1,31 @@
 -- What is kept of lines that were not refused says how many there are of each kind.
-use Rattle.std.proofs.Common.{◌≡◌, ℕ, ◌+◌, ◌<◌, List, [], ◌∷◌, ◌++◌, length, Bool, true, false, cond, ◌&&◌, ◌||◌, ltb, leb, if◌then◌else◌, Option, Some, None, refl, ap, ◌∙◌, arith, length-append, inl, inr}
+use Rattle.std.proofs.Common.{◌≡◌, ℕ, ◌+◌, ◌<◌, List, [], ◌∷◌, ◌++◌, length, Bool, true, false, cond, ◌||◌, ltb, leb, Option, Some, None, refl, sym, ap, ◌∙◌, arith, length-append, inl, inr}
 use Rattle.std.specs.Prelude.{count_by, find, is_some, is_none, not, ◌==◌, option_map, option_to_list, slice_get}
 use Rattle.std.proofs.lemmas.Bool.{lt-ltb}
 use Rattle.std.proofs.lemmas.List.Sums.{sum_by-cons}
-use Rattle.flt_config.specs.declared.config.Config.{Config}
 use Rattle.flt_config.specs.declared.config.DidUse.{DidUse}
 use Rattle.flt_did.specs.Rows.{is_did}
-use Rattle.flt_flash.specs.declared.arm.Arm.TheVariants as arm
-use Rattle.flt_script.specs.declared.arm.ArmLine.TheVariants.{Cut, Fault, Mute}
 use Rattle.flt_script.specs.declared.event.EventLine.{EventLine}
 use Rattle.flt_script.specs.declared.fault.LineCause.{LineCause}
 use Rattle.flt_script.specs.declared.fault.LineCause.TheVariants as cause
 use Rattle.flt_script.specs.declared.line.Line.{Line}
 use Rattle.flt_script.specs.declared.line.Line.TheVariants as line
 use Rattle.flt_script.specs.declared.line.StepLine.{StepLine}
-use Rattle.flt_script.specs.declared.line.StepLine.TheVariants.{Report, Show, Cycle, Tick, Signal, Request, Save, Arming}
+use Rattle.flt_script.specs.declared.line.StepLine.TheVariants.{Report, Show, Cycle, Tick, Signal, Request, Save, Post, Drain, Get, Ask, Arming}
 use Rattle.flt_script.specs.declared.step.Step.{Step}
-use Rattle.flt_script.specs.declared.step.Step.TheVariants as step
-use Rattle.flt_script.specs.Behind.{Behind, added, behind, event_count, arm_of, has_begun, lane_count, has_lane, in_last_lane, with_step, step_of, arms_with}
-use Rattle.flt_script.specs.Causes.{arms_written}
-use Rattle.flt_script.specs.Counts.{is_step, is_arming, is_power, is_event, IsCounted}
+use Rattle.flt_script.specs.Behind.{Behind, added, behind, event_count, has_begun, lane_count, has_lane, in_last_lane, with_step, step_of, arms_with, drains_with}
+use Rattle.flt_script.specs.Causes.{arms_written, drains_written}
+use Rattle.flt_script.specs.Counts.{is_step, is_arming, is_drain, is_power, is_event, IsCounted}
 use Rattle.flt_script.specs.Event.{event_held}
-use Rattle.flt_script.specs.Gives.{◌⇒◌, given_by}
+use Rattle.flt_script.specs.Gives.{given_by}
 use Rattle.flt_script.specs.Laws.{AcceptedLinesAreCounted}
 use Rattle.flt_script.specs.Part.{PartOf}
-use Rattle.flt_script.specs.Refusal.{event_refusal, step_refusal, lane_refusal, end_refusal, refusal}
-use Rattle.flt_script.specs.Step.{arm_count}
+use Rattle.flt_script.specs.Refusal.{is_step_misplaced, event_refusal, step_refusal, lane_refusal, end_refusal, refusal}
 use Rattle.flt_script.proofs.Accepted.{length_used, of_accepted_lines}
 use Rattle.flt_script.proofs.Blocks.{same_some, some_of, as_many_lanes, lane_more}
 use Rattle.flt_script.proofs.Bools.{or_true, not_false}
-use Rattle.flt_script.proofs.Kept.{kept}
+use Rattle.flt_script.proofs.StepRead.{is_read, arms_read, drains_read, one_lane_read}
+use Rattle.flt_script.proofs.Stores.{block_used, block_taken, block_used_with_lane, block_taken_with_lane}
 
 count_more : (p : Line → Bool) (l : Line) (past : List Line) → count_by p (l ∷ past) ≡ cond (p l) 1 0 + count_by p past
 count_more p l past = sum_by-cons (λ (x : Line). cond (p x) 1 0) l past
@@ -67,6 +63,18 @@ step_read : (b : Behind) (s : StepLine) → step_refusal b s ≡ None → is_non
 unfolding step_refusal
 step_read b s e = first_is_false (is_none (step_of b.config s)) cause.Range _ e
 
+third_is_false : (a b c : Bool) (x y z : LineCause) → cond a (Some x) (cond b (Some y) (cond c (Some z) None)) ≡ None → c ≡ false
+third_is_false true b c x y z e = absurd cc
+third_is_false false true c x y z e = absurd cc
+third_is_false false false true x y z e = absurd cc
+third_is_false false false false x y z e = refl
+
+step_placed : (b : Behind) (s : StepLine) → step_refusal b s ≡ None → given_by (step_of b.config s) false (is_step_misplaced b.block) ≡ false
+unfolding step_refusal
+step_placed b s e =
+    third_is_false (is_none (step_of b.config s)) (leb 65536 b.steps || ltb 64 (arms_with b s) || ltb 1024 (drains_with b s))
+    (given_by (step_of b.config s) false (is_step_misplaced b.block)) cause.Range cause.Many cause.Block e
+
 begun_with : (read : Option Step) (b : Behind) (block : Option (List (List Step))) → is_none read ≡ false
     → (ltb 0 (length (with_step block read b.parts)) || ltb 0 (length b.lives) || is_some (option_map (in_last_lane read) block)) ≡ true
 begun_with None b block e = absurd cc
@@ -93,44 +101,7 @@ begun_by_block (Some lanes) parts lives e =
     let some : 0 < length (parts ++ inr lanes ∷ []) = rw length-append (omega arith) in
     rw (lt-ltb 0 (length (parts ++ inr lanes ∷ [])) some, or_true (ltb 0 (length parts) || ltb 0 (length lives))) refl
 
--- ---- the arms of a step that was read
-
-read_one : (t : Bool) (read : Bool → Option Step) (s : Step) → read true ≡ Some s → read false ≡ None → is_none (read t) ≡ false
-    → given_by (read t) 0 arm_count ≡ arm_count s
-read_one true read s some none e = rw some refl
-read_one false read s some none e = let never = rw none at e in absurd cc
-
-read_two : (t u : Bool) (read : Bool → Bool → Option Step) (s : Step) → read true true ≡ Some s → read true false ≡ None → read false u ≡ None
-    → is_none (read t u) ≡ false → given_by (read t u) 0 arm_count ≡ arm_count s
-read_two true true read s some second first e = rw some refl
-read_two true false read s some second first e = let never = rw second at e in absurd cc
-read_two false u read s some second first e = let never = rw first at e in absurd cc
-
-mute_read : (t u v : Bool) (sector page times : ℕ)
-    → is_none (option_map step.Arming (kept t sector ⇒ λ sector. kept u page ⇒ λ page. kept v times ⇒ λ times. Some (arm.Mute sector page times))) ≡ false
-    → given_by (option_map step.Arming (kept t sector ⇒ λ sector. kept u page ⇒ λ page. kept v times ⇒ λ times. Some (arm.Mute sector page times))) 0 arm_count ≡ 1
-mute_read true true true sector page times e = refl
-mute_read true true false sector page times e = absurd cc
-mute_read true false v sector page times e = absurd cc
-mute_read false u v sector page times e = absurd cc
-
-arms_read : (config : Config) (s : StepLine) → is_none (step_of config s) ≡ false → given_by (step_of config s) 0 arm_count ≡ arms_written s
-unfolding arm_of
-arms_read config (Report event report) e =
-    read_one (ltb event (length config.events.items)) (λ t. option_map (λ (n : ℕ). step.Report n report) (kept t event)) (step.Report event report) refl refl e
-arms_read config (Show event) e = read_one (ltb event (length config.events.items)) (λ t. option_map step.Show (kept t event)) (step.Show event) refl refl e
-arms_read config (Cycle cycle) e = read_one (leb cycle 3) (λ t. option_map step.Cycle (kept t cycle)) (step.Cycle cycle) refl refl e
-arms_read config (Tick ticks) e = read_one (leb 1 ticks && leb ticks 65535) (λ t. option_map step.Tick (kept t ticks)) (step.Tick ticks) refl refl e
-arms_read config (Signal index value) e =
-    read_two (leb index 7) (leb value 65535) (λ t u. kept t index ⇒ λ index. kept u value ⇒ λ value. Some (step.Signal index value)) (step.Signal index value) refl refl refl e
-arms_read config (Request tester bytes) e =
-    read_one (leb tester 3 && ltb 0 (length bytes.items)) (λ t. if t then Some (step.Request tester bytes) else None) (step.Request tester bytes) refl refl e
-arms_read config Save e = refl
-arms_read config (Arming (Cut after pattern)) e =
-    read_one (leb 1 after && leb after 65535) (λ t. option_map step.Arming (option_map (λ (n : ℕ). arm.Cut n pattern) (kept t after))) (step.Arming (arm.Cut after pattern)) refl refl e
-arms_read config (Arming (Fault after pattern)) e =
-    read_one (leb 1 after && leb after 65535) (λ t. option_map step.Arming (option_map (λ (n : ℕ). arm.Fault n pattern) (kept t after))) (step.Arming (arm.Fault after pattern)) refl refl e
-arms_read config (Arming (Mute sector page times)) e = mute_read (leb sector 1) (leb page 1023) (leb 1 times && leb times 65535) sector page times e
+-- ---- the arms and drains of a step that was read
 
 arming_line : (s : StepLine) → cond (is_arming (line.Step s)) 1 0 ≡ arms_written s
 arming_line (Report event report) = refl
@@ -140,11 +111,35 @@ arming_line (Tick ticks) = refl
 arming_line (Signal index value) = refl
 arming_line (Request tester bytes) = refl
 arming_line Save = refl
+arming_line (Post urgent block bytes) = refl
+arming_line Drain = refl
+arming_line (Get block) = refl
+arming_line (Ask block) = refl
 arming_line (Arming arm) = refl
+
+drain_line : (s : StepLine) → cond (is_drain (line.Step s)) 1 0 ≡ drains_written s
+drain_line (Report event report) = refl
+drain_line (Show event) = refl
+drain_line (Cycle cycle) = refl
+drain_line (Tick ticks) = refl
+drain_line (Signal index value) = refl
+drain_line (Request tester bytes) = refl
+drain_line Save = refl
+drain_line (Post urgent block bytes) = refl
+drain_line Drain = refl
+drain_line (Get block) = refl
+drain_line (Ask block) = refl
+drain_line (Arming arm) = refl
 
 arms_counted : (b : Behind) (s : StepLine) (past : List Line) → is_none (step_of b.config s) ≡ false → b.arms ≡ count_by is_arming past
     → arms_with b s ≡ count_by is_arming (line.Step s ∷ past)
-arms_counted b s past read e = omega (arith, count_more is_arming (line.Step s) past, arming_line s, arms_read b.config s read, e)
+arms_counted b s past read e =
+    omega (arith, count_more is_arming (line.Step s) past, arming_line s, arms_read b.config s (step_of b.config s) (is_read b.config s) read, e)
+
+drains_counted : (b : Behind) (s : StepLine) (past : List Line) → is_none (step_of b.config s) ≡ false → b.drains ≡ count_by is_drain past
+    → drains_with b s ≡ count_by is_drain (line.Step s ∷ past)
+drains_counted b s past read e =
+    omega (arith, count_more is_drain (line.Step s) past, drain_line s, drains_read b.config s (step_of b.config s) (is_read b.config s) read, e)
 
 -- ---- the counts, line by line
 
@@ -154,10 +149,13 @@ module _ (dids : List DidUse) where
   more line.Skipped past e c = record {
     steps = count_no is_step line.Skipped past _ refl c.steps;
     arms = count_no is_arming line.Skipped past _ refl c.arms;
+    drains = count_no is_drain line.Skipped past _ refl c.drains;
     lives = count_no is_power line.Skipped past _ refl c.lives;
     events = count_no is_event line.Skipped past _ refl c.events;
     block = c.block;
     lanes = c.lanes;
+    store = c.store;
+    earlier_store = c.earlier_store;
     begun = c.begun;
     config = c.config;
     memory = c.memory;
@@ -167,10 +165,13 @@ module _ (dids : List DidUse) where
   more (line.Config id) past e c = record {
     steps = count_no is_step (line.Config id) past _ refl c.steps;
     arms = count_no is_arming (line.Config id) past _ refl c.arms;
+    drains = count_no is_drain (line.Config id) past _ refl c.drains;
     lives = count_no is_power (line.Config id) past _ refl c.lives;
     events = count_no is_event (line.Config id) past _ refl c.events;
     block = c.block;
     lanes = c.lanes;
+    store = c.store;
+    earlier_store = c.earlier_store;
     begun = c.begun;
     config = refl;
     memory = c.memory;
@@ -180,10 +181,13 @@ module _ (dids : List DidUse) where
   more (line.Memory entries) past e c = record {
     steps = count_no is_step (line.Memory entries) past _ refl c.steps;
     arms = count_no is_arming (line.Memory entries) past _ refl c.arms;
+    drains = count_no is_drain (line.Memory entries) past _ refl c.drains;
     lives = count_no is_power (line.Memory entries) past _ refl c.lives;
     events = count_no is_event (line.Memory entries) past _ refl c.events;
     block = c.block;
     lanes = c.lanes;
+    store = c.store;
+    earlier_store = c.earlier_store;
     begun = c.begun;
     config = c.config;
     memory = refl;
@@ -193,10 +197,13 @@ module _ (dids : List DidUse) where
   more (line.Blocks blocks) past e c = record {
     steps = count_no is_step (line.Blocks blocks) past _ refl c.steps;
     arms = count_no is_arming (line.Blocks blocks) past _ refl c.arms;
+    drains = count_no is_drain (line.Blocks blocks) past _ refl c.drains;
     lives = count_no is_power (line.Blocks blocks) past _ refl c.lives;
     events = count_no is_event (line.Blocks blocks) past _ refl c.events;
     block = c.block;
     lanes = c.lanes;
+    store = c.store;
+    earlier_store = c.earlier_store;
     begun = c.begun;
     config = c.config;
     memory = c.memory;
@@ -206,10 +213,13 @@ module _ (dids : List DidUse) where
   more (line.Flash sectors pages) past e c = record {
     steps = count_no is_step (line.Flash sectors pages) past _ refl c.steps;
     arms = count_no is_arming (line.Flash sectors pages) past _ refl c.arms;
+    drains = count_no is_drain (line.Flash sectors pages) past _ refl c.drains;
     lives = count_no is_power (line.Flash sectors pages) past _ refl c.lives;
     events = count_no is_event (line.Flash sectors pages) past _ refl c.events;
     block = c.block;
     lanes = c.lanes;
+    store = c.store;
+    earlier_store = c.earlier_store;
     begun = c.begun;
     config = c.config;
     memory = c.memory;
@@ -219,10 +229,13 @@ module _ (dids : List DidUse) where
   more (line.Event event) past e c = record {
     steps = count_no is_step (line.Event event) past _ refl c.steps;
     arms = count_no is_arming (line.Event event) past _ refl c.arms;
+    drains = count_no is_drain (line.Event event) past _ refl c.drains;
     lives = count_no is_power (line.Event event) past _ refl c.lives;
     events = event_adds (behind dids past) event e ∙ count_yes is_event (line.Event event) past _ refl c.events;
     block = c.block;
     lanes = c.lanes;
+    store = c.store;
+    earlier_store = c.earlier_store;
     begun = c.begun;
     config = c.config;
     memory = c.memory;
@@ -232,12 +245,15 @@ module _ (dids : List DidUse) where
   more (line.Did event id) past e c = record {
     steps = count_no is_step (line.Did event id) past _ refl c.steps;
     arms = count_no is_arming (line.Did event id) past _ refl c.arms;
+    drains = count_no is_drain (line.Did event id) past _ refl c.drains;
     lives = count_no is_power (line.Did event id) past _ refl c.lives;
     events =
         let items = (behind dids past).config.events.items in
         length_used (find (is_did id) dids) items event (slice_get items event) ∙ count_no is_event (line.Did event id) past _ refl c.events;
     block = c.block;
     lanes = c.lanes;
+    store = c.store;
+    earlier_store = c.earlier_store;
     begun = c.begun;
     config = c.config;
     memory = c.memory;
@@ -249,10 +265,13 @@ module _ (dids : List DidUse) where
       let read = step_read b s e in record {
         steps = count_yes is_step (line.Step s) past _ refl c.steps;
         arms = arms_counted b s past read c.arms;
+        drains = drains_counted b s past read c.drains;
         lives = count_no is_power (line.Step s) past _ refl c.lives;
         events = count_no is_event (line.Step s) past _ refl c.events;
         block = same_some (in_last_lane (step_of b.config s)) b.block ∙ c.block;
         lanes = as_many_lanes (step_of b.config s) b.block ∙ c.lanes;
+        store = block_used (step_of b.config s) b.block _ _ _ read (step_placed b s e) (one_lane_read b.config s (step_of b.config s) (is_read b.config s)) c.block c.store;
+        earlier_store = block_taken (step_of b.config s) b.block ∙ c.earlier_store;
         begun = begun_with (step_of b.config s) b b.block read;
         config = c.config;
         memory = c.memory;
@@ -263,10 +282,13 @@ module _ (dids : List DidUse) where
       let b = behind dids past in record {
         steps = count_no is_step line.Power past _ refl c.steps;
         arms = count_no is_arming line.Power past _ refl c.arms;
+        drains = count_no is_drain line.Power past _ refl c.drains;
         lives = length-append b.lives (b.parts ∷ []) ∙ count_yes is_power line.Power past _ refl c.lives;
         events = count_no is_event line.Power past _ refl c.events;
         block = c.block;
         lanes = c.lanes;
+        store = c.store;
+        earlier_store = c.earlier_store;
         begun = ended_life b;
         config = c.config;
         memory = c.memory;
@@ -277,10 +299,13 @@ module _ (dids : List DidUse) where
       let b = behind dids past in record {
         steps = count_no is_step line.Par past _ refl c.steps;
         arms = count_no is_arming line.Par past _ refl c.arms;
+        drains = count_no is_drain line.Par past _ refl c.drains;
         lives = count_no is_power line.Par past _ refl c.lives;
         events = count_no is_event line.Par past _ refl c.events;
         block = refl;
         lanes = refl;
+        store = refl;
+        earlier_store = refl;
         begun = or_true (ltb 0 (length b.parts) || ltb 0 (length b.lives));
         config = c.config;
         memory = c.memory;
@@ -292,10 +317,13 @@ module _ (dids : List DidUse) where
       let same = same_some (λ (lanes : List (List Step)). lanes ++ [] ∷ []) b.block in record {
         steps = count_no is_step line.Lane past _ refl c.steps;
         arms = count_no is_arming line.Lane past _ refl c.arms;
+        drains = count_no is_drain line.Lane past _ refl c.drains;
         lives = count_no is_power line.Lane past _ refl c.lives;
         events = count_no is_event line.Lane past _ refl c.events;
         block = same ∙ c.block;
         lanes = lane_more b.block (lane_in_block b e) ∙ ap (λ n. n + 1) c.lanes;
+        store = block_used_with_lane b.block ∙ c.store;
+        earlier_store = block_taken_with_lane b.block ∙ c.store ∙ rw (sym c.block ∙ lane_in_block b e) refl;
         begun = ap (λ under_way. ltb 0 (length b.parts) || ltb 0 (length b.lives) || under_way) same ∙ c.begun;
         config = c.config;
         memory = c.memory;
@@ -306,10 +334,13 @@ module _ (dids : List DidUse) where
       let b = behind dids past in record {
         steps = count_no is_step line.End past _ refl c.steps;
         arms = count_no is_arming line.End past _ refl c.arms;
+        drains = count_no is_drain line.End past _ refl c.drains;
         lives = count_no is_power line.End past _ refl c.lives;
         events = count_no is_event line.End past _ refl c.events;
         block = refl;
         lanes = refl;
+        store = refl;
+        earlier_store = refl;
         begun = begun_by_block b.block b.parts b.lives (end_of_lanes b e) ∙ c.begun;
         config = c.config;
         memory = c.memory;
@@ -318,7 +349,22 @@ module _ (dids : List DidUse) where
       }
 
 none_counted : (dids : List DidUse) → IsCounted dids []
-none_counted dids = record { steps = refl; arms = refl; lives = refl; events = refl; block = refl; lanes = refl; begun = refl; config = refl; memory = refl; blocks = refl; flash = refl }
+none_counted dids = record {
+  steps = refl;
+  arms = refl;
+  drains = refl;
+  lives = refl;
+  events = refl;
+  block = refl;
+  lanes = refl;
+  store = refl;
+  earlier_store = refl;
+  begun = refl;
+  config = refl;
+  memory = refl;
+  blocks = refl;
+  flash = refl;
+}
 
 pub accepted_lines_are_counted : AcceptedLinesAreCounted
 accepted_lines_are_counted dids texts lines e =

@@ -10,8 +10,6 @@ use Rattle.flt_config.specs.declared.config.Debounce.TheVariants as rules
 use Rattle.flt_config.specs.declared.config.DidUse.{DidUse}
 use Rattle.flt_config.specs.declared.config.EventCfg.{EventCfg}
 use Rattle.flt_did.specs.Rows.{is_did}
-use Rattle.flt_flash.specs.declared.arm.Arm.TheVariants as arm
-use Rattle.flt_script.specs.declared.arm.ArmLine.TheVariants.{Cut, Fault, Mute}
 use Rattle.flt_script.specs.declared.event.DebounceLine.{DebounceLine}
 use Rattle.flt_script.specs.declared.event.DebounceLine.TheVariants.{Counter, Time}
 use Rattle.flt_script.specs.declared.event.EventLine.{EventLine}
@@ -21,20 +19,19 @@ use Rattle.flt_script.specs.declared.keyword.Keyword.{Keyword}
 use Rattle.flt_script.specs.declared.line.Line.{Line}
 use Rattle.flt_script.specs.declared.line.Line.TheVariants as line
 use Rattle.flt_script.specs.declared.line.StepLine.{StepLine}
-use Rattle.flt_script.specs.declared.line.StepLine.TheVariants.{Report, Show, Cycle, Tick, Signal, Request, Save, Arming}
 use Rattle.flt_script.specs.declared.step.Step.{Step}
-use Rattle.flt_script.specs.declared.step.Step.TheVariants as step
-use Rattle.flt_script.specs.Behind.{Behind, behind, event_count, has_begun, has_lane, arm_of, step_of}
-use Rattle.flt_script.specs.Causes.{is_strange, is_unknown, line_said, configures, is_set_already, has_wrong_event, is_jump_kept, is_debounce_kept, is_event_kept, is_step_written, is_out_of_range, arms_written, is_one_too_many, is_for_no_lane, is_misplaced, is_did_unknown, on_line, cause_told}
+use Rattle.flt_script.specs.Behind.{Behind, behind, has_begun, has_lane, is_store_taken, step_of}
+use Rattle.flt_script.specs.Causes.{is_strange, is_unknown, line_said, configures, is_set_already, has_wrong_event, is_jump_kept, is_debounce_kept, is_event_kept, is_step_written, is_out_of_range, is_one_too_many, is_misplaced, is_did_unknown, on_line, cause_told}
 use Rattle.flt_script.specs.Event.{jump_held, debounce_held, event_held}
 use Rattle.flt_script.specs.Gives.{◌⇒◌, ◌>>=◌, given_by}
 use Rattle.flt_script.specs.Laws.{FirstCauseIsTold}
 use Rattle.flt_script.specs.Line.{spelling, keywords, keyword_of, line_with, is_comment, by_words, line_of}
 use Rattle.flt_script.specs.Refusal.{setting_refusal, flash_refusal, event_refusal, did_refusal, is_step_misplaced, step_refusal, power_refusal, par_refusal, lane_refusal, end_refusal, refusal, unless_refused, line_behind}
-use Rattle.flt_script.specs.Step.{arm_count, is_lane_step}
+use Rattle.flt_script.specs.Step.{arm_count, drain_count, is_lane_step, is_store_step}
 use Rattle.flt_script.specs.Text.{words_of, is_plain, all_plain}
 use Rattle.flt_script.proofs.Bools.{or_false}
 use Rattle.flt_script.proofs.Kept.{kept}
+use Rattle.flt_script.proofs.StepRead.{IsRead, is_read}
 
 -- ---- bytes and words
 
@@ -137,64 +134,29 @@ event_kept event =
 
 -- ---- steps
 
--- A step that stands in no lane is misplaced in one, and each step before the first lane.
-misplaced : (block : Option (List (List Step))) (s : Step) → is_step_misplaced block s ≡ (is_some block && (not (has_lane block) || not (is_lane_step s)))
+-- A step before the first lane is misplaced, and in a lane one that stands in none, or in another.
+misplaced : (block : Option (List (List Step))) (s : Step)
+    → is_step_misplaced block s ≡ (is_some block && (not (has_lane block) || not (is_lane_step s) || is_store_step s && is_store_taken block))
 misplaced None s = refl
 misplaced (Some []) s = refl
 misplaced (Some (lane ∷ lanes)) s = refl
 
--- What is told of a step that is read like this, with so many of cut, fault and mute, and that stands in a lane or in none.
+-- What is told of a step that is read like this, and of a line.
 abbrev of_step : Behind → Option Step → Option LineCause
 of_step b read =
     cond (is_none read) (Some Range)
-    (cond (leb 65536 b.steps || ltb 64 (b.arms + given_by read 0 arm_count)) (Some Many)
+    (cond (leb 65536 b.steps || ltb 64 (b.arms + given_by read 0 arm_count) || ltb 1024 (b.drains + given_by read 0 drain_count)) (Some Many)
     (cond (given_by read false (is_step_misplaced b.block)) (Some Block) None))
 
-abbrev of_range : Behind → Bool → ℕ → Bool → Option LineCause
-of_range b within arms alone =
-    cond (not within) (Some Range)
-    (cond (leb 65536 b.steps || ltb 64 (b.arms + arms)) (Some Many)
-    (cond (is_some b.block && (not (has_lane b.block) || alone)) (Some Block) None))
+abbrev of_written : Behind → StepLine → Option LineCause
+of_written b w =
+    cond (not (is_step_written b.config w)) (Some Range)
+    (cond (is_one_too_many b (line.Step w)) (Some Many)
+    (cond (is_misplaced b (line.Step w)) (Some Block) None))
 
-module _ (b : Behind) (arms : ℕ) (alone : Bool) (s : Step) (count : arm_count s ≡ arms) (place : not (is_lane_step s) ≡ alone) where
-  by_one : (t : Bool) (read : Bool → Option Step) → read true ≡ Some s → read false ≡ None → of_step b (read t) ≡ of_range b t arms alone
-  by_one true read some none = rw (some, count, misplaced b.block s, place) refl
-  by_one false read some none = rw none refl
-
-  by_two : (t u : Bool) (read : Bool → Bool → Option Step) → read true true ≡ Some s → read true false ≡ None → read false u ≡ None
-      → of_step b (read t u) ≡ of_range b (t && u) arms alone
-  by_two true true read some second first = rw (some, count, misplaced b.block s, place) refl
-  by_two true false read some second first = rw second refl
-  by_two false u read some second first = rw first refl
-
-step_row : (b : Behind) (s : StepLine) → of_step b (step_of b.config s) ≡ of_range b (is_step_written b.config s) (arms_written s) (is_for_no_lane s)
-unfolding arm_of
-step_row b (Report event report) =
-    by_one b 0 false (step.Report event report) refl refl (ltb event (event_count b)) (λ t. option_map (λ (e : ℕ). step.Report e report) (kept t event)) refl refl
-step_row b (Show event) = by_one b 0 false (step.Show event) refl refl (ltb event (event_count b)) (λ t. option_map step.Show (kept t event)) refl refl
-step_row b (Cycle cycle) = by_one b 0 false (step.Cycle cycle) refl refl (leb cycle 3) (λ t. option_map step.Cycle (kept t cycle)) refl refl
-step_row b (Tick ticks) = by_one b 0 false (step.Tick ticks) refl refl (leb 1 ticks && leb ticks 65535) (λ t. option_map step.Tick (kept t ticks)) refl refl
-step_row b (Signal index value) =
-    by_two b 0 false (step.Signal index value) refl refl (leb index 7) (leb value 65535)
-    (λ t u. kept t index ⇒ λ index. kept u value ⇒ λ value. Some (step.Signal index value)) refl refl refl
-step_row b (Request tester bytes) =
-    by_one b 0 false (step.Request tester bytes) refl refl (leb tester 3 && ltb 0 (length bytes.items)) (λ t. if t then Some (step.Request tester bytes) else None) refl refl
-step_row b Save = by_one b 0 true step.Save refl refl true (λ t. kept t step.Save) refl refl
-step_row b (Arming (Cut after pattern)) =
-    by_one b 1 true (step.Arming (arm.Cut after pattern)) refl refl (leb 1 after && leb after 65535)
-    (λ t. option_map step.Arming (option_map (λ (n : ℕ). arm.Cut n pattern) (kept t after))) refl refl
-step_row b (Arming (Fault after pattern)) =
-    by_one b 1 true (step.Arming (arm.Fault after pattern)) refl refl (leb 1 after && leb after 65535)
-    (λ t. option_map step.Arming (option_map (λ (n : ℕ). arm.Fault n pattern) (kept t after))) refl refl
-step_row b (Arming (Mute sector page times)) = mute_row (leb sector 1) (leb page 1023) (leb 1 times && leb times 65535)
-  where
-    mute_row : (t u v : Bool)
-        → of_step b (option_map step.Arming (kept t sector ⇒ λ sector. kept u page ⇒ λ page. kept v times ⇒ λ times. Some (arm.Mute sector page times)))
-        ≡ of_range b (t && u && v) 1 true
-    mute_row true true true = rw (misplaced b.block (step.Arming (arm.Mute sector page times))) refl
-    mute_row true true false = refl
-    mute_row true false v = refl
-    mute_row false u v = refl
+step_row : (b : Behind) (w : StepLine) (read : Option Step) → IsRead b.config w read → of_step b read ≡ of_written b w
+step_row b w None r = rw (← r.some) refl
+step_row b w (Some s) r = rw (← r.some, r.said.arms, r.said.drains, misplaced b.block s, r.said.no_lane, r.said.one_lane) refl
 
 -- ---- lines
 
@@ -220,7 +182,7 @@ line_row dids b (line.Blocks blocks) = rw (or_false (has_begun b || is_some b.pl
 line_row dids b (line.Flash sectors pages) = rw (or_false (has_begun b || is_some b.places.flash)) refl
 line_row dids b (line.Event event) = rw (or_false (has_begun b), event_kept event) refl
 line_row dids b (line.Did event id) = rw (or_false (has_begun b), none_found (is_did id) dids) refl
-line_row dids b (line.Step s) = step_row b s
+line_row dids b (line.Step s) = step_row b s (step_of b.config s) (is_read b.config s)
 line_row dids b line.Power = refl
 line_row dids b line.Par = refl
 line_row dids b line.Lane = refl

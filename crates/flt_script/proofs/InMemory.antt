@@ -1,15 +1,16 @@
 -- A script that is read, and its lives without where they lie in memory.
-use Rattle.std.proofs.Common.{◌≡◌, ℕ, zero, suc, ◌+◌, List, [], ◌∷◌, ◌++◌, length, get_or, slice_set, true, Some, Ok, refl, ap, arith, Vec, Global}
-use Rattle.std.specs.Prelude.{map, sum_by}
+use Rattle.std.proofs.Common.{◌≡◌, ℕ, zero, suc, ◌+◌, List, [], ◌∷◌, ◌++◌, length, get_or, slice_set, Bool, true, ◌&&◌, ◌||◌, Some, Ok, refl, ap, arith, Vec, Global}
+use Rattle.std.specs.Prelude.{map, not, sum_by}
 use Rattle.std.proofs.lemmas.List.{length-map}
 use Rattle.std.proofs.lemmas.List.Sums.{sum_by-cons}
 use Rattle.flt_script.specs.declared.step.Part.{Part}
 use Rattle.flt_script.specs.declared.step.Step.{Step}
 use Rattle.flt_script.specs.Part.{PartOf, part_of, parts_of}
-use Rattle.flt_script.specs.Behind.{in_last_lane}
+use Rattle.flt_script.specs.Behind.{has_earlier_store, in_last_lane}
 use Rattle.flt_script.specs.Next.{with_lane_step}
-use Rattle.flt_script.specs.Step.{is_lane_step, lanes_of}
+use Rattle.flt_script.specs.Step.{is_lane_step, is_store_step, lanes_of}
 use Rattle.flt_script.specs.Within.{marks_of}
+use Rattle.flt_script.proofs.Bools.{not_true}
 
 -- A life where it lies in memory.
 abbrev pub Life : Type 0
@@ -58,8 +59,20 @@ last_written s (lane ∷ next ∷ lanes) zero last new e there items = absurd (o
 last_written s (lane ∷ next ∷ lanes) (suc place) last new e there items =
     ap (λ (more : List (List Step)). lane.items ∷ more) (last_written s (next ∷ lanes) place last new (omega (arith, e)) there items)
 
+-- A last lane that was written as it was leaves them.
+pub last_kept : (lanes : List Lane) (place : ℕ) (last new : Lane) → place + 1 ≡ length lanes → last ≡ get_or lanes place last → new.items ≡ last.items
+    → steps_of_lanes (slice_set lanes place new) ≡ steps_of_lanes lanes
+last_kept [] place last new e there items = absurd (omega (arith, e))
+last_kept (lane ∷ lanes) zero last new e there items =
+    let same : last.items ≡ lane.items = ap (λ (l : Lane). l.items) there in rw (items, same) refl
+last_kept (lane ∷ lanes) (suc place) last new e there items =
+    ap (λ (more : List (List Step)). lane.items ∷ more) (last_kept lanes place last new (omega (arith, e)) there items)
+
 -- A step that may stand there is put behind the last lane's.
-pub lane_written : (s : Step) (lanes : List Lane) (place : ℕ) (last new : Lane) → is_lane_step s ≡ true → place + 1 ≡ length lanes → last ≡ get_or lanes place last
+pub lane_written : (s : Step) (lanes : List Lane) (place : ℕ) (last new : Lane) (earlier : Bool) → not (not (is_lane_step s) || is_store_step s && earlier) ≡ true
+    → earlier ≡ has_earlier_store (steps_of_lanes lanes) → place + 1 ≡ length lanes → last ≡ get_or lanes place last
     → new.items ≡ last.items ++ s ∷ [] → with_lane_step s (steps_of_lanes lanes) ≡ Ok (steps_of_lanes (slice_set lanes place new))
-lane_written s [] place last new may e there items = absurd (omega (arith, e))
-lane_written s (lane ∷ lanes) place last new may e there items = rw (may, last_written s (lane ∷ lanes) place last new e there items) refl
+lane_written s [] place last new earlier may is e there items = absurd (omega (arith, e))
+lane_written s (lane ∷ lanes) place last new earlier may is e there items =
+    let free = rw is at (not_true (not (is_lane_step s) || is_store_step s && earlier) may) in
+    rw (free, last_written s (lane ∷ lanes) place last new e there items) refl

@@ -1,5 +1,5 @@
 -- What lines that were not refused gave keeps to the limits of a script.
-use Rattle.std.proofs.Common.{◌≡◌, ℕ, ◌+◌, ◌<◌, ◌≤◌, List, [], ◌∷◌, ◌++◌, length, Bool, true, false, cond, ◌&&◌, ◌||◌, ltb, leb, if◌then◌else◌, Option, Some, None, Ok, refl, subst, arith, length-append, inr}
+use Rattle.std.proofs.Common.{◌≡◌, ℕ, ◌+◌, ◌<◌, ◌≤◌, List, [], ◌∷◌, ◌++◌, length, Bool, true, false, cond, ◌||◌, ltb, leb, Option, Some, None, Ok, refl, subst, arith, length-append, inr}
 use Rattle.std.specs.Prelude.{IfSome, not, is_some, is_none, option_map, option_to_list, sum_by}
 use Rattle.std.specs.List.{list_all}
 use Rattle.std.proofs.lemmas.Bool.{ltb-false, leb-false}
@@ -7,27 +7,22 @@ use Rattle.std.proofs.lemmas.List.Folds.{list_all-append}
 use Rattle.std.proofs.lemmas.List.Sums.{sum_by_push}
 use Rattle.flt_config.specs.declared.config.Config.{Config}
 use Rattle.flt_config.specs.declared.config.DidUse.{DidUse}
-use Rattle.flt_flash.specs.declared.arm.Arm.TheVariants as arm
-use Rattle.flt_script.specs.declared.arm.ArmLine.TheVariants.{Cut, Fault, Mute}
 use Rattle.flt_script.specs.declared.fault.LineCause.{LineCause}
 use Rattle.flt_script.specs.declared.fault.LineCause.TheVariants as cause
 use Rattle.flt_script.specs.declared.line.Line.{Line}
 use Rattle.flt_script.specs.declared.line.Line.TheVariants as line
-use Rattle.flt_script.specs.declared.line.StepLine.{StepLine}
-use Rattle.flt_script.specs.declared.line.StepLine.TheVariants.{Report, Show, Cycle, Tick, Signal, Request, Save, Arming}
 use Rattle.flt_script.specs.declared.places.Places.{Places}
 use Rattle.flt_script.specs.declared.step.Step.{Step}
-use Rattle.flt_script.specs.declared.step.Step.TheVariants as step
-use Rattle.flt_script.specs.Behind.{Behind, added, behind, has_begun, has_lane, lane_count, in_last_lane, with_step, arm_of, step_of}
-use Rattle.flt_script.specs.Gives.{◌⇒◌, given_by}
+use Rattle.flt_script.specs.Behind.{Behind, added, behind, has_begun, has_lane, lane_count, in_last_lane, with_step, step_of}
+use Rattle.flt_script.specs.Gives.{given_by}
 use Rattle.flt_script.specs.Refusal.{is_step_misplaced, setting_refusal, flash_refusal, event_refusal, did_refusal, step_refusal, power_refusal, par_refusal, lane_refusal, end_refusal, refusal}
 use Rattle.flt_script.specs.Script.{lines_behind}
-use Rattle.flt_script.specs.Step.{is_step_in, are_parts_in, steps_of, arm_count, arms_of}
+use Rattle.flt_script.specs.Step.{is_step_in, are_parts_in, steps_of, arm_count, arms_of, drain_count, drains_of}
 use Rattle.flt_script.specs.Within.{marks_of, IsWithinLimits}
 use Rattle.flt_script.proofs.Accepted.{of_accepted_lines}
-use Rattle.flt_script.proofs.Blocks.{is_block_in, block_steps, block_marks, block_with, parts_with, steps_with, arms_with_step, marks_with, block_with_lane, parts_with_block, steps_with_lane, marks_with_lane, steps_with_block, arms_with_block, marks_with_block}
+use Rattle.flt_script.proofs.Blocks.{is_block_in, block_steps, block_drains, block_marks, block_with, parts_with, steps_with, arms_with_step, drains_with_step, marks_with, block_with_lane, parts_with_block, steps_with_lane, drains_with_lane, marks_with_lane, steps_with_block, arms_with_block, drains_with_block, marks_with_block}
 use Rattle.flt_script.proofs.Bools.{both_false, not_false}
-use Rattle.flt_script.proofs.Kept.{kept}
+use Rattle.flt_script.proofs.StepRead.{is_read, in_range}
 
 -- What so many lines gave keeps to the limits.
 pub record IsKept (b : Behind) (count : ℕ) : Type 0 where
@@ -38,6 +33,8 @@ pub record IsKept (b : Behind) (count : ℕ) : Type 0 where
   pub few : b.steps ≤ 65536
   pub arms : sum_by arms_of b.lives + arms_of b.parts ≤ b.arms
   pub few_arms : b.arms ≤ 64
+  pub drains : sum_by drains_of b.lives + drains_of b.parts + block_drains b.block ≤ b.drains
+  pub few_drains : b.drains ≤ 1024
   pub marks : sum_by marks_of b.lives + marks_of b.parts + block_marks b.block ≤ count
   pub few_lives : length b.lives < 256
 
@@ -67,6 +64,8 @@ setting b config places count none k =
       few = k.few;
       arms = k.arms;
       few_arms = k.few_arms;
+      drains = k.drains;
+      few_drains = k.few_drains;
       marks = omega (arith, k.marks);
       few_lives = k.few_lives;
     }
@@ -79,51 +78,6 @@ begun_not false other rest e = refl
 
 abbrev IsIn : Config → Option Step → Type 0
 IsIn config read = IfSome read (λ step. is_step_in config step ≡ true)
-
-module _ (config : Config) where
-  in_one : (t : Bool) (n : ℕ) (made : ℕ → Step) → (t ≡ true → is_step_in config (made n) ≡ true) → IsIn config (option_map made (kept t n))
-  in_one true n made within = within refl
-  in_one false n made within = tt
-
-  in_two : (t u : Bool) (m n : ℕ) (made : ℕ → ℕ → Step) → (t ≡ true → u ≡ true → is_step_in config (made m n) ≡ true)
-      → IsIn config (kept t m ⇒ λ m. kept u n ⇒ λ n. Some (made m n))
-  in_two true true m n made within = within refl refl
-  in_two true false m n made within = tt
-  in_two false u m n made within = tt
-
-  in_both : (t u : Bool) (s : Step) → (t ≡ true → u ≡ true → is_step_in config s ≡ true) → IsIn config (if t && u then Some s else None)
-  in_both true true s within = within refl refl
-  in_both true false s within = tt
-  in_both false u s within = tt
-
-  step_read_in : (s : StepLine) → IsIn config (step_of config s)
-  unfolding arm_of
-  step_read_in (Report event report) = in_one (ltb event (length config.events.items)) event (λ e. step.Report e report) (λ is. is)
-  step_read_in (Show event) = in_one (ltb event (length config.events.items)) event step.Show (λ is. is)
-  step_read_in (Cycle cycle) = in_one (leb cycle 3) cycle step.Cycle (λ is. is)
-  step_read_in (Tick ticks) = in_one (leb 1 ticks && leb ticks 65535) ticks step.Tick (λ is. is)
-  step_read_in (Signal index value) = in_two (leb index 7) (leb value 65535) index value step.Signal (λ low high. rw (low, high) refl)
-  step_read_in (Request tester bytes) = in_both (leb tester 3) (ltb 0 (length bytes.items)) (step.Request tester bytes) (λ low some. rw (low, some) refl)
-  step_read_in Save = refl
-  step_read_in (Arming (Cut after pattern)) = cut_in (leb 1 after && leb after 65535) refl
-    where
-      cut_in : (t : Bool) → (leb 1 after && leb after 65535) ≡ t → IsIn config (option_map step.Arming (option_map (λ (n : ℕ). arm.Cut n pattern) (kept t after)))
-      cut_in true e = e
-      cut_in false e = tt
-  step_read_in (Arming (Fault after pattern)) = fault_in (leb 1 after && leb after 65535) refl
-    where
-      fault_in : (t : Bool) → (leb 1 after && leb after 65535) ≡ t → IsIn config (option_map step.Arming (option_map (λ (n : ℕ). arm.Fault n pattern) (kept t after)))
-      fault_in true e = e
-      fault_in false e = tt
-  step_read_in (Arming (Mute sector page times)) = mute_in (leb sector 1) (leb page 1023) (leb 1 times) (leb times 65535) refl refl refl refl
-    where
-      mute_in : (t u v w : Bool) → leb sector 1 ≡ t → leb page 1023 ≡ u → leb 1 times ≡ v → leb times 65535 ≡ w
-          → IsIn config (option_map step.Arming (kept t sector ⇒ λ sector. kept u page ⇒ λ page. kept (v && w) times ⇒ λ times. Some (arm.Mute sector page times)))
-      mute_in true true true true a b c d = rw (a, b, c, d) refl
-      mute_in true true true false a b c d = tt
-      mute_in true true false w a b c d = tt
-      mute_in true false v w a b c d = tt
-      mute_in false u v w a b c d = tt
 
 -- What a step that is not refused was found to be.
 three_false : (p q r : Bool) (x y z : LineCause) → cond p (Some x) (cond q (Some y) (cond r (Some z) None)) ≡ None → (p ≡ false) × (q ≡ false) × (r ≡ false)
@@ -147,19 +101,23 @@ stepped b read = record b {
   block = option_map (in_last_lane read) b.block;
   steps = b.steps + 1;
   arms = b.arms + given_by read 0 arm_count;
+  drains = b.drains + given_by read 0 drain_count;
 }
 
 step_more : (b : Behind) (count : ℕ) (read : Option Step) → IsIn b.config read
     → cond (is_none read) (Some cause.Range)
-    (cond (leb 65536 b.steps || ltb 64 (b.arms + given_by read 0 arm_count)) (Some cause.Many)
+    (cond (leb 65536 b.steps || ltb 64 (b.arms + given_by read 0 arm_count) || ltb 1024 (b.drains + given_by read 0 drain_count)) (Some cause.Many)
     (cond (given_by read false (is_step_misplaced b.block)) (Some cause.Block) None)) ≡ None
     → IsKept b count → IsKept (stepped b read) (count + 1)
 step_more b count None within e k = absurd cc
 step_more b count (Some s) within e k =
-    let told = three_false false (leb 65536 b.steps || ltb 64 (b.arms + arm_count s)) (is_step_misplaced b.block s) cause.Range cause.Many cause.Block e in
-    let many = both_false (leb 65536 b.steps) (ltb 64 (b.arms + arm_count s)) told.1 in
+    let told = three_false false (leb 65536 b.steps || ltb 64 (b.arms + arm_count s) || ltb 1024 (b.drains + drain_count s)) (is_step_misplaced b.block s)
+    cause.Range cause.Many cause.Block e in
+    let all = both_false (leb 65536 b.steps || ltb 64 (b.arms + arm_count s)) (ltb 1024 (b.drains + drain_count s)) told.1 in
+    let many = both_false (leb 65536 b.steps) (ltb 64 (b.arms + arm_count s)) all.0 in
     let room = leb-false 65536 b.steps many.0 in
     let room_for_arms = ltb-false 64 (b.arms + arm_count s) many.1 in
+    let room_for_drains = ltb-false 1024 (b.drains + drain_count s) all.1 in
     record {
       lives = k.lives;
       parts = parts_with b.config s within b.block b.parts k.parts;
@@ -168,6 +126,8 @@ step_more b count (Some s) within e k =
       few = omega arith;
       arms = omega (arith, k.arms, arms_with_step b.block s b.parts);
       few_arms = room_for_arms;
+      drains = omega (arith, k.drains, drains_with_step b.block s b.parts told.2);
+      few_drains = room_for_drains;
       marks = omega (arith, k.marks, marks_with b.block s b.parts);
       few_lives = k.few_lives;
     }
@@ -187,6 +147,8 @@ power_more b count e k =
       few = k.few;
       arms = omega (arith, k.arms, sum_by_push arms_of b.lives b.parts);
       few_arms = k.few_arms;
+      drains = omega (arith, k.drains, sum_by_push drains_of b.lives b.parts);
+      few_drains = k.few_drains;
       marks = omega (arith, k.marks, sum_by_push marks_of b.lives b.parts);
       few_lives = omega (arith, length-append b.lives (b.parts ∷ []));
     }
@@ -203,6 +165,8 @@ par_more b count e k =
       few = k.few;
       arms = k.arms;
       few_arms = k.few_arms;
+      drains = omega (arith, k.drains);
+      few_drains = k.few_drains;
       marks = omega (arith, k.marks);
       few_lives = k.few_lives;
     }
@@ -219,6 +183,8 @@ lane_begun b count e k =
       few = k.few;
       arms = k.arms;
       few_arms = k.few_arms;
+      drains = omega (arith, k.drains, drains_with_lane b.block);
+      few_drains = k.few_drains;
       marks = omega (arith, k.marks, marks_with_lane b.block);
       few_lives = k.few_lives;
     }
@@ -236,6 +202,8 @@ end_more b count e k =
       few = k.few;
       arms = omega (arith, k.arms, arms_with_block b.block b.parts);
       few_arms = k.few_arms;
+      drains = omega (arith, k.drains, drains_with_block b.block b.parts);
+      few_drains = k.few_drains;
       marks = omega (arith, k.marks, marks_with_block b.block b.parts);
       few_lives = k.few_lives;
     }
@@ -251,6 +219,8 @@ module _ (dids : List DidUse) where
     few = k.few;
     arms = k.arms;
     few_arms = k.few_arms;
+    drains = k.drains;
+    few_drains = k.few_drains;
     marks = omega (arith, k.marks);
     few_lives = k.few_lives;
   }
@@ -260,7 +230,7 @@ module _ (dids : List DidUse) where
   more (line.Flash sectors pages) past e k = setting (behind dids past) _ _ (length past) (begun_not (has_begun (behind dids past)) _ _ e) k
   more (line.Event event) past e k = setting (behind dids past) _ _ (length past) (begun_not (has_begun (behind dids past)) _ _ e) k
   more (line.Did event id) past e k = setting (behind dids past) _ _ (length past) (begun_not (has_begun (behind dids past)) _ _ e) k
-  more (line.Step s) past e k = let b = behind dids past in step_more b (length past) (step_of b.config s) (step_read_in b.config s) e k
+  more (line.Step s) past e k = let b = behind dids past in step_more b (length past) (step_of b.config s) (in_range b.config s (step_of b.config s) (is_read b.config s)) e k
   more line.Power past e k = power_more (behind dids past) (length past) e k
   more line.Par past e k = par_more (behind dids past) (length past) e k
   more line.Lane past e k = lane_begun (behind dids past) (length past) e k
@@ -279,6 +249,8 @@ module _ (dids : List DidUse) where
     few = omega arith;
     arms = omega arith;
     few_arms = omega arith;
+    drains = omega arith;
+    few_drains = omega arith;
     marks = omega arith;
     few_lives = omega arith;
   }
@@ -293,6 +265,7 @@ module _ (dids : List DidUse) where
         in_range = rw (list_all-append (are_parts_in b.config) b.lives (b.parts ∷ []), k.lives, k.parts) refl;
         few = omega (arith, k.steps, k.few, sum_by_push steps_of b.lives b.parts);
         few_arms = omega (arith, k.arms, k.few_arms, sum_by_push arms_of b.lives b.parts);
+        few_drains = omega (arith, k.drains, k.few_drains, sum_by_push drains_of b.lives b.parts);
         few_parts = omega (arith, k.marks, few, sum_by_push marks_of b.lives b.parts);
         few_lives = omega (arith, k.few_lives, length-append b.lives (b.parts ∷ []));
       }

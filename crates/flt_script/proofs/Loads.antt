@@ -15,7 +15,7 @@ use Rattle.flt_script.specs.declared.step.Step.TheVariants as step
 use Rattle.flt_script.specs.Laws.{LoadOfFour}
 use Rattle.flt_script.specs.Load.{load_config, next_number, load_number, load_step, load_lane, load_lanes, plain_parts, load_parts, load_life, shown_life}
 use Rattle.flt_script.specs.Part.{PartOf}
-use Rattle.flt_script.specs.Step.{is_step_in, is_lane_step, is_lane_in, is_part_in, are_parts_in, steps_of_part, steps_of, lanes_of_part, lanes_of, arms_of_part, arms_of}
+use Rattle.flt_script.specs.Step.{is_step_in, is_lane_step, has_store_step, store_lanes, is_lane_in, is_part_in, are_parts_in, steps_of_part, steps_of, lanes_of_part, lanes_of, arms_of_part, arms_of, drain_count, drains_of_lane, drains_of_part, drains_of}
 use Rattle.flt_script.specs.Within.{marks_of, IsWithinLimits}
 use Rattle.flt_script.proofs.Bools.{both_true}
 
@@ -40,6 +40,32 @@ lane_is_in count lane reports few = steps_are_in count lane few (filter (λ plac
 lanes_are_in : (count : ℕ) → list_all (is_lane_in load_config) (load_lanes count) ≡ true
 lanes_are_in count =
     rw (lane_is_in count 0 count (omega arith), lane_is_in count 1 count (omega arith), lane_is_in count 2 count (omega arith), lane_is_in count 3 count (omega arith)) refl
+
+-- ---- no save, drain or get in a lane
+
+reports_are_stored : (count lane : ℕ) (places : List ℕ) → has_store_step (map (λ place. load_step lane (load_number count (place + 1))) places) ≡ false
+reports_are_stored count lane [] = refl
+reports_are_stored count lane (place ∷ places) = reports_are_stored count lane places
+
+lane_is_stored : (count lane reports : ℕ) → has_store_step (load_lane count lane reports) ≡ false
+unfolding load_lane
+lane_is_stored count lane reports = reports_are_stored count lane (filter (λ place. place % 4 == lane) (range_with_len 0 reports))
+
+lanes_are_stored : (count : ℕ) → store_lanes (load_lanes count) ≡ 0
+lanes_are_stored count = rw (lane_is_stored count 0 count, lane_is_stored count 1 count, lane_is_stored count 2 count, lane_is_stored count 3 count) refl
+
+reports_drain : (count lane : ℕ) (places : List ℕ) → drains_of_lane (map (λ place. load_step lane (load_number count (place + 1))) places) ≡ 0
+reports_drain count lane [] = refl
+reports_drain count lane (place ∷ places) =
+    let report = λ (p : ℕ). load_step lane (load_number count (p + 1)) in
+    omega (arith, reports_drain count lane places, sum_by-cons drain_count (report place) (map report places))
+
+lane_drains : (count lane reports : ℕ) → drains_of_lane (load_lane count lane reports) ≡ 0
+unfolding load_lane
+lane_drains count lane reports = reports_drain count lane (filter (λ place. place % 4 == lane) (range_with_len 0 reports))
+
+lanes_drain : (count : ℕ) → sum_by drains_of_lane (load_lanes count) ≡ 0
+lanes_drain count = omega (arith, lane_drains count 0 count, lane_drains count 1 count, lane_drains count 2 count, lane_drains count 3 count)
 
 -- ---- how many steps the lanes have
 
@@ -115,7 +141,11 @@ no_arm (step.Cycle cycle) may = refl
 no_arm (step.Tick ticks) may = refl
 no_arm (step.Signal index value) may = refl
 no_arm (step.Request tester bytes) may = refl
-no_arm step.Save may = absurd cc
+no_arm step.Save may = refl
+no_arm (step.Post urgent block bytes) may = refl
+no_arm step.Drain may = refl
+no_arm (step.Get block) may = refl
+no_arm (step.Ask block) may = refl
 no_arm (step.Arming arm) may = absurd cc
 
 arms_of-plain : (steps : List Step) → is_lane_in load_config steps ≡ true → arms_of (plain_parts steps) ≡ 0
@@ -125,23 +155,29 @@ arms_of-plain (s ∷ steps) all =
     let first = both_true (is_step_in load_config s) (is_lane_step s) here.0 in
     omega (arith, arms_of-plain steps here.1, no_arm s first.1, sum_by-cons arms_of_part (inl s) (plain_parts steps))
 
+drains_of-plain : (steps : List Step) → drains_of (plain_parts steps) ≡ drains_of_lane steps
+drains_of-plain [] = refl
+drains_of-plain (s ∷ steps) = omega (arith, drains_of-plain steps, sum_by-cons drains_of_part (inl s) (plain_parts steps), sum_by-cons drain_count s steps)
+
 -- ---- the parts of the reports
 
 record IsPart (parts : List (PartOf Step)) (steps : ℕ) : Type 0 where
   in_range : are_parts_in load_config parts ≡ true
   few : steps_of parts ≡ steps
   few_arms : arms_of parts ≡ 0
+  no_drains : drains_of parts ≡ 0
   few_marks : marks_of parts ≤ steps + 5
 
-record IsPlain (parts : List (PartOf Step)) (steps : ℕ) : Type 0 where
+record IsPlain (parts : List (PartOf Step)) (steps drains : ℕ) : Type 0 where
   in_range : are_parts_in load_config parts ≡ true
   few : steps_of parts ≡ steps
   no_arms : arms_of parts ≡ 0
+  drained : drains_of parts ≡ drains
   no_lanes : lanes_of parts ≡ 0
   long : length parts ≡ steps
 
-flat_plain : (lanes : List (List Step)) → list_all (is_lane_in load_config) lanes ≡ true → IsPlain (flat_map plain_parts lanes) (sum_by length lanes)
-flat_plain [] all = record { in_range = refl; few = refl; no_arms = refl; no_lanes = refl; long = refl }
+flat_plain : (lanes : List (List Step)) → list_all (is_lane_in load_config) lanes ≡ true → IsPlain (flat_map plain_parts lanes) (sum_by length lanes) (sum_by drains_of_lane lanes)
+flat_plain [] all = record { in_range = refl; few = refl; no_arms = refl; drained = refl; no_lanes = refl; long = refl }
 flat_plain (lane ∷ lanes) all =
     let parts = both_true (is_lane_in load_config lane) (list_all (is_lane_in load_config) lanes) all in
     let rest = flat_plain lanes parts.1 in
@@ -152,15 +188,17 @@ flat_plain (lane ∷ lanes) all =
       in_range = rw (list_all-append (is_part_in load_config) first others, plain_in lane parts.0, rest.in_range) refl;
       few = omega (arith, sum, sum_by-append steps_of_part first others, steps_of-plain lane, rest.few);
       no_arms = omega (arith, sum_by-append arms_of_part first others, arms_of-plain lane parts.0, rest.no_arms);
+      drained = omega (arith, sum_by-cons drains_of_lane lane lanes, sum_by-append drains_of_part first others, drains_of-plain lane, rest.drained);
       no_lanes = omega (arith, sum_by-append lanes_of_part first others, lanes_of-plain lane, rest.no_lanes);
       long = omega (arith, sum, length-append first others, length-map lane (λ (s : Step). let part : PartOf Step = inl s in part), rest.long);
     }
 
 reports_are_part : (count : ℕ) (lanes : Bool) → IsPart (load_parts count lanes) count
 reports_are_part count true = record {
-  in_range = rw (lanes_are_in count) refl;
+  in_range = rw (lanes_are_in count, lanes_are_stored count) refl;
   few = omega (arith, steps_in_lanes count, sum_by-cons steps_of_part (inr (load_lanes count)) []);
   few_arms = refl;
+  no_drains = omega (arith, lanes_drain count, sum_by-cons drains_of_part (inr (load_lanes count)) []);
   few_marks = omega arith;
 }
 reports_are_part count false =
@@ -170,6 +208,7 @@ reports_are_part count false =
       in_range = plain.in_range;
       few = omega (arith, plain.few, sum);
       few_arms = plain.no_arms;
+      no_drains = omega (arith, plain.drained, lanes_drain count);
       few_marks = omega (arith, plain.no_lanes, plain.long, sum);
     }
 
@@ -197,6 +236,15 @@ module _ (count : ℕ) (lanes : Bool) where
     sum_by-cons arms_of_part (inl step.Save) [],
   )
 
+  life_drains : drains_of (load_life count lanes) ≡ 0
+  life_drains = omega (
+    arith,
+    (reports_are_part count lanes).no_drains,
+    sum_by-cons drains_of_part (inl (step.Cycle 0)) (load_parts count lanes ++ inl step.Save ∷ []),
+    sum_by-append drains_of_part (load_parts count lanes) (inl step.Save ∷ []),
+    sum_by-cons drains_of_part (inl step.Save) [],
+  )
+
   life_marks : marks_of (load_life count lanes) ≤ count + 7
   life_marks = omega (
     arith,
@@ -217,6 +265,9 @@ shown_steps = refl
 shown_arms : arms_of shown_life ≡ 0
 shown_arms = refl
 
+shown_drains : drains_of shown_life ≡ 0
+shown_drains = refl
+
 shown_marks : marks_of shown_life ≡ 16
 shown_marks = refl
 
@@ -226,6 +277,7 @@ load_within count lanes few = record {
   in_range = rw (life_in count lanes, shown_in) refl;
   few = omega (arith, life_steps count lanes, shown_steps, sum_by-cons steps_of (load_life count lanes) (shown_life ∷ []), sum_by-cons steps_of shown_life []);
   few_arms = omega (arith, life_arms count lanes, shown_arms, sum_by-cons arms_of (load_life count lanes) (shown_life ∷ []), sum_by-cons arms_of shown_life []);
+  few_drains = omega (arith, life_drains count lanes, shown_drains, sum_by-cons drains_of (load_life count lanes) (shown_life ∷ []), sum_by-cons drains_of shown_life []);
   few_parts = omega (arith, life_marks count lanes, shown_marks, sum_by-cons marks_of (load_life count lanes) (shown_life ∷ []), sum_by-cons marks_of shown_life []);
   few_lives = omega arith;
 }

@@ -1,28 +1,35 @@
 -- What a step prints is read again.
-use Rattle.std.proofs.Common.{◌≡◌, ℕ, ◌<◌, ◌≤◌, ◌^◌, length, true, Ok, refl, ◌∙◌, arith, ltb, leb, lit<, lit≤}
+use Rattle.std.proofs.Common.{◌≡◌, ℕ, ◌<◌, ◌≤◌, ◌^◌, length, true, ◌&&◌, Ok, refl, ◌∙◌, arith, ltb, leb, lit<, lit≤}
 use Rattle.std.specs.Prelude.{codes}
 use Rattle.std.specs.Fmt.{decimal}
-use Rattle.std.specs.List.{list_all}
 use Rattle.std.proofs.lemmas.Bool.{ltb-true, leb-true}
 use Rattle.flt_model.specs.declared.call.Report.TheVariants.{Passed, Failed, PrePassed, PreFailed}
 use Rattle.flt_script.specs.declared.keyword.Keyword.TheVariants as keyword
 use Rattle.flt_script.specs.declared.line.Line.TheVariants as line
 use Rattle.flt_script.specs.declared.line.StepLine.TheVariants as written
 use Rattle.flt_script.specs.declared.step.Step.TheVariants as step
-use Rattle.flt_script.specs.Laws.{PrintedStepIsReadAgain}
+use Rattle.flt_script.specs.Laws.{are_bytes, PrintedStepIsReadAgain}
 use Rattle.flt_script.specs.Line.{keyword_of, report_with, two_numbers, line_with, by_words, line_of}
 use Rattle.flt_script.specs.Text.{words_of, is_blank}
 use Rattle.flt_script.proofs.Bools.{both_true}
 use Rattle.flt_script.proofs.PrintedArm.{arm_is_read}
 use Rattle.flt_script.proofs.PrintedNumber.{few_digits, number-decimal, words_of-decimal, plain_digits, with_one, with_more}
+use Rattle.flt_script.proofs.PrintedPost.{post_is_read}
 use Rattle.flt_script.proofs.PrintedRequest.{request_is_read}
 
 few_events : (events event : ℕ) → events ≤ 64 → ltb event events ≡ true → event < 10 ^ 10
 few_events events event few among = let below = ltb-true event events among in omega arith
 
+few_blocks : (block : ℕ) → ltb block 256 ≡ true → block < 10 ^ 10
+few_blocks block held = let below = ltb-true block 256 held in omega arith
+
 save_is_read : line_of (codes "save") ≡ Ok (line.Step written.Save)
 unfolding line_of by_words words_of is_blank keyword_of line_with
 save_is_read = refl
+
+drain_is_read : line_of (codes "drain") ≡ Ok (line.Step written.Drain)
+unfolding line_of by_words words_of is_blank keyword_of line_with
+drain_is_read = refl
 
 pub printed_step_is_read_again : PrintedStepIsReadAgain
 unfolding keyword_of line_with report_with two_numbers is_blank
@@ -86,12 +93,35 @@ printed_step_is_read_again config (step.Request tester bytes) few among held =
     let parts = both_true (leb tester 3) (ltb 0 (length bytes.items)) among in
     let last = leb-true tester 3 parts.0 in
     let some = ltb-true 0 (length bytes.items) parts.1 in
-    let sizes = both_true (leb (length bytes.items) 16) (list_all (λ (byte : ℕ). ltb byte 256) bytes.items) held in
+    let sizes = both_true (leb (length bytes.items) 16) (are_bytes bytes.items) held in
     let most = leb-true (length bytes.items) 16 sizes.0 in (
       written.Request tester bytes,
       request_is_read tester bytes.items last some most sizes.1,
       rw (parts.0, parts.1) refl,
     )
 printed_step_is_read_again config step.Save few among held = (written.Save, save_is_read, refl)
+printed_step_is_read_again config (step.Post urgent block bytes) few among held =
+    let parts = both_true (ltb block config.blocks) (ltb 0 (length bytes.items)) among in
+    let some = ltb-true 0 (length bytes.items) parts.1 in
+    let all = both_true (ltb block 256 && leb (length bytes.items) 32) (are_bytes bytes.items) held in
+    let sizes = both_true (ltb block 256) (leb (length bytes.items) 32) all.0 in
+    let most = leb-true (length bytes.items) 32 sizes.1 in (
+      written.Post urgent block bytes,
+      post_is_read urgent block bytes.items (few_blocks block sizes.0) some most all.1,
+      rw (parts.0, parts.1) refl,
+    )
+printed_step_is_read_again config step.Drain few among held = (written.Drain, drain_is_read, refl)
+printed_step_is_read_again config (step.Get block) few among held =
+    let small = few_blocks block held in (
+      written.Get block,
+      with_one (codes "get") refl (lit< tt) (lit≤ tt) block small keyword.Get refl refl ∙ rw number-decimal refl,
+      rw among refl,
+    )
+printed_step_is_read_again config (step.Ask block) few among held =
+    let small = few_blocks block held in (
+      written.Ask block,
+      with_one (codes "ask") refl (lit< tt) (lit≤ tt) block small keyword.Ask refl refl ∙ rw number-decimal refl,
+      rw among refl,
+    )
 printed_step_is_read_again config (step.Arming arm) few among held =
     let read = arm_is_read arm among in (written.Arming read.0, read.1, rw read.2 refl)

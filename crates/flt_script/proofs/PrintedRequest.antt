@@ -1,5 +1,5 @@
 -- A printed request is read again.
-use Rattle.std.proofs.Common.{◌≡◌, ℕ, ◌+◌, ◌*◌, ◌/◌, ◌%◌, ◌<◌, ◌≤◌, List, [], ◌∷◌, ◌++◌, length, Bool, true, Some, Ok, refl, ap, ◌∙◌, arith, ltb, leb, length-append, append-nil, lit<}
+use Rattle.std.proofs.Common.{◌≡◌, ℕ, ◌+◌, ◌*◌, ◌/◌, ◌%◌, ◌<◌, ◌≤◌, List, [], ◌∷◌, ◌++◌, length, true, Some, Ok, refl, ap, ◌∙◌, arith, ltb, leb, length-append, append-nil, lit<}
 use Rattle.std.specs.Prelude.{map, codes}
 use Rattle.std.specs.Char.{digit_value}
 use Rattle.std.specs.Fmt.{digit_glyph}
@@ -13,6 +13,7 @@ use Rattle.flt_script.specs.declared.line.Line.TheVariants as line
 use Rattle.flt_script.specs.declared.line.StepLine.TheVariants as written
 use Rattle.flt_script.specs.declared.step.Step.TheVariants as step
 use Rattle.flt_script.specs.Bytes.{tester_of, letter_of, each, bytes_of, two_digits, spaced}
+use Rattle.flt_script.specs.Laws.{are_bytes}
 use Rattle.flt_script.specs.Line.{keyword_of, line_with, request_with, line_of}
 use Rattle.flt_script.specs.Numeral.{numeral, hexadecimal}
 use Rattle.flt_script.specs.Step.{step_text}
@@ -30,7 +31,7 @@ glyph_value d small = grind (arith, nat_tests)
 
 -- A byte in two digits.
 module _ (byte : ℕ) (small : byte < 256) where
-  digits_are_solid : list_all is_solid (two_digits byte) ≡ true
+  pub digits_are_solid : list_all is_solid (two_digits byte) ≡ true
   digits_are_solid = rw (glyph_is_solid (byte / 16) (omega arith), glyph_is_solid (byte % 16) (omega arith)) refl
 
   byte_is_read : hexadecimal 2 (two_digits byte) ≡ Some byte
@@ -41,11 +42,8 @@ module _ (byte : ℕ) (small : byte < 256) where
       let value : (0 * 16 + byte / 16) * 16 + byte % 16 ≡ byte = omega arith in
       rw (high, low, lt-ltb (byte / 16) 16 (omega arith), lt-ltb (byte % 16) 16 (omega arith)) (ap (λ (n : ℕ). Some n) value)
 
-abbrev are_bytes : List ℕ → Bool
-are_bytes bytes = list_all (λ byte. ltb byte 256) bytes
-
 -- The words of a word and bytes behind it.
-words_of-spaced : (word bytes : List ℕ) → list_all is_solid word ≡ true → 0 < length word → are_bytes bytes ≡ true
+pub words_of-spaced : (word bytes : List ℕ) → list_all is_solid word ≡ true → 0 < length word → are_bytes bytes ≡ true
     → words_of (word ++ spaced bytes) ≡ word ∷ map two_digits bytes
 words_of-spaced word [] solid some small = rw append-nil (words_of_one word solid some)
 words_of-spaced word (byte ∷ bytes) solid some small =
@@ -54,19 +52,19 @@ words_of-spaced word (byte ∷ bytes) solid some small =
     words_of_first word (two_digits byte ++ spaced bytes) solid some
     ∙ ap (λ (words : List (List ℕ)). word ∷ words) (words_of-spaced (two_digits byte) bytes first (lit< tt) parts.1)
 
-plain-spaced : (bytes : List ℕ) → are_bytes bytes ≡ true → all_plain (spaced bytes) ≡ true
+pub plain-spaced : (bytes : List ℕ) → are_bytes bytes ≡ true → all_plain (spaced bytes) ≡ true
 plain-spaced [] small = refl
 plain-spaced (byte ∷ bytes) small =
     let parts = both_true (ltb byte 256) (are_bytes bytes) small in
     let first = solid_is_plain (two_digits byte) (digits_are_solid byte (ltb-true byte 256 parts.0)) in
     list_all-append is_plain (32 ∷ two_digits byte) (spaced bytes) ∙ rw (first, plain-spaced bytes parts.1) refl
 
-length-spaced : (bytes : List ℕ) → length (spaced bytes) ≡ 3 * length bytes
+pub length-spaced : (bytes : List ℕ) → length (spaced bytes) ≡ 3 * length bytes
 length-spaced [] = refl
 length-spaced (byte ∷ bytes) = rw (length-append (32 ∷ two_digits byte) (spaced bytes)) (omega (arith, length-spaced bytes))
 
 -- The bytes are read again.
-each-two_digits : (bytes : List ℕ) → are_bytes bytes ≡ true → each (hexadecimal 2) (map two_digits bytes) ≡ Some bytes
+pub each-two_digits : (bytes : List ℕ) → are_bytes bytes ≡ true → each (hexadecimal 2) (map two_digits bytes) ≡ Some bytes
 each-two_digits [] small = refl
 each-two_digits (byte ∷ bytes) small =
     let parts = both_true (ltb byte 256) (are_bytes bytes) small in

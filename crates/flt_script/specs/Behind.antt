@@ -1,6 +1,7 @@
 -- What the lines before a line gave, none of which was refused: nothing at first, and then what each line adds.
 use Rattle.std.specs.Prelude.{ℕ, ◌+◌, List, [], ◌∷◌, ◌++◌, length, Bool, true, false, Option, Some, None, is_some, option_map, option_to_list, nat_lt, nat_le, ◌&&◌, ◌||◌, if◌then◌else◌, find, slice_get, slice_set}
 use Rattle.std.proofs.Common.{inl, inr}
+use Rattle.std.specs.List.{list_any}
 use Rattle.flt_config.specs.declared.config.Config.{Config}
 use Rattle.flt_config.specs.declared.config.DidUse.{DidUse}
 use Rattle.flt_config.specs.declared.config.EventCfg.{EventCfg}
@@ -10,7 +11,7 @@ use Rattle.flt_flash.specs.declared.arm.Arm.TheVariants as arm
 use Rattle.flt_script.specs.declared.arm.ArmLine.{ArmLine}
 use Rattle.flt_script.specs.declared.arm.ArmLine.TheVariants.{Cut, Fault, Mute}
 use Rattle.flt_script.specs.declared.line.StepLine.{StepLine}
-use Rattle.flt_script.specs.declared.line.StepLine.TheVariants.{Report, Show, Cycle, Tick, Signal, Request, Save, Arming}
+use Rattle.flt_script.specs.declared.line.StepLine.TheVariants.{Report, Show, Cycle, Tick, Signal, Request, Save, Post, Drain, Get, Ask, Arming}
 use Rattle.flt_script.specs.declared.line.Line.{Line}
 use Rattle.flt_script.specs.declared.line.Line.TheVariants as line
 use Rattle.flt_script.specs.declared.places.Places.{Places}
@@ -20,11 +21,11 @@ use Rattle.flt_script.specs.Event.{event_held}
 use Rattle.flt_script.specs.Gives.{◌⇒◌, given_by}
 use Rattle.flt_script.specs.Numeral.{below, up_to, from_to}
 use Rattle.flt_script.specs.Part.{PartOf}
-use Rattle.flt_script.specs.Step.{arm_count}
+use Rattle.flt_script.specs.Step.{arm_count, drain_count, has_store_step}
 
 -- All that the rules for the next line look at: what is configured and by which lines, the lives that were ended, the
--- parts of the life under way, the lanes of the block under way, if there is one, and how many steps, and how many of cut,
--- fault and mute, stand in all lives together.
+-- parts of the life under way, the lanes of the block under way, if there is one, and how many steps, how many of cut, fault
+-- and mute, and how many drains, stand in all lives together.
 pub record Behind : Type 0 where
   pub config : Config
   pub places : Places
@@ -33,6 +34,7 @@ pub record Behind : Type 0 where
   pub block : Option (List (List Step))
   pub steps : ℕ
   pub arms : ℕ
+  pub drains : ℕ
 
 -- What is configured where nothing is written.
 abbrev pub default_config : Config
@@ -44,7 +46,7 @@ no_places = record { config = None; memory = None; blocks = None; flash = None; 
 
 -- No line.
 abbrev pub blank : Behind
-blank = record { config = default_config; places = no_places; lives = []; parts = []; block = None; steps = 0; arms = 0 }
+blank = record { config = default_config; places = no_places; lives = []; parts = []; block = None; steps = 0; arms = 0; drains = 0 }
 
 -- How many events are configured.
 abbrev pub event_count : Behind → ℕ
@@ -63,6 +65,20 @@ abbrev pub has_lane : Option (List (List Step)) → Bool
 has_lane None = false
 has_lane (Some []) = false
 has_lane (Some (lane ∷ lanes)) = true
+
+-- A lane before the last has a save, drain or get.
+abbrev pub has_earlier_store : List (List Step) → Bool
+has_earlier_store [] = false
+has_earlier_store (lane ∷ []) = false
+has_earlier_store (lane ∷ next ∷ lanes) = has_store_step lane || has_earlier_store (next ∷ lanes)
+
+-- A lane of the block under way has one.
+abbrev pub is_store_used : Option (List (List Step)) → Bool
+is_store_used block = given_by block false (list_any has_store_step)
+
+-- A lane before the last of the block under way has one.
+abbrev pub is_store_taken : Option (List (List Step)) → Bool
+is_store_taken block = given_by block false has_earlier_store
 
 -- The data identifiers that the event of this number uses.
 abbrev pub uses_of : ℕ → List EventCfg → List DidUse
@@ -92,11 +108,20 @@ step_of config (Tick ticks) = option_map step.Tick (from_to 1 65535 ticks)
 step_of config (Signal index value) = up_to 7 index ⇒ λ index. up_to 65535 value ⇒ λ value. Some (step.Signal index value)
 step_of config (Request tester bytes) = if nat_le tester 3 && nat_lt 0 (length bytes.items) then Some (step.Request tester bytes) else None
 step_of config Save = Some step.Save
+step_of config (Post urgent block bytes) =
+    if nat_lt block config.blocks && nat_lt 0 (length bytes.items) then Some (step.Post urgent block bytes) else None
+step_of config Drain = Some step.Drain
+step_of config (Get block) = option_map step.Get (below config.blocks block)
+step_of config (Ask block) = option_map step.Ask (below config.blocks block)
 step_of config (Arming arm) = option_map step.Arming (arm_of arm)
 
 -- How many of cut, fault and mute stand with this step.
 abbrev pub arms_with : Behind → StepLine → ℕ
 arms_with b step = b.arms + given_by (step_of b.config step) 0 arm_count
+
+-- How many drains stand with this step.
+abbrev pub drains_with : Behind → StepLine → ℕ
+drains_with b step = b.drains + given_by (step_of b.config step) 0 drain_count
 
 -- A step more in the last lane, if there is one.
 abbrev pub in_last_lane : Option Step → List (List Step) → List (List Step)
@@ -131,6 +156,7 @@ added dids number b (line.Step step) = record b {
   block = option_map (in_last_lane (step_of b.config step)) b.block;
   steps = b.steps + 1;
   arms = arms_with b step;
+  drains = drains_with b step;
 }
 added dids number b line.Power = record b { lives = b.lives ++ b.parts ∷ []; parts = [] }
 added dids number b line.Par = record b { block = Some [] }

@@ -16,8 +16,8 @@ use Rattle.flt_script.specs.declared.fault.LineCause.TheVariants.{Long, Byte, Wo
 use Rattle.flt_script.specs.declared.line.Line.{Line}
 use Rattle.flt_script.specs.declared.line.Line.TheVariants as line
 use Rattle.flt_script.specs.declared.line.StepLine.{StepLine}
-use Rattle.flt_script.specs.declared.line.StepLine.TheVariants.{Report, Show, Cycle, Tick, Signal, Request, Save, Arming}
-use Rattle.flt_script.specs.Behind.{Behind, event_count, has_begun, lane_count, has_lane, uses_of}
+use Rattle.flt_script.specs.declared.line.StepLine.TheVariants.{Report, Show, Cycle, Tick, Signal, Request, Save, Post, Drain, Get, Ask, Arming}
+use Rattle.flt_script.specs.Behind.{Behind, event_count, has_begun, lane_count, has_lane, is_store_taken, uses_of}
 use Rattle.flt_script.specs.Gives.{◌⇒◌}
 use Rattle.flt_script.specs.Line.{spelling, keywords, keyword_of, line_with, is_comment}
 use Rattle.flt_script.specs.Text.{words_of}
@@ -97,6 +97,10 @@ is_step_written config (Tick ticks) = nat_le 1 ticks && nat_le ticks 65535
 is_step_written config (Signal index value) = nat_le index 7 && nat_le value 65535
 is_step_written config (Request tester bytes) = nat_le tester 3 && nat_lt 0 (length bytes.items)
 is_step_written config Save = true
+is_step_written config (Post urgent block bytes) = nat_lt block config.blocks && nat_lt 0 (length bytes.items)
+is_step_written config Drain = true
+is_step_written config (Get block) = nat_lt block config.blocks
+is_step_written config (Ask block) = nat_lt block config.blocks
 is_step_written config (Arming arm) = is_arm_written arm
 
 -- A number of a step is out of its range, or one that configures is too large to be kept; or the flash has not two sectors.
@@ -114,25 +118,38 @@ abbrev pub arms_written : StepLine → ℕ
 arms_written (Arming arm) = 1
 arms_written _ = 0
 
+-- One for drain, and none for other steps.
+abbrev pub drains_written : StepLine → ℕ
+drains_written Drain = 1
+drains_written _ = 0
+
 -- It is the 65th event, the ninth data identifier of an event, the ninth lane of a block, the 65,537th step, the 65th of cut,
--- fault and mute, or the end of the 256th life.
+-- fault and mute, the 1,025th drain, or the end of the 256th life.
 abbrev pub is_one_too_many : Behind → Line → Bool
 is_one_too_many b (line.Event event) = nat_le 64 (event_count b)
 is_one_too_many b (line.Did event id) = nat_le 8 (length (uses_of event b.config.events.items))
-is_one_too_many b (line.Step step) = nat_le 65536 b.steps || nat_lt 64 (b.arms + arms_written step)
+is_one_too_many b (line.Step step) =
+    nat_le 65536 b.steps || nat_lt 64 (b.arms + arms_written step) || nat_lt 1024 (b.drains + drains_written step)
 is_one_too_many b line.Power = nat_le 256 (length b.lives + 1)
 is_one_too_many b line.Lane = nat_le 8 (lane_count b.block)
 is_one_too_many b _ = false
 
--- A step that stands in no lane: save, cut, fault and mute.
+-- A step that stands in no lane: cut, fault and mute.
 abbrev pub is_for_no_lane : StepLine → Bool
-is_for_no_lane Save = true
 is_for_no_lane (Arming arm) = true
 is_for_no_lane _ = false
 
+-- A step that stands in one lane of a block at most: save, drain and get.
+abbrev pub is_for_one_lane : StepLine → Bool
+is_for_one_lane Save = true
+is_for_one_lane Drain = true
+is_for_one_lane (Get block) = true
+is_for_one_lane _ = false
+
 -- In a block stand only its lanes, with steps that may stand there, and its end behind a lane; a lane and an end stand nowhere else.
 abbrev pub is_misplaced : Behind → Line → Bool
-is_misplaced b (line.Step step) = is_some b.block && (not (has_lane b.block) || is_for_no_lane step)
+is_misplaced b (line.Step step) =
+    is_some b.block && (not (has_lane b.block) || is_for_no_lane step || is_for_one_lane step && is_store_taken b.block)
 is_misplaced b line.Power = is_some b.block
 is_misplaced b line.Par = is_some b.block
 is_misplaced b line.Lane = is_none b.block

@@ -1,11 +1,12 @@
 -- What the lines before a line gave, told by the lines themselves: how many of a kind there are, and whether one stands.
-use Rattle.std.specs.Prelude.{◌≡◌, ℕ, ◌+◌, List, [], ◌∷◌, length, count_by, Bool, true, false, is_some}
+use Rattle.std.specs.Prelude.{◌≡◌, ℕ, ◌+◌, List, [], ◌∷◌, length, count_by, Bool, true, false, ◌&&◌, ◌||◌, is_some}
 use Rattle.std.specs.List.{list_any}
 use Rattle.flt_config.specs.declared.config.DidUse.{DidUse}
 use Rattle.flt_script.specs.declared.line.Line.{Line}
 use Rattle.flt_script.specs.declared.line.Line.TheVariants as line
-use Rattle.flt_script.specs.declared.line.StepLine.TheVariants.{Arming}
-use Rattle.flt_script.specs.Behind.{behind, event_count, has_begun, lane_count}
+use Rattle.flt_script.specs.declared.line.StepLine.TheVariants.{Drain, Arming}
+use Rattle.flt_script.specs.Behind.{behind, event_count, has_begun, lane_count, is_store_used, is_store_taken}
+use Rattle.flt_script.specs.Causes.{is_for_one_lane}
 
 -- A step.
 abbrev pub is_step : Line → Bool
@@ -16,6 +17,11 @@ is_step _ = false
 abbrev pub is_arming : Line → Bool
 is_arming (line.Step (Arming arm)) = true
 is_arming _ = false
+
+-- A drain.
+abbrev pub is_drain : Line → Bool
+is_drain (line.Step Drain) = true
+is_drain _ = false
 
 -- The end of a life.
 abbrev pub is_power : Line → Bool
@@ -66,14 +72,33 @@ lanes_in_block (line.End ∷ past) = 0
 lanes_in_block (line.Lane ∷ past) = lanes_in_block past + 1
 lanes_in_block (_ ∷ past) = lanes_in_block past
 
+-- Behind the newest par or end stands a save, drain or get.
+abbrev pub is_store_behind : List Line → Bool
+is_store_behind [] = false
+is_store_behind (line.Par ∷ past) = false
+is_store_behind (line.End ∷ past) = false
+is_store_behind (line.Step step ∷ past) = is_for_one_lane step || is_store_behind past
+is_store_behind (_ ∷ past) = is_store_behind past
+
+-- Behind the newest par or end stands one, and before the newest lane.
+abbrev pub is_store_before_lane : List Line → Bool
+is_store_before_lane [] = false
+is_store_before_lane (line.Par ∷ past) = false
+is_store_before_lane (line.End ∷ past) = false
+is_store_before_lane (line.Lane ∷ past) = is_store_behind past
+is_store_before_lane (_ ∷ past) = is_store_before_lane past
+
 -- What is kept of these lines says how many there are of each kind.
 pub record IsCounted (dids : List DidUse) (past : List Line) : Type 0 where
   pub steps : (behind dids past).steps ≡ count_by is_step past
   pub arms : (behind dids past).arms ≡ count_by is_arming past
+  pub drains : (behind dids past).drains ≡ count_by is_drain past
   pub lives : length (behind dids past).lives ≡ count_by is_power past
   pub events : event_count (behind dids past) ≡ count_by is_event past
   pub block : is_some (behind dids past).block ≡ is_block_open past
   pub lanes : lane_count (behind dids past).block ≡ lanes_in_block past
+  pub store : is_store_used (behind dids past).block ≡ (is_block_open past && is_store_behind past)
+  pub earlier_store : is_store_taken (behind dids past).block ≡ is_store_before_lane past
   pub begun : has_begun (behind dids past) ≡ list_any is_done past
   pub config : is_some (behind dids past).places.config ≡ list_any is_config past
   pub memory : is_some (behind dids past).places.memory ≡ list_any is_memory past

@@ -49,9 +49,17 @@ EachHasOneOutcome = (dids : List DidUse) (bytes : List ℕ) → HasOneOutcome di
 abbrev pub IsReadAs : List ℕ → Config → Step → Type 0
 IsReadAs text config step = (written : StepLine) × (line_of text ≡ Ok (line.Step written)) × (step_of config written ≡ Some step)
 
--- A step is one that its type holds: a request has at most 16 bytes, and each is below 256.
+-- Each is below 256.
+abbrev pub are_bytes : List ℕ → Bool
+are_bytes bytes = list_all (λ byte. nat_lt byte 256) bytes
+
+-- A step is one that its type holds: a request has at most 16 bytes and a job at most 32, and the number of an application
+-- block is below 256.
 abbrev pub is_held : Step → Bool
-is_held (step.Request tester bytes) = nat_le (length bytes.items) 16 && list_all (λ byte. nat_lt byte 256) bytes.items
+is_held (step.Request tester bytes) = nat_le (length bytes.items) 16 && are_bytes bytes.items
+is_held (step.Post urgent block bytes) = nat_lt block 256 && nat_le (length bytes.items) 32 && are_bytes bytes.items
+is_held (step.Get block) = nat_lt block 256
+is_held (step.Ask block) = nat_lt block 256
 is_held _ = true
 
 -- What a step prints is read again as that step.
@@ -76,8 +84,8 @@ abbrev pub LineZeroIsLarge : Type 0
 LineZeroIsLarge =
     (dids : List DidUse) (bytes : List ℕ) (fault : ScriptFault) → IsFaulty dids bytes fault → (fault.line ≡ 0) ↔ (fault.cause ≡ Large)
 
--- The kept counts and settings of lines that were not refused are how many there are of each kind, which stand, and whether a
--- block is under way.
+-- The kept counts and settings of lines that were not refused are how many there are of each kind, which stand, whether a block
+-- is under way, and which of its lanes have a save, drain or get.
 abbrev pub AcceptedLinesAreCounted : Type 0
 AcceptedLinesAreCounted =
     (dids : List DidUse) (texts : List (List ℕ)) (lines : List Line) → lines_behind dids [] texts ≡ Ok lines → IsCounted dids lines

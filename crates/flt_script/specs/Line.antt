@@ -1,5 +1,5 @@
 -- A line by itself: skipped, or what its words say with the numbers as they are written, or why it is refused.
-use Rattle.std.specs.Prelude.{ℕ, List, [], ◌∷◌, length, Bool, false, ◌==◌, not, nat_lt, Option, Some, None, option_map, Result, Ok, Err, codes, if◌then◌else◌}
+use Rattle.std.specs.Prelude.{ℕ, List, [], ◌∷◌, length, Bool, true, false, ◌==◌, not, nat_lt, Option, Some, None, option_map, Result, Ok, Err, codes, if◌then◌else◌}
 use Rattle.std.specs.List.{find}
 use Rattle.std.specs.Str.{bytes_eq}
 use Rattle.std.specs.Option.{ok_or}
@@ -39,6 +39,11 @@ spelling keyword.Memory = codes "memory"
 spelling keyword.Blocks = codes "blocks"
 spelling keyword.Flash = codes "flash"
 spelling keyword.Save = codes "save"
+spelling keyword.Post = codes "post"
+spelling keyword.Urge = codes "urge"
+spelling keyword.Drain = codes "drain"
+spelling keyword.Get = codes "get"
+spelling keyword.Ask = codes "ask"
 spelling keyword.Power = codes "power"
 spelling keyword.Cut = codes "cut"
 spelling keyword.Fault = codes "fault"
@@ -51,8 +56,8 @@ spelling keyword.End = codes "end"
 abbrev pub keywords : List Keyword
 keywords = keyword.Pass ∷ keyword.Fail ∷ keyword.PrePass ∷ keyword.PreFail ∷ keyword.Show ∷ keyword.Cycle ∷ keyword.Tick
     ∷ keyword.Signal ∷ keyword.Request ∷ keyword.Event ∷ keyword.Did ∷ keyword.Config ∷ keyword.Memory ∷ keyword.Blocks ∷ keyword.Flash
-    ∷ keyword.Save ∷ keyword.Power ∷ keyword.Cut ∷ keyword.Fault ∷ keyword.Mute
-    ∷ keyword.Par ∷ keyword.Lane ∷ keyword.End ∷ []
+    ∷ keyword.Save ∷ keyword.Post ∷ keyword.Urge ∷ keyword.Drain ∷ keyword.Get ∷ keyword.Ask
+    ∷ keyword.Power ∷ keyword.Cut ∷ keyword.Fault ∷ keyword.Mute ∷ keyword.Par ∷ keyword.Lane ∷ keyword.End ∷ []
 
 -- The keyword that a word spells.
 unfoldable pub keyword_of : List ℕ → Option Keyword
@@ -93,6 +98,12 @@ request_with [] = None
 request_with (letter ∷ words) =
     tester_of letter ⇒ λ tester. bytes_of 16 words ⇒ λ bytes. Some (line.Step (step.Request tester (record { items = bytes })))
 
+-- An application block, and 1 to 32 bytes for it.
+unfoldable pub post_with : Bool → List (List ℕ) → Option Line
+post_with urgent [] = None
+post_with urgent (b ∷ words) =
+    number b ⇒ λ block. bytes_of 32 words ⇒ λ bytes. Some (line.Step (step.Post urgent block (record { items = bytes })))
+
 -- What the words behind the keyword say, row by row.
 unfoldable pub line_with : Keyword → List (List ℕ) → Option Line
 line_with keyword.Pass words = report_with Passed words
@@ -111,6 +122,11 @@ line_with keyword.Memory words = option_map line.Memory (only number words)
 line_with keyword.Blocks words = option_map line.Blocks (only number words)
 line_with keyword.Flash words = option_map (λ numbers. line.Flash numbers.0 numbers.1) (two_numbers words)
 line_with keyword.Save words = alone (line.Step step.Save) words
+line_with keyword.Post words = post_with false words
+line_with keyword.Urge words = post_with true words
+line_with keyword.Drain words = alone (line.Step step.Drain) words
+line_with keyword.Get words = option_map (λ block. line.Step (step.Get block)) (only number words)
+line_with keyword.Ask words = option_map (λ block. line.Step (step.Ask block)) (only number words)
 line_with keyword.Power words = alone line.Power words
 line_with keyword.Par words = alone line.Par words
 line_with keyword.Lane words = alone line.Lane words

@@ -9,7 +9,7 @@ use Rattle.flt_script.specs.declared.fault.LineFault.TheVariants as line_faults
 use Rattle.flt_script.specs.declared.fault.ScriptFault.{ScriptFault}
 use Rattle.flt_script.specs.declared.line.Line.{Line}
 use Rattle.flt_script.specs.declared.step.Step.{Step}
-use Rattle.flt_script.specs.Behind.{Behind, added, in_last_lane}
+use Rattle.flt_script.specs.Behind.{Behind, added, in_last_lane, with_step}
 use Rattle.flt_script.specs.Gives.{◌>>=◌}
 use Rattle.flt_script.specs.Line.{line_of}
 use Rattle.flt_script.specs.Part.{parts_of}
@@ -22,9 +22,10 @@ state draft = record {
   places = draft.places;
   lives = map (λ life. parts_of life.items) draft.lives.items;
   parts = parts_of draft.parts.items;
-  block = option_map (λ lanes. map (λ lane. lane.items) lanes.items) draft.block;
+  block = option_map (λ block. map (λ lane. lane.items) block.lanes.items) draft.block;
   steps = draft.steps;
   arms = draft.arms;
+  drains = draft.drains;
 }
 
 -- What stands after a line, or why it is refused.
@@ -38,6 +39,12 @@ with_text dids number b text = line_of text >>= λ line. with_line dids number b
 -- The lanes of a block with a step more, or that it may not stand there.
 abbrev pub with_lane_step : Step → List (List Step) → Result (List (List Step)) LineCause
 with_lane_step step lanes = if is_step_misplaced (Some lanes) step then Err Block else Ok (in_last_lane (Some step) lanes)
+
+-- What stands after a step that is not yet counted, or that it may not stand there.
+abbrev pub with_step_put : Step → Behind → Result Behind LineCause
+with_step_put step b =
+    if is_step_misplaced b.block step then Err Block
+    else Ok (record b { parts = with_step b.block (Some step) b.parts; block = option_map (in_last_lane (Some step)) b.block })
 
 -- What a line's fault tells, where it is not want of memory.
 abbrev pub cause_of : LineFault → Option LineCause

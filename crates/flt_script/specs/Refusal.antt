@@ -1,5 +1,5 @@
 -- A line against the lines before it: why it may not stand there.
-use Rattle.std.specs.Prelude.{ℕ, ◌+◌, List, [], ◌∷◌, length, find, Bool, true, false, ◌==◌, ◌||◌, nat_lt, nat_le, not, is_some, is_none, Option, Some, None, Result, Ok, Err, if◌then◌else◌}
+use Rattle.std.specs.Prelude.{ℕ, ◌+◌, List, [], ◌∷◌, length, find, Bool, true, false, ◌==◌, ◌&&◌, ◌||◌, nat_lt, nat_le, not, is_some, is_none, Option, Some, None, Result, Ok, Err, if◌then◌else◌}
 use Rattle.flt_config.specs.declared.config.DidUse.{DidUse}
 use Rattle.flt_did.specs.Rows.{is_did}
 use Rattle.flt_script.specs.declared.fault.LineCause.{LineCause}
@@ -9,11 +9,11 @@ use Rattle.flt_script.specs.declared.line.StepLine.{StepLine}
 use Rattle.flt_script.specs.declared.line.Line.{Line}
 use Rattle.flt_script.specs.declared.line.Line.TheVariants as line
 use Rattle.flt_script.specs.declared.step.Step.{Step}
-use Rattle.flt_script.specs.Behind.{Behind, behind, event_count, has_begun, lane_count, has_lane, uses_of, step_of, arms_with}
+use Rattle.flt_script.specs.Behind.{Behind, behind, event_count, has_begun, lane_count, has_lane, has_earlier_store, uses_of, step_of, arms_with, drains_with}
 use Rattle.flt_script.specs.Event.{event_held}
 use Rattle.flt_script.specs.Gives.{◌>>=◌, given_by}
 use Rattle.flt_script.specs.Line.{line_of}
-use Rattle.flt_script.specs.Step.{is_lane_step}
+use Rattle.flt_script.specs.Step.{is_lane_step, is_store_step}
 
 -- The cause of the first test that holds.
 abbrev pub first_cause : List (Bool × LineCause) → Option LineCause
@@ -46,17 +46,18 @@ did_refusal dids b event id = first_cause (
     (nat_le 8 (length (uses_of event b.config.events.items)), Many) ∷
     (is_none (find (is_did id) dids), Did) ∷ [])
 
--- A step between the beginning of a block and its first lane, or in a lane one that may not stand there.
+-- A step between the beginning of a block and its first lane, in a lane one that may not stand there, or a save, drain or
+-- get where another lane of the block has one of them.
 abbrev pub is_step_misplaced : Option (List (List Step)) → Step → Bool
 is_step_misplaced None step = false
 is_step_misplaced (Some []) step = true
-is_step_misplaced (Some (lane ∷ lanes)) step = not (is_lane_step step)
+is_step_misplaced (Some (lane ∷ lanes)) step = not (is_lane_step step) || is_store_step step && has_earlier_store (lane ∷ lanes)
 
--- A step, of at most 65,536, of which at most 64 are cut, fault or mute, where it may stand.
+-- A step, of at most 65,536, of which at most 64 are cut, fault or mute and 1,024 are drain, where it may stand.
 unfoldable pub step_refusal : Behind → StepLine → Option LineCause
 step_refusal b step = first_cause (
     (is_none (step_of b.config step), Range) ∷
-    (nat_le 65536 b.steps || nat_lt 64 (arms_with b step), Many) ∷
+    (nat_le 65536 b.steps || nat_lt 64 (arms_with b step) || nat_lt 1024 (drains_with b step), Many) ∷
     (given_by (step_of b.config step) false (is_step_misplaced b.block), Block) ∷ [])
 
 -- The end of a life, of at most 256 with the life that begins then, in no block.

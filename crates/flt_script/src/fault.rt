@@ -27,10 +27,11 @@ pub enum LineCause {
     /// A number of a step is out of its range, or one that configures is too large for its type.
     Range,
     /// It is the 65th event, the ninth data identifier of an event, the ninth lane of a block, or the 65,537th step, it begins
-    /// the 257th life, or it is the 65th of `cut`, `fault` and `mute` together.
+    /// the 257th life, or it is the 65th of `cut`, `fault` and `mute` together or the 1,025th `drain`.
     Many,
     /// It is a `lane` or an `end` outside a block, an `end` of a block without a lane, a step between `par` and the first `lane`,
-    /// or, in a block, one of `power`, `par`, `save`, `cut`, `fault` and `mute`; or it is the last line and the block is not ended.
+    /// in a block one of `power`, `par`, `cut`, `fault` and `mute`, or in a lane one of `save`, `drain` and `get` where another
+    /// lane of the block has one of them; or it is the last line and the block is not ended.
     Block,
     /// It names a data identifier that the table does not have.
     Did,

@@ -27,7 +27,8 @@ pub fn line_zero_is_large()
 {}
 
 /// What is kept of lines that were not refused, for the refusal of the next one, is how many there are of each kind, which
-/// stand, and whether a block is under way and how many lanes it has.
+/// stand, whether a block is under way, how many lanes it has, and whether one of them, and one before the last, has a
+/// `save`, `drain` or `get`.
 pub fn accepted_lines_are_counted()
     ensures { AcceptedLinesAreCounted }
 {}

@@ -11,6 +11,7 @@
 #![tactic(auto)]
 
 mod arm;
+mod block;
 mod bytes;
 mod did;
 mod draft;
@@ -37,7 +38,7 @@ pub use loading::load;
 pub use numeral::read_number;
 pub use parsing::parse;
 pub use script::Script;
-pub use step::{Part, Step};
+pub use step::{BLOCK_BYTES, Part, Step};
 
 #[cfg(test)]
 mod tests;

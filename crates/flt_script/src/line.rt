@@ -3,7 +3,7 @@ ghost use Rattle.flt_script.specs.Behind.{step_of};
 ghost use Rattle.flt_script.specs.Bytes.{tester_of};
 ghost use Rattle.flt_script.specs.Event.{only, event_of};
 ghost use Rattle.flt_script.specs.Gives.{Gives};
-ghost use Rattle.flt_script.specs.Line.{report_with, two_numbers, three_numbers, number_and_pattern, alone, did_with, request_with, line_with, line_of, is_comment};
+ghost use Rattle.flt_script.specs.Line.{report_with, two_numbers, three_numbers, number_and_pattern, alone, did_with, request_with, post_with, line_with, line_of, is_comment};
 ghost use Rattle.flt_script.specs.Next.{cause_of};
 ghost use Rattle.flt_script.specs.Numeral.{number};
 ghost use Rattle.flt_script.specs.Step.{is_step_in};
@@ -14,7 +14,7 @@ use crate::event::{EventLine, event_of};
 use crate::fault::{LineCause, LineFault};
 use crate::keyword::{Keyword, read_keyword};
 use crate::numeral::{read_hexadecimal, read_number};
-use crate::step::{LAST_TESTER, Step};
+use crate::step::{BLOCK_BYTES, LAST_TESTER, Step};
 use crate::text::{TextLine, Words};
 use arrayvec::ArrayVec;
 use flt_config::Config;
@@ -47,6 +47,18 @@ pub(crate) enum StepLine {
         bytes: ArrayVec<u8, REQUEST>,
     },
     Save,
+    Post {
+        urgent: bool,
+        block: u64,
+        bytes: ArrayVec<u8, BLOCK_BYTES>,
+    },
+    Drain,
+    Get {
+        block: u64,
+    },
+    Ask {
+        block: u64,
+    },
     Arming(ArmLine),
 }
 
@@ -86,6 +98,7 @@ impl StepLine {
         ensures in_range { IfSome result (λ step. IsTrue (is_step_in config.now step)) }
     {
         let events = config.events.len() as u64;
+        let blocks = u64::from(config.blocks);
         match self {
             StepLine::Report { event, report } if event < events => Some(Step::Report {
                 event: event as u16,
@@ -108,6 +121,18 @@ impl StepLine {
                 Some(Step::Request { tester, bytes })
             }
             StepLine::Save => Some(Step::Save),
+            StepLine::Post {
+                urgent,
+                block,
+                bytes,
+            } if block < blocks && !bytes.is_empty() => Some(Step::Post {
+                urgent,
+                block: block as u8,
+                bytes,
+            }),
+            StepLine::Drain => Some(Step::Drain),
+            StepLine::Get { block } if block < blocks => Some(Step::Get { block: block as u8 }),
+            StepLine::Ask { block } if block < blocks => Some(Step::Ask { block: block as u8 }),
             StepLine::Arming(arm) => match arm.arm() {
                 Some(arm) => Some(Step::Arming(arm)),
                 None => None,
@@ -227,6 +252,20 @@ fn request_with(mut words: Words<'_>) -> Option<Line>
     Some(Line::Step(StepLine::Request { tester, bytes }))
 }
 
+/// The application block that the first word names, and the bytes of a job for it, which the other words spell.
+#[tactic(auto, unfolding(crate::specs::Line::post_with))]
+fn post_with(urgent: bool, mut words: Words<'_>) -> Option<Line>
+    ensures { result ≡ post_with urgent words.entry }
+{
+    let block = read_number(words.next()?)?;
+    let bytes = read_bytes(words)?;
+    Some(Line::Step(StepLine::Post {
+        urgent,
+        block,
+        bytes,
+    }))
+}
+
 /// What the words behind the word event say.
 fn event_with(alloc: Global, words: Words<'_>) -> Result<Option<EventLine>, AllocError>
     ensures { IfOk result (λ event. event ≡ event_of words.entry) }
@@ -266,6 +305,11 @@ fn line_with(alloc: Global, keyword: Keyword, words: Words<'_>) -> Result<Option
             Ok(two_numbers(words).map(|(sectors, pages)| Line::Flash { sectors, pages }))
         }
         Keyword::Save => Ok(alone(Line::Step(StepLine::Save), words)),
+        Keyword::Post => Ok(post_with(false, words)),
+        Keyword::Urge => Ok(post_with(true, words)),
+        Keyword::Drain => Ok(alone(Line::Step(StepLine::Drain), words)),
+        Keyword::Get => Ok(only_number(words).map(|block| Line::Step(StepLine::Get { block }))),
+        Keyword::Ask => Ok(only_number(words).map(|block| Line::Step(StepLine::Ask { block }))),
         Keyword::Power => Ok(alone(Line::Power, words)),
         Keyword::Par => Ok(alone(Line::Par, words)),
         Keyword::Lane => Ok(alone(Line::Lane, words)),

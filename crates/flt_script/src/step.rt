@@ -1,6 +1,6 @@
 ghost use Rattle.std.specs.Prelude.{◌≡◌};
 ghost use Rattle.flt_script.specs.Bytes.{letter_of};
-ghost use Rattle.flt_script.specs.Step.{arm_count, is_lane_step};
+ghost use Rattle.flt_script.specs.Step.{arm_count, drain_count, is_lane_step, is_store_step};
 
 use crate::arm::ArmWords;
 use crate::bytes::HexBytes;
@@ -8,6 +8,9 @@ use arrayvec::ArrayVec;
 use flt_flash::Arm;
 use flt_model::{REQUEST, Report};
 use std::fmt;
+
+/// The most bytes of a write job for an application block.
+pub const BLOCK_BYTES: usize = 32;
 
 /// A step of a script. It displays as its words, with single spaces and numbers without leading zeros, and is read
 /// again from that text as the same step.
@@ -42,6 +45,23 @@ pub enum Step {
     },
     /// `save`: what is to outlive the power is written to the flash.
     Save,
+    /// `post` or `urge`: a write job for the application block of this number, below `blocks`, of 1 to 32 bytes; an urgent one
+    /// is taken before the others.
+    Post {
+        urgent: bool,
+        block: u8,
+        bytes: ArrayVec<u8, BLOCK_BYTES>,
+    },
+    /// `drain`: the jobs that wait are taken and written, at most 32 of them.
+    Drain,
+    /// `get`: the bytes that the application block of this number, below `blocks`, holds.
+    Get {
+        block: u8,
+    },
+    /// `ask`: what became of the last job of the application block of this number, below `blocks`.
+    Ask {
+        block: u8,
+    },
     /// `cut`, `fault` or `mute`: from now on the flash is to fail like this. `after` and `times` are 1 to 65535, `sector`
     /// is 0 or 1 and `page` 0 to 1023.
     Arming(Arm),
@@ -77,11 +97,28 @@ impl Step {
         }
     }
 
-    /// Whether it may stand in a lane: it is neither `save` nor `cut`, `fault` or `mute`.
+    /// How many `drain` it is: one or none.
+    pub(crate) fn drain_count(&self) -> usize
+        ensures { result ≡ drain_count self.now }
+    {
+        match *self {
+            Step::Drain => 1,
+            _ => 0,
+        }
+    }
+
+    /// Whether it may stand in a lane: it is none of `cut`, `fault` and `mute`.
     pub(crate) fn is_lane_step(&self) -> bool
         ensures { result ≡ is_lane_step self.now }
     {
-        !matches!(*self, Step::Save | Step::Arming(_))
+        !matches!(*self, Step::Arming(_))
+    }
+
+    /// Whether it uses the store, as at most one lane of a block may: it is `save`, `drain` or `get`.
+    pub(crate) fn is_store_step(&self) -> bool
+        ensures { result ≡ is_store_step self.now }
+    {
+        matches!(*self, Step::Save | Step::Drain | Step::Get { .. })
     }
 }
 
@@ -119,6 +156,25 @@ impl fmt::Display for Step {
                 write!(f, "t {letter} {bytes}")
             }
             Step::Save => write!(f, "save"),
+            Step::Post {
+                urgent: false,
+                block,
+                ref bytes,
+            } => {
+                let bytes = HexBytes(bytes);
+                write!(f, "post {block} {bytes}")
+            }
+            Step::Post {
+                urgent: true,
+                block,
+                ref bytes,
+            } => {
+                let bytes = HexBytes(bytes);
+                write!(f, "urge {block} {bytes}")
+            }
+            Step::Drain => write!(f, "drain"),
+            Step::Get { block } => write!(f, "get {block}"),
+            Step::Ask { block } => write!(f, "ask {block}"),
             Step::Arming(arm) => {
                 let arm = ArmWords(arm);
                 write!(f, "{arm}")

@@ -5,6 +5,7 @@ use std::test::Fail;
 
 mod blocks;
 mod configuration;
+mod jobs;
 mod limits;
 mod loads;
 

@@ -1,7 +1,7 @@
 use super::*;
 
 /// Scripts with blocks of lanes, and what is told of each.
-static CASES: [(&str, &str); 31] = [
+static CASES: [(&str, &str); 38] = [
     ("par", "script line 1 block"),
     ("par\n# x\n\n", "script line 3 block"),
     ("par\nlane\nmemory 0", "script line 3 order"),
@@ -19,7 +19,6 @@ static CASES: [(&str, &str); 31] = [
     ("par\npower", "script line 2 block"),
     ("par\npar", "script line 2 block"),
     ("par\ncycle 4", "script line 2 range"),
-    ("par\nlane\nsave", "script line 3 block"),
     ("par\nlane\npower", "script line 3 block"),
     ("par\nlane\ncut 1 none", "script line 3 block"),
     ("par\nlane\nfault 1 none", "script line 3 block"),
@@ -40,6 +39,26 @@ static CASES: [(&str, &str); 31] = [
         "par\nlane\nlane\nlane\nlane\nlane\nlane\nlane\nlane\nlane",
         "script line 10 many",
     ),
+    (
+        "par\nlane\nsave\ndrain\nget 0\nsave\nend",
+        "[:save.drain.get 0.save.]",
+    ),
+    ("par\nlane\nsave\nlane\nget 0\nend", "script line 5 block"),
+    (
+        "par\nlane\ndrain\nlane\ntick 1\nlane\nsave\nend",
+        "script line 7 block",
+    ),
+    ("par\nlane\nget 0\nlane\ndrain", "script line 5 block"),
+    ("par\nlane\nget 0\nlane\nget 8", "script line 5 range"),
+    (
+        "par\nlane\npost 0 01\nask 0\nlane\nurge 1 02\nget 1\nlane\nask 1\npost 1 03\nend",
+        "[:post 0 01.ask 0.:urge 1 02.get 1.:ask 1.post 1 03.]",
+    ),
+    (
+        "par\nlane\nsave\nend\npar\nlane\nlane\nget 0\nend",
+        "[:save.][::get 0.]",
+    ),
+    ("par\ndrain", "script line 2 block"),
     ("par\nlane\nend\nmemory 1", "script line 4 order"),
     ("par\nmemory 1", "script line 2 order"),
 ];

@@ -109,3 +109,35 @@ fn one_too_many(rt: HostRuntime) -> Result<(), Fail> {
     assert_eq!(rt; outcome(alloc, script.as_bytes())?.len(), 524_543);
     Ok(())
 }
+
+/// The same of `drain`.
+static TOO_MANY_DRAINS: [(&str, usize, &str, &str); 4] = [
+    ("drain\n", 1_024, "drain", "script line 1025 many"),
+    ("drain\n", 1_024, "power\ndrain", "script line 1026 many"),
+    (
+        "par\nlane\ndrain\nend\n",
+        1_024,
+        "drain",
+        "script line 4097 many",
+    ),
+    (
+        "drain\n",
+        1_024,
+        "par\nlane\nsave\nlane\ndrain",
+        "script line 1029 many",
+    ),
+];
+
+#[test]
+fn one_drain_too_many(rt: HostRuntime) -> Result<(), Fail> {
+    let alloc = rt.alloc();
+    for case in &TOO_MANY_DRAINS {
+        let mut script = repeated(alloc, case.0, case.1)?;
+        script.push_str(case.2)?;
+        let told = outcome(alloc, script.as_bytes())?;
+        assert_eq!(rt; told.as_str(), case.3, "{:?} behind {:?}", case.2, case.0);
+    }
+    let script = repeated(alloc, "drain\n", 1_024)?;
+    assert_eq!(rt; outcome(alloc, script.as_bytes())?.len(), 6_144);
+    Ok(())
+}
