@@ -30,6 +30,11 @@ answer_stays : (bytes more : List ℕ) (answer : StepAnswer KeptReply) → IsAns
 answer_stays bytes more (answers.Dem told) within = ap (λ reply. answers.Dem (record { place = told.place; reply = reply })) (reply_stays bytes more told.reply within)
 answer_stays bytes more (answers.Saved number) within = refl
 answer_stays bytes more (answers.SaveFailed fault) within = refl
+answer_stays bytes more (answers.Queue told) within = refl
+answer_stays bytes more (answers.Drained written failed) within = refl
+answer_stays bytes more (answers.Bytes found) within = refl
+answer_stays bytes more answers.NoBlock within = refl
+answer_stays bytes more answers.BlockFlash within = refl
 answer_stays bytes more answers.Armed within = refl
 answer_stays bytes more answers.Dark within = refl
 

@@ -10,7 +10,7 @@ use Rattle.flt_script.specs.declared.step.Part.{Part}
 use Rattle.flt_script.specs.declared.step.Part.TheVariants.{One}
 use Rattle.flt_script.specs.Part.{PartOf, part_of, parts_of}
 use Rattle.flt_life.specs.declared.action.Action.{Action}
-use Rattle.flt_life.specs.declared.action.Action.TheVariants.{Call, Save, Arm}
+use Rattle.flt_life.specs.declared.action.Action.TheVariants.{Call, Queue, Save, Drain, Get, Arm}
 use Rattle.flt_life.specs.Actions.{action_of, response_size}
 use Rattle.flt_life.specs.Parts.{own_steps, lanes_in, steps_in, width, widths}
 use Rattle.flt_life.specs.Room.{sizes_of}
@@ -25,7 +25,10 @@ response_most (Call (ops.Request tester bytes)) = omega arith
 response_most (Call (ops.Show event)) = omega arith
 response_most (Call ops.Snapshot) = omega arith
 response_most (Call (ops.Saved number)) = omega arith
+response_most (Queue op) = omega arith
 response_most Save = omega arith
+response_most Drain = omega arith
+response_most (Get block) = omega arith
 response_most (Arm arm) = omega arith
 
 -- ---- steps

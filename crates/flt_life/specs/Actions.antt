@@ -1,15 +1,18 @@
 -- What the steps of a script do, and what a step needs to be made.
-use Rattle.std.specs.Prelude.{ℕ, List, [], ◌∷◌, ◌++◌}
+use Rattle.std.specs.Prelude.{ℕ, ◌<◌, List, [], ◌∷◌, ◌++◌}
 use Rattle.flt_flash.specs.State.{CanArm}
 use Rattle.flt_flash.specs.declared.arm.Arm.{Arm as Arming}
 use Rattle.flt_config.specs.declared.config.Config.{Config}
 use Rattle.flt_model.specs.declared.call.Op.{Op}
 use Rattle.flt_model.specs.declared.call.Op.TheVariants as ops
 use Rattle.flt_dcm.specs.Unit.{IsAdmitted}
+use Rattle.flt_queue.specs.declared.job.QueueOp.{QueueOp}
+use Rattle.flt_queue.specs.declared.job.QueueOp.TheVariants as queue
+use Rattle.flt_queue.specs.Queue as jobs
 use Rattle.flt_script.specs.declared.step.Step.{Step}
 use Rattle.flt_script.specs.declared.step.Step.TheVariants as steps
 use Rattle.flt_life.specs.declared.action.Action.{Action}
-use Rattle.flt_life.specs.declared.action.Action.TheVariants.{Call, Save, Arm}
+use Rattle.flt_life.specs.declared.action.Action.TheVariants.{Call, Queue, Save, Drain, Get, Arm}
 
 -- what a step does
 abbrev pub action_of : Step → Action
@@ -20,6 +23,10 @@ action_of (steps.Tick ticks) = Call (ops.Tick ticks)
 action_of (steps.Signal index value) = Call (ops.Signal index value)
 action_of (steps.Request tester bytes) = Call (ops.Request tester bytes)
 action_of steps.Save = Save
+action_of (steps.Post urgent block bytes) = Queue (queue.Post urgent (record { block = block; bytes = bytes }))
+action_of steps.Drain = Drain
+action_of (steps.Get block) = Get block
+action_of (steps.Ask block) = Queue (queue.Ask block)
 action_of (steps.Arming arm) = Arm arm
 
 -- a call of a step is none that a save makes
@@ -28,23 +35,31 @@ IsStepCall ops.Snapshot = ⊥
 IsStepCall (ops.Saved number) = ⊥
 IsStepCall _ = Unit {0}
 
+-- a call of the queue is none that a drain makes
+abbrev pub IsQueueCall : QueueOp → Type 0
+IsQueueCall (queue.Post urgent job) = Unit {0}
+IsQueueCall queue.Take = ⊥
+IsQueueCall (queue.Done block written) = ⊥
+IsQueueCall (queue.Ask block) = Unit {0}
+
 -- a step whose numbers are in their ranges
 abbrev pub IsPossible : Config → Action → Type 0
 IsPossible c (Call op) = IsStepCall op × IsAdmitted c op
+IsPossible c (Queue op) = IsQueueCall op × jobs.IsAdmitted c.blocks op
 IsPossible c Save = Unit {0}
+IsPossible c Drain = Unit {0}
+IsPossible c (Get block) = block < c.blocks
 IsPossible c (Arm arm) = CanArm arm
 
 -- an arm whose numbers are in their ranges, or another step
 abbrev pub IsPossibleArm : Action → Type 0
-IsPossibleArm (Call op) = Unit {0}
-IsPossibleArm Save = Unit {0}
 IsPossibleArm (Arm arm) = CanArm arm
+IsPossibleArm _ = Unit {0}
 
 -- the arm that a step makes, if it makes one
 abbrev pub arms_of : Action → List Arming
-arms_of (Call op) = []
-arms_of Save = []
 arms_of (Arm arm) = arm ∷ []
+arms_of _ = []
 
 -- the arms that steps make, in order
 abbrev pub all_arms : List Action → List Arming
@@ -53,15 +68,20 @@ all_arms (action ∷ rest) = arms_of action ++ all_arms rest
 
 -- how many arms a step makes
 abbrev pub arm_count : Action → ℕ
-arm_count (Call op) = 0
-arm_count Save = 0
 arm_count (Arm arm) = 1
+arm_count _ = 0
 
--- how many calls a step makes at most: a save takes a snapshot, and is acknowledged
+-- how many calls of the status machine a step makes at most: a save takes a snapshot, and is acknowledged
 abbrev pub call_count : Action → ℕ
 call_count (Call op) = 1
 call_count Save = 2
-call_count (Arm arm) = 0
+call_count _ = 0
+
+-- how many calls of the queue a step makes at most: a drain takes 32 jobs, and notes what became of each
+abbrev pub queue_count : Action → ℕ
+queue_count (Queue op) = 1
+queue_count Drain = 64
+queue_count _ = 0
 
 -- the bytes of the longest response to a step: a request has one
 abbrev pub response_size : Action → ℕ

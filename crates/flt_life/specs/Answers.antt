@@ -9,7 +9,7 @@ use Rattle.flt_model.specs.declared.call.Reply.TheVariants as replies
 use Rattle.flt_life.specs.declared.answer.KeptReply.{KeptReply}
 use Rattle.flt_life.specs.declared.answer.KeptReply.TheVariants.{Taken, Ignored, Shown, Response, Silent}
 use Rattle.flt_life.specs.declared.answer.StepAnswer.{StepAnswer}
-use Rattle.flt_life.specs.declared.answer.StepAnswer.TheVariants.{Dem, Saved, SaveFailed, Armed, Dark}
+use Rattle.flt_life.specs.declared.answer.StepAnswer.TheVariants.{Dem, Saved, SaveFailed, Queue, Drained, Bytes, NoBlock, BlockFlash, Armed, Dark}
 
 -- an answer to a step with the machine's reply
 abbrev pub Told : Type 0
@@ -20,6 +20,11 @@ abbrev pub with_reply : {R S : Type 0} → (R → S) → StepAnswer R → StepAn
 with_reply f (Dem told) = Dem (record { place = told.place; reply = f told.reply })
 with_reply f (Saved number) = Saved number
 with_reply f (SaveFailed fault) = SaveFailed fault
+with_reply f (Queue told) = Queue told
+with_reply f (Drained written failed) = Drained written failed
+with_reply f (Bytes bytes) = Bytes bytes
+with_reply f NoBlock = NoBlock
+with_reply f BlockFlash = BlockFlash
 with_reply f Armed = Armed
 with_reply f Dark = Dark
 

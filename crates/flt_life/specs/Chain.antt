@@ -1,17 +1,24 @@
 -- What holds of a life and its two power-ups, and of all lives of a run.
-use Rattle.std.specs.Prelude.{◌≡◌, ◌⊎◌, ℕ, ◌+◌, ◌==◌, List, [], ◌∷◌, length, drop, find, Option, Some, None, Result, Ok, Err, IsTrue, IsFalse}
+use Rattle.std.specs.Prelude.{◌≡◌, ◌⊎◌, ℕ, ◌+◌, ◌==◌, List, [], ◌∷◌, length, map, reverse, drop, find, Option, Some, None, Result, Ok, Err, IsTrue, IsFalse}
 use Rattle.flt_flash.specs.declared.arm.ArmMade.{ArmMade}
 use Rattle.flt_flash.specs.State.{HasRisenBy, Boot as PowerUp}
 use Rattle.flt_config.specs.declared.config.Config.{Config}
 use Rattle.flt_config.specs.declared.persist.Persist.{Persist}
 use Rattle.flt_generation.specs.declared.place.Place.TheVariants.{Page, Block}
 use Rattle.flt_generation.specs.Form.{mark_of}
-use Rattle.flt_generation.specs.Holding.{Generation, Fault, damaged, other, held, spare, OldOrNew}
+use Rattle.flt_generation.specs.Holding.{Generation, Fault, damaged, other, held, spare, OldOrNew, SameApplications}
 use Rattle.flt_model.specs.Life.{Life}
+use Rattle.flt_queue.specs.declared.job.QueueOp.{QueueOp}
+use Rattle.flt_queue.specs.Queue.{History}
+use Rattle.flt_turn.specs.declared.vault.Entry.{Entry}
+use Rattle.flt_script.specs.declared.step.Step.{Step}
+use Rattle.flt_script.specs.Part.{PartOf}
 use Rattle.flt_restore.specs.declared.fault.StartFault.{StartFault}
 use Rattle.flt_restore.specs.declared.fault.StartFault.TheVariants as faults
 use Rattle.flt_store.specs.Store.{numbered}
 use Rattle.flt_life.specs.Answers.{Told}
+use Rattle.flt_life.specs.Applications.{HoldApplications, AreGot}
+use Rattle.flt_life.specs.Ordered.{Deed, deeds_in}
 use Rattle.flt_life.specs.declared.life.Boot.{Boot}
 use Rattle.flt_life.specs.declared.life.Boot.TheVariants.{Started, Dark, Refused}
 use Rattle.flt_life.specs.Moment.{Moment, Medium, moment_at, IsSoundAt}
@@ -19,12 +26,26 @@ use Rattle.flt_life.specs.Journal.{Journal, Acknowledges}
 use Rattle.flt_life.specs.Causes.{AreCaused}
 use Rattle.flt_life.specs.Saving.{IsLeft, AreRising}
 
--- a life: its calls and the answers of lane 0, the newest first, and the answers of the other lanes, the oldest first
+-- a life: the parts of its script, its calls of the status machine and of the queue, the newest first, and the answers of lane 0 and
+-- of the other lanes, the oldest first
 pub record LifeView : Type 0 where
+  pub parts : List (PartOf Step)
   pub boot : Boot
   pub journal : Journal
-  pub answers : List Told
+  pub queue : List (Entry QueueOp)
+  pub own : List Told
   pub lanes : List (List Told)
+
+-- its deeds, and their answers, the newest first
+abbrev pub deeds_of : LifeView → List Deed
+deeds_of life = reverse (deeds_in life.parts life.own life.lanes)
+
+abbrev pub told_of : LifeView → List Told
+told_of life = map (λ d. d.1) (deeds_of life)
+
+-- the calls of the queue, the newest first
+abbrev pub queue_of : LifeView → History
+queue_of life = map (λ e. e.op) life.queue
 
 -- what the machine starts from
 abbrev pub start_from : Config → Persist → Life
@@ -48,9 +69,15 @@ pub record Leaves (c : Config) (first : Generation) (life : LifeView) (next : Mo
   pub last : Generation
   pub sound : IsSoundAt c next held spare
   pub acknowledged : Acknowledges (start_from c first.state) first life.journal last
-  pub held_is : IsLeft (start_from c first.state) life.journal life.answers last held
-  pub spare_is : IsLeft (start_from c first.state) life.journal life.answers last spare
-  pub rising : AreRising first.number life.answers
+  pub held_is : IsLeft (start_from c first.state) life.journal (told_of life) last held
+  pub spare_is : IsLeft (start_from c first.state) life.journal (told_of life) last spare
+  pub rising : AreRising first.number (told_of life)
+
+-- the next power-up finds in each application block what the drains of the life may have left there, and each read of the life
+-- answered by the drains before it
+pub record KeepsApplications (boot next : Moment) (life : LifeView) : Type 0 where
+  pub held : HoldApplications boot.value (queue_of life) next.value
+  pub got : AreGot boot.value (queue_of life) (deeds_of life)
 
 -- of a sound image the next power-up finds a sound one, which holds each as one of the two old generations
 pub record Keeps (c : Config) (held spare : Generation) (next : Moment) : Type 0 where
@@ -75,9 +102,9 @@ IsRefused c boot next ended faults.SequenceSpent = ((g : Generation) × Finds c 
 
 -- what holds by how the life began
 abbrev pub IsLifeBegunBy : Config → Moment → Moment → ℕ → LifeView → Boot → Type 0
-IsLifeBegunBy c boot next ended life (Started number state) = Finds c boot ended (numbered number state) × IsFalse boot.is_spent × Leaves c (numbered number state) life next × AreCaused c boot next life.answers
-IsLifeBegunBy c boot next ended life Dark = HasRisenBy 3 boot.faults ended × (life.journal ≡ []) × KeepsSound c boot next
-IsLifeBegunBy c boot next ended life (Refused fault) = IsRefused c boot next ended fault × (life.journal ≡ []) × (life.answers ≡ [])
+IsLifeBegunBy c boot next ended life (Started number state) = Finds c boot ended (numbered number state) × IsFalse boot.is_spent × Leaves c (numbered number state) life next × AreCaused c boot next (told_of life) × KeepsApplications boot next life
+IsLifeBegunBy c boot next ended life Dark = HasRisenBy 3 boot.faults ended × (life.journal ≡ []) × KeepsSound c boot next × SameApplications boot.value next.value
+IsLifeBegunBy c boot next ended life (Refused fault) = IsRefused c boot next ended fault × (life.journal ≡ []) × SameApplications boot.value next.value
 
 -- what holds of a life between two power-ups; the count of faults came to `ended` by the end of its start
 abbrev pub IsLifeBetween : Config → Moment → Moment → ℕ → LifeView → Type 0

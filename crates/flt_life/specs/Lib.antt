@@ -2,6 +2,9 @@ pub mod Actions
 pub mod Answers
 pub mod Causes
 pub mod Chain
+pub mod Ordered
+pub mod Draining
+pub mod Applications
 pub mod Journal
 pub mod Laws
 pub mod Lives

@@ -1,6 +1,6 @@
 -- The lives of a run: how they follow the parts of a script, and how they are linked by their boots; all lists begin with the
 -- newest.
-use Rattle.std.specs.Prelude.{◌≡◌, ◌⊎◌, ℕ, ◌+◌, Bool, true, false, List, [], ◌∷◌, ◌++◌, length, map, reverse, take, All, IfSome, Option, IsTrue, IsFalse, Vec}
+use Rattle.std.specs.Prelude.{◌≡◌, ◌⊎◌, ℕ, ◌+◌, ◌<◌, Bool, true, false, List, [], ◌∷◌, ◌++◌, length, map, reverse, All, IfSome, Option, IsTrue, IsFalse, Vec}
 use Rattle.flt_flash.specs.declared.arm.Arm.{Arm}
 use Rattle.flt_flash.specs.declared.arm.ArmMade.{ArmMade}
 use Rattle.flt_flash.specs.State.{Boot as PowerUp}
@@ -22,44 +22,49 @@ use Rattle.flt_life.specs.Parts.{own_actions}
 use Rattle.flt_life.specs.Played.{IsPlayed}
 
 -- the answers of lane 0, in their order
-abbrev pub told_of : List LaneReplies → List Told
-told_of [] = []
-told_of (lane ∷ lanes) = told_by lane.responses.items lane.answers.items
+abbrev pub own_told : List LaneReplies → List Told
+own_told [] = []
+own_told (lane ∷ lanes) = told_by lane.responses.items lane.answers.items
 
 -- the answers of the other lanes, each in their order
 abbrev pub lanes_told : List LaneReplies → List (List Told)
 lanes_told [] = []
 lanes_told (lane ∷ lanes) = map (λ (l : LaneReplies). told_by l.responses.items l.answers.items) lanes
 
--- a life as contracts see it
-abbrev pub view_of : Life → LifeView
-view_of life = record {
+-- a life of these parts as contracts see it
+abbrev pub view_of : List (PartOf Step) → Life → LifeView
+view_of parts life = record {
+  parts = parts;
   boot = life.boot;
   journal = reverse life.journal.items;
-  answers = reverse (told_of life.replies.items);
+  queue = reverse life.queue.items;
+  own = own_told life.replies.items;
   lanes = lanes_told life.replies.items;
 }
 
--- the lives of these parts
-abbrev pub ArePlayed : Config → List (List (PartOf Step)) → List LifeView → Type 0
-ArePlayed c [] [] = Unit {0}
-ArePlayed c [] (life ∷ lives) = ⊥
-ArePlayed c (parts ∷ earlier) [] = ⊥
-ArePlayed c (parts ∷ earlier) (life ∷ lives) = IsPlayed c parts life × ArePlayed c earlier lives
+-- the lives of these parts, life by life; a life too many has no parts
+abbrev pub views_of : List (List (PartOf Step)) → List Life → List LifeView
+views_of script [] = []
+views_of [] (life ∷ lives) = view_of [] life ∷ views_of [] lives
+views_of (parts ∷ script) (life ∷ lives) = view_of parts life ∷ views_of script lives
+
+-- each life is made of its parts
+abbrev pub ArePlayed : Config → List LifeView → Type 0
+ArePlayed c lives = All (IsPlayed c) lives
 
 abbrev pub is_refused : Boot → Bool
 is_refused (Started number state) = false
 is_refused Dark = false
 is_refused (Refused fault) = true
 
--- no life but the last is refused, and where that one is not, there are as many as asked
+-- no life but the last is refused, and where that one is not, there are as many as asked; and never more
 abbrev pub AreEnded : ℕ → List LifeView → Type 0
 AreEnded many [] = many ≡ 0
-AreEnded many (life ∷ earlier) = All (λ l. IsFalse (is_refused l.boot)) earlier × (IsTrue (is_refused life.boot) ⊎ (many ≡ length earlier + 1))
+AreEnded many (life ∷ earlier) = All (λ l. IsFalse (is_refused l.boot)) earlier × (length earlier < many) × (IsTrue (is_refused life.boot) ⊎ (many ≡ length earlier + 1))
 
--- the first lives of a script, so many, the newest first
-abbrev pub first_lives : ℕ → List (List (PartOf Step)) → List (List (PartOf Step))
-first_lives many script = reverse (take many script)
+-- the lives of a run, which are the first ones of this script, the newest first
+abbrev pub lives_seen : List (List (PartOf Step)) → List Life → List LifeView
+lives_seen script lives = reverse (views_of script lives)
 
 -- lives without where they lie in memory
 abbrev pub lists : {A : Type 0} → List (Vec Part A) → List (List (PartOf Step))
@@ -72,10 +77,9 @@ arms_by parts Dark = all_arms (own_actions parts)
 arms_by parts (Refused fault) = []
 
 -- the arms of lives, in the order in which they are given
-abbrev pub arms_given : List (List (PartOf Step)) → List LifeView → List Arm
-arms_given [] lives = []
-arms_given (parts ∷ earlier) [] = []
-arms_given (parts ∷ earlier) (life ∷ lives) = arms_given earlier lives ++ arms_by parts life.boot
+abbrev pub arms_given : List LifeView → List Arm
+arms_given [] = []
+arms_given (life ∷ lives) = arms_given lives ++ arms_by life.parts life.boot
 
 -- the arms that were made between two states of a bench, where both tell theirs, are these
 abbrev pub AreGiven : List Arm → Option (List ArmMade) → Option (List ArmMade) → Type 0

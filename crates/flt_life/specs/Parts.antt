@@ -1,12 +1,12 @@
 -- The parts of a life: the steps that lane 0 makes by itself, and the lanes of its blocks.
-use Rattle.std.specs.Prelude.{ℕ, ◌+◌, List, [], ◌∷◌, ◌++◌, map, length, sum_by, All, IsTrue}
+use Rattle.std.specs.Prelude.{ℕ, ◌+◌, ◌≤◌, List, [], ◌∷◌, ◌++◌, map, length, sum_by, All, IsTrue}
 use Rattle.std.proofs.Common.{inl, inr}
 use Rattle.flt_config.specs.declared.config.Config.{Config}
 use Rattle.flt_script.specs.declared.step.Step.{Step}
 use Rattle.flt_script.specs.Part.{PartOf}
-use Rattle.flt_script.specs.Step.{is_lane_step, steps_of_part}
+use Rattle.flt_script.specs.Step.{is_lane_step, store_lanes, steps_of_part}
 use Rattle.flt_life.specs.declared.action.Action.{Action}
-use Rattle.flt_life.specs.Actions.{action_of, IsPossible, arm_count, call_count}
+use Rattle.flt_life.specs.Actions.{action_of, IsPossible, arm_count, call_count, queue_count}
 
 -- the steps of lane 0, in order
 abbrev pub own_steps : {T : Type 0} → List (PartOf T) → List T
@@ -33,18 +33,29 @@ widths (part ∷ parts) = width part + widths parts
 abbrev pub own_actions : List (PartOf Step) → List Action
 own_actions parts = map action_of (own_steps parts)
 
--- the numbers of each step are in their ranges, and no lane saves or arms
+-- the numbers of each step are in their ranges; no lane arms, and at most one lane of a block saves, drains or gets
 abbrev pub IsPossibleInLane : Config → Step → Type 0
 IsPossibleInLane c step = IsTrue (is_lane_step step) × IsPossible c (action_of step)
 
 abbrev pub IsPossiblePart : Config → PartOf Step → Type 0
 IsPossiblePart c (inl step) = IsPossible c (action_of step)
-IsPossiblePart c (inr lanes) = All (λ lane. All (IsPossibleInLane c) lane) lanes
+IsPossiblePart c (inr lanes) = All (λ lane. All (IsPossibleInLane c) lane) lanes × (store_lanes lanes ≤ 1)
 
--- how many calls a part makes at most: a step in a lane makes one
+-- how many calls steps make at most of the status machine, and of the queue
+abbrev pub calls_of : List Step → ℕ
+calls_of steps = sum_by (λ step. call_count (action_of step)) steps
+
+abbrev pub queued_of : List Step → ℕ
+queued_of steps = sum_by (λ step. queue_count (action_of step)) steps
+
+-- the same of a part
 abbrev pub calls_in : PartOf Step → ℕ
 calls_in (inl step) = call_count (action_of step)
-calls_in (inr lanes) = sum_by length lanes
+calls_in (inr lanes) = sum_by calls_of lanes
+
+abbrev pub queued_in : PartOf Step → ℕ
+queued_in (inl step) = queue_count (action_of step)
+queued_in (inr lanes) = sum_by queued_of lanes
 
 -- how many steps a part has
 abbrev pub steps_in : PartOf Step → ℕ

@@ -1,4 +1,4 @@
--- How a life is made of the parts of its script: which calls each step makes, that the journal has them, and how each is answered.
+-- How a life is made of the parts of its script: which calls each step makes, that the journals have them, and how each is answered.
 use Rattle.std.specs.Prelude.{◌≡◌, List, [], ◌∷◌, All, map, reverse}
 use Rattle.flt_turn.specs.declared.answer.Answer.{Answer}
 use Rattle.flt_config.specs.declared.config.Config.{Config}
@@ -7,6 +7,9 @@ use Rattle.flt_model.specs.Answer.{answer}
 use Rattle.flt_model.specs.declared.call.Op.{Op}
 use Rattle.flt_model.specs.declared.call.Op.TheVariants as ops
 use Rattle.flt_model.specs.declared.call.Reply.{Reply}
+use Rattle.flt_queue.specs.declared.job.QueueOp.{QueueOp}
+use Rattle.flt_queue.specs.declared.job.QueueReply.{QueueReply}
+use Rattle.flt_queue.specs.Call as queued
 use Rattle.flt_script.specs.declared.step.Step.{Step}
 use Rattle.flt_script.specs.Part.{PartOf}
 use Rattle.flt_life.specs.declared.action.Action.{Action}
@@ -17,8 +20,10 @@ use Rattle.flt_life.specs.declared.life.Boot.TheVariants.{Started, Dark, Refused
 use Rattle.flt_life.specs.Actions.{action_of}
 use Rattle.flt_life.specs.Answers.{Told}
 use Rattle.flt_life.specs.Chain.{LifeView, start_from}
+use Rattle.flt_life.specs.Draining.{DrainMakes}
 use Rattle.flt_life.specs.Journal.{Journal}
 use Rattle.flt_life.specs.Making.{PartsMake}
+use Rattle.flt_turn.specs.declared.vault.Entry.{Entry}
 use Rattle.flt_life.specs.Mixing.{Call, Block, Follows, BlockTold}
 use Rattle.flt_life.specs.Parts.{own_actions, lanes_in}
 
@@ -33,38 +38,65 @@ SaveMakes (answers.Saved number) calls =
 SaveMakes (answers.SaveFailed fault) calls = (taken : Answer Reply) × (calls ≡ record { op = ops.Snapshot; told = taken } ∷ [])
 SaveMakes _ calls = ⊥
 
--- the calls of what a step does, where it was answered so: its answer is the machine's, or the store's
+-- what a read of an application block is answered
+abbrev pub IsGot : Told → Type 0
+IsGot (answers.Bytes bytes) = Unit {0}
+IsGot answers.NoBlock = Unit {0}
+IsGot answers.BlockFlash = Unit {0}
+IsGot _ = ⊥
+
+-- the calls of the status machine that a step makes, where it was answered so: its answer is the machine's, the queue's or the store's
 abbrev pub ActionMakes : Action → Told → List (Call Op Reply) → Type 0
 ActionMakes (actions.Call op) told calls = (reply : Answer Reply) × (told ≡ answers.Dem reply) × (calls ≡ record { op = op; told = reply } ∷ [])
+ActionMakes (actions.Queue op) told calls = calls ≡ []
 ActionMakes actions.Save told calls = SaveMakes told calls
+ActionMakes actions.Drain told calls = calls ≡ []
+ActionMakes (actions.Get block) told calls = IsGot told × (calls ≡ [])
 ActionMakes (actions.Arm arm) told calls = (told ≡ answers.Armed) × (calls ≡ [])
 
 abbrev pub StepMakes : Step → Told → List (Call Op Reply) → Type 0
 StepMakes step told calls = ActionMakes (action_of step) told calls
 
--- the journal has the calls of the parts, those of each part together and behind those of the parts before it, those of each lane
--- in its order, and no others; and each answer, of lane 0 and of the lanes of the blocks, whose numbers go on from 1, is the
--- machine's at the places of its calls, or the store's
-pub record IsLife (start : Life) (parts : List (PartOf Step)) (own : List Told) (lanes : List (List Told)) (journal : Journal) : Type 0 where
-  pub blocks : List (Block Op Reply)
-  pub made : PartsMake StepMakes 1 parts own lanes blocks
+abbrev pub DrainTold : Told → List (Call QueueOp QueueReply) → Type 0
+DrainTold (answers.Drained written failed) calls = DrainMakes written failed calls
+DrainTold _ calls = ⊥
+
+-- the calls of the queue that a step makes, where it was answered so
+abbrev pub ActionQueues : Action → Told → List (Call QueueOp QueueReply) → Type 0
+ActionQueues (actions.Queue op) told calls = (reply : Answer QueueReply) × (told ≡ answers.Queue reply) × (calls ≡ record { op = op; told = reply } ∷ [])
+ActionQueues actions.Drain told calls = DrainTold told calls
+ActionQueues _ told calls = calls ≡ []
+
+abbrev pub StepQueues : Step → Told → List (Call QueueOp QueueReply) → Type 0
+StepQueues step told calls = ActionQueues (action_of step) told calls
+
+-- the journal of a machine has the calls of the parts, those of each part together and behind those of the parts before it, those of
+-- each lane in its order, and no others; and each call, of lane 0 and of the lanes of the blocks, whose numbers go on from 1, is
+-- answered at its place
+pub record IsMade {S O R : Type 0} (MadeBy : Step → Told → List (Call O R) → Type 0) (answer : S → List O → O → R) (start : S) (parts : List (PartOf Step)) (own : List Told) (lanes : List (List Told)) (journal : List (Entry O)) : Type 0 where
+  pub blocks : List (Block O R)
+  pub made : PartsMake MadeBy 1 parts own lanes blocks
   pub follows : Follows blocks journal
-  pub told : All (BlockTold reply_after start journal) blocks
+  pub told : All (BlockTold answer start journal) blocks
+
+-- so it is with the status machine and with the queue
+pub record IsLife (start : Life) (parts : List (PartOf Step)) (own : List Told) (lanes : List (List Told)) (journal : Journal) (queue : List (Entry QueueOp)) : Type 0 where
+  pub dem : IsMade StepMakes reply_after start parts own lanes journal
+  pub jobs : IsMade StepQueues queued.reply_after start.config.blocks parts own lanes queue
 
 -- what a dark life answers to a step
 abbrev pub dark_answer : Action → Told
-dark_answer (actions.Call op) = answers.Dark
-dark_answer actions.Save = answers.Dark
 dark_answer (actions.Arm arm) = answers.Armed
+dark_answer _ = answers.Dark
 
 abbrev pub dark_answers : List Step → List Told
 dark_answers steps = map (λ step. dark_answer (action_of step)) steps
 
 -- the calls and the answers of a life, the oldest first, are those of its parts, by how it began
-abbrev pub IsPlayedBy : Config → List (PartOf Step) → Journal → List Told → List (List Told) → Boot → Type 0
-IsPlayedBy c parts journal own lanes (Started number state) = IsLife (start_from c state) parts own lanes journal
-IsPlayedBy c parts journal own lanes Dark = (journal ≡ []) × (own ≡ map dark_answer (own_actions parts)) × (lanes ≡ map dark_answers (lanes_in parts))
-IsPlayedBy c parts journal own lanes (Refused fault) = (journal ≡ []) × (own ≡ []) × (lanes ≡ [])
+abbrev pub IsPlayedBy : Config → List (PartOf Step) → Journal → List (Entry QueueOp) → List Told → List (List Told) → Boot → Type 0
+IsPlayedBy c parts journal queue own lanes (Started number state) = IsLife (start_from c state) parts own lanes journal queue
+IsPlayedBy c parts journal queue own lanes Dark = (journal ≡ []) × (queue ≡ []) × (own ≡ map dark_answer (own_actions parts)) × (lanes ≡ map dark_answers (lanes_in parts))
+IsPlayedBy c parts journal queue own lanes (Refused fault) = (journal ≡ []) × (queue ≡ []) × (own ≡ []) × (lanes ≡ [])
 
-abbrev pub IsPlayed : Config → List (PartOf Step) → LifeView → Type 0
-IsPlayed c parts life = IsPlayedBy c parts (reverse life.journal) (reverse life.answers) life.lanes life.boot
+abbrev pub IsPlayed : Config → LifeView → Type 0
+IsPlayed c life = IsPlayedBy c life.parts (reverse life.journal) (reverse life.queue) life.own life.lanes life.boot

@@ -1,10 +1,11 @@
 // What the steps of a script do.
 ghost use Rattle.std.specs.Prelude.{◌≡◌};
-ghost use Rattle.flt_life.specs.Actions.{action_of, call_count, response_size};
+ghost use Rattle.flt_life.specs.Actions.{action_of, call_count, queue_count, response_size};
 
 use arrayvec::ArrayVec;
 use flt_flash::Arm;
 use flt_model::{Op, REQUEST, RESPONSE};
+use flt_queue::{BYTES, Job, QueueOp, WAITING};
 use flt_script::Step;
 
 /// What a step of a life does.
@@ -12,14 +13,27 @@ use flt_script::Step;
 pub enum Action {
     /// A call of the status machine, but a snapshot or a save.
     Call(Op),
+    /// A call of the queue of write jobs: a post or a question.
+    Queue(QueueOp),
     /// The durable state is saved.
     Save,
+    /// The jobs that wait are taken and written, at most 32.
+    Drain,
+    /// The application block of this number is read.
+    Get(u8),
     /// An arm is made on the bench.
     Arm(Arm),
 }
 
 /// A copy of the bytes of a request, which takes no memory.
 fn copy_of(bytes: &ArrayVec<u8, REQUEST>) -> ArrayVec<u8, REQUEST>
+    ensures { result ≡ bytes.now }
+{
+    bytes.clone().unwrap()
+}
+
+/// A copy of the bytes of a job, which takes no memory.
+fn copy_of_job(bytes: &ArrayVec<u8, BYTES>) -> ArrayVec<u8, BYTES>
     ensures { result ≡ bytes.now }
 {
     bytes.clone().unwrap()
@@ -46,18 +60,49 @@ pub fn action_of(step: &Step) -> Action
             bytes: copy_of(bytes),
         }),
         Step::Save => Action::Save,
+        Step::Post {
+            urgent,
+            block,
+            bytes,
+        } => Action::Queue(QueueOp::Post {
+            urgent: *urgent,
+            job: Job {
+                block: *block,
+                bytes: copy_of_job(bytes),
+            },
+        }),
+        Step::Drain => Action::Drain,
+        Step::Get { block } => Action::Get(*block),
+        Step::Ask { block } => Action::Queue(QueueOp::Ask { block: *block }),
         Step::Arming(arm) => Action::Arm(*arm),
     }
 }
 
-/// How many calls a step makes at most: a save takes a snapshot, and is acknowledged.
+/// How many calls of the status machine a step makes at most: a save takes a snapshot, and is acknowledged.
 pub fn call_count(step: &Step) -> usize
     ensures { result ≡ call_count (action_of step.now) }
 {
     match step {
+        Step::Report { .. }
+        | Step::Show { .. }
+        | Step::Cycle { .. }
+        | Step::Tick { .. }
+        | Step::Signal { .. }
+        | Step::Request { .. } => 1,
         Step::Save => 2,
-        Step::Arming(_) => 0,
-        _ => 1,
+        Step::Post { .. } | Step::Drain | Step::Get { .. } | Step::Ask { .. } | Step::Arming(_) =>
+            0,
+    }
+}
+
+/// How many calls of the queue a step makes at most: a drain takes 32 jobs and notes what became of each.
+pub fn queue_count(step: &Step) -> usize
+    ensures { result ≡ queue_count (action_of step.now) }
+{
+    match step {
+        Step::Post { .. } | Step::Ask { .. } => 1,
+        Step::Drain => 2 * WAITING,
+        _ => 0,
     }
 }
 

@@ -1,5 +1,8 @@
 // What a step is answered.
+use arrayvec::ArrayVec;
+use flt_generation::APPLICATION_LENGTH;
 use flt_model::{Cause, Shown};
+use flt_queue::QueueReply;
 use flt_store::SaveFault;
 use flt_turn::Answer;
 
@@ -28,6 +31,16 @@ pub enum StepAnswer<R> {
     Saved(u32),
     /// Why it was not saved.
     SaveFailed(SaveFault),
+    /// The queue's reply to the call, and its place in the journal of the queue.
+    Queue(Answer<QueueReply>),
+    /// How many jobs were taken and written, and how many were taken and could not be written; together at most 32.
+    Drained { written: u16, failed: u16 },
+    /// What the application block holds, 1 to 32 bytes.
+    Bytes(ArrayVec<u8, APPLICATION_LENGTH>),
+    /// The application block was never written.
+    NoBlock,
+    /// The application block could not be read in three tries.
+    BlockFlash,
     /// The arm was made.
     Armed,
     /// The life is dark, and the step was not made.

@@ -15,7 +15,7 @@ mod life;
 mod replies;
 mod room;
 
-pub use action::{Action, action_of, call_count, response_size};
+pub use action::{Action, action_of, call_count, queue_count, response_size};
 pub use answer::{KeptReply, StepAnswer};
 pub use flt_turn::{Answer, Entry};
 pub use life::{Boot, Life};

@@ -2,6 +2,7 @@
 use crate::replies::LaneReplies;
 use flt_config::Persist;
 use flt_model::Op;
+use flt_queue::QueueOp;
 use flt_store::StartFault;
 use flt_turn::Entry;
 
@@ -22,6 +23,8 @@ pub struct Life {
     pub boot: Boot,
     /// The calls that were carried out under the lock, each with the number of its lane; empty in a life that was not started.
     pub journal: Vec<Entry<Op>>,
+    /// The calls of the queue of write jobs, likewise.
+    pub queue: Vec<Entry<QueueOp>>,
     /// The answers in the order of the lanes, lane 0 first; none in a life that was refused.
     pub replies: Vec<LaneReplies>,
 }

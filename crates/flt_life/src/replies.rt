@@ -13,8 +13,6 @@ use std::alloc::{AllocError, Global};
 /// The answers to the steps of a lane, in their order.
 #[derive(Drop)]
 pub struct LaneReplies {
-    /// The number of the lane in its life.
-    pub lane: u32,
     pub answers: Vec<StepAnswer<KeptReply>>,
     /// The bytes of its responses, one after the other.
     pub responses: Vec<u8>,
@@ -24,13 +22,7 @@ pub struct LaneReplies {
 
 impl LaneReplies {
     /// No answer, with room for so many, and for so many bytes of responses.
-    pub fn with_room(
-        alloc: Global,
-        lane: u32,
-        answers: usize,
-        bytes: usize,
-    ) -> Result<LaneReplies, AllocError>
-        ensures lane { IfOk result (λ replies. replies.lane ≡ lane) }
+    pub fn with_room(alloc: Global, answers: usize, bytes: usize) -> Result<LaneReplies, AllocError>
         ensures none { IfOk result (λ replies. replies.answers.items ≡ []) }
         ensures no_bytes { IfOk result (λ replies. replies.responses.items ≡ []) }
         ensures answers { IfOk result (λ replies. vec_len replies.answers + answers ≤ vec_capacity replies.answers) }
@@ -38,18 +30,13 @@ impl LaneReplies {
     {
         let answers = Vec::with_capacity(alloc, answers)?;
         let responses = Vec::with_capacity(alloc, bytes)?;
-        Ok(LaneReplies {
-            lane,
-            answers,
-            responses,
-        })
+        Ok(LaneReplies { answers, responses })
     }
 
     /// Keeps the answer to one more step, with the bytes of its response where it has one.
     pub fn keep(&mut self, answer: StepAnswer<ReplyKind>, response: &[u8])
         requires answers { vec_len self.old.answers < vec_capacity self.old.answers }
         requires responses { vec_len self.old.responses + response_length answer response.now ≤ vec_capacity self.old.responses }
-        ensures lane { self.new.lane ≡ self.old.lane }
         ensures told { told_by self.new.responses.items self.new.answers.items ≡ told_by self.old.responses.items self.old.answers.items ++ told_with response.now answer ∷ [] }
         ensures answers { vec_len self.new.answers ≡ vec_len self.old.answers + 1 }
         ensures room { vec_capacity self.new.answers ≡ vec_capacity self.old.answers }
@@ -64,7 +51,6 @@ impl LaneReplies {
     pub fn keep_whole(&mut self, answer: StepAnswer<Reply>)
         requires answers { vec_len self.old.answers < vec_capacity self.old.answers }
         requires responses { vec_len self.old.responses + told_size answer ≤ vec_capacity self.old.responses }
-        ensures lane { self.new.lane ≡ self.old.lane }
         ensures told { told_by self.new.responses.items self.new.answers.items ≡ told_by self.old.responses.items self.old.answers.items ++ answer ∷ [] }
         ensures answers { vec_len self.new.answers ≡ vec_len self.old.answers + 1 }
         ensures room { vec_capacity self.new.answers ≡ vec_capacity self.old.answers }
@@ -75,6 +61,13 @@ impl LaneReplies {
             StepAnswer::Dem(Answer { place, reply }) => self.keep_reply(place, reply),
             StepAnswer::Saved(generation) => self.keep(StepAnswer::Saved(generation), &[]),
             StepAnswer::SaveFailed(fault) => self.keep(StepAnswer::SaveFailed(fault), &[]),
+            StepAnswer::Queue(told) => self.keep(StepAnswer::Queue(told), &[]),
+            StepAnswer::Drained { written, failed } => {
+                self.keep(StepAnswer::Drained { written, failed }, &[])
+            }
+            StepAnswer::Bytes(bytes) => self.keep(StepAnswer::Bytes(bytes), &[]),
+            StepAnswer::NoBlock => self.keep(StepAnswer::NoBlock, &[]),
+            StepAnswer::BlockFlash => self.keep(StepAnswer::BlockFlash, &[]),
             StepAnswer::Armed => self.keep(StepAnswer::Armed, &[]),
             StepAnswer::Dark => self.keep(StepAnswer::Dark, &[]),
         }
@@ -84,7 +77,6 @@ impl LaneReplies {
     fn keep_reply(&mut self, place: u32, reply: Reply)
         requires answers { vec_len self.old.answers < vec_capacity self.old.answers }
         requires responses { vec_len self.old.responses + reply_size reply ≤ vec_capacity self.old.responses }
-        ensures lane { self.new.lane ≡ self.old.lane }
         ensures told { told_by self.new.responses.items self.new.answers.items ≡ told_by self.old.responses.items self.old.answers.items ++ Dem (record { place = place; reply = reply }) ∷ [] }
         ensures answers { vec_len self.new.answers ≡ vec_len self.old.answers + 1 }
         ensures room { vec_capacity self.new.answers ≡ vec_capacity self.old.answers }
@@ -150,6 +142,11 @@ fn kept(
         }
         StepAnswer::Saved(generation) => StepAnswer::Saved(generation),
         StepAnswer::SaveFailed(fault) => StepAnswer::SaveFailed(fault),
+        StepAnswer::Queue(told) => StepAnswer::Queue(told),
+        StepAnswer::Drained { written, failed } => StepAnswer::Drained { written, failed },
+        StepAnswer::Bytes(bytes) => StepAnswer::Bytes(bytes),
+        StepAnswer::NoBlock => StepAnswer::NoBlock,
+        StepAnswer::BlockFlash => StepAnswer::BlockFlash,
         StepAnswer::Armed => StepAnswer::Armed,
         StepAnswer::Dark => StepAnswer::Dark,
     }

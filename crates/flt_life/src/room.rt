@@ -1,7 +1,8 @@
 // What a life takes of memory for its answers: all of it at its start.
-ghost use Rattle.std.specs.Prelude.{◌≡◌, ◌<◌, ◌≤◌, ◌+◌, ◌^◌, ◌++◌, ◌∷◌, [], All, IfOk, length, map, reverse, sum_by, vec_len};
+ghost use Rattle.std.specs.Prelude.{◌≡◌, ◌<◌, ◌≤◌, ◌+◌, ◌^◌, ◌++◌, ◌∷◌, [], List, All, IfOk, length, map, reverse, sum_by, vec_len};
 ghost use Rattle.std.specs.Vec.{vec_capacity};
-ghost use Rattle.flt_script.specs.Part.{parts_of};
+ghost use Rattle.flt_script.specs.declared.step.Step.{Step};
+ghost use Rattle.flt_script.specs.Part.{PartOf, parts_of};
 ghost use Rattle.flt_life.specs.Lives.{view_of};
 ghost use Rattle.flt_life.specs.Parts.{own_steps, lanes_in, steps_in, widths};
 ghost use Rattle.flt_life.specs.Room.{HasRoomForSteps, IsEmpty, IsLaneRoom, IsLifeRoom, steps_of, told_in};
@@ -10,6 +11,7 @@ use crate::action::response_size;
 use crate::life::{Boot, Life};
 use crate::replies::LaneReplies;
 use flt_model::Op;
+use flt_queue::QueueOp;
 use flt_script::{Part, Step};
 use flt_turn::Entry;
 use std::alloc::{AllocError, Global};
@@ -35,7 +37,7 @@ pub struct LifeRoom<'a> {
 }
 
 /// A lane of a block, with room for an answer to each of its steps.
-fn lane_room(alloc: Global, lane: u32, steps: &[Step]) -> Result<LaneRoom<'_>, AllocError>
+fn lane_room(alloc: Global, steps: &[Step]) -> Result<LaneRoom<'_>, AllocError>
     requires { length steps.now ≤ 65536 }
     ensures steps { IfOk result (λ room. room.steps.now ≡ steps.now) }
     ensures room { IfOk result IsLaneRoom }
@@ -44,7 +46,7 @@ fn lane_room(alloc: Global, lane: u32, steps: &[Step]) -> Result<LaneRoom<'_>, A
     for step in steps {
         bytes += response_size(step);
     }
-    let replies = LaneReplies::with_room(alloc, lane, steps.len(), bytes)?;
+    let replies = LaneReplies::with_room(alloc, steps.len(), bytes)?;
     Ok(LaneRoom { steps, replies })
 }
 
@@ -55,15 +57,13 @@ fn add_lanes<'a>(
     rooms: &mut Vec<LaneRoom<'a>>,
 ) -> Result<(), AllocError>
     requires few { All (λ lane. length lane.items ≤ 65536) lanes.now }
-    requires numbers { vec_len rooms.old + length lanes.now + 1 < 2 ^ 32 }
     requires ready { All IsLaneRoom rooms.old.items }
     ensures lanes { IfOk result (λ _. steps_of rooms.new.items ≡ steps_of rooms.old.items ++ map (λ lane. lane.items) lanes.now) }
     ensures len { IfOk result (λ _. vec_len rooms.new ≡ vec_len rooms.old + length lanes.now) }
     ensures ready { All IsLaneRoom rooms.new.items }
 {
     for lane in lanes {
-        let number = rooms.len() as u32 + 1;
-        let room = lane_room(alloc, number, lane)?;
+        let room = lane_room(alloc, lane)?;
         rooms.push(room)?;
     }
     Ok(())
@@ -103,7 +103,7 @@ fn own_room(alloc: Global, parts: &[Part]) -> Result<LaneReplies, AllocError>
             Part::Lanes(_) => {}
         }
     }
-    LaneReplies::with_room(alloc, 0, answers, bytes)
+    LaneReplies::with_room(alloc, answers, bytes)
 }
 
 impl<'a> LifeRoom<'a> {
@@ -130,13 +130,14 @@ impl<'a> LifeRoom<'a> {
 pub fn life_of(
     boot: Boot,
     journal: Vec<Entry<Op>>,
+    queue: Vec<Entry<QueueOp>>,
     own: LaneReplies,
     told: Vec<LaneReplies>,
     replies: Vec<LaneReplies>,
 ) -> Life
     requires none { replies.items ≡ [] }
     requires room { vec_len replies + length told.items + 1 ≤ vec_capacity replies }
-    ensures { view_of result ≡ record { boot = boot; journal = reverse journal.items; answers = reverse (told_in own); lanes = map told_in told.items } }
+    ensures { (parts : List (PartOf Step)) → view_of parts result ≡ record { parts = parts; boot = boot; journal = reverse journal.items; queue = reverse queue.items; own = told_in own; lanes = map told_in told.items } }
 {
     let mut replies = replies;
     replies.push_reserved(own);
@@ -146,6 +147,7 @@ pub fn life_of(
     Life {
         boot,
         journal,
+        queue,
         replies,
     }
 }

@@ -5,7 +5,7 @@ use std::test::Fail;
 
 #[test]
 fn answers_are_kept(rt: HostRuntime) -> Result<(), Fail> {
-    let mut replies = LaneReplies::with_room(rt.alloc(), 0, 3, 2)?;
+    let mut replies = LaneReplies::with_room(rt.alloc(), 3, 2)?;
     let response = StepAnswer::Dem(Answer {
         place: 0,
         reply: ReplyKind::Response,
@@ -34,19 +34,24 @@ fn room_is_taken_for_all_lanes(rt: HostRuntime) -> Result<(), Fail> {
     } = room;
     assert_eq!(rt; lanes.len(), 0);
     let journal = Vec::new(rt.alloc());
-    let life = life_of(Boot::Dark, journal, own, told, replies);
+    let queue = Vec::new(rt.alloc());
+    let life = life_of(Boot::Dark, journal, queue, own, told, replies);
     assert_eq!(rt; life.replies.len(), 1);
     Ok(())
 }
 
 #[test]
 fn steps_are_counted(rt: HostRuntime) {
-    for (step, calls, bytes) in [
-        (Step::Save, 2, 0),
-        (Step::Show { event: 0 }, 1, 0),
-        (Step::Cycle { cycle: 3 }, 1, 0),
+    for (step, calls, jobs, bytes) in [
+        (Step::Save, 2, 0, 0),
+        (Step::Show { event: 0 }, 1, 0, 0),
+        (Step::Cycle { cycle: 3 }, 1, 0, 0),
+        (Step::Drain, 0, 64, 0),
+        (Step::Ask { block: 0 }, 0, 1, 0),
+        (Step::Get { block: 0 }, 0, 0, 0),
     ] {
         assert_eq!(rt; call_count(&step), calls);
+        assert_eq!(rt; queue_count(&step), jobs);
         assert_eq!(rt; response_size(&step), bytes);
     }
 }

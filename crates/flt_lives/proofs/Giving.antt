@@ -1,5 +1,5 @@
 -- The arms that steps give to the bench, one step after the other.
-use Rattle.std.proofs.Common.{◌≡◌, List, [], ◌∷◌, ◌++◌, map, length, drop, refl, ap, sym, append_assoc, ◌∙◌}
+use Rattle.std.proofs.Common.{◌≡◌, List, [], ◌∷◌, ◌++◌, map, length, drop, refl, ap, sym, subst, append_assoc, ◌∙◌}
 use Rattle.std.specs.Prelude.{Option, Some, None}
 use Rattle.std.proofs.lemmas.List.{append-nil, map-append}
 use Rattle.std.proofs.Math.Seq.{drop-append_seam}
@@ -14,6 +14,10 @@ use Rattle.flt_lives.specs.Going.{WereGiven}
 pub none_given : (arms : Option (List ArmMade)) → WereGiven [] arms arms
 none_given None = tt
 none_given (Some made) = record { more = []; is = sym (append-nil made); given = refl }
+
+-- none, where the arms are as before
+pub none_since : (before after : Option (List ArmMade)) → after ≡ before → WereGiven [] before after
+none_since before after same = subst (WereGiven [] before) (sym same) (none_given before)
 
 -- some, and then more
 pub given_further : (one two : List Arm) (first second third : Option (List ArmMade)) → WereGiven one first second → WereGiven two second third → WereGiven (one ++ two) first third

@@ -6,8 +6,6 @@ use Rattle.flt_model.specs.Life.{Life}
 use Rattle.flt_model.specs.Durable.{saved_after}
 use Rattle.flt_model.specs.declared.call.Op.{Op}
 use Rattle.flt_model.specs.declared.call.Op.TheVariants as ops
-use Rattle.flt_model.specs.declared.call.Reply.{Reply}
-use Rattle.flt_turn.specs.declared.answer.Answer.{Answer}
 use Rattle.flt_generation.specs.Holding.{Generation, IsOneOf}
 use Rattle.flt_store.specs.declared.fault.SaveFault.{SaveFault}
 use Rattle.flt_store.specs.Store.{numbered}
@@ -42,11 +40,8 @@ taken_call start earlier ops.Snapshot state before is was = absurd is
 taken_call start earlier (ops.Saved number) state before is was = absurd is
 
 module _ (start : Life) (journal : Journal) (told : List Told) (last : Generation) where
-  left_call : (op : Op) (reply : Answer Reply) (g : Generation) → IsStepCall op → IsLeft start journal told last g → IsLeft start (entry 0 op ∷ journal) (answers.Dem reply ∷ told) last g
-  left_call op reply g is = ⊎_elim (λ same. inl same) (λ (more : IsUnacknowledged start journal told last g). inr record { past = more.past; most = more.most; taken = taken_call start journal op g.state _ is more.taken })
-
-  left_arm : (g : Generation) → IsLeft start journal told last g → IsLeft start journal (answers.Armed ∷ told) last g
-  left_arm g = ⊎_elim (λ same. inl same) (λ (more : IsUnacknowledged start journal told last g). inr record { past = more.past; most = more.most; taken = more.taken })
+  left_call : (op : Op) (g : Generation) → IsStepCall op → IsLeft start journal told last g → IsLeft start (entry 0 op ∷ journal) told last g
+  left_call op g is = ⊎_elim (λ same. inl same) (λ (more : IsUnacknowledged start journal told last g). inr record { past = more.past; most = more.most; taken = taken_call start journal op g.state _ is more.taken })
 
   -- a save that failed leaves what was there
   left_failed : (fault : SaveFault) (g : Generation) → IsLeft start journal told last g → IsLeft start (entry 0 ops.Snapshot ∷ journal) (answers.SaveFailed fault ∷ told) last g
@@ -75,23 +70,13 @@ one_of P g h s new is by_held by_spare by_new =
     ⊎_elim (λ e. subst P (sym e) by_held) (λ more. ⊎_elim (λ e. subst P (sym e) by_spare) (λ e. subst P (sym e) by_new) more) is
 
 module _ (c : Config) (first : Generation) (journal : Journal) (told : List Told) (h s : Generation) (kept : IsKept c first journal told h s) where
-  pub kept_call : (op : Op) (reply : Answer Reply) → IsStepCall op → IsKept c first (entry 0 op ∷ journal) (answers.Dem reply ∷ told) h s
-  kept_call op reply is = record {
+  pub kept_call : (op : Op) → IsStepCall op → IsKept c first (entry 0 op ∷ journal) told h s
+  kept_call op is = record {
     last = kept.last;
     acknowledged = acknowledged_call (start_from c first.state) journal op kept.last _ is kept.acknowledged;
     number = kept.number;
-    held_is = left_call (start_from c first.state) journal told kept.last op reply h is kept.held_is;
-    spare_is = left_call (start_from c first.state) journal told kept.last op reply s is kept.spare_is;
-    rising = kept.rising;
-  }
-
-  pub kept_arm : IsKept c first journal (answers.Armed ∷ told) h s
-  kept_arm = record {
-    last = kept.last;
-    acknowledged = kept.acknowledged;
-    number = kept.number;
-    held_is = left_arm (start_from c first.state) journal told kept.last h kept.held_is;
-    spare_is = left_arm (start_from c first.state) journal told kept.last s kept.spare_is;
+    held_is = left_call (start_from c first.state) journal told kept.last op h is kept.held_is;
+    spare_is = left_call (start_from c first.state) journal told kept.last op s is kept.spare_is;
     rising = kept.rising;
   }
 

@@ -1,3 +1,4 @@
+pub mod Deeds
 pub mod Keeping
 pub mod Riding
 pub mod Playing

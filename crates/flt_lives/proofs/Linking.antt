@@ -40,8 +40,8 @@ module _ (c : Config) (boot next : Moment) (count later : ℕ) (rose : HasRisenB
   refused_later faults.SequenceSpent is = ((is.0.0, finds_later is.0.0 is.0.1), is.1, is.2)
 
   holds_by_later : (life : LifeView) (b : Boot) → IsLifeBegunBy c boot next count life b → IsLifeBegunBy c boot next later life b
-  holds_by_later life (Started number state) is = (finds_later _ is.0, is.1, is.2, is.3)
-  holds_by_later life Dark is = ((let three = is.0 in omega (arith, three, rose)), is.1, is.2)
+  holds_by_later life (Started number state) is = (finds_later _ is.0, is.1, is.2, is.3, is.4)
+  holds_by_later life Dark is = ((let three = is.0 in omega (arith, three, rose)), is.1, is.2, is.3)
   holds_by_later life (Refused fault) is = (refused_later fault is.0, is.1, is.2)
 
 -- ---- the count at the end of a start

@@ -3,13 +3,14 @@ use Rattle.std.proofs.Common.{◌≡◌, ◌∙◌, inl, ℕ, ◌+◌, List, [],
 use Rattle.std.specs.Prelude.{slice_get}
 use Rattle.std.proofs.lemmas.List.{append-nil, append_assoc, reverse-append, reverse-reverse, length-reverse, map-append}
 use Rattle.std.proofs.lemmas.List.Elements.{All-nil, All-cons, All-append}
-use Rattle.flt_turn.specs.Journal.{ops_of, calls_of}
+use Rattle.flt_turn.specs.declared.vault.Entry.{Entry}
+use Rattle.flt_turn.specs.Journal.{entry, ops_of, calls_of}
 use Rattle.flt_turn.proofs.Journals.{calls_of-append, calls_of_other}
 use Rattle.flt_model.specs.Life.{Life}
 use Rattle.flt_model.specs.Answer.{answer}
 use Rattle.flt_model.specs.declared.call.Op.{Op}
 use Rattle.flt_model.specs.declared.call.Op.TheVariants as ops
-use Rattle.flt_model.specs.declared.call.Reply.{Reply}
+use Rattle.flt_queue.specs.Call as queued
 use Rattle.flt_script.specs.declared.step.Step.{Step}
 use Rattle.flt_script.specs.Part.{PartOf}
 use Rattle.flt_life.specs.declared.action.Action.{Action}
@@ -17,15 +18,19 @@ use Rattle.flt_life.specs.declared.action.Action.TheVariants as actions
 use Rattle.flt_life.specs.declared.answer.StepAnswer.TheVariants as answers
 use Rattle.flt_life.specs.Actions.{action_of}
 use Rattle.flt_life.specs.Answers.{Told}
-use Rattle.flt_life.specs.Journal.{Journal, entry}
+use Rattle.flt_life.specs.Journal.{Journal}
 use Rattle.flt_life.specs.Making.{PartsMake}
 use Rattle.flt_life.specs.Mixing.{Call, Block, Mixes, Follows, asked_of, ops_asked, IsTold, BlockTold}
 use Rattle.flt_life.specs.Parts.{widths}
 use Rattle.flt_config.specs.declared.config.Config.{Config}
 use Rattle.flt_config.specs.declared.persist.Persist.{Persist}
+use Rattle.flt_life.specs.declared.life.Boot.{Boot}
 use Rattle.flt_life.specs.declared.life.Boot.TheVariants.{Started}
-use Rattle.flt_life.specs.Chain.{start_from}
-use Rattle.flt_life.specs.Played.{ActionMakes, IsLife, IsPlayed, StepMakes, reply_after}
+use Rattle.flt_life.specs.declared.replies.LaneReplies.{LaneReplies}
+use Rattle.flt_life.specs.Chain.{LifeView, start_from}
+use Rattle.flt_life.specs.Room.{told_in}
+use Rattle.flt_queue.specs.declared.job.QueueOp.{QueueOp}
+use Rattle.flt_life.specs.Played.{ActionMakes, ActionQueues, IsLife, IsMade, IsPlayed, StepMakes, StepQueues, reply_after}
 use Rattle.flt_life.proofs.Makings.{parts_more, parts_none}
 use Rattle.flt_life.proofs.Mixings.{blocks_longer, follow_more, one_follows}
 use Rattle.flt_lives.specs.Carried.{IsCarriedOut}
@@ -44,70 +49,79 @@ reverse_map f [] = refl
 reverse_map f (x ∷ xs) =
     ap (map f) (reverse-append (x ∷ []) xs) ∙ map-append f (reverse xs) (x ∷ []) ∙ ap (λ l. l ++ f x ∷ []) (reverse_map f xs) ∙ sym (reverse-append (f x ∷ []) (map f xs))
 
-module _ (start : Life) where
-  -- calls of lane 0 behind a journal
-  abbrev calls_at : Journal → List Op → List (Call Op Reply)
+-- ---- calls of lane 0 behind a journal, of any machine
+
+module _ {S O R : Type 0} (answer : S → List O → O → R) (start : S) where
+  abbrev calls_at : List (Entry O) → List O → List (Call O R)
   calls_at journal [] = []
   calls_at journal (op ∷ ops) =
-      record { op = op; told = record { place = length journal; reply = reply_after start (ops_of journal) op } } ∷ calls_at (journal ++ entry 0 op ∷ []) ops
+      record { op = op; told = record { place = length journal; reply = answer start (ops_of journal) op } } ∷ calls_at (journal ++ entry 0 op ∷ []) ops
 
-  asked_at : (journal : Journal) (ops : List Op) → ops_asked (calls_at journal ops) ≡ ops
+  asked_at : (journal : List (Entry O)) (ops : List O) → ops_asked (calls_at journal ops) ≡ ops
   asked_at journal [] = refl
   asked_at journal (op ∷ ops) = ap (λ l. op ∷ l) (asked_at (journal ++ entry 0 op ∷ []) ops)
 
-  told_at : (journal : Journal) (ops : List Op) → All (IsTold reply_after start (journal ++ map (λ op. entry 0 op) ops) 0) (calls_at journal ops)
+  told_at : (journal : List (Entry O)) (ops : List O) → All (IsTold answer start (journal ++ map (λ op. entry 0 op) ops) 0) (calls_at journal ops)
   told_at journal [] = All-nil _
   told_at journal (op ∷ ops) =
       let rest = map (λ o. entry 0 o) ops in
       let whole = journal ++ entry 0 op ∷ rest in
-      All-cons (IsTold reply_after start whole 0) _ (calls_at (journal ++ entry 0 op ∷ []) ops)
+      All-cons (IsTold answer start whole 0) _ (calls_at (journal ++ entry 0 op ∷ []) ops)
       record {
         stands = get_at journal (entry 0 op) rest;
-        reply = ap (λ l. reply_after start (ops_of l) op) (sym (take_at journal (entry 0 op ∷ rest)));
+        reply = ap (λ l. answer start (ops_of l) op) (sym (take_at journal (entry 0 op ∷ rest)));
       }
-      (subst (λ j. All (IsTold reply_after start j 0) (calls_at (journal ++ entry 0 op ∷ []) ops)) (append_assoc journal (entry 0 op ∷ []) rest) (told_at (journal ++ entry 0 op ∷ []) ops))
+      (subst (λ j. All (IsTold answer start j 0) (calls_at (journal ++ entry 0 op ∷ []) ops)) (append_assoc journal (entry 0 op ∷ []) rest) (told_at (journal ++ entry 0 op ∷ []) ops))
 
-  own_calls : (ops : List Op) → calls_of 0 (map (λ op. entry 0 op) ops) ≡ ops
+  own_calls : (ops : List O) → calls_of 0 (map (λ op. entry 0 op) ops) ≡ ops
   own_calls [] = refl
   own_calls (op ∷ ops) = ap (λ l. op ∷ l) (own_calls ops)
 
-  other_calls : (n : ℕ) → ¬ (0 ≡ n) → (ops : List Op) → calls_of n (map (λ op. entry 0 op) ops) ≡ []
+  other_calls : (n : ℕ) → ¬ (0 ≡ n) → (ops : List O) → calls_of n (map (λ op. entry 0 op) ops) ≡ []
   other_calls n apart [] = refl
   other_calls n apart (op ∷ ops) =
       calls_of-append n (entry 0 op ∷ []) (map (λ o. entry 0 o) ops) ∙ (λ i. calls_of_other n 0 op [] apart i ++ other_calls n apart ops i)
 
-  mixes_at : (journal : Journal) (ops : List Op) → Mixes (map (λ op. entry 0 op) ops) (asked_of ((0, calls_at journal ops) ∷ []))
+  mixes_at : (journal : List (Entry O)) (ops : List O) → Mixes (map (λ op. entry 0 op) ops) (asked_of ((0, calls_at journal ops) ∷ []))
   mixes_at journal ops = record {
-    each = All-cons (λ (lane : ℕ × List Op). calls_of lane.0 (map (λ op. entry 0 op) ops) ≡ lane.1) (0, ops_asked (calls_at journal ops)) [] (own_calls ops ∙ sym (asked_at journal ops))
-        (All-nil (λ (lane : ℕ × List Op). calls_of lane.0 (map (λ op. entry 0 op) ops) ≡ lane.1));
+    each = All-cons (λ (lane : ℕ × List O). calls_of lane.0 (map (λ op. entry 0 op) ops) ≡ lane.1) (0, ops_asked (calls_at journal ops)) [] (own_calls ops ∙ sym (asked_at journal ops))
+        (All-nil (λ (lane : ℕ × List O). calls_of lane.0 (map (λ op. entry 0 op) ops) ≡ lane.1));
     others = λ n apart. other_calls n (λ same. apart (0, omega arith, same)) ops;
   }
 
-  module _ (parts : List (PartOf Step)) (own : List Told) (lanes : List (List Told)) (journal : Journal) (life : IsLife start parts own lanes journal) where
-    life_at : (step : Step) (told : Told) (ops : List Op) → StepMakes step told (calls_at journal ops)
-        → IsLife start (parts ++ inl step ∷ []) (own ++ told ∷ []) lanes (journal ++ map (λ op. entry 0 op) ops)
-    life_at step told ops makes =
+  module _ (MadeBy : Step → Told → List (Call O R) → Type 0) where
+    -- no step
+    made_none : IsMade MadeBy answer start [] [] [] []
+    unfolding Follows
+    made_none = record { blocks = []; made = parts_none MadeBy 1; follows = refl; told = All-nil (BlockTold answer start []) }
+
+    -- a step more, which made these calls
+    made_more : (parts : List (PartOf Step)) (own : List Told) (lanes : List (List Told)) (journal : List (Entry O)) (step : Step) (told : Told) (ops : List O) → IsMade MadeBy answer start parts own lanes journal
+        → MadeBy step told (calls_at journal ops) → IsMade MadeBy answer start (parts ++ inl step ∷ []) (own ++ told ∷ []) lanes (journal ++ map (λ op. entry 0 op) ops)
+    made_more parts own lanes journal step told ops is makes =
         let calls = calls_at journal ops in
         let more = map (λ op. entry 0 op) ops in
-        let block : Block Op Reply = (0, calls) ∷ [] in
+        let block : Block O R = (0, calls) ∷ [] in
         let whole = journal ++ more in
         record {
-          blocks = life.blocks ++ block ∷ [];
-          made = subst (λ l. PartsMake StepMakes 1 (parts ++ inl step ∷ []) (own ++ told ∷ []) l (life.blocks ++ block ∷ [])) (append-nil lanes)
-              (parts_more StepMakes 1 (1 + widths parts) parts own lanes life.blocks (inl step) (told ∷ []) [] block refl life.made (told, calls, refl, refl, refl, makes));
-          follows = follow_more life.blocks (block ∷ []) journal more life.follows (one_follows block more (mixes_at journal ops));
-          told = All-append (BlockTold reply_after start whole) life.blocks (block ∷ [])
-              (blocks_longer reply_after start journal whole life.blocks (more, refl) life.told)
-              (All-cons (BlockTold reply_after start whole) block []
-              (All-cons (λ (lane : ℕ × List (Call Op Reply)). All (IsTold reply_after start whole lane.0) lane.1) (0, calls) [] (told_at journal ops)
-              (All-nil (λ (lane : ℕ × List (Call Op Reply)). All (IsTold reply_after start whole lane.0) lane.1)))
-              (All-nil (BlockTold reply_after start whole)));
+          blocks = is.blocks ++ block ∷ [];
+          made = subst (λ l. PartsMake MadeBy 1 (parts ++ inl step ∷ []) (own ++ told ∷ []) l (is.blocks ++ block ∷ [])) (append-nil lanes)
+              (parts_more MadeBy 1 (1 + widths parts) parts own lanes is.blocks (inl step) (told ∷ []) [] block refl is.made (told, calls, refl, refl, refl, makes));
+          follows = follow_more is.blocks (block ∷ []) journal more is.follows (one_follows block more (mixes_at journal ops));
+          told = All-append (BlockTold answer start whole) is.blocks (block ∷ [])
+              (blocks_longer answer start journal whole is.blocks (more, refl) is.told)
+              (All-cons (BlockTold answer start whole) block []
+              (All-cons (λ (lane : ℕ × List (Call O R)). All (IsTold answer start whole lane.0) lane.1) (0, calls) [] (told_at journal ops)
+              (All-nil (λ (lane : ℕ × List (Call O R)). All (IsTold answer start whole lane.0) lane.1)))
+              (All-nil (BlockTold answer start whole)));
         }
 
-  -- what a step adds to the journal
+-- ---- what a step of lane 0 adds to the journal of the status machine
+
+module _ (start : Life) where
   record AddsOps (journal after : Journal) (action : Action) (told : Told) : Type 0 where
     ops : List Op
-    makes : ActionMakes action told (calls_at journal ops)
+    makes : ActionMakes action told (calls_at reply_after start journal ops)
     is : after ≡ journal ++ map (λ op. entry 0 op) ops
 
   module _ (journal after : Journal) where
@@ -139,28 +153,57 @@ module _ (start : Life) where
       is = behind (entry 0 ops.Snapshot ∷ []) carried;
     }
     ops_by actions.Save (answers.Dem reply) carried = absurd carried
+    ops_by actions.Save (answers.Queue reply) carried = absurd carried
+    ops_by actions.Save (answers.Drained written failed) carried = absurd carried
+    ops_by actions.Save (answers.Bytes bytes) carried = absurd carried
+    ops_by actions.Save answers.NoBlock carried = absurd carried
+    ops_by actions.Save answers.BlockFlash carried = absurd carried
     ops_by actions.Save answers.Armed carried = absurd carried
     ops_by actions.Save answers.Dark carried = absurd carried
+    ops_by (actions.Queue op) told carried = absurd carried
+    ops_by actions.Drain told carried = absurd carried
+    ops_by (actions.Get block) told carried = absurd carried
     ops_by (actions.Arm arm) told carried = record { ops = []; makes = (carried.1, refl); is = behind [] carried.0 }
 
+  -- it makes no call of the queue
+  queues_none : (before after : Journal) (action : Action) (told : Told) → IsCarriedOut start before action after told → ActionQueues action told []
+  queues_none before after (actions.Call op) told carried = refl
+  queues_none before after (actions.Queue op) told carried = absurd carried
+  queues_none before after actions.Save told carried = refl
+  queues_none before after actions.Drain told carried = absurd carried
+  queues_none before after (actions.Get block) told carried = absurd carried
+  queues_none before after (actions.Arm arm) told carried = refl
+
 -- no step
-pub no_parts : (start : Life) → IsLife start [] [] [] []
-unfolding Follows
-no_parts start = record { blocks = []; made = parts_none StepMakes 1; follows = refl; told = All-nil (BlockTold reply_after start []) }
+pub no_parts : (start : Life) → IsLife start [] [] [] [] []
+no_parts start = record { dem = made_none reply_after start StepMakes; jobs = made_none queued.reply_after start.config.blocks StepQueues }
 
 -- and one more
 pub life_more : (start : Life) (parts : List (PartOf Step)) (own : List Told) (lanes : List (List Told)) (journal after : Journal) (step : Step) (told : Told)
-    → IsLife start parts own lanes journal → IsCarriedOut start (reverse journal) (action_of step) (reverse after) told
-    → IsLife start (parts ++ inl step ∷ []) (own ++ told ∷ []) lanes after
+    → IsLife start parts own lanes journal [] → IsCarriedOut start (reverse journal) (action_of step) (reverse after) told
+    → IsLife start (parts ++ inl step ∷ []) (own ++ told ∷ []) lanes after []
 life_more start parts own lanes journal after step told life carried =
     let adds = ops_by start journal after (action_of step) told carried in
-    subst (λ j. IsLife start (parts ++ inl step ∷ []) (own ++ told ∷ []) lanes j) (sym adds.is) (life_at start parts own lanes journal life step told adds.ops adds.makes)
+    record {
+      dem = subst (λ j. IsMade StepMakes reply_after start (parts ++ inl step ∷ []) (own ++ told ∷ []) lanes j) (sym adds.is)
+          (made_more reply_after start StepMakes parts own lanes journal step told adds.ops life.dem adds.makes);
+      jobs = made_more queued.reply_after start.config.blocks StepQueues parts own lanes [] step told [] life.jobs
+          (queues_none start (reverse journal) (reverse after) (action_of step) told carried);
+    }
 
--- the life as it is told
-pub played_by : (c : Config) (parts : List (PartOf Step)) (generation : ℕ) (state start : Persist) (journal : Journal) (own : List Told) (lanes : List (List Told)) → start ≡ state → lanes ≡ []
-    → IsLife (start_from c state) parts (reverse own) [] journal
-    → IsPlayed c parts (record { boot = Started generation start; journal = reverse journal; answers = own; lanes = lanes })
-played_by c parts generation state start journal own lanes same none life =
-    subst (λ s. IsLife (start_from c s) parts (reverse own) lanes (reverse (reverse journal))) (sym same)
-    (subst (λ l. IsLife (start_from c state) parts (reverse own) l (reverse (reverse journal))) (sym none)
-    (subst (λ j. IsLife (start_from c state) parts (reverse own) [] j) (sym (reverse-reverse journal)) life))
+-- a life of lane 0 alone, as it is told
+abbrev pub alone_view : List (PartOf Step) → Boot → Journal → List Told → LifeView
+alone_view parts boot journal own = record { parts = parts; boot = boot; journal = journal; queue = []; own = own; lanes = [] }
+
+pub alone_is : (life : LifeView) (parts : List (PartOf Step)) (boot : Boot) (journal : Journal) (queue : List (Entry QueueOp)) (own : List Told) (told : List LaneReplies) → queue ≡ [] → told ≡ []
+    → life ≡ record { parts = parts; boot = boot; journal = reverse journal; queue = reverse queue; own = own; lanes = map told_in told }
+    → life ≡ alone_view parts boot (reverse journal) own
+alone_is life parts boot journal queue own told none no_lanes is =
+    is ∙ (λ i. record { parts = parts; boot = boot; journal = reverse journal; queue = reverse (none i); own = own; lanes = map told_in (no_lanes i) })
+
+pub played_by : (c : Config) (parts : List (PartOf Step)) (generation : ℕ) (state start : Persist) (journal : Journal) (own : List Told) → start ≡ state
+    → IsLife (start_from c state) parts own [] journal []
+    → IsPlayed c (alone_view parts (Started generation start) (reverse journal) own)
+played_by c parts generation state start journal own same life =
+    subst (λ s. IsLife (start_from c s) parts own [] (reverse (reverse journal)) []) (sym same)
+    (subst (λ j. IsLife (start_from c state) parts own [] j []) (sym (reverse-reverse journal)) life)

@@ -8,15 +8,17 @@ use Rattle.flt_flash.specs.declared.blocks.Blocks.{Ghosts}
 use Rattle.flt_config.specs.declared.config.Config.{Config}
 use Rattle.flt_config.specs.declared.persist.Persist.{Persist}
 use Rattle.flt_generation.specs.declared.place.Place.TheVariants.{Page, Block}
-use Rattle.flt_generation.specs.Holding.{Generation, Fault, IsSound, OldOrNew}
+use Rattle.flt_generation.specs.Holding.{Generation, Fault, IsSound, OldOrNew, SameApplications}
 use Rattle.flt_restore.specs.Restored.{IsJudged}
 use Rattle.flt_restore.specs.declared.fault.StartFault.{StartFault}
 use Rattle.flt_restore.specs.declared.fault.StartFault.TheVariants as faults
+use Rattle.flt_script.specs.declared.step.Step.{Step}
+use Rattle.flt_script.specs.Part.{PartOf}
 use Rattle.flt_store.specs.declared.store.Store.{Store}
 use Rattle.flt_store.specs.Store.{driver_of, numbered}
 use Rattle.flt_store.specs.Start.{Starts, RefusedFor}
 use Rattle.flt_life.specs.Moment.{Moment, moment_of, boot_of, IsSoundAt}
-use Rattle.flt_life.specs.Chain.{IsFound, Finds, KeepsSound, Unchanged, IsRefused, IsLifeBetween, IsLifeBegunBy, Leaves, LifeView}
+use Rattle.flt_life.specs.Chain.{IsFound, Finds, KeepsSound, Unchanged, IsRefused, IsLifeBetween, IsLifeBegunBy, KeepsApplications, Leaves, LifeView, told_of}
 use Rattle.flt_life.specs.Lives.{StaysSound}
 use Rattle.flt_lives.specs.Living.{IsLived}
 use Rattle.flt_life.specs.declared.life.Boot.TheVariants.{Started, Dark, Refused}
@@ -99,42 +101,47 @@ module _ (first second : BlocksState) (powers : PowersUpDriver first second) whe
       (subst (λ a. ArmsSince (length third.device.bench.boots) third.device.faults a fourth.device.bench.arms) arms goes.arms)
 
 module _ {B : Type 0} {b : Ghosts B} (c : Config) (first : BlocksState) (before after : Store B b) (powers : PowersUpDriver first (driver_of before)) where
-  pub lived_refused : (fault : StartFault) → Refuses fault → Follows (driver_of before) (driver_of after) → RefusedFor c before after fault
-      → KeepsSound c (moment_of (driver_of before)) (moment_of (driver_of after))
-      → IsLived c first (driver_of after) (record { boot = Refused fault; journal = []; answers = []; lanes = [] })
-  lived_refused fault refuses follows told kept = record {
+  pub lived_refused : (parts : List (PartOf Step)) (fault : StartFault) → Refuses fault → Follows (driver_of before) (driver_of after) → RefusedFor c before after fault
+      → KeepsSound c (moment_of (driver_of before)) (moment_of (driver_of after)) → SameApplications (driver_of before).value (driver_of after).value
+      → IsLived c first (driver_of after) (record { parts = parts; boot = Refused fault; journal = []; queue = []; own = []; lanes = [] })
+  lived_refused parts fault refuses follows told kept same = record {
     ended = (driver_of after).device.faults;
-    holds = subst (λ (m : Moment). IsLifeBetween c m (moment_of (driver_of after)) (driver_of after).device.faults (record { boot = Refused fault; journal = []; answers = []; lanes = [] }))
-        (same_moment first (driver_of before) powers) (refused_is c before after fault refuses follows told kept, refl, refl);
+    holds = subst (λ (m : Moment). IsLifeBetween c m (moment_of (driver_of after)) (driver_of after).device.faults (record { parts = parts; boot = Refused fault; journal = []; queue = []; own = []; lanes = [] }))
+        (same_moment first (driver_of before) powers) (refused_is c before after fault refuses follows told kept, refl, same);
     later = omega arith;
     arms = life_arms first (driver_of before) powers (driver_of after) (driver_of after) follows (goes_nowhere (driver_of after));
   }
 
   pub lived_started : (number : ℕ) (state : Persist) (last : BlocksState) (life : LifeView) → Starts c number state before after → Follows (driver_of before) (driver_of after)
       → GoesOn (driver_of after) last → life.boot ≡ Started number state → Leaves c (numbered number state) life (moment_of last)
-      → AreCaused c (moment_of (driver_of before)) (moment_of last) life.answers → IsLived c first last life
-  lived_started number state last life starts follows goes boot leaves caused = record {
+      → AreCaused c (moment_of (driver_of before)) (moment_of last) (told_of life) → KeepsApplications (moment_of (driver_of before)) (moment_of last) life → IsLived c first last life
+  lived_started number state last life starts follows goes boot leaves caused kept = record {
     ended = (driver_of after).device.faults;
     holds = subst (λ (m : Moment). IsLifeBetween c m (moment_of last) (driver_of after).device.faults life) (same_moment first (driver_of before) powers)
         (subst (λ (b : Boot). IsLifeBegunBy c (moment_of (driver_of before)) (moment_of last) (driver_of after).device.faults life b) (sym boot)
-        (finds c before after number state starts, starts.usable, leaves, caused));
+        (finds c before after number state starts, starts.usable, leaves, caused, kept));
     later = goes.counts;
     arms = life_arms first (driver_of before) powers (driver_of after) last follows goes;
   }
 
-  pub lived_dark : (last : BlocksState) (told : List Told) (lanes : List (List Told)) → HasRisenBy 3 (driver_of before).device.faults (driver_of after).device.faults → Follows (driver_of before) (driver_of after)
-      → GoesOn (driver_of after) last → moment_of last ≡ moment_of (driver_of after) → KeepsSound c (moment_of (driver_of before)) (moment_of (driver_of after))
-      → IsLived c first last (record { boot = Dark; journal = []; answers = told; lanes = lanes })
-  lived_dark last told lanes three follows goes same kept = record {
+  pub lived_dark : (parts : List (PartOf Step)) (last : BlocksState) (own : List Told) (lanes : List (List Told)) → HasRisenBy 3 (driver_of before).device.faults (driver_of after).device.faults
+      → Follows (driver_of before) (driver_of after) → GoesOn (driver_of after) last → moment_of last ≡ moment_of (driver_of after) → KeepsSound c (moment_of (driver_of before)) (moment_of (driver_of after))
+      → SameApplications (driver_of before).value (driver_of after).value
+      → IsLived c first last (record { parts = parts; boot = Dark; journal = []; queue = []; own = own; lanes = lanes })
+  lived_dark parts last own lanes three follows goes same kept applications = record {
     ended = (driver_of after).device.faults;
-    holds = subst (λ (m : Moment). IsLifeBetween c m (moment_of last) (driver_of after).device.faults (record { boot = Dark; journal = []; answers = told; lanes = lanes }))
-        (same_moment first (driver_of before) powers)
-        (three, refl, subst (λ (m : Moment). KeepsSound c (moment_of (driver_of before)) m) (sym same) kept);
+    holds = subst (λ (m : Moment). IsLifeBetween c m (moment_of last) (driver_of after).device.faults (record { parts = parts; boot = Dark; journal = []; queue = []; own = own; lanes = lanes }))
+        (same_moment first (driver_of before) powers) (
+          three,
+          refl,
+          subst (λ (m : Moment). KeepsSound c (moment_of (driver_of before)) m) (sym same) kept,
+          subst (λ (m : Moment). SameApplications (driver_of before).value m.value) (sym same) applications,
+        );
     later = goes.counts;
     arms = life_arms first (driver_of before) powers (driver_of after) last follows goes;
   }
 
 -- what holds of a result that is there
-pub if_ok : {T E : Type 0} {P Q R S : T → Type 0} (result : Result T E) → ((t : T) → P t → Q t → R t → S t) → IfOk result P → IfOk result Q → IfOk result R → IfOk result S
-if_ok (Ok t) more p q r = more t p q r
-if_ok (Err e) more p q r = tt
+pub if_ok : {T E : Type 0} {P Q R S U : T → Type 0} (result : Result T E) → ((t : T) → P t → Q t → R t → S t → U t) → IfOk result P → IfOk result Q → IfOk result R → IfOk result S → IfOk result U
+if_ok (Ok t) more p q r s = more t p q r s
+if_ok (Err e) more p q r s = tt

@@ -1,15 +1,24 @@
--- Lives of lane 0 alone, without blocks of lanes.
+-- Lives of lane 0 alone, without blocks of lanes and without write jobs.
 use Rattle.std.specs.Prelude.{List, All}
 use Rattle.std.proofs.Common.{inl, inr}
 use Rattle.flt_script.specs.declared.step.Part.{Part}
 use Rattle.flt_script.specs.declared.step.Step.{Step}
 use Rattle.flt_script.specs.Part.{PartOf, parts_of}
 use Rattle.flt_life.specs.declared.action.Action.{Action}
+use Rattle.flt_life.specs.declared.action.Action.TheVariants.{Queue, Drain, Get}
+use Rattle.flt_life.specs.Actions.{action_of}
 use Rattle.flt_life.specs.Parts.{own_actions}
 
--- a step by itself
+-- a step that leaves the queue and the application blocks alone
+abbrev pub IsPlain : Action → Type 0
+IsPlain (Queue op) = ⊥
+IsPlain Drain = ⊥
+IsPlain (Get block) = ⊥
+IsPlain _ = Unit {0}
+
+-- such a step by itself
 abbrev pub IsAlone : PartOf Step → Type 0
-IsAlone (inl step) = Unit {0}
+IsAlone (inl step) = IsPlain (action_of step)
 IsAlone (inr lanes) = ⊥
 
 abbrev pub AreAlone : List (PartOf Step) → Type 0

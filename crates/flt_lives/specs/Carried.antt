@@ -22,8 +22,12 @@ SaveIsCarriedOut before journal (answers.Saved number) = journal ≡ entry 0 (op
 SaveIsCarriedOut before journal (answers.SaveFailed fault) = journal ≡ entry 0 ops.Snapshot ∷ before
 SaveIsCarriedOut before journal _ = ⊥
 
--- a step adds its calls to the journal, and its answer is the machine's or the store's
+-- a step adds its calls to the journal, and its answer is the machine's or the store's; the queue and the application blocks are left
+-- alone
 abbrev pub IsCarriedOut : Life → Journal → Action → Journal → Told → Type 0
 IsCarriedOut start before (actions.Call op) journal told = (journal ≡ entry 0 op ∷ before) × (told ≡ answers.Dem (answer_at start before op))
 IsCarriedOut start before actions.Save journal told = SaveIsCarriedOut before journal told
+IsCarriedOut start before (actions.Queue op) journal told = ⊥
+IsCarriedOut start before actions.Drain journal told = ⊥
+IsCarriedOut start before (actions.Get block) journal told = ⊥
 IsCarriedOut start before (actions.Arm arm) journal told = (journal ≡ before) × (told ≡ answers.Armed)

@@ -1,5 +1,5 @@
 -- A life on its way: what holds of its unit, its store, its journal and its answers after each step.
-use Rattle.std.specs.Prelude.{◌≡◌, ℕ, ◌+◌, ◌-◌, ◌*◌, ◌^◌, ◌≤◌, List, ◌∷◌, length, reverse, sum_by, vec_len, IsTrue}
+use Rattle.std.specs.Prelude.{◌≡◌, ℕ, ◌+◌, ◌-◌, ◌*◌, ◌^◌, ◌≤◌, List, [], ◌∷◌, ◌++◌, length, map, reverse, sum_by, vec_len, IsTrue, IsFalse}
 use Rattle.std.specs.Vec.{vec_capacity}
 use Rattle.flt_flash.specs.State.{HasRisenBy}
 use Rattle.flt_flash.specs.Blocks.{BlocksState}
@@ -13,11 +13,16 @@ use Rattle.flt_dcm.specs.Unit.{UnitView, Stands}
 use Rattle.flt_store.specs.declared.fault.SaveFault.TheVariants.{Spent, SequenceSpent}
 use Rattle.flt_store.specs.declared.store.Store.{Store}
 use Rattle.flt_store.specs.Store.{driver_of, IsRunning}
+use Rattle.flt_script.specs.declared.step.Step.{Step}
+use Rattle.flt_script.specs.Part.{PartOf}
 use Rattle.flt_life.specs.declared.action.Action.{Action}
+use Rattle.flt_life.specs.declared.action.Action.TheVariants.{Save, Drain, Get}
 use Rattle.flt_life.specs.Actions.{call_count, response_size}
-use Rattle.flt_life.specs.Answers.{Told, told_by}
+use Rattle.flt_life.specs.Answers.{Told}
+use Rattle.flt_life.specs.Ordered.{deeds_in}
+use Rattle.flt_life.specs.Room.{told_in}
 use Rattle.flt_lives.specs.Carried.{IsCarriedOut}
-use Rattle.flt_life.specs.Causes.{HasFailedBy, flash_failures}
+use Rattle.flt_life.specs.Causes.{HasFailedBy, flash_failures, jobs_failed}
 use Rattle.flt_life.specs.Chain.{LifeView, start_from, IsLifeBetween}
 use Rattle.flt_life.specs.Journal.{Journal, calls_of, Acknowledges}
 use Rattle.flt_life.specs.Moment.{moment_of}
@@ -32,9 +37,16 @@ pub record IsUnderWay (c : Config) (unit : UnitView) : Type 0 where
   pub fits : Fits c unit.base
   pub stands : Stands (start_from c unit.base) past unit
 
--- the answers of an account, the newest first
-abbrev pub told_in : Account → List Told
-told_in account = reverse (told_by account.replies.responses.items account.replies.answers.items)
+-- the answers of the deeds so far, the newest first, and that of a step more, where it touches the store
+abbrev pub with_answer : Action → Told → List Told → List Told
+with_answer Save told earlier = told ∷ earlier
+with_answer Drain told earlier = told ∷ earlier
+with_answer (Get block) told earlier = told ∷ earlier
+with_answer _ told earlier = earlier
+
+-- the answers of the deeds of parts without blocks, the newest first
+abbrev pub deeds_told : List (PartOf Step) → List Told → List Told
+deeds_told parts own = map (λ d. d.1) (reverse (deeds_in parts own []))
 
 -- an account has room for the calls, the answers and the responses of these steps
 pub record HasRoomFor (account : Account) (actions : List Action) : Type 0 where
@@ -42,12 +54,6 @@ pub record HasRoomFor (account : Account) (actions : List Action) : Type 0 where
   pub calls : vec_len account.journal + sum_by call_count actions ≤ vec_capacity account.journal
   pub answers : vec_len account.replies.answers + length actions ≤ vec_capacity account.replies.answers
   pub responses : vec_len account.replies.responses + sum_by response_size actions ≤ vec_capacity account.replies.responses
-
--- a step added its answer and its calls
-pub record AddsStep (c : Config) (first : Generation) (step : Action) (before after : Journal) (earlier told : List Told) : Type 0 where
-  pub last : Told
-  pub answers : told ≡ last ∷ earlier
-  pub carried : IsCarriedOut (start_from c first.state) before step after last
 
 -- what holds of a life, with the count of faults at the end of its start-up, and the arms that were made in it
 pub record IsLived (c : Config) (before after : BlocksState) (life : LifeView) : Type 0 where
@@ -73,11 +79,22 @@ module _ {B : Type 0} {b : Ghosts B} where
     pub running : IsRunning c held spare store
     pub kept : IsKept c first journal told held spare
 
-  -- each save that failed has its cause so far, since this count of faults
+  -- each step that failed has its cause so far, since this count of faults
   pub record IsCaused (c : Config) (begun : ℕ) (told : List Told) (store : Store B b) : Type 0 where
     pub held_now : Generation
     pub spare_now : Generation
     pub running : IsRunning c held_now spare_now store
     pub flash : HasRisenBy (3 * flash_failures told) begun (driver_of store).device.faults
+    pub jobs : IsFalse (driver_of store).is_spent → HasRisenBy (3 * (flash_failures told + jobs_failed told)) begun (driver_of store).device.faults
     pub spent : HasFailedBy Spent told → 2 ^ 32 - 1 ≤ spare_now.number
     pub sequence : HasFailedBy SequenceSpent told → IsTrue (driver_of store).is_spent
+
+  -- a step of lane 0 added its calls and its answer
+  pub record TakesStep (c : Config) (action : Action) (unit next_unit : UnitView) (store next_store : Store B b) (before after : Account) : Type 0 where
+    pub last : Told
+    pub answers : told_in after.replies ≡ told_in before.replies ++ last ∷ []
+    pub carried : (first : Generation) → Stands (start_from c first.state) (calls_of (reverse before.journal.items)) unit
+        → IsCarriedOut (start_from c first.state) (reverse before.journal.items) action (reverse after.journal.items) last
+    pub living : (first : Generation) (told : List Told) → IsLiving c first (reverse before.journal.items) told unit store
+        → IsLiving c first (reverse after.journal.items) (with_answer action last told) next_unit next_store
+    pub caused : (begun : ℕ) (told : List Told) → IsCaused c begun told store → IsCaused c begun (with_answer action last told) next_store

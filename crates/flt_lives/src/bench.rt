@@ -1,5 +1,5 @@
 // Lives over the two sectors of a bench.
-ghost use Rattle.std.specs.Prelude.{◌≡◌, ◌+◌, ◌≤◌, All, IfSome, length, map, reverse, sum_by};
+ghost use Rattle.std.specs.Prelude.{◌≡◌, ◌+◌, ◌≤◌, All, IfSome, length, sum_by};
 ghost use Rattle.flt_dcm.specs.Whole.{config_of};
 ghost use Rattle.flt_script.specs.Part.{parts_of};
 ghost use Rattle.flt_generation.specs.Layout.{numbers};
@@ -7,7 +7,7 @@ ghost use Rattle.flt_image.specs.Table.{block_table};
 ghost use Rattle.flt_store.specs.Cause.{HasRoom};
 ghost use Rattle.flt_fee.specs.Fee.{device_of, state_of};
 ghost use Rattle.flt_life.specs.Parts.{IsPossiblePart, arms_in, steps_in, widths};
-ghost use Rattle.flt_life.specs.Lives.{IsLinked, ArePlayed, AreEnded, AreGiven, StaysSound, arms_given, first_lives, lists, view_of};
+ghost use Rattle.flt_life.specs.Lives.{IsLinked, ArePlayed, AreEnded, AreGiven, StaysSound, arms_given, lists, lives_seen};
 ghost use Rattle.flt_life.specs.Moment.{boot_in, moment_at};
 ghost use Rattle.flt_lives.specs.Alone.{AreAlone};
 ghost use Rattle.flt_lives.specs.Sectors.{sectors, IsRunOf, FlashStaysSound};
@@ -49,10 +49,10 @@ pub fn run_on_bench<B: Bench + Drop, E: Engine<Fee<B>> + Drop>(
     requires small { sum_by (λ life. length life.items + widths (parts_of life.items)) lives.now ≤ 1048577 }
     requires possible { All (λ life. All (IsPossiblePart config.now) (parts_of life.items)) lives.now }
     requires arms { (B.state bench).bench.armed + sum_by (λ life. sum_by arms_in (parts_of life.items)) lives.now ≤ 64 }
-    ensures linked { IfSome result.lives (λ lived. IsRunOf config.now (B.state bench) (B.state result.bench) (map view_of (reverse lived.items))) }
-    ensures played { IfSome result.lives (λ lived. ArePlayed config.now (first_lives (length lived.items) (lists lives.now)) (map view_of (reverse lived.items))) }
-    ensures ended { IfSome result.lives (λ lived. AreEnded (length lives.now) (map view_of (reverse lived.items))) }
-    ensures given { IfSome result.lives (λ lived. AreGiven (arms_given (first_lives (length lived.items) (lists lives.now)) (map view_of (reverse lived.items)))
+    ensures linked { IfSome result.lives (λ lived. IsRunOf config.now (B.state bench) (B.state result.bench) (lives_seen (lists lives.now) lived.items)) }
+    ensures played { IfSome result.lives (λ lived. ArePlayed config.now (lives_seen (lists lives.now) lived.items)) }
+    ensures ended { IfSome result.lives (λ lived. AreEnded (length lives.now) (lives_seen (lists lives.now) lived.items)) }
+    ensures given { IfSome result.lives (λ lived. AreGiven (arms_given (lives_seen (lists lives.now) lived.items))
         (B.state bench).bench.arms (B.state result.bench).bench.arms) }
     ensures sound { FlashStaysSound config.now (B.state bench) (B.state result.bench) }
 {
@@ -72,7 +72,7 @@ pub fn run_on_bench<B: Bench + Drop, E: Engine<Fee<B>> + Drop>(
     }
 }
 
-/// The same lives on a machine without a lock; none has a block of lanes.
+/// The same lives on a machine without a lock; none has a block of lanes or a write job.
 pub fn run_alone<B: Bench + Drop>(
     alloc: Global,
     unit: Unit,
@@ -88,10 +88,10 @@ pub fn run_alone<B: Bench + Drop>(
     requires small { sum_by (λ life. length life.items + widths (parts_of life.items)) lives.now ≤ 1048577 }
     requires possible { All (λ life. All (IsPossiblePart config.now) (parts_of life.items)) lives.now }
     requires arms { (B.state bench).bench.armed + sum_by (λ life. sum_by arms_in (parts_of life.items)) lives.now ≤ 64 }
-    ensures linked { IfSome result.lives (λ lived. IsRunOf config.now (B.state bench) (B.state result.bench) (map view_of (reverse lived.items))) }
-    ensures played { IfSome result.lives (λ lived. ArePlayed config.now (first_lives (length lived.items) (lists lives.now)) (map view_of (reverse lived.items))) }
-    ensures ended { IfSome result.lives (λ lived. AreEnded (length lives.now) (map view_of (reverse lived.items))) }
-    ensures given { IfSome result.lives (λ lived. AreGiven (arms_given (first_lives (length lived.items) (lists lives.now)) (map view_of (reverse lived.items)))
+    ensures linked { IfSome result.lives (λ lived. IsRunOf config.now (B.state bench) (B.state result.bench) (lives_seen (lists lives.now) lived.items)) }
+    ensures played { IfSome result.lives (λ lived. ArePlayed config.now (lives_seen (lists lives.now) lived.items)) }
+    ensures ended { IfSome result.lives (λ lived. AreEnded (length lives.now) (lives_seen (lists lives.now) lived.items)) }
+    ensures given { IfSome result.lives (λ lived. AreGiven (arms_given (lives_seen (lists lives.now) lived.items))
         (B.state bench).bench.arms (B.state result.bench).bench.arms) }
     ensures sound { FlashStaysSound config.now (B.state bench) (B.state result.bench) }
 {
@@ -117,10 +117,10 @@ fn live_on<B: Bench + Drop, E: Engine<Fee<B>> + Drop>(
     requires small { sum_by (λ life. length life.items + widths (parts_of life.items)) lives.now ≤ 1048577 }
     requires possible { All (λ life. All (IsPossiblePart config.now) (parts_of life.items)) lives.now }
     requires arms { (state_of B.state fee).device.bench.armed + sum_by (λ life. sum_by arms_in (parts_of life.items)) lives.now ≤ 64 }
-    ensures linked { IfSome result.lives (λ lived. IsLinked config.now (sectors config.now) (state_of B.state fee).device (device_of (B.state result.bench)) (map view_of (reverse lived.items))) }
-    ensures played { IfSome result.lives (λ lived. ArePlayed config.now (first_lives (length lived.items) (lists lives.now)) (map view_of (reverse lived.items))) }
-    ensures ended { IfSome result.lives (λ lived. AreEnded (length lives.now) (map view_of (reverse lived.items))) }
-    ensures given { IfSome result.lives (λ lived. AreGiven (arms_given (first_lives (length lived.items) (lists lives.now)) (map view_of (reverse lived.items)))
+    ensures linked { IfSome result.lives (λ lived. IsLinked config.now (sectors config.now) (state_of B.state fee).device (device_of (B.state result.bench)) (lives_seen (lists lives.now) lived.items)) }
+    ensures played { IfSome result.lives (λ lived. ArePlayed config.now (lives_seen (lists lives.now) lived.items)) }
+    ensures ended { IfSome result.lives (λ lived. AreEnded (length lives.now) (lives_seen (lists lives.now) lived.items)) }
+    ensures given { IfSome result.lives (λ lived. AreGiven (arms_given (lives_seen (lists lives.now) lived.items))
         (state_of B.state fee).device.bench.arms (B.state result.bench).bench.arms) }
     ensures sound { StaysSound config.now (moment_at (sectors config.now) (boot_in (state_of B.state fee).device)) (moment_at (sectors config.now) (boot_in (device_of (B.state result.bench)))) }
 {

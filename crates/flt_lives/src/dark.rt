@@ -1,5 +1,5 @@
 // Lives whose start-up met three faults of the device: they make no step but arms.
-ghost use Rattle.std.specs.Prelude.{◌≡◌, ◌+◌, ◌≤◌, ◌++◌, ◌∷◌, [], ℕ, All, List, length, map, reverse, sum_by, vec_len};
+ghost use Rattle.std.specs.Prelude.{◌≡◌, ◌+◌, ◌≤◌, ◌++◌, ◌∷◌, [], ℕ, All, List, length, map, sum_by, vec_len};
 ghost use Rattle.std.specs.Vec.{vec_capacity};
 ghost use Rattle.flt_script.specs.Part.{part_of, parts_of};
 ghost use Rattle.flt_store.specs.Store.{driver_of};
@@ -40,7 +40,10 @@ fn take_dark_step<D: Blocks + Drop>(store: &mut Store<D>, action: Action) -> Ste
             StepAnswer::Armed
         }
         Action::Call(_) => StepAnswer::Dark,
+        Action::Queue(_) => StepAnswer::Dark,
         Action::Save => StepAnswer::Dark,
+        Action::Drain => StepAnswer::Dark,
+        Action::Get(_) => StepAnswer::Dark,
     }
 }
 
@@ -124,7 +127,14 @@ pub(crate) fn dark_life<D: Blocks + Drop>(
     requires steps { All IsLaneSteps (lanes_in (parts_of parts.now)) }
     requires arms { (driver_of store.old).device.bench.armed + sum_by arms_in (parts_of parts.now) ≤ 64 }
     requires room { IsLifeRoom (parts_of parts.now) room }
-    ensures life { view_of result ≡ record { boot = boots.Dark; journal = []; answers = reverse (map dark_answer (own_actions (parts_of parts.now))); lanes = map dark_answers (lanes_in (parts_of parts.now)) } }
+    ensures life { view_of (parts_of parts.now) result ≡ record {
+      parts = parts_of parts.now;
+      boot = boots.Dark;
+      journal = [];
+      queue = [];
+      own = map dark_answer (own_actions (parts_of parts.now));
+      lanes = map dark_answers (lanes_in (parts_of parts.now));
+    } }
     ensures same { moment_of (driver_of store.new) ≡ moment_of (driver_of store.old) }
     ensures goes_on { GoesOn (driver_of store.old) (driver_of store.new) }
     ensures given { WereGiven (all_arms (own_actions (parts_of parts.now))) (driver_of store.old).device.bench.arms (driver_of store.new).device.bench.arms }
@@ -138,5 +148,7 @@ pub(crate) fn dark_life<D: Blocks + Drop>(
     } = room;
     take_dark_steps(store, parts, &mut own);
     take_dark_lanes(lanes, &mut told);
-    life_of(Boot::Dark, Vec::new(alloc), own, told, replies)
+    let journal = Vec::new(alloc);
+    let queue = Vec::new(alloc);
+    life_of(Boot::Dark, journal, queue, own, told, replies)
 }

@@ -9,7 +9,7 @@ ghost use Rattle.flt_store.specs.Store.{driver_of, numbered, IsRunning};
 ghost use Rattle.flt_life.specs.declared.life.Boot.TheVariants as boots;
 ghost use Rattle.flt_life.specs.Actions.{all_arms};
 ghost use Rattle.flt_life.specs.Causes.{AreCaused};
-ghost use Rattle.flt_life.specs.Chain.{Leaves};
+ghost use Rattle.flt_life.specs.Chain.{KeepsApplications, Leaves, told_of};
 ghost use Rattle.flt_life.specs.Lives.{view_of};
 ghost use Rattle.flt_life.specs.Moment.{Moment, moment_of};
 ghost use Rattle.flt_life.specs.Parts.{IsPossiblePart, arms_in, own_actions, steps_in, widths};
@@ -63,10 +63,11 @@ pub trait Engine<D: Blocks + Drop>: Sized {
         requires room { IsLifeRoom (parts_of parts.now) room }
         ensures same { IfOk result (λ lived. machine_config lived.engine ≡ config.now) }
         ensures boot { IfOk result (λ lived. lived.life.boot ≡ boots.Started generation buffers.old.state) }
-        ensures leaves { IfOk result (λ lived. Leaves config.now (numbered generation buffers.old.state) (view_of lived.life) (moment_of (driver_of store.new))) }
+        ensures leaves { IfOk result (λ lived. Leaves config.now (numbered generation buffers.old.state) (view_of (parts_of parts.now) lived.life) (moment_of (driver_of store.new))) }
         ensures caused { IfOk result (λ lived. (boot : Moment) → HasRisenBy 0 boot.faults (driver_of store.old).device.faults
-            → AreCaused config.now boot (moment_of (driver_of store.new)) (view_of lived.life).answers) }
-        ensures played { IfOk result (λ lived. IsPlayed config.now (parts_of parts.now) (view_of lived.life)) }
+            → AreCaused config.now boot (moment_of (driver_of store.new)) (told_of (view_of (parts_of parts.now) lived.life))) }
+        ensures played { IfOk result (λ lived. IsPlayed config.now (view_of (parts_of parts.now) lived.life)) }
+        ensures kept { IfOk result (λ lived. KeepsApplications (moment_of (driver_of store.old)) (moment_of (driver_of store.new)) (view_of (parts_of parts.now) lived.life)) }
         ensures given { IfOk result (λ lived. WereGiven (all_arms (own_actions (parts_of parts.now))) (driver_of store.old).device.bench.arms (driver_of store.new).device.bench.arms) }
         ensures armed { (driver_of store.new).device.bench.armed ≤ (driver_of store.old).device.bench.armed + sum_by arms_in (parts_of parts.now) }
         ensures alive { IsAlive config.now store.new }

@@ -1,9 +1,9 @@
 // Lives one after the other.
-ghost use Rattle.std.specs.Prelude.{◌≡◌, ◌+◌, ◌≤◌, All, IfOk, length, map, reverse, sum_by};
+ghost use Rattle.std.specs.Prelude.{◌≡◌, ◌+◌, ◌≤◌, All, IfOk, length, sum_by};
 ghost use Rattle.flt_script.specs.Part.{parts_of};
 ghost use Rattle.flt_store.specs.Store.{driver_of};
 ghost use Rattle.flt_store.specs.Cause.{HasRoom};
-ghost use Rattle.flt_life.specs.Lives.{IsLinked, ArePlayed, AreEnded, AreGiven, StaysSound, arms_given, first_lives, is_refused, lists, view_of};
+ghost use Rattle.flt_life.specs.Lives.{IsLinked, ArePlayed, AreEnded, AreGiven, StaysSound, arms_given, is_refused, lists, lives_seen};
 ghost use Rattle.flt_life.specs.Moment.{Medium, moment_of};
 ghost use Rattle.flt_life.specs.Parts.{IsPossiblePart, arms_in, steps_in, widths};
 ghost use Rattle.flt_lives.specs.Linked.{KeepsOn};
@@ -43,10 +43,10 @@ pub fn run_lives<D: Blocks + Drop, E: Engine<D> + Drop>(
     requires small { sum_by (λ life. length life.items + widths (parts_of life.items)) lives.now ≤ 1048577 }
     requires possible { All (λ life. All (IsPossiblePart config.now) (parts_of life.items)) lives.now }
     requires arms { (driver_of store.old).device.bench.armed + sum_by (λ life. sum_by arms_in (parts_of life.items)) lives.now ≤ 64 }
-    ensures linked { (medium : Medium) → KeepsOn D.Blocks config.now medium → IfOk result (λ lived. IsLinked config.now medium (driver_of store.old).device (driver_of store.new).device (map view_of (reverse lived.items))) }
-    ensures played { IfOk result (λ lived. ArePlayed config.now (first_lives (length lived.items) (lists lives.now)) (map view_of (reverse lived.items))) }
-    ensures ended { IfOk result (λ lived. AreEnded (length lives.now) (map view_of (reverse lived.items))) }
-    ensures given { IfOk result (λ lived. AreGiven (arms_given (first_lives (length lived.items) (lists lives.now)) (map view_of (reverse lived.items)))
+    ensures linked { (medium : Medium) → KeepsOn D.Blocks config.now medium → IfOk result (λ lived. IsLinked config.now medium (driver_of store.old).device (driver_of store.new).device (lives_seen (lists lives.now) lived.items)) }
+    ensures played { IfOk result (λ lived. ArePlayed config.now (lives_seen (lists lives.now) lived.items)) }
+    ensures ended { IfOk result (λ lived. AreEnded (length lives.now) (lives_seen (lists lives.now) lived.items)) }
+    ensures given { IfOk result (λ lived. AreGiven (arms_given (lives_seen (lists lives.now) lived.items))
         (driver_of store.old).device.bench.arms (driver_of store.new).device.bench.arms) }
     ensures sound { StaysSound config.now (moment_of (driver_of store.old)) (moment_of (driver_of store.new)) }
     ensures room { (driver_of store.new).room ≡ (driver_of store.old).room }

@@ -1,6 +1,7 @@
 // A life from its power-up on.
-ghost use Rattle.std.specs.Prelude.{◌≡◌, ◌+◌, ◌≤◌, ◌<◌, ◌^◌, [], All, IfOk, OnOk, length, sum_by};
-ghost use Rattle.flt_script.specs.Part.{parts_of};
+ghost use Rattle.std.specs.Prelude.{◌≡◌, ◌+◌, ◌≤◌, ◌<◌, ◌^◌, [], List, All, IfOk, OnOk, length, sum_by};
+ghost use Rattle.flt_script.specs.declared.step.Step.{Step};
+ghost use Rattle.flt_script.specs.Part.{PartOf, parts_of};
 ghost use Rattle.flt_store.specs.Store.{driver_of};
 ghost use Rattle.flt_store.specs.Cause.{HasRoom};
 ghost use Rattle.flt_life.specs.declared.life.Boot.TheVariants as boots;
@@ -23,11 +24,12 @@ use std::alloc::{AllocError, Global};
 
 /// A life whose start-up was refused.
 fn refused(alloc: Global, fault: StartFault) -> Life
-    ensures { view_of result ≡ record { boot = boots.Refused fault; journal = []; answers = []; lanes = [] } }
+    ensures { (parts : List (PartOf Step)) → view_of parts result ≡ record { parts = parts; boot = boots.Refused fault; journal = []; queue = []; own = []; lanes = [] } }
 {
     Life {
         boot: Boot::Refused(fault),
         journal: Vec::new(alloc),
+        queue: Vec::new(alloc),
         replies: Vec::new(alloc),
     }
 }
@@ -52,8 +54,8 @@ pub fn run_life<D: Blocks + Drop, E: Engine<D> + Drop>(
     requires possible { All (IsPossiblePart config.now) (parts_of parts.now) }
     requires arms { (driver_of store.old).device.bench.armed + sum_by arms_in (parts_of parts.now) ≤ 64 }
     ensures same { IfOk result (λ lived. E.machine_config lived.engine ≡ config.now) }
-    ensures lived { IfOk result (λ lived. IsLived config.now (driver_of store.old) (driver_of store.new) (view_of lived.life)) }
-    ensures played { IfOk result (λ lived. IsPlayed config.now (parts_of parts.now) (view_of lived.life)) }
+    ensures lived { IfOk result (λ lived. IsLived config.now (driver_of store.old) (driver_of store.new) (view_of (parts_of parts.now) lived.life)) }
+    ensures played { IfOk result (λ lived. IsPlayed config.now (view_of (parts_of parts.now) lived.life)) }
     ensures given { IfOk result (λ lived. WereGiven (arms_by (parts_of parts.now) lived.life.boot) (driver_of store.old).device.bench.arms (driver_of store.new).device.bench.arms) }
     ensures sound { StaysSound config.now (moment_of (driver_of store.old)) (moment_of (driver_of store.new)) }
     ensures adds { OnOk result (AddsLife (driver_of store.old) (driver_of store.new)) }

@@ -3,7 +3,7 @@ ghost use Rattle.std.specs.Prelude.{◌≡◌, ◌+◌, ◌≤◌, ◌<◌, ◌^
 ghost use Rattle.std.specs.Vec.{vec_capacity};
 ghost use Rattle.flt_config.specs.Durable.{Fits};
 ghost use Rattle.flt_flash.specs.State.{HasRisenBy};
-ghost use Rattle.flt_generation.specs.Holding.{Generation};
+ghost use Rattle.flt_generation.specs.Holding.{Generation, SameApplications};
 ghost use Rattle.flt_dcm.specs.Whole.{config_of, state_of};
 ghost use Rattle.flt_script.specs.Part.{parts_of};
 ghost use Rattle.flt_store.specs.Store.{driver_of, numbered, IsRunning};
@@ -15,10 +15,11 @@ ghost use Rattle.flt_life.specs.Chain.{start_from, Leaves};
 ghost use Rattle.flt_life.specs.Lives.{view_of};
 ghost use Rattle.flt_life.specs.Moment.{Moment, moment_of};
 ghost use Rattle.flt_life.specs.Played.{IsLife};
+ghost use Rattle.flt_life.specs.Room.{told_in};
 ghost use Rattle.flt_lives.specs.Alive.{IsAlive};
-ghost use Rattle.flt_lives.specs.Alone.{AreAlone, actions_in};
+ghost use Rattle.flt_lives.specs.Alone.{AreAlone, IsPlain, actions_in};
 ghost use Rattle.flt_lives.specs.Going.{GoesOn, WereGiven};
-ghost use Rattle.flt_lives.specs.Living.{IsUnderWay, IsLiving, IsCaused, AddsStep, told_in, HasRoomFor};
+ghost use Rattle.flt_lives.specs.Living.{IsUnderWay, IsLiving, IsCaused, TakesStep, deeds_told, HasRoomFor};
 
 use crate::account::Account;
 use crate::accounting::call_room;
@@ -45,17 +46,15 @@ fn take_step<D: Blocks + Drop>(
     requires same { config_of unit.old ≡ config.now }
     requires under_way { IsUnderWay config.now (state_of unit.old) }
     requires possible { IsPossible config.now (action_of step.now) }
+    requires plain { IsPlain (action_of step.now) }
     requires arms { (driver_of store.old).device.bench.armed + arm_count (action_of step.now) ≤ 64 }
     requires room { HasRoomFor account.old (action_of step.now ∷ []) }
     ensures config { config_of unit.new ≡ config_of unit.old }
     ensures under_way { IsUnderWay config.now (state_of unit.new) }
     ensures alive { IsAlive config.now store.old → IsAlive config.now store.new }
-    ensures living { (first : Generation) → IsLiving config.now first (reverse account.old.journal.items) (told_in account.old) (state_of unit.old) store.old
-        → IsLiving config.now first (reverse account.new.journal.items) (told_in account.new) (state_of unit.new) store.new }
-    ensures adds { (first : Generation) → IsLiving config.now first (reverse account.old.journal.items) (told_in account.old) (state_of unit.old) store.old
-        → AddsStep config.now first (action_of step.now) (reverse account.old.journal.items) (reverse account.new.journal.items) (told_in account.old) (told_in account.new) }
-    ensures caused { (begun : ℕ) → IsCaused config.now begun (told_in account.old) store.old → IsCaused config.now begun (told_in account.new) store.new }
+    ensures takes { TakesStep config.now (action_of step.now) (state_of unit.old) (state_of unit.new) store.old store.new account.old account.new }
     ensures room { (rest : List Action) → HasRoomFor account.old (action_of step.now ∷ rest) → HasRoomFor account.new rest }
+    ensures applications { SameApplications (driver_of store.old).value (driver_of store.new).value }
     ensures goes_on { GoesOn (driver_of store.old) (driver_of store.new) }
     ensures given { WereGiven (arms_of (action_of step.now)) (driver_of store.old).device.bench.arms (driver_of store.new).device.bench.arms }
     ensures armed { (driver_of store.new).device.bench.armed ≤ (driver_of store.old).device.bench.armed + arm_count (action_of step.now) }
@@ -87,14 +86,16 @@ fn take_steps<D: Blocks + Drop>(
     requires arms { (driver_of store.old).device.bench.armed + sum_by arm_count (actions_in parts.now) ≤ 64 }
     requires room { HasRoomFor account.old (actions_in parts.now) }
     requires no_calls { account.old.journal.items ≡ [] }
-    requires no_answers { told_in account.old ≡ [] }
+    requires no_answers { told_in account.old.replies ≡ [] }
     ensures config { config_of unit.new ≡ config_of unit.old }
     ensures alive { IsAlive config.now store.old → IsAlive config.now store.new }
     ensures living { (first : Generation) → IsLiving config.now first [] [] (state_of unit.old) store.old
-        → IsLiving config.now first (reverse account.new.journal.items) (told_in account.new) (state_of unit.new) store.new }
+        → IsLiving config.now first (reverse account.new.journal.items) (deeds_told (parts_of parts.now) (told_in account.new.replies)) (state_of unit.new) store.new }
     ensures played { (first : Generation) → IsLiving config.now first [] [] (state_of unit.old) store.old
-        → IsLife (start_from config.now first.state) (parts_of parts.now) (reverse (told_in account.new)) [] account.new.journal.items }
-    ensures caused { (begun : ℕ) → IsCaused config.now begun [] store.old → IsCaused config.now begun (told_in account.new) store.new }
+        → IsLife (start_from config.now first.state) (parts_of parts.now) (told_in account.new.replies) [] account.new.journal.items [] }
+    ensures caused { (begun : ℕ) → IsCaused config.now begun [] store.old
+        → IsCaused config.now begun (deeds_told (parts_of parts.now) (told_in account.new.replies)) store.new }
+    ensures applications { SameApplications (driver_of store.old).value (driver_of store.new).value }
     ensures goes_on { GoesOn (driver_of store.old) (driver_of store.new) }
     ensures given { WereGiven (all_arms (actions_in parts.now)) (driver_of store.old).device.bench.arms (driver_of store.new).device.bench.arms }
     ensures armed { (driver_of store.new).device.bench.armed ≤ (driver_of store.old).device.bench.armed + sum_by arm_count (actions_in parts.now) }
@@ -114,7 +115,8 @@ fn copy_of(state: &Persist) -> Persist
     state.clone().unwrap()
 }
 
-/// Makes the steps of lane 0, in lives without blocks of lanes, on a machine without a lock.
+/// Makes the steps of lane 0, in lives without blocks of lanes and without write jobs, on a machine without a lock and without a
+/// queue.
 #[derive(Drop)]
 pub struct Plain {
     pub unit: Unit,
@@ -155,9 +157,10 @@ impl<D: Blocks + Drop> Engine<D> for Plain {
             replies: own,
         } = account;
         let boot = Boot::Started { generation, start };
+        let queue = Vec::new(alloc);
         Ok(Lived {
             engine: Plain { unit },
-            life: life_of(boot, journal, own, told, replies),
+            life: life_of(boot, journal, queue, own, told, replies),
         })
     }
 }

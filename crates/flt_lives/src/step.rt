@@ -6,7 +6,7 @@ ghost use Rattle.flt_model.specs.Life.{Life, History};
 ghost use Rattle.flt_model.specs.Answer.{answer};
 ghost use Rattle.flt_model.specs.Durable.{saved_after};
 ghost use Rattle.flt_model.specs.declared.call.Op.TheVariants as ops;
-ghost use Rattle.flt_generation.specs.Holding.{Generation};
+ghost use Rattle.flt_generation.specs.Holding.{Generation, SameApplications};
 ghost use Rattle.flt_dcm.specs.ReplyKind.{reply_with};
 ghost use Rattle.flt_dcm.specs.Unit.{Stands, IsAdmitted, IsRequest};
 ghost use Rattle.flt_dcm.specs.Whole.{config_of, state_of};
@@ -18,7 +18,8 @@ ghost use Rattle.flt_life.specs.Chain.{start_from};
 ghost use Rattle.flt_life.specs.Journal.{entry, calls_of};
 ghost use Rattle.flt_lives.specs.Going.{GoesOn, WereGiven};
 ghost use Rattle.flt_lives.specs.Alive.{IsAlive};
-ghost use Rattle.flt_lives.specs.Living.{IsUnderWay, IsLiving, IsCaused};
+ghost use Rattle.flt_lives.specs.Alone.{IsPlain};
+ghost use Rattle.flt_lives.specs.Living.{IsUnderWay, IsLiving, IsCaused, with_answer};
 
 use crate::buffers::Buffers;
 use flt_config::ValidConfig;
@@ -84,6 +85,7 @@ fn save<D: Blocks + Drop>(
     ensures size { response_length result buffers.new.response.items ≡ 0 }
     ensures calls { vec_len journal.new ≤ vec_len journal.old + 2 }
     ensures room { vec_capacity journal.new ≡ vec_capacity journal.old }
+    ensures applications { SameApplications (driver_of store.old).value (driver_of store.new).value }
     ensures goes_on { GoesOn (driver_of store.old) (driver_of store.new) }
     ensures given { WereGiven [] (driver_of store.old).device.bench.arms (driver_of store.new).device.bench.arms }
     ensures armed { (driver_of store.new).device.bench.armed ≤ (driver_of store.old).device.bench.armed }
@@ -114,6 +116,7 @@ pub(crate) fn make_step<D: Blocks + Drop>(
     requires same { config_of unit.old ≡ config.now }
     requires under_way { IsUnderWay config.now (state_of unit.old) }
     requires possible { IsPossible config.now action }
+    requires plain { IsPlain action }
     requires arms { (driver_of store.old).device.bench.armed + arm_count action ≤ 64 }
     requires calls { vec_len journal.old + call_count action ≤ vec_capacity journal.old }
     requires few { vec_len journal.old < 2 ^ 32 }
@@ -121,13 +124,15 @@ pub(crate) fn make_step<D: Blocks + Drop>(
     ensures under_way { IsUnderWay config.now (state_of unit.new) }
     ensures alive { IsAlive config.now store.old → IsAlive config.now store.new }
     ensures living { (first : Generation) (told : List Told) → IsLiving config.now first (reverse journal.old.items) told (state_of unit.old) store.old
-        → IsLiving config.now first (reverse journal.new.items) (told_with buffers.new.response.items result ∷ told) (state_of unit.new) store.new }
-    ensures caused { (begun : ℕ) (told : List Told) → IsCaused config.now begun told store.old → IsCaused config.now begun (told_with buffers.new.response.items result ∷ told) store.new }
+        → IsLiving config.now first (reverse journal.new.items) (with_answer action (told_with buffers.new.response.items result) told) (state_of unit.new) store.new }
+    ensures caused { (begun : ℕ) (told : List Told) → IsCaused config.now begun told store.old
+        → IsCaused config.now begun (with_answer action (told_with buffers.new.response.items result) told) store.new }
     ensures carried { (first : Generation) → Stands (start_from config.now first.state) (calls_of (reverse journal.old.items)) (state_of unit.old)
         → IsCarriedOut (start_from config.now first.state) (reverse journal.old.items) action (reverse journal.new.items) (told_with buffers.new.response.items result) }
     ensures size { length buffers.new.response.items ≤ 512 → response_length result buffers.new.response.items ≤ response_size action }
     ensures calls { vec_len journal.new ≤ vec_len journal.old + call_count action }
     ensures room { vec_capacity journal.new ≡ vec_capacity journal.old }
+    ensures applications { SameApplications (driver_of store.old).value (driver_of store.new).value }
     ensures goes_on { GoesOn (driver_of store.old) (driver_of store.new) }
     ensures given { WereGiven (arms_of action) (driver_of store.old).device.bench.arms (driver_of store.new).device.bench.arms }
     ensures armed { (driver_of store.new).device.bench.armed ≤ (driver_of store.old).device.bench.armed + arm_count action }
@@ -144,5 +149,6 @@ pub(crate) fn make_step<D: Blocks + Drop>(
             store.arm(arm);
             StepAnswer::Armed
         }
+        Action::Queue(_) | Action::Drain | Action::Get(_) => unreachable!(),
     }
 }

@@ -6,12 +6,16 @@ use Rattle.flt_model.specs.declared.call.Cause.TheVariants.{SettingOff, NotStart
 use Rattle.flt_model.specs.declared.call.Shown.{Shown as Event}
 use Rattle.flt_model.specs.declared.call.Reply.{Reply}
 use Rattle.flt_model.specs.declared.call.Reply.TheVariants.{Taken, Ignored, Shown, Response, Silent}
+use Rattle.flt_queue.specs.declared.job.LastResult.{LastResult}
+use Rattle.flt_queue.specs.declared.job.LastResult.TheVariants.{Never, Pending, Written, Failed}
+use Rattle.flt_queue.specs.declared.job.QueueReply.{QueueReply}
+use Rattle.flt_queue.specs.declared.job.QueueReply.TheVariants.{Accepted, BlockPending, QueueFull, Last}
 use Rattle.flt_store.specs.declared.fault.SaveFault.{SaveFault}
 use Rattle.flt_store.specs.declared.fault.SaveFault.TheVariants.{Flash, Spent, SequenceSpent}
 use Rattle.flt_script.specs.Bytes.{two_digits, bytes_text}
 use Rattle.flt_script.specs.Step.{step_text}
 use Rattle.flt_script.specs.declared.step.Step.{Step}
-use Rattle.flt_life.specs.declared.answer.StepAnswer.TheVariants.{Dem, Saved, SaveFailed, Armed, Dark}
+use Rattle.flt_life.specs.declared.answer.StepAnswer.TheVariants.{Dem, Saved, SaveFailed, Queue, Drained, Bytes, NoBlock, BlockFlash, Armed, Dark}
 use Rattle.flt_life.specs.Answers.{Told}
 
 -- 0 or 1.
@@ -46,11 +50,35 @@ save_fault_text Flash = codes "flash"
 save_fault_text Spent = codes "spent"
 save_fault_text SequenceSpent = codes "sequence"
 
--- The answer to a step: the machine's reply, the number of the generation that was saved, or one word.
+-- What became of the last job of a block.
+abbrev pub last_text : LastResult → List ℕ
+last_text Never = codes "none"
+last_text Pending = codes "pending"
+last_text Written = codes "written"
+last_text Failed = codes "failed"
+
+-- The queue's reply to a post or a question; the replies to a drain's calls are not printed.
+abbrev pub queue_text : QueueReply → List ℕ
+queue_text Accepted = codes "accepted"
+queue_text BlockPending = codes "pending"
+queue_text QueueFull = codes "full"
+queue_text (Last last) = last_text last
+queue_text _ = []
+
+-- How many jobs a drain wrote, and how many it could not write.
+unfoldable pub drained_text : ℕ → ℕ → List ℕ
+drained_text written failed = codes "written " ++ decimal written ++ codes " failed " ++ decimal failed
+
+-- The answer to a step: the machine's or the queue's reply, numbers, bytes, or one word.
 abbrev pub answer_text : Told → List ℕ
 answer_text (Dem told) = reply_text told.reply
 answer_text (Saved generation) = decimal generation
 answer_text (SaveFailed fault) = save_fault_text fault
+answer_text (Queue told) = queue_text told.reply
+answer_text (Drained written failed) = drained_text written failed
+answer_text (Bytes bytes) = bytes_text bytes.items
+answer_text NoBlock = codes "missing"
+answer_text BlockFlash = codes "flash"
 answer_text Armed = codes "armed"
 answer_text Dark = codes "dark"
 

@@ -3,16 +3,17 @@ ghost use Rattle.std.specs.Prelude.{◌≡◌, ◌≤◌, ◌+◌, ◌++◌, ◌
 ghost use Rattle.std.specs.Vec.{vec_capacity};
 ghost use Rattle.flt_life.specs.Answers.{IsReplyWithin, IsAnswerWithin, reply_in, with_reply};
 ghost use Rattle.flt_report.specs.Room.{reply_room, answer_room};
-ghost use Rattle.flt_report.specs.Answer.{flag_text, shown_text, ignored_text, reply_text, save_fault_text, answer_text, answer_part};
+ghost use Rattle.flt_report.specs.Answer.{flag_text, shown_text, ignored_text, reply_text, save_fault_text, last_text, queue_text, drained_text, answer_text, answer_part};
 
 use crate::digits::{put_byte, put_bytes, put_number, put_signed, put_text};
 use flt_life::{Answer, KeptReply, StepAnswer};
 use flt_model::{Cause, Shown};
+use flt_queue::{LastResult, QueueReply};
 use flt_store::SaveFault;
 use std::alloc::AllocError;
 
 /// How many bytes an answer without a response has at most.
-const ANSWER_ROOM: usize = 93;
+const ANSWER_ROOM: usize = 96;
 
 /// How many bytes stand about an answer, of the arrow and the end of the line.
 const ABOUT_ANSWER: usize = 5;
@@ -87,6 +88,51 @@ fn put_save_fault(fault: SaveFault, out: &mut Vec<u8>)
     }
 }
 
+/// Puts what became of the last job of a block.
+fn put_last(last: LastResult, out: &mut Vec<u8>)
+    requires { vec_len out.old + 7 ≤ vec_capacity out.old }
+    ensures items { out.new.items ≡ out.old.items ++ last_text last }
+    ensures len { vec_len out.new ≤ vec_len out.old + 7 }
+    ensures room { vec_capacity out.old ≤ vec_capacity out.new }
+{
+    match last {
+        LastResult::Never => put_text(b"none", out),
+        LastResult::Pending => put_text(b"pending", out),
+        LastResult::Written => put_text(b"written", out),
+        LastResult::Failed => put_text(b"failed", out),
+    }
+}
+
+/// Puts the queue's reply to a post or a question.
+fn put_queue_reply(reply: &QueueReply, out: &mut Vec<u8>)
+    requires { vec_len out.old + 8 ≤ vec_capacity out.old }
+    ensures items { out.new.items ≡ out.old.items ++ queue_text reply.now }
+    ensures len { vec_len out.new ≤ vec_len out.old + 8 }
+    ensures room { vec_capacity out.old ≤ vec_capacity out.new }
+{
+    match reply {
+        QueueReply::Accepted => put_text(b"accepted", out),
+        QueueReply::BlockPending => put_text(b"pending", out),
+        QueueReply::QueueFull => put_text(b"full", out),
+        QueueReply::Last(last) => put_last(*last, out),
+        _ => {}
+    }
+}
+
+/// Puts what a drain did, in at most 36 bytes.
+#[tactic(auto, unfolding(crate::specs::Answer::drained_text))]
+fn put_drained(written: u16, failed: u16, out: &mut Vec<u8>)
+    requires { vec_len out.old + 36 ≤ vec_capacity out.old }
+    ensures items { out.new.items ≡ out.old.items ++ drained_text written failed }
+    ensures len { vec_len out.new ≤ vec_len out.old + 36 }
+    ensures room { vec_capacity out.old ≤ vec_capacity out.new }
+{
+    put_text(b"written ", out);
+    put_number(u32::from(written), out);
+    put_text(b" failed ", out);
+    put_number(u32::from(failed), out);
+}
+
 /// Puts a reply.
 fn put_reply(reply: &KeptReply, responses: &[u8], out: &mut Vec<u8>)
     requires within { IsReplyWithin (length responses.now) reply.now }
@@ -118,6 +164,11 @@ fn put_told(answer: &StepAnswer<KeptReply>, responses: &[u8], out: &mut Vec<u8>)
         StepAnswer::Dem(told) => put_reply(&told.reply, responses, out),
         StepAnswer::Saved(generation) => put_number(*generation, out),
         StepAnswer::SaveFailed(fault) => put_save_fault(*fault, out),
+        StepAnswer::Queue(told) => put_queue_reply(&told.reply, out),
+        StepAnswer::Drained { written, failed } => put_drained(*written, *failed, out),
+        StepAnswer::Bytes(bytes) => put_bytes(bytes, out),
+        StepAnswer::NoBlock => put_text(b"missing", out),
+        StepAnswer::BlockFlash => put_text(b"flash", out),
         StepAnswer::Armed => put_text(b"armed", out),
         StepAnswer::Dark => put_text(b"dark", out),
     }

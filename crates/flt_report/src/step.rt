@@ -1,5 +1,6 @@
 // The line of a step.
 ghost use Rattle.std.specs.Prelude.{◌≡◌, ◌≤◌, ◌+◌, ◌++◌, OnOk, OnErr, length, vec_len};
+ghost use Rattle.std.specs.Fmt.{decimal};
 ghost use Rattle.std.specs.Vec.{vec_capacity};
 ghost use Rattle.flt_script.specs.Bytes.{letter_of};
 ghost use Rattle.flt_script.specs.Step.{step_text};
@@ -12,12 +13,12 @@ use crate::digits::{put_bytes, put_number, put_text};
 use arrayvec::ArrayVec;
 use flt_life::{KeptReply, StepAnswer};
 use flt_model::{REQUEST, Report};
-use flt_script::Step;
+use flt_script::{BLOCK_BYTES, Step};
 use std::alloc::AllocError;
 use std::fmt::Write;
 
 /// How many bytes the words of a step have at most that the formatter does not write.
-const WORDS_ROOM: usize = 64;
+const WORDS_ROOM: usize = 112;
 
 /// Puts the words of a report of this kind, in at most 18 bytes.
 fn put_report(event: u16, report: Report, out: &mut Vec<u8>)
@@ -61,6 +62,34 @@ fn put_request(tester: u8, bytes: &ArrayVec<u8, REQUEST>, out: &mut Vec<u8>)
     put_bytes(bytes, out);
 }
 
+/// Puts a word and the number of an application block, in at most 15 bytes.
+fn put_block(word: &[u8], block: u8, out: &mut Vec<u8>)
+    requires word { length word.now ≤ 5 }
+    requires room { vec_len out.old + 15 ≤ vec_capacity out.old }
+    ensures items { out.new.items ≡ out.old.items ++ word.now ++ decimal block }
+    ensures len { vec_len out.new ≤ vec_len out.old + 15 }
+    ensures room { vec_capacity out.old ≤ vec_capacity out.new }
+{
+    put_text(word, out);
+    put_number(u32::from(block), out);
+}
+
+/// Puts the words of a post, in at most 112 bytes.
+fn put_post(urgent: bool, block: u8, bytes: &ArrayVec<u8, BLOCK_BYTES>, out: &mut Vec<u8>)
+    requires { vec_len out.old + 112 ≤ vec_capacity out.old }
+    ensures items { out.new.items ≡ out.old.items ++ step_text (Step.Post urgent block bytes.now) }
+    ensures len { vec_len out.new ≤ vec_len out.old + 112 }
+    ensures room { vec_capacity out.old ≤ vec_capacity out.new }
+{
+    if urgent {
+        put_block(b"urge ", block, out);
+    } else {
+        put_block(b"post ", block, out);
+    }
+    put_text(b" ", out);
+    put_bytes(bytes, out);
+}
+
 /// Puts a step as the formatter prints it.
 fn put_printed(step: &Step, out: &mut Vec<u8>) -> Result<(), AllocError>
     ensures ok { OnOk result (out.new.items ≡ out.old.items ++ step_text step.now) }
@@ -93,6 +122,14 @@ fn put_words(step: &Step, out: &mut Vec<u8>) -> Result<(), AllocError>
         Step::Signal { index, value } => put_signal(*index, *value, out),
         Step::Request { tester, bytes } => put_request(*tester, bytes, out),
         Step::Save => put_text(b"save", out),
+        Step::Post {
+            urgent,
+            block,
+            bytes,
+        } => put_post(*urgent, *block, bytes, out),
+        Step::Drain => put_text(b"drain", out),
+        Step::Get { block } => put_block(b"get ", *block, out),
+        Step::Ask { block } => put_block(b"ask ", *block, out),
         Step::Arming(_) => return put_printed(step, out),
     }
     Ok(())

@@ -5,7 +5,7 @@ use Rattle.flt_script.specs.Part.{part_of}
 use Rattle.std.proofs.lemmas.List.{length-map}
 use Rattle.flt_life.specs.declared.room.LaneRoom.{LaneRoom}
 use Rattle.flt_life.specs.Room.{IsLaneRoom, steps_of}
-use Rattle.flt_life.proofs.Sizes.{lanes_within, numbers_within, lanes_more, widths_with, no_lanes_more, no_widths_more, short_lanes}
+use Rattle.flt_life.proofs.Sizes.{lanes_within, lanes_more, widths_with, no_lanes_more, no_widths_more, short_lanes}
 use Rattle.flt_life.proofs.room.lane_rooms.Goals as goal
 use Rattle.flt_life.proofs.room.lane_rooms.Goals.{in-One, in-Lanes+in_ok-add_lanes-in-Lanes}
 
@@ -13,13 +13,6 @@ pub add_lanes-requires-clause-few : goal.add_lanes-requires-clause-few
 add_lanes-requires-clause-few c =
     let most = lanes_within c.args.parts.now c.loop-part.part-index c.part-item.result c.loop-part-test.true c.part-item.is _ (ap part_of c.in-Lanes.is) in
     subst (λ (l : List (Vec Step _)). All (λ (lane : Vec Step _). length lane.items ≤ 65536) l) (sym c.deref.ensures.value) (short_lanes 65536 c.in-Lanes.lanes.items (omega (arith, most, c.requires.few)))
-
-pub add_lanes-requires-clause-numbers : goal.add_lanes-requires-clause-numbers
-add_lanes-requires-clause-numbers c =
-    let most = numbers_within c.args.parts.now c.loop-part.part-index c.part-item.result c.loop-part-test.true c.part-item.is _ (ap part_of c.in-Lanes.is) in
-    let mapped = length-map c.in-Lanes.lanes.items (λ (lane : Vec Step _). lane.items) in
-    let size = ap length c.deref.ensures.value in
-    omega (arith, most, mapped, size, c.loop-part.invariant.len, c.requires.numbers)
 
 pub loop-part-preserved : goal.loop-part-preserved
 loop-part-preserved c =

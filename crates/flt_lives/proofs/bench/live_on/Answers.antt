@@ -1,11 +1,11 @@
-use Rattle.std.proofs.Common.{◌≡◌, ◌∙◌, sym, ap, subst, map, reverse}
+use Rattle.std.proofs.Common.{◌≡◌, ◌∙◌, sym, ap, subst}
 use Rattle.flt_flash.specs.Blocks.{BlocksState, DeviceState}
 use Rattle.flt_store.specs.Cause.{HasRoom}
 use Rattle.flt_store.specs.Store.{driver_of}
 use Rattle.flt_fee.specs.Fee.{device_of, state_of}
 use Rattle.flt_life.specs.Moment.{IsOn}
 use Rattle.flt_lives.specs.Sectors.{sectors}
-use Rattle.flt_life.specs.Lives.{IsLinked, view_of}
+use Rattle.flt_life.specs.Lives.{IsLinked, lists, lives_seen}
 use Rattle.flt_lives.proofs.Bridge.{is_on_sectors, sound_on_device}
 use Rattle.flt_lives.proofs.bench.live_on.Goals as goal
 
@@ -42,8 +42,8 @@ returns-in-Ok-clause-linked g c =
     let made : driver_of c.make-store.result ≡ state_of g.B.Flash.state c.args.fee = c.make-store.ensures ∙ c.make.ensures.driver in
     let linked = c.in-Ok.ensures.linked (sectors c.args.config.now)
     (λ driver numbers room. is_on_sectors c.args.config.now driver.used driver.numbers driver.is_stale driver.has_mounted (g.B.Flash.state driver.flash) driver.least numbers room) in
-    subst (λ (d : DeviceState). IsLinked c.args.config.now (sectors c.args.config.now) (device_of (g.B.Flash.state c.args.fee.flash)) d (map view_of (reverse c.in-Ok.lives.items)))
+    subst (λ (d : DeviceState). IsLinked c.args.config.now (sectors c.args.config.now) (device_of (g.B.Flash.state c.args.fee.flash)) d (lives_seen (lists c.args.lives.now) c.in-Ok.lives.items))
     (sym (c.retire-bench.ensures.device ∙ ap (λ (d : BlocksState). d.device) c.retire.ensures))
-    (subst (λ (d : DeviceState). IsLinked c.args.config.now (sectors c.args.config.now) d (driver_of c.run_lives-lived.new.store).device (map view_of (reverse c.in-Ok.lives.items)))
+    (subst (λ (d : DeviceState). IsLinked c.args.config.now (sectors c.args.config.now) d (driver_of c.run_lives-lived.new.store).device (lives_seen (lists c.args.lives.now) c.in-Ok.lives.items))
     (ap (λ (d : BlocksState). d.device) made)
     linked)

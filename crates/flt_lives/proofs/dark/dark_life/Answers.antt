@@ -1,8 +1,10 @@
-use Rattle.std.proofs.Common.{length, ap, arith}
+use Rattle.std.proofs.Common.{[], ◌∙◌, length, map, reverse, ap, arith}
 use Rattle.std.proofs.lemmas.List.{length-map}
 use Rattle.flt_script.specs.Part.{parts_of}
 use Rattle.flt_life.specs.declared.room.LaneRoom.{LaneRoom}
-use Rattle.flt_life.specs.Played.{dark_answers}
+use Rattle.flt_life.specs.declared.life.Boot.TheVariants.{Dark}
+use Rattle.flt_life.specs.Parts.{own_actions}
+use Rattle.flt_life.specs.Played.{dark_answer, dark_answers}
 use Rattle.flt_life.specs.Room.{steps_of, told_in}
 use Rattle.flt_life.proofs.Sizes.{lanes_count}
 use Rattle.flt_lives.proofs.dark.dark_life.Goals as goal
@@ -28,3 +30,17 @@ life_of-requires-clause-room g c =
     let most = room.replies_room in
     let none = room.no_replies.1 in
     omega (arith, lanes, told, told_map, dark_map, count, most, none)
+
+pub returns-clause-life : goal.returns-clause-life
+returns-clause-life g c =
+    let parts = parts_of c.args.parts.now in
+    c.life_of.ensures parts
+    ∙ (λ i. record {
+      parts = parts;
+      boot = Dark;
+      journal = reverse (c.new-journal.ensures.items i);
+      queue = reverse (c.new-queue.ensures.items i);
+      own = c.take_dark_steps.ensures.answers i;
+      lanes = c.take_dark_lanes.ensures i;
+    })
+    ∙ ap (λ lanes. record { parts = parts; boot = Dark; journal = []; queue = []; own = map dark_answer (own_actions parts); lanes = map dark_answers lanes }) c.requires.room.lanes_are

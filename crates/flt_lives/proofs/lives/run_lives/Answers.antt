@@ -1,10 +1,8 @@
-use Rattle.std.proofs.Common.{◌≡◌, ◌∙◌, ◌+◌, ◌∷◌, [], ◌++◌, map, reverse, ap, sym, subst, refl, arith, List, ℕ, ◌<◌, ◌≤◌, length, take, get_or, inl, inr}
-use Rattle.std.specs.Prelude.{sum_by, All, IsFalse, Option, Vec}
-use Rattle.std.proofs.lemmas.List.{reverse-append, map_more, take-map, length-append, length-map, length-reverse}
+use Rattle.std.proofs.Common.{◌≡◌, ◌∙◌, ◌+◌, ◌∷◌, [], ◌++◌, reverse, ap, sym, subst, refl, arith, List, ℕ, suc, ◌<◌, ◌≤◌, length, get_or, inl, inr}
+use Rattle.std.specs.Prelude.{sum_by, All, IsFalse, Vec}
+use Rattle.std.proofs.lemmas.List.{reverse-append, length-append, length-reverse}
 use Rattle.std.proofs.lemmas.List.Elements.{All-nil, All-cons, All-tail}
 use Rattle.std.proofs.lemmas.List.Sums.{sum_by-drop_more, sum_by_more_le}
-use Rattle.flt_flash.specs.declared.arm.ArmMade.{ArmMade}
-use Rattle.flt_config.specs.declared.config.Config.{Config}
 use Rattle.flt_script.specs.declared.step.Part.{Part}
 use Rattle.flt_store.specs.Store.{driver_of}
 use Rattle.flt_store.specs.Cause.{HasRoom}
@@ -14,40 +12,29 @@ use Rattle.flt_script.specs.Part.{PartOf, parts_of}
 use Rattle.flt_life.specs.Parts.{arms_in, steps_in, widths}
 use Rattle.flt_life.specs.Chain.{LifeView}
 use Rattle.flt_life.specs.Played.{IsPlayed}
-use Rattle.flt_life.specs.Lives.{ArePlayed, AreEnded, arms_by, arms_given, first_lives, is_refused, lists, view_of}
+use Rattle.flt_life.specs.Lives.{ArePlayed, AreEnded, arms_by, arms_given, is_refused, lists, lives_seen, view_of, views_of}
 use Rattle.flt_lives.specs.Going.{WereGiven}
 use Rattle.flt_lives.specs.Linked.{IsLinkedBy}
 use Rattle.flt_lives.proofs.Giving.{none_given, given_further, all_given}
 use Rattle.flt_lives.proofs.Linking.{links_none, links_more, linked_of}
 use Rattle.flt_lives.proofs.lives.run_lives.Goals as goal
 
-views_more : (lived next : List Life) (life : Life) → next ≡ lived ++ life ∷ [] → map view_of (reverse next) ≡ view_of life ∷ map view_of (reverse lived)
-views_more lived next life is = ap (λ items. map view_of (reverse items)) is ∙ ap (map view_of) (reverse-append lived (life ∷ []))
+-- one life more, and the parts that it has
+views_more : {A : Type 0} (script : List (Vec Part A)) (lived : List Life) (item : Vec Part A) (life : Life) → length lived < length script → item ≡ get_or script (length lived) item
+    → views_of (lists script) (lived ++ life ∷ []) ≡ views_of (lists script) lived ++ view_of (parts_of item.items) life ∷ []
+views_more [] lived item life within is = absurd (omega (arith, within))
+views_more {A} (parts ∷ script) [] item life within is = ap (λ (v : Vec Part A). view_of (parts_of v.items) life ∷ []) (sym is)
+views_more (parts ∷ script) (first ∷ lived) item life within is = ap (λ (views : List LifeView). view_of (parts_of parts.items) first ∷ views) (views_more script lived item life (omega (arith, within)) is)
 
-module _ {A : Type 0} (c : Config) (script : List (Vec Part A)) (index : ℕ) (item : Vec Part A) (within : index < length script) (is : item ≡ get_or script index item) where
-  front : first_lives (index + 1) (lists script) ≡ parts_of item.items ∷ first_lives index (lists script)
-  front = ap reverse shorter ∙ reverse-append (take index (lists script)) (parts_of item.items ∷ [])
-    where
-      shorter : take (index + 1) (lists script) ≡ take index (lists script) ++ parts_of item.items ∷ []
-      shorter =
-          take-map (λ (life : Vec Part A). parts_of life.items) (index + 1) script ∙ map_more (λ (life : Vec Part A). parts_of life.items) script index item within
-          ∙ (λ i. sym (take-map (λ (life : Vec Part A). parts_of life.items) index script) i ++ parts_of (sym is i).items ∷ [])
-
-  played_more : (parts : List Part) → parts ≡ item.items → (lived : List LifeView) (life : LifeView) (views : List LifeView) → views ≡ life ∷ lived → IsPlayed c (parts_of parts) life
-      → ArePlayed c (first_lives index (lists script)) lived → ArePlayed c (first_lives (index + 1) (lists script)) views
-  played_more parts parts_are lived life views views_are one all =
-      subst (λ (front : List (List (PartOf Step))). ArePlayed c front views) (sym front)
-      (subst (λ (views : List LifeView). ArePlayed c (parts_of item.items ∷ first_lives index (lists script)) views) (sym views_are)
-      (subst (λ (parts : List Part). IsPlayed c (parts_of parts) life) parts_are one, all))
-
-  given_more : (parts : List Part) → parts ≡ item.items → (lived : List LifeView) (life : LifeView) (views : List LifeView) → views ≡ life ∷ lived → (first second third : Option (List ArmMade))
-      → WereGiven (arms_given (first_lives index (lists script)) lived) first second → WereGiven (arms_by (parts_of parts) life.boot) second third
-      → WereGiven (arms_given (first_lives (index + 1) (lists script)) views) first third
-  given_more parts parts_are lived life views views_are first second third before after =
-      subst (λ (front : List (List (PartOf Step))). WereGiven (arms_given front views) first third) (sym front)
-      (subst (λ (views : List LifeView). WereGiven (arms_given (parts_of item.items ∷ first_lives index (lists script)) views) first third) (sym views_are)
-      (given_further (arms_given (first_lives index (lists script)) lived) (arms_by (parts_of item.items) life.boot) first second third before
-      (subst (λ (parts : List Part). WereGiven (arms_by (parts_of parts) life.boot) second third) parts_are after)))
+module _ {A : Type 0} (script : List (Vec Part A)) (index : ℕ) (item : Vec Part A) (within : index < length script) (is : item ≡ get_or script index item) where
+  seen_more : (parts : List Part) → parts ≡ item.items → (lived next : List Life) (life : Life) → length lived ≡ index → next ≡ lived ++ life ∷ []
+      → lives_seen (lists script) next ≡ view_of (parts_of parts) life ∷ lives_seen (lists script) lived
+  seen_more parts parts_are lived next life many more =
+      let at : item ≡ get_or script (length lived) item = is ∙ ap (λ n. get_or script n item) (sym many) in
+      ap (λ items. reverse (views_of (lists script) items)) more
+      ∙ ap reverse (views_more script lived item life (omega (arith, within, many)) at)
+      ∙ reverse-append (views_of (lists script) lived) (view_of (parts_of item.items) life ∷ [])
+      ∙ ap (λ items. view_of (parts_of items) life ∷ lives_seen (lists script) lived) (sym parts_are)
 
   -- one life has no more of anything than all
   one_of_many : (count : List Part → ℕ) → count item.items ≤ sum_by (λ (life : Vec Part A). count life.items) script
@@ -56,27 +43,37 @@ module _ {A : Type 0} (c : Config) (script : List (Vec Part A)) (index : ℕ) (i
       let same = ap (λ (life : Vec Part A). count life.items) is in
       omega (arith, most, same)
 
+-- as many are seen as were lived
+views_count : (script : List (List (PartOf Step))) (lived : List Life) → length (views_of script lived) ≡ length lived
+views_count script [] = refl
+views_count [] (life ∷ lived) = ap suc (views_count [] lived)
+views_count (parts ∷ script) (life ∷ lived) = ap suc (views_count script lived)
+
+seen_count : (script : List (List (PartOf Step))) (lived : List Life) → length (lives_seen script lived) ≡ length lived
+seen_count script lived = length-reverse (views_of script lived) ∙ views_count script lived
+
 ended_all : (script many : ℕ) (views : List LifeView) → script ≡ many → length views ≡ many → All (λ (life : LifeView). IsFalse (is_refused life.boot)) views → AreEnded script views
 ended_all script many [] same size going = omega (arith, same, size)
-ended_all script many (life ∷ earlier) same size going = (All-tail (λ (l : LifeView). IsFalse (is_refused l.boot)) life earlier going, inr (omega (arith, same, size)))
+ended_all script many (life ∷ earlier) same size going =
+    (All-tail (λ (l : LifeView). IsFalse (is_refused l.boot)) life earlier going, omega (arith, same, size), inr (omega (arith, same, size)))
 
 pub run_life-requires-clause-few : goal.run_life-requires-clause-few
 run_life-requires-clause-few g c =
-    let most = one_of_many c.args.config.now c.args.lives.now c.loop-parts.parts-index c.parts-item.result c.loop-parts-test.true c.parts-item.is (λ parts. sum_by steps_in (parts_of parts)) in
+    let most = one_of_many c.args.lives.now c.loop-parts.parts-index c.parts-item.result c.loop-parts-test.true c.parts-item.is (λ parts. sum_by steps_in (parts_of parts)) in
     let same = ap (λ parts. sum_by steps_in (parts_of parts)) c.deref.ensures.value in
     let few = c.requires.few in
     omega (arith, most, same, few)
 
 pub run_life-requires-clause-numbers : goal.run_life-requires-clause-numbers
 run_life-requires-clause-numbers g c =
-    let most = one_of_many c.args.config.now c.args.lives.now c.loop-parts.parts-index c.parts-item.result c.loop-parts-test.true c.parts-item.is (λ parts. length parts + widths (parts_of parts)) in
+    let most = one_of_many c.args.lives.now c.loop-parts.parts-index c.parts-item.result c.loop-parts-test.true c.parts-item.is (λ parts. length parts + widths (parts_of parts)) in
     let same = ap (λ parts. widths (parts_of parts)) c.deref.ensures.value in
     let small = c.requires.small in
     omega (arith, most, same, small)
 
 pub run_life-requires-clause-indices : goal.run_life-requires-clause-indices
 run_life-requires-clause-indices g c =
-    let most = one_of_many c.args.config.now c.args.lives.now c.loop-parts.parts-index c.parts-item.result c.loop-parts-test.true c.parts-item.is (λ parts. length parts + widths (parts_of parts)) in
+    let most = one_of_many c.args.lives.now c.loop-parts.parts-index c.parts-item.result c.loop-parts-test.true c.parts-item.is (λ parts. length parts + widths (parts_of parts)) in
     let same = ap length c.deref.ensures.value in
     let small = c.requires.small in
     omega (arith, most, same, small)
@@ -90,11 +87,12 @@ loop-parts-init g c = record {
   arms = c.requires.arms;
   sound = λ h s sound. (h, s, sound);
   many = ap length c.in_ok-lived.ensures.items;
-  played = subst (λ (items : List Life). ArePlayed c.args.config.now [] (map view_of (reverse items))) (sym c.in_ok-lived.ensures.items) tt;
-  given = none_given (driver_of c.args.store.now).device.bench.arms;
-  going = subst (λ (items : List Life). All (λ (life : LifeView). IsFalse (is_refused life.boot)) (map view_of (reverse items))) (sym c.in_ok-lived.ensures.items) (All-nil _);
+  played = subst (λ (items : List Life). ArePlayed c.args.config.now (lives_seen (lists c.args.lives.now) items)) (sym c.in_ok-lived.ensures.items) (All-nil _);
+  given = subst (λ (items : List Life). WereGiven (arms_given (lives_seen (lists c.args.lives.now) items)) (driver_of c.args.store.now).device.bench.arms (driver_of c.args.store.now).device.bench.arms)
+      (sym c.in_ok-lived.ensures.items) (none_given (driver_of c.args.store.now).device.bench.arms);
+  going = subst (λ (items : List Life). All (λ (life : LifeView). IsFalse (is_refused life.boot)) (lives_seen (lists c.args.lives.now) items)) (sym c.in_ok-lived.ensures.items) (All-nil _);
   linked = λ medium keeps.
-      subst (λ (items : List Life). IsLinkedBy c.args.config.now medium (driver_of c.args.store.now) (driver_of c.args.store.now) (map view_of (reverse items))) (sym c.in_ok-lived.ensures.items)
+      subst (λ (items : List Life). IsLinkedBy c.args.config.now medium (driver_of c.args.store.now) (driver_of c.args.store.now) (lives_seen (lists c.args.lives.now) items)) (sym c.in_ok-lived.ensures.items)
       (links_none c.args.config.now medium (driver_of c.args.store.now));
 }
 
@@ -105,10 +103,14 @@ returns-then-ends-clause-linked g c = λ medium keeps.
     let next = driver_of c.run_life.new.store in
     let adds = c.in_ok-next.ensures.adds in
     let room = subst (HasRoom c.args.config.now) (sym adds.room) c.loop-parts.invariant.room in
-    let views = views_more c.loop-parts.lived.items c.push.new.self.items c.in_ok-next.next.life c.in_ok-push.ensures.items in
-    linked_of c.args.config.now medium before next (map view_of (reverse c.push.new.self.items))
+    let script = c.args.lives.now in
+    let earlier = lives_seen (lists script) c.loop-parts.lived.items in
+    let life = view_of (parts_of c.deref.result.now) c.in_ok-next.next.life in
+    let views = seen_more script c.loop-parts.parts-index c.parts-item.result c.loop-parts-test.true c.parts-item.is c.deref.result.now c.deref.ensures.value
+    c.loop-parts.lived.items c.push.new.self.items c.in_ok-next.next.life c.loop-parts.invariant.many c.in_ok-push.ensures.items in
+    linked_of c.args.config.now medium before next (lives_seen (lists script) c.push.new.self.items)
     (subst (λ (views : List LifeView). IsLinkedBy c.args.config.now medium before next views) (sym views)
-    (links_more c.args.config.now medium before now next (map view_of (reverse c.loop-parts.lived.items)) (view_of c.in_ok-next.next.life)
+    (links_more c.args.config.now medium before now next earlier life
     (keeps c.loop-parts.store.nvm.blocks c.loop-parts.store.numbers c.loop-parts.invariant.room)
     (keeps c.run_life.new.store.nvm.blocks c.run_life.new.store.numbers room)
     (c.loop-parts.invariant.linked medium keeps) c.in_ok-next.ensures.lived adds))
@@ -120,7 +122,11 @@ loop-parts-preserved g c =
     let next = driver_of c.run_life.new.store in
     let adds = c.in_ok-next.ensures.adds in
     let room = subst (HasRoom c.args.config.now) (sym adds.room) c.loop-parts.invariant.room in
-    let views = views_more c.loop-parts.lived.items c.push.new.self.items c.in_ok-next.next.life c.in_ok-push.ensures.items in
+    let script = c.args.lives.now in
+    let earlier = lives_seen (lists script) c.loop-parts.lived.items in
+    let life = view_of (parts_of c.deref.result.now) c.in_ok-next.next.life in
+    let views = seen_more script c.loop-parts.parts-index c.parts-item.result c.loop-parts-test.true c.parts-item.is c.deref.result.now c.deref.ensures.value
+    c.loop-parts.lived.items c.push.new.self.items c.in_ok-next.next.life c.loop-parts.invariant.many c.in_ok-push.ensures.items in
     let cost = sum_by-drop_more (λ life. sum_by arms_in (parts_of life.items)) c.args.lives.now c.loop-parts.parts-index c.parts-item.result c.loop-parts-test.true in
     let this = ap (λ life. sum_by arms_in (parts_of life.items)) c.parts-item.is in
     let spent = ap (λ parts. sum_by arms_in (parts_of parts)) c.deref.ensures.value in
@@ -136,16 +142,14 @@ loop-parts-preserved g c =
       arms = omega (arith, cost, this, spent, armed, was);
       sound = λ h s sound. (let one = c.loop-parts.invariant.sound h s sound in c.in_ok-next.ensures.sound one.0 one.1 one.2);
       many = (let many = c.loop-parts.invariant.many in let size = ap length c.in_ok-push.ensures.items ∙ length-append c.loop-parts.lived.items (c.in_ok-next.next.life ∷ []) in omega (arith, many, size));
-      played = played_more c.args.config.now c.args.lives.now c.loop-parts.parts-index c.parts-item.result c.loop-parts-test.true c.parts-item.is _ c.deref.ensures.value
-          (map view_of (reverse c.loop-parts.lived.items)) (view_of c.in_ok-next.next.life) (map view_of (reverse c.push.new.self.items)) views c.in_ok-next.ensures.played c.loop-parts.invariant.played;
-      given = given_more c.args.config.now c.args.lives.now c.loop-parts.parts-index c.parts-item.result c.loop-parts-test.true c.parts-item.is _ c.deref.ensures.value
-          (map view_of (reverse c.loop-parts.lived.items)) (view_of c.in_ok-next.next.life) (map view_of (reverse c.push.new.self.items)) views
-          before.device.bench.arms now.device.bench.arms next.device.bench.arms c.loop-parts.invariant.given c.in_ok-next.ensures.given;
-      going = subst (All (λ (life : LifeView). IsFalse (is_refused life.boot))) (sym views)
-          (All-cons (λ (life : LifeView). IsFalse (is_refused life.boot)) (view_of c.in_ok-next.next.life) (map view_of (reverse c.loop-parts.lived.items)) (sym c.is_refused-ends.ensures ∙ c.if-ends.false) c.loop-parts.invariant.going);
+      played = subst (ArePlayed c.args.config.now) (sym views) (All-cons (IsPlayed c.args.config.now) life earlier c.in_ok-next.ensures.played c.loop-parts.invariant.played);
+      given = subst (λ (views : List LifeView). WereGiven (arms_given views) before.device.bench.arms next.device.bench.arms) (sym views)
+          (given_further (arms_given earlier) (arms_by life.parts life.boot) before.device.bench.arms now.device.bench.arms next.device.bench.arms c.loop-parts.invariant.given c.in_ok-next.ensures.given);
+      going = subst (All (λ (l : LifeView). IsFalse (is_refused l.boot))) (sym views)
+          (All-cons (λ (l : LifeView). IsFalse (is_refused l.boot)) life earlier (sym c.is_refused-ends.ensures ∙ c.if-ends.false) c.loop-parts.invariant.going);
       linked = λ medium keeps.
           subst (λ (views : List LifeView). IsLinkedBy c.args.config.now medium before next views) (sym views)
-          (links_more c.args.config.now medium before now next (map view_of (reverse c.loop-parts.lived.items)) (view_of c.in_ok-next.next.life)
+          (links_more c.args.config.now medium before now next earlier life
           (keeps c.loop-parts.store.nvm.blocks c.loop-parts.store.numbers c.loop-parts.invariant.room)
           (keeps c.run_life.new.store.nvm.blocks c.run_life.new.store.numbers room)
           (c.loop-parts.invariant.linked medium keeps) c.in_ok-next.ensures.lived adds);
@@ -153,49 +157,52 @@ loop-parts-preserved g c =
 
 pub returns-clause-linked : goal.returns-clause-linked
 returns-clause-linked g c = λ medium keeps.
-    linked_of c.args.config.now medium (driver_of c.args.store.now) (driver_of c.loop-parts.store) (map view_of (reverse c.loop-parts.lived.items)) (c.loop-parts.invariant.linked medium keeps)
+    linked_of c.args.config.now medium (driver_of c.args.store.now) (driver_of c.loop-parts.store) (lives_seen (lists c.args.lives.now) c.loop-parts.lived.items) (c.loop-parts.invariant.linked medium keeps)
 
 pub returns-then-ends-clause-played : goal.returns-then-ends-clause-played
 returns-then-ends-clause-played g c =
-    let views = views_more c.loop-parts.lived.items c.push.new.self.items c.in_ok-next.next.life c.in_ok-push.ensures.items in
-    let many = c.loop-parts.invariant.many in
-    let size : length c.push.new.self.items ≡ c.loop-parts.parts-index + 1 = ap length c.in_ok-push.ensures.items ∙ length-append c.loop-parts.lived.items (c.in_ok-next.next.life ∷ []) ∙ ap (λ n. n + 1) many in
-    subst (λ n. ArePlayed c.args.config.now (first_lives n (lists c.args.lives.now)) (map view_of (reverse c.push.new.self.items))) (sym size)
-    (played_more c.args.config.now c.args.lives.now c.loop-parts.parts-index c.parts-item.result c.loop-parts-test.true c.parts-item.is _ c.deref.ensures.value
-    (map view_of (reverse c.loop-parts.lived.items)) (view_of c.in_ok-next.next.life) (map view_of (reverse c.push.new.self.items)) views c.in_ok-next.ensures.played c.loop-parts.invariant.played)
+    let script = c.args.lives.now in
+    let earlier = lives_seen (lists script) c.loop-parts.lived.items in
+    let life = view_of (parts_of c.deref.result.now) c.in_ok-next.next.life in
+    let views = seen_more script c.loop-parts.parts-index c.parts-item.result c.loop-parts-test.true c.parts-item.is c.deref.result.now c.deref.ensures.value
+    c.loop-parts.lived.items c.push.new.self.items c.in_ok-next.next.life c.loop-parts.invariant.many c.in_ok-push.ensures.items in
+    subst (ArePlayed c.args.config.now) (sym views) (All-cons (IsPlayed c.args.config.now) life earlier c.in_ok-next.ensures.played c.loop-parts.invariant.played)
 
 pub returns-then-ends-clause-given : goal.returns-then-ends-clause-given
 returns-then-ends-clause-given g c =
-    let views = views_more c.loop-parts.lived.items c.push.new.self.items c.in_ok-next.next.life c.in_ok-push.ensures.items in
-    let many = c.loop-parts.invariant.many in
-    let size : length c.push.new.self.items ≡ c.loop-parts.parts-index + 1 = ap length c.in_ok-push.ensures.items ∙ length-append c.loop-parts.lived.items (c.in_ok-next.next.life ∷ []) ∙ ap (λ n. n + 1) many in
+    let script = c.args.lives.now in
+    let earlier = lives_seen (lists script) c.loop-parts.lived.items in
+    let life = view_of (parts_of c.deref.result.now) c.in_ok-next.next.life in
+    let views = seen_more script c.loop-parts.parts-index c.parts-item.result c.loop-parts-test.true c.parts-item.is c.deref.result.now c.deref.ensures.value
+    c.loop-parts.lived.items c.push.new.self.items c.in_ok-next.next.life c.loop-parts.invariant.many c.in_ok-push.ensures.items in
     let first = (driver_of c.args.store.now).device.bench.arms in
     let last = (driver_of c.run_life.new.store).device.bench.arms in
     all_given _ first last
-    (subst (λ n. WereGiven (arms_given (first_lives n (lists c.args.lives.now)) (map view_of (reverse c.push.new.self.items))) first last) (sym size)
-    (given_more c.args.config.now c.args.lives.now c.loop-parts.parts-index c.parts-item.result c.loop-parts-test.true c.parts-item.is _ c.deref.ensures.value
-    (map view_of (reverse c.loop-parts.lived.items)) (view_of c.in_ok-next.next.life) (map view_of (reverse c.push.new.self.items)) views
-    first (driver_of c.loop-parts.store).device.bench.arms last c.loop-parts.invariant.given c.in_ok-next.ensures.given))
+    (subst (λ (views : List LifeView). WereGiven (arms_given views) first last) (sym views)
+    (given_further (arms_given earlier) (arms_by life.parts life.boot) first (driver_of c.loop-parts.store).device.bench.arms last c.loop-parts.invariant.given c.in_ok-next.ensures.given))
 
 pub returns-then-ends-clause-ended : goal.returns-then-ends-clause-ended
 returns-then-ends-clause-ended g c =
-    let views = views_more c.loop-parts.lived.items c.push.new.self.items c.in_ok-next.next.life c.in_ok-push.ensures.items in
-    subst (AreEnded (length c.args.lives.now)) (sym views) (c.loop-parts.invariant.going, inl (sym c.is_refused-ends.ensures ∙ c.if-ends.true))
+    let script = c.args.lives.now in
+    let earlier = lives_seen (lists script) c.loop-parts.lived.items in
+    let life = view_of (parts_of c.deref.result.now) c.in_ok-next.next.life in
+    let views = seen_more script c.loop-parts.parts-index c.parts-item.result c.loop-parts-test.true c.parts-item.is c.deref.result.now c.deref.ensures.value
+    c.loop-parts.lived.items c.push.new.self.items c.in_ok-next.next.life c.loop-parts.invariant.many c.in_ok-push.ensures.items in
+    let size = seen_count (lists script) c.loop-parts.lived.items in
+    let many = c.loop-parts.invariant.many in
+    let within = c.loop-parts-test.true in
+    subst (AreEnded (length c.args.lives.now)) (sym views) (c.loop-parts.invariant.going, omega (arith, size, many, within), inl (sym c.is_refused-ends.ensures ∙ c.if-ends.true))
 
 pub returns-clause-played : goal.returns-clause-played
-returns-clause-played g c =
-    subst (λ n. ArePlayed c.args.config.now (first_lives n (lists c.args.lives.now)) (map view_of (reverse c.loop-parts.lived.items))) (sym c.loop-parts.invariant.many) c.loop-parts.invariant.played
+returns-clause-played g c = c.loop-parts.invariant.played
 
 pub returns-clause-given : goal.returns-clause-given
 returns-clause-given g c =
-    let first = (driver_of c.args.store.now).device.bench.arms in
-    let last = (driver_of c.loop-parts.store).device.bench.arms in
-    all_given _ first last
-    (subst (λ n. WereGiven (arms_given (first_lives n (lists c.args.lives.now)) (map view_of (reverse c.loop-parts.lived.items))) first last) (sym c.loop-parts.invariant.many) c.loop-parts.invariant.given)
+    all_given _ (driver_of c.args.store.now).device.bench.arms (driver_of c.loop-parts.store).device.bench.arms c.loop-parts.invariant.given
 
 pub returns-clause-ended : goal.returns-clause-ended
 returns-clause-ended g c =
     let past = c.loop-parts-test.false in
     let within = c.loop-parts.auto.parts-index-end in
-    let size = length-map (reverse c.loop-parts.lived.items) view_of ∙ length-reverse c.loop-parts.lived.items ∙ c.loop-parts.invariant.many in
-    ended_all (length c.args.lives.now) c.loop-parts.parts-index (map view_of (reverse c.loop-parts.lived.items)) (omega (arith, past, within)) size c.loop-parts.invariant.going
+    let size = seen_count (lists c.args.lives.now) c.loop-parts.lived.items ∙ c.loop-parts.invariant.many in
+    ended_all (length c.args.lives.now) c.loop-parts.parts-index (lives_seen (lists c.args.lives.now) c.loop-parts.lived.items) (omega (arith, past, within)) size c.loop-parts.invariant.going

@@ -1,11 +1,11 @@
-use Rattle.std.proofs.Common.{◌≡◌, ◌+◌, ◌≤◌, length, drop, map, reverse}
+use Rattle.std.proofs.Common.{◌≡◌, ◌+◌, ◌≤◌, length, drop}
 use Rattle.std.specs.Prelude.{sum_by, All, IsFalse}
 use Rattle.flt_script.specs.Part.{parts_of}
 use Rattle.flt_store.specs.Store.{driver_of}
 use Rattle.flt_store.specs.Cause.{HasRoom}
 use Rattle.flt_life.specs.Parts.{arms_in}
 use Rattle.flt_life.specs.Chain.{LifeView}
-use Rattle.flt_life.specs.Lives.{ArePlayed, StaysSound, arms_given, first_lives, is_refused, lists, view_of}
+use Rattle.flt_life.specs.Lives.{ArePlayed, StaysSound, arms_given, is_refused, lists, lives_seen}
 use Rattle.flt_life.specs.Moment.{Medium, moment_of}
 use Rattle.flt_lives.specs.Going.{WereGiven}
 use Rattle.flt_lives.specs.Linked.{KeepsOn, IsLinkedBy}
@@ -20,8 +20,8 @@ invariant-loop-parts g l = record {
   arms : (driver_of l.store).device.bench.armed + sum_by (λ life. sum_by arms_in (parts_of life.items)) (drop l.parts-index l.lives) ≤ 64;
   sound : StaysSound l.config (moment_of (driver_of l.fn.store)) (moment_of (driver_of l.store));
   many : length l.lived.items ≡ l.parts-index;
-  played : ArePlayed l.config (first_lives l.parts-index (lists l.lives)) (map view_of (reverse l.lived.items));
-  given : WereGiven (arms_given (first_lives l.parts-index (lists l.lives)) (map view_of (reverse l.lived.items))) (driver_of l.fn.store).device.bench.arms (driver_of l.store).device.bench.arms;
-  going : All (λ (life : LifeView). IsFalse (is_refused life.boot)) (map view_of (reverse l.lived.items));
-  linked : (medium : Medium) → KeepsOn g.D.Blocks l.config medium → IsLinkedBy l.config medium (driver_of l.fn.store) (driver_of l.store) (map view_of (reverse l.lived.items));
+  played : ArePlayed l.config (lives_seen (lists l.lives) l.lived.items);
+  given : WereGiven (arms_given (lives_seen (lists l.lives) l.lived.items)) (driver_of l.fn.store).device.bench.arms (driver_of l.store).device.bench.arms;
+  going : All (λ (life : LifeView). IsFalse (is_refused life.boot)) (lives_seen (lists l.lives) l.lived.items);
+  linked : (medium : Medium) → KeepsOn g.D.Blocks l.config medium → IsLinkedBy l.config medium (driver_of l.fn.store) (driver_of l.store) (lives_seen (lists l.lives) l.lived.items);
 }

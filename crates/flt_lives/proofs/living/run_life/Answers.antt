@@ -1,14 +1,17 @@
-use Rattle.std.proofs.Common.{sym, subst, reverse, map}
+use Rattle.std.proofs.Common.{◌∙◌, refl, ap, sym, subst, map}
 use Rattle.flt_restore.specs.declared.fault.StartFault.TheVariants as faults
 use Rattle.flt_store.specs.Store.{driver_of}
 use Rattle.flt_store.specs.Start.{RefusedFor}
 use Rattle.flt_script.specs.Part.{parts_of}
 use Rattle.flt_life.specs.Chain.{LifeView}
-use Rattle.flt_life.specs.Lives.{StaysSound, view_of}
+use Rattle.flt_life.specs.Lives.{StaysSound, arms_by, view_of}
 use Rattle.flt_life.specs.Moment.{Moment, moment_of}
 use Rattle.flt_life.specs.Parts.{own_actions, lanes_in}
-use Rattle.flt_life.specs.Played.{dark_answer, dark_answers}
+use Rattle.flt_life.specs.Played.{IsPlayed, dark_answer, dark_answers}
+use Rattle.flt_lives.specs.Going.{WereGiven}
 use Rattle.flt_lives.specs.Living.{IsLived}
+use Rattle.flt_lives.proofs.Deeds.{keeps_from_boot}
+use Rattle.flt_lives.proofs.Giving.{none_since}
 use Rattle.flt_lives.proofs.Rooms.{possible_own, possible_lanes}
 use Rattle.flt_lives.proofs.Starting.{if_ok, keeps, stays_by_keeping, lived_refused, lived_started, lived_dark}
 use Rattle.flt_lives.proofs.living.run_life.Goals as goal
@@ -24,10 +27,13 @@ returns-in-Ok-clause-lived g c =
     let config = c.args.config.now in
     let before = driver_of c.args.store.now in
     let last = driver_of c.live.new.store in
-    if_ok c.live.result (λ lived boot leaves caused. lived_started config before c.power_up.new.self c.start_up.new.self c.power_up.ensures.powers_up c.in-Ok.generation c.start_up.new.out
-    last (view_of lived.life) c.in-Ok.ensures.started c.start_up.ensures.follows c.live.ensures.goes_on boot leaves
-    (caused (moment_of (driver_of c.power_up.new.self)) c.start_up.ensures.follows.counts))
-    c.live.ensures.boot c.live.ensures.leaves c.live.ensures.caused
+    let parts = parts_of c.args.parts.now in
+    let begun = moment_of (driver_of c.power_up.new.self) in
+    if_ok c.live.result (λ lived boot leaves caused kept. lived_started config before c.power_up.new.self c.start_up.new.self c.power_up.ensures.powers_up c.in-Ok.generation c.start_up.new.out
+    last (view_of parts lived.life) c.in-Ok.ensures.started c.start_up.ensures.follows c.live.ensures.goes_on boot leaves (caused begun c.start_up.ensures.follows.counts)
+    (keeps_from_boot config begun (moment_of (driver_of c.start_up.new.self)) (moment_of last) (view_of parts lived.life) c.in-Ok.ensures.started.running.served.given.valid c.requires.possible
+    c.start_up.ensures.applications kept))
+    c.live.ensures.boot c.live.ensures.leaves c.live.ensures.caused c.live.ensures.kept
 
 pub returns-in-Ok-clause-sound : goal.returns-in-Ok-clause-sound
 returns-in-Ok-clause-sound g c =
@@ -37,12 +43,12 @@ returns-in-Ok-clause-sound g c =
 pub returns-in-Err-Flash-clause-lived : goal.returns-in-Err-Flash-clause-lived
 returns-in-Err-Flash-clause-lived g c =
     let actions = own_actions (parts_of c.args.parts.now) in
-    let told = reverse (map dark_answer actions) in
+    let told = map dark_answer actions in
     let lanes = map dark_answers (lanes_in (parts_of c.args.parts.now)) in
     subst (λ (v : LifeView). IsLived c.args.config.now (driver_of c.args.store.now) (driver_of c.dark_life-life.new.store) v) (sym c.dark_life-life.ensures.life)
-    (lived_dark c.args.config.now (driver_of c.args.store.now) c.power_up.new.self c.start_up.new.self c.power_up.ensures.powers_up (driver_of c.dark_life-life.new.store) told lanes
+    (lived_dark c.args.config.now (driver_of c.args.store.now) c.power_up.new.self c.start_up.new.self c.power_up.ensures.powers_up (parts_of c.args.parts.now) (driver_of c.dark_life-life.new.store) told lanes
     (subst (RefusedFor c.args.config.now c.power_up.new.self c.start_up.new.self) c.in-Err-Flash.field-0-is c.in-Err-Flash.ensures.refused) c.start_up.ensures.follows c.dark_life-life.ensures.goes_on c.dark_life-life.ensures.same
-    (keeps c.args.config.now (driver_of c.power_up.new.self) (driver_of c.start_up.new.self) c.start_up.ensures.follows c.in-Err-Flash.ensures.left))
+    (keeps c.args.config.now (driver_of c.power_up.new.self) (driver_of c.start_up.new.self) c.start_up.ensures.follows c.in-Err-Flash.ensures.left) c.start_up.ensures.applications)
 
 pub returns-in-Err-Flash-clause-sound : goal.returns-in-Err-Flash-clause-sound
 returns-in-Err-Flash-clause-sound g c =
@@ -52,10 +58,21 @@ returns-in-Err-Flash-clause-sound g c =
 
 pub returns-in-Err-Damaged-clause-lived : goal.returns-in-Err-Damaged-clause-lived
 returns-in-Err-Damaged-clause-lived g c =
-    subst (λ (v : LifeView). IsLived c.args.config.now (driver_of c.args.store.now) (driver_of c.start_up.new.self) v) (sym c.refused-life.ensures)
-    (lived_refused c.args.config.now (driver_of c.args.store.now) c.power_up.new.self c.start_up.new.self c.power_up.ensures.powers_up (faults.Damaged c.in-Err-Damaged.place) tt
+    subst (λ (v : LifeView). IsLived c.args.config.now (driver_of c.args.store.now) (driver_of c.start_up.new.self) v) (sym (c.refused-life.ensures (parts_of c.args.parts.now)))
+    (lived_refused c.args.config.now (driver_of c.args.store.now) c.power_up.new.self c.start_up.new.self c.power_up.ensures.powers_up (parts_of c.args.parts.now) (faults.Damaged c.in-Err-Damaged.place) tt
     c.start_up.ensures.follows (subst (RefusedFor c.args.config.now c.power_up.new.self c.start_up.new.self) c.in-Err-Damaged.field-0-is c.in-Err-Damaged.ensures.refused)
-    (keeps c.args.config.now (driver_of c.power_up.new.self) (driver_of c.start_up.new.self) c.start_up.ensures.follows c.in-Err-Damaged.ensures.left))
+    (keeps c.args.config.now (driver_of c.power_up.new.self) (driver_of c.start_up.new.self) c.start_up.ensures.follows c.in-Err-Damaged.ensures.left) c.start_up.ensures.applications)
+
+pub returns-in-Err-Damaged-clause-played : goal.returns-in-Err-Damaged-clause-played
+returns-in-Err-Damaged-clause-played g c = subst (IsPlayed c.args.config.now) (sym (c.refused-life.ensures (parts_of c.args.parts.now))) (refl, refl, refl, refl)
+
+pub returns-in-Err-Damaged-clause-given : goal.returns-in-Err-Damaged-clause-given
+returns-in-Err-Damaged-clause-given g c =
+    let parts = parts_of c.args.parts.now in
+    let boot = ap (λ (v : LifeView). v.boot) (c.refused-life.ensures parts) in
+    let first = (driver_of c.args.store.now).device.bench.arms in
+    let last = (driver_of c.start_up.new.self).device.bench.arms in
+    subst (λ b. WereGiven (arms_by parts b) first last) (sym boot) (none_since first last (c.start_up.ensures.follows.bench.arms ∙ c.power_up.ensures.powers_up.bench.arms))
 
 pub returns-in-Err-Damaged-clause-sound : goal.returns-in-Err-Damaged-clause-sound
 returns-in-Err-Damaged-clause-sound g c =
@@ -64,10 +81,21 @@ returns-in-Err-Damaged-clause-sound g c =
 
 pub returns-in-Err-OtherConfig-clause-lived : goal.returns-in-Err-OtherConfig-clause-lived
 returns-in-Err-OtherConfig-clause-lived g c =
-    subst (λ (v : LifeView). IsLived c.args.config.now (driver_of c.args.store.now) (driver_of c.start_up.new.self) v) (sym c.refused-life-in-Err-OtherConfig.ensures)
-    (lived_refused c.args.config.now (driver_of c.args.store.now) c.power_up.new.self c.start_up.new.self c.power_up.ensures.powers_up (faults.OtherConfig c.in-Err-OtherConfig.found c.in-Err-OtherConfig.wanted) tt
+    subst (λ (v : LifeView). IsLived c.args.config.now (driver_of c.args.store.now) (driver_of c.start_up.new.self) v) (sym (c.refused-life-in-Err-OtherConfig.ensures (parts_of c.args.parts.now)))
+    (lived_refused c.args.config.now (driver_of c.args.store.now) c.power_up.new.self c.start_up.new.self c.power_up.ensures.powers_up (parts_of c.args.parts.now) (faults.OtherConfig c.in-Err-OtherConfig.found c.in-Err-OtherConfig.wanted) tt
     c.start_up.ensures.follows (subst (RefusedFor c.args.config.now c.power_up.new.self c.start_up.new.self) c.in-Err-OtherConfig.field-0-is c.in-Err-OtherConfig.ensures.refused)
-    (keeps c.args.config.now (driver_of c.power_up.new.self) (driver_of c.start_up.new.self) c.start_up.ensures.follows c.in-Err-OtherConfig.ensures.left))
+    (keeps c.args.config.now (driver_of c.power_up.new.self) (driver_of c.start_up.new.self) c.start_up.ensures.follows c.in-Err-OtherConfig.ensures.left) c.start_up.ensures.applications)
+
+pub returns-in-Err-OtherConfig-clause-played : goal.returns-in-Err-OtherConfig-clause-played
+returns-in-Err-OtherConfig-clause-played g c = subst (IsPlayed c.args.config.now) (sym (c.refused-life-in-Err-OtherConfig.ensures (parts_of c.args.parts.now))) (refl, refl, refl, refl)
+
+pub returns-in-Err-OtherConfig-clause-given : goal.returns-in-Err-OtherConfig-clause-given
+returns-in-Err-OtherConfig-clause-given g c =
+    let parts = parts_of c.args.parts.now in
+    let boot = ap (λ (v : LifeView). v.boot) (c.refused-life-in-Err-OtherConfig.ensures parts) in
+    let first = (driver_of c.args.store.now).device.bench.arms in
+    let last = (driver_of c.start_up.new.self).device.bench.arms in
+    subst (λ b. WereGiven (arms_by parts b) first last) (sym boot) (none_since first last (c.start_up.ensures.follows.bench.arms ∙ c.power_up.ensures.powers_up.bench.arms))
 
 pub returns-in-Err-OtherConfig-clause-sound : goal.returns-in-Err-OtherConfig-clause-sound
 returns-in-Err-OtherConfig-clause-sound g c =
@@ -76,10 +104,21 @@ returns-in-Err-OtherConfig-clause-sound g c =
 
 pub returns-in-Err-SequenceSpent-clause-lived : goal.returns-in-Err-SequenceSpent-clause-lived
 returns-in-Err-SequenceSpent-clause-lived g c =
-    subst (λ (v : LifeView). IsLived c.args.config.now (driver_of c.args.store.now) (driver_of c.start_up.new.self) v) (sym c.refused-life-in-Err-SequenceSpent.ensures)
-    (lived_refused c.args.config.now (driver_of c.args.store.now) c.power_up.new.self c.start_up.new.self c.power_up.ensures.powers_up (faults.SequenceSpent) tt
+    subst (λ (v : LifeView). IsLived c.args.config.now (driver_of c.args.store.now) (driver_of c.start_up.new.self) v) (sym (c.refused-life-in-Err-SequenceSpent.ensures (parts_of c.args.parts.now)))
+    (lived_refused c.args.config.now (driver_of c.args.store.now) c.power_up.new.self c.start_up.new.self c.power_up.ensures.powers_up (parts_of c.args.parts.now) (faults.SequenceSpent) tt
     c.start_up.ensures.follows (subst (RefusedFor c.args.config.now c.power_up.new.self c.start_up.new.self) c.in-Err-SequenceSpent.field-0-is c.in-Err-SequenceSpent.ensures.refused)
-    (keeps c.args.config.now (driver_of c.power_up.new.self) (driver_of c.start_up.new.self) c.start_up.ensures.follows c.in-Err-SequenceSpent.ensures.left))
+    (keeps c.args.config.now (driver_of c.power_up.new.self) (driver_of c.start_up.new.self) c.start_up.ensures.follows c.in-Err-SequenceSpent.ensures.left) c.start_up.ensures.applications)
+
+pub returns-in-Err-SequenceSpent-clause-played : goal.returns-in-Err-SequenceSpent-clause-played
+returns-in-Err-SequenceSpent-clause-played g c = subst (IsPlayed c.args.config.now) (sym (c.refused-life-in-Err-SequenceSpent.ensures (parts_of c.args.parts.now))) (refl, refl, refl, refl)
+
+pub returns-in-Err-SequenceSpent-clause-given : goal.returns-in-Err-SequenceSpent-clause-given
+returns-in-Err-SequenceSpent-clause-given g c =
+    let parts = parts_of c.args.parts.now in
+    let boot = ap (λ (v : LifeView). v.boot) (c.refused-life-in-Err-SequenceSpent.ensures parts) in
+    let first = (driver_of c.args.store.now).device.bench.arms in
+    let last = (driver_of c.start_up.new.self).device.bench.arms in
+    subst (λ b. WereGiven (arms_by parts b) first last) (sym boot) (none_since first last (c.start_up.ensures.follows.bench.arms ∙ c.power_up.ensures.powers_up.bench.arms))
 
 pub returns-in-Err-SequenceSpent-clause-sound : goal.returns-in-Err-SequenceSpent-clause-sound
 returns-in-Err-SequenceSpent-clause-sound g c =

@@ -1,12 +1,11 @@
-use Rattle.std.proofs.Common.{◌≤◌, ◌∙◌, ◌∷◌, [], List, reverse, ap, sym, subst, arith}
-use Rattle.std.proofs.lemmas.List.{reverse-append}
+use Rattle.std.proofs.Common.{◌≡◌, ◌≤◌, reverse, ap, sym, subst, arith}
 use Rattle.flt_dcm.specs.Whole.{state_of}
 use Rattle.flt_life.specs.declared.action.Action.{Action}
 use Rattle.flt_life.specs.Actions.{action_of, response_size, call_count}
-use Rattle.flt_life.specs.Answers.{Told, told_by, told_with, response_length}
+use Rattle.flt_life.specs.Answers.{Told, told_with, response_length}
 use Rattle.flt_lives.specs.Carried.{IsCarriedOut}
 use Rattle.flt_life.specs.Chain.{start_from}
-use Rattle.flt_lives.specs.Living.{IsLiving, IsCaused}
+use Rattle.flt_lives.specs.Living.{IsLiving, IsCaused, with_answer}
 use Rattle.flt_lives.proofs.Rooms.{response_fits, room_after}
 use Rattle.flt_lives.proofs.plain.take_step.Goals as goal
 
@@ -19,34 +18,28 @@ keep-requires-clause-responses g c =
     let most = ap response_size c.action_of.ensures in
     omega (arith, fits, size, most)
 
-pub returns-clause-living : goal.returns-clause-living
-returns-clause-living g c = λ first living.
-    let before = told_by c.args.account.now.replies.responses.items c.args.account.now.replies.answers.items in
-    let last = told_with c.as_slice.result.now c.make_step-answer.result in
-    let told = ap reverse c.keep.ensures.told ∙ reverse-append before (last ∷ []) ∙ ap (λ bytes. told_with bytes c.make_step-answer.result ∷ reverse before) c.as_slice.ensures.value in
-    subst (λ (told : List Told). IsLiving c.args.config.now first (reverse c.make_step-answer.new.journal.items) told (state_of c.make_step-answer.new.unit) c.make_step-answer.new.store) (sym told)
-    (c.make_step-answer.ensures.living first _ living)
-
-pub returns-clause-caused : goal.returns-clause-caused
-returns-clause-caused g c = λ begun caused.
-    let before = told_by c.args.account.now.replies.responses.items c.args.account.now.replies.answers.items in
-    let last = told_with c.as_slice.result.now c.make_step-answer.result in
-    let told = ap reverse c.keep.ensures.told ∙ reverse-append before (last ∷ []) ∙ ap (λ bytes. told_with bytes c.make_step-answer.result ∷ reverse before) c.as_slice.ensures.value in
-    subst (λ (told : List Told). IsCaused c.args.config.now begun told c.make_step-answer.new.store) (sym told) (c.make_step-answer.ensures.caused begun _ caused)
-
-pub returns-clause-adds : goal.returns-clause-adds
-returns-clause-adds g c = λ first living.
-    let before = told_by c.args.account.now.replies.responses.items c.args.account.now.replies.answers.items in
-    let last = told_with c.as_slice.result.now c.make_step-answer.result in
-    let carried = c.make_step-answer.ensures.carried first living.stands in
+pub returns-clause-takes : goal.returns-clause-takes
+returns-clause-takes g c =
+    let config = c.args.config.now in
+    let made = c.make_step-answer in
     let journal = reverse c.args.account.now.journal.items in
+    let later = reverse made.new.journal.items in
+    let last = told_with c.as_slice.result.now made.result in
+    let same : told_with made.new.buffers.response.items made.result ≡ last = ap (λ bytes. told_with bytes made.result) (sym c.as_slice.ensures.value) in
+    let by_step = c.action_of.ensures in
     record {
       last = last;
-      answers = ap reverse c.keep.ensures.told ∙ reverse-append before (last ∷ []);
-      carried = subst (λ bytes. IsCarriedOut (start_from c.args.config.now first.state) journal (action_of c.args.step.now) (reverse c.make_step-answer.new.journal.items) (told_with bytes c.make_step-answer.result))
-          (sym c.as_slice.ensures.value)
-          (subst (λ (action : Action). IsCarriedOut (start_from c.args.config.now first.state) journal action (reverse c.make_step-answer.new.journal.items) (told_with c.make_step-answer.new.buffers.response.items c.make_step-answer.result))
-          c.action_of.ensures carried);
+      answers = c.keep.ensures.told;
+      carried = λ first stands.
+          (let start = start_from config first.state in
+          subst (λ (action : Action). IsCarriedOut start journal action later last) by_step
+          (subst (λ (answer : Told). IsCarriedOut start journal c.action_of.result later answer) same (made.ensures.carried first stands)));
+      living = λ first told living.
+          subst (λ (action : Action). IsLiving config first later (with_answer action last told) (state_of made.new.unit) made.new.store) by_step
+          (subst (λ (answer : Told). IsLiving config first later (with_answer c.action_of.result answer told) (state_of made.new.unit) made.new.store) same (made.ensures.living first told living));
+      caused = λ begun told caused.
+          subst (λ (action : Action). IsCaused config begun (with_answer action last told) made.new.store) by_step
+          (subst (λ (answer : Told). IsCaused config begun (with_answer c.action_of.result answer told) made.new.store) same (made.ensures.caused begun told caused));
     }
 
 pub returns-clause-room : goal.returns-clause-room

@@ -1,21 +1,25 @@
 use Rattle.std.proofs.Common.{◌≡◌, ◌∙◌, inl, ◌+◌, ◌∷◌, ◌++◌, [], refl, reverse, ap, sym, subst, take, drop, length, arith, List}
 use Rattle.std.specs.Prelude.{sum_by, All}
-use Rattle.std.proofs.lemmas.List.{reverse-append}
+use Rattle.std.proofs.lemmas.List.{length-append}
 use Rattle.std.proofs.lemmas.List.Sums.{sum_by-cons}
 use Rattle.std.proofs.lemmas.List.Elements.{All-head, All-tail}
 use Rattle.std.proofs.Math.Seq.{take-length}
+use Rattle.flt_script.specs.declared.step.Part.{Part}
 use Rattle.flt_script.specs.declared.step.Step.{Step}
 use Rattle.flt_script.specs.Part.{PartOf, part_of, parts_of}
 use Rattle.flt_life.specs.Actions.{IsPossible, action_of, all_arms, arms_of, arm_count}
 use Rattle.flt_life.specs.Answers.{Told}
 use Rattle.flt_life.specs.Played.{IsLife}
 use Rattle.flt_life.specs.Journal.{Journal}
+use Rattle.flt_life.specs.Room.{told_in}
+use Rattle.flt_life.proofs.Sizes.{own_count}
 use Rattle.flt_dcm.specs.Whole.{state_of}
 use Rattle.flt_lives.specs.Alone.{IsAlone, actions_in}
 use Rattle.flt_life.specs.Chain.{start_from}
 use Rattle.flt_store.specs.Store.{driver_of}
 use Rattle.flt_lives.specs.Going.{WereGiven}
-use Rattle.flt_lives.specs.Living.{HasRoomFor, IsLiving, IsCaused, told_in}
+use Rattle.flt_lives.specs.Living.{HasRoomFor, IsLiving, IsCaused, deeds_told, with_answer}
+use Rattle.flt_lives.proofs.Deeds.{deeds_told_more}
 use Rattle.flt_lives.proofs.Riding.{goes_further, goes_nowhere}
 use Rattle.flt_lives.proofs.Playing.{life_more, no_parts}
 use Rattle.flt_lives.proofs.Giving.{given_further, arms_more, none_given}
@@ -43,11 +47,27 @@ take_step-requires-clause-room g c =
     let left = left_more c.args.parts.now c.loop-part.part-index c.part-item.result c.loop-part-test.true c.part-item.is c.in-One.step c.in-One.is in
     one_of c.loop-part.account (action_of c.in-One.step) rest (subst (HasRoomFor c.loop-part.account) left c.loop-part.invariant.room)
 
+pub take_step-requires-clause-plain : goal.take_step-requires-clause-plain
+take_step-requires-clause-plain g c =
+    subst (λ (part : Part). IsAlone (part_of part)) c.in-One.is
+    (one_alone c.args.parts.now c.loop-part.part-index c.part-item.result c.loop-part-test.true c.part-item.is c.requires.alone)
+
 pub loop-part-preserved : goal.loop-part-preserved
 loop-part-preserved g c =
     let parts = c.args.parts.now in
+    let config = c.args.config.now in
     let index = c.loop-part.part-index in
+    let before = parts_of (take index parts) in
     let step = action_of c.in-One.step in
+    let takes = c.take_step.ensures.takes in
+    let told = told_in c.loop-part.account.replies in
+    let last = takes.last in
+    let parts_more = parts_are parts index c.part-item.result c.loop-part-test.true c.part-item.is c.in-One.step c.in-One.is in
+    let inv_many = c.loop-part.invariant.many in
+    let answered = ap length takes.answers ∙ length-append told (last ∷ []) in
+    let count = own_count parts index c.part-item.result c.loop-part-test.true c.part-item.is c.in-One.step c.in-One.is in
+    let deeds : deeds_told (parts_of (take (index + 1) parts)) (told_in c.take_step.new.account.replies) ≡ with_answer step last (deeds_told before told) =
+    (λ i. deeds_told (parts_more i) (takes.answers i)) ∙ deeds_told_more before told c.in-One.step last inv_many in
     let made = actions_in (take index parts) in
     let rest = actions_in (drop (index + 1) parts) in
     let left = left_more parts index c.part-item.result c.loop-part-test.true c.part-item.is c.in-One.step c.in-One.is in
@@ -63,22 +83,33 @@ loop-part-preserved g c =
       possible = All-tail (IsPossible c.args.config.now) step rest (subst (All (IsPossible c.args.config.now)) left c.loop-part.invariant.possible);
       room = c.take_step.ensures.room rest (subst (HasRoomFor c.loop-part.account) left c.loop-part.invariant.room);
       alive = λ alive. c.take_step.ensures.alive (c.loop-part.invariant.alive alive);
-      living = λ first living. c.take_step.ensures.living first (c.loop-part.invariant.living first living);
+      many = omega (arith, answered, inv_many, count);
+      living = λ first living.
+          subst (λ (now : List Told). IsLiving config first (reverse c.take_step.new.account.journal.items) now (state_of c.take_step.new.unit) c.take_step.new.store) (sym deeds)
+          (takes.living first (deeds_told before told) (c.loop-part.invariant.living first living));
       played = λ first living.
-          (let start = start_from c.args.config.now first.state in
-          let adds = c.take_step.ensures.adds first (c.loop-part.invariant.living first living) in
-          let told = ap reverse adds.answers ∙ reverse-append (adds.last ∷ []) (told_in c.loop-part.account) in
-          let parts_more = parts_are parts index c.part-item.result c.loop-part-test.true c.part-item.is c.in-One.step c.in-One.is in
-          subst (λ (l : List (PartOf Step)). IsLife start l (reverse (told_in c.take_step.new.account)) [] c.take_step.new.account.journal.items) (sym parts_more)
-          (subst (λ (own : List Told). IsLife start (parts_of (take index parts) ++ inl c.in-One.step ∷ []) own [] c.take_step.new.account.journal.items) (sym told)
-          (life_more start (parts_of (take index parts)) (reverse (told_in c.loop-part.account)) [] c.loop-part.account.journal.items c.take_step.new.account.journal.items c.in-One.step adds.last
-          (c.loop-part.invariant.played first living) adds.carried)));
-      caused = λ begun caused. c.take_step.ensures.caused begun (c.loop-part.invariant.caused begun caused);
+          (let start = start_from config first.state in
+          subst (λ (l : List (PartOf Step)). IsLife start l (told_in c.take_step.new.account.replies) [] c.take_step.new.account.journal.items []) (sym parts_more)
+          (subst (λ (own : List Told). IsLife start (before ++ inl c.in-One.step ∷ []) own [] c.take_step.new.account.journal.items []) (sym takes.answers)
+          (life_more start before told [] c.loop-part.account.journal.items c.take_step.new.account.journal.items c.in-One.step last
+          (c.loop-part.invariant.played first living) (takes.carried first (c.loop-part.invariant.living first living).stands))));
+      caused = λ begun caused.
+          subst (λ (now : List Told). IsCaused config begun now c.take_step.new.store) (sym deeds) (takes.caused begun (deeds_told before told) (c.loop-part.invariant.caused begun caused));
+      applications = λ block below. c.take_step.ensures.applications block below ∙ c.loop-part.invariant.applications block below;
       goes_on = goes_further _ _ _ c.loop-part.invariant.goes_on c.take_step.ensures.goes_on;
       given = subst (λ arms. WereGiven arms first_arms last_arms) (sym (ap all_arms more ∙ arms_more made step))
           (given_further (all_arms made) (arms_of step) first_arms (driver_of c.loop-part.store).device.bench.arms last_arms c.loop-part.invariant.given c.take_step.ensures.given);
       armed = omega (arith, sum, armed, was);
     }
+
+pub returns-clause-living : goal.returns-clause-living
+returns-clause-living g c = λ first living.
+    let past = c.loop-part-test.false in
+    let within = c.loop-part.auto.part-index-end in
+    let parts = c.args.parts.now in
+    let same : c.loop-part.part-index ≡ length parts = omega (arith, past, within) in
+    let all = ap (λ n. take n parts) same ∙ take-length parts in
+    rw all at (c.loop-part.invariant.living first living)
 
 pub returns-clause-played : goal.returns-clause-played
 returns-clause-played g c = λ first living.
@@ -88,6 +119,15 @@ returns-clause-played g c = λ first living.
     let same : c.loop-part.part-index ≡ length parts = omega (arith, past, within) in
     let all = ap (λ n. take n parts) same ∙ take-length parts in
     rw all at (c.loop-part.invariant.played first living)
+
+pub returns-clause-caused : goal.returns-clause-caused
+returns-clause-caused g c = λ begun caused.
+    let past = c.loop-part-test.false in
+    let within = c.loop-part.auto.part-index-end in
+    let parts = c.args.parts.now in
+    let same : c.loop-part.part-index ≡ length parts = omega (arith, past, within) in
+    let all = ap (λ n. take n parts) same ∙ take-length parts in
+    rw all at (c.loop-part.invariant.caused begun caused)
 
 pub returns-clause-given : goal.returns-clause-given
 returns-clause-given g c =
@@ -105,13 +145,14 @@ loop-part-init g c = record {
   possible = c.requires.possible;
   room = c.requires.room;
   alive = λ alive. alive;
+  many = ap length c.requires.no_answers;
   living = λ first living.
-      subst (λ (journal : Journal). IsLiving c.args.config.now first journal (told_in c.args.account.now) (state_of c.args.unit.now) c.args.store.now) (sym (ap reverse c.requires.no_calls))
-      (subst (λ (told : List Told). IsLiving c.args.config.now first [] told (state_of c.args.unit.now) c.args.store.now) (sym c.requires.no_answers) living);
+      subst (λ (journal : Journal). IsLiving c.args.config.now first journal [] (state_of c.args.unit.now) c.args.store.now) (sym (ap reverse c.requires.no_calls)) living;
   played = λ first living.
-      subst (λ (told : List Told). IsLife (start_from c.args.config.now first.state) [] (reverse told) [] c.args.account.now.journal.items) (sym c.requires.no_answers)
-      (subst (λ (journal : Journal). IsLife (start_from c.args.config.now first.state) [] [] [] journal) (sym c.requires.no_calls) (no_parts (start_from c.args.config.now first.state)));
-  caused = λ begun caused. subst (λ (told : List Told). IsCaused c.args.config.now begun told c.args.store.now) (sym c.requires.no_answers) caused;
+      subst (λ (told : List Told). IsLife (start_from c.args.config.now first.state) [] told [] c.args.account.now.journal.items []) (sym c.requires.no_answers)
+      (subst (λ (journal : Journal). IsLife (start_from c.args.config.now first.state) [] [] [] journal []) (sym c.requires.no_calls) (no_parts (start_from c.args.config.now first.state)));
+  caused = λ begun caused. caused;
+  applications = λ block below. refl;
   goes_on = goes_nowhere (driver_of c.args.store.now);
   given = none_given (driver_of c.args.store.now).device.bench.arms;
   armed = omega arith;

@@ -3,6 +3,8 @@ use Rattle.std.proofs.lemmas.List.{length-reverse}
 use Rattle.flt_dcm.specs.ReplyKind.{reply_with}
 use Rattle.flt_model.specs.declared.call.Reply.{Reply}
 use Rattle.flt_turn.specs.declared.answer.Answer.{Answer}
+use Rattle.flt_flash.specs.Blocks.{BlocksState}
+use Rattle.flt_generation.specs.Layout.{application_number}
 use Rattle.flt_life.specs.Answers.{size_of}
 use Rattle.flt_lives.specs.Carried.{answer_at}
 use Rattle.flt_life.specs.Actions.{arms_of}
@@ -17,10 +19,10 @@ use Rattle.flt_lives.specs.Carried.{IsCarriedOut}
 use Rattle.flt_life.specs.Chain.{start_from}
 use Rattle.flt_life.specs.Journal.{Journal, entry}
 use Rattle.flt_lives.specs.Alive.{IsAlive}
-use Rattle.flt_lives.specs.Living.{IsLiving}
-use Rattle.flt_lives.proofs.Keeping.{kept_call, kept_arm}
+use Rattle.flt_lives.specs.Living.{IsCaused, IsLiving, with_answer}
+use Rattle.flt_lives.proofs.Keeping.{kept_call}
 use Rattle.flt_lives.proofs.Riding.{goes_nowhere}
-use Rattle.flt_lives.proofs.Causing.{caused_call, caused_arm}
+use Rattle.flt_lives.proofs.Causing.{caused_arm}
 use Rattle.flt_lives.proofs.Giving.{none_given}
 use Rattle.flt_lives.proofs.Rooms.{size_of_call}
 use Rattle.flt_lives.proofs.step.make_step.Goals as goal
@@ -30,14 +32,15 @@ returns-in-Call-clause-living g c = λ first told living.
     let possible = subst (IsPossible c.args.config.now) c.in-Call.is c.requires.possible in
     let journal = reverse c.args.journal.now.items in
     let last : Answer Reply = record { place = c.len-place.result; reply = reply_with c.call-reply.result c.call-reply.new.buffers.response.items } in
-    let after : IsLiving c.args.config.now first (entry 0 c.in-Call.op ∷ journal) (answers.Dem last ∷ told) (state_of c.call-reply.new.unit) c.args.store.now = record {
+    let after : IsLiving c.args.config.now first (entry 0 c.in-Call.op ∷ journal) told (state_of c.call-reply.new.unit) c.args.store.now = record {
       stands = c.call-reply.ensures.stands _ _ living.stands;
       held = living.held;
       spare = living.spare;
       running = living.running;
-      kept = kept_call c.args.config.now first journal told living.held living.spare living.kept c.in-Call.op last possible.0;
+      kept = kept_call c.args.config.now first journal told living.held living.spare living.kept c.in-Call.op possible.0;
     } in
-    subst (λ (journal : Journal). IsLiving c.args.config.now first journal (answers.Dem last ∷ told) (state_of c.call-reply.new.unit) c.args.store.now) (sym c.write.ensures.written) after
+    subst (λ (step : Action). IsLiving c.args.config.now first (reverse c.write.new.journal.items) (with_answer step (answers.Dem last) told) (state_of c.call-reply.new.unit) c.args.store.now) (sym c.in-Call.is)
+    (subst (λ (journal : Journal). IsLiving c.args.config.now first journal told (state_of c.call-reply.new.unit) c.args.store.now) (sym c.write.ensures.written) after)
 
 pub returns-in-Call-clause-goes_on : goal.returns-in-Call-clause-goes_on
 returns-in-Call-clause-goes_on g c = goes_nowhere (driver_of c.args.store.now)
@@ -64,11 +67,14 @@ returns-in-Call-clause-carried g c = λ first stands.
     subst (λ (step : Action). IsCarriedOut start before step (reverse c.write.new.journal.items) (answers.Dem last)) (sym c.in-Call.is) after
 
 pub returns-in-Call-clause-caused : goal.returns-in-Call-clause-caused
-returns-in-Call-clause-caused g c = λ begun told caused. caused_call c.args.config.now begun told c.args.store.now _ caused
+returns-in-Call-clause-caused g c = λ begun told caused.
+    let last : Answer Reply = record { place = c.len-place.result; reply = reply_with c.call-reply.result c.call-reply.new.buffers.response.items } in
+    subst (λ (step : Action). IsCaused c.args.config.now begun (with_answer step (answers.Dem last) told) c.args.store.now) (sym c.in-Call.is) caused
 
 pub returns-in-Arm-clause-caused : goal.returns-in-Arm-clause-caused
 returns-in-Arm-clause-caused g c = λ begun told caused.
-    caused_arm c.args.config.now begun told c.args.store.now c.arm.new.self caused _ c.arm.ensures.arms (c.arm.ensures.running c.args.config.now caused.held_now caused.spare_now caused.running)
+    subst (λ (step : Action). IsCaused c.args.config.now begun (with_answer step answers.Armed told) c.arm.new.self) (sym c.in-Arm.is)
+    (caused_arm c.args.config.now begun told c.args.store.now c.arm.new.self caused _ c.arm.ensures.arms (c.arm.ensures.running c.args.config.now caused.held_now caused.spare_now caused.running))
 
 pub returns-in-Arm-clause-alive : goal.returns-in-Arm-clause-alive
 returns-in-Arm-clause-alive g c = λ alive.
@@ -81,11 +87,14 @@ returns-in-Arm-clause-alive g c = λ alive.
 
 pub returns-in-Arm-clause-living : goal.returns-in-Arm-clause-living
 returns-in-Arm-clause-living g c = λ first told living.
-    let after : IsLiving c.args.config.now first (reverse c.args.journal.now.items) (answers.Armed ∷ told) (state_of c.args.unit.now) c.arm.new.self = record {
+    let after : IsLiving c.args.config.now first (reverse c.args.journal.now.items) told (state_of c.args.unit.now) c.arm.new.self = record {
       stands = living.stands;
       held = living.held;
       spare = living.spare;
       running = c.arm.ensures.running c.args.config.now living.held living.spare living.running;
-      kept = kept_arm c.args.config.now first (reverse c.args.journal.now.items) told living.held living.spare living.kept;
+      kept = living.kept;
     } in
-    after
+    subst (λ (step : Action). IsLiving c.args.config.now first (reverse c.args.journal.now.items) (with_answer step answers.Armed told) (state_of c.args.unit.now) c.arm.new.self) (sym c.in-Arm.is) after
+
+pub returns-in-Arm-clause-applications : goal.returns-in-Arm-clause-applications
+returns-in-Arm-clause-applications g c = λ block below. ap (λ (d : BlocksState). d.value (application_number block)) c.arm.ensures.arms.rest
