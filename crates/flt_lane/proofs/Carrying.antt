@@ -1,205 +1,205 @@
--- What a step of lane 0 under the lock carries on of the store.
-use Rattle.std.proofs.Common.{◌≡◌, ◌≢◌, ℕ, List, [], ◌∷◌, ◌++◌, All, Some, reverse, length, map, take, refl, ap, subst, sym, arith, ◌∙◌}
-use Rattle.std.proofs.lemmas.List.{reverse-append, take-append-le, take_all}
-use Rattle.std.proofs.lemmas.List.Elements.{All-head, All-tail, All-nil, All-cons}
+-- What steps carry on of the store and of the application blocks.
+use Rattle.std.proofs.Common.{◌≡◌, ◌⊎◌, inl, inr, ⊎_elim, ℕ, ◌≤◌, ◌<◌, ◌+◌, ◌*◌, Bool, true, false, List, [], ◌∷◌, ◌++◌, map, length, reverse, refl, ap, subst, sym, arith, ◌∙◌}
+use Rattle.std.specs.Prelude.{Contains, IsTrue, IsFalse}
+use Rattle.std.proofs.lemmas.Bool.{true≢false, false≢true}
+use Rattle.std.proofs.lemmas.List.Elements.{Contains-append_left, Contains-append_right}
+use mathlib.Core.List.{IsPrefix}
+use Rattle.flt_flash.specs.Content.{Content, missing, invalid, bytes as holding}
+use Rattle.flt_flash.specs.Blocks.{BlocksState}
 use Rattle.flt_flash.specs.Calls.{ArmsDriver}
 use Rattle.flt_flash.specs.declared.arm.Arm.{Arm}
 use Rattle.flt_flash.specs.declared.blocks.Blocks.{Ghosts}
 use Rattle.flt_config.specs.declared.config.Config.{Config}
-use Rattle.flt_config.specs.declared.persist.Persist.{Persist}
-use Rattle.flt_model.specs.Durable.{saved_after}
-use Rattle.flt_model.specs.declared.call.Op.{Op}
-use Rattle.flt_model.specs.declared.call.Op.TheVariants as ops
-use Rattle.flt_model.specs.declared.call.Reply.{Reply}
-use Rattle.flt_turn.specs.declared.answer.Answer.{Answer}
-use Rattle.flt_turn.specs.declared.vault.Entry.{Entry}
-use Rattle.flt_turn.specs.Call.{past}
-use Rattle.flt_turn.specs.Journal.{calls_of as calls_of_lane}
-use Rattle.flt_turn.specs.Seats.{Extends}
-use Rattle.flt_generation.specs.Holding.{Generation}
-use Rattle.flt_store.specs.declared.fault.SaveFault.{SaveFault}
+use Rattle.flt_generation.specs.Holding.{Generation, SameApplications}
+use Rattle.flt_generation.specs.Layout.{applications, application_number}
+use Rattle.flt_queue.specs.Queue.{History}
 use Rattle.flt_store.specs.declared.store.Store.{Store}
-use Rattle.flt_store.specs.Store.{driver_of, numbered, Saves, Leaves, IsRunning}
-use Rattle.flt_life.specs.Actions.{IsStepCall}
+use Rattle.flt_store.specs.Store.{Gets, IsRunning, driver_of}
+use Rattle.flt_turn.specs.declared.vault.Entry.{Entry}
+use Rattle.flt_turn.specs.Journal.{ops_of}
+use Rattle.flt_turn.specs.Seats.{Seated}
+use Rattle.flt_script.specs.declared.step.Step.TheVariants as steps
 use Rattle.flt_life.specs.Answers.{Told}
+use Rattle.flt_life.specs.Applications.{GetsBy, HoldApplications, MayHold, jobs_told, up_to_done}
+use Rattle.flt_life.specs.Ordered.{Deed}
 use Rattle.flt_life.specs.declared.answer.StepAnswer.TheVariants as answers
-use Rattle.flt_life.specs.Chain.{start_from}
-use Rattle.flt_life.specs.Journal.{Journal, entry, calls_of, snapshot_of}
-use Rattle.flt_shared.specs.Call.{Seat, IsCall}
-use Rattle.flt_lives.specs.Living.{IsKept}
-use Rattle.flt_lane.specs.Living.{IsCleanBeside, IsLivingOn, Carries}
-use Rattle.flt_lane.proofs.Blocks.{all_left, all_right}
-use Rattle.flt_lane.proofs.Journals.{head_call, no_call_behind}
-use Rattle.flt_lane.proofs.Keeping.{pushed, snapshot_further, kept_entry, kept_reply, kept_arm, kept_failed, kept_saved, kept_further}
-use Rattle.flt_lives.proofs.Causing.{caused_call, caused_arm}
+use Rattle.flt_shared.specs.Call.{Seat}
+use Rattle.flt_lives.specs.Living.{IsCaused}
+use Rattle.flt_lives.proofs.Causing.{caused_arm}
+use Rattle.flt_lane.specs.Block.{AreJoined}
+use Rattle.flt_lane.specs.Draining.{DrainsOn}
+use Rattle.flt_lane.specs.Living.{AreHeld, Carries, HoldsBy, HoldsOn, IsKnownTo, IsLivingOn, answers_of, drains_by, drains_of, saves_by}
+use Rattle.flt_lane.specs.Runs.{QueueSeat}
+use Rattle.flt_lane.proofs.Keeping.{IsNoSave, kept_other}
 
--- ---- journals
+-- ---- seats that know as much
 
-map_reverse : {X Y : Type 0} (f : X → Y) (xs : List X) → reverse (map f xs) ≡ map f (reverse xs)
-map_reverse f [] = refl
-map_reverse f (x ∷ xs) = reverse-append (f x ∷ []) (map f xs) ∙ ap (λ l. l ++ f x ∷ []) (map_reverse f xs) ∙ sym (map-push f (reverse xs) x) ∙ ap (map f) (sym (reverse-append (x ∷ []) xs))
-  where
-    map-push : {X Y : Type 0} (f : X → Y) (xs : List X) (x : X) → map f (xs ++ x ∷ []) ≡ map f xs ++ f x ∷ []
-    map-push f [] x = refl
-    map-push f (y ∷ xs) x = ap (λ l. f y ∷ l) (map-push f xs x)
+-- what the one knows, the other knows too
+abbrev pub KnowsToo : {S O : Type 0} → Seated S O → Seated S O → Type 0
+KnowsToo {S} {O} before after = (known : List (Entry O)) → IsKnownTo before known → IsKnownTo after known
 
-take_front : {X : Type 0} (front back : List X) (n : ℕ) → length front ≡ n → take n (front ++ back) ≡ front
-take_front front back n is = take-append-le n front back (omega (arith, is)) ∙ take_all n front (omega (arith, is))
+-- a seat that joined others knows what each of them knew
+pub knows_joined : {S O : Type 0} (main after seat : Seated S O) (seats : List (Seated S O)) → AreJoined main after seats → Contains (map (λ (s : Seated S O). s.seen) seats) seat.seen → seat.olds ≡ main.olds → KnowsToo seat after
+knows_joined {S} {O} main after seat seats joined among olds known =
+    ⊎_elim (λ pre. inr (seat.seen, subst (λ l. Contains l seat.seen) (sym joined.olds_are) (Contains-append_right main.olds (map (λ (s : Seated S O). s.seen) seats) seat.seen among), pre))
+    (λ old. inr (old.0, subst (λ l. Contains l old.0) (sym joined.olds_are) (Contains-append_left main.olds (map (λ (s : Seated S O). s.seen) seats) old.0 (subst (λ l. Contains l old.0) olds old.1)), old.2))
 
-abbrev AreStepCalls : Journal → Type 0
-AreStepCalls journal = All (λ (e : Entry Op). IsStepCall e.op) journal
+-- and what the main seat knew before
+pub knows_still : {S O : Type 0} (main after : Seated S O) (seats : List (Seated S O)) → AreJoined main after seats → KnowsToo main after
+knows_still {S} {O} main after seats joined known =
+    ⊎_elim (λ pre. inl (subst (IsPrefix known) (sym joined.seen_is) pre))
+    (λ old. inr (old.0, subst (λ l. Contains l old.0) (sym joined.olds_are) (Contains-append_left main.olds (map (λ (s : Seated S O). s.seen) seats) old.0 old.1), old.2))
 
--- where lane 0 has no call in a clean piece, each is the call of a step
-pub clean_piece : (piece : Journal) → calls_of_lane 0 piece ≡ [] → IsCleanBeside piece → AreStepCalls piece
-clean_piece [] none clean = All-nil (λ (e : Entry Op). IsStepCall e.op)
-clean_piece (e ∷ piece) none clean =
-    let apart : e.lane ≢ 0 = (λ same. let first = head_call e piece in let gone = subst (λ n. calls_of_lane n (e ∷ piece) ≡ []) (sym same) none in absurd (cc)) in
-    All-cons (λ (e : Entry Op). IsStepCall e.op) e piece (All-head (λ (e : Entry Op). e.lane ≢ 0 → IsStepCall e.op) e piece clean apart)
-    (clean_piece piece (no_call_behind 0 (e ∷ []) piece none) (All-tail (λ (e : Entry Op). e.lane ≢ 0 → IsStepCall e.op) e piece clean))
-
--- a call of lane 0: what it finds, and what it adds
-pub record IsFound (before after : Seat) (op : Op) (told : Answer Reply) : Type 0 where
-  pub between : Journal
-  pub seen : after.seen ≡ (before.seen ++ between) ++ entry 0 op ∷ []
-  pub others : calls_of_lane 0 between ≡ []
-  pub past_is : past told.place after.seen ≡ calls_of (reverse (before.seen ++ between))
-  pub number : after.number ≡ 0
-  pub start : after.start ≡ before.start
-
-pub found : (before after : Seat) (op : Op) (told : Answer Reply) → before.number ≡ 0 → IsCall before after op told → IsFound before after op told
-found before after op told zero call =
-    let ext : Extends before after op told.place = call.place in
-    let front = before.seen ++ ext.between in
-    let seen : after.seen ≡ front ++ entry 0 op ∷ [] = ext.seen ∙ ap (λ n. front ++ entry n op ∷ []) zero in
-    let taken : take told.place after.seen ≡ front = ap (take told.place) seen ∙ take_front front (entry 0 op ∷ []) told.place ext.place_is in
-    record {
-      between = ext.between;
-      seen = seen;
-      others = subst (λ n. calls_of_lane n ext.between ≡ []) zero ext.others;
-      past_is = ap (λ (j : Journal). reverse (map (λ (e : Entry Op). e.op) j)) taken ∙ map_reverse (λ (e : Entry Op). e.op) front;
-      number = ext.rest.0 ∙ zero;
-      start = ext.rest.1;
-    }
-
-module _ (before after : Seat) (op : Op) (told : Answer Reply) (is : IsFound before after op told) (clean : IsCleanBeside after.seen) where
-  clean_front : IsCleanBeside (before.seen ++ is.between)
-  clean_front = all_left (λ (e : Entry Op). e.lane ≢ 0 → IsStepCall e.op) (before.seen ++ is.between) (entry 0 op ∷ []) (subst IsCleanBeside is.seen clean)
-
-  pub clean_before : IsCleanBeside before.seen
-  clean_before = all_left (λ (e : Entry Op). e.lane ≢ 0 → IsStepCall e.op) before.seen is.between clean_front
-
-  pub steps_between : AreStepCalls is.between
-  steps_between = clean_piece is.between is.others (all_right (λ (e : Entry Op). e.lane ≢ 0 → IsStepCall e.op) before.seen is.between clean_front)
-
-  pub seen_newest : reverse after.seen ≡ entry 0 op ∷ reverse (before.seen ++ is.between)
-  seen_newest = ap reverse is.seen ∙ pushed (before.seen ++ is.between) (entry 0 op)
-
-  -- what was kept is kept ahead of the call
-  pub kept_ahead : (c : Config) (first : Generation) (earlier : List Told) (h s : Generation) → (IsCleanBeside before.seen → IsKept c first (reverse before.seen) earlier h s)
-      → IsKept c first (reverse (before.seen ++ is.between)) earlier h s
-  kept_ahead c first earlier h s kept = kept_further c first earlier h s before.seen is.between steps_between (kept clean_before)
-
--- ---- steps
-
-module _ {B : Type 0} {b : Ghosts B} (c : Config) (main after : Seat) (earlier : List Told) where
-  pub carries_call : (store : Store B b) (op : Op) (told : Answer Reply) → main.number ≡ 0 → IsStepCall op → IsCall main after op told → Carries c main after earlier (answers.Dem told ∷ earlier) store store
-  carries_call store op told zero is call = let at = found main after op told zero call in record {
-    alive = λ alive. alive;
-    living = λ first start living. record {
-      held = living.held;
-      spare = living.spare;
-      running = living.running;
-      kept = λ clean.
-          let ahead = kept_ahead main after op told at clean c first earlier living.held living.spare living.kept in
-          let one = kept_reply c first _ earlier living.held living.spare (kept_entry c first _ earlier living.held living.spare ahead 0 op is) told in
-          subst (λ j. IsKept c first j (answers.Dem told ∷ earlier) living.held living.spare) (sym (seen_newest main after op told at clean)) one;
-    };
-    caused = λ begun caused. caused_call c begun earlier store told caused;
-  }
-
--- an arm
-pub carries_arm : {B : Type 0} {b : Ghosts B} (c : Config) (main : Seat) (earlier : List Told) (store now : Store B b) (arm : Arm) → ArmsDriver arm (driver_of store) (driver_of now)
-    → ((held spare : Generation) → IsRunning c held spare store → IsRunning c held spare now) → Carries c main main earlier (answers.Armed ∷ earlier) store now
-carries_arm c main earlier store now arm arms runs = record {
-  alive = λ alive. record { held = alive.held; spare = alive.spare; running = runs alive.held alive.spare alive.running };
-  living = λ first start living. record {
-    held = living.held;
-    spare = living.spare;
-    running = runs living.held living.spare living.running;
-    kept = λ clean. kept_arm c first (reverse main.seen) earlier living.held living.spare (living.kept clean);
-  };
-  caused = λ begun caused. caused_arm c begun earlier store now caused arm arms (runs caused.held_now caused.spare_now caused.running);
-}
-
--- the state that a snapshot took, as the journal tells it
-taken_is : (c : Config) (first : Generation) (main mid : Seat) (taken : Answer Reply) (state : Persist) (at : IsFound main mid ops.Snapshot taken) → main.start ≡ start_from c first.state
-    → state ≡ saved_after main.start (past taken.place mid.seen) → state ≡ saved_after (start_from c first.state) (calls_of (reverse (main.seen ++ at.between)))
-taken_is c first main mid taken state at start is = is ∙ (λ i. saved_after (start i) (at.past_is i))
-
-module _ {B : Type 0} {b : Ghosts B} (c : Config) (main mid : Seat) (taken : Answer Reply) (state : Persist) (zero : main.number ≡ 0) (snapshot : IsCall main mid ops.Snapshot taken)
-    (is : state ≡ saved_after main.start (past taken.place mid.seen)) (earlier : List Told) (store now : Store B b) where
-  -- a save that failed
-  pub living_failed : (fault : SaveFault) → ((held spare : Generation) → IsRunning c held spare store → Leaves c held spare state store now)
-      → (first : Generation) → main.start ≡ start_from c first.state → IsLivingOn c first main earlier store → IsLivingOn c first mid (answers.SaveFailed fault ∷ earlier) now
-  living_failed fault leaves first start living =
-      let at = found main mid ops.Snapshot taken zero snapshot in
-      let left = leaves living.held living.spare living.running in
-      let state_is = taken_is c first main mid taken state at start is in
-      let held_is = rw state_is at left.held_is in
-      let spare_is = rw state_is at left.spare_is in
-      record {
-        held = left.now_held;
-        spare = left.now_spare;
-        running = left.running;
-        kept = λ clean.
-            let ahead = kept_ahead main mid ops.Snapshot taken at clean c first earlier living.held living.spare living.kept in
-            subst (λ j. IsKept c first j (answers.SaveFailed fault ∷ earlier) left.now_held left.now_spare) (sym (seen_newest main mid ops.Snapshot taken at clean))
-            (kept_failed c first _ earlier living.held living.spare ahead left.chosen left.is fault left.now_held left.now_spare held_is spare_is);
-      }
-
-  -- a save that was acknowledged
-  pub living_saved : (after : Seat) (number : ℕ) (noted : Answer Reply) → IsCall mid after (ops.Saved number) noted → ((held spare : Generation) → IsRunning c held spare store → Saves c held spare state number store now)
-      → (first : Generation) → main.start ≡ start_from c first.state → IsLivingOn c first main earlier store → IsLivingOn c first after (answers.Saved number ∷ earlier) now
-  living_saved after number noted note saves first start living =
-      let at = found main mid ops.Snapshot taken zero snapshot in
-      let behind = found mid after (ops.Saved number) noted at.number note in
-      let saved = saves living.held living.spare living.running in
-      let state_is = taken_is c first main mid taken state at start is in
-      let life = start_from c first.state in
-      record {
-        held = numbered number state;
-        spare = numbered number state;
-        running = saved.running;
-        kept = λ clean.
-            let clean_mid = clean_before mid after (ops.Saved number) noted behind clean in
-            let ahead = kept_ahead main mid ops.Snapshot taken at clean_mid c first earlier living.held living.spare living.kept in
-            let last : snapshot_of life 0 (reverse (mid.seen ++ behind.between)) ≡ Some (saved_after life (calls_of (reverse (main.seen ++ at.between)))) =
-            snapshot_further life 0 mid.seen behind.between (steps_between mid after (ops.Saved number) noted behind clean)
-            ∙ ap (snapshot_of life 0) (seen_newest main mid ops.Snapshot taken at clean_mid) in
-            let kept = kept_saved c first _ earlier living.held living.spare ahead saved.chosen saved.is number (reverse (mid.seen ++ behind.between)) saved.next last in
-            subst (λ j. IsKept c first j (answers.Saved number ∷ earlier) (numbered number state) (numbered number state)) (sym (seen_newest mid after (ops.Saved number) noted behind clean))
-            (subst (λ p. IsKept c first (entry 0 (ops.Saved number) ∷ reverse (mid.seen ++ behind.between)) (answers.Saved number ∷ earlier) (numbered number p) (numbered number p)) (sym state_is) kept);
-      }
-
--- ---- one after the other
-
--- no step, where lane 0 knows no more of the journal
-pub carries_nothing : {B : Type 0} {b : Ghosts B} (c : Config) (main after : Seat) (told : List Told) (store : Store B b) → after.seen ≡ main.seen → Carries c main after told told store store
-carries_nothing c main after told store seen = record {
-  alive = λ alive. alive;
-  living = λ first start living. record {
+module _ {B : Type 0} {b : Ghosts B} where
+  living_known : (c : Config) (first : Generation) (before after : Seat) (deeds : List Deed) (store : Store B b) → KnowsToo before after → IsLivingOn c first before deeds store → IsLivingOn c first after deeds store
+  living_known c first before after deeds store knows living = record {
     held = living.held;
     spare = living.spare;
     running = living.running;
-    kept = subst (λ l. IsCleanBeside l → IsKept c first (reverse l) told living.held living.spare) (sym seen) living.kept;
-  };
-  caused = λ begun caused. caused;
+    known = living.known;
+    is_known = knows living.known living.is_known;
+    least = living.least;
+    kept = living.kept;
+  }
+
+holds_known : (first : ℕ → Content) (before after : QueueSeat) (calls jobs : ℕ) (deeds : List Deed) (values : ℕ → Content) → KnowsToo before after → HoldsBy first before calls jobs deeds values → HoldsBy first after calls jobs deeds values
+holds_known first before after calls jobs deeds values knows holds = record { known = holds.known; is_known = knows holds.known holds.is_known; least = holds.least; held = holds.held }
+
+module _ {B : Type 0} {b : Ghosts B} (c : Config) where
+  -- steps that leave the store alone
+  pub carries_beside : (before after : Seat) (jobs jobs_after : QueueSeat) (deeds : List Deed) (store : Store B b) → KnowsToo before after → KnowsToo jobs jobs_after → Carries c before after jobs jobs_after deeds deeds store store
+  carries_beside before after jobs jobs_after deeds store knows job_knows = record {
+    alive = λ alive. alive;
+    living = λ first start living. living_known c first before after deeds store knows living;
+    caused = λ begun caused. caused;
+    holds = λ alive first holds. holds_known first jobs jobs_after _ _ deeds _ job_knows holds;
+  }
+
+  -- what is carried on between seats that know less and more
+  pub carries_between : (main before after later : Seat) (jobs jobs_before jobs_after jobs_later : QueueSeat) (earlier deeds : List Deed) (store now : Store B b) → before.start ≡ main.start → KnowsToo main before → KnowsToo after later
+      → KnowsToo jobs jobs_before → KnowsToo jobs_after jobs_later → Carries c before after jobs_before jobs_after earlier deeds store now → Carries c main later jobs jobs_later earlier deeds store now
+  carries_between main before after later jobs jobs_before jobs_after jobs_later earlier deeds store now start first_knows then_knows job_first job_then carries = record {
+    alive = carries.alive;
+    living = λ first begins living. living_known c first after later deeds now then_knows (carries.living first (start ∙ begins) (living_known c first main before earlier store first_knows living));
+    caused = carries.caused;
+    holds = λ alive first holds. holds_known first jobs_after jobs_later _ _ deeds _ job_then (carries.holds alive first (holds_known first jobs jobs_before _ _ earlier _ job_first holds));
+  }
+
+  pub carries_further : (before mid after : Seat) (jobs jobs_mid jobs_after : QueueSeat) (earlier deeds later : List Deed) (store middle now : Store B b) → mid.start ≡ before.start → Carries c before mid jobs jobs_mid earlier deeds store middle
+      → Carries c mid after jobs_mid jobs_after deeds later middle now → Carries c before after jobs jobs_after earlier later store now
+  carries_further before mid after jobs jobs_mid jobs_after earlier deeds later store middle now start one two = record {
+    alive = λ alive. two.alive (one.alive alive);
+    living = λ first begins living. two.living first (start ∙ begins) (one.living first begins living);
+    caused = λ begun caused. two.caused begun (one.caused begun caused);
+    holds = λ alive first holds. two.holds (one.alive alive) first (one.holds alive first holds);
+  }
+
+  -- an arm
+  pub carries_arm : (seat : Seat) (jobs : QueueSeat) (deeds : List Deed) (store now : Store B b) (arm : Arm) → ArmsDriver arm (driver_of store) (driver_of now) → ((held spare : Generation) → IsRunning c held spare store → IsRunning c held spare now)
+      → Carries c seat seat jobs jobs deeds deeds store now
+  carries_arm seat jobs deeds store now arm arms runs = record {
+    alive = λ alive. record { held = alive.held; spare = alive.spare; running = runs alive.held alive.spare alive.running };
+    living = λ first start living. record {
+      held = living.held;
+      spare = living.spare;
+      running = runs living.held living.spare living.running;
+      known = living.known;
+      is_known = living.is_known;
+      least = living.least;
+      kept = living.kept;
+    };
+    caused = λ begun caused. caused_arm c begun (answers_of deeds) store now caused arm arms (runs caused.held_now caused.spare_now caused.running);
+    holds = λ alive first holds. subst (HoldsOn first jobs deeds) (sym (ap (λ (d : BlocksState). d.value) arms.rest)) holds;
+  }
+
+-- ---- a deed that is no drain
+
+module _ (first : ℕ → Content) (seat : QueueSeat) (earlier : List Deed) (deed : Deed) (values now : ℕ → Content) (same : SameApplications values now) (no_drain : drains_by deed.1 ≡ 0)
+    (no_job : jobs_told (deed.1 ∷ answers_of earlier) ≡ jobs_told (answers_of earlier))
+    (gets : (past : History) → AreHeld first past (jobs_told (answers_of earlier)) earlier values → GetsBy first past earlier deed.0 deed.1) where
+  deed_held : (past : History) → AreHeld first past (jobs_told (answers_of earlier)) earlier values → AreHeld first past (jobs_told (answers_of (deed ∷ earlier))) (deed ∷ earlier) now
+  deed_held past held =
+      let jobs = jobs_told (answers_of earlier) in
+      let told = held.told in
+      record {
+        done = no_job ∙ held.done;
+        held = subst (λ n. HoldApplications first (up_to_done n past) now) (sym no_job)
+            (λ block below. subst (MayHold block (first (application_number block)) (up_to_done jobs past)) (sym (same block below)) (held.held block below));
+        got = (gets past held, held.got);
+        told = omega arith;
+      }
+
+  pub holds_deed : HoldsOn first seat earlier values → HoldsOn first seat (deed ∷ earlier) now
+  holds_deed holds = record {
+    known = holds.known;
+    is_known = holds.is_known;
+    least = (let least = holds.least in omega (arith, least, no_drain));
+    held = λ few. deed_held _ (holds.held (omega (arith, few, no_drain)));
+  }
+
+-- what a read of an application block tells of it
+pub gets_bytes : (content : Content) (found : Bool) (out : List ℕ) → Gets content found out → found ≡ true → content ≡ holding out
+gets_bytes missing found out gets is = absurd (false≢true (sym gets.0 ∙ is))
+gets_bytes invalid found out gets is = absurd gets
+gets_bytes (holding held) found out gets is = ap holding (sym gets.1)
+
+pub gets_none : (content : Content) (found : Bool) (out : List ℕ) → Gets content found out → found ≡ false → content ≡ missing
+gets_none missing found out gets is = refl
+gets_none invalid found out gets is = absurd gets
+gets_none (holding held) found out gets is = absurd (true≢false (sym gets.0 ∙ is))
+
+-- ---- a deed that is no save
+
+-- leaves the generations that were saved as they are
+pub living_deed : {B : Type 0} {b : Ghosts B} (c : Config) (first : Generation) (seat : Seat) (earlier : List Deed) (deed : Deed) (store now : Store B b) → IsNoSave deed.1 → saves_by deed.1 ≡ 0
+    → ((held spare : Generation) → IsRunning c held spare store → IsRunning c held spare now) → IsLivingOn c first seat earlier store → IsLivingOn c first seat (deed ∷ earlier) now
+living_deed c first seat earlier deed store now no_save none runs living = record {
+  held = living.held;
+  spare = living.spare;
+  running = runs living.held living.spare living.running;
+  known = living.known;
+  is_known = living.is_known;
+  least = (let least = living.least in omega (arith, least, none));
+  kept = λ few. kept_other c first _ (answers_of earlier) living.held living.spare (living.kept (omega (arith, few, none))) deed.1 no_save;
 }
 
-pub carries_further : {B : Type 0} {b : Ghosts B} (c : Config) (main mid after : Seat) (earlier told later : List Told) (store middle now : Store B b) → mid.start ≡ main.start → Carries c main mid earlier told store middle
-    → Carries c mid after told later middle now → Carries c main after earlier later store now
-carries_further c main mid after earlier told later store middle now start one two = record {
-  alive = λ alive. two.alive (one.alive alive);
-  living = λ first begins living. two.living first (start ∙ begins) (one.living first begins living);
-  caused = λ begun caused. two.caused begun (one.caused begun caused);
-}
+-- ---- a drain
+
+module _ {B : Type 0} {b : Ghosts B} (c : Config) (dem : Seat) (jobs after : QueueSeat) (earlier : List Deed) (written failed calls count : ℕ) (store now : Store B b) (drains : DrainsOn c jobs after calls count failed store now)
+    (calls_are : calls ≡ drains_by (answers.Drained written failed)) (count_is : count ≡ written + failed) where
+  drain_begun : (begun : ℕ) → IsCaused c begun (answers_of earlier) store → IsCaused c begun (answers.Drained 0 0 ∷ answers_of earlier) store
+  drain_begun begun caused = record {
+    held_now = caused.held_now;
+    spare_now = caused.spare_now;
+    running = caused.running;
+    flash = caused.flash;
+    jobs = λ unspent. (let jobs = caused.jobs unspent in omega (arith, jobs));
+    spent = caused.spent;
+    sequence = caused.sequence;
+  }
+
+  drain_held : (first : ℕ → Content) → HoldsOn first jobs earlier (driver_of store).value → HoldsOn first after ((steps.Drain, answers.Drained written failed) ∷ earlier) (driver_of now).value
+  drain_held first holds =
+      let done = drains.holds first (drains_of earlier) (jobs_told (answers_of earlier)) earlier holds in
+      let jobs_are : jobs_told (answers_of earlier) + count ≡ jobs_told (answers_of earlier) + (written + failed) = omega (arith, count_is) in
+      record {
+        known = done.known;
+        is_known = done.is_known;
+        least = (let least = done.least in omega (arith, least, calls_are));
+        held = λ few.
+            (let held = done.held (omega (arith, few, calls_are)) in
+            record {
+              done = sym jobs_are ∙ held.done;
+              held = subst (λ n. HoldApplications first (up_to_done n (reverse (ops_of done.known))) (driver_of now).value) jobs_are held.held;
+              got = (tt, held.got);
+              told = omega arith;
+            });
+      }
+
+  pub carries_drained : Carries c dem dem jobs after earlier ((steps.Drain, answers.Drained written failed) ∷ earlier) store now
+  carries_drained = record {
+    alive = λ alive. record { held = alive.held; spare = alive.spare; running = drains.running alive.held alive.spare alive.running };
+    living = λ first start living. living_deed c first dem earlier (steps.Drain, answers.Drained written failed) store now tt refl drains.running living;
+    caused = λ begun caused. subst (λ n. IsCaused c begun (answers.Drained written n ∷ answers_of earlier) now) (omega arith) (drains.caused begun (answers_of earlier) 0 written 0 (drain_begun begun caused));
+    holds = λ alive first holds. drain_held first holds;
+  }

@@ -21,6 +21,7 @@ module _ {S O R : Type 0} (admits : S → O → Type 0) (answer : S → List O �
     pub number_is : after.number ≡ before.number
     pub start_is : after.start ≡ before.start
     pub lock_is : after.lock ≡ before.lock
+    pub olds_are : after.olds ≡ before.olds
     pub left_is : after.left + length calls ≡ before.left
     pub mine_is : after.mine ≡ before.mine ++ ops_asked calls
     pub own : length before.mine ≤ length (calls_of before.number before.seen) → length after.mine ≤ length (calls_of after.number after.seen)
@@ -67,6 +68,7 @@ module _ {S O R : Type 0} (admits : S → O → Type 0) (answer : S → List O �
     number_is = ap (λ (s : Seated S O). s.number) same;
     start_is = ap (λ (s : Seated S O). s.start) same;
     lock_is = ap (λ (s : Seated S O). s.lock) same;
+    olds_are = ap (λ (s : Seated S O). s.olds) same;
     left_is = let left = ap (λ (s : Seated S O). s.left) same in omega (arith, left);
     mine_is = ap (λ (s : Seated S O). s.mine) same ∙ sym (append-nil before.mine);
     own = λ enough. subst (λ (s : Seated S O). length s.mine ≤ length (calls_of s.number s.seen)) (sym same) enough;
@@ -85,6 +87,7 @@ module _ {S O R : Type 0} (admits : S → O → Type 0) (answer : S → List O �
         number_is = rest.number_is ∙ ext.rest.0;
         start_is = rest.start_is ∙ ext.rest.1;
         lock_is = rest.lock_is ∙ ext.lock;
+        olds_are = rest.olds_are ∙ ext.rest.3;
         left_is = omega (arith, rest.left_is, ext.left);
         mine_is = rest.mine_is ∙ ap (λ l. l ++ ops_asked calls) ext.mine ∙ append_assoc before.mine (call.op ∷ []) (ops_asked calls);
         own = λ enough. rest.own (omega (arith, ap length own_mid));

@@ -1,67 +1,100 @@
--- The end of a life: what its store holds by the journal that the closed lock left.
-use Rattle.std.proofs.Common.{◌≡◌, ◌≢◌, ℕ, List, [], ◌++◌, All, reverse, refl, sym, ap, subst, ◌∙◌}
-use Rattle.std.proofs.lemmas.List.Elements.{All-head}
+-- The end of a life: what its store holds by the journals that the closed locks left.
+use Rattle.std.proofs.Common.{◌≡◌, ◌⊎◌, inl, inr, ⊎_elim, ℕ, ◌≤◌, ◌+◌, List, [], ◌∷◌, ◌++◌, All, map, reverse, refl, sym, ap, subst, arith, ◌∙◌}
+use Rattle.std.specs.Prelude.{IsTrue}
+use Rattle.std.proofs.lemmas.List.Elements.{All-contains}
+use mathlib.Core.List.{IsPrefix}
 use Rattle.flt_config.specs.declared.config.Config.{Config}
+use Rattle.flt_flash.specs.Content.{Content}
 use Rattle.flt_flash.specs.declared.blocks.Blocks.{Ghosts}
-use Rattle.flt_model.specs.declared.life.DemStart.{DemStart}
-use Rattle.flt_store.specs.declared.store.Store.{Store}
-use Rattle.flt_store.specs.Store.{IsRunning}
-use Rattle.flt_turn.specs.Seats.{main_seat}
 use Rattle.flt_generation.specs.Holding.{Generation}
+use Rattle.flt_generation.specs.Layout.{application_number}
 use Rattle.flt_model.specs.declared.call.Op.{Op}
-use Rattle.flt_turn.specs.declared.vault.Entry.{Entry}
-use Rattle.flt_turn.specs.Journal.{calls_of}
+use Rattle.flt_queue.specs.declared.job.QueueOp.{QueueOp}
+use Rattle.flt_queue.specs.Queue.{History}
 use Rattle.flt_script.specs.declared.step.Step.{Step}
 use Rattle.flt_script.specs.Part.{PartOf}
-use Rattle.flt_life.specs.Actions.{IsStepCall}
+use Rattle.flt_store.specs.declared.store.Store.{Store}
+use Rattle.flt_store.specs.Store.{IsRunning, driver_of}
+use Rattle.flt_turn.specs.declared.vault.Entry.{Entry}
+use Rattle.flt_turn.specs.Journal.{ops_of}
+use Rattle.flt_turn.specs.Seats.{Seated, main_seat}
 use Rattle.flt_life.specs.Answers.{Told}
+use Rattle.flt_life.specs.Applications.{AreGot, HoldApplications, jobs_told}
 use Rattle.flt_life.specs.Journal.{Journal}
-use Rattle.flt_life.specs.Parts.{IsPossiblePart}
-use Rattle.flt_life.specs.Played.{IsLife}
+use Rattle.flt_life.specs.Ordered.{Deed}
 use Rattle.flt_shared.specs.Call.{Seat}
 use Rattle.flt_lives.specs.Living.{IsKept}
-use Rattle.flt_lane.specs.Block.{HasRunParts}
-use Rattle.flt_lane.specs.Living.{IsCleanBeside, IsLivingOn}
-use Rattle.flt_lane.specs.Lived.{IsMain, IsWhole}
-use Rattle.flt_lane.proofs.Blocks.{all_left, all_right}
-use Rattle.flt_lane.proofs.Carrying.{clean_piece}
-use Rattle.flt_lane.proofs.Cleanness.{life_clean}
-use Rattle.flt_lane.proofs.Journals.{full_front}
-use Rattle.flt_lane.proofs.Keeping.{kept_further, kept_first}
-use Rattle.flt_lane.proofs.WholeLife.{life_of}
-
--- the journal of a life has no save of another lane
-pub clean_life : (c : Config) (start : _) (parts : List (PartOf Step)) (own : List Told) (lanes : List (List Told)) (journal : Journal) → All (IsPossiblePart c) parts → IsLife start parts own lanes journal → IsCleanBeside journal
-clean_life c start parts own lanes journal possible life = life_clean c 1 parts own lanes life.blocks journal possible life.made life.follows
-
--- what is kept by what lane 0 knows is kept by the whole journal: behind it stand no calls of lane 0
-pub kept_at_end : (c : Config) (first : Generation) (main : Seat) (told : List Told) (h s : Generation) (journal : Journal) → IsMain main → IsWhole main journal → IsCleanBeside journal
-    → (IsCleanBeside main.seen → IsKept c first (reverse main.seen) told h s) → IsKept c first (reverse journal) told h s
-kept_at_end c first main told h s journal is whole clean kept =
-    let rest = whole.seen.0 in
-    let full = full_front main.number main.mine main.seen rest
-    (ap (calls_of main.number) whole.seen.1 ∙ All-head (λ (lane : ℕ × List Op). calls_of lane.0 journal ≡ lane.1) (main.number, main.mine) main.ended whole.mixes.each) is.own in
-    let none : calls_of 0 rest ≡ [] = subst (λ n. calls_of n rest ≡ []) is.number_is full.none in
-    let both : IsCleanBeside (main.seen ++ rest) = subst IsCleanBeside (sym whole.seen.1) clean in
-    let front = all_left (λ (e : Entry Op). e.lane ≢ 0 → IsStepCall e.op) main.seen rest both in
-    let back = all_right (λ (e : Entry Op). e.lane ≢ 0 → IsStepCall e.op) main.seen rest both in
-    subst (λ j. IsKept c first (reverse j) told h s) whole.seen.1 (kept_further c first told h s main.seen rest (clean_piece rest none back) (kept front))
+use Rattle.flt_lane.specs.Lived.{IsWhole}
+use Rattle.flt_lane.specs.Living.{AreHeld, HoldsBy, HoldsOn, IsKnownTo, IsLivingOn, answers_of, drains_in, drains_of, saves_in, saves_of}
+use Rattle.flt_lane.specs.Runs.{QueueSeat}
+use Rattle.flt_lane.proofs.Applying.{drains-append, held_further, may_whole, newest_of, queue_calls}
+use Rattle.flt_lane.proofs.Journals.{prefix_trans}
+use Rattle.flt_lane.proofs.Keeping.{kept_first, kept_further}
+use Rattle.flt_lane.proofs.Saves.{map_reverse, saves-append, step_calls}
 
 -- a seat that took no call
-pub fresh_of : (main : Seat) (lock : _) (start : DemStart) (room : ℕ) → main ≡ main_seat lock start room → main ≡ main_seat main.lock main.start main.left
-fresh_of main lock start room is = subst (λ (m : Seat). m ≡ main_seat m.lock m.start m.left) (sym is) refl
+pub fresh_of : {S O : Type 0} (main : Seated S O) (lock : _) (start : S) (room : ℕ) → main ≡ main_seat lock start room → main ≡ main_seat main.lock main.start main.left
+fresh_of {S} {O} main lock start room is = subst (λ (m : Seated S O). m ≡ main_seat m.lock m.start m.left) (sym is) refl
 
--- the parts that were carried out are those of the life
-pub ended_life : (start : DemStart) (main after : Seat) (given parts : List (PartOf Step)) (own : List Told) (lanes : List (List Told)) (journal : Journal) → main ≡ main_seat main.lock main.start main.left → main.start ≡ start → given ≡ parts
-    → HasRunParts main after given own lanes → IsWhole after journal → IsLife start parts own lanes journal
-ended_life start main after given parts own lanes journal fresh begins same ran whole =
-    subst (λ s. IsLife s parts own lanes journal) begins (life_of main after parts own lanes journal fresh (subst (λ l. HasRunParts main after l own lanes) same ran) whole)
+-- what was known is a beginning of the journal that the closed lock left
+pub known_whole : {S O : Type 0} (main : Seated S O) (journal known : List (Entry O)) → IsWhole main journal → IsKnownTo main known → IsPrefix known journal
+known_whole main journal known whole =
+    ⊎_elim (λ pre. prefix_trans known main.seen journal pre whole.seen) (λ old. prefix_trans known old.0 journal old.2 (All-contains (λ o. IsPrefix o journal) main.olds old.0 whole.olds old.1))
+
+-- ---- the generations
+
+-- what is kept by what the main seat knows is kept by the whole journal: behind it stands no call of a save
+pub kept_at_end : (c : Config) (first : Generation) (main : Seat) (deeds : List Deed) (h s : Generation) (journal known : Journal) → IsWhole main journal → IsKnownTo main known → saves_in journal ≤ saves_of deeds → saves_of deeds ≤ saves_in known
+    → (saves_in known ≤ saves_of deeds → IsKept c first (reverse known) (answers_of deeds) h s) → IsKept c first (reverse journal) (answers_of deeds) h s
+kept_at_end c first main deeds h s journal known whole is_known most least kept =
+    let pre = known_whole main journal known whole is_known in
+    let rest = pre.0 in
+    let sum = ap saves_in (sym pre.1) ∙ saves-append known rest in
+    subst (λ j. IsKept c first (reverse j) (answers_of deeds) h s) pre.1
+    (kept_further c first (answers_of deeds) h s known rest (step_calls rest (omega (arith, sum, most, least))) (kept (omega (arith, sum, most))))
 
 -- the store before the first step
-pub living_first : {B : Type 0} {b : Ghosts B} (c : Config) (first : Generation) (main : Seat) (store : Store B b) → main ≡ main_seat main.lock main.start main.left → IsRunning c first first store → IsLivingOn c first main [] store
-living_first c first main store fresh running = record {
+pub living_first : {B : Type 0} {b : Ghosts B} (c : Config) (first : Generation) (main : Seat) (store : Store B b) → IsRunning c first first store → IsLivingOn c first main [] store
+living_first c first main store running = record {
   held = first;
   spare = first;
   running = running;
-  kept = λ clean. subst (λ (l : Journal). IsKept c first (reverse l) [] first first) (sym (ap (λ (s : Seat). s.seen) fresh)) (kept_first c first);
+  known = [];
+  is_known = inl (main.seen, refl);
+  least = omega arith;
+  kept = λ few. kept_first c first;
 }
+
+-- ---- the application blocks
+
+-- before the first step
+pub holds_first : (jobs : QueueSeat) (values : ℕ → Content) → HoldsOn values jobs [] values
+holds_first jobs values = record {
+  known = [];
+  is_known = inl (jobs.seen, refl);
+  least = omega arith;
+  held = λ few. record { done = refl; held = λ block below. refl; got = tt; told = omega arith };
+}
+
+-- what holds of all calls
+pub record HoldsAll (first : ℕ → Content) (past : History) (deeds : List Deed) (values : ℕ → Content) : Type 0 where
+  pub held : HoldApplications first past values
+  pub got : AreGot first past deeds
+
+all_of : (first : ℕ → Content) (past : History) (jobs : ℕ) (deeds : List Deed) (values : ℕ → Content) → AreHeld first past jobs deeds values → HoldsAll first past deeds values
+all_of first past jobs deeds values held = record {
+  held = λ block below. may_whole block (first (application_number block)) (values (application_number block)) past jobs held.done (held.held block below);
+  got = held.got;
+}
+
+pub held_at_end : (first : ℕ → Content) (main : QueueSeat) (deeds : List Deed) (values : ℕ → Content) (journal : List (Entry QueueOp)) → IsWhole main journal → drains_in journal ≤ drains_of deeds → HoldsOn first main deeds values
+    → HoldsAll first (map (λ (e : Entry QueueOp). e.op) (reverse journal)) deeds values
+held_at_end first main deeds values journal whole most holds =
+    let pre = known_whole main journal holds.known whole holds.is_known in
+    let rest = pre.0 in
+    let sum = ap drains_in (sym pre.1) ∙ drains-append holds.known rest in
+    let least = holds.least in
+    let held = holds.held (omega (arith, sum, most)) in
+    let all = held_further first (jobs_told (answers_of deeds)) deeds values holds.known rest (queue_calls rest (omega (arith, sum, most, least))) held in
+    subst (λ l. HoldsAll first l deeds values) (map_reverse (λ (e : Entry QueueOp). e.op) journal)
+    (all_of first (newest_of journal) (jobs_told (answers_of deeds)) deeds values (subst (λ j. AreHeld first (newest_of j) (jobs_told (answers_of deeds)) deeds values) pre.1 all))

@@ -1,4 +1,4 @@
--- What each entry of the journal, and each step of lane 0, leaves of the generations that were acknowledged and taken.
+-- What each entry of the journal, and each deed, leaves of the generations that were acknowledged and taken.
 use Rattle.std.proofs.Common.{◌≡◌, ◌⊎◌, inl, inr, ⊎_elim, ℕ, ◌+◌, ◌≤◌, List, [], ◌∷◌, ◌++◌, All, Some, reverse, refl, ap, subst, sym, arith, ◌∙◌}
 use Rattle.std.proofs.lemmas.List.{append-nil, append_assoc, reverse-append}
 use Rattle.std.proofs.lemmas.List.Elements.{All-head, All-tail}
@@ -8,8 +8,6 @@ use Rattle.flt_model.specs.Life.{Life}
 use Rattle.flt_model.specs.Durable.{saved_after}
 use Rattle.flt_model.specs.declared.call.Op.{Op}
 use Rattle.flt_model.specs.declared.call.Op.TheVariants as ops
-use Rattle.flt_model.specs.declared.call.Reply.{Reply}
-use Rattle.flt_turn.specs.declared.answer.Answer.{Answer}
 use Rattle.flt_turn.specs.declared.vault.Entry.{Entry}
 use Rattle.flt_generation.specs.Holding.{Generation, IsOneOf}
 use Rattle.flt_store.specs.declared.fault.SaveFault.{SaveFault}
@@ -17,7 +15,7 @@ use Rattle.flt_store.specs.Store.{numbered}
 use Rattle.flt_life.specs.Answers.{Told}
 use Rattle.flt_life.specs.declared.answer.StepAnswer.TheVariants as answers
 use Rattle.flt_life.specs.Journal.{Journal, entry, calls_of, snapshot_of, AcknowledgesBy, TakesBy}
-use Rattle.flt_life.specs.Saving.{IsLeft, IsUnacknowledged, failures}
+use Rattle.flt_life.specs.Saving.{AreRising, IsLeft, IsUnacknowledged, failures, last_number}
 use Rattle.flt_life.specs.Actions.{IsStepCall}
 use Rattle.flt_life.specs.Chain.{start_from}
 use Rattle.flt_lives.specs.Living.{IsKept}
@@ -70,15 +68,9 @@ module _ (start : Life) (journal : Journal) (told : List Told) (last : Generatio
   left_entry : (lane : ℕ) (op : Op) (g : Generation) → IsStepCall op → IsLeft start journal told last g → IsLeft start (entry lane op ∷ journal) told last g
   left_entry lane op g is = ⊎_elim (λ same. inl same) (λ (more : IsUnacknowledged start journal told last g). inr record { past = more.past; most = more.most; taken = taken_call start journal op g.state _ is more.taken })
 
-  left_reply : (reply : Answer Reply) (g : Generation) → IsLeft start journal told last g → IsLeft start journal (answers.Dem reply ∷ told) last g
-  left_reply reply g = ⊎_elim (λ same. inl same) (λ (more : IsUnacknowledged start journal told last g). inr record { past = more.past; most = more.most; taken = more.taken })
-
-  left_arm : (g : Generation) → IsLeft start journal told last g → IsLeft start journal (answers.Armed ∷ told) last g
-  left_arm g = ⊎_elim (λ same. inl same) (λ (more : IsUnacknowledged start journal told last g). inr record { past = more.past; most = more.most; taken = more.taken })
-
   -- a save that failed leaves what was there
-  left_failed : (fault : SaveFault) (g : Generation) → IsLeft start journal told last g → IsLeft start (entry 0 ops.Snapshot ∷ journal) (answers.SaveFailed fault ∷ told) last g
-  left_failed fault g = ⊎_elim (λ same. inl same) (λ (more : IsUnacknowledged start journal told last g). (let most = more.most in inr record { past = more.past; most = omega (arith, most); taken = inr more.taken }))
+  left_failed : (lane : ℕ) (fault : SaveFault) (g : Generation) → IsLeft start journal told last g → IsLeft start (entry lane ops.Snapshot ∷ journal) (answers.SaveFailed fault ∷ told) last g
+  left_failed lane fault g = ⊎_elim (λ same. inl same) (λ (more : IsUnacknowledged start journal told last g). (let most = more.most in inr record { past = more.past; most = omega (arith, most); taken = inr more.taken }))
 
   at_least : (g : Generation) → IsLeft start journal told last g → last.number ≤ g.number
   at_least g = ⊎_elim (λ same. (let is = ap (λ (d : Generation). d.number) same in omega (arith, is))) (λ (more : IsUnacknowledged start journal told last g). (let past = more.past in omega (arith, past)))
@@ -87,9 +79,9 @@ module _ (start : Life) (journal : Journal) (told : List Told) (last : Generatio
   at_most g = ⊎_elim (λ same. (let is = ap (λ (d : Generation). d.number) same in omega (arith, is))) (λ (more : IsUnacknowledged start journal told last g). more.most)
 
   -- or what it was to write
-  left_new : (fault : SaveFault) (chosen : Generation) → IsLeft start journal told last chosen
-      → IsLeft start (entry 0 ops.Snapshot ∷ journal) (answers.SaveFailed fault ∷ told) last (numbered (chosen.number + 1) (saved_after start (calls_of journal)))
-  left_new fault chosen left =
+  left_new : (lane : ℕ) (fault : SaveFault) (chosen : Generation) → IsLeft start journal told last chosen
+      → IsLeft start (entry lane ops.Snapshot ∷ journal) (answers.SaveFailed fault ∷ told) last (numbered (chosen.number + 1) (saved_after start (calls_of journal)))
+  left_new lane fault chosen left =
       let least = at_least chosen left in
       let most = at_most chosen left in
       inr record { past = omega (arith, least); most = omega (arith, most); taken = inl refl }
@@ -102,6 +94,18 @@ one_of : (P : Generation → Type 0) (g h s new : Generation) → IsOneOf g h s 
 one_of P g h s new is by_held by_spare by_new =
     ⊎_elim (λ e. subst P (sym e) by_held) (λ more. ⊎_elim (λ e. subst P (sym e) by_spare) (λ e. subst P (sym e) by_new) more) is
 
+-- the answer of a drain or of a read
+abbrev pub IsNoSave : Told → Type 0
+IsNoSave (answers.Drained written failed) = Unit {0}
+IsNoSave (answers.Bytes found) = Unit {0}
+IsNoSave answers.NoBlock = Unit {0}
+IsNoSave answers.BlockFlash = Unit {0}
+IsNoSave _ = ⊥
+
+left_beside : (start : Life) (journal : Journal) (told more : List Told) (last g : Generation) → failures more ≡ failures told → IsLeft start journal told last g → IsLeft start journal more last g
+left_beside start journal told more last g same =
+    ⊎_elim (λ is. inl is) (λ (left : IsUnacknowledged start journal told last g). inr record { past = left.past; most = (let most = left.most in omega (arith, most, same)); taken = left.taken })
+
 module _ (c : Config) (first : Generation) (journal : Journal) (told : List Told) (h s : Generation) (kept : IsKept c first journal told h s) where
   pub kept_entry : (lane : ℕ) (op : Op) → IsStepCall op → IsKept c first (entry lane op ∷ journal) told h s
   kept_entry lane op is = record {
@@ -113,52 +117,56 @@ module _ (c : Config) (first : Generation) (journal : Journal) (told : List Told
     rising = kept.rising;
   }
 
-  pub kept_reply : (reply : Answer Reply) → IsKept c first journal (answers.Dem reply ∷ told) h s
-  kept_reply reply = record {
+  kept_beside : (answer : Told) → failures (answer ∷ told) ≡ failures told → last_number first.number (answer ∷ told) ≡ last_number first.number told → AreRising first.number (answer ∷ told)
+      → IsKept c first journal (answer ∷ told) h s
+  kept_beside answer same number rising = record {
     last = kept.last;
     acknowledged = kept.acknowledged;
-    number = kept.number;
-    held_is = left_reply (start_from c first.state) journal told kept.last reply h kept.held_is;
-    spare_is = left_reply (start_from c first.state) journal told kept.last reply s kept.spare_is;
-    rising = kept.rising;
+    number = number ∙ kept.number;
+    held_is = left_beside (start_from c first.state) journal told (answer ∷ told) kept.last h same kept.held_is;
+    spare_is = left_beside (start_from c first.state) journal told (answer ∷ told) kept.last s same kept.spare_is;
+    rising = rising;
   }
 
-  pub kept_arm : IsKept c first journal (answers.Armed ∷ told) h s
-  kept_arm = record {
-    last = kept.last;
-    acknowledged = kept.acknowledged;
-    number = kept.number;
-    held_is = left_arm (start_from c first.state) journal told kept.last h kept.held_is;
-    spare_is = left_arm (start_from c first.state) journal told kept.last s kept.spare_is;
-    rising = kept.rising;
-  }
+  -- an answer of a drain or a read
+  pub kept_other : (answer : Told) → IsNoSave answer → IsKept c first journal (answer ∷ told) h s
+  kept_other (answers.Drained written failed) is = kept_beside (answers.Drained written failed) refl refl kept.rising
+  kept_other (answers.Bytes found) is = kept_beside (answers.Bytes found) refl refl kept.rising
+  kept_other answers.NoBlock is = kept_beside answers.NoBlock refl refl kept.rising
+  kept_other answers.BlockFlash is = kept_beside answers.BlockFlash refl refl kept.rising
+  kept_other (answers.Dem reply) is = absurd is
+  kept_other (answers.Saved number) is = absurd is
+  kept_other (answers.SaveFailed fault) is = absurd is
+  kept_other (answers.Queue reply) is = absurd is
+  kept_other answers.Armed is = absurd is
+  kept_other answers.Dark is = absurd is
 
   module _ {Q R : Type 0} (chosen : Generation) (is : (chosen ≡ h) ⊎ ((chosen ≡ s) × Q × R)) where
     chosen_left : IsLeft (start_from c first.state) journal told kept.last chosen
     chosen_left = chosen_of (λ g. IsLeft (start_from c first.state) journal told kept.last g) h s chosen is kept.held_is kept.spare_is
 
-    pub kept_failed : (fault : SaveFault) (now_held now_spare : Generation)
+    pub kept_failed : (lane : ℕ) (fault : SaveFault) (now_held now_spare : Generation)
         → IsOneOf now_held h s (numbered (chosen.number + 1) (saved_after (start_from c first.state) (calls_of journal)))
         → IsOneOf now_spare h s (numbered (chosen.number + 1) (saved_after (start_from c first.state) (calls_of journal)))
-        → IsKept c first (entry 0 ops.Snapshot ∷ journal) (answers.SaveFailed fault ∷ told) now_held now_spare
-    kept_failed fault now_held now_spare held_is spare_is =
-        let by_held = left_failed (start_from c first.state) journal told kept.last fault h kept.held_is in
-        let by_spare = left_failed (start_from c first.state) journal told kept.last fault s kept.spare_is in
-        let by_new = left_new (start_from c first.state) journal told kept.last fault chosen chosen_left in
+        → IsKept c first (entry lane ops.Snapshot ∷ journal) (answers.SaveFailed fault ∷ told) now_held now_spare
+    kept_failed lane fault now_held now_spare held_is spare_is =
+        let by_held = left_failed (start_from c first.state) journal told kept.last lane fault h kept.held_is in
+        let by_spare = left_failed (start_from c first.state) journal told kept.last lane fault s kept.spare_is in
+        let by_new = left_new (start_from c first.state) journal told kept.last lane fault chosen chosen_left in
         record {
           last = kept.last;
           acknowledged = kept.acknowledged;
           number = kept.number;
-          held_is = one_of (λ g. IsLeft (start_from c first.state) (entry 0 ops.Snapshot ∷ journal) (answers.SaveFailed fault ∷ told) kept.last g) now_held h s _ held_is by_held by_spare by_new;
-          spare_is = one_of (λ g. IsLeft (start_from c first.state) (entry 0 ops.Snapshot ∷ journal) (answers.SaveFailed fault ∷ told) kept.last g) now_spare h s _ spare_is by_held by_spare by_new;
+          held_is = one_of (λ g. IsLeft (start_from c first.state) (entry lane ops.Snapshot ∷ journal) (answers.SaveFailed fault ∷ told) kept.last g) now_held h s _ held_is by_held by_spare by_new;
+          spare_is = one_of (λ g. IsLeft (start_from c first.state) (entry lane ops.Snapshot ∷ journal) (answers.SaveFailed fault ∷ told) kept.last g) now_spare h s _ spare_is by_held by_spare by_new;
           rising = kept.rising;
         }
 
-    -- the snapshot of the state was the last one of lane 0, also where calls of other lanes stand behind it
-    pub kept_saved : (number : ℕ) (later : Journal) → number ≡ chosen.number + 1 → snapshot_of (start_from c first.state) 0 later ≡ Some (saved_after (start_from c first.state) (calls_of journal))
-        → IsKept c first (entry 0 (ops.Saved number) ∷ later) (answers.Saved number ∷ told)
+    -- the snapshot of the state was the last one of the lane, also where calls of other lanes stand behind it
+    pub kept_saved : (lane number : ℕ) (later : Journal) → number ≡ chosen.number + 1 → snapshot_of (start_from c first.state) lane later ≡ Some (saved_after (start_from c first.state) (calls_of journal))
+        → IsKept c first (entry lane (ops.Saved number) ∷ later) (answers.Saved number ∷ told)
         (numbered number (saved_after (start_from c first.state) (calls_of journal))) (numbered number (saved_after (start_from c first.state) (calls_of journal)))
-    kept_saved number later next taken =
+    kept_saved lane number later next taken =
         let least = at_least (start_from c first.state) journal told kept.last chosen chosen_left in
         let most = at_most (start_from c first.state) journal told kept.last chosen chosen_left in
         let last = kept.number in

@@ -1,103 +1,34 @@
 -- A lane after some of its steps.
-use Rattle.std.proofs.Common.{◌≡◌, ℕ, zero, suc, ◌<◌, ◌≤◌, ◌+◌, Bool, true, false, List, [], ◌∷◌, ◌++◌, length, take, drop, get_or, drop-cons, add-one, arith, refl, sym, ap, subst, ◌∙◌}
-use Rattle.std.specs.Prelude.{vec_len, IsTrue}
+use Rattle.std.proofs.Common.{◌≡◌, ℕ, zero, suc, ◌<◌, ◌≤◌, ◌+◌, List, [], ◌∷◌, ◌++◌, All, length, take, drop, get_or, drop-cons, add-one, arith, refl, sym, ap, subst, ◌∙◌}
+use Rattle.std.specs.Prelude.{sum_by, vec_len}
 use Rattle.std.specs.Vec.{vec_capacity}
-use Rattle.std.proofs.lemmas.Bool.{false≢true}
-use Rattle.std.proofs.lemmas.List.{take_more, append-nil, append_assoc}
-use Rattle.flt_flash.specs.declared.arm.Arm.{Arm}
-use Rattle.flt_config.specs.declared.config.Config.{Config}
-use Rattle.flt_config.specs.declared.persist.Persist.{Persist}
-use Rattle.flt_config.specs.Durable.{Fits}
-use Rattle.flt_config.specs.Validity.{IsValid}
-use Rattle.flt_life.specs.Actions.{action_of, call_count, response_size}
+use Rattle.std.proofs.lemmas.List.{take_more, take-append-drop, append-nil, append_assoc}
+use Rattle.std.proofs.lemmas.List.Sums.{sum_by-append, sum_by-cons}
+use Rattle.flt_script.specs.declared.step.Step.{Step}
+use Rattle.flt_queue.specs.Call as queued
+use Rattle.flt_queue.specs.Queue as queue
+use Rattle.flt_shared.specs.Call.{Seat, MayBeAsked, reply_after}
+use Rattle.flt_shared.specs.Lock.{IsSeatOf}
+use Rattle.flt_turn.specs.Seats as turn
+use Rattle.flt_life.specs.Actions.{action_of, response_size}
+use Rattle.flt_life.specs.Answers.{Told, told_size}
+use Rattle.flt_life.specs.Parts.{IsPossibleInLane, calls_of, queued_of}
+use Rattle.flt_life.specs.Played.{StepMakes, StepQueues}
 use Rattle.flt_life.specs.declared.replies.LaneReplies.{LaneReplies}
 use Rattle.flt_life.specs.Room.{HasRoomForSteps, told_in}
 use Rattle.flt_life.proofs.Sizes.{sizes-cons}
-use Rattle.flt_model.specs.Life.{Life, History}
-use Rattle.flt_model.specs.Answer.{answer, answer_report}
-use Rattle.flt_model.specs.Durable.{saved_after}
-use Rattle.flt_model.proofs.SavedFits.{saved_states_fit}
-use Rattle.flt_model.specs.declared.call.Op.TheVariants as ops
-use Rattle.flt_script.specs.Step.{is_lane_step}
-use Rattle.flt_script.specs.declared.step.Step.TheVariants as steps
-use Rattle.flt_store.specs.declared.fault.SaveFault.{SaveFault}
-use Rattle.flt_life.specs.declared.action.Action.TheVariants as action
-use Rattle.flt_model.specs.declared.call.Op.{Op}
-use Rattle.flt_model.specs.declared.call.Reply.{Reply}
-use Rattle.flt_script.specs.declared.step.Step.{Step}
-use Rattle.flt_turn.specs.declared.answer.Answer.{Answer}
-use Rattle.flt_shared.specs.declared.lock.DemLock.{DemLock}
-use Rattle.flt_shared.specs.Lock.{IsSeatOf}
-use Rattle.flt_shared.specs.Call.{Seat, IsCall, MayBeAsked, reply_after}
 use Rattle.flt_lane.specs.declared.lane.LaneWork.{LaneWork}
-use Rattle.flt_life.specs.Answers.{Told, told_size, reply_size}
-use Rattle.flt_life.specs.declared.answer.StepAnswer.TheVariants.{Dem, Saved, SaveFailed, Armed}
-use Rattle.flt_life.specs.Played.{ActionMakes, StepMakes}
-use Rattle.flt_life.specs.Mixing.{Call}
-use Rattle.flt_lane.specs.Chain.{Chain}
-use Rattle.flt_life.specs.Making.{AreMadeBy}
-use Rattle.flt_lane.specs.Runs.{MakesCalls, Makes}
-use Rattle.flt_lane.specs.Work.{IsReady, HasRun}
-use Rattle.flt_lane.proofs.Chains.{IsFact, chain_fact, chain_more, chain_of_one}
-use Rattle.flt_life.proofs.Makings.{made_more}
+use Rattle.flt_lane.specs.declared.locks.Locks.{Locks}
+use Rattle.flt_lane.specs.Runs.{QueueSeat, Makes, Queues, calls_by, queued_by}
+use Rattle.flt_lane.specs.Work.{AreSeatsOf, IsReady, HasRun}
+use Rattle.flt_lane.proofs.Chains.{chain_fact}
+use Rattle.flt_lane.proofs.PartWays.{PartBy, part_first, part_more, part_runs, part_start, part_number}
 
-abbrev fact_of : (before : Seat) (calls : List (Call Op Reply)) (after : Seat) → MakesCalls before calls after → IsFact MayBeAsked reply_after before calls after
-fact_of before calls after chain = chain_fact MayBeAsked reply_after before calls after chain
+abbrev pub DemPart : Seat → Seat → List Step → List Told → Type 0
+DemPart = PartBy MayBeAsked reply_after StepMakes calls_by
 
--- a step of one call
-pub one_made : (before : Seat) (step : Step) (op : Op) (told : Answer Reply) (after : Seat) → action_of step ≡ action.Call op → IsCall before after op told → Makes before step (Dem told) after
-one_made before step op told after makes call = record {
-  calls = record { op = op; told = told } ∷ [];
-  made = subst (λ a. ActionMakes a (Dem told) (record { op = op; told = told } ∷ [])) (sym makes) (told, refl, refl);
-  chain = chain_of_one MayBeAsked reply_after before record { op = op; told = told } after call;
-  left = let left = call.place.left in let one = ap call_count makes in omega (arith, left, one);
-}
-
--- a save of one call, and of two
-pub failed_made : (before : Seat) (fault : SaveFault) (taken : Answer Reply) (after : Seat) → IsCall before after ops.Snapshot taken → Makes before steps.Save (SaveFailed fault) after
-failed_made before fault taken after call = record {
-  calls = record { op = ops.Snapshot; told = taken } ∷ [];
-  made = (taken, refl);
-  chain = chain_of_one MayBeAsked reply_after before record { op = ops.Snapshot; told = taken } after call;
-  left = let left = call.place.left in omega (arith, left);
-}
-
-pub saved_made : (before mid : Seat) (number : ℕ) (taken noted : Answer Reply) (after : Seat) → IsCall before mid ops.Snapshot taken → IsCall mid after (ops.Saved number) noted → Makes before steps.Save (Saved number) after
-saved_made before mid number taken noted after first second = record {
-  calls = record { op = ops.Snapshot; told = taken } ∷ record { op = ops.Saved number; told = noted } ∷ [];
-  made = (taken, noted, refl);
-  chain = chain_more MayBeAsked reply_after before (record { op = ops.Snapshot; told = taken } ∷ []) mid (record { op = ops.Saved number; told = noted } ∷ []) after
-      (chain_of_one MayBeAsked reply_after before record { op = ops.Snapshot; told = taken } mid first)
-      (chain_of_one MayBeAsked reply_after mid record { op = ops.Saved number; told = noted } after second);
-  left = let one = first.place.left in let two = second.place.left in omega (arith, one, two);
-}
-
--- what a snapshot takes fits
-pub taken_fits : (c : Config) (start : Life) (past : History) (state : Persist) → start.config ≡ c → IsValid c → Fits c start.base → state ≡ saved_after start past → Fits c state
-taken_fits c start past state same valid fits is =
-    subst (Fits c) (sym is) (subst (λ k. Fits k (saved_after start past)) same (saved_states_fit start past (subst IsValid (sym same) valid) (subst (λ k. Fits k start.base) (sym same) fits)))
-
--- an arm makes no call
-pub armed_made : (seat : Seat) (arm : Arm) → Makes seat (steps.Arming arm) Armed seat
-unfolding Chain
-armed_made seat arm = record { calls = []; made = (refl, refl); chain = refl; left = omega arith }
-
--- ---- a response is an answer to a request alone
-
-report_size : (off started : Bool) → reply_size (answer_report off started) ≡ 0
-report_size true started = refl
-report_size false true = refl
-report_size false false = refl
-
-pub size_of_answer : (start : Life) (past : History) (op : Op) (reply : Reply) → reply ≡ answer start past op → reply_size reply ≤ 512 → reply_size reply ≤ response_size (action.Call op)
-size_of_answer start past (ops.Request tester bytes) reply is most = most
-size_of_answer start past (ops.Report event report) reply is most = let size = ap reply_size is ∙ report_size _ _ in omega (arith, size)
-size_of_answer start past (ops.Signal index value) reply is most = let size = ap reply_size is in omega (arith, size)
-size_of_answer start past (ops.Tick ticks) reply is most = let size = ap reply_size is in omega (arith, size)
-size_of_answer start past (ops.Cycle cycle) reply is most = let size = ap reply_size is in omega (arith, size)
-size_of_answer start past (ops.Show event) reply is most = let size = ap reply_size is in omega (arith, size)
-size_of_answer start past ops.Snapshot reply is most = let size = ap reply_size is in omega (arith, size)
-size_of_answer start past (ops.Saved number) reply is most = let size = ap reply_size is in omega (arith, size)
+abbrev pub QueuePart : QueueSeat → QueueSeat → List Step → List Told → Type 0
+QueuePart = PartBy queue.IsAdmitted queued.reply_after StepQueues queued_by
 
 -- ---- the room that a step leaves
 
@@ -109,97 +40,104 @@ room_after before after step rest told room size len capacity responses bytes =
     let fits = room.responses in
     record { answers = omega (arith, answers, len, capacity); responses = omega (arith, sum, fits, size, responses, bytes) }
 
--- the seat after a step has the same number and start
-pub step_start : (before : Seat) (step : Step) (told : Told) (after : Seat) → Makes before step told after → after.start ≡ before.start
-step_start before step told after makes = (fact_of before makes.calls after makes.chain).start_is
+-- ---- a lane on its way
 
-pub record IsPartway {F : _} {g : _} (lock : DemLock F g) (before now : LaneWork) (index : ℕ) : Type 0 where
+pub record IsPartway {F : _} {g : _} (locks : Locks F g) (before now : LaneWork) (index : ℕ) : Type 0 where
   pub told : List Told
-  pub calls : List (Call Op Reply)
-  pub made : AreMadeBy StepMakes (take index before.steps.now) told calls
-  pub chain : MakesCalls before.seat calls now.seat
+  pub dem : DemPart before.seat now.seat (take index before.steps.now) told
+  pub queue : QueuePart before.queue_seat now.queue_seat (take index before.steps.now) told
   pub answers : told_in now.replies ≡ told_in before.replies ++ told
   pub number : now.number ≡ before.number
   pub seat_number : now.number ≡ now.seat.number
   pub steps : now.steps.now ≡ before.steps.now
   pub room : HasRoomForSteps now.replies (drop index before.steps.now)
-  pub seat : IsSeatOf lock now.seat
-  pub left : before.seat.left ≤ now.seat.left + index
-  pub start : now.seat.start ≡ before.seat.start
+  pub seats : AreSeatsOf locks now
 
-pub begins : {F : _} {g : _} (lock : DemLock F g) (lane : LaneWork) → IsReady lock lane → IsPartway lock lane lane 0
-unfolding AreMadeBy Chain
-begins lock lane ready = record {
+pub begins : {F : _} {g : _} (locks : Locks F g) (lane : LaneWork) → IsReady locks lane → IsPartway locks lane lane 0
+begins locks lane ready = record {
   told = [];
-  calls = [];
-  made = refl;
-  chain = refl;
+  dem = part_first MayBeAsked reply_after StepMakes calls_by lane.seat;
+  queue = part_first queue.IsAdmitted queued.reply_after StepQueues queued_by lane.queue_seat;
   answers = sym (append-nil _);
   number = refl;
   seat_number = ready.number;
   steps = refl;
   room = ready.room;
-  seat = ready.seat;
-  left = omega arith;
-  start = refl;
+  seats = ready.seats;
 }
 
 -- the next step of those that are left
-next_step : (steps : List Step) (index : ℕ) (step : Step) → index < length steps → step ≡ get_or steps index step → drop index steps ≡ step ∷ drop (index + 1) steps
+pub next_step : (steps : List Step) (index : ℕ) (step : Step) → index < length steps → step ≡ get_or steps index step → drop index steps ≡ step ∷ drop (index + 1) steps
 next_step steps index step within is = rw (drop-cons steps index step within, add-one) (ap (λ s. s ∷ drop (suc index) steps) (sym is))
 
--- a step of a lane makes one call
-pub one_call : (step : Step) → IsTrue (is_lane_step step) → call_count (action_of step) ≡ 1
-one_call (steps.Report event report) is = refl
-one_call (steps.Show event) is = refl
-one_call (steps.Cycle cycle) is = refl
-one_call (steps.Tick ticks) is = refl
-one_call (steps.Signal index value) is = refl
-one_call (steps.Request tester bytes) is = refl
-one_call steps.Save is = absurd (false≢true is)
-one_call (steps.Arming arm) is = absurd (false≢true is)
+-- what all steps come to, by those so far, the next one and the others
+pub sum_so_far : (amount : Step → ℕ) (steps : List Step) (index : ℕ) (step : Step) → index < length steps → step ≡ get_or steps index step
+    → sum_by amount steps ≡ sum_by amount (take index steps) + (amount step + sum_by amount (drop (index + 1) steps))
+sum_so_far amount steps index step within is =
+    ap (sum_by amount) (sym (take-append-drop index steps)) ∙ sum_by-append amount (take index steps) (drop index steps)
+    ∙ ap (λ l. sum_by amount (take index steps) + sum_by amount l) (next_step steps index step within is) ∙ ap (λ n. sum_by amount (take index steps) + n) (sum_by-cons amount step (drop (index + 1) steps))
 
-pub goes_on : {F : _} {g : _} (lock : DemLock F g) (before now after : LaneWork) (index : ℕ) (step : Step) (told : Told) → IsReady lock before → IsPartway lock before now index → index < length before.steps.now
-    → step ≡ get_or before.steps.now index step → Makes now.seat step told after.seat → told_size told ≤ response_size (action_of step) → told_in after.replies ≡ told_in now.replies ++ told ∷ []
-    → vec_len after.replies.answers ≡ vec_len now.replies.answers + 1 → vec_capacity after.replies.answers ≡ vec_capacity now.replies.answers → vec_len after.replies.responses ≡ vec_len now.replies.responses + told_size told
-    → vec_capacity now.replies.responses ≤ vec_capacity after.replies.responses → after.number ≡ now.number → after.steps.now ≡ now.steps.now → IsSeatOf lock after.seat → IsPartway lock before after (index + 1)
-goes_on lock before now after index step told ready on within is makes size answers len capacity responses bytes number steps seat =
-    let taken : take (index + 1) before.steps.now ≡ take index before.steps.now ++ step ∷ [] =
-    take_more before.steps.now index step within ∙ ap (λ s. take index before.steps.now ++ s ∷ []) (sym is) in
-    let fact = fact_of now.seat makes.calls after.seat makes.chain in
-    let one = one_call step (subst (λ s. IsTrue (is_lane_step s)) (sym is) (ready.steps index step within).0) in
-    let room = subst (HasRoomForSteps now.replies) (next_step before.steps.now index step within is) on.room in
-    record {
-      told = on.told ++ told ∷ [];
-      calls = on.calls ++ makes.calls;
-      made = subst (λ l. AreMadeBy StepMakes l (on.told ++ told ∷ []) (on.calls ++ makes.calls)) (sym taken) (made_more StepMakes (take index before.steps.now) on.told on.calls step told makes.calls on.made makes.made);
-      chain = chain_more MayBeAsked reply_after before.seat on.calls now.seat makes.calls after.seat on.chain makes.chain;
-      answers = answers ∙ ap (λ l. l ++ told ∷ []) on.answers ∙ append_assoc (told_in before.replies) on.told (told ∷ []);
-      number = number ∙ on.number;
-      seat_number = number ∙ on.seat_number ∙ sym fact.number_is;
-      steps = steps ∙ on.steps;
-      room = room_after now.replies after.replies step (drop (index + 1) before.steps.now) told room size len capacity responses bytes;
-      seat = seat;
-      left = let left = makes.left in omega (arith, left, on.left, one);
-      start = fact.start_is ∙ on.start;
-    }
+-- the seats stay those of the locks
+pub seats_stay : {F : _} {g : _} (locks : Locks F g) (now after : LaneWork) (step : Step) (told : Told) → AreSeatsOf locks now → Makes now.seat step told after.seat → Queues now.queue_seat step told after.queue_seat
+    → IsSeatOf locks.dem after.seat → turn.IsSeatOf locks.queue.turn after.queue_seat → AreSeatsOf locks after
+seats_stay locks now after step told seats makes queues dem job_seat = record {
+  dem = dem;
+  queue = job_seat;
+  blocks = (chain_fact queue.IsAdmitted queued.reply_after now.queue_seat queues.calls after.queue_seat queues.chain).start_is ∙ seats.blocks
+      ∙ ap (λ s. s.config.blocks) (sym (chain_fact MayBeAsked reply_after now.seat makes.calls after.seat makes.chain).start_is);
+}
 
-take_past : {X : Type 0} (n : ℕ) (xs : List X) → length xs ≤ n → take n xs ≡ xs
+module _ {F : _} {g : _} (locks : Locks F g) (before now : LaneWork) (index : ℕ) (step : Step) (ready : IsReady locks before) (on : IsPartway locks before now index) (within : index < length before.steps.now)
+    (is : step ≡ get_or before.steps.now index step) where
+  -- there are the calls for the next step
+  pub calls_left : calls_by step ≤ now.seat.left
+  calls_left = let sum = sum_so_far calls_by before.steps.now index step within is in let left = on.dem.left in omega (arith, sum, left, ready.calls)
+
+  pub queued_left : queued_by step ≤ now.queue_seat.left
+  queued_left = let sum = sum_so_far queued_by before.steps.now index step within is in let left = on.queue.left in omega (arith, sum, left, ready.queued)
+
+  pub start_now : now.seat.start ≡ before.seat.start
+  start_now = part_start MayBeAsked reply_after StepMakes calls_by before.seat now.seat (take index before.steps.now) on.told on.dem
+
+  pub possible_next : IsPossibleInLane now.seat.start.config step
+  possible_next = subst (λ s. IsPossibleInLane s.config step) (sym start_now) (subst (IsPossibleInLane before.seat.start.config) (sym is) (ready.steps index step within))
+
+  pub goes_on : (after : LaneWork) (told : Told) → Makes now.seat step told after.seat → Queues now.queue_seat step told after.queue_seat → told_size told ≤ response_size (action_of step)
+      → told_in after.replies ≡ told_in now.replies ++ told ∷ [] → vec_len after.replies.answers ≡ vec_len now.replies.answers + 1 → vec_capacity after.replies.answers ≡ vec_capacity now.replies.answers
+      → vec_len after.replies.responses ≡ vec_len now.replies.responses + told_size told → vec_capacity now.replies.responses ≤ vec_capacity after.replies.responses → after.number ≡ now.number → after.steps.now ≡ now.steps.now
+      → AreSeatsOf locks after → IsPartway locks before after (index + 1)
+  goes_on after told makes queues size answers len capacity responses bytes number steps seats =
+      let all = before.steps.now in
+      let taken : take (index + 1) all ≡ take index all ++ step ∷ [] = take_more all index step within ∙ ap (λ s. take index all ++ s ∷ []) (sym is) in
+      let dem = part_more MayBeAsked reply_after StepMakes calls_by before.seat now.seat after.seat (take index all) on.told step told on.dem makes in
+      let queue = part_more queue.IsAdmitted queued.reply_after StepQueues queued_by before.queue_seat now.queue_seat after.queue_seat (take index all) on.told step told on.queue queues in
+      record {
+        told = on.told ++ told ∷ [];
+        dem = subst (λ l. DemPart before.seat after.seat l (on.told ++ told ∷ [])) (sym taken) dem;
+        queue = subst (λ l. QueuePart before.queue_seat after.queue_seat l (on.told ++ told ∷ [])) (sym taken) queue;
+        answers = answers ∙ ap (λ l. l ++ told ∷ []) on.answers ∙ append_assoc (told_in before.replies) on.told (told ∷ []);
+        number = number ∙ on.number;
+        seat_number = number ∙ on.seat_number ∙ sym (part_number MayBeAsked reply_after StepMakes calls_by now.seat after.seat (step ∷ []) (told ∷ [])
+            (part_more MayBeAsked reply_after StepMakes calls_by now.seat now.seat after.seat [] [] step told (part_first MayBeAsked reply_after StepMakes calls_by now.seat) makes));
+        steps = steps ∙ on.steps;
+        room = room_after now.replies after.replies step (drop (index + 1) all) told (subst (HasRoomForSteps now.replies) (next_step all index step within is) on.room) size len capacity responses bytes;
+        seats = seats;
+      }
+
+pub take_past : {X : Type 0} (n : ℕ) (xs : List X) → length xs ≤ n → take n xs ≡ xs
 take_past zero [] short = refl
 take_past (suc n) [] short = refl
 take_past zero (x ∷ xs) short = absurd (omega arith)
 take_past (suc n) (x ∷ xs) short = ap (λ l. x ∷ l) (take_past n xs (omega arith))
 
-pub has_run : {F : _} {g : _} (lock : DemLock F g) (before now : LaneWork) (index : ℕ) → IsPartway lock before now index → length before.steps.now ≤ index → HasRun before now
-has_run lock before now index on all = record {
-  told = on.told;
-  runs = record {
-    calls = on.calls;
-    made = subst (λ l. AreMadeBy StepMakes l on.told on.calls) (take_past index before.steps.now all) on.made;
-    chain = on.chain;
-    rising = (fact_of before.seat on.calls now.seat on.chain).rising;
-  };
-  answers = on.answers;
-  number = (on.number, on.seat_number);
-  steps = on.steps;
-}
+pub has_run : {F : _} {g : _} (locks : Locks F g) (before now : LaneWork) (index : ℕ) → IsPartway locks before now index → length before.steps.now ≤ index → HasRun before now
+has_run locks before now index on all =
+    let whole = take_past index before.steps.now all in
+    record {
+      told = on.told;
+      dem = part_runs MayBeAsked reply_after StepMakes calls_by before.seat now.seat before.steps.now on.told (subst (λ l. DemPart before.seat now.seat l on.told) whole on.dem);
+      queue = part_runs queue.IsAdmitted queued.reply_after StepQueues queued_by before.queue_seat now.queue_seat before.steps.now on.told (subst (λ l. QueuePart before.queue_seat now.queue_seat l on.told) whole on.queue);
+      answers = on.answers;
+      number = (on.number, on.seat_number);
+      steps = on.steps;
+    }

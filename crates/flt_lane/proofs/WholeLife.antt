@@ -1,4 +1,4 @@
--- A whole life, from a lock that took no call to the journal that it leaves.
+-- A whole life on a lock, from one that took no call to the journal that it leaves.
 use Rattle.std.proofs.Common.{◌≡◌, ℕ, ◌+◌, List, [], ◌∷◌, ◌++◌, All, arith, refl, sym, ap, subst, ◌∙◌}
 use Rattle.std.proofs.lemmas.List.Elements.{All-nil, All-cons, All-head}
 use mathlib.Core.List.{IsPrefix}
@@ -6,10 +6,9 @@ use Rattle.flt_script.specs.declared.step.Step.{Step}
 use Rattle.flt_turn.specs.declared.vault.Entry.{Entry}
 use Rattle.flt_turn.specs.Journal.{calls_of, Interleaves}
 use Rattle.flt_turn.specs.Seats.{Seated, main_seat}
-use Rattle.flt_shared.specs.Call.{Journal, Seat}
 use Rattle.flt_life.specs.Answers.{Told}
-use Rattle.flt_life.specs.Played.{IsLife, StepMakes}
-use Rattle.flt_life.specs.Mixing.{Mixes, Follows}
+use Rattle.flt_life.specs.Played.{IsMade}
+use Rattle.flt_life.specs.Mixing.{Call, Mixes, Follows}
 use Rattle.flt_lane.specs.Lived.{IsEnded, IsMain, IsWhole}
 use Rattle.flt_script.specs.Part.{PartOf}
 use Rattle.flt_life.specs.Making.{PartsMake}
@@ -36,15 +35,17 @@ module _ {S O : Type 0} where
   empty_before : (main : Seated S O) (before : List (Entry O)) → main ≡ main_seat main.lock main.start main.left → IsWhole main before → before ≡ []
   empty_before main before fresh whole = nothing_yet before (subst (λ (s : Seated S O). Mixes before ((s.number, s.mine) ∷ s.ended)) fresh whole.mixes)
 
-pub life_of : (main after : Seat) (parts : List (PartOf Step)) (own : List Told) (lanes : List (List Told)) (journal : Journal) → main ≡ main_seat main.lock main.start main.left
-    → HasRunParts main after parts own lanes → IsWhole after journal → IsLife main.start parts own lanes journal
-life_of main after parts own lanes journal fresh ran whole =
-    let trail = ran.lived.trails journal whole in
-    let journal_is : journal ≡ trail.rest = trail.split ∙ ap (λ l. l ++ trail.rest) (empty_before main trail.before fresh trail.whole) in
-    let first : main.children + 1 ≡ 1 = ap (λ (s : Seat). s.children + 1) fresh in
-    record {
-      blocks = ran.blocks;
-      made = subst (λ n. PartsMake StepMakes n parts own lanes ran.blocks) first ran.made;
-      follows = subst (Follows ran.blocks) (sym journal_is) trail.follows;
-      told = trail.told;
-    }
+module _ {S O R : Type 0} (answer : S → List O → O → R) (MadeBy : Step → Told → List (Call O R) → Type 0) where
+  -- the journal that a lock left has the calls of the parts
+  pub made_of : (main after : Seated S O) (parts : List (PartOf Step)) (own : List Told) (lanes : List (List Told)) (journal : List (Entry O)) → main ≡ main_seat main.lock main.start main.left
+      → HasRunParts answer MadeBy main after parts own lanes → IsWhole after journal → IsMade MadeBy answer main.start parts own lanes journal
+  made_of main after parts own lanes journal fresh ran whole =
+      let trail = ran.lived.trails journal whole in
+      let journal_is : journal ≡ trail.rest = trail.split ∙ ap (λ l. l ++ trail.rest) (empty_before main trail.before fresh trail.whole) in
+      let first : main.children + 1 ≡ 1 = ap (λ (s : Seated S O). s.children + 1) fresh in
+      record {
+        blocks = ran.blocks;
+        made = subst (λ n. PartsMake MadeBy n parts own lanes ran.blocks) first ran.made;
+        follows = subst (Follows ran.blocks) (sym journal_is) trail.follows;
+        told = trail.told;
+      }

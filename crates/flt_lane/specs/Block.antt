@@ -1,95 +1,116 @@
--- The seats of a block's lanes: split from the main seat, and joined again; and what a part of a life leaves.
+-- The seats of a block's lanes: split from the main seats, and joined again; and what a part of a life leaves.
 use Rattle.std.specs.Prelude.{◌≡◌, ℕ, ◌+◌, ◌≤◌, List, [], ◌∷◌, ◌++◌, map, length}
-use Rattle.flt_model.specs.declared.call.Op.{Op}
-use Rattle.flt_model.specs.declared.call.Reply.{Reply}
 use Rattle.flt_script.specs.declared.step.Step.{Step}
-use Rattle.flt_shared.specs.declared.lock.DemLock.{DemLock}
-use Rattle.flt_shared.specs.Call.{Seat, reply_after}
-use Rattle.flt_lane.specs.declared.lane.LaneWork.{LaneWork}
-use Rattle.flt_life.specs.Answers.{Told}
-use Rattle.flt_life.specs.Played.{StepMakes}
-use Rattle.flt_life.specs.Room.{told_in}
-use Rattle.flt_life.specs.Mixing.{Block}
-use Rattle.flt_lane.specs.Lived.{HasLived}
 use Rattle.flt_script.specs.Part.{PartOf}
+use Rattle.flt_turn.specs.Seats.{Seated}
+use Rattle.flt_queue.specs.Call as queued
+use Rattle.flt_shared.specs.Call.{Seat, reply_after}
+use Rattle.flt_life.specs.Answers.{Told}
 use Rattle.flt_life.specs.Making.{LanesMake, PartMakes, PartsMake}
-use Rattle.flt_life.specs.Parts.{width, widths}
-use Rattle.flt_lane.specs.Runs.{Makes}
+use Rattle.flt_life.specs.Mixing.{Call, Block}
+use Rattle.flt_life.specs.Parts.{calls_of, queued_of, width, widths}
+use Rattle.flt_life.specs.Played.{StepMakes, StepQueues}
+use Rattle.flt_life.specs.Room.{told_in}
+use Rattle.flt_lane.specs.declared.lane.LaneWork.{LaneWork}
+use Rattle.flt_lane.specs.declared.locks.Locks.{Locks}
+use Rattle.flt_lane.specs.Lived.{HasLived}
+use Rattle.flt_lane.specs.Runs.{Makes, Queues, QueueSeat}
 use Rattle.flt_lane.specs.Work.{IsReady}
 
--- A lane that was made ready: its seat knows what the main seat knew, and has exactly the calls of its steps.
-pub record IsSplit {F : _} {g : _} (lock : DemLock F g) (main : Seat) (number : ℕ) (steps : List Step) (work : LaneWork) : Type 0 where
-  pub ready : IsReady lock work
+-- ---- on one lock
+
+module _ {S O : Type 0} where
+  -- A seat that was split from the main seat: it knows what that one knew, and has so many calls.
+  pub record IsSplitSeat (main : Seated S O) (number calls : ℕ) (seat : Seated S O) : Type 0 where
+    pub number_is : seat.number ≡ number
+    pub start_is : seat.start ≡ main.start
+    pub seen_is : seat.seen ≡ main.seen
+    pub olds_are : seat.olds ≡ main.olds
+    pub mine_is : seat.mine ≡ []
+    pub left_is : seat.left ≡ calls
+
+  -- The main seat, when so many seats with so many calls in all were split from it.
+  pub record IsSplitOff (main after : Seated S O) (seats calls : ℕ) : Type 0 where
+    pub number_is : after.number ≡ main.number
+    pub start_is : after.start ≡ main.start
+    pub lock_is : after.lock ≡ main.lock
+    pub seen_is : after.seen ≡ main.seen
+    pub mine_is : after.mine ≡ main.mine
+    pub olds_are : after.olds ≡ main.olds
+    pub ended_are : after.ended ≡ main.ended
+    pub children_is : after.children ≡ main.children + seats
+    pub left_is : after.left + calls ≡ main.left
+
+  -- The main seat, when it has joined these seats.
+  pub record AreJoined (main after : Seated S O) (seats : List (Seated S O)) : Type 0 where
+    pub number_is : after.number ≡ main.number
+    pub start_is : after.start ≡ main.start
+    pub lock_is : after.lock ≡ main.lock
+    pub seen_is : after.seen ≡ main.seen
+    pub mine_is : after.mine ≡ main.mine
+    pub children_is : after.children ≡ main.children
+    pub olds_are : after.olds ≡ main.olds ++ map (λ (s : Seated S O). s.seen) seats
+    pub ended_are : after.ended ≡ main.ended ++ map (λ (s : Seated S O). (s.number, s.mine)) seats
+    pub left_is : main.left ≤ after.left
+
+module _ {S O R : Type 0} (answer : S → List O → O → R) (MadeBy : Step → Told → List (Call O R) → Type 0) where
+  -- The lanes of a block were run, and were answered so.
+  pub record HasRunBlock (main after : Seated S O) (lanes : List (List Step)) (told : List (List Told)) : Type 0 where
+    pub made : Block O R
+    pub makes : LanesMake MadeBy (main.children + 1) lanes told made
+    pub lived : HasLived answer main after (length lanes) (made ∷ [])
+
+  -- A part was carried out, and was answered so.
+  pub record HasRunPart (main after : Seated S O) (part : PartOf Step) (own : List Told) (lanes : List (List Told)) : Type 0 where
+    pub made : Block O R
+    pub makes : PartMakes MadeBy (main.children + 1) part own lanes made
+    pub lived : HasLived answer main after (width part) (made ∷ [])
+
+  -- All parts were carried out, and were answered so.
+  pub record HasRunParts (main after : Seated S O) (parts : List (PartOf Step)) (own : List Told) (lanes : List (List Told)) : Type 0 where
+    pub blocks : List (Block O R)
+    pub made : PartsMake MadeBy (main.children + 1) parts own lanes blocks
+    pub lived : HasLived answer main after (widths parts) blocks
+
+-- ---- on both locks
+
+-- A lane that was made ready: its seats have exactly the calls of its steps.
+pub record IsSplit {F : _} {g : _} (locks : Locks F g) (main : Seat) (jobs : QueueSeat) (number job_number : ℕ) (steps : List Step) (work : LaneWork) : Type 0 where
+  pub ready : IsReady locks work
   pub steps_are : work.steps.now ≡ steps
   pub no_answers : told_in work.replies ≡ []
-  pub number_is : work.seat.number ≡ number
-  pub start_is : work.seat.start ≡ main.start
-  pub seen_is : work.seat.seen ≡ main.seen
-  pub olds_are : work.seat.olds ≡ main.olds
-  pub mine_is : work.seat.mine ≡ []
-  pub left_is : work.seat.left ≡ length steps
+  pub dem : IsSplitSeat main number (calls_of steps) work.seat
+  pub queue : IsSplitSeat jobs job_number (queued_of steps) work.queue_seat
 
--- So is each of them, with numbers that go on from this one.
-unfoldable pub AreSplit : {F : _} {g : _} → DemLock F g → Seat → ℕ → List (List Step) → List LaneWork → Type 0
-AreSplit lock main number [] [] = Unit {0}
-AreSplit lock main number [] (work ∷ works) = ⊥
-AreSplit lock main number (steps ∷ lanes) [] = ⊥
-AreSplit lock main number (steps ∷ lanes) (work ∷ works) = IsSplit lock main number steps work × AreSplit lock main (number + 1) lanes works
-
--- The main seat, when so many seats with so many calls in all were split from it.
-pub record IsSplitOff (main after : Seat) (seats calls : ℕ) : Type 0 where
-  pub number_is : after.number ≡ main.number
-  pub start_is : after.start ≡ main.start
-  pub lock_is : after.lock ≡ main.lock
-  pub seen_is : after.seen ≡ main.seen
-  pub mine_is : after.mine ≡ main.mine
-  pub olds_are : after.olds ≡ main.olds
-  pub ended_are : after.ended ≡ main.ended
-  pub children_is : after.children ≡ main.children + seats
-  pub left_is : after.left + calls ≡ main.left
-
--- The main seat, when it has joined these seats.
-pub record AreJoined (main after : Seat) (seats : List Seat) : Type 0 where
-  pub number_is : after.number ≡ main.number
-  pub start_is : after.start ≡ main.start
-  pub lock_is : after.lock ≡ main.lock
-  pub seen_is : after.seen ≡ main.seen
-  pub mine_is : after.mine ≡ main.mine
-  pub children_is : after.children ≡ main.children
-  pub olds_are : after.olds ≡ main.olds ++ map (λ (s : Seat). s.seen) seats
-  pub ended_are : after.ended ≡ main.ended ++ map (λ (s : Seat). (s.number, s.mine)) seats
-  pub left_is : main.left ≤ after.left
-
--- The lanes of a block were run, and were answered so.
-pub record HasRunBlock (main after : Seat) (lanes : List (List Step)) (told : List (List Told)) : Type 0 where
-  pub made : Block Op Reply
-  pub makes : LanesMake StepMakes (main.children + 1) lanes told made
-  pub lived : HasLived reply_after main after (length lanes) (made ∷ [])
+-- So is each of them, with numbers that go on from these.
+unfoldable pub AreSplit : {F : _} {g : _} → Locks F g → Seat → QueueSeat → ℕ → ℕ → List (List Step) → List LaneWork → Type 0
+AreSplit locks main jobs number job_number [] [] = Unit {0}
+AreSplit locks main jobs number job_number [] (work ∷ works) = ⊥
+AreSplit locks main jobs number job_number (steps ∷ lanes) [] = ⊥
+AreSplit locks main jobs number job_number (steps ∷ lanes) (work ∷ works) =
+    IsSplit locks main jobs number job_number steps work × AreSplit locks main jobs (number + 1) (job_number + 1) lanes works
 
 -- The lanes of a block were run, and their answers were put behind those of the lanes before.
-pub record RunsLanes (main after : Seat) (lanes : List (List Step)) (told told_after : List (List Told)) : Type 0 where
+pub record RunsLanes (main after : Seat) (jobs jobs_after : QueueSeat) (lanes : List (List Step)) (told told_after : List (List Told)) : Type 0 where
   pub others : List (List Told)
   pub told_are : told_after ≡ told ++ others
-  pub run : HasRunBlock main after lanes others
+  pub dem : HasRunBlock reply_after StepMakes main after lanes others
+  pub queue : HasRunBlock queued.reply_after StepQueues jobs jobs_after lanes others
 
 -- Lane 0 made a step, and the answer was put behind those that it has.
-pub record HasStepped (main after : Seat) (step : Step) (own own_after : List Told) : Type 0 where
-  pub answer : Told
+pub record HasStepped (main after : Seat) (jobs jobs_after : QueueSeat) (step : Step) (answer : Told) (own own_after : List Told) : Type 0 where
   pub own_are : own_after ≡ own ++ answer ∷ []
-  pub makes : Makes main step answer after
+  pub dem : Makes main step answer after
+  pub queue : Queues jobs step answer jobs_after
 
 -- A part was carried out, and its answers were put behind those of lane 0 and of the lanes before.
-pub record Gains (main after : Seat) (part : PartOf Step) (own own_after : List Told) (lanes lanes_after : List (List Told)) : Type 0 where
-  pub mine : List Told
-  pub others : List (List Told)
+pub record Gains (main after : Seat) (jobs jobs_after : QueueSeat) (part : PartOf Step) (mine : List Told) (others : List (List Told)) (own own_after : List Told) (lanes lanes_after : List (List Told)) : Type 0 where
   pub own_are : own_after ≡ own ++ mine
   pub lanes_are : lanes_after ≡ lanes ++ others
-  pub made : Block Op Reply
-  pub makes : PartMakes StepMakes (main.children + 1) part mine others made
-  pub lived : HasLived reply_after main after (width part) (made ∷ [])
+  pub dem : HasRunPart reply_after StepMakes main after part mine others
+  pub queue : HasRunPart queued.reply_after StepQueues jobs jobs_after part mine others
 
 -- All parts were carried out, and were answered so.
-pub record HasRunParts (main after : Seat) (parts : List (PartOf Step)) (own : List Told) (lanes : List (List Told)) : Type 0 where
-  pub blocks : List (Block Op Reply)
-  pub made : PartsMake StepMakes (main.children + 1) parts own lanes blocks
-  pub lived : HasLived reply_after main after (widths parts) blocks
+pub record HaveRunParts (main after : Seat) (jobs jobs_after : QueueSeat) (parts : List (PartOf Step)) (own : List Told) (lanes : List (List Told)) : Type 0 where
+  pub dem : HasRunParts reply_after StepMakes main after parts own lanes
+  pub queue : HasRunParts queued.reply_after StepQueues jobs jobs_after parts own lanes

@@ -5,13 +5,14 @@ use Rattle.std.specs.Vec.{vec_capacity}
 use Rattle.flt_config.specs.declared.config.Config.{Config}
 use Rattle.flt_script.specs.declared.step.Step.{Step}
 use Rattle.flt_script.specs.Part.{PartOf}
+use Rattle.flt_script.specs.Step.{store_lanes}
 use Rattle.flt_life.specs.Actions.{IsPossible, action_of}
-use Rattle.flt_life.specs.Parts.{IsPossibleInLane}
+use Rattle.flt_life.specs.Parts.{IsPossibleInLane, calls_of, queued_of}
 use Rattle.flt_life.specs.Room.{IsLaneRoom, steps_of}
 use Rattle.flt_lane.specs.declared.room.PartRoom.{PartRoom}
 use Rattle.flt_lane.specs.declared.room.PartRoom.TheVariants.{One, Lanes}
 
--- A part whose lanes are ready, with room for a seat to each.
+-- A part whose lanes are ready, with room for the seats of each.
 abbrev pub IsPartRoom : PartRoom → Type 0
 IsPartRoom (One step) = Unit {0}
 IsPartRoom (Lanes rooms works) = All IsLaneRoom rooms.items × (works.items ≡ []) × (vec_len works ≡ 0) × (length rooms.items ≤ vec_capacity works)
@@ -21,14 +22,18 @@ abbrev pub part_in : PartRoom → PartOf Step
 part_in (One step) = inl step.now
 part_in (Lanes rooms works) = inr (steps_of rooms.items)
 
--- How many steps lanes have.
-abbrev pub steps_in : List (List Step) → ℕ
-steps_in lanes = sum_by length lanes
+-- How many calls lanes make at most of the status machine, and of the queue.
+abbrev pub all_calls : List (List Step) → ℕ
+all_calls lanes = sum_by calls_of lanes
 
--- The steps of a lane are such as a lane can make, and are at most as many as a script has; and so are those of a part.
+abbrev pub all_queued : List (List Step) → ℕ
+all_queued lanes = sum_by queued_of lanes
+
+-- The steps of a lane are such as a lane can make, and are at most as many as a script has.
 abbrev pub IsLaneFor : Config → List Step → Type 0
 IsLaneFor config steps = All (IsPossibleInLane config) steps × (length steps ≤ 65536)
 
+-- So are those of a part; and of the lanes of a block at most one touches the store.
 abbrev pub IsPartFor : Config → PartOf Step → Type 0
 IsPartFor config (inl step) = IsPossible config (action_of step)
-IsPartFor config (inr lanes) = All (IsLaneFor config) lanes
+IsPartFor config (inr lanes) = All (IsLaneFor config) lanes × (store_lanes lanes ≤ 1)

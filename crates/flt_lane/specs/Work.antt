@@ -1,26 +1,41 @@
 -- A lane before its steps and after them.
 use Rattle.std.specs.Prelude.{◌≡◌, ◌≤◌, ◌++◌, List, All, length}
 use Rattle.flt_life.specs.Answers.{Told}
-use Rattle.flt_life.specs.Parts.{IsPossibleInLane}
+use Rattle.flt_life.specs.Parts.{IsPossibleInLane, calls_of, queued_of}
 use Rattle.flt_life.specs.Room.{HasRoomForSteps, told_in}
+use Rattle.flt_turn.specs.Seats as turn
+use Rattle.flt_queue.specs.declared.lock.QueueLock.{QueueLock}
 use Rattle.flt_shared.specs.declared.lock.DemLock.{DemLock}
 use Rattle.flt_shared.specs.Lock.{IsSeatOf}
 use Rattle.flt_lane.specs.declared.lane.LaneWork.{LaneWork}
-use Rattle.flt_lane.specs.Runs.{Runs}
+use Rattle.flt_lane.specs.declared.locks.Locks.{Locks}
+use Rattle.flt_lane.specs.Runs.{Runs, RunsQueue}
 
--- It has its seat's number, and its seat has a call for each of its steps, which a lane can make; and there is room for their answers.
-pub record IsReady {F : _} {g : _} (lock : DemLock F g) (lane : LaneWork) : Type 0 where
-  pub seat : IsSeatOf lock lane.seat
-  pub number : lane.number ≡ lane.seat.number
-  pub steps : All (IsPossibleInLane lane.seat.start.config) lane.steps.now
-  pub few : length lane.steps.now ≤ 65536
-  pub calls : length lane.steps.now ≤ lane.seat.left
-  pub room : HasRoomForSteps lane.replies lane.steps.now
+-- The two locks together.
+abbrev pub both : {F : _} {g : _} → DemLock F g → QueueLock → Locks F g
+both dem queue = record { dem = dem; queue = queue }
+
+-- Both seats are of these locks, and the queue has as many blocks as the status machine's configuration.
+pub record AreSeatsOf {F : _} {g : _} (locks : Locks F g) (work : LaneWork) : Type 0 where
+  pub dem : IsSeatOf locks.dem work.seat
+  pub queue : turn.IsSeatOf locks.queue.turn work.queue_seat
+  pub blocks : work.queue_seat.start ≡ work.seat.start.config.blocks
+
+-- It has its seat's number, and its seats have the calls of its steps, which a lane can make; and there is room for their answers.
+pub record IsReady {F : _} {g : _} (locks : Locks F g) (work : LaneWork) : Type 0 where
+  pub seats : AreSeatsOf locks work
+  pub number : work.number ≡ work.seat.number
+  pub steps : All (IsPossibleInLane work.seat.start.config) work.steps.now
+  pub few : length work.steps.now ≤ 65536
+  pub calls : calls_of work.steps.now ≤ work.seat.left
+  pub queued : queued_of work.steps.now ≤ work.queue_seat.left
+  pub room : HasRoomForSteps work.replies work.steps.now
 
 -- It made its steps, and has one answer more for each.
 pub record HasRun (before after : LaneWork) : Type 0 where
   pub told : List Told
-  pub runs : Runs before.seat before.steps.now told after.seat
+  pub dem : Runs before.seat before.steps.now told after.seat
+  pub queue : RunsQueue before.queue_seat before.steps.now told after.queue_seat
   pub answers : told_in after.replies ≡ told_in before.replies ++ told
   pub number : (after.number ≡ before.number) × (after.number ≡ after.seat.number)
   pub steps : after.steps.now ≡ before.steps.now

@@ -1,9 +1,9 @@
 //! Lives over the two sectors of a bench, under the lock.
-ghost use Rattle.std.specs.Prelude.{◌≡◌, ◌+◌, ◌≤◌, All, IfSome, length, map, reverse, sum_by};
+ghost use Rattle.std.specs.Prelude.{◌≡◌, ◌+◌, ◌≤◌, All, IfSome, length, sum_by};
 ghost use Rattle.flt_dcm.specs.Whole.{config_of};
 ghost use Rattle.flt_script.specs.Part.{parts_of};
 ghost use Rattle.flt_life.specs.Parts.{IsPossiblePart, arms_in, steps_in, widths};
-ghost use Rattle.flt_life.specs.Lives.{ArePlayed, AreEnded, AreGiven, arms_given, first_lives, lists, view_of};
+ghost use Rattle.flt_life.specs.Lives.{ArePlayed, AreEnded, AreGiven, arms_given, lists, lives_seen};
 ghost use Rattle.flt_lives.specs.Sectors.{IsRunOf, FlashStaysSound};
 
 use crate::engine::LockEngine;
@@ -36,10 +36,10 @@ pub fn run_in_lanes<R: Threads + Wait + Sync, G: SharedGate, B: Bench + Drop>(
     requires small { sum_by (λ life. length life.items + widths (parts_of life.items)) lives.now ≤ 1048577 }
     requires possible { All (λ life. All (IsPossiblePart config.now) (parts_of life.items)) lives.now }
     requires arms { (B.state bench).bench.armed + sum_by (λ life. sum_by arms_in (parts_of life.items)) lives.now ≤ 64 }
-    ensures linked { IfSome result.lives (λ lived. IsRunOf config.now (B.state bench) (B.state result.bench) (map view_of (reverse lived.items))) }
-    ensures played { IfSome result.lives (λ lived. ArePlayed config.now (first_lives (length lived.items) (lists lives.now)) (map view_of (reverse lived.items))) }
-    ensures ended { IfSome result.lives (λ lived. AreEnded (length lives.now) (map view_of (reverse lived.items))) }
-    ensures given { IfSome result.lives (λ lived. AreGiven (arms_given (first_lives (length lived.items) (lists lives.now)) (map view_of (reverse lived.items)))
+    ensures linked { IfSome result.lives (λ lived. IsRunOf config.now (B.state bench) (B.state result.bench) (lives_seen (lists lives.now) lived.items)) }
+    ensures played { IfSome result.lives (λ lived. ArePlayed config.now (lives_seen (lists lives.now) lived.items)) }
+    ensures ended { IfSome result.lives (λ lived. AreEnded (length lives.now) (lives_seen (lists lives.now) lived.items)) }
+    ensures given { IfSome result.lives (λ lived. AreGiven (arms_given (lives_seen (lists lives.now) lived.items))
         (B.state bench).bench.arms (B.state result.bench).bench.arms) }
     ensures sound { FlashStaysSound config.now (B.state bench) (B.state result.bench) }
 {

@@ -1,12 +1,19 @@
 //! Where a lane may be held.
-ghost use Rattle.std.specs.Prelude.{◌<◌, ℕ, length, slice_index_or};
+ghost use Rattle.std.specs.Prelude.{◌≡◌, ◌≤◌, All, map};
 ghost use Rattle.std.specs.Thread.{IsSync};
-ghost use Rattle.flt_shared.specs.Lock.{IsSeatOf};
-ghost use Rattle.flt_lane.specs.Work.{IsReady, HasRun};
+ghost use Rattle.flt_config.specs.Durable.{Fits};
+ghost use Rattle.flt_config.specs.Validity.{IsValid};
+ghost use Rattle.flt_script.specs.Step.{store_lanes};
+ghost use Rattle.flt_store.specs.Store.{driver_of};
+ghost use Rattle.flt_lane.specs.Stored.{AreRun};
+ghost use Rattle.flt_lane.specs.Work.{AreSeatsOf, IsReady};
 ghost use Rattle.flt_lane.specs.declared.lane.LaneWork.{LaneWork};
 
 use crate::lane::{LaneWork, run_block};
-use flt_shared::DemLock;
+use crate::locks::Locks;
+use flt_config::ValidConfig;
+use flt_flash::Blocks;
+use flt_store::Store;
 use std::marker::Sync;
 use std::sync::Wait;
 use std::thread::Threads;
@@ -19,14 +26,26 @@ pub trait Gate {
 }
 
 /// A gate that the lanes of a block may ask at once. What may be shared between threads is known of each type by itself, so each gate
-/// runs lanes on its own behalf: by `run_block(rt, dem, lanes, self)`.
+/// runs lanes on its own behalf: by `run_block(rt, locks, store, config, lanes, self)`.
 pub trait SharedGate: Gate {
     /// Makes the steps of each lane, all lanes at once, each step between the two calls of this gate.
-    fn run_lanes<R: Threads + Wait + Sync>(&self, rt: &R, dem: &DemLock, lanes: &mut [LaneWork<'_>])
+    fn run_lanes<R: Threads + Wait + Sync, B: Blocks + Drop>(
+        &self,
+        rt: &R,
+        locks: &Locks,
+        store: &mut Store<B>,
+        config: &ValidConfig,
+        lanes: &mut [LaneWork<'_>],
+    )
         requires sync { IsSync R.row }
-        requires ready { (k : ℕ) (d : LaneWork) → k < length lanes.old → IsReady dem.now (slice_index_or lanes.old k d) }
-        ensures ran { (k : ℕ) (d : LaneWork) → k < length lanes.old → HasRun (slice_index_or lanes.old k d) (slice_index_or lanes.new k d)
-            × IsSeatOf dem.now (slice_index_or lanes.new k d).seat };
+        requires ready { All (IsReady locks.now) lanes.old }
+        requires one_stores { store_lanes (map (λ (lane : LaneWork). lane.steps.now) lanes.old) ≤ 1 }
+        requires same { All (λ lane. lane.seat.start.config ≡ config.now) lanes.old }
+        requires valid { IsValid config.now }
+        requires fits { All (λ lane. Fits config.now lane.seat.start.base) lanes.old }
+        requires arms { (driver_of store.old).device.bench.armed ≤ 64 }
+        ensures ran { AreRun config.now lanes.old lanes.new store.old store.new }
+        ensures seats { All (AreSeatsOf locks.now) lanes.new };
 }
 
 /// Holds no lane.
@@ -40,12 +59,14 @@ impl Gate for OpenGate {
 }
 
 impl SharedGate for OpenGate {
-    fn run_lanes<R: Threads + Wait + Sync>(
+    fn run_lanes<R: Threads + Wait + Sync, B: Blocks + Drop>(
         &self,
         rt: &R,
-        dem: &DemLock,
+        locks: &Locks,
+        store: &mut Store<B>,
+        config: &ValidConfig,
         lanes: &mut [LaneWork<'_>],
     ) {
-        run_block(rt, dem, lanes, self);
+        run_block(rt, locks, store, config, lanes, self);
     }
 }

@@ -1,64 +1,217 @@
 //! One lane, and the lanes of a block at once.
-ghost use Rattle.std.specs.Prelude.{◌≡◌, ◌<◌, ◌≤◌, ◌+◌, ℕ, length, slice_index_or};
-ghost use Rattle.flt_shared.specs.Lock.{IsSeatOf};
-ghost use Rattle.flt_lane.specs.Work.{IsReady, HasRun};
+ghost use Rattle.std.specs.Prelude.{◌≡◌, ◌≤◌, All, IfNone, IfSome, false, length, map};
+ghost use Rattle.flt_config.specs.Durable.{Fits};
+ghost use Rattle.flt_config.specs.Validity.{IsValid};
+ghost use Rattle.flt_script.specs.Step.{is_store_step, store_lanes};
+ghost use Rattle.flt_store.specs.Store.{driver_of};
+ghost use Rattle.flt_lane.specs.Work.{AreSeatsOf, IsReady, HasRun, both};
+ghost use Rattle.flt_lane.specs.Stored.{AreRun, CanStore, HasRunStore, HaveRun, RunsStore, StoresAt, is_store_lane};
 ghost use Rattle.flt_lane.specs.declared.lane.LaneWork.{LaneWork};
 
-use crate::beside::{Work, work_beside};
+use crate::beside::{Owned, Work, work_beside, work_first};
 use crate::gate::Gate;
-use crate::step::make_call;
+use crate::locks::Locks;
+use crate::step::{do_step, make_call};
+use flt_config::ValidConfig;
+use flt_flash::Blocks;
 use flt_life::LaneReplies;
+use flt_queue::{QueueLock, QueueSeat};
 use flt_script::Step;
 use flt_shared::{DemLock, DemSeat};
+use flt_store::Store;
 use std::marker::Sync;
 use std::sync::Wait;
 use std::thread::Threads;
 
-/// The steps of a lane, with the seat on which it makes their calls, and the answers so far.
+/// The steps of a lane, with the seats on which it makes their calls, and the answers so far.
 #[derive(Drop)]
 pub struct LaneWork<'a> {
     pub number: u32,
     pub steps: &'a [Step],
     pub seat: DemSeat,
+    pub queue_seat: QueueSeat,
     /// Has room for an answer to each step.
     pub replies: LaneReplies,
 }
 
-/// Makes the steps of a lane in their order, each between the two calls of the gate.
-fn run_lane<R: Wait, G: Gate>(rt: &R, dem: &DemLock, gate: &G, lane: &mut LaneWork<'_>)
-    requires ready { IsReady dem.now lane.old }
+/// Makes the steps of a lane that does not touch the store in their order, each between the two calls of the gate.
+fn run_lane<R: Wait, G: Gate>(
+    rt: &R,
+    dem: &DemLock,
+    queue: &QueueLock,
+    gate: &G,
+    lane: &mut LaneWork<'_>,
+)
+    requires ready { IsReady (both dem.now queue.now) lane.old }
+    requires no_store { is_store_lane lane.old ≡ false }
     ensures ran { HasRun lane.old lane.new }
-    ensures lock { IsSeatOf dem.now lane.new.seat }
+    ensures seats { AreSeatsOf (both dem.now queue.now) lane.new }
 {
     let steps = lane.steps;
     for (index, step) in steps.iter().enumerate() {
         gate.before(rt, lane.number, index as u32);
-        let answer = make_call(rt, dem, &mut lane.seat, step);
+        let answer = make_call(rt, dem, queue, &mut lane.seat, &mut lane.queue_seat, step);
         lane.replies.keep_whole(answer);
         gate.after(rt, lane.number, index as u32);
     }
 }
 
-impl<G: Gate> Work<DemLock, G> for LaneWork<'_> {
-    ghost ready = { λ dem lane. IsReady dem lane };
-
-    ghost done = { λ dem before after. HasRun before after × IsSeatOf dem after.seat };
-
-    fn work<R: Wait>(&mut self, rt: &R, dem: &DemLock, gate: &G) {
-        run_lane(rt, dem, gate, self);
+/// Makes the steps of the lane that touches the store, likewise.
+fn run_store_lane<R: Wait, G: Gate, B: Blocks + Drop>(
+    rt: &R,
+    dem: &DemLock,
+    queue: &QueueLock,
+    gate: &G,
+    store: &mut Store<B>,
+    config: &ValidConfig,
+    lane: &mut LaneWork<'_>,
+)
+    requires ready { IsReady (both dem.now queue.now) lane.old }
+    requires same { lane.old.seat.start.config ≡ config.now }
+    requires valid { IsValid config.now }
+    requires fits { Fits config.now lane.old.seat.start.base }
+    requires arms { (driver_of store.old).device.bench.armed ≤ 64 }
+    ensures ran { HasRunStore config.now lane.old lane.new store.old store.new }
+    ensures seats { AreSeatsOf (both dem.now queue.now) lane.new }
+{
+    let steps = lane.steps;
+    for (index, step) in steps.iter().enumerate() {
+        gate.before(rt, lane.number, index as u32);
+        let answer = do_step(
+            rt,
+            dem,
+            queue,
+            store,
+            config,
+            &mut lane.seat,
+            &mut lane.queue_seat,
+            step,
+        );
+        lane.replies.keep_whole(answer);
+        gate.after(rt, lane.number, index as u32);
     }
 }
 
-/// Makes the steps of each lane, all lanes at once: each in a thread of its own where one can be made.
-pub fn run_block<R: Threads + Wait + Sync, G: Gate + Sync>(
+impl<G: Gate> Work<DemLock, QueueLock, G> for LaneWork<'_> {
+    ghost ready = { λ dem queue lane. IsReady (both dem queue) lane × (is_store_lane lane ≡ false) };
+
+    ghost done = { λ dem queue before after. HasRun before after × AreSeatsOf (both dem queue) after };
+
+    fn work<R: Wait>(&mut self, rt: &R, first: &DemLock, second: &QueueLock, gate: &G) {
+        run_lane(rt, first, second, gate, self);
+    }
+}
+
+impl<'a, G: Gate, B: Blocks + Drop> Owned<DemLock, QueueLock, G, ValidConfig, LaneWork<'a>>
+    for Store<B> {
+    ghost able = { λ dem queue config store lane. IsReady (both dem queue) lane × CanStore config lane store };
+
+    ghost made = { λ dem queue config store now before after. HasRunStore config before after store now × AreSeatsOf (both dem queue) after };
+
+    fn work<R: Wait>(
+        &mut self,
+        rt: &R,
+        first: &DemLock,
+        second: &QueueLock,
+        gate: &G,
+        config: &ValidConfig,
+        one: &mut LaneWork<'a>,
+    ) {
+        run_store_lane(rt, first, second, gate, self, config, one);
+    }
+}
+
+/// Whether a step touches the store.
+fn is_store_step(step: &Step) -> bool
+    ensures { result ≡ is_store_step step.now }
+{
+    matches!(step, Step::Save | Step::Drain | Step::Get { .. })
+}
+
+/// Whether a lane touches the store.
+fn touches_store(lane: &LaneWork<'_>) -> bool
+    ensures { result ≡ is_store_lane lane.now }
+{
+    lane.steps.iter().any(|step| is_store_step(step))
+}
+
+/// The place of the lane that touches the store, of which there is one at most.
+fn store_place(lanes: &[LaneWork<'_>]) -> Option<usize>
+    requires { store_lanes (map (λ (lane : LaneWork). lane.steps.now) lanes.now) ≤ 1 }
+    ensures some { IfSome result (λ place. StoresAt place lanes.now) }
+    ensures none { IfNone result (All (λ lane. is_store_lane lane ≡ false) lanes.now) }
+{
+    for (place, lane) in lanes.iter().enumerate() {
+        if touches_store(lane) {
+            return Some(place);
+        }
+    }
+    None
+}
+
+/// Runs lanes that do not touch the store, all at once.
+fn run_others<R: Threads + Wait + Sync, G: Gate + Sync>(
     rt: &R,
     dem: &DemLock,
+    queue: &QueueLock,
+    gate: &G,
+    lanes: &mut [LaneWork<'_>],
+)
+    requires ready { All (IsReady (both dem.now queue.now)) lanes.old }
+    requires no_store { All (λ lane. is_store_lane lane ≡ false) lanes.old }
+    ensures ran { HaveRun lanes.old lanes.new }
+    ensures seats { All (AreSeatsOf (both dem.now queue.now)) lanes.new }
+{
+    work_beside(rt, dem, queue, gate, lanes);
+}
+
+/// Runs the first lane, which touches the store, in this thread, and the others beside it.
+fn run_first<R: Threads + Wait + Sync, G: Gate + Sync, B: Blocks + Drop>(
+    rt: &R,
+    dem: &DemLock,
+    queue: &QueueLock,
+    gate: &G,
+    store: &mut Store<B>,
+    config: &ValidConfig,
+    lanes: &mut [LaneWork<'_>],
+)
+    requires first { StoresAt 0 lanes.old }
+    requires ready { All (IsReady (both dem.now queue.now)) lanes.old }
+    requires same { All (λ lane. lane.seat.start.config ≡ config.now) lanes.old }
+    requires valid { IsValid config.now }
+    requires fits { All (λ lane. Fits config.now lane.seat.start.base) lanes.old }
+    requires arms { (driver_of store.old).device.bench.armed ≤ 64 }
+    ensures ran { RunsStore config.now 0 lanes.old lanes.new store.old store.new }
+    ensures seats { All (AreSeatsOf (both dem.now queue.now)) lanes.new }
+{
+    work_first(rt, dem, queue, gate, config, store, lanes);
+}
+
+/// Makes the steps of each lane, all lanes at once: each in a thread of its own where one can be made, but that the lane that touches
+/// the store runs in this one.
+pub fn run_block<R: Threads + Wait + Sync, G: Gate + Sync, B: Blocks + Drop>(
+    rt: &R,
+    locks: &Locks,
+    store: &mut Store<B>,
+    config: &ValidConfig,
     lanes: &mut [LaneWork<'_>],
     gate: &G,
 )
-    requires ready { (k : ℕ) (d : LaneWork) → k < length lanes.old → IsReady dem.now (slice_index_or lanes.old k d) }
-    ensures ran { (k : ℕ) (d : LaneWork) → k < length lanes.old → HasRun (slice_index_or lanes.old k d) (slice_index_or lanes.new k d)
-        × IsSeatOf dem.now (slice_index_or lanes.new k d).seat }
+    requires ready { All (IsReady locks.now) lanes.old }
+    requires one_stores { store_lanes (map (λ (lane : LaneWork). lane.steps.now) lanes.old) ≤ 1 }
+    requires same { All (λ lane. lane.seat.start.config ≡ config.now) lanes.old }
+    requires valid { IsValid config.now }
+    requires fits { All (λ lane. Fits config.now lane.seat.start.base) lanes.old }
+    requires arms { (driver_of store.old).device.bench.armed ≤ 64 }
+    ensures ran { AreRun config.now lanes.old lanes.new store.old store.new }
+    ensures seats { All (AreSeatsOf locks.now) lanes.new }
 {
-    work_beside(rt, dem, gate, lanes);
+    let Locks { dem, queue } = locks;
+    let Some(place) = store_place(lanes) else {
+        run_others(rt, dem, queue, gate, lanes);
+        return;
+    };
+    lanes.swap(0, place);
+    run_first(rt, dem, queue, gate, store, config, lanes);
+    lanes.swap(0, place);
 }

@@ -10,11 +10,13 @@
 mod bench;
 mod beside;
 mod block;
+mod drain;
 mod engine;
 mod gate;
 mod lane;
 mod life;
 mod living;
+mod locks;
 mod room;
 mod step;
 
@@ -23,3 +25,4 @@ pub use engine::LockEngine;
 pub use gate::{Gate, OpenGate, SharedGate};
 pub use lane::{LaneWork, run_block};
 pub use life::{Lived, live_on_lock};
+pub use locks::Locks;

@@ -8,7 +8,7 @@ ghost use Rattle.flt_store.specs.Store.{driver_of, numbered, IsRunning};
 ghost use Rattle.flt_life.specs.declared.life.Boot.TheVariants as boots;
 ghost use Rattle.flt_life.specs.Actions.{all_arms};
 ghost use Rattle.flt_life.specs.Causes.{AreCaused};
-ghost use Rattle.flt_life.specs.Chain.{Leaves};
+ghost use Rattle.flt_life.specs.Chain.{KeepsApplications, Leaves, told_of};
 ghost use Rattle.flt_life.specs.Lives.{view_of};
 ghost use Rattle.flt_life.specs.Moment.{Moment, moment_of};
 ghost use Rattle.flt_life.specs.Parts.{IsPossiblePart, arms_in, own_actions, steps_in, widths};
@@ -19,15 +19,18 @@ ghost use Rattle.flt_lives.specs.Going.{GoesOn, WereGiven};
 
 use crate::gate::SharedGate;
 use crate::living::run_parts;
+use crate::locks::Locks;
 use crate::room::part_rooms;
 use flt_config::{Persist, ValidConfig};
 use flt_dcm::Unit;
 use flt_flash::Blocks;
 use flt_life::{Boot, Life, LifeRoom, life_of};
-use flt_lives::call_room;
+use flt_lives::{call_room, queue_room};
+use flt_queue::QueueLock;
 use flt_script::Part;
 use flt_shared::{DemEnd, DemLock};
 use flt_store::Store;
+use flt_turn::Vault;
 use std::alloc::{AllocError, Global};
 use std::marker::Sync;
 use std::sync::Wait;
@@ -47,7 +50,7 @@ fn copy_of(state: &Persist) -> Persist
     state.clone().unwrap()
 }
 
-/// Lives on a lock from the state that a start-up restored under this number, over the store that it left: lane 0 makes its steps, and
+/// Lives on two locks, of the machine and of the queue, from the state that a start-up restored under this number, over the store that it left: lane 0 makes its steps, and
 /// the lanes of each block at once. The answers go to the room that was taken for them. All memory is taken before the first call;
 /// where it is wanting no step was made.
 pub fn live_on_lock<R: Threads + Wait + Sync, G: SharedGate, B: Blocks + Drop>(
@@ -73,10 +76,11 @@ pub fn live_on_lock<R: Threads + Wait + Sync, G: SharedGate, B: Blocks + Drop>(
     requires room { IsLifeRoom (parts_of parts.now) room }
     ensures same { IfOk result (λ lived. config_of lived.unit ≡ config.now) }
     ensures boot { IfOk result (λ lived. lived.life.boot ≡ boots.Started generation state.now) }
-    ensures leaves { IfOk result (λ lived. Leaves config.now (numbered generation state.now) (view_of lived.life) (moment_of (driver_of store.new))) }
+    ensures leaves { IfOk result (λ lived. Leaves config.now (numbered generation state.now) (view_of (parts_of parts.now) lived.life) (moment_of (driver_of store.new))) }
     ensures caused { IfOk result (λ lived. (boot : Moment) → HasRisenBy 0 boot.faults (driver_of store.old).device.faults
-        → AreCaused config.now boot (moment_of (driver_of store.new)) (view_of lived.life).answers) }
-    ensures played { IfOk result (λ lived. IsPlayed config.now (parts_of parts.now) (view_of lived.life)) }
+        → AreCaused config.now boot (moment_of (driver_of store.new)) (told_of (view_of (parts_of parts.now) lived.life))) }
+    ensures played { IfOk result (λ lived. IsPlayed config.now (view_of (parts_of parts.now) lived.life)) }
+    ensures kept { IfOk result (λ lived. KeepsApplications (moment_of (driver_of store.old)) (moment_of (driver_of store.new)) (view_of (parts_of parts.now) lived.life)) }
     ensures given { IfOk result (λ lived.
         WereGiven (all_arms (own_actions (parts_of parts.now))) (driver_of store.old).device.bench.arms (driver_of store.new).device.bench.arms) }
     ensures armed { (driver_of store.new).device.bench.armed ≤ (driver_of store.old).device.bench.armed + sum_by arms_in (parts_of parts.now) }
@@ -96,11 +100,21 @@ pub fn live_on_lock<R: Threads + Wait + Sync, G: SharedGate, B: Blocks + Drop>(
     let Ok((dem, mut main)) = DemLock::make(alloc, unit, call_room(parts) as u32) else {
         return Err(AllocError);
     };
+    let blocks = config.config().blocks;
+    let Ok((queue, mut jobs)) = QueueLock::make(alloc, blocks, queue_room(parts) as u32) else {
+        return Err(AllocError);
+    };
+    let locks = Locks { dem, queue };
     run_parts(
-        rt, &dem, store, config, &mut main, rooms, &mut own, &mut told, gate,
+        rt, &locks, store, config, &mut main, &mut jobs, rooms, &mut own, &mut told, gate,
     );
+    let Locks { dem, queue } = locks;
     let DemEnd { journal, unit } = dem.close(main);
+    let Vault {
+        journal: queued,
+        ..
+    } = queue.close(jobs);
     let boot = Boot::Started { generation, start };
-    let life = life_of(boot, journal, own, told, replies);
+    let life = life_of(boot, journal, queued, own, told, replies);
     Ok(Lived { unit, life })
 }

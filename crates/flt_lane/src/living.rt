@@ -1,30 +1,36 @@
-//! The parts of a life, one after the other, on one lock.
-ghost use Rattle.std.specs.Prelude.{◌≡◌, ◌<◌, ◌≤◌, ◌+◌, ◌^◌, ◌++◌, ◌∷◌, [], List, All, length, map, reverse, sum_by, vec_len};
+//! The parts of a life, one after the other, on its locks.
+ghost use Rattle.std.specs.Prelude.{◌≡◌, ◌<◌, ◌≤◌, ◌+◌, ◌^◌, ◌∷◌, [], List, All, length, map, reverse, sum_by, vec_len};
 ghost use Rattle.std.specs.Vec.{vec_capacity};
 ghost use Rattle.flt_config.specs.Durable.{Fits};
 ghost use Rattle.flt_config.specs.Validity.{IsValid};
 ghost use Rattle.flt_script.specs.declared.step.Step.{Step};
 ghost use Rattle.flt_script.specs.Part.{PartOf};
-ghost use Rattle.flt_life.specs.Actions.{IsPossible, action_of, all_arms, arm_count, arms_of, call_count};
-ghost use Rattle.flt_life.specs.Parts.{arms_in, calls_in, own_actions, own_steps, width, widths};
+ghost use Rattle.flt_life.specs.Actions.{IsPossible, action_of, all_arms, arm_count, arms_of};
+ghost use Rattle.flt_life.specs.Ordered.{deeds_in};
+ghost use Rattle.flt_life.specs.Parts.{arms_in, calls_in, own_actions, own_steps, queued_in, width, widths};
 ghost use Rattle.flt_life.specs.Room.{HasRoomForSteps, told_in};
 ghost use Rattle.flt_shared.specs.Lock.{IsSeatOf};
 ghost use Rattle.flt_store.specs.Store.{driver_of};
+ghost use Rattle.flt_turn.specs.Seats as turn;
 ghost use Rattle.flt_lives.specs.Going.{GoesOn, WereGiven};
+ghost use Rattle.flt_lane.specs.Block.{HaveRunParts};
+ghost use Rattle.flt_lane.specs.BlockRun.{GainsPart, StepsOne};
 ghost use Rattle.flt_lane.specs.Lived.{IsMain};
 ghost use Rattle.flt_lane.specs.Living.{Carries};
 ghost use Rattle.flt_lane.specs.Room.{IsPartFor, IsPartRoom, part_in};
-ghost use Rattle.flt_lane.specs.Block.{HasStepped, Gains, HasRunParts};
+ghost use Rattle.flt_lane.specs.Runs.{calls_by, queued_by};
 
 use crate::block::run_lanes;
 use crate::gate::{Gate, SharedGate};
+use crate::locks::Locks;
 use crate::room::PartRoom;
 use crate::step::do_step;
 use flt_config::ValidConfig;
 use flt_flash::Blocks;
 use flt_life::LaneReplies;
+use flt_queue::QueueSeat;
 use flt_script::Step;
-use flt_shared::{DemLock, DemSeat};
+use flt_shared::DemSeat;
 use flt_store::Store;
 use std::marker::Sync;
 use std::sync::Wait;
@@ -33,36 +39,48 @@ use std::thread::Threads;
 /// Makes a step of lane 0, between the two calls of the gate.
 fn run_one<R: Wait, G: Gate, B: Blocks + Drop>(
     rt: &R,
-    dem: &DemLock,
+    locks: &Locks,
     store: &mut Store<B>,
     config: &ValidConfig,
     main: &mut DemSeat,
+    jobs: &mut QueueSeat,
     step: &Step,
     own: &mut LaneReplies,
     gate: &G,
 )
-    requires lock { IsSeatOf dem.now main.old }
-    requires main { main.old.number ≡ 0 }
+    requires lock { IsSeatOf locks.now.dem main.old × (main.old.number ≡ 0) }
+    requires queue { turn.IsSeatOf locks.now.queue.turn jobs.old × (jobs.old.number ≡ 0) }
+    requires blocks { jobs.old.start ≡ main.old.start.config.blocks }
     requires same { main.old.start.config ≡ config.now }
     requires valid { IsValid config.now }
     requires fits { Fits config.now main.old.start.base }
     requires step { IsPossible config.now (action_of step.now) }
     requires arms { (driver_of store.old).device.bench.armed + arm_count (action_of step.now) ≤ 64 }
-    requires calls { call_count (action_of step.now) ≤ main.old.left }
+    requires calls { calls_by step.now ≤ main.old.left }
+    requires queued { queued_by step.now ≤ jobs.old.left }
     requires index { vec_len own.old.answers < 2 ^ 32 }
     requires room { HasRoomForSteps own.old (step.now ∷ []) }
-    ensures stepped { HasStepped main.old main.new step.now (told_in own.old) (told_in own.new) }
-    ensures lock { IsSeatOf dem.now main.new }
+    ensures stepped { StepsOne config.now main.old main.new jobs.old jobs.new step.now (told_in own.old) (told_in own.new) store.old store.new }
+    ensures lock { IsSeatOf locks.now.dem main.new }
+    ensures queue { turn.IsSeatOf locks.now.queue.turn jobs.new }
     ensures len { vec_len own.new.answers ≡ vec_len own.old.answers + 1 }
     ensures room { (rest : List Step) → HasRoomForSteps own.old (step.now ∷ rest) → HasRoomForSteps own.new rest }
-    ensures carries { Carries config.now main.old main.new (reverse (told_in own.old)) (reverse (told_in own.new)) store.old store.new }
     ensures goes_on { GoesOn (driver_of store.old) (driver_of store.new) }
     ensures given { WereGiven (arms_of (action_of step.now)) (driver_of store.old).device.bench.arms (driver_of store.new).device.bench.arms }
     ensures armed { (driver_of store.new).device.bench.armed ≤ (driver_of store.old).device.bench.armed + arm_count (action_of step.now) }
 {
     let index = own.answers.len() as u32;
     gate.before(rt, 0, index);
-    let answer = do_step(rt, dem, store, config, main, step);
+    let answer = do_step(
+        rt,
+        &locks.dem,
+        &locks.queue,
+        store,
+        config,
+        main,
+        jobs,
+        step,
+    );
     own.keep_whole(answer);
     gate.after(rt, 0, index);
 }
@@ -70,17 +88,19 @@ fn run_one<R: Wait, G: Gate, B: Blocks + Drop>(
 /// Carries out a part of a life, and puts its answers behind those that are there.
 fn run_part<'a, R: Threads + Wait + Sync, G: SharedGate, B: Blocks + Drop>(
     rt: &R,
-    dem: &DemLock,
+    locks: &Locks,
     store: &mut Store<B>,
     config: &ValidConfig,
     main: &mut DemSeat,
+    jobs: &mut QueueSeat,
     part: PartRoom<'a>,
     own: &mut LaneReplies,
     told: &mut Vec<LaneReplies>,
     gate: &G,
 )
-    requires lock { IsSeatOf dem.now main.old }
-    requires main { IsMain main.old }
+    requires lock { IsSeatOf locks.now.dem main.old × IsMain main.old }
+    requires queue { turn.IsSeatOf locks.now.queue.turn jobs.old × IsMain jobs.old }
+    requires blocks { jobs.old.start ≡ main.old.start.config.blocks }
     requires same { main.old.start.config ≡ config.now }
     requires valid { IsValid config.now }
     requires fits { Fits config.now main.old.start.base }
@@ -88,28 +108,33 @@ fn run_part<'a, R: Threads + Wait + Sync, G: SharedGate, B: Blocks + Drop>(
     requires steps { IsPartFor config.now (part_in part) }
     requires arms { (driver_of store.old).device.bench.armed + arms_in (part_in part) ≤ 64 }
     requires calls { calls_in (part_in part) ≤ main.old.left }
-    requires children { main.old.children + width (part_in part) < 2 ^ 32 }
+    requires queued { queued_in (part_in part) ≤ jobs.old.left }
+    requires children { (main.old.children + width (part_in part) < 2 ^ 32) × (jobs.old.children + width (part_in part) < 2 ^ 32) }
     requires index { vec_len own.old.answers < 2 ^ 32 }
     requires own_room { HasRoomForSteps own.old (own_steps (part_in part ∷ [])) }
     requires told_room { vec_len told.old + width (part_in part) ≤ vec_capacity told.old }
-    ensures gains { Gains main.old main.new (part_in part.entry) (told_in own.old) (told_in own.new) (map told_in told.old.items) (map told_in told.new.items) }
-    ensures lock { IsSeatOf dem.now main.new }
+    ensures gains { GainsPart config.now main.old main.new jobs.old jobs.new (part_in part.entry) (told_in own.old) (told_in own.new)
+        (map told_in told.old.items) (map told_in told.new.items) store.old store.new }
+    ensures lock { IsSeatOf locks.now.dem main.new }
+    ensures queue { turn.IsSeatOf locks.now.queue.turn jobs.new }
     ensures left { main.old.left ≤ main.new.left + calls_in (part_in part.entry) }
+    ensures queue_left { jobs.old.left ≤ jobs.new.left + queued_in (part_in part.entry) }
     ensures own_len { vec_len own.new.answers ≤ vec_len own.old.answers + 1 }
     ensures own_room { (rest : List (PartOf Step)) → HasRoomForSteps own.old (own_steps (part_in part.entry ∷ rest))
         → HasRoomForSteps own.new (own_steps rest) }
     ensures told_len { vec_len told.new ≡ vec_len told.old + width (part_in part.entry) }
     ensures told_capacity { vec_capacity told.new ≡ vec_capacity told.old }
-    ensures carries { Carries config.now main.old main.new (reverse (told_in own.old)) (reverse (told_in own.new)) store.old store.new }
     ensures goes_on { GoesOn (driver_of store.old) (driver_of store.new) }
     ensures given { WereGiven (all_arms (own_actions (part_in part.entry ∷ [])))
         (driver_of store.old).device.bench.arms (driver_of store.new).device.bench.arms }
     ensures armed { (driver_of store.new).device.bench.armed ≤ (driver_of store.old).device.bench.armed + arms_in (part_in part.entry) }
 {
     match part {
-        PartRoom::One(step) => run_one(rt, dem, store, config, main, step, own, gate),
+        PartRoom::One(step) => run_one(rt, locks, store, config, main, jobs, step, own, gate),
         PartRoom::Lanes(rooms, works) => {
-            run_lanes(rt, dem, main, rooms, works, told, gate);
+            run_lanes(
+                rt, locks, store, config, main, jobs, rooms, works, told, gate,
+            );
         }
     }
 }
@@ -117,17 +142,19 @@ fn run_part<'a, R: Threads + Wait + Sync, G: SharedGate, B: Blocks + Drop>(
 /// Carries out the parts of a life, one after the other. No memory is taken.
 pub(crate) fn run_parts<'a, R: Threads + Wait + Sync, G: SharedGate, B: Blocks + Drop>(
     rt: &R,
-    dem: &DemLock,
+    locks: &Locks,
     store: &mut Store<B>,
     config: &ValidConfig,
     main: &mut DemSeat,
+    jobs: &mut QueueSeat,
     parts: Vec<PartRoom<'a>>,
     own: &mut LaneReplies,
     told: &mut Vec<LaneReplies>,
     gate: &G,
 )
-    requires lock { IsSeatOf dem.now main.old }
-    requires main { IsMain main.old }
+    requires lock { IsSeatOf locks.now.dem main.old × IsMain main.old }
+    requires queue { turn.IsSeatOf locks.now.queue.turn jobs.old × IsMain jobs.old }
+    requires blocks { jobs.old.start ≡ main.old.start.config.blocks }
     requires same { main.old.start.config ≡ config.now }
     requires valid { IsValid config.now }
     requires fits { Fits config.now main.old.start.base }
@@ -135,22 +162,24 @@ pub(crate) fn run_parts<'a, R: Threads + Wait + Sync, G: SharedGate, B: Blocks +
     requires steps { All (IsPartFor config.now) (map part_in parts.items) }
     requires arms { (driver_of store.old).device.bench.armed + sum_by arms_in (map part_in parts.items) ≤ 64 }
     requires calls { sum_by calls_in (map part_in parts.items) ≤ main.old.left }
-    requires children { main.old.children + widths (map part_in parts.items) < 2 ^ 32 }
+    requires queued { sum_by queued_in (map part_in parts.items) ≤ jobs.old.left }
+    requires children { (main.old.children + widths (map part_in parts.items) < 2 ^ 32) × (jobs.old.children + widths (map part_in parts.items) < 2 ^ 32) }
     requires few { length parts.items < 2 ^ 32 }
     requires no_answers { (told_in own.old ≡ []) × (vec_len own.old.answers ≡ 0) }
     requires own_room { HasRoomForSteps own.old (own_steps (map part_in parts.items)) }
     requires none_told { (told.old.items ≡ []) × (vec_len told.old ≡ 0) }
     requires told_room { widths (map part_in parts.items) ≤ vec_capacity told.old }
-    ensures lived { HasRunParts main.old main.new (map part_in parts.entry.items) (told_in own.new) (map told_in told.new.items) }
-    ensures lock { IsSeatOf dem.now main.new }
+    ensures lived { HaveRunParts main.old main.new jobs.old jobs.new (map part_in parts.entry.items) (told_in own.new) (map told_in told.new.items) }
+    ensures lock { IsSeatOf locks.now.dem main.new }
+    ensures queue { turn.IsSeatOf locks.now.queue.turn jobs.new }
     ensures told_len { vec_len told.new ≡ widths (map part_in parts.entry.items) }
-    ensures carries { Carries config.now main.old main.new [] (reverse (told_in own.new)) store.old store.new }
+    ensures carries { Carries config.now main.old main.new jobs.old jobs.new [] (reverse (deeds_in (map part_in parts.entry.items) (told_in own.new) (map told_in told.new.items))) store.old store.new }
     ensures goes_on { GoesOn (driver_of store.old) (driver_of store.new) }
     ensures given { WereGiven (all_arms (own_actions (map part_in parts.entry.items)))
         (driver_of store.old).device.bench.arms (driver_of store.new).device.bench.arms }
     ensures armed { (driver_of store.new).device.bench.armed ≤ (driver_of store.old).device.bench.armed + sum_by arms_in (map part_in parts.entry.items) }
 {
     for part in parts {
-        run_part(rt, dem, store, config, main, part, own, told, gate);
+        run_part(rt, locks, store, config, main, jobs, part, own, told, gate);
     }
 }

@@ -1,37 +1,47 @@
 //! One step of a lane.
-ghost use Rattle.std.specs.Prelude.{◌≡◌, ◌+◌, ◌≤◌, ◌∷◌, [], List, IsErr, IfOk};
+ghost use Rattle.std.specs.Prelude.{◌≡◌, ◌+◌, ◌<◌, ◌≤◌, ◌∷◌, [], List, IsErr, IfOk, false, true};
 ghost use mathlib.Core.Logic.{◌↔◌};
+ghost use Rattle.flt_config.specs.declared.config.Config.{Config};
 ghost use Rattle.flt_config.specs.Durable.{Fits};
 ghost use Rattle.flt_config.specs.Validity.{IsValid};
-ghost use Rattle.flt_life.specs.Actions.{IsPossible, action_of, arm_count, arms_of, call_count, response_size};
-ghost use Rattle.flt_life.specs.Answers.{Told, told_size, reply_size};
+ghost use Rattle.flt_life.specs.Actions.{IsPossible, action_of, arm_count, arms_of, response_size};
+ghost use Rattle.flt_life.specs.Answers.{told_size, reply_size};
 ghost use Rattle.flt_life.specs.declared.action.Action.TheVariants as action;
-ghost use Rattle.flt_life.specs.declared.answer.StepAnswer.TheVariants as answers;
+ghost use Rattle.flt_life.specs.Ordered.{Deed, with_deed};
 ghost use Rattle.flt_life.specs.Parts.{IsPossibleInLane};
+ghost use Rattle.flt_life.specs.Played.{IsGot};
 ghost use Rattle.flt_model.specs.declared.call.Op.{Op};
-ghost use Rattle.flt_model.specs.declared.call.Reply.{Reply as Replied};
-ghost use Rattle.flt_turn.specs.declared.answer.Answer.{Answer};
+ghost use Rattle.flt_queue.specs.Call as queued;
+ghost use Rattle.flt_queue.specs.Queue as queues;
+ghost use Rattle.flt_queue.specs.declared.job.QueueOp.{QueueOp as JobCall};
+ghost use Rattle.flt_script.specs.Step.{is_store_step};
 ghost use Rattle.flt_script.specs.declared.step.Step.TheVariants as steps;
-ghost use Rattle.flt_shared.specs.Call.{IsCall};
+ghost use Rattle.flt_shared.specs.Call.{IsCall, Seat as DemView};
 ghost use Rattle.flt_shared.specs.Lock.{IsSeatOf};
 ghost use Rattle.flt_store.specs.Store.{driver_of};
+ghost use Rattle.flt_turn.specs.Seats as turn;
 ghost use Rattle.flt_lives.specs.Going.{GoesOn, WereGiven};
 ghost use Rattle.flt_lane.specs.Living.{Carries};
-ghost use Rattle.flt_lane.specs.Runs.{Makes};
+ghost use Rattle.flt_lane.specs.Runs.{Makes, Queues, QueueSeat as Jobs, calls_by, queued_by};
+ghost use Rattle.flt_lane.specs.Stored.{Leaves};
 
+use crate::drain::drain;
+use arrayvec::ArrayVec;
 use flt_config::{ValidConfig, initial};
 use flt_flash::Blocks;
 use flt_life::StepAnswer;
 use flt_model::RESPONSE;
+use flt_queue::{BYTES, Job, QueueAnswer, QueueLock, QueueSeat};
 use flt_script::Step;
 use flt_shared::{DemAnswer, DemLock, DemSeat, Reply};
 use flt_store::Store;
 use std::sync::Wait;
 
-/// Makes the call of a step.
+/// Makes the call of a step that calls the status machine.
 fn call<R: Wait>(rt: &R, dem: &DemLock, seat: &mut DemSeat, step: &Step) -> DemAnswer
     requires lock { IsSeatOf dem.now seat.old }
     requires step { IsPossibleInLane seat.old.start.config step.now }
+    requires one { (op : Op) × (action_of step.now ≡ action.Call op) }
     ensures full { IsErr result ↔ (seat.old.left ≡ 0) }
     ensures call { IfOk result (λ told. (op : Op) × (action_of step.now ≡ action.Call op) × IsCall seat.old seat.new op told) }
 {
@@ -42,7 +52,12 @@ fn call<R: Wait>(rt: &R, dem: &DemLock, seat: &mut DemSeat, step: &Step) -> DemA
         Step::Tick { ticks } => dem.tick(rt, seat, *ticks),
         Step::Signal { index, value } => dem.signal(rt, seat, *index, *value),
         Step::Request { tester, bytes } => dem.request(rt, seat, *tester, bytes),
-        Step::Save | Step::Arming(_) => unreachable!(),
+        Step::Save
+        | Step::Post { .. }
+        | Step::Drain
+        | Step::Get { .. }
+        | Step::Ask { .. }
+        | Step::Arming(_) => unreachable!(),
     }
 }
 
@@ -57,19 +72,13 @@ fn length_of(reply: &Reply) -> usize
     }
 }
 
-/// Makes the call of a step of a lane on a seat that has one left, and answers by it.
-pub(crate) fn make_call<R: Wait>(
-    rt: &R,
-    dem: &DemLock,
-    seat: &mut DemSeat,
-    step: &Step,
-) -> StepAnswer<Reply>
+/// Makes the call of a step that calls the status machine on a seat that has one left, and answers by it.
+fn call_dem<R: Wait>(rt: &R, dem: &DemLock, seat: &mut DemSeat, step: &Step) -> StepAnswer<Reply>
     requires lock { IsSeatOf dem.now seat.old }
     requires step { IsPossibleInLane seat.old.start.config step.now }
+    requires one { (op : Op) × (action_of step.now ≡ action.Call op) }
     requires left { 1 ≤ seat.old.left }
     ensures made { Makes seat.old step.now result seat.new }
-    ensures call { (op : Op) × (told : Answer Replied) × (action_of step.now ≡ action.Call op)
-        × (result ≡ answers.Dem told) × IsCall seat.old seat.new op told }
     ensures size { told_size result ≤ response_size (action_of step.now) }
     ensures lock { IsSeatOf dem.now seat.new }
 {
@@ -81,6 +90,85 @@ pub(crate) fn make_call<R: Wait>(
     StepAnswer::Dem(told)
 }
 
+/// A copy of the bytes of a job, which takes no memory.
+fn copy_of(bytes: &ArrayVec<u8, BYTES>) -> ArrayVec<u8, BYTES>
+    ensures { result ≡ bytes.now }
+{
+    bytes.clone().unwrap()
+}
+
+/// Makes the call of a step that calls the queue on a seat that has one left.
+fn call_queue<R: Wait>(rt: &R, queue: &QueueLock, seat: &mut QueueSeat, step: &Step) -> QueueAnswer
+    requires lock { turn.IsSeatOf queue.now.turn seat.old }
+    requires one { (op : JobCall) × (action_of step.now ≡ action.Queue op) × queues.IsAdmitted seat.old.start op }
+    ensures full { IsErr result ↔ (seat.old.left ≡ 0) }
+    ensures call { IfOk result (λ told. (op : JobCall) × (action_of step.now ≡ action.Queue op) × queued.IsCall seat.old seat.new op told) }
+{
+    match step {
+        Step::Post {
+            urgent,
+            block,
+            bytes,
+        } => {
+            let job = Job {
+                block: *block,
+                bytes: copy_of(bytes),
+            };
+            queue.post(rt, seat, *urgent, job)
+        }
+        Step::Ask { block } => queue.ask(rt, seat, *block),
+        _ => unreachable!(),
+    }
+}
+
+/// Posts a job, or asks a block for its last result, and answers by the queue.
+fn ask_queue<R: Wait>(
+    rt: &R,
+    queue: &QueueLock,
+    seat: &mut QueueSeat,
+    step: &Step,
+) -> StepAnswer<Reply>
+    requires lock { turn.IsSeatOf queue.now.turn seat.old }
+    requires one { (op : JobCall) × (action_of step.now ≡ action.Queue op) × queues.IsAdmitted seat.old.start op }
+    requires left { 1 ≤ seat.old.left }
+    ensures queues { Queues seat.old step.now result seat.new }
+    ensures size { told_size result ≡ 0 }
+    ensures lock { turn.IsSeatOf queue.now.turn seat.new }
+{
+    let Ok(told) = call_queue(rt, queue, seat, step) else {
+        unreachable!()
+    };
+    StepAnswer::Queue(told)
+}
+
+/// Makes a step that does not touch the store, on seats that have its calls left, and answers it.
+pub(crate) fn make_call<R: Wait>(
+    rt: &R,
+    dem: &DemLock,
+    queue: &QueueLock,
+    seat: &mut DemSeat,
+    jobs: &mut QueueSeat,
+    step: &Step,
+) -> StepAnswer<Reply>
+    requires lock { IsSeatOf dem.now seat.old }
+    requires queue { turn.IsSeatOf queue.now.turn jobs.old }
+    requires blocks { jobs.old.start ≡ seat.old.start.config.blocks }
+    requires step { IsPossibleInLane seat.old.start.config step.now }
+    requires no_store { is_store_step step.now ≡ false }
+    requires left { calls_by step.now ≤ seat.old.left }
+    requires queued { queued_by step.now ≤ jobs.old.left }
+    ensures made { Makes seat.old step.now result seat.new }
+    ensures queues { Queues jobs.old step.now result jobs.new }
+    ensures size { told_size result ≤ response_size (action_of step.now) }
+    ensures lock { IsSeatOf dem.now seat.new }
+    ensures queue { turn.IsSeatOf queue.now.turn jobs.new }
+{
+    match step {
+        Step::Post { .. } | Step::Ask { .. } => ask_queue(rt, queue, jobs, step),
+        _ => call_dem(rt, dem, seat, step),
+    }
+}
+
 /// Saves the durable state: the lock is held for the snapshot, and again for the note of its number, but not while it is written.
 fn save<R: Wait, B: Blocks + Drop>(
     rt: &R,
@@ -90,7 +178,6 @@ fn save<R: Wait, B: Blocks + Drop>(
     seat: &mut DemSeat,
 ) -> StepAnswer<Reply>
     requires lock { IsSeatOf dem.now seat.old }
-    requires main { seat.old.number ≡ 0 }
     requires same { seat.old.start.config ≡ config.now }
     requires valid { IsValid config.now }
     requires fits { Fits config.now seat.old.start.base }
@@ -98,10 +185,8 @@ fn save<R: Wait, B: Blocks + Drop>(
     ensures made { Makes seat.old steps.Save result seat.new }
     ensures size { told_size result ≡ 0 }
     ensures lock { IsSeatOf dem.now seat.new }
-    ensures carries { (earlier : List Told) → Carries config.now seat.old seat.new earlier (result ∷ earlier) store.old store.new }
-    ensures goes_on { GoesOn (driver_of store.old) (driver_of store.new) }
-    ensures given { WereGiven [] (driver_of store.old).device.bench.arms (driver_of store.new).device.bench.arms }
-    ensures armed { (driver_of store.new).device.bench.armed ≤ (driver_of store.old).device.bench.armed }
+    ensures carries { (jobs : Jobs) (earlier : List Deed) → Carries config.now seat.old seat.new jobs jobs earlier ((steps.Save, result) ∷ earlier) store.old store.new }
+    ensures leaves { Leaves store.old store.new }
 {
     let mut state = initial(config);
     let Ok(_taken) = dem.snapshot(rt, seat, &mut state) else {
@@ -118,37 +203,97 @@ fn save<R: Wait, B: Blocks + Drop>(
     }
 }
 
-/// Makes a step of lane 0 on a seat that has enough calls left, over the store of its life, and answers it.
-pub(crate) fn do_step<R: Wait, B: Blocks + Drop>(
+/// Reads an application block.
+fn get<B: Blocks + Drop>(store: &mut Store<B>, block: u8) -> StepAnswer<Reply>
+    requires block { block < 40 }
+    ensures got { IsGot result }
+    ensures carries { (c : Config) (seat : DemView) (jobs : Jobs) (earlier : List Deed) → Carries c seat seat jobs jobs earlier ((steps.Get block, result) ∷ earlier) store.old store.new }
+    ensures leaves { Leaves store.old store.new }
+{
+    let mut bytes = ArrayVec::new();
+    match store.get_block(block, &mut bytes) {
+        Ok(true) => StepAnswer::Bytes(bytes),
+        Ok(false) => StepAnswer::NoBlock,
+        Err(_) => StepAnswer::BlockFlash,
+    }
+}
+
+/// Makes a step that touches the store, on seats that have its calls left, and answers it.
+fn touch_store<R: Wait, B: Blocks + Drop>(
     rt: &R,
     dem: &DemLock,
+    queue: &QueueLock,
     store: &mut Store<B>,
     config: &ValidConfig,
     seat: &mut DemSeat,
+    jobs: &mut QueueSeat,
     step: &Step,
 ) -> StepAnswer<Reply>
     requires lock { IsSeatOf dem.now seat.old }
-    requires main { seat.old.number ≡ 0 }
+    requires queue { turn.IsSeatOf queue.now.turn jobs.old }
+    requires blocks { jobs.old.start ≡ seat.old.start.config.blocks }
+    requires same { seat.old.start.config ≡ config.now }
+    requires valid { IsValid config.now }
+    requires fits { Fits config.now seat.old.start.base }
+    requires step { IsPossible config.now (action_of step.now) }
+    requires store { is_store_step step.now ≡ true }
+    requires left { calls_by step.now ≤ seat.old.left }
+    requires queued { queued_by step.now ≤ jobs.old.left }
+    ensures made { Makes seat.old step.now result seat.new }
+    ensures queues { Queues jobs.old step.now result jobs.new }
+    ensures size { told_size result ≡ 0 }
+    ensures lock { IsSeatOf dem.now seat.new }
+    ensures queue { turn.IsSeatOf queue.now.turn jobs.new }
+    ensures carries { (earlier : List Deed) → Carries config.now seat.old seat.new jobs.old jobs.new earlier ((step.now, result) ∷ earlier) store.old store.new }
+    ensures leaves { Leaves store.old store.new }
+{
+    match step {
+        Step::Save => save(rt, dem, store, config, seat),
+        Step::Drain => drain(rt, queue, store, config, jobs),
+        Step::Get { block } => get(store, *block),
+        _ => unreachable!(),
+    }
+}
+
+/// Makes a step over the store, on seats that have its calls left, and answers it.
+pub(crate) fn do_step<R: Wait, B: Blocks + Drop>(
+    rt: &R,
+    dem: &DemLock,
+    queue: &QueueLock,
+    store: &mut Store<B>,
+    config: &ValidConfig,
+    seat: &mut DemSeat,
+    jobs: &mut QueueSeat,
+    step: &Step,
+) -> StepAnswer<Reply>
+    requires lock { IsSeatOf dem.now seat.old }
+    requires queue { turn.IsSeatOf queue.now.turn jobs.old }
+    requires blocks { jobs.old.start ≡ seat.old.start.config.blocks }
     requires same { seat.old.start.config ≡ config.now }
     requires valid { IsValid config.now }
     requires fits { Fits config.now seat.old.start.base }
     requires step { IsPossible config.now (action_of step.now) }
     requires arms { (driver_of store.old).device.bench.armed + arm_count (action_of step.now) ≤ 64 }
-    requires left { call_count (action_of step.now) ≤ seat.old.left }
+    requires left { calls_by step.now ≤ seat.old.left }
+    requires queued { queued_by step.now ≤ jobs.old.left }
     ensures made { Makes seat.old step.now result seat.new }
+    ensures queues { Queues jobs.old step.now result jobs.new }
     ensures size { told_size result ≤ response_size (action_of step.now) }
     ensures lock { IsSeatOf dem.now seat.new }
-    ensures carries { (earlier : List Told) → Carries config.now seat.old seat.new earlier (result ∷ earlier) store.old store.new }
+    ensures queue { turn.IsSeatOf queue.now.turn jobs.new }
+    ensures carries { (earlier : List Deed) → Carries config.now seat.old seat.new jobs.old jobs.new earlier (with_deed step.now result earlier) store.old store.new }
     ensures goes_on { GoesOn (driver_of store.old) (driver_of store.new) }
     ensures given { WereGiven (arms_of (action_of step.now)) (driver_of store.old).device.bench.arms (driver_of store.new).device.bench.arms }
     ensures armed { (driver_of store.new).device.bench.armed ≤ (driver_of store.old).device.bench.armed + arm_count (action_of step.now) }
 {
     match step {
-        Step::Save => save(rt, dem, store, config, seat),
+        Step::Save | Step::Drain | Step::Get { .. } => {
+            touch_store(rt, dem, queue, store, config, seat, jobs, step)
+        }
         Step::Arming(arm) => {
             store.arm(*arm);
             StepAnswer::Armed
         }
-        _ => make_call(rt, dem, seat, step),
+        _ => make_call(rt, dem, queue, seat, jobs, step),
     }
 }

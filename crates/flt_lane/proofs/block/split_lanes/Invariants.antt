@@ -6,7 +6,7 @@ use Rattle.flt_lane.proofs.block.split_lanes.Given as goal
 
 abbrev pub invariant-loop-room : goal.invariant-loop-room
 invariant-loop-room g l = record {
-  seats : IsSplitting l.dem l.initial.main l.main l.fn.rooms.items l.works.items l.yielded l.room-iterator.rest.items;
+  seats : IsSplitting l.locks l.initial.main l.main l.initial.jobs l.jobs l.fn.rooms.items l.works.items l.yielded l.room-iterator.rest.items;
   len : vec_len l.works ≡ length l.yielded;
   room : vec_capacity l.works ≡ vec_capacity l.initial.works;
 }

@@ -1,89 +1,103 @@
-use Rattle.std.proofs.Common.{◌≡◌, List, [], All, map, reverse, arith, sym, ap, subst, ◌∙◌}
-use Rattle.std.proofs.lemmas.List.{reverse-reverse}
+use Rattle.std.proofs.Common.{◌≡◌, All, map, reverse, arith, sym, ap, subst, ◌∙◌}
 use Rattle.flt_script.specs.Part.{parts_of}
 use Rattle.flt_store.specs.Store.{driver_of, numbered}
-use Rattle.flt_life.specs.Answers.{Told}
+use Rattle.flt_life.specs.declared.life.Boot.TheVariants as boots
 use Rattle.flt_life.specs.Causes.{AreCaused}
-use Rattle.flt_life.specs.Chain.{LifeView, Leaves, start_from}
+use Rattle.flt_life.specs.Chain.{KeepsApplications, LifeView, Leaves, start_from, told_of}
 use Rattle.flt_life.specs.Moment.{moment_of}
 use Rattle.flt_life.specs.Played.{IsLife, IsPlayed}
 use Rattle.flt_life.specs.Room.{told_in}
 use Rattle.flt_shared.specs.Call.{Seat}
-use Rattle.flt_lives.specs.Living.{IsCaused}
-use Rattle.flt_lane.specs.Lived.{IsWhole}
 use Rattle.flt_lane.specs.Room.{IsPartFor}
-use Rattle.flt_lane.proofs.CallCounts.{calls_most, parts_for}
-use Rattle.flt_lives.proofs.Causing.{are_caused}
-use Rattle.flt_lane.proofs.Endings.{clean_life, kept_at_end, fresh_of, ended_life, living_first}
+use Rattle.flt_lane.specs.Runs.{QueueSeat}
+use Rattle.flt_lane.proofs.Endings.{fresh_of}
+use Rattle.flt_lane.proofs.LifeEnds.{IsOver, calls_small, caused_of, holds_of, left_of, over_of, parts_for, queued_small, same_blocks, turned_life}
 use Rattle.flt_lane.proofs.WholeLife.{closed}
+use Rattle.flt_lane.proofs.life.live_on_lock.Given as given
 use Rattle.flt_lane.proofs.life.live_on_lock.Goals as goal
+
+pub overflow_cast-call_room : goal.overflow_cast-call_room
+overflow_cast-call_room g c = let small = calls_small (parts_of c.args.parts.now) c.requires.few in omega (arith, small, c.call_room.ensures)
+
+pub overflow_cast-queue_room : goal.overflow_cast-queue_room
+overflow_cast-queue_room g c = let small = queued_small (parts_of c.args.parts.now) c.requires.few in omega (arith, small, c.queue_room.ensures)
 
 pub run_parts-requires-clause-steps : goal.run_parts-requires-clause-steps
 run_parts-requires-clause-steps g c κs within = subst (All (IsPartFor c.args.config.now)) (sym c.in_ok-rooms.ensures.parts) (parts_for c.args.config.now (parts_of c.args.parts.now) c.requires.possible c.requires.few)
 
+pub returns-clause-boot : goal.returns-clause-boot
+returns-clause-boot g c = ap (λ (view : LifeView). view.boot) (c.life_of-life.ensures (parts_of c.args.parts.now)) ∙ ap (λ s. boots.Started c.args.generation s) c.copy_of-start.ensures
+
+over : (g : given.Over) (c : goal.After-life_of-life g) → IsOver c.args.config.now c.args.state.now c.in-Ok.main c.run_parts.new.main c.in-Ok-make.jobs c.run_parts.new.jobs (parts_of c.args.parts.now) (told_in c.run_parts.new.own)
+    (map told_in c.run_parts.new.told.items) c.close-journal.result.journal.items c.close-queued.result.journal.items c.args.store.now c.run_parts.new.store
+over g c =
+    let main = c.in-Ok.main in
+    let after = c.run_parts.new.main in
+    let jobs = c.in-Ok-make.jobs in
+    let jobs_after = c.run_parts.new.jobs in
+    let journal = c.close-journal.result.journal.items in
+    let queue = c.close-queued.result.journal.items in
+    let begins : main.start ≡ start_from c.args.config.now c.args.state.now =
+    ap (λ (s : Seat). s.start) c.in-Ok.ensures.ok ∙ (λ i. record { config = (c.boot.ensures.config ∙ c.requires.same) i; base = c.boot.ensures.stands.base i }) in
+    let counted = ap (λ (s : QueueSeat). s.start) c.in-Ok-make.ensures.ok ∙ same_blocks c.config.result.now c.args.config.now c.config.ensures.value in
+    over_of c.args.config.now c.args.state.now main after jobs jobs_after _ (parts_of c.args.parts.now) (told_in c.run_parts.new.own) (map told_in c.run_parts.new.told.items) journal queue c.args.store.now c.run_parts.new.store
+    (fresh_of main _ _ _ c.in-Ok.ensures.ok) (fresh_of jobs _ _ _ c.in-Ok-make.ensures.ok) begins counted c.in_ok-rooms.ensures.parts c.run_parts.ensures.lived
+    (closed after journal c.close-journal.ensures.seen c.close-journal.ensures.olds c.close-journal.ensures.calls)
+    (closed jobs_after queue c.close-queued.ensures.seen c.close-queued.ensures.olds c.close-queued.ensures.calls) c.run_parts.ensures.carries
+
 pub returns-clause-leaves : goal.returns-clause-leaves
 returns-clause-leaves g c =
     let first = numbered c.args.generation c.args.state.now in
-    let main = c.in-Ok.main in
-    let after = c.run_parts.new.main in
+    let parts = parts_of c.args.parts.now in
     let own = told_in c.run_parts.new.own in
     let lanes = map told_in c.run_parts.new.told.items in
     let journal = c.close-journal.result.journal.items in
-    let fresh = fresh_of main _ _ _ c.in-Ok.ensures.ok in
-    let begins : main.start ≡ start_from c.args.config.now c.args.state.now =
-    ap (λ (s : Seat). s.start) c.in-Ok.ensures.ok ∙ (λ i. record { config = (c.boot.ensures.config ∙ c.requires.same) i; base = c.boot.ensures.stands.base i }) in
-    let whole : IsWhole after journal = closed after journal c.close-journal.ensures.seen c.close-journal.ensures.olds c.close-journal.ensures.calls in
-    let life = ended_life (start_from c.args.config.now c.args.state.now) main after _ (parts_of c.args.parts.now) own lanes journal fresh begins c.in_ok-rooms.ensures.parts c.run_parts.ensures.lived whole in
-    let clean = clean_life c.args.config.now _ (parts_of c.args.parts.now) own lanes journal c.requires.possible life in
-    let living = c.run_parts.ensures.carries.living first begins (living_first c.args.config.now first main c.args.store.now fresh c.requires.running) in
-    let kept = kept_at_end c.args.config.now first after (reverse own) living.held living.spare journal c.run_parts.ensures.lived.lived.main_after whole clean living.kept in
-    let view : LifeView = record { boot = _; journal = reverse journal; answers = reverse own; lanes = lanes } in
+    let queue = c.close-queued.result.journal.items in
+    let left = left_of c.args.config.now c.args.generation c.args.state.now _ _ _ _ parts own lanes journal queue c.args.store.now c.run_parts.new.store (over g c) c.requires.running in
+    let view : LifeView = record { parts = parts; boot = _; journal = reverse journal; queue = reverse queue; own = own; lanes = lanes } in
     let leaves : Leaves c.args.config.now first view (moment_of (driver_of c.run_parts.new.store)) = record {
-      held = living.held;
-      spare = living.spare;
-      last = kept.last;
-      sound = record { undamaged = g.met.B.Blocks.mounted_is_sound c.run_parts.new.store.nvm.blocks living.running.served.mounted; sound = living.running.sound };
-      acknowledged = kept.acknowledged;
-      held_is = kept.held_is;
-      spare_is = kept.spare_is;
-      rising = kept.rising;
+      held = left.held;
+      spare = left.spare;
+      last = left.kept.last;
+      sound = record { undamaged = g.met.B.Blocks.mounted_is_sound c.run_parts.new.store.nvm.blocks left.running.served.mounted; sound = left.running.sound };
+      acknowledged = left.kept.acknowledged;
+      held_is = left.kept.held_is;
+      spare_is = left.kept.spare_is;
+      rising = left.kept.rising;
     } in
-    subst (λ (view : LifeView). Leaves c.args.config.now first view (moment_of (driver_of c.run_parts.new.store))) (sym c.life_of-life.ensures) leaves
+    subst (λ (view : LifeView). Leaves c.args.config.now first view (moment_of (driver_of c.run_parts.new.store))) (sym {b = view} (c.life_of-life.ensures parts)) leaves
 
 pub returns-clause-caused : goal.returns-clause-caused
 returns-clause-caused g c = λ boot rose.
-    let first = numbered c.args.generation c.args.state.now in
-    let faults = (driver_of c.args.store.now).device.faults in
-    let own = told_in c.run_parts.new.own in
-    let begun : IsCaused c.args.config.now faults [] c.args.store.now = record {
-      held_now = first;
-      spare_now = first;
-      running = c.requires.running;
-      flash = omega arith;
-      spent = λ none. absurd none;
-      sequence = λ none. absurd none;
-    } in
-    subst (λ (view : LifeView). AreCaused c.args.config.now boot (moment_of (driver_of c.run_parts.new.store)) view.answers) (sym c.life_of-life.ensures)
-    (are_caused c.args.config.now faults (reverse own) c.run_parts.new.store boot rose (c.run_parts.ensures.carries.caused faults begun))
-
-pub returns-clause-played : goal.returns-clause-played
-returns-clause-played g c =
-    let main = c.in-Ok.main in
-    let after = c.run_parts.new.main in
+    let parts = parts_of c.args.parts.now in
     let own = told_in c.run_parts.new.own in
     let lanes = map told_in c.run_parts.new.told.items in
     let journal = c.close-journal.result.journal.items in
-    let start = start_from c.args.config.now c.args.state.now in
-    let parts = parts_of c.args.parts.now in
-    let fresh = fresh_of main _ _ _ c.in-Ok.ensures.ok in
-    let begins : main.start ≡ start =
-    ap (λ (s : Seat). s.start) c.in-Ok.ensures.ok ∙ (λ i. record { config = (c.boot.ensures.config ∙ c.requires.same) i; base = c.boot.ensures.stands.base i }) in
-    let whole : IsWhole after journal = closed after journal c.close-journal.ensures.seen c.close-journal.ensures.olds c.close-journal.ensures.calls in
-    let life = ended_life start main after _ parts own lanes journal fresh begins c.in_ok-rooms.ensures.parts c.run_parts.ensures.lived whole in
-    let turned : IsLife start parts (reverse (reverse own)) lanes (reverse (reverse journal)) =
-    subst (λ (l : List Told). IsLife start parts l lanes (reverse (reverse journal))) (sym (reverse-reverse own)) (subst (IsLife start parts own lanes) (sym (reverse-reverse journal)) life) in
-    subst (λ (view : LifeView). IsPlayed c.args.config.now parts view) (sym c.life_of-life.ensures)
-    (subst (λ (s : _). IsLife (start_from c.args.config.now s) parts (reverse (reverse own)) lanes (reverse (reverse journal))) (sym c.copy_of-start.ensures) turned)
+    let queue = c.close-queued.result.journal.items in
+    let view : LifeView = record { parts = parts; boot = _; journal = reverse journal; queue = reverse queue; own = own; lanes = lanes } in
+    subst (λ (view : LifeView). AreCaused c.args.config.now boot (moment_of (driver_of c.run_parts.new.store)) (told_of view)) (sym {b = view} (c.life_of-life.ensures parts))
+    (caused_of c.args.config.now c.args.generation c.args.state.now _ _ _ _ parts own lanes journal queue c.args.store.now c.run_parts.new.store (over g c) c.requires.running boot rose)
 
-pub overflow_cast-call_room : goal.overflow_cast-call_room
-overflow_cast-call_room g c = let most = calls_most (parts_of c.args.parts.now) in omega (arith, most, c.requires.few, c.call_room.ensures)
+pub returns-clause-played : goal.returns-clause-played
+returns-clause-played g c =
+    let parts = parts_of c.args.parts.now in
+    let own = told_in c.run_parts.new.own in
+    let lanes = map told_in c.run_parts.new.told.items in
+    let journal = c.close-journal.result.journal.items in
+    let queue = c.close-queued.result.journal.items in
+    let view : LifeView = record { parts = parts; boot = _; journal = reverse journal; queue = reverse queue; own = own; lanes = lanes } in
+    let turned = turned_life (start_from c.args.config.now c.args.state.now) parts own lanes journal queue (over g c).ended.life in
+    subst (λ (view : LifeView). IsPlayed c.args.config.now view) (sym {b = view} (c.life_of-life.ensures parts))
+    (subst (λ (s : _). IsLife (start_from c.args.config.now s) parts own lanes (reverse (reverse journal)) (reverse (reverse queue))) (sym c.copy_of-start.ensures) turned)
+
+pub returns-clause-kept : goal.returns-clause-kept
+returns-clause-kept g c =
+    let parts = parts_of c.args.parts.now in
+    let own = told_in c.run_parts.new.own in
+    let lanes = map told_in c.run_parts.new.told.items in
+    let journal = c.close-journal.result.journal.items in
+    let queue = c.close-queued.result.journal.items in
+    let view : LifeView = record { parts = parts; boot = _; journal = reverse journal; queue = reverse queue; own = own; lanes = lanes } in
+    let holds = holds_of c.args.config.now c.args.generation c.args.state.now _ _ _ _ parts own lanes journal queue c.args.store.now c.run_parts.new.store (over g c) c.requires.running in
+    subst (λ (view : LifeView). KeepsApplications (moment_of (driver_of c.args.store.now)) (moment_of (driver_of c.run_parts.new.store)) view) (sym {b = view} (c.life_of-life.ensures parts))
+    record { held = holds.held; got = holds.got }

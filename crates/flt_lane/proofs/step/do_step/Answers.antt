@@ -1,36 +1,53 @@
-use Rattle.std.proofs.Common.{◌∷◌, subst, sym}
-use Rattle.flt_life.specs.Actions.{IsPossible, arms_of}
-use Rattle.flt_life.specs.Answers.{Told}
-use Rattle.flt_life.specs.declared.action.Action.{Action}
+use Rattle.std.proofs.Common.{◌∷◌, List, arith, refl, subst, sym}
+use Rattle.flt_flash.specs.declared.arm.Arm.{Arm}
+use Rattle.flt_life.specs.Actions.{arms_of}
+use Rattle.flt_life.specs.Ordered.{Deed, deed_if, with_deed}
 use Rattle.flt_life.specs.declared.answer.StepAnswer.TheVariants.{Armed}
+use Rattle.flt_queue.specs.Call as queued
+use Rattle.flt_queue.specs.Queue as queue
 use Rattle.flt_script.specs.declared.step.Step.{Step}
+use Rattle.flt_script.specs.declared.step.Step.TheVariants as steps
+use Rattle.flt_shared.specs.Call.{MayBeAsked, reply_after}
 use Rattle.flt_store.specs.Store.{driver_of}
 use Rattle.flt_lives.specs.Going.{WereGiven}
-use Rattle.flt_lane.specs.Living.{Carries}
-use Rattle.flt_lane.specs.Runs.{Makes}
-use Rattle.flt_lane.proofs.Carrying.{carries_call, carries_arm}
 use Rattle.flt_lives.proofs.Giving.{none_given}
 use Rattle.flt_lives.proofs.Riding.{goes_nowhere}
-use Rattle.flt_lane.proofs.Running.{armed_made}
+use Rattle.flt_lane.specs.Living.{Carries}
+use Rattle.flt_lane.specs.Runs.{Makes, Queues}
+use Rattle.flt_lane.proofs.Carrying.{carries_arm, carries_beside}
+use Rattle.flt_lane.proofs.Knowing.{known_along}
+use Rattle.flt_lane.proofs.Stepping.{no_arms, no_store_step, none_made, none_queued}
 use Rattle.flt_lane.proofs.step.do_step.Goals as goal
 
 pub returns-in-Arming-clause-made : goal.returns-in-Arming-clause-made
-returns-in-Arming-clause-made g c = subst (λ (step : Step). Makes c.args.seat.now step Armed c.args.seat.now) (sym c.in-Arming.is) (armed_made c.args.seat.now _)
+returns-in-Arming-clause-made g c = subst (λ (s : Step). Makes c.args.seat.now s Armed c.args.seat.now) (sym c.in-Arming.is) (none_made c.args.seat.now (steps.Arming _) Armed (refl, refl))
+
+pub returns-in-Arming-clause-queues : goal.returns-in-Arming-clause-queues
+returns-in-Arming-clause-queues g c = subst (λ (s : Step). Queues c.args.jobs.now s Armed c.args.jobs.now) (sym c.in-Arming.is) (none_queued c.args.jobs.now (steps.Arming _) Armed refl)
 
 pub returns-in-Arming-clause-carries : goal.returns-in-Arming-clause-carries
-returns-in-Arming-clause-carries g c = λ earlier. carries_arm c.args.config.now c.args.seat.now earlier c.args.store.now c.arm.new.self _ c.arm.ensures.arms (c.arm.ensures.running c.args.config.now)
+returns-in-Arming-clause-carries g c = λ earlier.
+    subst (λ (s : Step). Carries c.args.config.now c.args.seat.now c.args.seat.now c.args.jobs.now c.args.jobs.now earlier (with_deed s Armed earlier) c.args.store.now c.arm.new.self) (sym c.in-Arming.is)
+    (carries_arm c.args.config.now c.args.seat.now c.args.jobs.now earlier c.args.store.now c.arm.new.self _ c.arm.ensures.arms (c.arm.ensures.running c.args.config.now))
 
-pub returns-in_default-clause-carries : goal.returns-in_default-clause-carries
-returns-in_default-clause-carries g c = λ earlier.
-    let call = c.make_call.ensures.call in
-    let possible = subst (IsPossible c.args.config.now) call.2 c.requires.step in
-    subst (λ (told : Told). Carries c.args.config.now c.args.seat.now c.make_call.new.seat earlier (told ∷ earlier) c.args.store.now c.args.store.now) (sym call.3)
-    (carries_call c.args.config.now c.args.seat.now c.make_call.new.seat earlier c.args.store.now call.0 call.1 c.requires.main possible.0 call.4)
-
-pub returns-in_default-clause-goes_on : goal.returns-in_default-clause-goes_on
-returns-in_default-clause-goes_on g c = goes_nowhere (driver_of c.args.store.now)
-
-pub returns-in_default-clause-given : goal.returns-in_default-clause-given
-returns-in_default-clause-given g c =
+pub returns-in_default : goal.returns-in_default
+returns-in_default g c =
+    let made = c.make_call.ensures.made in
+    let queues = c.make_call.ensures.queues in
     let arms = (driver_of c.args.store.now).device.bench.arms in
-    subst (λ (action : Action). WereGiven (arms_of action) arms arms) (sym c.make_call.ensures.call.2) (none_given arms)
+    let store = no_store_step c.args.step.now c.in_default.not-Save c.in_default.not-Drain c.in_default.not-Get in
+    record {
+      made = made;
+      queues = queues;
+      size = c.make_call.ensures.size;
+      lock = c.make_call.ensures.lock;
+      queue = c.make_call.ensures.queue;
+      carries = λ earlier.
+          subst (λ b. Carries c.args.config.now c.args.seat.now c.make_call.new.seat c.args.jobs.now c.make_call.new.jobs earlier (deed_if b c.args.step.now c.make_call.result earlier) c.args.store.now c.args.store.now) (sym store)
+          (carries_beside c.args.config.now c.args.seat.now c.make_call.new.seat c.args.jobs.now c.make_call.new.jobs earlier c.args.store.now
+          (λ known is. known_along MayBeAsked reply_after c.args.seat.now made.calls c.make_call.new.seat known made.chain is)
+          (λ known is. known_along queue.IsAdmitted queued.reply_after c.args.jobs.now queues.calls c.make_call.new.jobs known queues.chain is));
+      goes_on = goes_nowhere (driver_of c.args.store.now);
+      given = subst (λ (l : List Arm). WereGiven l arms arms) (sym (no_arms c.args.step.now c.in_default.not-Arming)) (none_given arms);
+      armed = omega arith;
+    }

@@ -1,0 +1,199 @@
+-- What one step makes of its seats.
+use Rattle.std.proofs.Common.{◌≡◌, ℕ, ◌≤◌, ◌<◌, ◌+◌, ◌*◌, Bool, true, false, not, List, [], ◌∷◌, ◌++◌, length, arith, refl, sym, ap, subst, ◌∙◌}
+use Rattle.std.specs.Prelude.{sum_by, IsTrue}
+use Rattle.std.proofs.lemmas.Bool.{true≢false, false≢true}
+use Rattle.std.proofs.lemmas.List.{append-nil}
+use Rattle.flt_flash.specs.declared.arm.Arm.{Arm}
+use Rattle.flt_config.specs.declared.config.Config.{Config}
+use Rattle.flt_config.specs.declared.persist.Persist.{Persist}
+use Rattle.flt_config.specs.Durable.{Fits}
+use Rattle.flt_config.specs.Validity.{IsValid}
+use Rattle.flt_model.specs.Life.{Life, History}
+use Rattle.flt_model.specs.Answer.{answer, answer_report}
+use Rattle.flt_model.specs.Durable.{saved_after}
+use Rattle.flt_model.proofs.SavedFits.{saved_states_fit}
+use Rattle.flt_model.specs.declared.call.Op.{Op}
+use Rattle.flt_model.specs.declared.call.Op.TheVariants as ops
+use Rattle.flt_model.specs.declared.call.Reply.{Reply}
+use Rattle.flt_queue.specs.Call as queued
+use Rattle.flt_queue.specs.Queue as queue
+use Rattle.flt_queue.specs.declared.job.QueueOp.{QueueOp}
+use Rattle.flt_queue.specs.declared.job.QueueReply.{QueueReply}
+use Rattle.flt_queue.specs.declared.job.QueueReply.TheVariants as replies
+use Rattle.flt_script.specs.Step.{is_store_step}
+use Rattle.flt_script.specs.declared.step.Step.{Step}
+use Rattle.flt_script.specs.declared.step.Step.TheVariants as steps
+use Rattle.flt_store.specs.declared.fault.SaveFault.{SaveFault}
+use Rattle.flt_store.specs.declared.store.Store.{Store}
+use Rattle.flt_flash.specs.declared.blocks.Blocks.{Ghosts}
+use Rattle.flt_turn.specs.declared.answer.Answer.{Answer}
+use Rattle.flt_shared.specs.Call.{Seat, IsCall, MayBeAsked, reply_after}
+use Rattle.flt_life.specs.Actions.{action_of, arms_of, call_count, queue_count, response_size}
+use Rattle.flt_life.specs.Answers.{Told, reply_size}
+use Rattle.flt_life.specs.Draining.{DrainMakes, QueueCall, calls_for_all, take_at}
+use Rattle.flt_life.specs.Mixing.{Call}
+use Rattle.flt_life.specs.Parts.{IsPossibleInLane}
+use Rattle.flt_life.specs.Played.{ActionMakes, ActionQueues, IsGot, StepMakes, StepQueues}
+use Rattle.flt_life.specs.declared.action.Action.TheVariants as action
+use Rattle.flt_life.specs.declared.answer.StepAnswer.TheVariants as answers
+use Rattle.flt_lane.specs.Chain.{Chain}
+use Rattle.flt_lane.specs.Draining.{FindsNone, HasDrained, MakesJobs}
+use Rattle.flt_lane.specs.Runs.{Makes, Queues, QueueSeat}
+use Rattle.flt_lane.proofs.Chains.{chain_fact, chain_more, chain_of_one}
+
+-- ---- calls of the status machine
+
+-- a step of one call
+pub one_made : (before : Seat) (step : Step) (op : Op) (told : Answer Reply) (after : Seat) → action_of step ≡ action.Call op → IsCall before after op told → Makes before step (answers.Dem told) after
+one_made before step op told after makes call = record {
+  calls = record { op = op; told = told } ∷ [];
+  made = subst (λ a. ActionMakes a (answers.Dem told) (record { op = op; told = told } ∷ [])) (sym makes) (told, refl, refl);
+  chain = chain_of_one MayBeAsked reply_after before record { op = op; told = told } after call;
+  left = let left = call.place.left in let one = ap call_count makes in omega (arith, left, one);
+}
+
+-- a step of none
+pub none_made : (seat : Seat) (step : Step) (told : Told) → StepMakes step told [] → Makes seat step told seat
+unfolding Chain
+none_made seat step told made = record { calls = []; made = made; chain = refl; left = omega arith }
+
+-- a save of one call, and of two
+pub failed_made : (before : Seat) (fault : SaveFault) (taken : Answer Reply) (after : Seat) → IsCall before after ops.Snapshot taken → Makes before steps.Save (answers.SaveFailed fault) after
+failed_made before fault taken after call = record {
+  calls = record { op = ops.Snapshot; told = taken } ∷ [];
+  made = (taken, refl);
+  chain = chain_of_one MayBeAsked reply_after before record { op = ops.Snapshot; told = taken } after call;
+  left = let left = call.place.left in omega (arith, left);
+}
+
+pub saved_made : (before mid : Seat) (number : ℕ) (taken noted : Answer Reply) (after : Seat) → IsCall before mid ops.Snapshot taken → IsCall mid after (ops.Saved number) noted → Makes before steps.Save (answers.Saved number) after
+saved_made before mid number taken noted after first second = record {
+  calls = record { op = ops.Snapshot; told = taken } ∷ record { op = ops.Saved number; told = noted } ∷ [];
+  made = (taken, noted, refl);
+  chain = chain_more MayBeAsked reply_after before (record { op = ops.Snapshot; told = taken } ∷ []) mid (record { op = ops.Saved number; told = noted } ∷ []) after
+      (chain_of_one MayBeAsked reply_after before record { op = ops.Snapshot; told = taken } mid first)
+      (chain_of_one MayBeAsked reply_after mid record { op = ops.Saved number; told = noted } after second);
+  left = let one = first.place.left in let two = second.place.left in omega (arith, one, two);
+}
+
+-- what a snapshot takes fits
+pub taken_fits : (c : Config) (start : Life) (past : History) (state : Persist) → start.config ≡ c → IsValid c → Fits c start.base → state ≡ saved_after start past → Fits c state
+taken_fits c start past state same valid fits is =
+    subst (Fits c) (sym is) (subst (λ k. Fits k (saved_after start past)) same (saved_states_fit start past (subst IsValid (sym same) valid) (subst (λ k. Fits k start.base) (sym same) fits)))
+
+-- ---- a response is an answer to a request alone
+
+report_size : (off started : Bool) → reply_size (answer_report off started) ≡ 0
+report_size true started = refl
+report_size false true = refl
+report_size false false = refl
+
+pub size_of_answer : (start : Life) (past : History) (op : Op) (reply : Reply) → reply ≡ answer start past op → reply_size reply ≤ 512 → reply_size reply ≤ response_size (action.Call op)
+size_of_answer start past (ops.Request tester bytes) reply is most = most
+size_of_answer start past (ops.Report event report) reply is most = let size = ap reply_size is ∙ report_size _ _ in omega (arith, size)
+size_of_answer start past (ops.Signal index value) reply is most = let size = ap reply_size is in omega (arith, size)
+size_of_answer start past (ops.Tick ticks) reply is most = let size = ap reply_size is in omega (arith, size)
+size_of_answer start past (ops.Cycle cycle) reply is most = let size = ap reply_size is in omega (arith, size)
+size_of_answer start past (ops.Show event) reply is most = let size = ap reply_size is in omega (arith, size)
+size_of_answer start past ops.Snapshot reply is most = let size = ap reply_size is in omega (arith, size)
+size_of_answer start past (ops.Saved number) reply is most = let size = ap reply_size is in omega (arith, size)
+
+-- ---- calls of the queue
+
+pub one_queued : (before : QueueSeat) (step : Step) (op : QueueOp) (told : Answer QueueReply) (after : QueueSeat) → action_of step ≡ action.Queue op → queued.IsCall before after op told → Queues before step (answers.Queue told) after
+one_queued before step op told after makes call = record {
+  calls = record { op = op; told = told } ∷ [];
+  made = subst (λ a. ActionQueues a (answers.Queue told) (record { op = op; told = told } ∷ [])) (sym makes) (told, refl, refl);
+  chain = chain_of_one queue.IsAdmitted queued.reply_after before record { op = op; told = told } after call;
+  left = let left = call.place.left in let one = ap queue_count makes in omega (arith, left, one);
+}
+
+pub none_queued : (seat : QueueSeat) (step : Step) (told : Told) → StepQueues step told [] → Queues seat step told seat
+unfolding Chain
+none_queued seat step told made = record { calls = []; made = made; chain = refl; left = omega arith }
+
+-- ---- a drain
+
+module _ {B : Type 0} {b : Ghosts B} (c : Config) where
+  -- it took 32 jobs
+  pub full_drained : (before after : QueueSeat) (written failed : ℕ) (store now : Store B b) → HasDrained c before after written failed 32 store now → Queues before steps.Drain (answers.Drained written failed) after
+  full_drained before after written failed store now drained = record {
+    calls = calls_for_all drained.jobs;
+    made = record {
+      jobs = drained.jobs;
+      last = [];
+      ended = drained.count_is;
+      calls_are = sym (append-nil (calls_for_all drained.jobs));
+      written_is = drained.written_is;
+      failed_is = drained.failed_is;
+    };
+    chain = drained.chain;
+    left = let left = drained.left in omega (arith, left);
+  }
+
+  -- it found no more
+  pub short_drained : (before mid after : QueueSeat) (written failed count : ℕ) (store middle now : Store B b) → count < 32 → HasDrained c before mid written failed count store middle → FindsNone c mid after middle now
+      → Queues before steps.Drain (answers.Drained written failed) after
+  short_drained before mid after written failed count store middle now few drained none =
+      let last = take_at none.place replies.NoJob in
+      let fact = chain_fact queue.IsAdmitted queued.reply_after mid (last ∷ []) after none.chain in
+      let count_is = drained.count_is in
+      record {
+        calls = calls_for_all drained.jobs ++ last ∷ [];
+        made = record {
+          jobs = drained.jobs;
+          last = last ∷ [];
+          ended = (omega (arith, few, count_is), (none.place, refl), refl);
+          calls_are = refl;
+          written_is = drained.written_is;
+          failed_is = drained.failed_is;
+        };
+        chain = chain_more queue.IsAdmitted queued.reply_after before (calls_for_all drained.jobs) mid (last ∷ []) after drained.chain none.chain;
+        left = let left = drained.left in let one = fact.left_is in omega (arith, left, one, few);
+      }
+
+-- a step that calls the status machine makes no call of the queue
+pub no_queue : (c : Config) (step : Step) (told : Told) → IsPossibleInLane c step → is_store_step step ≡ false → ((urgent : Bool) (block : ℕ) (bytes : _) → step ≡ steps.Post urgent block bytes → ⊥) → ((block : ℕ) → step ≡ steps.Ask block → ⊥)
+    → StepQueues step told []
+no_queue c (steps.Report event report) told is none post ask = refl
+no_queue c (steps.Show event) told is none post ask = refl
+no_queue c (steps.Cycle cycle) told is none post ask = refl
+no_queue c (steps.Tick ticks) told is none post ask = refl
+no_queue c (steps.Signal index value) told is none post ask = refl
+no_queue c (steps.Request tester bytes) told is none post ask = refl
+no_queue c steps.Save told is none post ask = absurd (true≢false none)
+no_queue c (steps.Post urgent block bytes) told is none post ask = absurd (post urgent block bytes refl)
+no_queue c steps.Drain told is none post ask = absurd (true≢false none)
+no_queue c (steps.Get block) told is none post ask = absurd (true≢false none)
+no_queue c (steps.Ask block) told is none post ask = absurd (ask block refl)
+no_queue c (steps.Arming arm) told is none post ask = absurd (false≢true is.0)
+
+-- a step that is no save, drain or read touches no store
+pub no_store_step : (step : Step) → (step ≡ steps.Save → ⊥) → (step ≡ steps.Drain → ⊥) → ((block : ℕ) → step ≡ steps.Get block → ⊥) → is_store_step step ≡ false
+no_store_step (steps.Report event report) save drain get = refl
+no_store_step (steps.Show event) save drain get = refl
+no_store_step (steps.Cycle cycle) save drain get = refl
+no_store_step (steps.Tick ticks) save drain get = refl
+no_store_step (steps.Signal index value) save drain get = refl
+no_store_step (steps.Request tester bytes) save drain get = refl
+no_store_step steps.Save save drain get = absurd (save refl)
+no_store_step (steps.Post urgent block bytes) save drain get = refl
+no_store_step steps.Drain save drain get = absurd (drain refl)
+no_store_step (steps.Get block) save drain get = absurd (get block refl)
+no_store_step (steps.Ask block) save drain get = refl
+no_store_step (steps.Arming arm) save drain get = refl
+
+-- and one that is no arming makes no arm
+pub no_arms : (step : Step) → ((arm : Arm) → step ≡ steps.Arming arm → ⊥) → arms_of (action_of step) ≡ []
+no_arms (steps.Report event report) arming = refl
+no_arms (steps.Show event) arming = refl
+no_arms (steps.Cycle cycle) arming = refl
+no_arms (steps.Tick ticks) arming = refl
+no_arms (steps.Signal index value) arming = refl
+no_arms (steps.Request tester bytes) arming = refl
+no_arms steps.Save arming = refl
+no_arms (steps.Post urgent block bytes) arming = refl
+no_arms steps.Drain arming = refl
+no_arms (steps.Get block) arming = refl
+no_arms (steps.Ask block) arming = refl
+no_arms (steps.Arming arm) arming = absurd (arming arm refl)

@@ -1,0 +1,185 @@
+-- The lanes of a block, of which one at most touches the store: what the block carries on.
+use Rattle.std.proofs.Common.{◌≡◌, ◌≢◌, ◌⊎◌, inl, inr, ⊎_elim, ℕ, ◌<◌, ◌≤◌, ◌+◌, true, false, List, [], ◌∷◌, ◌++◌, All, length, map, get_or, reverse, refl, ap, subst, sym, arith, ◌∙◌}
+use Rattle.std.specs.Prelude.{Contains}
+use Rattle.std.proofs.lemmas.Bool.{cases_eq}
+use Rattle.std.proofs.lemmas.List.{append_cancel_left, get_or-map, length-map}
+use Rattle.std.proofs.lemmas.List.Elements.{All-nil, All-cons, Contains-get_or}
+use Rattle.flt_flash.specs.declared.blocks.Blocks.{Ghosts}
+use Rattle.flt_config.specs.declared.config.Config.{Config}
+use Rattle.flt_queue.specs.Call as queued
+use Rattle.flt_queue.specs.Queue as queue
+use Rattle.flt_script.specs.Step.{has_store_step}
+use Rattle.flt_script.specs.declared.step.Step.{Step}
+use Rattle.flt_shared.specs.Call.{Seat, MayBeAsked, reply_after}
+use Rattle.flt_store.specs.declared.store.Store.{Store}
+use Rattle.flt_turn.specs.Seats.{Seated}
+use Rattle.flt_life.specs.Answers.{Told}
+use Rattle.flt_life.specs.Mixing.{Call}
+use Rattle.flt_life.specs.Ordered.{Deed, block_deeds, lane_deeds}
+use Rattle.flt_life.specs.Room.{told_in}
+use Rattle.flt_lane.specs.declared.lane.LaneWork.{LaneWork}
+use Rattle.flt_lane.specs.declared.locks.Locks.{Locks}
+use Rattle.flt_lane.specs.Block.{IsSplitSeat, AreSplit, IsSplitOff, AreJoined, RunsLanes}
+use Rattle.flt_lane.specs.BlockRun.{HasRunLanes}
+use Rattle.flt_lane.specs.Chain.{Chain}
+use Rattle.flt_lane.specs.Lived.{IsMain}
+use Rattle.flt_lane.specs.Living.{Carries}
+use Rattle.flt_lane.specs.Room.{all_calls, all_queued}
+use Rattle.flt_lane.specs.Runs.{QueueSeat}
+use Rattle.flt_lane.specs.Stored.{AreRun, HasRunStore, HaveRun, Leaves, RunsStore, StoresAt, is_store_lane}
+use Rattle.flt_lane.specs.Work.{HasRun}
+use Rattle.flt_lane.proofs.Carrying.{KnowsToo, carries_beside, carries_between, knows_joined, knows_still}
+use Rattle.flt_lane.proofs.Chains.{chain_fact}
+use Rattle.flt_lane.proofs.Knowing.{known_same}
+use Rattle.flt_lane.proofs.LaneDeeds.{none_deeds, one_deeds}
+use Rattle.flt_lane.proofs.Seats.{all_steps_are}
+use Rattle.flt_lane.proofs.WorkRuns.{ran_lanes}
+use Rattle.flt_lane.proofs.Leaving.{leaves_nothing}
+
+-- ---- each lane made its steps
+
+module _ {B : Type 0} {b : Ghosts B} (c : Config) (lanes after : List LaneWork) (store now : Store B b) where
+  pub have_run : AreRun c lanes after store now → HaveRun lanes after
+  have_run (inl none) = none.0
+  have_run (inr one) =
+      let place = one.0 in
+      let runs = one.2 in
+      record {
+        len = runs.len;
+        each = λ k d within. ⊎_elim (λ same. subst (λ n. HasRun (get_or lanes n d) (get_or after n d)) (sym same) (runs.one d).ran) (λ apart. runs.others k d within apart) (cases_eq k place);
+      }
+
+-- ---- a seat that was split off
+
+pub record IsFrom {S O : Type 0} (main seat : Seated S O) : Type 0 where
+  pub start : seat.start ≡ main.start
+  pub seen : seat.seen ≡ main.seen
+  pub olds : seat.olds ≡ main.olds
+
+-- of each lane
+pub record IsWorkFrom (main : Seat) (jobs : QueueSeat) (work : LaneWork) : Type 0 where
+  pub dem : IsFrom main work.seat
+  pub queue : IsFrom jobs work.queue_seat
+  pub no_answers : told_in work.replies ≡ []
+
+split_from : {S O : Type 0} (main seat : Seated S O) (number calls : ℕ) → IsSplitSeat main number calls seat → IsFrom main seat
+split_from main seat number calls is = record { start = is.start_is; seen = is.seen_is; olds = is.olds_are }
+
+pub all_from : {F : _} {g : _} (locks : Locks F g) (main : Seat) (jobs : QueueSeat) (number job_number : ℕ) (lanes : List (List Step)) (works : List LaneWork) → AreSplit locks main jobs number job_number lanes works → All (IsWorkFrom main jobs) works
+unfolding AreSplit
+all_from locks main jobs number job_number [] [] are = All-nil (IsWorkFrom main jobs)
+all_from locks main jobs number job_number [] (w ∷ works) are = absurd are
+all_from locks main jobs number job_number (l ∷ lanes) [] are = absurd are
+all_from locks main jobs number job_number (l ∷ lanes) (w ∷ works) are =
+    let first = are.0 in
+    All-cons (IsWorkFrom main jobs) w works
+    (record {
+      dem = split_from main w.seat number _ first.dem;
+      queue = split_from jobs w.queue_seat job_number _ first.queue;
+      no_answers = first.no_answers;
+    })
+    (all_from locks main jobs (number + 1) (job_number + 1) lanes works are.1)
+
+-- ---- what the seat of a lane passes on to the main seat
+
+module _ {S O : Type 0} (main off after : Seated S O) (seats calls : ℕ) (is_off : IsSplitOff main off seats calls) where
+  pub knows_main : (joined : List (Seated S O)) → AreJoined off after joined → KnowsToo main after
+  knows_main joined are known is = knows_still off after joined are known (known_same main off known is_off.seen_is is_off.olds_are is)
+
+  pub knows_lane : {W : Type 0} (seat_of : W → Seated S O) (ran : List W) (place : ℕ) (d : W) → AreJoined off after (map seat_of ran) → place < length ran → (seat_of (get_or ran place d)).olds ≡ main.olds → KnowsToo (seat_of (get_or ran place d)) after
+  knows_lane {W} seat_of ran place d are within olds =
+      let seats = map seat_of ran in
+      let seat = seat_of (get_or ran place d) in
+      let inside : place < length seats = (let len = length-map ran seat_of in omega (arith, len, within)) in
+      let among = Contains-get_or (map (λ (s : Seated S O). s.seen) seats) place seat.seen (let len = length-map seats (λ (s : Seated S O). s.seen) in omega (arith, len, inside)) in
+      let is = get_or-map (λ (s : Seated S O). s.seen) seats place seat seat.seen inside ∙ ap (λ (s : Seated S O). s.seen) (get_or-map seat_of ran place d seat within) in
+      knows_joined off after seat seats are (subst (Contains (map (λ (s : Seated S O). s.seen) seats)) is among) (olds ∙ sym is_off.olds_are)
+
+  pub knows_split : (seat : Seated S O) → IsFrom main seat → KnowsToo main seat
+  knows_split seat from known is = known_same main seat known from.seen from.olds is
+
+-- ---- the block
+
+default_of : (works : List LaneWork) (k : ℕ) → k < length works → LaneWork
+default_of [] k within = absurd (omega (arith, within))
+default_of (w ∷ works) k within = w
+
+module _ {B : Type 0} {b : Ghosts B} (c : Config) (main off after : Seat) (jobs jobs_off jobs_after : QueueSeat) (lanes : List (List Step)) (works ran : List LaneWork) (store now : Store B b) (seats calls job_calls : ℕ)
+    (is_off : IsSplitOff main off seats calls) (is_job_off : IsSplitOff jobs jobs_off seats job_calls) (lanes_are : map (λ (w : LaneWork). w.steps.now) works ≡ lanes) (from : All (IsWorkFrom main jobs) works)
+    (joined : AreJoined off after (map (λ (w : LaneWork). w.seat) ran)) (jobs_joined : AreJoined jobs_off jobs_after (map (λ (w : LaneWork). w.queue_seat) ran)) (earlier : List Deed) where
+  -- the steps of a lane
+  steps_at : (k : ℕ) (d : LaneWork) (e : List Step) → k < length works → get_or lanes k e ≡ (get_or works k d).steps.now
+  steps_at k d e within = ap (λ l. get_or l k e) (sym lanes_are) ∙ get_or-map (λ (w : LaneWork). w.steps.now) works k d e within
+
+  lanes_count : length lanes ≡ length works
+  lanes_count = ap length (sym lanes_are) ∙ length-map works (λ (w : LaneWork). w.steps.now)
+
+  carries_none : All (λ lane. is_store_lane lane ≡ false) works → now ≡ store → Carries c main after jobs jobs_after earlier (reverse (block_deeds lanes (map (λ (w : LaneWork). told_in w.replies) ran)) ++ earlier) store now
+  carries_none no_store same =
+      let count = lanes_count in
+      let deeds : block_deeds lanes (map (λ (w : LaneWork). told_in w.replies) ran) ≡ [] = none_deeds lanes (map (λ (w : LaneWork). told_in w.replies) ran) (λ k d within.
+      (let inside : k < length works = omega (arith, within, count) in
+      let w = default_of works k inside in
+      ap has_store_step (steps_at k w d inside) ∙ no_store k w inside)) in
+      subst (λ s. Carries c main after jobs jobs_after earlier (reverse (block_deeds lanes (map (λ (w : LaneWork). told_in w.replies) ran)) ++ earlier) store s) (sym same)
+      (subst (λ l. Carries c main after jobs jobs_after earlier (reverse l ++ earlier) store store) (sym deeds)
+      (carries_beside c main after jobs jobs_after earlier store (knows_main main off after seats calls is_off (map (λ (w : LaneWork). w.seat) ran) joined)
+      (knows_main jobs jobs_off jobs_after seats job_calls is_job_off (map (λ (w : LaneWork). w.queue_seat) ran) jobs_joined)))
+
+  carries_one : (place : ℕ) → StoresAt place works → RunsStore c place works ran store now → Carries c main after jobs jobs_after earlier (reverse (block_deeds lanes (map (λ (w : LaneWork). told_in w.replies) ran)) ++ earlier) store now
+  carries_one place stores runs =
+      let within = stores.within in
+      let d = default_of works place within in
+      let before = get_or works place d in
+      let last = get_or ran place d in
+      let one : HasRunStore c before last store now = runs.one d in
+      let split : IsWorkFrom main jobs before = from place d within in
+      let inside : place < length ran = (let len = runs.len in omega (arith, len, within)) in
+      let count = lanes_count in
+      let dem = one.ran.dem in
+      let jobs_ran = one.ran.queue in
+      let olds : last.seat.olds ≡ main.olds = (chain_fact MayBeAsked reply_after before.seat dem.calls last.seat dem.chain).olds_are ∙ split.dem.olds in
+      let job_olds : last.queue_seat.olds ≡ jobs.olds = (chain_fact queue.IsAdmitted queued.reply_after before.queue_seat jobs_ran.calls last.queue_seat jobs_ran.chain).olds_are ∙ split.queue.olds in
+      let told : told_in last.replies ≡ one.ran.told = one.ran.answers ∙ ap (λ l. l ++ one.ran.told) split.no_answers in
+      let tolds = map (λ (w : LaneWork). told_in w.replies) ran in
+      let deeds : block_deeds lanes tolds ≡ lane_deeds before.steps.now one.ran.told =
+      one_deeds lanes tolds place before.steps.now one.ran.told (omega (arith, count, within)) (let len = runs.len in let all = length-map ran (λ (w : LaneWork). told_in w.replies) in omega (arith, len, all, count))
+      (steps_at place d before.steps.now within) (get_or-map (λ (w : LaneWork). told_in w.replies) ran place d one.ran.told inside ∙ told) (λ k e other apart.
+      (let here : k < length works = omega (arith, other, count) in
+      let w = default_of works k here in
+      ap has_store_step (steps_at k w e here) ∙ stores.others k w here apart)) in
+      subst (λ l. Carries c main after jobs jobs_after earlier (reverse l ++ earlier) store now) (sym deeds)
+      (carries_between c main before.seat last.seat after jobs before.queue_seat last.queue_seat jobs_after earlier (reverse (lane_deeds before.steps.now one.ran.told) ++ earlier) store now split.dem.start
+      (knows_split main off after seats calls is_off before.seat split.dem)
+      (knows_lane main off after seats calls is_off (λ (w : LaneWork). w.seat) ran place d joined inside olds)
+      (knows_split jobs jobs_off jobs_after seats job_calls is_job_off before.queue_seat split.queue)
+      (knows_lane jobs jobs_off jobs_after seats job_calls is_job_off (λ (w : LaneWork). w.queue_seat) ran place d jobs_joined inside job_olds) (one.carries earlier))
+
+  pub carries_block : AreRun c works ran store now → Carries c main after jobs jobs_after earlier (reverse (block_deeds lanes (map (λ (w : LaneWork). told_in w.replies) ran)) ++ earlier) store now
+  carries_block (inl none) = carries_none none.1 none.2
+  carries_block (inr one) = carries_one one.0 one.1 one.2
+
+module _ {B : Type 0} {b : Ghosts B} (c : Config) (works ran : List LaneWork) (store now : Store B b) where
+  pub leaves_block : AreRun c works ran store now → Leaves store now
+  leaves_block (inl none) = subst (Leaves store) (sym none.2) (leaves_nothing store)
+  leaves_block (inr one) = ((one.2).one (default_of works one.0 (one.1).within)).leaves
+
+-- ---- all of it
+
+module _ {F : _} {g : _} {B : Type 0} {b : Ghosts B} (locks : Locks F g) (c : Config) (main off after : Seat) (jobs jobs_off jobs_after : QueueSeat) (lanes : List (List Step)) (works ran : List LaneWork) (told more : List (List Told)) (store now : Store B b) where
+  pub has_run_lanes : IsMain main → IsMain jobs → AreSplit locks main jobs (main.children + 1) (jobs.children + 1) lanes works → IsSplitOff main off (length lanes) (all_calls lanes) → IsSplitOff jobs jobs_off (length lanes) (all_queued lanes)
+      → AreRun c works ran store now → AreJoined off after (map (λ (w : LaneWork). w.seat) ran) → AreJoined jobs_off jobs_after (map (λ (w : LaneWork). w.queue_seat) ran) → more ≡ told ++ map (λ (w : LaneWork). told_in w.replies) ran
+      → HasRunLanes c main after jobs jobs_after lanes told more store now
+  has_run_lanes is is_queue are is_off is_job_off run joined jobs_joined told_are =
+      let have = have_run c works ran store now run in
+      let runs : RunsLanes main after jobs jobs_after lanes told more =
+      ran_lanes locks main off after jobs jobs_off jobs_after lanes works ran told more is is_queue are is_off is_job_off have.len have.each joined jobs_joined told_are in
+      let others : runs.others ≡ map (λ (w : LaneWork). told_in w.replies) ran = append_cancel_left told runs.others (map (λ (w : LaneWork). told_in w.replies) ran) (sym runs.told_are ∙ told_are) in
+      let steps = all_steps_are locks main jobs (main.children + 1) (jobs.children + 1) lanes works are in
+      let from = all_from locks main jobs (main.children + 1) (jobs.children + 1) lanes works are in
+      record {
+        run = runs;
+        carries = λ earlier. subst (λ l. Carries c main after jobs jobs_after earlier (reverse (block_deeds lanes l) ++ earlier) store now) (sym others)
+            (carries_block c main off after jobs jobs_off jobs_after lanes works ran store now (length lanes) (all_calls lanes) (all_queued lanes) is_off is_job_off steps from joined jobs_joined earlier run);
+        leaves = leaves_block c works ran store now run;
+      }

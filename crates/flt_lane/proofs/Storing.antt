@@ -1,0 +1,114 @@
+-- A lane that touches the store, after some of its steps.
+use Rattle.std.proofs.Common.{◌≡◌, ℕ, ◌<◌, ◌≤◌, ◌+◌, true, List, [], ◌∷◌, ◌++◌, length, take, get_or, reverse, refl, ap, subst, sym, arith, ◌∙◌}
+use Rattle.std.specs.Prelude.{IsTrue}
+use Rattle.std.proofs.lemmas.Bool.{false≢true}
+use Rattle.std.proofs.lemmas.List.{append-nil, append_assoc, append_cancel_left, take_more}
+use Rattle.flt_flash.specs.declared.blocks.Blocks.{Ghosts}
+use Rattle.flt_config.specs.declared.config.Config.{Config}
+use Rattle.flt_script.specs.Step.{is_lane_step}
+use Rattle.flt_script.specs.declared.step.Step.{Step}
+use Rattle.flt_script.specs.declared.step.Step.TheVariants as steps
+use Rattle.flt_shared.specs.Call.{MayBeAsked, reply_after}
+use Rattle.flt_store.specs.declared.store.Store.{Store}
+use Rattle.flt_store.specs.Store.{driver_of}
+use Rattle.flt_life.specs.Actions.{action_of, arm_count, arms_of}
+use Rattle.flt_life.specs.Answers.{Told}
+use Rattle.flt_life.specs.Ordered.{Deed, lane_deeds, with_deed}
+use Rattle.flt_life.specs.Played.{StepMakes}
+use Rattle.flt_life.specs.Room.{told_in}
+use Rattle.flt_lives.specs.Going.{GoesOn, WereGiven}
+use Rattle.flt_lane.specs.declared.lane.LaneWork.{LaneWork}
+use Rattle.flt_lane.specs.declared.locks.Locks.{Locks}
+use Rattle.flt_lane.specs.Living.{Carries}
+use Rattle.flt_lane.specs.Runs.{calls_by}
+use Rattle.flt_lane.specs.Stored.{HasRunStore, Leaves}
+use Rattle.flt_lane.specs.Work.{HasRun}
+use Rattle.flt_lane.proofs.Carrying.{carries_beside, carries_further}
+use Rattle.flt_lane.proofs.Leaving.{leaves_nothing, leaves_further}
+use Rattle.flt_lane.proofs.LaneDeeds.{lane_deeds_more, newest_deed, told_count}
+use Rattle.flt_lane.proofs.PartWays.{part_start}
+use Rattle.flt_lane.proofs.Running.{IsPartway}
+
+-- ---- what a step of a lane leaves of the bench
+
+module _ {B : Type 0} {b : Ghosts B} where
+  pub leaves_step : (step : Step) (store now : Store B b) → IsTrue (is_lane_step step) → GoesOn (driver_of store) (driver_of now)
+      → WereGiven (arms_of (action_of step)) (driver_of store).device.bench.arms (driver_of now).device.bench.arms
+      → (driver_of now).device.bench.armed ≤ (driver_of store).device.bench.armed + arm_count (action_of step) → Leaves store now
+  leaves_step (steps.Report event report) store now is goes given armed = record { goes_on = goes; given = given; armed = omega (arith, armed) }
+  leaves_step (steps.Show event) store now is goes given armed = record { goes_on = goes; given = given; armed = omega (arith, armed) }
+  leaves_step (steps.Cycle cycle) store now is goes given armed = record { goes_on = goes; given = given; armed = omega (arith, armed) }
+  leaves_step (steps.Tick ticks) store now is goes given armed = record { goes_on = goes; given = given; armed = omega (arith, armed) }
+  leaves_step (steps.Signal index value) store now is goes given armed = record { goes_on = goes; given = given; armed = omega (arith, armed) }
+  leaves_step (steps.Request tester bytes) store now is goes given armed = record { goes_on = goes; given = given; armed = omega (arith, armed) }
+  leaves_step steps.Save store now is goes given armed = record { goes_on = goes; given = given; armed = omega (arith, armed) }
+  leaves_step (steps.Post urgent block bytes) store now is goes given armed = record { goes_on = goes; given = given; armed = omega (arith, armed) }
+  leaves_step steps.Drain store now is goes given armed = record { goes_on = goes; given = given; armed = omega (arith, armed) }
+  leaves_step (steps.Get block) store now is goes given armed = record { goes_on = goes; given = given; armed = omega (arith, armed) }
+  leaves_step (steps.Ask block) store now is goes given armed = record { goes_on = goes; given = given; armed = omega (arith, armed) }
+  leaves_step (steps.Arming arm) store now is goes given armed = absurd (false≢true is)
+
+-- a step of a lane makes no arm
+pub no_arm : (step : Step) → IsTrue (is_lane_step step) → arm_count (action_of step) ≡ 0
+no_arm (steps.Report event report) is = refl
+no_arm (steps.Show event) is = refl
+no_arm (steps.Cycle cycle) is = refl
+no_arm (steps.Tick ticks) is = refl
+no_arm (steps.Signal index value) is = refl
+no_arm (steps.Request tester bytes) is = refl
+no_arm steps.Save is = refl
+no_arm (steps.Post urgent block bytes) is = refl
+no_arm steps.Drain is = refl
+no_arm (steps.Get block) is = refl
+no_arm (steps.Ask block) is = refl
+no_arm (steps.Arming arm) is = absurd (false≢true is)
+
+-- ---- the lane
+
+pub record IsStoring {F : _} {g : _} {B : Type 0} {b : Ghosts B} (c : Config) (locks : Locks F g) (before now : LaneWork) (index : ℕ) (store current : Store B b) : Type 0 where
+  pub part : IsPartway locks before now index
+  pub carries : (earlier : List Deed) → Carries c before.seat now.seat before.queue_seat now.queue_seat earlier (reverse (lane_deeds (take index before.steps.now) part.told) ++ earlier) store current
+  pub leaves : Leaves store current
+
+module _ {F : _} {g : _} {B : Type 0} {b : Ghosts B} (c : Config) (locks : Locks F g) where
+  pub storing_begins : (lane : LaneWork) (store : Store B b) → IsPartway locks lane lane 0 → IsStoring c locks lane lane 0 store store
+  storing_begins lane store part =
+      let none : part.told ≡ [] = append_cancel_left (told_in lane.replies) part.told [] (sym part.answers ∙ sym (append-nil (told_in lane.replies))) in
+      record {
+        part = part;
+        carries = λ earlier. subst (λ l. Carries c lane.seat lane.seat lane.queue_seat lane.queue_seat earlier (reverse (lane_deeds [] l) ++ earlier) store store) (sym none)
+            (carries_beside c lane.seat lane.seat lane.queue_seat lane.queue_seat earlier store (λ known is. is) (λ known is. is));
+        leaves = leaves_nothing store;
+      }
+
+  pub storing_more : (before now after : LaneWork) (index : ℕ) (step : Step) (told : Told) (store current later : Store B b) → index < length before.steps.now → step ≡ get_or before.steps.now index step
+      → (on : IsStoring c locks before now index store current) → (more : IsPartway locks before after (index + 1)) → told_in after.replies ≡ told_in now.replies ++ told ∷ []
+      → ((earlier : List Deed) → Carries c now.seat after.seat now.queue_seat after.queue_seat earlier (with_deed step told earlier) current later) → Leaves current later → IsStoring c locks before after (index + 1) store later
+  storing_more before now after index step told store current later within is on more answers carries leaves =
+      let all = before.steps.now in
+      let first = take index all in
+      let taken : take (index + 1) all ≡ first ++ step ∷ [] = take_more all index step within ∙ ap (λ s. first ++ s ∷ []) (sym is) in
+      let told_is : more.told ≡ on.part.told ++ told ∷ [] =
+      append_cancel_left (told_in before.replies) more.told (on.part.told ++ told ∷ [])
+      (sym more.answers ∙ answers ∙ ap (λ l. l ++ told ∷ []) on.part.answers ∙ append_assoc (told_in before.replies) on.part.told (told ∷ [])) in
+      let size = told_count StepMakes first on.part.told on.part.dem.calls on.part.dem.made in
+      let start = part_start MayBeAsked reply_after StepMakes calls_by before.seat now.seat first on.part.told on.part.dem in
+      let deeds : lane_deeds (take (index + 1) all) more.told ≡ lane_deeds first on.part.told ++ with_deed step told [] = (λ i. lane_deeds (taken i) (told_is i)) ∙ lane_deeds_more first on.part.told step told size in
+      record {
+        part = more;
+        carries = λ earlier. subst (λ l. Carries c before.seat after.seat before.queue_seat after.queue_seat earlier l store later)
+            (sym (ap (λ l. reverse l ++ earlier) deeds ∙ newest_deed step told (lane_deeds first on.part.told) earlier))
+            (carries_further c before.seat now.seat after.seat before.queue_seat now.queue_seat after.queue_seat earlier (reverse (lane_deeds first on.part.told) ++ earlier) (with_deed step told (reverse (lane_deeds first on.part.told) ++ earlier))
+            store current later start (on.carries earlier) (carries (reverse (lane_deeds first on.part.told) ++ earlier)));
+        leaves = leaves_further store current later on.leaves leaves;
+      }
+
+  pub has_stored : (before now : LaneWork) (index : ℕ) (store current : Store B b) → (on : IsStoring c locks before now index store current) → take index before.steps.now ≡ before.steps.now → (ran : HasRun before now)
+      → HasRunStore c before now store current
+  has_stored before now index store current on whole ran =
+      let told_is : ran.told ≡ on.part.told = append_cancel_left (told_in before.replies) ran.told on.part.told (sym ran.answers ∙ on.part.answers) in
+      record {
+        ran = ran;
+        carries = λ earlier. subst (λ l. Carries c before.seat now.seat before.queue_seat now.queue_seat earlier (reverse l ++ earlier) store current) (λ i. lane_deeds (whole i) (sym told_is i)) (on.carries earlier);
+        leaves = on.leaves;
+      }

@@ -1,0 +1,46 @@
+use Rattle.std.proofs.Common.{◌≡◌, ◌∙◌, ℕ, ◌<◌, ◌*◌, Bool, true, Ok, Err, not, refl, subst, sym, arith}
+use Rattle.std.specs.Prelude.{OnOk, is_ok, IsTrue, IsFalse}
+use Rattle.std.specs.declared.result.Result.{Result}
+use Rattle.std.proofs.lemmas.Bool.{false≢true}
+use Rattle.flt_flash.specs.Content.{bytes as holding}
+use Rattle.flt_flash.specs.State.{HasRisenBy}
+use Rattle.flt_generation.specs.Layout.{application_number}
+use Rattle.flt_nvm.specs.Leaves.{IsEither}
+use Rattle.flt_store.specs.declared.fault.PutFault.{PutFault}
+use Rattle.flt_store.specs.declared.fault.PutFault.TheVariants as faults
+use Rattle.flt_store.specs.Store.{driver_of}
+use Rattle.flt_turn.specs.Sums.{one_if}
+use Rattle.flt_lane.specs.Draining.{WritesJob}
+use Rattle.flt_lane.proofs.drain.write_job.Goals as goal
+
+-- what was put, where that was answered
+on_ok : {T E : Type 0} (result : Result T E) (P : Type 0) → OnOk result P → is_ok result ≡ true → P
+on_ok (Ok value) P holds is = holds
+on_ok (Err fault) P holds is = absurd (false≢true is)
+
+-- where the last sequence number is not in use, a job that could not be written met three faults
+rose_by : (result : Result (Unit {0}) PutFault) (before after : ℕ) (spent : Bool) → (result ≡ Err faults.Flash → HasRisenBy 3 before after) → (result ≡ Err faults.SequenceSpent → IsTrue spent) → HasRisenBy 0 before after → IsFalse spent
+    → HasRisenBy (3 * one_if (not (is_ok result))) before after
+rose_by (Ok value) before after spent flash sequence counts unspent = omega (arith, counts)
+rose_by (Err faults.Flash) before after spent flash sequence counts unspent = let three = flash refl in omega (arith, three)
+rose_by (Err faults.SequenceSpent) before after spent flash sequence counts unspent = absurd (false≢true (sym unspent ∙ sequence refl))
+
+pub returns-clause-wrote : goal.returns-clause-wrote
+returns-clause-wrote g c = λ config same.
+    let job = c.args.job.now in
+    let number = application_number job.block in
+    let before = driver_of c.args.store.now in
+    let after = driver_of c.put_block.new.self in
+    let result = c.put_block.result in
+    let within : job.block < config.blocks = subst (λ n. job.block < n) (sym same) c.requires.job.0 in
+    let counts = c.put_block.ensures.follows.counts in
+    let put : WritesJob config job (is_ok result) c.args.store.now c.put_block.new.self = record {
+      all = on_ok result (after.value number ≡ holding job.bytes.items) (subst (λ l. OnOk result (after.value number ≡ holding l)) c.deref.ensures.0 c.put_block.ensures.put);
+      either = subst (λ l. IsEither before after number (holding l)) c.deref.ensures.0 c.put_block.ensures.either;
+      others = c.put_block.ensures.others;
+      running = c.put_block.ensures.running config within;
+      rose = λ held spare running unspent. rose_by result before.device.faults after.device.faults after.is_spent (c.put_block.ensures.flash config within held spare running)
+          (λ is. g.met.B.Blocks.stuck_is_spent c.put_block.new.self.nvm.blocks _ _ (c.put_block.ensures.sequence is)) counts unspent;
+      follows = c.put_block.ensures.follows;
+    } in
+    subst (λ w. WritesJob config job w c.args.store.now c.put_block.new.self) (sym c.is_ok-written.ensures.value) put

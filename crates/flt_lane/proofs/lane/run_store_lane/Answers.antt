@@ -1,0 +1,42 @@
+use Rattle.std.proofs.Common.{arith, refl, rules, sym, subst, ap, ◌∙◌}
+use Rattle.flt_config.specs.Durable.{Fits}
+use Rattle.flt_life.specs.Actions.{IsPossible, action_of}
+use Rattle.flt_lane.proofs.Running.{begins, calls_left, goes_on, has_run, possible_next, queued_left, seats_stay, start_now, take_past}
+use Rattle.flt_lane.proofs.Storing.{has_stored, leaves_step, no_arm, storing_begins, storing_more}
+use Rattle.flt_lane.specs.Work.{both}
+use Rattle.flt_lane.proofs.lane.run_store_lane.Goals as goal
+
+pub loop-index-init : goal.loop-index-init
+loop-index-init g c = storing_begins c.args.config.now (both c.args.dem.now c.args.queue.now) c.args.lane.now c.args.store.now (begins (both c.args.dem.now c.args.queue.now) c.args.lane.now c.requires.ready)
+
+pub do_step-answer-requires-clause-fits : goal.do_step-answer-requires-clause-fits
+do_step-answer-requires-clause-fits g c =
+    let start = start_now (both c.args.dem.now c.args.queue.now) c.args.lane.now c.loop-index.lane c.loop-index.index c.index-steps-index.result c.requires.ready c.loop-index.invariant.part (search rules) c.index-steps-index.is in
+    subst (λ s. Fits c.args.config.now s.base) (sym start) c.requires.fits
+
+pub do_step-answer-requires-clause-left : goal.do_step-answer-requires-clause-left
+do_step-answer-requires-clause-left g c =
+    calls_left (both c.args.dem.now c.args.queue.now) c.args.lane.now c.loop-index.lane c.loop-index.index c.index-steps-index.result c.requires.ready c.loop-index.invariant.part (search rules) c.index-steps-index.is
+
+pub do_step-answer-requires-clause-queued : goal.do_step-answer-requires-clause-queued
+do_step-answer-requires-clause-queued g c =
+    queued_left (both c.args.dem.now c.args.queue.now) c.args.lane.now c.loop-index.lane c.loop-index.index c.index-steps-index.result c.requires.ready c.loop-index.invariant.part (search rules) c.index-steps-index.is
+
+pub loop-index-preserved : goal.loop-index-preserved
+loop-index-preserved g c =
+    let locks = both c.args.dem.now c.args.queue.now in
+    let kept = c.keep_whole.ensures in
+    let made = c.do_step-answer.ensures in
+    let on = c.loop-index.invariant in
+    let step = c.index-steps-index.result in
+    let possible = possible_next locks c.args.lane.now c.loop-index.lane c.loop-index.index step c.requires.ready on.part (search rules) c.index-steps-index.is in
+    let more = goes_on locks c.args.lane.now _ c.loop-index.index step c.requires.ready on.part (search rules) c.index-steps-index.is _ c.do_step-answer.result
+    made.made made.queues made.size kept.told kept.answers kept.room kept.responses kept.bytes refl refl
+    (seats_stay locks _ _ step c.do_step-answer.result on.part.seats made.made made.queues made.lock made.queue) in
+    storing_more c.args.config.now locks c.args.lane.now _ _ c.loop-index.index step c.do_step-answer.result c.args.store.now _ c.do_step-answer.new.store (search rules) c.index-steps-index.is on more kept.told made.carries
+    (leaves_step step _ c.do_step-answer.new.store possible.0 made.goes_on made.given made.armed)
+
+pub returns-clause-ran : goal.returns-clause-ran
+returns-clause-ran g c =
+    has_stored c.args.config.now (both c.args.dem.now c.args.queue.now) c.args.lane.now _ c.loop-index.index c.args.store.now _ c.loop-index.invariant (take_past c.loop-index.index c.args.lane.now.steps.now (search rules))
+    (has_run (both c.args.dem.now c.args.queue.now) c.args.lane.now _ c.loop-index.index c.loop-index.invariant.part (search rules))

@@ -1,0 +1,76 @@
+use Rattle.std.proofs.Common.{◌≡◌, ◌<◌, ℕ, List, ◌∷◌, refl, subst, sym}
+use Rattle.flt_config.specs.declared.config.Config.{Config}
+use Rattle.flt_flash.specs.Calls.{Follows, SameValues}
+use Rattle.flt_flash.specs.Content.{Content}
+use Rattle.flt_flash.specs.declared.blocks.Blocks.{Ghosts}
+use Rattle.flt_generation.specs.Holding.{Generation}
+use Rattle.flt_generation.specs.Layout.{applications, application_number}
+use Rattle.flt_queue.specs.Queue.{History}
+use Rattle.flt_script.specs.declared.step.Step.TheVariants as steps
+use Rattle.flt_store.specs.declared.store.Store.{Store}
+use Rattle.flt_store.specs.Store.{IsRunning, driver_of}
+use Rattle.flt_life.specs.Answers.{Told}
+use Rattle.flt_life.specs.Applications.{GetsBy, MayHold, jobs_told, up_to_done}
+use Rattle.flt_life.specs.Ordered.{Deed}
+use Rattle.flt_life.specs.declared.answer.StepAnswer.TheVariants as answers
+use Rattle.flt_shared.specs.Call.{Seat}
+use Rattle.flt_lives.specs.Alive.{IsAlive}
+use Rattle.flt_lives.specs.Living.{IsCaused}
+use Rattle.flt_lives.proofs.Causing.{caused_read, caused_unread}
+use Rattle.flt_lane.specs.Living.{AreHeld, Carries, answers_of, drains_by, saves_by}
+use Rattle.flt_lane.specs.Runs.{QueueSeat}
+use Rattle.flt_lane.proofs.Carrying.{gets_bytes, gets_none, holds_deed, living_deed}
+use Rattle.flt_lane.proofs.Keeping.{IsNoSave}
+use Rattle.flt_lane.proofs.Leaving.{leaves_by_calls}
+use Rattle.flt_lane.proofs.step.get.Goals as goal
+
+-- what a read carries on, by its answer
+read_carries : {B : Type 0} {b : Ghosts B} (c : Config) (seat : Seat) (jobs : QueueSeat) (earlier : List Deed) (block : ℕ) (told : Told) (store now : Store B b) → SameValues (driver_of store) (driver_of now)
+    → ((held spare : Generation) → IsRunning c held spare store → IsRunning c held spare now) → IsNoSave told → saves_by told ≡ 0 → drains_by told ≡ 0 → jobs_told (told ∷ answers_of earlier) ≡ jobs_told (answers_of earlier)
+    → ((begun : ℕ) → IsCaused c begun (answers_of earlier) store → IsCaused c begun (told ∷ answers_of earlier) now)
+    → (IsAlive c store → (first : ℕ → Content) (past : History) → AreHeld first past (jobs_told (answers_of earlier)) earlier (driver_of store).value → GetsBy first past earlier (steps.Get block) told)
+    → Carries c seat seat jobs jobs earlier ((steps.Get block, told) ∷ earlier) store now
+read_carries c seat jobs earlier block told store now same runs no_save no_saves no_drain no_job causes gets = record {
+  alive = λ alive. record { held = alive.held; spare = alive.spare; running = runs alive.held alive.spare alive.running };
+  living = λ first start living. living_deed c first seat earlier (steps.Get block, told) store now no_save no_saves runs living;
+  caused = causes;
+  holds = λ alive first holds. holds_deed first jobs earlier (steps.Get block, told) (driver_of store).value (driver_of now).value (λ number below. same (application_number number)) no_drain no_job (gets alive first) holds;
+}
+
+-- the block holds this by the drains before
+held_by : (first : ℕ → Content) (past : History) (earlier : List Deed) (values : ℕ → Content) (block : ℕ) (content : Content) → block < applications → values (application_number block) ≡ content → AreHeld first past (jobs_told (answers_of earlier)) earlier values
+    → MayHold block (first (application_number block)) (up_to_done (jobs_told (answers_of earlier)) past) content
+held_by first past earlier values block content below is held = subst (MayHold block (first (application_number block)) (up_to_done (jobs_told (answers_of earlier)) past)) is (held.held block below)
+
+pub returns-in-Ok-true-clause-carries : goal.returns-in-Ok-true-clause-carries
+returns-in-Ok-true-clause-carries g c = λ config seat jobs earlier.
+    let told : Told = answers.Bytes c.get_block.new.out in
+    read_carries config seat jobs earlier c.args.block told c.args.store.now c.get_block.new.self c.get_block.ensures.values (c.get_block.ensures.running config) tt refl refl refl
+    (λ begun caused. caused_read config begun (answers_of earlier) c.args.store.now c.get_block.new.self caused told tt c.get_block.ensures.follows (c.get_block.ensures.running config caused.held_now caused.spare_now caused.running))
+    (λ alive first past held. held_by first past earlier (driver_of c.args.store.now).value c.args.block _ c.requires.block
+    (gets_bytes _ c.in-Ok-true.field-0 _ (c.in-Ok-true.ensures.got config alive.held alive.spare alive.running) c.in-Ok-true.field-0-test) held)
+
+pub returns-in-Ok-false-clause-carries : goal.returns-in-Ok-false-clause-carries
+returns-in-Ok-false-clause-carries g c = λ config seat jobs earlier.
+    let told : Told = answers.NoBlock in
+    read_carries config seat jobs earlier c.args.block told c.args.store.now c.get_block.new.self c.get_block.ensures.values (c.get_block.ensures.running config) tt refl refl refl
+    (λ begun caused. caused_read config begun (answers_of earlier) c.args.store.now c.get_block.new.self caused told tt c.get_block.ensures.follows (c.get_block.ensures.running config caused.held_now caused.spare_now caused.running))
+    (λ alive first past held. held_by first past earlier (driver_of c.args.store.now).value c.args.block _ c.requires.block
+    (gets_none _ c.in-Ok-false.field-0 _ (c.in-Ok-false.ensures.got config alive.held alive.spare alive.running) c.in-Ok-false.field-0-test) held)
+
+pub returns-in-Err-clause-carries : goal.returns-in-Err-clause-carries
+returns-in-Err-clause-carries g c = λ config seat jobs earlier.
+    let told : Told = answers.BlockFlash in
+    read_carries config seat jobs earlier c.args.block told c.args.store.now c.get_block.new.self c.get_block.ensures.values (c.get_block.ensures.running config) tt refl refl refl
+    (λ begun caused. caused_unread config begun (answers_of earlier) c.args.store.now c.get_block.new.self caused c.get_block.ensures.follows
+    (c.in-Err.ensures.flash config caused.held_now caused.spare_now caused.running) (c.get_block.ensures.running config caused.held_now caused.spare_now caused.running))
+    (λ alive first past held. tt)
+
+pub returns-in-Ok-true-clause-leaves : goal.returns-in-Ok-true-clause-leaves
+returns-in-Ok-true-clause-leaves g c = leaves_by_calls c.args.store.now c.get_block.new.self c.get_block.ensures.follows
+
+pub returns-in-Ok-false-clause-leaves : goal.returns-in-Ok-false-clause-leaves
+returns-in-Ok-false-clause-leaves g c = leaves_by_calls c.args.store.now c.get_block.new.self c.get_block.ensures.follows
+
+pub returns-in-Err-clause-leaves : goal.returns-in-Err-clause-leaves
+returns-in-Err-clause-leaves g c = leaves_by_calls c.args.store.now c.get_block.new.self c.get_block.ensures.follows

@@ -1,0 +1,81 @@
+-- A drain on its way.
+use Rattle.std.specs.Prelude.{◌≡◌, ℕ, ◌+◌, ◌*◌, ◌≤◌, Bool, true, false, not, List, [], ◌∷◌, length, sum_by, Option, Some, None, IsFalse}
+use Rattle.flt_flash.specs.Calls.{Follows, OthersKept}
+use Rattle.flt_flash.specs.Content.{Content, bytes as holding}
+use Rattle.flt_flash.specs.State.{HasRisenBy}
+use Rattle.flt_flash.specs.declared.blocks.Blocks.{Ghosts}
+use Rattle.flt_config.specs.declared.config.Config.{Config}
+use Rattle.flt_generation.specs.Holding.{Generation}
+use Rattle.flt_generation.specs.Layout.{application_number}
+use Rattle.flt_nvm.specs.Leaves.{IsEither}
+use Rattle.flt_queue.specs.Call as queued
+use Rattle.flt_queue.specs.declared.job.Job.{Job}
+use Rattle.flt_queue.specs.Queue as queue
+use Rattle.flt_queue.specs.declared.job.QueueReply.TheVariants.{NoJob}
+use Rattle.flt_store.specs.declared.store.Store.{Store}
+use Rattle.flt_store.specs.Store.{IsRunning, driver_of}
+use Rattle.flt_turn.specs.Sums.{one_if}
+use Rattle.flt_life.specs.Answers.{Told}
+use Rattle.flt_life.specs.Draining.{Drained, QueueCall, calls_for, calls_for_all, take_at}
+use Rattle.flt_life.specs.Ordered.{Deed}
+use Rattle.flt_life.specs.declared.answer.StepAnswer.TheVariants as answers
+use Rattle.flt_lives.specs.Living.{IsCaused}
+use Rattle.flt_lane.specs.Chain.{Chain}
+use Rattle.flt_lane.specs.Living.{HoldsBy}
+use Rattle.flt_lane.specs.Runs.{QueueSeat}
+use Rattle.flt_lane.specs.Stored.{Leaves}
+
+-- Calls of the queue, between what their seat knew before and after.
+abbrev pub MakesJobs : QueueSeat → List QueueCall → QueueSeat → Type 0
+MakesJobs before calls after = Chain queue.IsAdmitted queued.reply_after before calls after
+
+module _ {B : Type 0} {b : Ghosts B} where
+  -- A job was written to its block, or could not be, and each other block was left as it was. Where the last sequence number is not in
+  -- use behind it, a job that could not be written met three faults.
+  pub record WritesJob (c : Config) (job : Job) (written : Bool) (store now : Store B b) : Type 0 where
+    pub all : written ≡ true → (driver_of now).value (application_number job.block) ≡ holding job.bytes.items
+    pub either : IsEither (driver_of store) (driver_of now) (application_number job.block) (holding job.bytes.items)
+    pub others : OthersKept (application_number job.block) (driver_of store) (driver_of now)
+    pub running : (held spare : Generation) → IsRunning c held spare store → IsRunning c held spare now
+    pub rose : (held spare : Generation) → IsRunning c held spare store → IsFalse (driver_of now).is_spent
+        → HasRisenBy (3 * one_if (not written)) (driver_of store).device.faults (driver_of now).device.faults
+    pub follows : Follows (driver_of store) (driver_of now)
+
+  -- What so many calls of a drain, with so many jobs, of which some failed, carry on of the store.
+  pub record DrainsOn (c : Config) (before after : QueueSeat) (calls jobs failed : ℕ) (store now : Store B b) : Type 0 where
+    pub running : (held spare : Generation) → IsRunning c held spare store → IsRunning c held spare now
+    pub holds : (first : ℕ → Content) (earlier done : ℕ) (deeds : List Deed) → HoldsBy first before earlier done deeds (driver_of store).value
+        → HoldsBy first after (earlier + calls) (done + jobs) deeds (driver_of now).value
+    pub caused : (begun : ℕ) (told : List Told) (some more less : ℕ) → IsCaused c begun (answers.Drained some less ∷ told) store → IsCaused c begun (answers.Drained more (less + failed) ∷ told) now
+    pub leaves : Leaves store now
+
+  -- A job was taken, written or not, and noted.
+  pub record TakesJob (c : Config) (before after : QueueSeat) (written : Bool) (store now : Store B b) : Type 0 where
+    pub job : Drained
+    pub written_is : job.written ≡ written
+    pub chain : MakesJobs before (calls_for job) after
+    pub drains : DrainsOn c before after 2 1 (one_if (not written)) store now
+
+  -- No job waits.
+  pub record FindsNone (c : Config) (before after : QueueSeat) (store now : Store B b) : Type 0 where
+    pub place : ℕ
+    pub chain : MakesJobs before (take_at place NoJob ∷ []) after
+    pub drains : DrainsOn c before after 1 0 0 store now
+
+  -- The next job was looked for: what was found, where there was one, and whether it was written.
+  abbrev pub Looks : Config → QueueSeat → QueueSeat → Option Bool → Store B b → Store B b → Type 0
+  Looks c before after None store now = FindsNone c before after store now
+  Looks c before after (Some written) store now = TakesJob c before after written store now
+
+  -- So many jobs were taken.
+  pub record HasDrained (c : Config) (before after : QueueSeat) (written failed count : ℕ) (store now : Store B b) : Type 0 where
+    pub jobs : List Drained
+    pub count_is : length jobs ≡ count
+    pub written_is : written ≡ sum_by (λ d. one_if d.written) jobs
+    pub failed_is : failed ≡ sum_by (λ d. one_if (not d.written)) jobs
+    pub all : written + failed ≡ count
+    pub chain : MakesJobs before (calls_for_all jobs) after
+    pub drains : DrainsOn c before after (2 * count) count failed store now
+    pub left : before.left ≤ after.left + 2 * count
+    pub start : after.start ≡ before.start
+    pub lock : after.lock ≡ before.lock

@@ -1,0 +1,103 @@
+//! A drain: jobs are taken from the queue, written, and noted as done.
+ghost use Rattle.std.specs.Prelude.{◌≡◌, ◌≤◌, ◌∷◌, List};
+ghost use Rattle.flt_config.specs.declared.config.Config.{Config};
+ghost use Rattle.flt_config.specs.Validity.{IsValid};
+ghost use Rattle.flt_life.specs.Answers.{told_size};
+ghost use Rattle.flt_life.specs.Ordered.{Deed};
+ghost use Rattle.flt_queue.specs.Call as queued;
+ghost use Rattle.flt_queue.specs.Queue.{IsJob};
+ghost use Rattle.flt_queue.specs.declared.job.QueueOp.TheVariants as ops;
+ghost use Rattle.flt_queue.specs.declared.job.QueueReply.{QueueReply as Replied};
+ghost use Rattle.flt_turn.specs.declared.answer.Answer.{Answer};
+ghost use Rattle.flt_script.specs.declared.step.Step.TheVariants as steps;
+ghost use Rattle.flt_shared.specs.Call.{Seat};
+ghost use Rattle.flt_turn.specs.Seats as turn;
+ghost use Rattle.flt_lane.specs.Draining.{Looks, WritesJob};
+ghost use Rattle.flt_lane.specs.Living.{Carries};
+ghost use Rattle.flt_lane.specs.Runs.{Queues};
+ghost use Rattle.flt_lane.specs.Stored.{Leaves};
+
+use flt_config::ValidConfig;
+use flt_flash::Blocks;
+use flt_life::StepAnswer;
+use flt_queue::{Job, QueueLock, QueueReply, QueueSeat, WAITING};
+use flt_shared::Reply;
+use flt_store::Store;
+use std::sync::Wait;
+
+/// Writes a job, and notes what became of it: whether it was written. The lock is held for the note, but not while the job is written.
+fn write_job<R: Wait, B: Blocks + Drop>(
+    rt: &R,
+    queue: &QueueLock,
+    store: &mut Store<B>,
+    seat: &mut QueueSeat,
+    job: &Job,
+) -> bool
+    requires lock { turn.IsSeatOf queue.now.turn seat.old }
+    requires job { IsJob seat.old.start job.now }
+    requires blocks { seat.old.start ≤ 40 }
+    requires left { 1 ≤ seat.old.left }
+    ensures wrote { (c : Config) → c.blocks ≡ seat.old.start → WritesJob c job.now result store.old store.new }
+    ensures noted { (noted : Answer Replied) × queued.IsCall seat.old seat.new (ops.Done job.now.block result) noted }
+    ensures lock { turn.IsSeatOf queue.now.turn seat.new }
+{
+    let written = store.put_block(job.block, &job.bytes).is_ok();
+    let Ok(_noted) = queue.done(rt, seat, job.block, written) else {
+        unreachable!()
+    };
+    written
+}
+
+/// Takes the next job, writes it, and notes what became of it: whether it was written, or nothing where no job waits.
+fn take_job<R: Wait, B: Blocks + Drop>(
+    rt: &R,
+    queue: &QueueLock,
+    store: &mut Store<B>,
+    config: &ValidConfig,
+    seat: &mut QueueSeat,
+) -> Option<bool>
+    requires lock { turn.IsSeatOf queue.now.turn seat.old }
+    requires blocks { seat.old.start ≡ config.now.blocks }
+    requires valid { IsValid config.now }
+    requires left { 2 ≤ seat.old.left }
+    ensures looks { Looks config.now seat.old seat.new result store.old store.new }
+    ensures lock { turn.IsSeatOf queue.now.turn seat.new }
+{
+    let Ok(taken) = queue.take(rt, seat) else {
+        unreachable!()
+    };
+    match &taken.reply {
+        QueueReply::Job(job) => Some(write_job(rt, queue, store, seat, job)),
+        _ => None,
+    }
+}
+
+/// Takes jobs until none waits, at most 32, and answers how many were written and how many could not be.
+pub(crate) fn drain<R: Wait, B: Blocks + Drop>(
+    rt: &R,
+    queue: &QueueLock,
+    store: &mut Store<B>,
+    config: &ValidConfig,
+    seat: &mut QueueSeat,
+) -> StepAnswer<Reply>
+    requires lock { turn.IsSeatOf queue.now.turn seat.old }
+    requires blocks { seat.old.start ≡ config.now.blocks }
+    requires valid { IsValid config.now }
+    requires left { 64 ≤ seat.old.left }
+    ensures queues { Queues seat.old steps.Drain result seat.new }
+    ensures size { told_size result ≡ 0 }
+    ensures lock { turn.IsSeatOf queue.now.turn seat.new }
+    ensures carries { (dem : Seat) (earlier : List Deed) → Carries config.now dem dem seat.old seat.new earlier ((steps.Drain, result) ∷ earlier) store.old store.new }
+    ensures leaves { Leaves store.old store.new }
+{
+    let mut written: u16 = 0;
+    let mut failed: u16 = 0;
+    for _job in 0..WAITING {
+        let Some(was_written) = take_job(rt, queue, store, config, seat) else {
+            return StepAnswer::Drained { written, failed };
+        };
+        written += u16::from(was_written);
+        failed += u16::from(!was_written);
+    }
+    StepAnswer::Drained { written, failed }
+}
