@@ -19,7 +19,7 @@ use std::thread::Threads;
 use std::{fs, io};
 
 /// The scripts by their names, each with the status that it ends with.
-const EXAMPLES: [(&str, u8); 21] = [
+const EXAMPLES: [(&str, u8); 26] = [
     ("cut", 0),
     ("cut_all", 0),
     ("cycles", 0),
@@ -27,18 +27,23 @@ const EXAMPLES: [(&str, u8); 21] = [
     ("did_unknown", 2),
     ("did_wide", 2),
     ("displaced", 0),
+    ("drain_cut", 0),
     ("events", 0),
     ("first", 0),
+    ("jobs", 0),
+    ("jobs_full", 0),
     ("lanes", 0),
     ("lives", 0),
     ("profile", 0),
     ("refused_room", 2),
+    ("refused_store_lanes", 2),
     ("refused_twice", 2),
     ("reports", 0),
     ("sessions", 0),
     ("settings", 0),
     ("sig", 0),
     ("spaces", 0),
+    ("store_lane", 0),
     ("testers", 0),
     ("ticks", 0),
 ];

@@ -1,5 +1,5 @@
--- The script of a load is served by all tables, and without lanes it has no block.
-use Rattle.std.proofs.Common.{◌≡◌, ℕ, List, [], ◌∷◌, ◌++◌, map, false, sym, subst, inl, Global}
+-- The script of a load is served by all tables, and without lanes it has no block; it has no write job.
+use Rattle.std.proofs.Common.{◌≡◌, ℕ, ◌+◌, ◌%◌, ◌==◌, List, [], ◌∷◌, ◌++◌, map, filter, false, sym, subst, inl, Global}
 use Rattle.std.specs.Prelude.{All, Vec}
 use Rattle.std.specs.List.{flat_map, range_with_len}
 use Rattle.std.proofs.lemmas.List.Elements.{All-nil, All-cons, All-head, All-tail, All-append}
@@ -9,10 +9,11 @@ use Rattle.flt_did.specs.Serves.{HasAll, Serves}
 use Rattle.flt_script.specs.declared.step.Part.{Part}
 use Rattle.flt_script.specs.declared.step.Step.{Step}
 use Rattle.flt_script.specs.declared.step.Step.TheVariants as steps
-use Rattle.flt_script.specs.Load.{load_config, load_event, load_lanes, load_life, load_parts, plain_parts, shown_life}
+use Rattle.flt_script.specs.Load.{load_config, load_event, load_lane, load_life, load_number, load_parts, load_step, plain_parts, shown_life}
 use Rattle.flt_script.specs.Part.{parts_of}
+use Rattle.flt_life.specs.Actions.{action_of}
 use Rattle.flt_life.specs.Lives.{lists}
-use Rattle.flt_lives.specs.Alone.{IsAlone, AreAlone}
+use Rattle.flt_lives.specs.Alone.{IsAlone, AreAlone, IsPlain}
 
 served_events : (dids : List DidUse) (numbers : List ℕ) → Serves dids (map load_event numbers)
 served_events dids [] = All-nil _
@@ -22,18 +23,24 @@ pub served_load : (dids : List DidUse) → Serves dids load_config.events.items
 unfolding load_config
 served_load dids = served_events dids (range_with_len 0 16)
 
-alone_steps : (all : List Step) → AreAlone (plain_parts all)
-alone_steps [] = All-nil _
-alone_steps (step ∷ rest) = All-cons IsAlone (inl step) (plain_parts rest) tt (alone_steps rest)
+alone_steps : (make : ℕ → Step) → ((number : ℕ) → IsPlain (action_of (make number))) → (numbers : List ℕ) → AreAlone (plain_parts (map make numbers))
+alone_steps make plain [] = All-nil _
+alone_steps make plain (number ∷ rest) = All-cons IsAlone (inl (make number)) (plain_parts (map make rest)) (plain number) (alone_steps make plain rest)
 
-alone_lanes : (lanes : List (List Step)) → AreAlone (flat_map plain_parts lanes)
-alone_lanes [] = All-nil _
-alone_lanes (lane ∷ rest) = All-append IsAlone (plain_parts lane) (flat_map plain_parts rest) (alone_steps lane) (alone_lanes rest)
+alone_lane : (count lane reports : ℕ) → AreAlone (plain_parts (load_lane count lane reports))
+unfolding load_lane
+alone_lane count lane reports =
+    alone_steps (λ place. load_step lane (load_number count (place + 1))) (λ _. tt) (filter (λ place. place % 4 == lane) (range_with_len 0 reports))
+
+alone_lanes : (count : ℕ) (numbers : List ℕ) → AreAlone (flat_map plain_parts (map (λ lane. load_lane count lane count) numbers))
+alone_lanes count [] = All-nil _
+alone_lanes count (lane ∷ rest) =
+    All-append IsAlone (plain_parts (load_lane count lane count)) (flat_map plain_parts (map (λ lane. load_lane count lane count) rest)) (alone_lane count lane count) (alone_lanes count rest)
 
 alone_load : (count : ℕ) → AreAlone (load_life count false)
 alone_load count =
     All-cons IsAlone (inl (steps.Cycle 0)) (load_parts count false ++ inl steps.Save ∷ []) tt
-    (All-append IsAlone (load_parts count false) (inl steps.Save ∷ []) (alone_lanes (load_lanes count)) (All-cons IsAlone (inl steps.Save) [] tt (All-nil _)))
+    (All-append IsAlone (load_parts count false) (inl steps.Save ∷ []) (alone_lanes count (range_with_len 0 4)) (All-cons IsAlone (inl steps.Save) [] tt (All-nil _)))
 
 of_lists : (lives : List (Vec Part Global)) → All AreAlone (lists lives) → All (λ (life : Vec Part Global). AreAlone (parts_of life.items)) lives
 of_lists [] all = All-nil _
@@ -42,4 +49,4 @@ of_lists (life ∷ rest) all =
 
 pub alone_lives : (count : ℕ) (lives : List (Vec Part Global)) → lists lives ≡ load_life count false ∷ shown_life ∷ [] → All (λ (life : Vec Part Global). AreAlone (parts_of life.items)) lives
 alone_lives count lives is =
-    of_lists lives (subst (All AreAlone) (sym is) (All-cons AreAlone (load_life count false) (shown_life ∷ []) (alone_load count) (All-cons AreAlone shown_life [] (alone_steps (map steps.Show (range_with_len 0 16))) (All-nil _))))
+    of_lists lives (subst (All AreAlone) (sym is) (All-cons AreAlone (load_life count false) (shown_life ∷ []) (alone_load count) (All-cons AreAlone shown_life [] (alone_steps steps.Show (λ _. tt) (range_with_len 0 16)) (All-nil _))))

@@ -1,71 +1,92 @@
 -- The parts of a script are possible, and few.
-use Rattle.std.proofs.Common.{◌≡◌, ℕ, ◌+◌, ◌≤◌, leb, ltb, arith, true, List, [], ◌∷◌, length, refl, ap, inl, inr}
+use Rattle.std.proofs.Common.{◌≡◌, ℕ, ◌+◌, ◌≤◌, leb, ltb, arith, true, List, [], ◌∷◌, map, length, refl, ap, inl, inr}
 use Rattle.std.specs.Prelude.{Vec, All, sum_by, ◌&&◌}
 use Rattle.std.specs.List.{list_all}
 use Rattle.std.proofs.lemmas.Bool.{and_parts, leb-true, ltb-true}
-use Rattle.std.proofs.lemmas.List.Elements.{All-nil, All-cons}
+use Rattle.std.proofs.lemmas.List.Elements.{All-nil, All-cons, All-head, All-tail}
 use Rattle.std.proofs.lemmas.List.Sums.{sum_by-cons}
 use Rattle.flt_config.specs.declared.config.Config.{Config}
 use Rattle.flt_flash.specs.State.{CanArm}
 use Rattle.flt_flash.specs.declared.arm.Arm.{Arm}
 use Rattle.flt_flash.specs.declared.arm.Arm.TheVariants.{Cut, Fault, Mute}
-use Rattle.flt_script.specs.Part.{PartOf, parts_of}
-use Rattle.flt_script.specs.Step.{is_step_in, is_lane_step, is_lane_in, is_part_in, are_parts_in, is_arm_in, arms_of, arms_of_part, lanes_of, lanes_of_part}
+use Rattle.flt_script.specs.Part.{PartOf, part_of, parts_of}
+use Rattle.flt_script.specs.Step.{is_step_in, is_lane_step, is_lane_in, is_part_in, are_parts_in, is_arm_in, arms_of, arms_of_part, lanes_of, lanes_of_part, store_lanes}
 use Rattle.flt_script.specs.Step as script
 use Rattle.flt_script.specs.declared.step.Part.{Part}
+use Rattle.flt_script.specs.declared.step.Part.TheVariants.{One, Lanes}
 use Rattle.flt_script.specs.declared.step.Step.{Step}
 use Rattle.flt_script.specs.declared.step.Step.TheVariants as steps
 use Rattle.flt_life.specs.Actions.{IsPossible, action_of, arm_count}
 use Rattle.flt_life.specs.Parts.{IsPossiblePart, IsPossibleInLane, arms_in, widths}
+use Rattle.flt_run.specs.Jobs.{IsShort, IsShortPart}
 
 possible_arm : (arm : Arm) → is_arm_in arm ≡ true → CanArm arm
 possible_arm (Cut after pattern) is = let least = leb-true 1 after (and_parts (leb 1 after) (leb after 65535) is).0 in omega (arith, least)
 possible_arm (Fault after pattern) is = let least = leb-true 1 after (and_parts (leb 1 after) (leb after 65535) is).0 in omega (arith, least)
 possible_arm (Mute sector page times) is = tt
 
-possible_step : (config : Config) (step : Step) → is_step_in config step ≡ true → IsPossible config (action_of step)
-possible_step config (steps.Report event report) is = (tt, ltb-true event (length config.events.items) is)
-possible_step config (steps.Show event) is = (tt, ltb-true event (length config.events.items) is)
-possible_step config (steps.Cycle cycle) is = let most = leb-true cycle 3 is in (tt, omega (arith, most))
-possible_step config (steps.Tick ticks) is = (tt, tt)
-possible_step config (steps.Signal index value) is = let most = leb-true index 7 (and_parts (leb index 7) (leb value 65535) is).0 in (tt, omega (arith, most))
-possible_step config (steps.Request tester bytes) is =
+possible_step : (config : Config) (step : Step) → is_step_in config step ≡ true → IsShort step → IsPossible config (action_of step)
+unfolding IsShort
+possible_step config (steps.Report event report) is short = (tt, ltb-true event (length config.events.items) is)
+possible_step config (steps.Show event) is short = (tt, ltb-true event (length config.events.items) is)
+possible_step config (steps.Cycle cycle) is short = let most = leb-true cycle 3 is in (tt, omega (arith, most))
+possible_step config (steps.Tick ticks) is short = (tt, tt)
+possible_step config (steps.Signal index value) is short = let most = leb-true index 7 (and_parts (leb index 7) (leb value 65535) is).0 in (tt, omega (arith, most))
+possible_step config (steps.Request tester bytes) is short =
     let parts = and_parts (leb tester 3) (ltb 0 (length bytes.items)) is in
     let most = leb-true tester 3 parts.0 in
     (tt, (omega (arith, most), ltb-true 0 (length bytes.items) parts.1))
-possible_step config steps.Save is = tt
-possible_step config (steps.Arming arm) is = possible_arm arm is
+possible_step config steps.Save is short = tt
+possible_step config (steps.Post urgent block bytes) is short =
+    let parts = and_parts (ltb block config.blocks) (ltb 0 (length bytes.items)) is in
+    (tt, (ltb-true block config.blocks parts.0, ltb-true 0 (length bytes.items) parts.1, short))
+possible_step config steps.Drain is short = tt
+possible_step config (steps.Get block) is short = ltb-true block config.blocks is
+possible_step config (steps.Ask block) is short = (tt, ltb-true block config.blocks is)
+possible_step config (steps.Arming arm) is short = possible_arm arm is
 
-possible_lane : (config : Config) (lane : List Step) → is_lane_in config lane ≡ true → All (IsPossibleInLane config) lane
-possible_lane config [] all = All-nil (IsPossibleInLane config)
-possible_lane config (step ∷ rest) all =
+possible_lane : (config : Config) (lane : List Step) → is_lane_in config lane ≡ true → All IsShort lane → All (IsPossibleInLane config) lane
+possible_lane config [] all short = All-nil (IsPossibleInLane config)
+possible_lane config (step ∷ rest) all short =
     let both = and_parts (is_step_in config step && is_lane_step step) (is_lane_in config rest) all in
     let this = and_parts (is_step_in config step) (is_lane_step step) both.0 in
-    All-cons (IsPossibleInLane config) step rest (this.1, possible_step config step this.0) (possible_lane config rest both.1)
+    All-cons (IsPossibleInLane config) step rest (this.1, possible_step config step this.0 (All-head IsShort step rest short))
+    (possible_lane config rest both.1 (All-tail IsShort step rest short))
 
-possible_lanes : (config : Config) (lanes : List (List Step)) → list_all (is_lane_in config) lanes ≡ true → All (λ (lane : List Step). All (IsPossibleInLane config) lane) lanes
-possible_lanes config [] all = All-nil _
-possible_lanes config (lane ∷ rest) all =
-    let both = and_parts (is_lane_in config lane) (list_all (is_lane_in config) rest) all in
-    All-cons (λ (lane : List Step). All (IsPossibleInLane config) lane) lane rest (possible_lane config lane both.0) (possible_lanes config rest both.1)
+possible_lanes : {A : Type 0} (config : Config) (lanes : List (Vec Step A)) → list_all (is_lane_in config) (map (λ (lane : Vec Step A). lane.items) lanes) ≡ true
+    → All (λ (lane : Vec Step A). All IsShort lane.items) lanes → All (λ (lane : List Step). All (IsPossibleInLane config) lane) (map (λ (lane : Vec Step A). lane.items) lanes)
+possible_lanes config [] all short = All-nil _
+possible_lanes {A = A} config (lane ∷ rest) all short =
+    let steps = map (λ (lane : Vec Step A). lane.items) rest in
+    let both = and_parts (is_lane_in config lane.items) (list_all (is_lane_in config) steps) all in
+    All-cons (λ (lane : List Step). All (IsPossibleInLane config) lane) lane.items steps
+    (possible_lane config lane.items both.0 (All-head (λ (lane : Vec Step A). All IsShort lane.items) lane rest short))
+    (possible_lanes config rest both.1 (All-tail (λ (lane : Vec Step A). All IsShort lane.items) lane rest short))
 
-possible_part : (config : Config) (part : PartOf Step) → is_part_in config part ≡ true → IsPossiblePart config part
-possible_part config (inl step) is = possible_step config step is
-possible_part config (inr lanes) is =
-    possible_lanes config lanes (and_parts (leb 1 (length lanes) && leb (length lanes) 8) (list_all (is_lane_in config) lanes) is).1
+possible_part : (config : Config) (part : Part) → is_part_in config (part_of part) ≡ true → IsShortPart part → IsPossiblePart config (part_of part)
+unfolding IsShortPart
+possible_part config (One step) is short = possible_step config step is short
+possible_part config (Lanes lanes) is short =
+    let steps = map (λ lane. lane.items) lanes.items in
+    let all = and_parts (leb 1 (length steps) && leb (length steps) 8 && list_all (is_lane_in config) steps) (leb (store_lanes steps) 1) is in
+    let each = and_parts (leb 1 (length steps) && leb (length steps) 8) (list_all (is_lane_in config) steps) all.0 in
+    (possible_lanes config lanes.items each.1 short, leb-true (store_lanes steps) 1 all.1)
 
-possible_parts : (config : Config) (parts : List (PartOf Step)) → are_parts_in config parts ≡ true → All (IsPossiblePart config) parts
-possible_parts config [] all = All-nil (IsPossiblePart config)
-possible_parts config (part ∷ rest) all =
-    let both = and_parts (is_part_in config part) (are_parts_in config rest) all in
-    All-cons (IsPossiblePart config) part rest (possible_part config part both.0) (possible_parts config rest both.1)
+possible_parts : (config : Config) (parts : List Part) → are_parts_in config (parts_of parts) ≡ true → All IsShortPart parts → All (IsPossiblePart config) (parts_of parts)
+possible_parts config [] all short = All-nil (IsPossiblePart config)
+possible_parts config (part ∷ rest) all short =
+    let both = and_parts (is_part_in config (part_of part)) (are_parts_in config (parts_of rest)) all in
+    All-cons (IsPossiblePart config) (part_of part) (parts_of rest) (possible_part config part both.0 (All-head IsShortPart part rest short))
+    (possible_parts config rest both.1 (All-tail IsShortPart part rest short))
 
 pub possible_lives : {A : Type 0} (config : Config) (lives : List (Vec Part A)) → list_all (λ (life : Vec Part A). are_parts_in config (parts_of life.items)) lives ≡ true
-    → All (λ (life : Vec Part A). All (IsPossiblePart config) (parts_of life.items)) lives
-possible_lives config [] all = All-nil _
-possible_lives {A = A} config (life ∷ rest) all =
+    → All (λ (life : Vec Part A). All IsShortPart life.items) lives → All (λ (life : Vec Part A). All (IsPossiblePart config) (parts_of life.items)) lives
+possible_lives config [] all short = All-nil _
+possible_lives {A = A} config (life ∷ rest) all short =
     let both = and_parts (are_parts_in config (parts_of life.items)) (list_all (λ (life : Vec Part A). are_parts_in config (parts_of life.items)) rest) all in
-    All-cons (λ (life : Vec Part A). All (IsPossiblePart config) (parts_of life.items)) life rest (possible_parts config (parts_of life.items) both.0) (possible_lives config rest both.1)
+    All-cons (λ (life : Vec Part A). All (IsPossiblePart config) (parts_of life.items)) life rest
+    (possible_parts config life.items both.0 (All-head (λ (life : Vec Part A). All IsShortPart life.items) life rest short))
+    (possible_lives config rest both.1 (All-tail (λ (life : Vec Part A). All IsShortPart life.items) life rest short))
 
 -- ---- arms
 
@@ -77,6 +98,10 @@ same_arm (steps.Tick ticks) = refl
 same_arm (steps.Signal index value) = refl
 same_arm (steps.Request tester bytes) = refl
 same_arm steps.Save = refl
+same_arm (steps.Post urgent block bytes) = refl
+same_arm steps.Drain = refl
+same_arm (steps.Get block) = refl
+same_arm (steps.Ask block) = refl
 same_arm (steps.Arming arm) = refl
 
 same_part : (part : PartOf Step) → arms_in part ≡ arms_of_part part

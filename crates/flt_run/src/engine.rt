@@ -12,6 +12,7 @@ ghost use Rattle.flt_lives.specs.Alone.{AreAlone};
 ghost use Rattle.flt_lives.specs.Sectors.{FlashStaysSound};
 ghost use Rattle.flt_run.specs.Ending.{IsLivedBy};
 
+use crate::jobs::look_at_lives;
 use crate::made::Made;
 use flt_config::ValidConfig;
 use flt_dcm::Unit;
@@ -74,12 +75,13 @@ pub(crate) fn live_alone<B: Bench + Drop>(
     ensures lived { IfSome result.made (IsLivedBy (content script) (B.state bench) (B.state result.bench)) }
     ensures sound { FlashStaysSound script.config (B.state bench) (B.state result.bench) }
 {
+    look_at_lives(&script.lives);
     let run = run_alone(alloc, unit, bench, &script.config, &script.lives);
     made_of(script, run)
 }
 
-/// Makes the lives of a script one after the other, up to the first that is refused, all calls of a life under one lock, and the lanes
-/// of a block at the same time. Each step is made between the two calls of the gate.
+/// Makes the lives of a script one after the other, up to the first that is refused, all calls of a life under two locks, of the status
+/// machine and of the queue, and the lanes of a block at the same time. Each step is made between the two calls of the gate.
 pub(crate) fn live_in_lanes<R: Threads + Wait + Sync, G: SharedGate, B: Bench + Drop>(
     rt: &R,
     gate: &G,
@@ -95,6 +97,7 @@ pub(crate) fn live_in_lanes<R: Threads + Wait + Sync, G: SharedGate, B: Bench + 
     ensures lived { IfSome result.made (IsLivedBy (content script) (B.state bench) (B.state result.bench)) }
     ensures sound { FlashStaysSound script.config (B.state bench) (B.state result.bench) }
 {
+    look_at_lives(&script.lives);
     let run = run_in_lanes(rt, gate, alloc, unit, bench, &script.config, &script.lives);
     made_of(script, run)
 }
