@@ -1,5 +1,6 @@
 -- What a call of the locked status machine tells.
 use Rattle.std.specs.Prelude.{ℕ, List, reverse}
+use Rattle.arrayvec.specs.ArrayVec.{ArrayVec}
 use Rattle.flt_model.specs.Life.{Life, History}
 use Rattle.flt_model.specs.Answer.{answer}
 use Rattle.flt_model.specs.Mark.{marks_of}
@@ -10,6 +11,8 @@ use Rattle.flt_model.specs.declared.call.Reply.{Reply}
 use Rattle.flt_model.specs.declared.call.Reply.TheVariants as replies
 use Rattle.flt_model.specs.declared.life.DemStart.{DemStart}
 use Rattle.flt_dcm.specs.Unit.{IsAdmitted}
+use Rattle.flt_dcm.specs.ReplyKind.{reply_with}
+use Rattle.flt_dcm.specs.declared.reply_kind.ReplyKind.{ReplyKind}
 use Rattle.flt_dcm.specs.Standard.{StandardBits, IsFromStart}
 use Rattle.flt_turn.specs.declared.answer.Answer.{Answer}
 use Rattle.flt_turn.specs.declared.vault.Entry.{Entry}
@@ -31,6 +34,18 @@ MayBeAsked start op = IsAdmitted start.config op
 -- The machine's reply after these calls, the oldest first.
 abbrev pub reply_after : DemStart → List Op → Op → Reply
 reply_after start calls op = answer start (reverse calls) op
+
+-- The bytes of a response.
+abbrev pub ResponseBytes : Type 0
+ResponseBytes = ArrayVec ℕ
+
+-- The whole reply of a kind, with these bytes where it is a response.
+abbrev pub with_response : ReplyKind → ResponseBytes → Reply
+with_response kind response = reply_with kind response.items
+
+-- The whole answer of a call, likewise.
+abbrev pub whole : Answer ReplyKind → ResponseBytes → Answer Reply
+whole told response = turn.whole with_response told response
 
 -- A call stands at the place that it was told, and its reply is the machine's after the calls before that place.
 abbrev pub IsCall : Seat → Seat → Op → Answer Reply → Type 0

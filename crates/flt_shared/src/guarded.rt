@@ -1,15 +1,17 @@
 //! What lies under the lock.
-ghost use Rattle.std.specs.Prelude.{reverse};
+ghost use Rattle.std.specs.Prelude.{◌≡◌, reverse};
 ghost use Rattle.flt_did.specs.Serves.{Serves};
 ghost use Rattle.flt_did.specs.Table.{dids_of};
 ghost use Rattle.flt_dcm.specs.Unit.{Stands, written};
-ghost use Rattle.flt_shared.specs.Call.{MayBeAsked, reply_after};
+ghost use Rattle.flt_shared.specs.Call.{MayBeAsked, reply_after, with_response};
 ghost use Rattle.flt_shared.specs.Start.{some_start, start_of};
 
+use arrayvec::ArrayVec;
 use flt_config::Persist;
-use flt_dcm::{DemStart, Op, Reply, UnitState};
+use flt_dcm::{DemStart, Op, Reply, ReplyKind, UnitState};
 use flt_did::{DID_ROWS, DidTable};
-use flt_turn::{Machine, Step, StepAlone};
+use flt_model::RESPONSE;
+use flt_turn::{Machine, Step, StepInto};
 
 /// The status machine without the functions of its table, which are lent to each of its steps. It is boxed, since it goes out of the
 /// lock's slot and back with each call.
@@ -50,8 +52,35 @@ impl Step for Guarded {
     }
 }
 
-impl StepAlone for Guarded {
-    fn step_alone(&mut self, dids: &DidTable<DID_ROWS>, op: &Op) -> Reply {
-        self.state.apply_alone(dids, op)
+impl StepInto for Guarded {
+    type Kind = ReplyKind;
+
+    type Payload = ArrayVec<u8, RESPONSE>;
+
+    ghost reply_with = { with_response };
+
+    fn step_into(
+        &mut self,
+        dids: &DidTable<DID_ROWS>,
+        op: &Op,
+        response: &mut ArrayVec<u8, RESPONSE>,
+    ) -> ReplyKind {
+        part(self.state.apply_alone(dids, op), response)
+    }
+}
+
+/// The kind of a reply. The bytes of a response are written in place of what `response` holds.
+fn part(reply: Reply, response: &mut ArrayVec<u8, RESPONSE>) -> ReplyKind
+    ensures { with_response result response.new ≡ reply }
+{
+    match reply {
+        Reply::Taken => ReplyKind::Taken,
+        Reply::Ignored(cause) => ReplyKind::Ignored(cause),
+        Reply::Shown(shown) => ReplyKind::Shown(shown),
+        Reply::Response(bytes) => {
+            *response = bytes;
+            ReplyKind::Response
+        }
+        Reply::Silent => ReplyKind::Silent,
     }
 }

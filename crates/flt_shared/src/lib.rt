@@ -8,6 +8,6 @@
 mod guarded;
 mod lock;
 
-pub use flt_dcm::{Cause, DemStart, Op, Reply, Shown};
+pub use flt_dcm::{Cause, DemStart, Op, Reply, ReplyKind, Shown};
 pub use guarded::Guarded;
 pub use lock::{DemAnswer, DemEnd, DemLock, DemSeat};

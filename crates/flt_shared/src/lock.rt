@@ -11,15 +11,15 @@ ghost use Rattle.flt_dcm.specs.Unit.{IsAdmitted, Stands, written};
 ghost use Rattle.flt_turn.specs.Journal.{Interleaves, ops_of};
 ghost use Rattle.flt_turn.specs.Seats.{main_seat, split_off, split_seat, joined_seat};
 ghost use Rattle.flt_turn.specs.Call.{IsRefusal, past};
-ghost use Rattle.flt_shared.specs.Call.{IsCall, ShowsStandard};
+ghost use Rattle.flt_shared.specs.Call.{IsCall, ShowsStandard, whole};
 ghost use Rattle.flt_shared.specs.Start.{start_of};
 
 use crate::guarded::Guarded;
 use arrayvec::ArrayVec;
 use flt_config::{Config, Persist};
-use flt_dcm::{Op, Reply, Unit};
+use flt_dcm::{Op, Reply, ReplyKind, Unit};
 use flt_did::{DID_ROWS, DidTable};
-use flt_model::{REQUEST, Report};
+use flt_model::{REQUEST, RESPONSE, Report};
 use flt_turn::{Answer, Entry, HistoryFull, MachineBack, Seat, Turn, Vault};
 use std::alloc::Global;
 use std::snapshot::Snapshot;
@@ -96,7 +96,26 @@ impl DemLock {
         }
     }
 
-    /// Makes a call when its turn comes. It has no buffer, so that a snapshot would write nothing.
+    /// Makes a call when its turn comes. The answer has the kind of the reply, and the bytes of a response are written in place of what
+    /// `response` holds, so that no reply of 512 bytes is moved. A snapshot writes nothing here.
+    pub fn call_into<R: Wait>(
+        &self,
+        rt: &R,
+        seat: &mut DemSeat,
+        op: Op,
+        response: &mut ArrayVec<u8, RESPONSE>,
+    ) -> Result<Answer<ReplyKind>, HistoryFull<Op>>
+        requires lock { IsSeatOf self.now seat.old }
+        requires admitted { IsAdmitted seat.old.start.config op }
+        ensures full { IsErr result ↔ (seat.old.left ≡ 0) }
+        ensures refused { IfErr result (IsRefusal seat.old seat.new op) }
+        ensures kept { OnErr result (response.new ≡ response.old) }
+        ensures call { IfOk result (λ told. IsCall seat.old seat.new op (whole told response.new)) }
+    {
+        self.turn.call_into(rt, seat, &self.dids, op, response)
+    }
+
+    /// Makes a call as `call_into` does, with the bytes of a response in the answer.
     fn call<R: Wait>(&self, rt: &R, seat: &mut DemSeat, op: Op) -> DemAnswer
         requires lock { IsSeatOf self.now seat.old }
         requires admitted { IsAdmitted seat.old.start.config op }
@@ -104,7 +123,12 @@ impl DemLock {
         ensures refused { IfErr result (IsRefusal seat.old seat.new op) }
         ensures call { IfOk result (IsCall seat.old seat.new op) }
     {
-        self.turn.call_alone(rt, seat, &self.dids, op)
+        let mut response = ArrayVec::new();
+        let Answer { place, reply } = self.call_into(rt, seat, op, &mut response)?;
+        Ok(Answer {
+            place,
+            reply: reply.with(response),
+        })
     }
 
     /// Sets a signal, of the number 0 to 7.

@@ -10,6 +10,10 @@ use Rattle.flt_turn.specs.Seats.{Seated, Extends, ops_before}
 abbrev pub past : {O : Type 0} → ℕ → List (Entry O) → List O
 past place journal = reverse (ops_before place journal)
 
+-- the whole answer, whose reply is made of its kind and of the rest, which stands beside it
+abbrev pub whole : {K P R : Type 0} → (K → P → R) → Answer K → P → Answer R
+whole reply_with told payload = record { place = told.place; reply = reply_with told.reply payload }
+
 -- a call stands at the place that it was told, and its reply is the machine's after the operations before that place
 pub record IsCall {S O R : Type 0} (admits : S → O → Type 0) (answer : S → List O → O → R) (before after : Seated S O) (op : O) (told : Answer R) : Type 0 where
   pub place : Extends before after op told.place

@@ -17,7 +17,7 @@ mod vault;
 mod view;
 
 pub use answer::{Answer, HistoryFull, MachineBack};
-pub use machine::{Machine, Step, StepAlone};
+pub use machine::{Machine, Step, StepInto};
 pub use seat::Seat;
 pub use turn::Turn;
 pub use vault::{Entry, Vault};

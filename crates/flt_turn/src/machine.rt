@@ -51,13 +51,28 @@ pub trait Step: Machine {
         ensures written { (ops : List Self.Op) → Self.stands_for self.old (Self.start self.old) ops → out.new ≡ Self.written (Self.start self.old) ops op.now out.old };
 }
 
-/// A machine that makes its steps without a buffer too, for callers that want nothing written.
-pub trait StepAlone: Step {
-    /// Takes one operation as [`Step::step`] does, and writes nothing.
-    fn step_alone(&mut self, context: &Self::Context, op: &Self::Op) -> Self::Reply
+/// A machine that makes its steps without its buffer too, for callers that want nothing written. What such a step returns is small,
+/// so that it is moved at little cost: the kind of the reply. The rest of the reply is written where the caller wants it.
+pub trait StepInto: Step {
+    /// The small part of a reply.
+    type Kind: Drop;
+
+    /// Where the rest of it is written.
+    type Payload;
+
+    // The reply that the two make.
+    ghost reply_with: { Self.Kind → Self.Payload → Self.Reply };
+
+    /// Takes one operation as [`Step::step`] does, but writes of its reply alone.
+    fn step_into(
+        &mut self,
+        context: &Self::Context,
+        op: &Self::Op,
+        payload: &mut Self::Payload,
+    ) -> Self::Kind
         requires serves { Self.serves context.now (Self.start self.old) }
         requires admitted { Self.admits (Self.start self.old) op.now }
         ensures start { Self.start self.new ≡ Self.start self.old }
         ensures stands { (ops : List Self.Op) → Self.stands_for self.old (Self.start self.old) ops → Self.stands_for self.new (Self.start self.old) (ops ++ op.now ∷ []) }
-        ensures answer { (ops : List Self.Op) → Self.stands_for self.old (Self.start self.old) ops → result ≡ Self.answer (Self.start self.old) ops op.now };
+        ensures answer { (ops : List Self.Op) → Self.stands_for self.old (Self.start self.old) ops → reply_with result payload.new ≡ Self.answer (Self.start self.old) ops op.now };
 }

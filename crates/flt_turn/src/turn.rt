@@ -3,14 +3,14 @@ ghost use Rattle.std.specs.Prelude.{◌≡◌, ◌≢◌, [], ◌∷◌, ◌++�
 ghost use mathlib.Core.List.{IsPrefix};
 ghost use mathlib.Core.Logic.{◌↔◌};
 ghost use Rattle.flt_turn.specs.declared.view.Stage.TheVariants.{Idle};
-ghost use Rattle.flt_turn.specs.Call.{IsCall, IsRefusal};
+ghost use Rattle.flt_turn.specs.Call.{IsCall, IsRefusal, whole};
 ghost use Rattle.flt_turn.specs.Journal.{entry, ops_of, Interleaves};
 ghost use Rattle.flt_turn.specs.Plays.{IsFound, IsTurn};
 ghost use Rattle.flt_turn.specs.Seats.{IsSeatOf, main_seat, Extends, ops_before, split_off, split_seat, joined_seat};
 ghost use Rattle.flt_turn.specs.Views.{drawn, turned, done, parent, child};
 
 use crate::answer::{Answer, HistoryFull, MachineBack};
-use crate::machine::{Machine, Step, StepAlone};
+use crate::machine::{Machine, Step, StepInto};
 use crate::rule::{Count, Cut, Draw, Look, Merge, Order, Serve, Share, Terms};
 use crate::seat::Seat;
 use crate::vault::Vault;
@@ -134,29 +134,32 @@ impl<M: Machine> Turn<M> {
         Ok(Answer { place, reply })
     }
 
-    /// Makes a call as `call` does, without a buffer: what the operation would write is not written.
-    pub fn call_alone<R: Wait>(
+    /// Makes a call as `call` does, without the machine's buffer: what the operation would write is not written. The answer is small:
+    /// it has the kind of the reply alone, and the rest of the reply is in `payload`.
+    pub fn call_into<R: Wait>(
         &self,
         rt: &R,
         seat: &mut Seat<M>,
         context: &M::Context,
         op: M::Op,
-    ) -> Result<Answer<M::Reply>, HistoryFull<M::Op>>
+        payload: &mut M::Payload,
+    ) -> Result<Answer<M::Kind>, HistoryFull<M::Op>>
     where
-        M: StepAlone,
+        M: StepInto,
         requires lock { IsSeatOf self.now seat.old }
-        requires serves { M.StepAlone.serves context.now seat.old.start }
+        requires serves { M.StepInto.serves context.now seat.old.start }
         requires admitted { M.admits seat.old.start op }
 
         ensures full { IsErr result ↔ (seat.old.left ≡ 0) }
         ensures refused { IfErr result (IsRefusal seat.old seat.new op) }
-        ensures call { IfOk result (IsCall M.admits M.answer seat.old seat.new op) }
+        ensures kept { OnErr result (payload.new ≡ payload.old) }
+        ensures call { IfOk result (λ told. IsCall M.admits M.answer seat.old seat.new op (whole M.StepInto.reply_with told payload.new)) }
     {
         if seat.left() == 0 {
             return Err(HistoryFull { op });
         }
         let (place, mut vault) = self.take_turn(rt, &mut seat.token);
-        let reply = vault.apply_alone(context, seat.number, op);
+        let reply = vault.apply_into(context, seat.number, op, payload);
         self.end_turn(&mut seat.token, vault);
         self.wake_after(place);
         seat.left -= 1;

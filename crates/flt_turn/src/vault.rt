@@ -3,7 +3,7 @@ ghost use Rattle.std.specs.Prelude.{◌≡◌, ◌++◌, ◌∷◌, [], ◌<◌,
 ghost use Rattle.std.specs.Vec.{vec_capacity};
 ghost use Rattle.flt_turn.specs.Journal.{entry, ops_of};
 
-use crate::machine::{Machine, Step, StepAlone};
+use crate::machine::{Machine, Step, StepInto};
 
 /// An operation, and the number of the seat that asked for it.
 #[derive(Drop)]
@@ -45,20 +45,27 @@ impl<M: Machine> Vault<M> {
         self.journal.push_reserved(Entry { lane, op });
         reply
     }
-    // The same without a buffer: nothing is written.
-    pub(crate) fn apply_alone(&mut self, context: &M::Context, lane: u32, op: M::Op) -> M::Reply
+
+    // The same without the machine's buffer: the rest of the reply is written, and nothing else.
+    pub(crate) fn apply_into(
+        &mut self,
+        context: &M::Context,
+        lane: u32,
+        op: M::Op,
+        payload: &mut M::Payload,
+    ) -> M::Kind
     where
-        M: StepAlone,
-        requires serves { M.StepAlone.serves context.now (M.start self.old.machine) }
+        M: StepInto,
+        requires serves { M.StepInto.serves context.now (M.start self.old.machine) }
         requires admitted { M.admits (M.start self.old.machine) op }
         requires room { length self.old.journal.items < vec_capacity self.old.journal }
         ensures journal { self.new.journal.items ≡ self.old.journal.items ++ entry lane op ∷ [] }
         ensures room { vec_capacity self.new.journal ≡ vec_capacity self.old.journal }
         ensures start { M.start self.new.machine ≡ M.start self.old.machine }
-        ensures answer { result ≡ M.answer (M.start self.old.machine) (ops_of self.old.journal.items) op }
+        ensures answer { M.StepInto.reply_with result payload.new ≡ M.answer (M.start self.old.machine) (ops_of self.old.journal.items) op }
     {
-        let reply = self.machine.step_alone(context, &op);
+        let kind = self.machine.step_into(context, &op, payload);
         self.journal.push_reserved(Entry { lane, op });
-        reply
+        kind
     }
 }

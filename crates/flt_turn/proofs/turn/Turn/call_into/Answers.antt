@@ -2,15 +2,15 @@ use Rattle.std.proofs.Common.{sym, ap, ◌∙◌, subst, arith, length, ◌++◌
 use Rattle.flt_turn.specs.Journal.{entry}
 use Rattle.flt_turn.specs.Seats.{Seated}
 use Rattle.flt_turn.proofs.Calls.{has_turn, called}
-use Rattle.flt_turn.proofs.turn.Turn.call_alone.Goals as goal
+use Rattle.flt_turn.proofs.turn.Turn.call_into.Goals as goal
 
 pub end_turn-requires-clause-turn : goal.end_turn-requires-clause-turn
 end_turn-requires-clause-turn g c =
     let took = c.take_turn-place in
-    let applied = c.apply_alone-reply.ensures in
+    let applied = c.apply_into-reply.ensures in
     let longer = applied.journal ∙ ap (λ n. took.result.1.journal.items ++ entry n c.args.op ∷ []) (sym c.seat.invariant.number_is) in
     let allowed = subst (λ (x : Seated g.row.M-Start.Denot g.row.M-Op.Denot). g.M.Machine.admits x.start c.args.op) (sym c.seat.view_is) c.requires.admitted in
-    has_turn took.result.0 c.seat.inside.token.me.0 took.new.token.me.0 took.result.1 c.apply_alone-reply.new.self c.args.op (ap (λ me. me.0) took.ensures.turn) took.ensures.found longer applied.start applied.room allowed
+    has_turn took.result.0 c.seat.inside.token.me.0 took.new.token.me.0 took.result.1 c.apply_into-reply.new.self c.args.op (ap (λ me. me.0) took.ensures.turn) took.ensures.found longer applied.start applied.room allowed
 
 pub invariant_of-seat : goal.invariant_of-seat
 invariant_of-seat g c =
@@ -18,8 +18,8 @@ invariant_of-seat g c =
     let nonzero = c.if-left-eq0.false in
     let shown = ap (λ (s : Seated g.row.M-Start.Denot g.row.M-Op.Denot). s.left) c.seat.view_is in
     let left = c.seat.invariant.left_is in
-    let told = called _ _ _ c.seat.inside.token.me.0 took.new.token.me.0 c.end_turn.new.token.me took.result.1 c.apply_alone-reply.new.self c.args.op took.result.0 _ c.seat.view_is c.seat.invariant.number_is (omega arith)
-    (ap (λ me. me.0) took.ensures.turn) took.ensures.found c.apply_alone-reply.ensures.journal c.requires.admitted (c.end_turn.ensures.done c.args.op) (c.end_turn.ensures.lock.0 ∙ took.ensures.lock.0) in
+    let told = called _ _ _ c.seat.inside.token.me.0 took.new.token.me.0 c.end_turn.new.token.me took.result.1 c.apply_into-reply.new.self c.args.op took.result.0 _ c.seat.view_is c.seat.invariant.number_is (omega arith)
+    (ap (λ me. me.0) took.ensures.turn) took.ensures.found c.apply_into-reply.ensures.journal c.requires.admitted (c.end_turn.ensures.done c.args.op) (c.end_turn.ensures.lock.0 ∙ took.ensures.lock.0) in
     let known = c.seat.invariant in record {
       idle = ap (λ x. x.stage) told.view;
       empty = told.empty;
@@ -35,10 +35,10 @@ returns-clause-call g c =
     let nonzero = c.if-left-eq0.false in
     let shown = ap (λ (s : Seated g.row.M-Start.Denot g.row.M-Op.Denot). s.left) c.seat.view_is in
     let left = c.seat.invariant.left_is in
-    let told = called _ _ _ c.seat.inside.token.me.0 took.new.token.me.0 c.end_turn.new.token.me took.result.1 c.apply_alone-reply.new.self c.args.op took.result.0 _ c.seat.view_is c.seat.invariant.number_is (omega arith)
-    (ap (λ me. me.0) took.ensures.turn) took.ensures.found c.apply_alone-reply.ensures.journal c.requires.admitted (c.end_turn.ensures.done c.args.op) (c.end_turn.ensures.lock.0 ∙ took.ensures.lock.0) in
+    let told = called _ _ _ c.seat.inside.token.me.0 took.new.token.me.0 c.end_turn.new.token.me took.result.1 c.apply_into-reply.new.self c.args.op took.result.0 _ c.seat.view_is c.seat.invariant.number_is (omega arith)
+    (ap (λ me. me.0) took.ensures.turn) took.ensures.found c.apply_into-reply.ensures.journal c.requires.admitted (c.end_turn.ensures.done c.args.op) (c.end_turn.ensures.lock.0 ∙ took.ensures.lock.0) in
     record {
       place = told.extends;
-      reply = c.apply_alone-reply.ensures.answer ∙ (λ i. g.M.Machine.answer (told.start_is i) (told.before i) c.args.op);
+      reply = c.apply_into-reply.ensures.answer ∙ (λ i. g.M.Machine.answer (told.start_is i) (told.before i) c.args.op);
       admitted = told.admitted;
     }
