@@ -278,8 +278,8 @@ impl UnitState {
         self.dem.show(event)
     }
 
-    /// Carries out a call, and answers it, but writes no durable state.
-    fn take_alone(
+    /// Carries out a call, and answers it, as `apply_into` does, for callers that want no durable state: a snapshot writes none.
+    pub fn apply_alone_into(
         &mut self,
         dids: &DidTable<DID_ROWS>,
         op: &Op,
@@ -346,7 +346,7 @@ impl UnitState {
             Op::Snapshot => self.dem.persist(out),
             _ => {}
         }
-        self.take_alone(dids, op, response)
+        self.apply_alone_into(dids, op, response)
     }
 
     /// Carries out a call, and answers it: the one way in which a unit that runs is changed or asked. The bytes of a response are
@@ -392,22 +392,6 @@ impl UnitState {
     {
         let mut response = ArrayVec::new();
         let kind = self.apply_into(dids, op, out, &mut response);
-        kind.with(response)
-    }
-    /// Carries out a call, and answers it, as `apply` does, for callers that want no durable state: a snapshot writes none.
-    pub fn apply_alone(&mut self, dids: &DidTable<DID_ROWS>, op: &Op) -> Reply
-        requires served { Serves (dids_of dids.now) self.old.dem.faults.config.events.items }
-        requires admitted { IsAdmitted self.old.dem.faults.config op.now }
-        ensures config { self.new.dem.faults.config ≡ self.old.dem.faults.config }
-        ensures base { self.new.base ≡ self.old.base }
-        ensures stands { (life : Life) (past : History) → Stands life past self.old → Stands life (op.now ∷ past) self.new }
-        ensures answer { (life : Life) (past : History) → Stands life past self.old → result ≡ answer life past op.now }
-        ensures reading { IsReading op.now → self.new ≡ self.old }
-        ensures negative { (tester : ℕ) (bytes : RequestBytes) → op.now ≡ ops.Request tester bytes → IsNegative result
-            → self.new ≡ record self.old { sessions = slice_set self.old.sessions tester (heard (session_at self.old.sessions tester)) } }
-    {
-        let mut response = ArrayVec::new();
-        let kind = self.take_alone(dids, op, &mut response);
         kind.with(response)
     }
 }

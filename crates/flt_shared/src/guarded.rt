@@ -1,5 +1,5 @@
 //! What lies under the lock.
-ghost use Rattle.std.specs.Prelude.{◌≡◌, reverse};
+ghost use Rattle.std.specs.Prelude.{reverse};
 ghost use Rattle.flt_did.specs.Serves.{Serves};
 ghost use Rattle.flt_did.specs.Table.{dids_of};
 ghost use Rattle.flt_dcm.specs.Unit.{Stands, written};
@@ -65,22 +65,6 @@ impl StepInto for Guarded {
         op: &Op,
         response: &mut ArrayVec<u8, RESPONSE>,
     ) -> ReplyKind {
-        part(self.state.apply_alone(dids, op), response)
-    }
-}
-
-/// The kind of a reply. The bytes of a response are written in place of what `response` holds.
-fn part(reply: Reply, response: &mut ArrayVec<u8, RESPONSE>) -> ReplyKind
-    ensures { with_response result response.new ≡ reply }
-{
-    match reply {
-        Reply::Taken => ReplyKind::Taken,
-        Reply::Ignored(cause) => ReplyKind::Ignored(cause),
-        Reply::Shown(shown) => ReplyKind::Shown(shown),
-        Reply::Response(bytes) => {
-            *response = bytes;
-            ReplyKind::Response
-        }
-        Reply::Silent => ReplyKind::Silent,
+        self.state.apply_alone_into(dids, op, response)
     }
 }

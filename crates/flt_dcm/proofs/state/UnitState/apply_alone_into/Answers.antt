@@ -4,7 +4,7 @@ use Rattle.flt_model.specs.declared.call.Op.TheVariants as ops
 use Rattle.flt_dem.proofs.IdleLemmas.{stands_idle}
 use Rattle.flt_dcm.specs.Unit.{UnitView, Stands}
 use Rattle.flt_dcm.proofs.SessionLemmas.{sessions_kept}
-use Rattle.flt_dcm.proofs.state.UnitState.take_alone.Goals as goal
+use Rattle.flt_dcm.proofs.state.UnitState.apply_alone_into.Goals as goal
 
 stands_snapshot : (life : Life) (past : History) (unit : UnitView) → Stands life past unit → Stands life (ops.Snapshot ∷ past) unit
 stands_snapshot life past unit s = record {
