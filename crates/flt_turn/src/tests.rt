@@ -3,7 +3,7 @@ ghost use Rattle.std.specs.Prelude.{◌≡◌, ◌+◌, ◌*◌, ◌%◌, ◌^�
 ghost use Rattle.std.specs.Thread.{IsSync};
 ghost use Rattle.flt_turn.specs.Seats.{IsSeatOf};
 
-use crate::{Machine, Seat, Step, Turn};
+use crate::{Machine, Seat, Step, StepInto, Turn};
 use std::sync::Wait;
 use std::test::*;
 use std::thread::{Threads, join};
@@ -48,6 +48,22 @@ impl Step for Adder {
     }
 }
 
+// The last three digits of the sum are the small part of its answer.
+impl StepInto for Adder {
+    type Kind = u64;
+
+    type Payload = u64;
+
+    ghost reply_with = { λ digits rest. rest + digits };
+
+    fn step_into(&mut self, _context: &(), op: &u32, rest: &mut u64) -> u64 {
+        self.sum = self.sum.wrapping_add(u64::from(*op));
+        let digits = self.sum % 1000;
+        *rest = self.sum - digits;
+        digits
+    }
+}
+
 // Calls on a split seat, and then on the main seat.
 #[test]
 fn places_and_answers(rt: HostRuntime) -> Result<(), Fail> {
@@ -82,6 +98,32 @@ fn places_and_answers(rt: HostRuntime) -> Result<(), Fail> {
     assert_eq!(rt; (vault.journal[1].lane, vault.journal[1].op), (1, 6));
     assert_eq!(rt; (vault.journal[2].lane, vault.journal[2].op), (0, 7));
     assert_eq!(rt; vault.machine.sum, 18);
+    Ok(())
+}
+
+// Calls whose answer is in two parts, and one that is refused.
+#[test]
+fn answers_in_two_parts(rt: HostRuntime) -> Result<(), Fail> {
+    let adder = Adder { first: 0, sum: 0 };
+    let Ok((turn, mut main)) = Turn::make(rt.alloc(), adder, 2) else {
+        return Err(Fail::from("memory"));
+    };
+    let mut rest = 7;
+    let Ok(first) = turn.call_into(&rt, &mut main, &(), 1_234, &mut rest) else {
+        unreachable!()
+    };
+    assert_eq!(rt; (first.place, first.reply, rest), (0, 234, 1_000));
+    let Ok(second) = turn.call_into(&rt, &mut main, &(), 9_999, &mut rest) else {
+        unreachable!()
+    };
+    assert_eq!(rt; (second.place, second.reply, rest), (1, 233, 11_000));
+    let Err(full) = turn.call_into(&rt, &mut main, &(), 8, &mut rest) else {
+        unreachable!()
+    };
+    assert_eq!(rt; (full.op, rest), (8, 11_000));
+    let vault = turn.close(main);
+    assert_eq!(rt; vault.journal.len(), 2);
+    assert_eq!(rt; vault.machine.sum, 11_233);
     Ok(())
 }
 
