@@ -29,6 +29,3 @@ pub const DIDS: usize = 8;
 
 /// The most bytes of one frame.
 pub const FRAME: usize = 32;
-
-#[cfg(test)]
-mod tests;

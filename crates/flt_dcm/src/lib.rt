@@ -19,6 +19,3 @@ pub use flt_model::{Cause, DemStart, Op, Reply, Shown};
 pub use reply_kind::ReplyKind;
 pub use state::{TESTERS, UnitState};
 pub use unit::Unit;
-
-#[cfg(test)]
-mod tests;

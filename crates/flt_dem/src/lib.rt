@@ -19,8 +19,3 @@ pub use dem::Dem;
 pub use flt_model::{Cause, Shown};
 pub use notes::Which;
 pub use state::DemState;
-
-#[cfg(test)]
-mod comparison;
-#[cfg(test)]
-mod tests;

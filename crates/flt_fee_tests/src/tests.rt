@@ -6,6 +6,7 @@ ghost use Rattle.flt_fee_tests.specs.Few.{HasFive};
 
 mod costs;
 mod cuts;
+mod pages;
 mod rows;
 
 use flt_code::{Word, get_word, put_word, seal, unseal};

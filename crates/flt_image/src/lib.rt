@@ -27,6 +27,3 @@ pub use mark::{get_mark, mark_of, put_mark};
 pub use numbers::fee_numbers;
 pub use pushing::BlockBytes;
 pub use table::block_table;
-
-#[cfg(test)]
-mod tests;

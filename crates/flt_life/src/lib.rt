@@ -21,6 +21,3 @@ pub use flt_turn::{Answer, Entry};
 pub use life::{Boot, Life};
 pub use replies::LaneReplies;
 pub use room::{LaneRoom, LifeRoom, life_of};
-
-#[cfg(test)]
-mod tests;

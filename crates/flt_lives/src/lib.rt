@@ -24,6 +24,3 @@ pub use engine::{Engine, Lived};
 pub use lives::run_lives;
 pub use living::run_life;
 pub use plain::Plain;
-
-#[cfg(test)]
-mod tests;

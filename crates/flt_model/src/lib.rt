@@ -23,6 +23,3 @@ pub const REQUEST: usize = 16;
 
 /// The most bytes of a response.
 pub const RESPONSE: usize = 512;
-
-#[cfg(test)]
-mod tests;

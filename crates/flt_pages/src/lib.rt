@@ -21,6 +21,3 @@ pub use gate_pages::gates;
 pub use items::{blank_from, item};
 pub use law::appending;
 pub use numbers::Numbers;
-
-#[cfg(test)]
-mod tests;

@@ -8,8 +8,6 @@ mod job;
 pub mod laws;
 mod lock;
 mod queue;
-#[cfg(test)]
-mod tests;
 
 pub use job::{BLOCKS, BYTES, Job, LastResult, QueueOp, QueueReply, WAITING};
 pub use lock::{QueueAnswer, QueueLock, QueueSeat};

@@ -39,6 +39,3 @@ pub use numeral::read_number;
 pub use parsing::parse;
 pub use script::Script;
 pub use step::{BLOCK_BYTES, Part, Step};
-
-#[cfg(test)]
-mod tests;

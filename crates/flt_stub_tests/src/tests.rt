@@ -1,3 +1,4 @@
 // The layers above a driver, over the driver in memory.
+mod bytes;
 mod kinds;
 mod restored;

@@ -10,8 +10,6 @@ mod answer;
 mod machine;
 mod rule;
 mod seat;
-#[cfg(test)]
-mod tests;
 mod turn;
 mod vault;
 mod view;

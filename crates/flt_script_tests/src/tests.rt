@@ -1,5 +1,5 @@
-use super::*;
 use flt_did::{DID_ROWS, DidTable, did_0101, did_0103, did_0107};
+use flt_script::*;
 use std::alloc::{AllocError, Global};
 use std::test::Fail;
 

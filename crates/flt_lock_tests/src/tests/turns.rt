@@ -3,7 +3,7 @@ ghost use Rattle.std.specs.Prelude.{◌≡◌, ◌+◌, ◌*◌, ◌%◌, ◌^�
 ghost use Rattle.std.specs.Thread.{IsSync};
 ghost use Rattle.flt_turn.specs.Seats.{IsSeatOf};
 
-use crate::{Machine, Seat, Step, StepInto, Turn};
+use flt_turn::{Machine, Seat, Step, StepInto, Turn};
 use std::sync::Wait;
 use std::test::*;
 use std::thread::{Threads, join};

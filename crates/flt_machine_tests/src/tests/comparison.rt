@@ -3,9 +3,9 @@
 ghost use Rattle.std.specs.Prelude.{◌<◌, ◌↔◌, IsTrue, length};
 ghost use Rattle.flt_dem.specs.Dem.{config_of};
 
-use super::*;
 use arrayvec::ArrayVec;
 use flt_config::{Config, EventCfg, check};
+use flt_dem::*;
 use flt_did::DidTable;
 use flt_model::Report;
 

@@ -1,5 +1,5 @@
-use super::*;
 use flt_dcm::{Reply, ReplyKind};
+use flt_life::*;
 use flt_script::{Part, Step};
 use std::test::Fail;
 

@@ -1,8 +1,8 @@
 //! Configurations from the check to their first state.
 ghost use Rattle.std.specs.Prelude.{◌≡◌, ◌<◌};
 
-use crate::{CfgFault, Config, EVENTS, EventCfg, Field, check, fits, initial, needed_pages};
 use arrayvec::ArrayVec;
+use flt_config::{CfgFault, Config, EVENTS, EventCfg, Field, check, fits, initial, needed_pages};
 
 fn event(dtc: u32) -> EventCfg
     requires { dtc < 1000 }

@@ -1,14 +1,14 @@
 //! The bytes of each block written out by hand, what is read back of them, and what is refused.
-use crate::{
-    BlockBytes, Commit, StateBlocks, block_table, fee_numbers, get_block, get_commit, get_mark,
-    is_used, mark_of, next_commit, put_block, put_commit, put_mark, used_ids,
-};
 use arrayvec::ArrayVec;
 use flt_config::{
     Config, DIDS, DidUse, EntryState, EventCfg, EventState, Frame, Persist, ValidConfig, check,
     fits, initial,
 };
 use flt_generation::INDICES;
+use flt_image::{
+    BlockBytes, Commit, StateBlocks, block_table, fee_numbers, get_block, get_commit, get_mark,
+    is_used, mark_of, next_commit, put_block, put_commit, put_mark, used_ids,
+};
 use flt_nvm::{BlockCfg, Kind};
 
 const SUMMARY: [u8; 32] = [

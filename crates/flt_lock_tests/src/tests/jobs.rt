@@ -1,8 +1,8 @@
 // The queue by hand.
 ghost use Rattle.std.specs.Prelude.{◌≡◌, ◌<◌, length};
 
-use crate::{Job, JobQueue, LastResult, QueueOp, QueueReply};
 use arrayvec::ArrayVec;
+use flt_queue::{Job, JobQueue, LastResult, QueueOp, QueueReply};
 use std::test::*;
 
 fn job(block: u8, byte: u8) -> Job

@@ -2,8 +2,8 @@
 ghost use Rattle.std.specs.Prelude.{◌≡◌, IfOk};
 ghost use Rattle.flt_flash.specs.Memory.{state_of};
 
-use crate::{Item, Numbers};
 use flt_flash::{BLANK_PAGE, FlashMem};
+use flt_pages::{Item, Numbers};
 use std::alloc::{AllocError, Global};
 
 /// Sectors 0 and 1, of 8 pages each.

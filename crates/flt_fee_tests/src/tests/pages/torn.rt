@@ -5,10 +5,10 @@ ghost use Rattle.flt_flash.specs.State.{CanArm};
 
 use super::assert_blank;
 use super::worked::{Image, eight, image, piece, prepared, record, word};
-use crate::{
+use flt_flash::{Arm, BLANK_PAGE, Bench, Flash, FlashFailed, FlashMem, Pattern};
+use flt_pages::{
     Item, Numbers, activate, append_gate, append_head, append_piece, begin, blank_from, gates, item,
 };
-use flt_flash::{Arm, BLANK_PAGE, Bench, Flash, FlashFailed, FlashMem, Pattern};
 use std::alloc::Global;
 use std::process::Abort;
 use std::test::Fail;

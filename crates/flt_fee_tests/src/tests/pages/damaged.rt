@@ -1,7 +1,7 @@
 // What the definitions tell of images that were damaged, one page at a time.
 use super::worked::{Image, eight, image, piece, prepared, record, word};
-use crate::{Item, PageFault, blank_from, gates, item};
 use flt_flash::BLANK_PAGE;
+use flt_pages::{Item, PageFault, blank_from, gates, item};
 use std::test::Fail;
 
 const SPOILED: [u8; 32] = [0; 32];

@@ -1,4 +1,4 @@
-use super::*;
+use flt_lives::*;
 use flt_script::{Part, Step};
 use std::test::Fail;
 

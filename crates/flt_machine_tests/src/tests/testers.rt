@@ -3,9 +3,9 @@
 ghost use Rattle.std.specs.Prelude.{◌<◌, ◌↔◌, IsTrue, length};
 ghost use Rattle.flt_dcm.specs.Whole.{config_of};
 
-use super::*;
 use arrayvec::ArrayVec;
 use flt_config::{Config, DIDS, Debounce, DidUse, EVENTS, EventCfg, Persist, check, initial};
+use flt_dcm::*;
 use flt_dem::Dem;
 use flt_did::{DID_ROWS, DidTable, did_0101, did_0103};
 use flt_model::{REQUEST, Report};

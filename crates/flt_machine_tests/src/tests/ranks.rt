@@ -1,5 +1,5 @@
 //! Which entry gives way.
-use crate::{DebState, Rank};
+use flt_model::{DebState, Rank};
 
 #[test]
 fn the_worse_rank_gives_way(rt: HostRuntime) {

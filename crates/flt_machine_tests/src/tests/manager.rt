@@ -1,9 +1,9 @@
 ghost use Rattle.std.specs.Prelude.{◌<◌, ◌↔◌, IsTrue, length};
 ghost use Rattle.flt_dem.specs.Dem.{config_of};
 
-use super::*;
 use arrayvec::ArrayVec;
 use flt_config::{Config, DIDS, Debounce, DidUse, EVENTS, EventCfg, check, initial};
+use flt_dem::*;
 use flt_did::{DID_ROWS, DidTable, did_0101, did_0103};
 use flt_model::{Report, Shown};
 

@@ -7,9 +7,9 @@ mod damaged;
 mod torn;
 mod worked;
 
-use super::*;
 use flt_code::{Word, get_word, is_spoiled, put_word, seal, unseal};
 use flt_flash::{Arm, BLANK_PAGE, Bench, Flash, FlashMem, Pattern};
+use flt_pages::*;
 use std::process::Abort;
 use std::test::Fail;
 use worked::{eight, record};

@@ -1,0 +1,3 @@
+// Answers, and room for calls.
+mod answers;
+mod room;

@@ -1,0 +1,3 @@
+// The ticket lock and the queue.
+mod jobs;
+mod turns;
