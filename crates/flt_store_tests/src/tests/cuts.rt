@@ -177,6 +177,7 @@ fn run_case(
 #[test]
 fn each_operation_is_cut_and_fails(rt: HostRuntime) -> Result<(), Fail> {
     let config = configured(1, 1, 1)?;
+    let mut stops = 0;
     for pattern in &[Pattern::Nothing, Pattern::All, Pattern::Tail, Pattern::Odd] {
         let pattern = *pattern;
         for after in 1..OPERATIONS + 2 {
@@ -185,7 +186,11 @@ fn each_operation_is_cut_and_fails(rt: HostRuntime) -> Result<(), Fail> {
             assert!(&rt; cut == (last, last), "{after} {pattern:?}");
             let fault = run_case(&rt, rt.alloc(), &config, Arm::Fault { after, pattern })?;
             assert!(&rt; fault == (true, last), "{after} {pattern:?}");
+            if !last {
+                stops += 1;
+            }
         }
     }
+    println!(rt; "{stops} cuts and as many faults")?;
     Ok(())
 }
