@@ -16,3 +16,4 @@ pub mod Beginning
 pub mod Faults
 pub mod Dark
 pub mod OutOfNumbers
+pub mod Completing

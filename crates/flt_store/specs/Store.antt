@@ -77,6 +77,11 @@ module _ {B : Type 0} {b : Ghosts B} where
   abbrev pub IsUndisturbed : Store B b → Store B b → Type 0
   IsUndisturbed before after = IsTrue (is_settled before) ⊎ (FailsThrice (driver_of before) (driver_of after) → ⊥)
 
+  -- a call in which the flash failed less than three times, and after which a sequence number is left
+  pub record IsUnhindered (before after : Store B b) : Type 0 where
+    pub tries : FailsThrice (driver_of before) (driver_of after) → ⊥
+    pub numbers : IsFalse (driver_of after).is_spent
+
   -- the store keeps the commit that the first copy had, and the bytes of the held generation, which it names
   pub record Learns (c : Config) (held : Generation) (before after : Store B b) : Type 0 where
     pub commit : (commit : Commit) → HasCommit c (driver_of before).value commit → commit_of after ≡ Some commit

@@ -1,5 +1,5 @@
 // Generations in the blocks of a driver.
-ghost use Rattle.std.specs.Prelude.{◌≡◌, ◌≢◌, ◌+◌, ◌*◌, ◌<◌, ℕ, length, Err, IsErr, IsErrOf, IfOk, OnOk, OnErr, IsTrue, IsFalse};
+ghost use Rattle.std.specs.Prelude.{◌≡◌, ◌≢◌, ◌+◌, ◌*◌, ◌<◌, ℕ, length, Err, IsErr, IsErrOf, IsOk, IfOk, OnOk, OnErr, IsTrue, IsFalse};
 ghost use Rattle.flt_flash.specs.Calls.{Follows, NoFault, NoErase, CostsAtMost};
 ghost use Rattle.flt_nvm.specs.Driver.{driver_of as driver_beneath, table_of};
 ghost use Rattle.flt_config.specs.declared.persist.Persist.{Persist};
@@ -51,7 +51,7 @@ fn number_in(commit: &Option<Commit>) -> u32
 }
 
 impl<B: Blocks + Drop> Store<B> {
-    ghost use Rattle.flt_store.specs.Store.{driver_of, commit_of, kept_of, is_settled, numbered, IsReady, IsRunning, IsLast, IsUndisturbed, Leaves, Saves, Chooses, WhileRunning};
+    ghost use Rattle.flt_store.specs.Store.{driver_of, commit_of, kept_of, is_settled, numbered, IsReady, IsRunning, IsLast, IsUndisturbed, IsUnhindered, Leaves, Saves, Chooses, WhileRunning};
 
     /// A store over the blocks of an image: the table is `block_table`'s, over a driver that was made with `fee_numbers`. It is
     /// not started.
@@ -142,7 +142,8 @@ impl<B: Blocks + Drop> Store<B> {
     /// a save after a failed one those that could not be read in three tries.
     ///
     /// After `Ok` the image names the new generation, by both copies. After an error it names the generation before or the new one.
-    /// `Spent` comes where the generation before has the number 2^32 - 1.
+    /// `Spent` comes where the generation before has the number 2^32 - 1. It is `Ok` where that has another number, the flash failed
+    /// less than three times and a sequence number is left.
     pub fn save(&mut self, config: &ValidConfig, state: &Persist) -> Result<u32, SaveFault>
         requires { Fits config.now state.now }
         ensures saved { WhileRunning config.now self.old (λ held spare. IfOk result (λ number. Saves config.now held spare state.now number self.old self.new)) }
@@ -152,6 +153,7 @@ impl<B: Blocks + Drop> Store<B> {
         ensures spent { WhileRunning config.now self.old (λ held spare. IsErrOf result SaveFault.Spent → IsLast config.now held spare self.old self.new) }
         ensures last { WhileRunning config.now self.old (λ held spare. IsTrue (is_settled self.old) → held.number ≡ last_number → result ≡ Err SaveFault.Spent) }
         ensures sequence { WhileRunning config.now self.old (λ held spare. IsErrOf result SaveFault.SequenceSpent → IsStuck (driver_of self.new)) }
+        ensures completed { WhileRunning config.now self.old (λ held spare. held.number ≢ last_number → IsUnhindered self.old self.new → IsOk result) }
         ensures applications { SameApplications (driver_of self.old).value (driver_of self.new).value }
         ensures settled { OnOk result (IsTrue (is_settled self.new)) }
         ensures unsettled { OnErr result (IsFalse (is_settled self.new)) }

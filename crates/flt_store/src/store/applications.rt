@@ -60,17 +60,18 @@ fn read_application<B: Blocks + Drop>(
 }
 
 impl<B: Blocks + Drop> Store<B> {
-    ghost use Rattle.std.specs.Prelude.{ℕ, IsErrOf, OnErr, IsTrue};
+    ghost use Rattle.std.specs.Prelude.{ℕ, IsErrOf, IsOk, OnErr, IsTrue};
     ghost use Rattle.flt_flash.specs.Calls.{Follows, OthersKept};
     ghost use Rattle.flt_nvm.specs.Leaves.{IsEither};
     ghost use Rattle.flt_config.specs.declared.config.Config.{Config};
     ghost use Rattle.flt_store.specs.Cause.{FailsThrice};
-    ghost use Rattle.flt_store.specs.Store.{driver_of, is_settled, Gets, IsRunning, WhileRunning};
+    ghost use Rattle.flt_store.specs.Store.{driver_of, is_settled, Gets, IsRunning, IsUnhindered, WhileRunning};
 
     /// Puts 1 to 32 bytes into application block `block`, which is below the configuration's number of blocks.
     ///
     /// After `Ok` the block holds them; after an error it holds what it held or them. No other block and no generation changes.
-    /// `Flash` comes only where three tries failed, `SequenceSpent` only where the record can't be written any more.
+    /// `Flash` comes only where three tries failed, `SequenceSpent` only where the record can't be written any more; where neither
+    /// holds it is `Ok`.
     pub fn put_block(&mut self, block: u8, bytes: &[u8]) -> Result<(), PutFault>
         requires block { block < applications }
         requires least { 1 ≤ length bytes.now }
@@ -81,6 +82,7 @@ impl<B: Blocks + Drop> Store<B> {
         ensures running { (c : Config) → block < c.blocks → WhileRunning c self.old (λ held spare. IsRunning c held spare self.new) }
         ensures flash { (c : Config) → block < c.blocks → WhileRunning c self.old (λ held spare. IsErrOf result PutFault.Flash → FailsThrice (driver_of self.old) (driver_of self.new)) }
         ensures sequence { IsErrOf result PutFault.SequenceSpent → IsTrue ((driver_of self.new).is_stuck (application_number block) (length bytes.now)) }
+        ensures completed { (c : Config) → block < c.blocks → WhileRunning c self.old (λ held spare. IsUnhindered self.old self.new → IsOk result) }
         ensures settled { is_settled self.new ≡ is_settled self.old }
         ensures fresh { OnOk result (IsFalse (driver_of self.new).is_stale) }
         ensures follows { Follows (driver_of self.old) (driver_of self.new) }
@@ -101,6 +103,7 @@ impl<B: Blocks + Drop> Store<B> {
         requires { block < applications }
         ensures got { (c : Config) → WhileRunning c self.old (λ held spare. IfOk result (λ found. Gets ((driver_of self.old).value (application_number block)) found out.new.items)) }
         ensures flash { (c : Config) → WhileRunning c self.old (λ held spare. OnErr result (FailsThrice (driver_of self.old) (driver_of self.new))) }
+        ensures completed { (c : Config) → WhileRunning c self.old (λ held spare. (FailsThrice (driver_of self.old) (driver_of self.new) → ⊥) → IsOk result) }
         ensures values { SameValues (driver_of self.old) (driver_of self.new) }
         ensures running { (c : Config) → WhileRunning c self.old (λ held spare. IsRunning c held spare self.new) }
         ensures settled { is_settled self.new ≡ is_settled self.old }

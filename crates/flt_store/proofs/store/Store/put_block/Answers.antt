@@ -1,10 +1,11 @@
-use Rattle.std.proofs.Common.{◌≡◌}
+use Rattle.std.proofs.Common.{◌≡◌, Err, ap}
 use Rattle.flt_nvm.specs.Driver.{driver_of as driver_beneath}
-use Rattle.flt_store.specs.declared.fault.PutFault.TheVariants.{Flash}
+use Rattle.flt_store.specs.declared.fault.PutFault.TheVariants.{Flash, SequenceSpent as Spent}
 use Rattle.flt_store.specs.Store.{driver_of, commit_of}
 use Rattle.flt_store.proofs.Causes.{resolved}
 use Rattle.flt_store.proofs.Running.{served_on}
 use Rattle.flt_store.proofs.Applying.{borne_on, mark_put, sound_put, started_put}
+use Rattle.flt_store.proofs.Completing.{put_met_none}
 use Rattle.flt_store.proofs.store.Store.put_block.Goals as goal
 
 pub returns-in-Ok-clause-running : goal.returns-in-Ok-clause-running
@@ -41,3 +42,11 @@ returns-in-Err-clause-flash g c = λ config below h s running told.
     let is : c.put_fault.result ≡ Flash = cc told in
     resolved config running.served.given before after c.in-Err.fault c.in-Err.ensures.writes c.args.self.now.numbers running.served.room running.served.mounted
     (borne_on config c.args.block below c.requires.block before.value after.value c.args.bytes.now c.requires.most gives.either gives.others running.sound.holds.excess) (c.put_fault.ensures.flash is)
+
+pub returns-in-Err-clause-completed : goal.returns-in-Err-clause-completed
+returns-in-Err-clause-completed g c = λ config below h s running unhindered. put_met_none {T = Unit {0}} (Err c.put_fault.result)
+    (λ told. unhindered.tries (returns-in-Err-clause-flash g c config below h s running told))
+    (λ told. (let is : c.put_fault.result ≡ Spent = cc told in
+    let stuck = c.in-Err.ensures.gives.spent (ap Err (c.put_fault.ensures.sequence is)) in
+    let spent = g.met.B.Blocks.stuck_is_spent c.write_application.new.nvm.blocks _ _ stuck in
+    let left = unhindered.numbers in absurd (cc (spent, left))))

@@ -1,4 +1,4 @@
-use Rattle.std.proofs.Common.{inl, inr, ◌≡◌, ◌+◌, ◌*◌, ◌∙◌, ⊎_elim, length, sym, subst, ap, refl, arith}
+use Rattle.std.proofs.Common.{inl, inr, ℕ, Err, ◌≡◌, ◌+◌, ◌*◌, ◌∙◌, ⊎_elim, length, sym, subst, ap, refl, arith}
 use Rattle.std.specs.Prelude.{IsFalse}
 use Rattle.flt_flash.specs.Calls.{CostsAtMost}
 use Rattle.flt_generation.specs.Form.{block_bytes}
@@ -13,6 +13,7 @@ use Rattle.flt_store.specs.Store.{driver_of, commit_of, kept_of, is_settled, num
 use Rattle.flt_store.proofs.Started.{sound_started}
 use Rattle.flt_store.proofs.Running.{served_on, undisturbed_until, held_is_chosen, ok_map, on_ok, err_taken, err_both, chosen_on, one_of_chosen, rises_from}
 use Rattle.flt_store.proofs.Dark.{err_as, is_unsettled}
+use Rattle.flt_store.proofs.Completing.{save_met_none, not_last}
 use Rattle.flt_store.proofs.store.Store.save.Goals as goal
 
 pub returns-in-Ok-clause-saved : goal.returns-in-Ok-clause-saved
@@ -142,3 +143,19 @@ returns-in-Ok-clause-first g c = λ h s running zero.
     (λ by_spare. (let same : settled.chosen.number ≡ s.number = ap (λ (d : Generation). d.number) by_spare.0 in omega (arith, same, order, zero)))
     settled.is in
     c.save_next.ensures.first settled.chosen settled.ready number
+
+pub returns-in-Ok-clause-completed : goal.returns-in-Ok-clause-completed
+returns-in-Ok-clause-completed g c = λ h s running number unhindered. save_met_none c.save_next.result
+    (λ told. unhindered.tries (returns-in-Ok-clause-flash g c h s running told))
+    (λ told. (let last = returns-in-Ok-clause-spent g c h s running told in not_last h s last.last number unhindered.tries last.is last.number))
+    (λ told. (let stuck = c.save_next.ensures.sequence told in
+    let spent = g.met.B.Blocks.stuck_is_spent c.save_next.new.self.nvm.blocks stuck.0 stuck.1 stuck.2 in
+    let left = unhindered.numbers in absurd (cc (spent, left))))
+
+pub returns-in-Err-clause-completed : goal.returns-in-Err-clause-completed
+returns-in-Err-clause-completed g c = λ h s running number unhindered. save_met_none {T = ℕ} (Err c.in-Err.fault)
+    (λ told. unhindered.tries (c.in-Err.ensures.flash h s running (err_as c.in-Err.fault _ told)))
+    (λ told. c.in-Err.ensures.not_spent (err_as c.in-Err.fault _ told))
+    (λ told. (let stuck = c.in-Err.ensures.sequence h s running (err_as c.in-Err.fault _ told) in
+    let spent = g.met.B.Blocks.stuck_is_spent c.settle.new.self.nvm.blocks stuck.0 stuck.1 stuck.2 in
+    let left = unhindered.numbers in absurd (cc (spent, left))))
