@@ -5,8 +5,9 @@ use Rattle.std.proofs.lemmas.List.Elements.{All-nil, All-cons}
 use Rattle.flt_script.specs.declared.step.Step.{Step}
 use Rattle.flt_turn.specs.Seats.{Seated}
 use Rattle.flt_life.specs.Answers.{Told}
-use Rattle.flt_life.specs.Mixing.{Call, Block}
+use Rattle.flt_life.specs.Mixing.{Call, Block, Rise, calls_in_block}
 use Rattle.flt_life.specs.Making.{AreMadeBy, LanesMake}
+use Rattle.flt_life.proofs.Rising.{rise_block, rise_none}
 use Rattle.flt_lane.specs.Lived.{IsMain}
 use Rattle.flt_lane.specs.Runs.{RunsBy}
 use Rattle.flt_lane.specs.Block.{IsSplitSeat, IsSplitOff, AreJoined, HasRunBlock}
@@ -55,10 +56,19 @@ module _ {S O R : Type 0} (admits : S → O → Type 0) (answer : S → List O �
     pub makes : LanesMake MadeBy number (steps_all lanes) (tolds lanes) made
     pub are : AreLanes admits answer main made (afters lanes)
     pub numbers : All (IsNumberOf main width) made
+    pub past : All (λ lane. number ≤ lane.0) made
+    pub rising : (n : ℕ) → Rise (length main.seen) (calls_in_block n made)
 
   lanes_ran : (main : Seated S O) (width number : ℕ) (lanes : List (Lane S O)) → main.children < number → number + length lanes ≤ main.children + width + 1 → AreRunLanes main number lanes → HaveMade main width number lanes
   unfolding AreRunLanes AreLanes LanesMake
-  lanes_ran main width number [] past within are = record { made = []; makes = refl; are = tt; numbers = All-nil (IsNumberOf main width) }
+  lanes_ran main width number [] past within are = record {
+    made = [];
+    makes = refl;
+    are = tt;
+    numbers = All-nil (IsNumberOf main width);
+    past = All-nil (λ (lane : ℕ × List (Call O R)). number ≤ lane.0);
+    rising = λ n. rise_none (length main.seen) [] refl;
+  }
   lanes_ran main width number (lane ∷ lanes) past within are =
       let first = are.0 in
       let more = lanes_ran main width (number + 1) lanes (omega arith) (omega arith) are.1 in
@@ -67,6 +77,9 @@ module _ {S O R : Type 0} (admits : S → O → Type 0) (answer : S → List O �
         makes = (first.runs.calls, more.made, refl, first.runs.made, more.makes);
         are = (one_ran main number lane first, more.are);
         numbers = All-cons (IsNumberOf main width) (number, first.runs.calls) more.made (past, omega arith) more.numbers;
+        past = All-cons (λ (lane : ℕ × List (Call O R)). number ≤ lane.0) (number, first.runs.calls) more.made (omega arith) (λ k d within. let next = more.past k d within in omega (arith, next));
+        rising = rise_block (length main.seen) number first.runs.calls more.made (λ k d within. let next = more.past k d within in omega (arith, next))
+            (subst (λ l. Rise (length l) first.runs.calls) first.split.seen_is first.runs.rising) more.rising;
       }
 
   pub ran_block : (main off after : Seated S O) (calls : ℕ) (lanes : List (Lane S O)) → IsMain main → AreRunLanes main (main.children + 1) lanes → IsSplitOff main off (length lanes) calls
@@ -79,7 +92,7 @@ module _ {S O R : Type 0} (admits : S → O → Type 0) (answer : S → List O �
       record {
         made = all.made;
         makes = all.makes;
-        lived = block_part admits answer main after (length (steps_all lanes)) all.made seats is all.are (subst (λ n. All (IsNumberOf main n) all.made) (sym width) all.numbers) record {
+        lived = block_part admits answer main after (length (steps_all lanes)) all.made seats is all.are (subst (λ n. All (IsNumberOf main n) all.made) (sym width) all.numbers) all.rising record {
           number_is = joined.number_is ∙ is_off.number_is;
           start_is = joined.start_is ∙ is_off.start_is;
           lock_is = joined.lock_is ∙ is_off.lock_is;

@@ -1,21 +1,20 @@
 -- A block: where the calls of its lanes stand in any journal in which the lock could be closed behind it.
-use Rattle.std.proofs.Common.{◌≡◌, ◌⊎◌, inl, inr, ⊎_elim, ℕ, ◌<◌, ◌≤◌, ◌+◌, List, [], ◌∷◌, ◌++◌, All, length, map, get_or, arith, refl, sym, ap, subst, ◌∙◌}
-use Rattle.std.specs.Prelude.{Contains}
+use Rattle.std.proofs.Common.{◌≡◌, ◌⊎◌, inl, inr, ⊎_elim, ℕ, ◌<◌, ◌≤◌, ◌+◌, Bool, true, false, leb, leb-true, leb-false, List, [], ◌∷◌, ◌++◌, All, Some, length, map, get_or, arith, refl, sym, ap, subst, ◌∙◌}
+use Rattle.std.specs.Prelude.{Contains, slice_get}
 use Rattle.std.proofs.lemmas.List.{length-append, length-map, append-nil, get_or-map}
 use Rattle.std.proofs.lemmas.List.Elements.{All-map, All-contains, All-nil, All-cons, All-append, All-weaker, All-contains_itself, All-head, All-tail, Contains-append_left, Contains-append_right}
 use mathlib.Core.List.{IsPrefix}
 use Rattle.flt_turn.specs.declared.vault.Entry.{Entry}
-use Rattle.flt_turn.specs.Journal.{calls_of}
+use Rattle.flt_turn.specs.Journal.{entry, calls_of}
 use Rattle.flt_turn.specs.Seats.{Seated}
 use Rattle.flt_turn.proofs.Journals.{calls_of-append}
-use Rattle.flt_life.specs.Mixing.{Call, ops_asked}
+use Rattle.flt_life.specs.Mixing.{Call, ops_asked, Mixes, Block, asked_of, IsTold, BlockTold, Rise, calls_in_block}
 use Rattle.flt_lane.specs.Chain.{Chain}
-use Rattle.flt_life.specs.Mixing.{Mixes, Block, asked_of, IsTold, BlockTold}
 use Rattle.flt_lane.specs.Lived.{IsEnded, IsMain, IsWhole, Trails, HasLived}
-use Rattle.flt_lane.proofs.Journals.{none_of, IsFull, full_front, more_calls, no_call_behind, no_call_before, low_front, high_rest, cut_at, low_prefix, low_calls}
+use Rattle.flt_lane.proofs.Journals.{none_of, IsFull, full_front, more_calls, no_call_behind, no_call_before, low_front, high_rest, cut_at, low_prefix, low_calls, behind_front}
 use Rattle.flt_lane.proofs.Chains.{chain_fact}
-use Rattle.flt_life.proofs.Mixings.{calls_longer}
-use Rattle.flt_life.proofs.Mixings.{one_follows}
+use Rattle.flt_life.proofs.Mixings.{calls_longer, one_follows}
+use Rattle.flt_life.proofs.Rising.{none_in_block, rise_from, rise_none, rise_of_block, told_in_block}
 
 -- ---- lists
 
@@ -132,8 +131,8 @@ module _ {S O R : Type 0} (admits : S → O → Type 0) (answer : S → List O �
   -- ---- the block
 
   pub block_part : (main after : Seated S O) (width : ℕ) (lanes : Block O R) (afters : List (Seated S O)) → IsMain main → AreLanes main lanes afters
-      → All (IsNumberOf main width) lanes → HasJoined main after width afters → HasLived answer main after width (lanes ∷ [])
-  block_part main after width lanes afters is are numbers joined = record {
+      → All (IsNumberOf main width) lanes → ((number : ℕ) → Rise (length main.seen) (calls_in_block number lanes)) → HasJoined main after width afters → HasLived answer main after width (lanes ∷ [])
+  block_part main after width lanes afters is are numbers rising joined = record {
     main_after = main_after;
     start_is = joined.start_is;
     lock_is = joined.lock_is;
@@ -281,6 +280,21 @@ module _ {S O R : Type 0} (admits : S → O → Type 0) (answer : S → List O �
                 (λ k d within same. absurd (apart (subst (Contains (map (λ lane. lane.0) new)) same (among k d within)))));
           }
 
+      -- so their calls stand behind that front
+      past_front : (journal : List (Entry O)) (n : ℕ) → main.children < n → BlockTold answer main.start journal lanes → All (λ (call : Call O R). length (low_front main.children journal) ≤ call.told.place) (calls_in_block n lanes)
+      past_front journal n past told k d within =
+          let call = get_or (calls_in_block n lanes) k d in
+          behind_front n call.op (low_front main.children journal) (high_rest main.children journal) call.told.place (low_calls main.children n journal past)
+          (subst (λ j. slice_get j call.told.place ≡ Some (entry n call.op)) (cut_at main.children journal) (told_in_block answer main.start journal n lanes told k d within).stands)
+
+      rise_past : (journal : List (Entry O)) → BlockTold answer main.start journal lanes → (n : ℕ) (b : Bool) → leb n main.children ≡ b → Rise (length (low_front main.children journal)) (calls_in_block n lanes)
+      rise_past journal told n true low =
+          let most = leb-true n main.children low in
+          let none : calls_in_block n lanes ≡ [] = none_in_block n lanes (λ k d within. let given = (numbers k d within).0 in omega (arith, most, given)) in
+          rise_none (length (low_front main.children journal)) (calls_in_block n lanes) none
+      rise_past journal told n false high =
+          rise_from (length main.seen) (length (low_front main.children journal)) (calls_in_block n lanes) (past_front journal n (leb-false n main.children high) told) (rising n)
+
       trails : (journal : List (Entry O)) → IsWhole after journal → Trails answer main (lanes ∷ []) journal
       trails journal whole =
           let mixes = all_mixes journal whole in
@@ -300,4 +314,5 @@ module _ {S O R : Type 0} (admits : S → O → Type 0) (answer : S → List O �
             };
             follows = one_follows lanes (high_rest main.children journal) (block_mixes journal mixes pre olds);
             told = All-cons (BlockTold answer main.start journal) lanes [] (lanes_told main journal lanes afters are seens) (All-nil (BlockTold answer main.start journal));
+            rising = λ n. rise_of_block (length (low_front main.children journal)) lanes n (rise_past journal (lanes_told main journal lanes afters are seens) n (leb n main.children) refl);
           }

@@ -9,9 +9,8 @@ use Rattle.flt_turn.specs.Call.{IsCall}
 use Rattle.flt_turn.specs.Journal.{entry, calls_of}
 use Rattle.flt_turn.specs.Seats.{Seated}
 use Rattle.flt_turn.proofs.Journals.{calls_of_own, prefix_refl, prefix_longer}
-use Rattle.flt_life.specs.Mixing.{Call, ops_asked}
-use Rattle.flt_lane.specs.Chain.{Chain, Rise}
-use Rattle.flt_life.specs.Mixing.{IsTold}
+use Rattle.flt_life.specs.Mixing.{Call, ops_asked, IsTold, Rise}
+use Rattle.flt_lane.specs.Chain.{Chain}
 use Rattle.flt_life.proofs.Mixings.{at_end, told_longer}
 use Rattle.flt_lane.proofs.Journals.{no_call_before, prefix_trans}
 

@@ -1,5 +1,6 @@
 -- Journals in two pieces: which calls stand in which piece.
-use Rattle.std.proofs.Common.{◌≡◌, ◌≢◌, ℕ, ◌<◌, ◌≤◌, ◌+◌, List, [], ◌∷◌, ◌++◌, All, length, map, get_or, eq-eqb, arith, refl, sym, ap, subst, ◌∙◌, cond, leb, Bool, true, false}
+use Rattle.std.proofs.Common.{◌≡◌, ◌≢◌, ℕ, zero, suc, ◌<◌, ◌≤◌, ◌+◌, List, [], ◌∷◌, ◌++◌, All, length, map, get_or, eq-eqb, arith, refl, sym, ap, subst, ◌∙◌, cond, leb, Bool, true, false, Some}
+use Rattle.std.specs.Prelude.{slice_get}
 use Rattle.std.proofs.lemmas.List.{length-append, append-nil}
 use Rattle.std.proofs.lemmas.List.Elements.{All-map, All-contains}
 use Rattle.std.proofs.lemmas.Bool.{leb-true, leb-false}
@@ -73,6 +74,17 @@ module _ {O : Type 0} where
       let lengths : length (calls_of n xs) + length (calls_of n pre.0) ≡ length (calls_of n ys) =
       sym (length-append (calls_of n xs) (calls_of n pre.0)) ∙ ap length (sym (calls_of-append n xs pre.0)) ∙ ap (λ l. length (calls_of n l)) pre.1 in
       omega (arith, lengths)
+
+  -- an entry of a lane stands behind a front in which the lane has no call
+  pub behind_front : (n : ℕ) (op : O) (front rest : List (Entry O)) (place : ℕ) → calls_of n front ≡ [] → slice_get (front ++ rest) place ≡ Some (entry n op) → length front ≤ place
+  behind_front n op [] rest place none stands = omega arith
+  behind_front n op (e ∷ front) rest zero none stands =
+      let first = head_call e front in
+      let same : e ≡ entry n op = cc in
+      let gone : calls_of e.lane (e ∷ front) ≡ [] = subst (λ m. calls_of m (e ∷ front) ≡ []) (sym (ap (λ (x : Entry O). x.lane) same)) none in
+      absurd (cc)
+  behind_front n op (e ∷ front) rest (suc place) none stands =
+      let more = behind_front n op front rest place (no_call_behind n (e ∷ []) front none) stands in omega (arith, more)
 
   pub one_call : (n : ℕ) (op : O) → calls_of n (entry n op ∷ []) ≡ op ∷ []
   one_call n op = calls_of_own n op []

@@ -1,7 +1,7 @@
 -- What the calls of the main seat leave of it, and where they stand in any journal in which the lock could be closed then.
 use Rattle.std.proofs.Common.{◌≡◌, ℕ, zero, suc, ◌≤◌, ◌+◌, List, [], ◌∷◌, ◌++◌, All, length, get_or, arith, refl, sym, ap, subst, ◌∙◌}
 use Rattle.std.specs.Prelude.{Contains}
-use Rattle.std.proofs.lemmas.List.{append-nil, append_assoc, map-append}
+use Rattle.std.proofs.lemmas.List.{append-nil, append_assoc, length-append, map-append}
 use Rattle.std.proofs.lemmas.List.Elements.{All-contains, All-nil, All-cons, All-append, All-head}
 use mathlib.Core.List.{IsPrefix}
 use Rattle.flt_turn.specs.declared.vault.Entry.{Entry}
@@ -16,8 +16,12 @@ use Rattle.flt_lane.specs.Lived.{IsEnded, IsMain, IsWhole, Trails, HasLived}
 use Rattle.flt_lane.proofs.Journals.{more_calls, none_left, no_call_before, one_call, no_call_of_others}
 use Rattle.flt_lane.proofs.Chains.{call_own, call_told}
 use Rattle.flt_life.proofs.Mixings.{calls_longer, blocks_longer, follow_more, follows_one, one_follows}
+use Rattle.flt_life.proofs.Rising.{alone_rise, places_within, rise_alone, rise_append, rise_more, rise_none, rise_one}
 
 -- ---- the calls of blocks
+
+before_most : {X : Type 0} (before rest journal : List X) → journal ≡ before ++ rest → length before ≤ length journal
+before_most before rest journal split = let all = ap length split ∙ length-append before rest in omega (arith, all)
 
 nothing_mixes : {O : Type 0} (number : ℕ) → Mixes {O = O} [] ((number, []) ∷ [])
 nothing_mixes {O} number = record {
@@ -49,7 +53,7 @@ module _ {S O R : Type 0} (admits : S → O → Type 0) (answer : S → List O �
     start_is = refl;
     lock_is = refl;
     children_is = omega arith;
-    trails = λ journal whole. record { before = journal; rest = []; split = sym (append-nil journal); whole = whole; follows = refl; told = All-nil (BlockTold answer main.start journal) };
+    trails = λ journal whole. record { before = journal; rest = []; split = sym (append-nil journal); whole = whole; follows = refl; told = All-nil (BlockTold answer main.start journal); rising = λ number. rise_none (length journal) [] refl };
   }
 
   pub lived_more : (main mid after : Seated S O) (seats more_seats : ℕ) (blocks more : List (Block O R)) → HasLived answer main mid seats blocks → HasLived answer mid after more_seats more
@@ -71,6 +75,7 @@ module _ {S O R : Type 0} (admits : S → O → Type 0) (answer : S → List O �
           told = All-append (BlockTold answer main.start journal) blocks more
               (blocks_longer answer main.start last.before journal blocks (last.rest, sym last.split) trail.told)
               (subst (λ s. All (BlockTold answer s journal) more) lived.start_is last.told);
+          rising = λ number. rise_more answer main.start last.before (length trail.before) blocks more (before_most trail.before trail.rest last.before trail.split) trail.told number (trail.rising number) (last.rising number);
         };
   }
 
@@ -101,6 +106,7 @@ module _ {S O R : Type 0} (admits : S → O → Type 0) (answer : S → List O �
       whole = whole;
       follows = one_follows ((0, []) ∷ []) [] (nothing_mixes 0);
       told = alone_told main.start journal [] (All-nil (IsTold answer main.start journal 0));
+      rising = rise_alone (length journal) [] (rise_none (length journal) [] refl);
     };
   }
 
@@ -123,6 +129,9 @@ module _ {S O R : Type 0} (admits : S → O → Type 0) (answer : S → List O �
           told = alone_told main.start journal (xs ++ ys) (All-append (IsTold answer main.start journal 0) xs ys
               (calls_longer answer main.start last.before journal 0 xs (last.rest, sym last.split) (told_alone main.start last.before xs trail.told))
               (subst (λ s. All (IsTold answer s journal 0) ys) lived.start_is (told_alone mid.start journal ys last.told)));
+          rising = rise_alone (length trail.before) (xs ++ ys) (rise_append (length trail.before) (length last.before) xs ys (before_most trail.before trail.rest last.before trail.split)
+              (places_within answer main.start last.before 0 xs (told_alone main.start last.before xs trail.told))
+              (alone_rise (length trail.before) xs (trail.rising 0)) (alone_rise (length last.before) ys (last.rising 0)));
         };
   }
 
@@ -222,6 +231,7 @@ module _ {S O R : Type 0} (admits : S → O → Type 0) (answer : S → List O �
             };
             follows = one_follows ((0, call ∷ []) ∷ []) (first ∷ []) block_mixes;
             told = alone_told main.start journal (call ∷ []) (All-cons (IsTold answer main.start journal 0) call [] told (All-nil (IsTold answer main.start journal 0)));
+            rising = rise_alone (length front) (call ∷ []) (rise_one (length front) call (omega (arith, ext.place_is)));
           }
 
   -- calls of the main seat are those of lane 0, in a block of their own

@@ -1,5 +1,5 @@
 -- A whole life on a lock, from one that took no call to the journal that it leaves.
-use Rattle.std.proofs.Common.{◌≡◌, ℕ, ◌+◌, List, [], ◌∷◌, ◌++◌, All, arith, refl, sym, ap, subst, ◌∙◌}
+use Rattle.std.proofs.Common.{◌≡◌, ℕ, ◌+◌, List, [], ◌∷◌, ◌++◌, All, length, arith, refl, sym, ap, subst, ◌∙◌}
 use Rattle.std.proofs.lemmas.List.Elements.{All-nil, All-cons, All-head}
 use mathlib.Core.List.{IsPrefix}
 use Rattle.flt_script.specs.declared.step.Step.{Step}
@@ -8,10 +8,11 @@ use Rattle.flt_turn.specs.Journal.{calls_of, Interleaves}
 use Rattle.flt_turn.specs.Seats.{Seated, main_seat}
 use Rattle.flt_life.specs.Answers.{Told}
 use Rattle.flt_life.specs.Played.{IsMade}
-use Rattle.flt_life.specs.Mixing.{Call, Mixes, Follows}
+use Rattle.flt_life.specs.Mixing.{Call, Mixes, Follows, calls_in_lane}
 use Rattle.flt_lane.specs.Lived.{IsEnded, IsMain, IsWhole}
 use Rattle.flt_script.specs.Part.{PartOf}
 use Rattle.flt_life.specs.Making.{PartsMake}
+use Rattle.flt_life.proofs.Rising.{rise_lower}
 use Rattle.flt_lane.specs.Block.{HasRunParts}
 use Rattle.flt_lane.proofs.Journals.{no_calls, none_of}
 
@@ -48,4 +49,5 @@ module _ {S O R : Type 0} (answer : S → List O → O → R) (MadeBy : Step →
         made = subst (λ n. PartsMake MadeBy n parts own lanes ran.blocks) first ran.made;
         follows = subst (Follows ran.blocks) (sym journal_is) trail.follows;
         told = trail.told;
+        rising = λ number. rise_lower (length trail.before) 0 (calls_in_lane number ran.blocks) (omega arith) (trail.rising number);
       }

@@ -1,5 +1,5 @@
 -- Calls that one seat of a lock makes, one after the other, whatever machine is under the lock.
-use Rattle.std.specs.Prelude.{◌≡◌, ℕ, ◌+◌, ◌≤◌, List, [], ◌∷◌}
+use Rattle.std.specs.Prelude.{◌≡◌, List, [], ◌∷◌}
 use Rattle.flt_turn.specs.Call.{IsCall}
 use Rattle.flt_turn.specs.Seats.{Seated}
 use Rattle.flt_life.specs.Mixing.{Call}
@@ -9,8 +9,3 @@ unfoldable pub Chain : {S O R : Type 0} → (S → O → Type 0) → (S → List
 Chain admits answer before [] after = after ≡ before
 Chain {S} {O} {R} admits answer before (call ∷ calls) after =
     (between : Seated S O) × IsCall admits answer before between call.op call.told × Chain admits answer between calls after
-
--- The places that they are told rise, from this one on.
-unfoldable pub Rise : {O R : Type 0} → ℕ → List (Call O R) → Type 0
-Rise low [] = Unit {0}
-Rise low (call ∷ calls) = (low ≤ call.told.place) × Rise (call.told.place + 1) calls

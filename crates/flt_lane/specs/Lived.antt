@@ -4,7 +4,7 @@ use mathlib.Core.List.{IsPrefix}
 use Rattle.flt_turn.specs.declared.vault.Entry.{Entry}
 use Rattle.flt_turn.specs.Journal.{calls_of}
 use Rattle.flt_turn.specs.Seats.{Seated}
-use Rattle.flt_life.specs.Mixing.{Mixes, Block, Follows, BlockTold}
+use Rattle.flt_life.specs.Mixing.{Mixes, Block, Follows, BlockTold, Rise, calls_in_lane}
 
 -- A joined lane: its number was given out, and a joined seat knew all of its calls.
 pub record IsEnded {S O : Type 0} (main : Seated S O) (lane : ℕ × List O) : Type 0 where
@@ -27,7 +27,8 @@ pub record IsWhole {S O : Type 0} (main : Seated S O) (journal : List (Entry O))
   pub olds : All (λ old. IsPrefix old journal) main.olds
   pub mixes : Mixes journal ((main.number, main.mine) ∷ main.ended)
 
--- Behind a journal that the lock could have left before these blocks, the journal has their calls, and each is answered there.
+-- Behind a journal that the lock could have left before these blocks, the journal has their calls, and each is answered there; and the
+-- places that a lane is told rise.
 pub record Trails {S O R : Type 0} (answer : S → List O → O → R) (main : Seated S O) (blocks : List (Block O R)) (journal : List (Entry O)) : Type 0 where
   pub before : List (Entry O)
   pub rest : List (Entry O)
@@ -35,6 +36,7 @@ pub record Trails {S O R : Type 0} (answer : S → List O → O → R) (main : S
   pub whole : IsWhole main before
   pub follows : Follows blocks rest
   pub told : All (BlockTold answer main.start journal) blocks
+  pub rising : (number : ℕ) → Rise (length before) (calls_in_lane number blocks)
 
 -- These blocks were carried out, on so many split seats.
 pub record HasLived {S O R : Type 0} (answer : S → List O → O → R) (main after : Seated S O) (seats : ℕ) (blocks : List (Block O R)) : Type 0 where

@@ -6,12 +6,12 @@ use Rattle.flt_turn.specs.Seats.{Seated}
 use Rattle.flt_life.specs.Actions.{action_of, call_count, queue_count}
 use Rattle.flt_life.specs.Answers.{Told}
 use Rattle.flt_life.specs.Making.{AreMadeBy}
-use Rattle.flt_life.specs.Mixing.{Call}
+use Rattle.flt_life.specs.Mixing.{Call, Rise}
 use Rattle.flt_life.specs.Played.{StepMakes, StepQueues}
 use Rattle.flt_queue.specs.Call as queued
 use Rattle.flt_queue.specs.Queue as queue
 use Rattle.flt_shared.specs.Call.{Seat, MayBeAsked, reply_after}
-use Rattle.flt_lane.specs.Chain.{Chain, Rise}
+use Rattle.flt_lane.specs.Chain.{Chain}
 
 module _ {S O R : Type 0} (admits : S → O → Type 0) (answer : S → List O → O → R) (MadeBy : Step → Told → List (Call O R) → Type 0) (count : Step → ℕ) where
   -- One step, and what it leaves of its seat.

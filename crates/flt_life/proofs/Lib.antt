@@ -4,3 +4,4 @@ pub mod Ending
 pub mod Makings
 pub mod Mixings
 pub mod Sizes
+pub mod Rising

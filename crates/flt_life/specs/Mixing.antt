@@ -1,6 +1,6 @@
 -- How the journal of a lock has the calls of blocks of lanes, one block behind the other, and how each call is answered there:
 -- stated of the journal of any machine.
-use Rattle.std.specs.Prelude.{◌≡◌, ℕ, List, [], ◌∷◌, ◌++◌, All, Contains, map, slice_get, Some}
+use Rattle.std.specs.Prelude.{◌≡◌, ℕ, ◌+◌, ◌≤◌, ◌==◌, if◌then◌else◌, List, [], ◌∷◌, ◌++◌, All, Contains, map, slice_get, Some}
 use Rattle.flt_turn.specs.declared.answer.Answer.{Answer}
 use Rattle.flt_turn.specs.declared.vault.Entry.{Entry}
 use Rattle.flt_turn.specs.Journal.{entry, calls_of}
@@ -41,3 +41,17 @@ pub record IsTold {S O R : Type 0} (answer : S → List O → O → R) (start : 
 -- So is each call of each lane of a block.
 abbrev pub BlockTold : {S O R : Type 0} → (S → List O → O → R) → S → List (Entry O) → Block O R → Type 0
 BlockTold answer start journal lanes = All (λ lane. All (IsTold answer start journal lane.0) lane.1) lanes
+
+-- The places that these calls are told rise, from this one on.
+unfoldable pub Rise : {O R : Type 0} → ℕ → List (Call O R) → Type 0
+Rise low [] = Unit {0}
+Rise low (call ∷ calls) = (low ≤ call.told.place) × Rise (call.told.place + 1) calls
+
+-- The calls of the lane of this number in a block, and in all blocks, those of each block behind those of the blocks before it.
+abbrev pub calls_in_block : {O R : Type 0} → ℕ → Block O R → List (Call O R)
+calls_in_block number [] = []
+calls_in_block number (lane ∷ lanes) = (if lane.0 == number then lane.1 else []) ++ calls_in_block number lanes
+
+abbrev pub calls_in_lane : {O R : Type 0} → ℕ → List (Block O R) → List (Call O R)
+calls_in_lane number [] = []
+calls_in_lane number (lanes ∷ blocks) = calls_in_block number lanes ++ calls_in_lane number blocks

@@ -1,5 +1,5 @@
 -- How a life is made of the parts of its script: which calls each step makes, that the journals have them, and how each is answered.
-use Rattle.std.specs.Prelude.{◌≡◌, List, [], ◌∷◌, All, map, reverse}
+use Rattle.std.specs.Prelude.{◌≡◌, ℕ, List, [], ◌∷◌, All, map, reverse}
 use Rattle.flt_turn.specs.declared.answer.Answer.{Answer}
 use Rattle.flt_config.specs.declared.config.Config.{Config}
 use Rattle.flt_model.specs.Life.{Life}
@@ -24,7 +24,7 @@ use Rattle.flt_life.specs.Draining.{DrainMakes}
 use Rattle.flt_life.specs.Journal.{Journal}
 use Rattle.flt_life.specs.Making.{PartsMake}
 use Rattle.flt_turn.specs.declared.vault.Entry.{Entry}
-use Rattle.flt_life.specs.Mixing.{Call, Block, Follows, BlockTold}
+use Rattle.flt_life.specs.Mixing.{Call, Block, Follows, BlockTold, Rise, calls_in_lane}
 use Rattle.flt_life.specs.Parts.{own_actions, lanes_in}
 
 -- the machine's reply after these calls, the oldest first
@@ -72,12 +72,13 @@ StepQueues step told calls = ActionQueues (action_of step) told calls
 
 -- the journal of a machine has the calls of the parts, those of each part together and behind those of the parts before it, those of
 -- each lane in its order, and no others; and each call, of lane 0 and of the lanes of the blocks, whose numbers go on from 1, is
--- answered at its place
+-- answered at its place, and the places that a lane is told rise in the order of its calls
 pub record IsMade {S O R : Type 0} (MadeBy : Step → Told → List (Call O R) → Type 0) (answer : S → List O → O → R) (start : S) (parts : List (PartOf Step)) (own : List Told) (lanes : List (List Told)) (journal : List (Entry O)) : Type 0 where
   pub blocks : List (Block O R)
   pub made : PartsMake MadeBy 1 parts own lanes blocks
   pub follows : Follows blocks journal
   pub told : All (BlockTold answer start journal) blocks
+  pub rising : (number : ℕ) → Rise 0 (calls_in_lane number blocks)
 
 -- so it is with the status machine and with the queue
 pub record IsLife (start : Life) (parts : List (PartOf Step)) (own : List Told) (lanes : List (List Told)) (journal : Journal) (queue : List (Entry QueueOp)) : Type 0 where

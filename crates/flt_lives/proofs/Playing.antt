@@ -1,7 +1,7 @@
 -- One more step that was carried out, and the life as its parts tell it.
 use Rattle.std.proofs.Common.{◌≡◌, ◌∙◌, inl, ℕ, ◌+◌, List, [], ◌∷◌, ◌++◌, All, Some, length, map, take, reverse, refl, ap, sym, subst, arith}
 use Rattle.std.specs.Prelude.{slice_get}
-use Rattle.std.proofs.lemmas.List.{append-nil, append_assoc, reverse-append, reverse-reverse, length-reverse, map-append}
+use Rattle.std.proofs.lemmas.List.{append-nil, append_assoc, length-append, reverse-append, reverse-reverse, length-reverse, map-append}
 use Rattle.std.proofs.lemmas.List.Elements.{All-nil, All-cons, All-append}
 use Rattle.flt_turn.specs.declared.vault.Entry.{Entry}
 use Rattle.flt_turn.specs.Journal.{entry, ops_of, calls_of}
@@ -20,7 +20,7 @@ use Rattle.flt_life.specs.Actions.{action_of}
 use Rattle.flt_life.specs.Answers.{Told}
 use Rattle.flt_life.specs.Journal.{Journal}
 use Rattle.flt_life.specs.Making.{PartsMake}
-use Rattle.flt_life.specs.Mixing.{Call, Block, Mixes, Follows, asked_of, ops_asked, IsTold, BlockTold}
+use Rattle.flt_life.specs.Mixing.{Call, Block, Mixes, Follows, asked_of, ops_asked, IsTold, BlockTold, Rise}
 use Rattle.flt_life.specs.Parts.{widths}
 use Rattle.flt_config.specs.declared.config.Config.{Config}
 use Rattle.flt_config.specs.declared.persist.Persist.{Persist}
@@ -33,6 +33,7 @@ use Rattle.flt_queue.specs.declared.job.QueueOp.{QueueOp}
 use Rattle.flt_life.specs.Played.{ActionMakes, ActionQueues, IsLife, IsMade, IsPlayed, StepMakes, StepQueues, reply_after}
 use Rattle.flt_life.proofs.Makings.{parts_more, parts_none}
 use Rattle.flt_life.proofs.Mixings.{blocks_longer, follow_more, one_follows}
+use Rattle.flt_life.proofs.Rising.{rise_alone, rise_more, rise_none}
 use Rattle.flt_lives.specs.Carried.{IsCarriedOut}
 
 module _ {X : Type 0} where
@@ -73,6 +74,12 @@ module _ {S O R : Type 0} (answer : S → List O → O → R) (start : S) where
       }
       (subst (λ j. All (IsTold answer start j 0) (calls_at (journal ++ entry 0 op ∷ []) ops)) (append_assoc journal (entry 0 op ∷ []) rest) (told_at (journal ++ entry 0 op ∷ []) ops))
 
+  rise_at : (journal : List (Entry O)) (ops : List O) → Rise (length journal) (calls_at journal ops)
+  unfolding Rise
+  rise_at journal [] = tt
+  rise_at journal (op ∷ ops) =
+      (omega arith, subst (λ n. Rise n (calls_at (journal ++ entry 0 op ∷ []) ops)) (length-append journal (entry 0 op ∷ [])) (rise_at (journal ++ entry 0 op ∷ []) ops))
+
   own_calls : (ops : List O) → calls_of 0 (map (λ op. entry 0 op) ops) ≡ ops
   own_calls [] = refl
   own_calls (op ∷ ops) = ap (λ l. op ∷ l) (own_calls ops)
@@ -93,7 +100,7 @@ module _ {S O R : Type 0} (answer : S → List O → O → R) (start : S) where
     -- no step
     made_none : IsMade MadeBy answer start [] [] [] []
     unfolding Follows
-    made_none = record { blocks = []; made = parts_none MadeBy 1; follows = refl; told = All-nil (BlockTold answer start []) }
+    made_none = record { blocks = []; made = parts_none MadeBy 1; follows = refl; told = All-nil (BlockTold answer start []); rising = λ number. rise_none 0 [] refl }
 
     -- a step more, which made these calls
     made_more : (parts : List (PartOf Step)) (own : List Told) (lanes : List (List Told)) (journal : List (Entry O)) (step : Step) (told : Told) (ops : List O) → IsMade MadeBy answer start parts own lanes journal
@@ -114,6 +121,7 @@ module _ {S O R : Type 0} (answer : S → List O → O → R) (start : S) where
               (All-cons (λ (lane : ℕ × List (Call O R)). All (IsTold answer start whole lane.0) lane.1) (0, calls) [] (told_at journal ops)
               (All-nil (λ (lane : ℕ × List (Call O R)). All (IsTold answer start whole lane.0) lane.1)))
               (All-nil (BlockTold answer start whole)));
+          rising = λ number. rise_more answer start journal 0 is.blocks (block ∷ []) (omega arith) is.told number (is.rising number) (rise_alone (length journal) calls (rise_at journal ops) number);
         }
 
 -- ---- what a step of lane 0 adds to the journal of the status machine
