@@ -5,11 +5,13 @@ ghost use Rattle.std.specs.Prelude.{◌≡◌};
 use arrayvec::ArrayVec;
 use flt_config::{ENTRIES, EVENTS, EntryState, EventState};
 
-/// A copy of the states of the events.
+/// A copy of the states of the events, all at once.
 pub fn states(states: &ArrayVec<EventState, EVENTS>) -> ArrayVec<EventState, EVENTS>
     ensures { result.items ≡ states.now.items }
 {
-    states.clone().unwrap()
+    let mut copy = ArrayVec::new();
+    copy.try_extend_from_slice(states).unwrap();
+    copy
 }
 
 /// A copy of the entries.

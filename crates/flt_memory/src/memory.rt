@@ -100,9 +100,9 @@ impl EventMemory {
         ensures entries { self.new.entries ≡ filter (λ entry. not (is_of_event event entry)) self.old.entries }
         ensures overflow { self.new.overflow ≡ self.old.overflow }
     {
-        let removed = place_of(&self.entries, event).is_some();
+        let before = self.entries.len();
         self.entries.retain(|entry| entry.event != event);
-        removed
+        self.entries.len() < before
     }
 }
 
