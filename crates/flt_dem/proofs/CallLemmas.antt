@@ -9,6 +9,7 @@ use Rattle.flt_model.specs.Trace.{trace, event_part, in_order, with_marks, with_
 use Rattle.flt_model.specs.declared.call.DebState.{DebState}
 use Rattle.flt_model.specs.declared.call.Op.{Op}
 use Rattle.flt_dem.specs.Faults.{FaultsView}
+use Rattle.flt_dem.specs.Events.{EventsView}
 use Rattle.flt_dem.specs.Standing.{FaultsStand}
 use Rattle.flt_dem.specs.Debounces.{DebouncesStand, and_then}
 use Rattle.flt_dem.specs.Calls.{StandsAfter, StandsPartly, TakesPart, items_partly, marks_partly}
@@ -52,45 +53,45 @@ module _ (life : Life) (past : History) (op : Op) where
       (cases_eq done event)
 
   -- before the first event
-  pub partly_first : (debounces : List DebState) (faults : FaultsView) → StandsAfter life past debounces faults → StandsPartly life past op 0 debounces faults
-  partly_first debounces faults s = record {
-    debounces_stand = debounces_same life (λ event. happenings life event past) (items_partly life past op 0) debounces
+  pub partly_first : (events : EventsView) → StandsAfter life past events → StandsPartly life past op 0 events
+  partly_first events s = record {
+    debounces_stand = debounces_same life (λ event. happenings life event past) (items_partly life past op 0) events.debounces
         (λ event h. ap (λ b. cond b (happenings life event (op ∷ past)) (happenings life event past)) (sym (le-ltb event 0 (omega arith)))) s.debounces_stand;
     faults_stand = s.faults_stand;
   }
 
   -- one more event takes its part
-  pub partly_next : (done : ℕ) (debounces new_debounces : List DebState) (faults new_faults : FaultsView) → TakesPart life past op done debounces faults new_debounces new_faults →
-      StandsPartly life past op done debounces faults → StandsPartly life past op (done + 1) new_debounces new_faults
-  partly_next done debounces new_debounces faults new_faults takes s =
+  pub partly_next : (done : ℕ) (old new : EventsView) → TakesPart life past op done old new →
+      StandsPartly life past op done old → StandsPartly life past op (done + 1) new
+  partly_next done old new takes s =
       let taken = takes (items_partly life past op done) (marks_partly life past op done) (own_items done) s in
       rw add-one (record {
-        debounces_stand = debounces_same life (and_then done (happening_of life done past op) (items_partly life past op done)) (items_partly life past op (suc done)) new_debounces
+        debounces_stand = debounces_same life (and_then done (happening_of life done past op) (items_partly life past op done)) (items_partly life past op (suc done)) new.debounces
             (λ event h. next_items done event) taken.debounces_stand;
         faults_stand = taken.faults_stand;
       })
 
   -- once each has, the call is taken
-  pub partly_last : (debounces : List DebState) (faults : FaultsView) → ((marks : Trace) → with_clear (cleared_dtc op) marks ≡ marks) → StandsPartly life past op (count life) debounces faults → StandsAfter life (op ∷ past) debounces faults
-  partly_last debounces faults clears s = record {
-    debounces_stand = debounces_same life (items_partly life past op (count life)) (λ event. happenings life event (op ∷ past)) debounces
+  pub partly_last : (events : EventsView) → ((marks : Trace) → with_clear (cleared_dtc op) marks ≡ marks) → StandsPartly life past op (count life) events → StandsAfter life (op ∷ past) events
+  partly_last events clears s = record {
+    debounces_stand = debounces_same life (items_partly life past op (count life)) (λ event. happenings life event (op ∷ past)) events.debounces
         (λ event h. ap (λ b. cond b (happenings life event (op ∷ past)) (happenings life event past)) (lt-ltb event (count life) h)) s.debounces_stand;
-    faults_stand = subst (λ m. FaultsStand life m faults) (sym (clears (marks_partly life past op (count life)))) s.faults_stand;
+    faults_stand = subst (λ m. FaultsStand life m events.faults) (sym (clears (marks_partly life past op (count life)))) s.faults_stand;
   }
 
   no_part : (event : ℕ) (marks : Trace) → happening_of life event past op ≡ None → event_part life past op event marks ≡ marks
   no_part event marks none = ap (λ h. with_marks life event past h marks) none
 
   -- a call that reaches one event is its part
-  pub stands_one : (event : ℕ) (debounces new_debounces : List DebState) (faults new_faults : FaultsView) → event < count life → ((marks : Trace) → with_clear (cleared_dtc op) marks ≡ marks) →
-      ((other : ℕ) → other ≢ event → happening_of life other past op ≡ None) → TakesPart life past op event debounces faults new_debounces new_faults →
-      StandsAfter life past debounces faults → StandsAfter life (op ∷ past) new_debounces new_faults
-  stands_one event debounces new_debounces faults new_faults within clears others takes s =
+  pub stands_one : (event : ℕ) (old new : EventsView) → event < count life → ((marks : Trace) → with_clear (cleared_dtc op) marks ≡ marks) →
+      ((other : ℕ) → other ≢ event → happening_of life other past op ≡ None) → TakesPart life past op event old new →
+      StandsAfter life past old → StandsAfter life (op ∷ past) new
+  stands_one event old new within clears others takes s =
       let taken = takes (λ e. happenings life e past) (trace life past) refl s in
       let whole : in_order (event_part life past op) (count life) (trace life past) ≡ event_part life past op event (trace life past) =
       in_order-one (event_part life past op) event (count life) (trace life past) within (λ other marks ne. no_part other marks (others other ne)) in
       record {
-        debounces_stand = debounces_same life (and_then event (happening_of life event past op) (λ e. happenings life e past)) (λ e. happenings life e (op ∷ past)) new_debounces
+        debounces_stand = debounces_same life (and_then event (happening_of life event past op) (λ e. happenings life e past)) (λ e. happenings life e (op ∷ past)) new.debounces
             (λ other h. ⊎_elim
             (λ same. subst (λ x. and_then event (happening_of life event past op) (λ e. happenings life e past) x ≡ happenings life x (op ∷ past)) same
             (and_then-own event (happening_of life event past op) (λ e. happenings life e past)))
@@ -98,27 +99,27 @@ module _ (life : Life) (past : History) (op : Op) where
             ∙ ap (λ happening. with_happening happening (happenings life other past)) (sym (others other (λ d. ne (sym d)))))
             (cases_eq event other))
             taken.debounces_stand;
-        faults_stand = subst (λ m. FaultsStand life m new_faults) (sym (clears (in_order (event_part life past op) (count life) (trace life past)) ∙ whole)) taken.faults_stand;
+        faults_stand = subst (λ m. FaultsStand life m new.faults) (sym (clears (in_order (event_part life past op) (count life) (trace life past)) ∙ whole)) taken.faults_stand;
       }
 
   -- a call that reaches no event leaves them
-  pub stands_none : (debounces : List DebState) (faults : FaultsView) → ((marks : Trace) → with_clear (cleared_dtc op) marks ≡ marks) →
+  pub stands_none : (events : EventsView) → ((marks : Trace) → with_clear (cleared_dtc op) marks ≡ marks) →
       ((event : ℕ) → event < count life → happening_of life event past op ≡ None) →
-      StandsAfter life past debounces faults → StandsAfter life (op ∷ past) debounces faults
-  stands_none debounces faults clears none s =
+      StandsAfter life past events → StandsAfter life (op ∷ past) events
+  stands_none events clears none s =
       let whole : in_order (event_part life past op) (count life) (trace life past) ≡ trace life past =
       in_order-none (event_part life past op) (count life) (trace life past) (λ event marks h. no_part event marks (none event h)) in
       record {
-        debounces_stand = debounces_same life (λ e. happenings life e past) (λ e. happenings life e (op ∷ past)) debounces
+        debounces_stand = debounces_same life (λ e. happenings life e past) (λ e. happenings life e (op ∷ past)) events.debounces
             (λ event h. ap (λ happening. with_happening happening (happenings life event past)) (sym (none event h))) s.debounces_stand;
-        faults_stand = subst (λ m. FaultsStand life m faults) (sym (clears (in_order (event_part life past op) (count life) (trace life past)) ∙ whole)) s.faults_stand;
+        faults_stand = subst (λ m. FaultsStand life m events.faults) (sym (clears (in_order (event_part life past op) (count life) (trace life past)) ∙ whole)) s.faults_stand;
       }
 
   -- once each event is cleared, all are
-  pub partly_cleared : (debounces : List DebState) (faults last : FaultsView) → cleared_dtc op ≡ Some all_dtcs → StandsPartly life past op (count life) debounces faults →
-      FaultsStand life (AllCleared ∷ marks_partly life past op (count life)) last → StandsAfter life (op ∷ past) debounces last
-  partly_cleared debounces faults last clears s stands = record {
-    debounces_stand = debounces_same life (items_partly life past op (count life)) (λ event. happenings life event (op ∷ past)) debounces
+  pub partly_cleared : (events : EventsView) (last : FaultsView) → cleared_dtc op ≡ Some all_dtcs → StandsPartly life past op (count life) events →
+      FaultsStand life (AllCleared ∷ marks_partly life past op (count life)) last → StandsAfter life (op ∷ past) (record events { faults = last })
+  partly_cleared events last clears s stands = record {
+    debounces_stand = debounces_same life (items_partly life past op (count life)) (λ event. happenings life event (op ∷ past)) events.debounces
         (λ event h. ap (λ b. cond b (happenings life event (op ∷ past)) (happenings life event past)) (lt-ltb event (count life) h)) s.debounces_stand;
     faults_stand = subst (λ d. FaultsStand life (with_clear d (marks_partly life past op (count life))) last) (sym clears) stands;
   }

@@ -10,15 +10,20 @@ use Rattle.flt_config.specs.declared.config.Config.{Config}
 use Rattle.flt_config.specs.declared.persist.EntryState.{EntryState}
 use Rattle.flt_config.specs.Durable.{is_of_event}
 use Rattle.flt_config.specs.Validity.{IsValid}
-use Rattle.flt_model.specs.Life.{Life, count, event_of, no_event}
-use Rattle.flt_model.specs.Happening.{all_dtcs, reaches}
+use Rattle.arrayvec.specs.ArrayVec.{ArrayVec}
+use Rattle.flt_model.specs.Life.{Life, History, count, event_of, no_event}
+use Rattle.flt_model.specs.Happening.{cleared_dtc, all_dtcs, reaches}
+use Rattle.flt_model.specs.declared.call.Op.TheVariants as ops
 use Rattle.flt_model.specs.Trace.{with_clear}
 use Rattle.flt_model.specs.Mark.{Trace, Of, AllCleared}
 use Rattle.flt_model.specs.Mark.Mark.{Clear}
 use Rattle.flt_model.specs.Entry.{holders, is_other, entry_of, entries}
 use Rattle.flt_model.proofs.EntryLemmas.{map_same, displaced_entry, displaced_entries}
 use Rattle.flt_memory.specs.Memory.{Memory}
+use Rattle.flt_dem.specs.Faults.{without_entry}
 use Rattle.flt_dem.specs.Standing.{MemoryStands}
+use Rattle.flt_dem.specs.Events.{EventsView, holding}
+use Rattle.flt_dem.specs.Calls.{StandsAfter, StandsPartly}
 
 module _ (life : Life) (event : ℕ) (signals : List ℕ) (marks : Trace) where
   cleared_entry : (other : ℕ) → entry_of life other (Of event Clear signals ∷ marks) ≡ entry_of life other marks
@@ -30,11 +35,10 @@ module _ (life : Life) (event : ℕ) (signals : List ℕ) (marks : Trace) where
       map_same _ _ (filter (is_other event) (holders life marks)) (λ other among. cleared_entry other ∙ sym (displaced_entry life event other signals marks))
       ∙ displaced_entries life event signals marks
 
-  pub memory_cleared : (old new : Memory) → new.entries ≡ filter (λ entry. not (is_of_event event entry)) old.entries → new.overflow ≡ old.overflow →
-      MemoryStands life marks old → MemoryStands life (Of event Clear signals ∷ marks) new
-  memory_cleared old new entries_are overflow_is held = record {
-    entries = entries_are ∙ ap (λ xs. filter (λ entry. not (is_of_event event entry)) xs) held.entries ∙ sym cleared_entries;
-    overflow = overflow_is ∙ held.overflow;
+  pub memory_cleared : (held : Memory) → MemoryStands life marks held → MemoryStands life (Of event Clear signals ∷ marks) (without_entry event held)
+  memory_cleared held stood = record {
+    entries = ap (λ xs. filter (λ entry. not (is_of_event event entry)) xs) stood.entries ∙ sym cleared_entries;
+    overflow = stood.overflow;
   }
 
 -- entries whose events are both below and not below a number are none
@@ -52,6 +56,15 @@ left_more done held last is left =
     let passes = filter_passes (λ (entry : EntryState). not (is_of_event done entry)) held k d within in
     let apart : (get_or kept k d).event ≢ done = λ same. let own = eq-eqb (get_or kept k d).event done same in absurd (cc (ap not own, passes)) in
     omega (arith, above, apart))
+
+-- The events below a number are cleared, and the memory was emptied first. The entries that are held stand for those that a memory would
+-- have that gave up one entry with each event: once each event is cleared they are none, as the memory's are.
+pub record ClearedBelow (done : ℕ) (before now : EventsView) : Type 0 where
+  pub held : Memory
+  pub stands : (life : Life) (past : History) (tester : ℕ) (bytes : ArrayVec ℕ) → cleared_dtc (ops.Request tester bytes) ≡ Some all_dtcs →
+      StandsAfter life past before → StandsPartly life past (ops.Request tester bytes) done (holding held now)
+  pub left : All (λ entry. done ≤ entry.event) held.entries
+  pub within : All (λ entry. entry.event < length before.faults.config.events.items) held.entries
 
 -- ---- DTCs
 

@@ -4,12 +4,17 @@ use Rattle.std.proofs.Math.ListN.{length-set}
 use Rattle.std.proofs.lemmas.Bool.{cases_eq, ne_eqb}
 use Rattle.std.proofs.lemmas.Option.{get_or_from_slice_get}
 use Rattle.std.specs.Prelude.{slice_get, slice_set}
+use Rattle.std.specs.List.{refill}
+use Rattle.std.proofs.lemmas.Option.{slice_get-get_or}
+use Rattle.flt_config.specs.declared.config.Config.{Config}
 use Rattle.flt_config.specs.declared.config.EventCfg.{EventCfg}
 use Rattle.flt_model.specs.Life.{Life, count, event_of}
 use Rattle.flt_model.specs.Debounce.{Happening, Happenings, IsStateOf, debounced}
 use Rattle.flt_model.specs.declared.call.DebState.{DebState}
 use Rattle.flt_model.specs.declared.call.DebState.TheVariants.{Count}
 use Rattle.flt_dem.specs.Debounces.{DebouncesStand, AreOfKind, and_then}
+use Rattle.flt_dem.specs.Events.{IsOfConfig}
+use Rattle.flt_dem.proofs.ReadLemmas.{refill-set}
 use Rattle.flt_model.proofs.Common.{slice_get-set_same, slice_get-set_other}
 
 -- what a callee is lent where a slice of debounce states is indexed
@@ -50,3 +55,30 @@ kind_kept events debounces event rules new within is kind kinds other other_rule
     subst (λ r. IsStateOf r.debounce state) which (subst (λ x. IsStateOf rules.debounce x) now kind))
     (λ ne. kinds other other_rules state found (sym (slice_get-set_other debounces event other new ne) ∙ at))
     (cases_eq event other)
+
+-- ---- one event's debouncing that is lent
+
+-- it is what its happenings made of it
+pub was_debounced : (life : Life) (items : ℕ → Happenings) (event : ℕ) (rules : EventCfg) (debounces lent : List DebState) → lent ≡ debounces → rules ≡ event_of life event →
+    event < count life → DebouncesStand life items debounces → get_or lent event blank ≡ debounced rules.debounce (items event)
+was_debounced life items event rules debounces lent is found within s =
+    ap (λ xs. get_or xs event blank) is ∙ read_debounce life items event debounces within s ∙ ap (λ k. debounced k.debounce (items event)) (sym found)
+
+module _ (config : Config) (debounces lent : List DebState) (event : ℕ) (rules : EventCfg) (found : slice_get config.events.items event ≡ Some rules) (is : lent ≡ debounces)
+    (within : event < length config.events.items) (of_config : IsOfConfig config debounces) where
+  -- it is of the event's kind
+  pub kind_read : IsStateOf rules.debounce (get_or lent event blank)
+  kind_read =
+      let inside : event < length debounces = omega (arith, of_config.one_each) in
+      of_config.kinds event rules (get_or lent event blank) found
+      (slice_get-get_or debounces event blank inside ∙ ap Some (ap (λ xs. get_or xs event blank) (sym is)))
+
+  -- and where another of this kind comes back, each is
+  pub kept_of_config : (now : Config) (new : DebState) → now ≡ config → IsStateOf rules.debounce new →
+      IsOfConfig now (refill (length debounces) debounces (slice_set lent event new))
+  kept_of_config now new same kind =
+      subst (λ k. IsOfConfig k (refill (length debounces) debounces (slice_set lent event new))) (sym same)
+      (subst (λ xs. IsOfConfig config xs) (sym (refill-set debounces lent event new is)) (record {
+        one_each = length-set debounces event new ∙ of_config.one_each;
+        kinds = kind_kept config.events.items debounces event rules new (omega (arith, of_config.one_each)) found kind of_config.kinds;
+      }))

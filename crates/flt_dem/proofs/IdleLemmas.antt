@@ -8,7 +8,7 @@ use Rattle.flt_model.specs.Session.{holds_off, is_extended, is_setting_off}
 use Rattle.flt_model.specs.Trace.{with_clear}
 use Rattle.flt_model.specs.declared.call.Op.{Op}
 use Rattle.flt_model.specs.declared.call.Op.TheVariants as ops
-use Rattle.flt_dem.specs.Manager.{Manager, StandsFor}
+use Rattle.flt_dem.specs.Manager.{Manager, StandsFor, events_of}
 use Rattle.flt_dem.specs.Laws.{IsIdle, ClearsNothing, HasNoRequest}
 use Rattle.flt_dem.proofs.CallLemmas.{stands_none}
 
@@ -29,24 +29,24 @@ module _ (life : Life) where
   stands_idle past manager (ops.Tick ticks) idle s = absurd idle
   stands_idle past manager (ops.Cycle cycle) idle s = absurd idle
   stands_idle past manager (ops.Request tester bytes) idle s = record {
-    events = stands_none life past (ops.Request tester bytes) manager.debounces manager.faults
+    events = stands_none life past (ops.Request tester bytes) (events_of manager)
         (λ marks. clears_not_all (cleared_dtc (ops.Request tester bytes)) marks idle)
         (λ event within. clears_no_event (cleared_dtc (ops.Request tester bytes)) event within idle) s.events;
     started = s.started;
     signals = s.signals;
   }
   stands_idle past manager (ops.Show event) idle s = record {
-    events = stands_none life past (ops.Show event) manager.debounces manager.faults (λ marks. refl) (λ other within. refl) s.events;
+    events = stands_none life past (ops.Show event) (events_of manager) (λ marks. refl) (λ other within. refl) s.events;
     started = s.started;
     signals = s.signals;
   }
   stands_idle past manager ops.Snapshot idle s = record {
-    events = stands_none life past ops.Snapshot manager.debounces manager.faults (λ marks. refl) (λ other within. refl) s.events;
+    events = stands_none life past ops.Snapshot (events_of manager) (λ marks. refl) (λ other within. refl) s.events;
     started = s.started;
     signals = s.signals;
   }
   stands_idle past manager (ops.Saved generation) idle s = record {
-    events = stands_none life past (ops.Saved generation) manager.debounces manager.faults (λ marks. refl) (λ other within. refl) s.events;
+    events = stands_none life past (ops.Saved generation) (events_of manager) (λ marks. refl) (λ other within. refl) s.events;
     started = s.started;
     signals = s.signals;
   }

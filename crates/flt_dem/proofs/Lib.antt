@@ -15,3 +15,4 @@ pub mod ManagerLemmas
 pub mod ClearLemmas
 pub mod IdleLemmas
 pub mod ViewLemmas
+pub mod ReadLemmas

@@ -19,7 +19,8 @@ use Rattle.flt_model.specs.declared.call.Report.{Report}
 use Rattle.flt_model.proofs.Common.{slice_get-set_same, slice_get-set_other}
 use Rattle.flt_model.proofs.RangeLaws.{debouncing_stays_in_range}
 use Rattle.flt_dem.specs.Debounces.{DebouncesStand, AreOfKind}
-use Rattle.flt_dem.specs.Manager.{Manager, IsOfConfig, StandsFor, is_cycle_started, cause_of, reply_of}
+use Rattle.flt_dem.specs.Events.{IsOfConfig}
+use Rattle.flt_dem.specs.Manager.{Manager, StandsFor, events_of, is_cycle_started, cause_of, reply_of}
 use Rattle.flt_dem.proofs.CallLemmas.{stands_none}
 use Rattle.flt_dem.proofs.PartLemmas.{ignored_report}
 
@@ -149,7 +150,7 @@ counts_where life past event on started on_is started_is =
 pub stands_ignored : (life : Life) (past : History) (manager : Manager) (event : ℕ) (report : Report) → counts_report life event past ≡ false →
     StandsFor life past manager → StandsFor life (ops.Report event report ∷ past) manager
 stands_ignored life past manager event report ignored s = record {
-  events = stands_none life past (ops.Report event report) manager.debounces manager.faults (λ marks. refl) (λ other within. ignored_report life past event other report ignored) s.events;
+  events = stands_none life past (ops.Report event report) (events_of manager) (λ marks. refl) (λ other within. ignored_report life past event other report ignored) s.events;
   started = s.started;
   signals = s.signals;
 }

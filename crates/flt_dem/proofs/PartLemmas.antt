@@ -12,12 +12,11 @@ use Rattle.flt_model.specs.Debounce.{Happening, Happenings, Reported, Ticked, En
 use Rattle.flt_model.specs.Happening.{happening_of, happenings, signals as signals_after, own_report, reported_where, counts_report, cleared_dtc, happening_of_clear, cleared_where, reaches}
 use Rattle.flt_model.specs.Session.{is_setting_off}
 use Rattle.flt_model.specs.Trace.{event_part, with_marks, with_result, with_cycle}
-use Rattle.flt_model.specs.declared.call.DebState.{DebState}
 use Rattle.flt_model.specs.declared.call.Op.{Op}
 use Rattle.flt_model.specs.declared.call.Op.TheVariants as ops
 use Rattle.flt_model.specs.declared.call.Qualified.{Qualified}
 use Rattle.flt_model.specs.declared.call.Report.{Report}
-use Rattle.flt_dem.specs.Faults.{FaultsView}
+use Rattle.flt_dem.specs.Events.{EventsView}
 use Rattle.flt_dem.specs.Standing.{FaultsStand}
 use Rattle.flt_dem.specs.Debounces.{DebouncesStand, and_then}
 use Rattle.flt_dem.specs.Calls.{StandsWith}
@@ -25,55 +24,55 @@ use Rattle.flt_dem.specs.Manager.{IsOfOtherCycle}
 use Rattle.flt_dem.proofs.CallLemmas.{debounces_same, and_then-own, and_then-other}
 
 -- the happening that a call is for an event decides its part
-part_of : (life : Life) (past : History) (op : Op) (event : ℕ) (happening : Option Happening) (items : ℕ → Happenings) (marks : Trace) (debounces : List DebState) (faults : FaultsView) →
-    happening_of life event past op ≡ happening → DebouncesStand life (and_then event happening items) debounces → FaultsStand life (with_marks life event past happening marks) faults →
-    StandsWith life (and_then event (happening_of life event past op) items) (event_part life past op event marks) debounces faults
-part_of life past op event happening items marks debounces faults is d f = record {
-  debounces_stand = subst (λ h. DebouncesStand life (and_then event h items) debounces) (sym is) d;
-  faults_stand = subst (λ h. FaultsStand life (with_marks life event past h marks) faults) (sym is) f;
+part_of : (life : Life) (past : History) (op : Op) (event : ℕ) (happening : Option Happening) (items : ℕ → Happenings) (marks : Trace) (events : EventsView) →
+    happening_of life event past op ≡ happening → DebouncesStand life (and_then event happening items) events.debounces → FaultsStand life (with_marks life event past happening marks) events.faults →
+    StandsWith life (and_then event (happening_of life event past op) items) (event_part life past op event marks) events
+part_of life past op event happening items marks events is d f = record {
+  debounces_stand = subst (λ h. DebouncesStand life (and_then event h items) events.debounces) (sym is) d;
+  faults_stand = subst (λ h. FaultsStand life (with_marks life event past h marks) events.faults) (sym is) f;
 }
 
-module _ (life : Life) (past : History) (event : ℕ) (items : ℕ → Happenings) (marks : Trace) (debounces : List DebState) (faults : FaultsView) (own : items event ≡ happenings life event past) where
+module _ (life : Life) (past : History) (event : ℕ) (items : ℕ → Happenings) (marks : Trace) (events : EventsView) (own : items event ≡ happenings life event past) where
   -- what the happening qualifies, with the signals of the moment
   result_is : (happening : Happening) (signals : List ℕ) (outcome : Option Qualified) → signals ≡ signals_after past → outcome ≡ qualified (event_of life event).debounce (items event) happening →
-      FaultsStand life (with_result life signals event outcome marks) faults →
-      FaultsStand life (with_result life (signals_after past) event (qualified (event_of life event).debounce (happenings life event past) happening) marks) faults
+      FaultsStand life (with_result life signals event outcome marks) events.faults →
+      FaultsStand life (with_result life (signals_after past) event (qualified (event_of life event).debounce (happenings life event past) happening) marks) events.faults
   result_is happening signals outcome signals_are outcome_is f =
-      subst (λ o. FaultsStand life (with_result life (signals_after past) event o marks) faults)
+      subst (λ o. FaultsStand life (with_result life (signals_after past) event o marks) events.faults)
       (outcome_is ∙ ap (λ before. qualified (event_of life event).debounce before happening) own)
-      (subst (λ values. FaultsStand life (with_result life values event outcome marks) faults) signals_are f)
+      (subst (λ values. FaultsStand life (with_result life values event outcome marks) events.faults) signals_are f)
 
   pub part_of_ticks : (ticks : ℕ) (signals : List ℕ) (outcome : Option Qualified) → is_setting_off past ≡ false → signals ≡ signals_after past →
-      outcome ≡ qualified (event_of life event).debounce (items event) (Ticked ticks) → DebouncesStand life (and_then event (Some (Ticked ticks)) items) debounces →
-      FaultsStand life (with_result life signals event outcome marks) faults →
-      StandsWith life (and_then event (happening_of life event past (ops.Tick ticks)) items) (event_part life past (ops.Tick ticks) event marks) debounces faults
+      outcome ≡ qualified (event_of life event).debounce (items event) (Ticked ticks) → DebouncesStand life (and_then event (Some (Ticked ticks)) items) events.debounces →
+      FaultsStand life (with_result life signals event outcome marks) events.faults →
+      StandsWith life (and_then event (happening_of life event past (ops.Tick ticks)) items) (event_part life past (ops.Tick ticks) event marks) events
   part_of_ticks ticks signals outcome on signals_are outcome_is d f =
       let is : happening_of life event past (ops.Tick ticks) ≡ Some (Ticked ticks) = ap (λ b. cond b None (Some (Ticked ticks))) on in
-      part_of life past (ops.Tick ticks) event (Some (Ticked ticks)) items marks debounces faults is d (result_is (Ticked ticks) signals outcome signals_are outcome_is f)
+      part_of life past (ops.Tick ticks) event (Some (Ticked ticks)) items marks events is d (result_is (Ticked ticks) signals outcome signals_are outcome_is f)
 
   pub part_of_report : (report : Report) (signals : List ℕ) (outcome : Option Qualified) → counts_report life event past ≡ true → signals ≡ signals_after past →
-      outcome ≡ qualified (event_of life event).debounce (items event) (Reported report) → DebouncesStand life (and_then event (Some (Reported report)) items) debounces →
-      FaultsStand life (with_result life signals event outcome marks) faults →
-      StandsWith life (and_then event (happening_of life event past (ops.Report event report)) items) (event_part life past (ops.Report event report) event marks) debounces faults
+      outcome ≡ qualified (event_of life event).debounce (items event) (Reported report) → DebouncesStand life (and_then event (Some (Reported report)) items) events.debounces →
+      FaultsStand life (with_result life signals event outcome marks) events.faults →
+      StandsWith life (and_then event (happening_of life event past (ops.Report event report)) items) (event_part life past (ops.Report event report) event marks) events
   part_of_report report signals outcome counts signals_are outcome_is d f =
       let is : happening_of life event past (ops.Report event report) ≡ Some (Reported report) =
       ap (λ b. reported_where (own_report life event past b) (Reported report)) (eq-eqb event event refl)
       ∙ ap (λ b. reported_where (Some b) (Reported report)) counts in
-      part_of life past (ops.Report event report) event (Some (Reported report)) items marks debounces faults is d (result_is (Reported report) signals outcome signals_are outcome_is f)
+      part_of life past (ops.Report event report) event (Some (Reported report)) items marks events is d (result_is (Reported report) signals outcome signals_are outcome_is f)
 
-  pub part_of_own_cycle : (cycle : ℕ) → (event_of life event).cycle ≡ cycle → DebouncesStand life (and_then event (Some Ended) items) debounces →
-      FaultsStand life (with_cycle life (signals_after past) event marks) faults →
-      StandsWith life (and_then event (happening_of life event past (ops.Cycle cycle)) items) (event_part life past (ops.Cycle cycle) event marks) debounces faults
+  pub part_of_own_cycle : (cycle : ℕ) → (event_of life event).cycle ≡ cycle → DebouncesStand life (and_then event (Some Ended) items) events.debounces →
+      FaultsStand life (with_cycle life (signals_after past) event marks) events.faults →
+      StandsWith life (and_then event (happening_of life event past (ops.Cycle cycle)) items) (event_part life past (ops.Cycle cycle) event marks) events
   part_of_own_cycle cycle same d f =
       let is : happening_of life event past (ops.Cycle cycle) ≡ Some Ended = ap (λ b. cond b (Some Ended) None) (eq-eqb cycle (event_of life event).cycle (sym same)) in
-      part_of life past (ops.Cycle cycle) event (Some Ended) items marks debounces faults is d f
+      part_of life past (ops.Cycle cycle) event (Some Ended) items marks events is d f
 
-  pub part_of_other_cycle : (cycle : ℕ) → (event_of life event).cycle ≢ cycle → StandsWith life items marks debounces faults →
-      StandsWith life (and_then event (happening_of life event past (ops.Cycle cycle)) items) (event_part life past (ops.Cycle cycle) event marks) debounces faults
+  pub part_of_other_cycle : (cycle : ℕ) → (event_of life event).cycle ≢ cycle → StandsWith life items marks events →
+      StandsWith life (and_then event (happening_of life event past (ops.Cycle cycle)) items) (event_part life past (ops.Cycle cycle) event marks) events
   part_of_other_cycle cycle ne s =
       let is : happening_of life event past (ops.Cycle cycle) ≡ None = ap (λ b. cond b (Some Ended) None) (ne_eqb cycle (event_of life event).cycle (λ d. ne (sym d))) in
-      part_of life past (ops.Cycle cycle) event None items marks debounces faults is
-      (debounces_same life items (and_then event None items) debounces (λ other h.
+      part_of life past (ops.Cycle cycle) event None items marks events is
+      (debounces_same life items (and_then event None items) events.debounces (λ other h.
       ⊎_elim (λ same. subst (λ x. items x ≡ and_then event None items x) same (sym (and_then-own event None items)))
       (λ apart. sym (and_then-other event other None items apart)) (cases_eq event other)) s.debounces_stand)
       s.faults_stand
@@ -102,14 +101,14 @@ other_of_cycle config cycle event other rules within read own apart same =
     (rw found at here) own
 
 -- a clear of a DTC that reaches the event
-pub part_of_clear : (life : Life) (past : History) (event tester dtc : ℕ) (bytes : ArrayVec ℕ) (items : ℕ → Happenings) (marks : Trace) (debounces : List DebState) (faults : FaultsView) →
-    cleared_dtc (ops.Request tester bytes) ≡ Some dtc → reaches life event dtc ≡ true → DebouncesStand life (and_then event (Some Cleared) items) debounces →
-    FaultsStand life (Of event Clear (signals_after past) ∷ marks) faults →
-    StandsWith life (and_then event (happening_of life event past (ops.Request tester bytes)) items) (event_part life past (ops.Request tester bytes) event marks) debounces faults
-part_of_clear life past event tester dtc bytes items marks debounces faults clears reached d f =
+pub part_of_clear : (life : Life) (past : History) (event tester dtc : ℕ) (bytes : ArrayVec ℕ) (items : ℕ → Happenings) (marks : Trace) (events : EventsView) →
+    cleared_dtc (ops.Request tester bytes) ≡ Some dtc → reaches life event dtc ≡ true → DebouncesStand life (and_then event (Some Cleared) items) events.debounces →
+    FaultsStand life (Of event Clear (signals_after past) ∷ marks) events.faults →
+    StandsWith life (and_then event (happening_of life event past (ops.Request tester bytes)) items) (event_part life past (ops.Request tester bytes) event marks) events
+part_of_clear life past event tester dtc bytes items marks events clears reached d f =
     let is : happening_of life event past (ops.Request tester bytes) ≡ Some Cleared =
     ap (λ c. happening_of_clear life event c) clears ∙ ap (λ b. cleared_where b) reached in
-    part_of life past (ops.Request tester bytes) event (Some Cleared) items marks debounces faults is d f
+    part_of life past (ops.Request tester bytes) event (Some Cleared) items marks events is d f
 
 -- a clear of a DTC that does not
 pub other_clear : (life : Life) (past : History) (event tester dtc : ℕ) (bytes : ArrayVec ℕ) → cleared_dtc (ops.Request tester bytes) ≡ Some dtc → reaches life event dtc ≡ false →

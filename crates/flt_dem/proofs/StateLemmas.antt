@@ -1,12 +1,12 @@
 -- What one more mark does to the states.
-use Rattle.std.proofs.Common.{◌≡◌, ◌∙◌, ◌≢◌, ℕ, ◌<◌, nat_eq, Bool, true, false, cond, List, ◌∷◌, get_or, Some, unwrap_or, arith, refl, sym, ap, subst, eq-eqb, ⊎_elim, inl, inr}
+use Rattle.std.proofs.Common.{◌≡◌, ◌∙◌, ◌≢◌, ℕ, ◌<◌, nat_eq, Bool, true, false, cond, List, ◌∷◌, get_or, Some, arith, refl, sym, ap, subst, eq-eqb, ⊎_elim, inl, inr}
 use Rattle.std.proofs.Math.ListN.{length-set}
 use Rattle.std.proofs.lemmas.Bool.{cases_Bool, cases_eq, ne_eqb}
-use Rattle.std.proofs.lemmas.Option.{slice_get_read, get_or_from_slice_get}
+use Rattle.std.proofs.lemmas.Option.{get_or_from_slice_get}
 use Rattle.std.specs.Prelude.{slice_get, slice_set}
 use Rattle.flt_config.specs.declared.config.EventCfg.{EventCfg}
 use Rattle.flt_config.specs.declared.persist.EventState.{EventState}
-use Rattle.flt_model.specs.Life.{Life, count, event_of, base_of, no_event}
+use Rattle.flt_model.specs.Life.{Life, count, event_of, base_of}
 use Rattle.flt_model.specs.Mark.{Mark, Trace, Of, marks_of, own}
 use Rattle.flt_model.specs.Mark.Mark.{Cycle, Aged, Added, Refused}
 use Rattle.flt_model.specs.Status.{durable, ages}
@@ -76,14 +76,15 @@ states_added life event signals marks states s = record { one_each = s.one_each;
 pub states_refused : (life : Life) (event : ℕ) (signals : List ℕ) (marks : Trace) (states : List EventState) → StatesStand life marks states → StatesStand life (Of event Refused signals ∷ marks) states
 states_refused life event signals marks states s = record { one_each = s.one_each; each = λ other h. s.each other h ∙ ap Some (sym (refused_state life event other signals marks)) }
 
--- what is read of an event
-pub read_config : (life : Life) (event : ℕ) (found : EventCfg) → event < count life → found ≡ get_or life.config.events.items event found → found ≡ event_of life event
-read_config life event found within is =
-    ap (λ o. unwrap_or o no_event) (sym (slice_get_read life.config.events.items (count life) event found refl within is))
-
 -- what a callee is lent where a slice of states is indexed
 abbrev pub blank : EventState
 blank = record { status = 0; failed = 0; clean = 0; lit = false }
 
 pub read_state : (life : Life) (event : ℕ) (marks : Trace) (states : List EventState) → event < count life → StatesStand life marks states → get_or states event blank ≡ state_at life marks event
 read_state life event marks states within s = get_or_from_slice_get states event (state_at life marks event) blank (s.each event within)
+
+-- the state of an event that is lent is what its marks made of it
+pub was_state : (life : Life) (event : ℕ) (rules : EventCfg) (marks : Trace) (states lent : List EventState) → lent ≡ states → rules ≡ event_of life event → event < count life →
+    StatesStand life marks states → get_or lent event blank ≡ durable (base_of life event) rules (marks_of event marks)
+was_state life event rules marks states lent is found within s =
+    ap (λ xs. get_or xs event blank) is ∙ read_state life event marks states within s ∙ ap (λ k. durable (base_of life event) k (marks_of event marks)) (sym found)

@@ -1,24 +1,29 @@
 -- A call of which each event takes its part, in order of number.
-use Rattle.std.specs.Prelude.{◌≡◌, ℕ, nat_lt, if◌then◌else◌, List, ◌∷◌}
+use Rattle.std.specs.Prelude.{◌≡◌, ℕ, nat_lt, true, false, Some, if◌then◌else◌, List, ◌∷◌}
 use Rattle.flt_model.specs.Life.{Life, History}
 use Rattle.flt_model.specs.Mark.{Trace}
 use Rattle.flt_model.specs.Debounce.{Happenings}
-use Rattle.flt_model.specs.Happening.{happening_of, happenings}
+use Rattle.flt_model.specs.Happening.{happening_of, happenings, signals, counts_report, cleared_dtc, all_dtcs, reaches}
+use Rattle.flt_model.specs.Session.{is_setting_off}
+use Rattle.flt_model.specs.Request.{RequestBytes}
 use Rattle.flt_model.specs.Trace.{trace, in_order, event_part}
-use Rattle.flt_model.specs.declared.call.DebState.{DebState}
 use Rattle.flt_model.specs.declared.call.Op.{Op}
-use Rattle.flt_dem.specs.Faults.{FaultsView}
+use Rattle.flt_model.specs.declared.call.Op.TheVariants as ops
+use Rattle.flt_model.specs.declared.call.Report.{Report}
+use Rattle.flt_memory.specs.Memory.{Memory}
+use Rattle.flt_dem.specs.Faults.{without_entry}
 use Rattle.flt_dem.specs.Standing.{FaultsStand}
 use Rattle.flt_dem.specs.Debounces.{DebouncesStand, and_then}
+use Rattle.flt_dem.specs.Events.{EventsView, holding}
 
 -- events with these happenings, and these marks of all
-pub record StandsWith (life : Life) (items : ℕ → Happenings) (marks : Trace) (debounces : List DebState) (faults : FaultsView) : Type 0 where
-  pub debounces_stand : DebouncesStand life items debounces
-  pub faults_stand : FaultsStand life marks faults
+pub record StandsWith (life : Life) (items : ℕ → Happenings) (marks : Trace) (events : EventsView) : Type 0 where
+  pub debounces_stand : DebouncesStand life items events.debounces
+  pub faults_stand : FaultsStand life marks events.faults
 
 -- what the calls so far make of them
-abbrev pub StandsAfter : Life → History → List DebState → FaultsView → Type 0
-StandsAfter life past debounces faults = StandsWith life (λ event. happenings life event past) (trace life past) debounces faults
+abbrev pub StandsAfter : Life → History → EventsView → Type 0
+StandsAfter life past events = StandsWith life (λ event. happenings life event past) (trace life past) events
 
 -- the events below a number have taken their parts of a call, and the others have not
 module _ (life : Life) (past : History) (op : Op) (done : ℕ) where
@@ -28,11 +33,53 @@ module _ (life : Life) (past : History) (op : Op) (done : ℕ) where
   abbrev pub marks_partly : Trace
   marks_partly = in_order (event_part life past op) done (trace life past)
 
-  abbrev pub StandsPartly : List DebState → FaultsView → Type 0
-  StandsPartly debounces faults = StandsWith life items_partly marks_partly debounces faults
+  abbrev pub StandsPartly : EventsView → Type 0
+  StandsPartly events = StandsWith life items_partly marks_partly events
 
 -- one event takes its part of a call, whatever the events before it made of theirs
-abbrev pub TakesPart : Life → History → Op → ℕ → List DebState → FaultsView → List DebState → FaultsView → Type 0
-TakesPart life past op event debounces faults new_debounces new_faults =
-    (items : ℕ → Happenings) (marks : Trace) → items event ≡ happenings life event past → StandsWith life items marks debounces faults →
-    StandsWith life (and_then event (happening_of life event past op) items) (event_part life past op event marks) new_debounces new_faults
+abbrev pub TakesPart : Life → History → Op → ℕ → EventsView → EventsView → Type 0
+TakesPart life past op event old new =
+    (items : ℕ → Happenings) (marks : Trace) → items event ≡ happenings life event past → StandsWith life items marks old →
+    StandsWith life (and_then event (happening_of life event past op) items) (event_part life past op event marks) new
+
+-- ---- What each kind of call makes of the events, in words for contracts.
+
+-- a report that counts is taken at these signals
+abbrev pub TakeReport : ℕ → Report → List ℕ → EventsView → EventsView → Type 0
+TakeReport event report values old new =
+    (life : Life) (past : History) → counts_report life event past ≡ true → values ≡ signals past →
+    StandsAfter life past old → StandsAfter life (ops.Report event report ∷ past) new
+
+-- ticks go by at these signals, with the setting on: for one event, and for all
+module _ (ticks : ℕ) (values : List ℕ) where
+  abbrev pub TakesPartOfTicks : ℕ → EventsView → EventsView → Type 0
+  TakesPartOfTicks event old new =
+      (life : Life) (past : History) → is_setting_off past ≡ false → values ≡ signals past → TakesPart life past (ops.Tick ticks) event old new
+
+  abbrev pub TakeTicks : EventsView → EventsView → Type 0
+  TakeTicks old new =
+      (life : Life) (past : History) → is_setting_off past ≡ false → values ≡ signals past →
+      StandsAfter life past old → StandsAfter life (ops.Tick ticks ∷ past) new
+
+-- an operation cycle ends: for one event, and for all
+abbrev pub TakesPartOfCycle : ℕ → ℕ → EventsView → EventsView → Type 0
+TakesPartOfCycle cycle event old new = (life : Life) (past : History) → TakesPart life past (ops.Cycle cycle) event old new
+
+abbrev pub TakeCycle : ℕ → EventsView → EventsView → Type 0
+TakeCycle cycle old new = (life : Life) (past : History) → StandsAfter life past old → StandsAfter life (ops.Cycle cycle ∷ past) new
+
+-- a tester's request clears a DTC that reaches the event: its part
+abbrev pub TakesPartOfClear : ℕ → EventsView → EventsView → Type 0
+TakesPartOfClear event old new =
+    (life : Life) (past : History) (tester dtc : ℕ) (bytes : RequestBytes) → cleared_dtc (ops.Request tester bytes) ≡ Some dtc →
+    reaches life event dtc ≡ true → TakesPart life past (ops.Request tester bytes) event old new
+
+-- it takes that part whatever entries are held, and gives up its own
+abbrev pub TakesPartOfAnyClear : ℕ → EventsView → EventsView → Type 0
+TakesPartOfAnyClear event old new = (held : Memory) → TakesPartOfClear event (holding held old) (holding (without_entry event held) new)
+
+-- a tester's request clears all
+abbrev pub TakeClearOfAll : EventsView → EventsView → Type 0
+TakeClearOfAll old new =
+    (life : Life) (past : History) (tester : ℕ) (bytes : RequestBytes) → cleared_dtc (ops.Request tester bytes) ≡ Some all_dtcs →
+    StandsAfter life past old → StandsAfter life (ops.Request tester bytes ∷ past) new

@@ -1,7 +1,8 @@
 -- The durable part of the event manager, as a contract sees it.
-use Rattle.std.specs.Prelude.{◌≡◌, ◌<◌, ◌≤◌, List, length, All}
+use Rattle.std.specs.Prelude.{◌≡◌, ◌≢◌, ◌<◌, ◌≤◌, ℕ, List, length, All, None, not, filter, find, slice_get}
 use Rattle.flt_config.specs.declared.config.Config.{Config}
 use Rattle.flt_config.specs.declared.persist.EventState.{EventState}
+use Rattle.flt_config.specs.Durable.{is_of_event}
 use Rattle.flt_memory.specs.Memory.{Memory}
 use Rattle.flt_dem.specs.declared.notes.Notes.{Notes}
 
@@ -17,3 +18,20 @@ pub record AreOfConfig (config : Config) (states : List EventState) (memory : Me
   pub one_each : length states ≡ length config.events.items
   pub within : All (λ entry. entry.event < length config.events.items) memory.entries
   pub room : length memory.entries ≤ config.memory
+
+-- the memory without the entry of an event
+abbrev pub without_entry : ℕ → Memory → Memory
+without_entry event memory = record memory { entries = filter (λ entry. not (is_of_event event entry)) memory.entries }
+
+-- the durable part with these entries in place of its own
+abbrev pub with_memory : Memory → FaultsView → FaultsView
+with_memory memory faults = record faults { memory = memory }
+
+-- the states of the other events are as before
+abbrev pub KeepsOthers : ℕ → FaultsView → FaultsView → Type 0
+KeepsOthers event old new = (other : ℕ) → other ≢ event → slice_get new.states other ≡ slice_get old.states other
+
+-- those of the other events without an entry are
+abbrev pub KeepsOthersWithoutEntry : ℕ → FaultsView → FaultsView → Type 0
+KeepsOthersWithoutEntry event old new =
+    (other : ℕ) → other ≢ event → find (is_of_event other) old.memory.entries ≡ None → slice_get new.states other ≡ slice_get old.states other

@@ -1,5 +1,5 @@
 -- The event manager as a contract sees it, and what it stands for.
-use Rattle.std.specs.Prelude.{◌≡◌, ◌≢◌, ℕ, ◌<◌, Bool, true, false, List, length, slice_get, unwrap_or, Option, Some, None, IfSome}
+use Rattle.std.specs.Prelude.{◌≡◌, ◌≢◌, ℕ, ◌<◌, Bool, true, false, List, slice_get, unwrap_or, Option, Some, None, IfSome}
 use Rattle.flt_config.specs.declared.config.Config.{Config}
 use Rattle.flt_model.specs.Life.{Life, History, no_event}
 use Rattle.flt_model.specs.Happening.{is_started, signals}
@@ -9,7 +9,7 @@ use Rattle.flt_model.specs.declared.call.Cause.TheVariants.{SettingOff, NotStart
 use Rattle.flt_model.specs.declared.call.Reply.{Reply}
 use Rattle.flt_model.specs.declared.call.Reply.TheVariants as replies
 use Rattle.flt_dem.specs.Faults.{FaultsView}
-use Rattle.flt_dem.specs.Debounces.{AreOfKind}
+use Rattle.flt_dem.specs.Events.{EventsView}
 use Rattle.flt_dem.specs.Calls.{StandsAfter}
 
 -- the durable part, the debouncing of each event, which cycles are started, and the signals
@@ -19,14 +19,13 @@ pub record Manager : Type 0 where
   pub started : List Bool
   pub signals : List ℕ
 
--- one debouncing for each event, of its kind
-pub record IsOfConfig (config : Config) (debounces : List DebState) : Type 0 where
-  pub one_each : length debounces ≡ length config.events.items
-  pub kinds : AreOfKind config.events.items debounces
+-- what it has of the events
+abbrev pub events_of : Manager → EventsView
+events_of manager = record { faults = manager.faults; debounces = manager.debounces }
 
 -- a manager that is what the base and the calls since power-up make of it
 pub record StandsFor (life : Life) (past : History) (manager : Manager) : Type 0 where
-  pub events : StandsAfter life past manager.debounces manager.faults
+  pub events : StandsAfter life past (events_of manager)
   pub started : (cycle : ℕ) → cycle < 4 → slice_get manager.started cycle ≡ Some (is_started cycle past)
   pub signals : manager.signals ≡ signals past
 

@@ -55,3 +55,7 @@ IsDisplacedBelow count _ = Unit {0}
 abbrev pub IsNotDisplaced : ℕ → Stored → Type 0
 IsNotDisplaced event (outcomes.Displaced other) = event ≢ other
 IsNotDisplaced event _ = Unit {0}
+
+-- the durable part stands before, and stands with more marks after
+abbrev pub Bears : (Life → Trace → Trace) → FaultsView → FaultsView → Type 0
+Bears more old new = (life : Life) (marks : Trace) → FaultsStand life marks old → FaultsStand life (more life marks) new

@@ -1,6 +1,6 @@
 //! The durable part of the event manager: states, entries and notes, one mark at a time.
 
-ghost use Rattle.std.specs.Prelude.{◌≡◌, ◌≢◌, ◌<◌, ◌≤◌, [], ◌∷◌, ℕ, List, length, slice_get, find, filter, position, not, All, Some, None, option_copied, option_map, unwrap_or};
+ghost use Rattle.std.specs.Prelude.{◌≡◌, ◌≢◌, ◌<◌, ◌≤◌, [], ◌∷◌, ℕ, List, length, slice_get, find, position, All, Some, false, option_copied, option_map, unwrap_or};
 ghost use Rattle.flt_config.specs.Validity.{IsValid, has_dtc};
 ghost use Rattle.flt_config.specs.Durable.{Fits, is_of_event};
 ghost use Rattle.flt_model.specs.Life.{Life, fresh};
@@ -12,14 +12,16 @@ ghost use Rattle.flt_model.specs.Entry.{has_entry};
 ghost use Rattle.flt_model.specs.Answer.{entry_where};
 ghost use Rattle.flt_did.specs.Table.{dids_of};
 ghost use Rattle.flt_did.specs.Serves.{Serves};
-ghost use Rattle.flt_dem.specs.Standing.{FaultsStand};
+ghost use Rattle.flt_memory.specs.Memory.{Memory};
+ghost use Rattle.flt_dem.specs.Faults.{with_memory, without_entry, KeepsOthers, KeepsOthersWithoutEntry};
+ghost use Rattle.flt_dem.specs.Standing.{FaultsStand, StatesStand, Bears, IsDisplacedBelow, IsNotDisplaced, with_outcome};
 
+use crate::copies;
 use crate::notes::{Notes, Which};
-use crate::{copies, states};
 use arrayvec::ArrayVec;
 use flt_config::{Config, EVENTS, EntryState, EventCfg, EventState, Persist, ValidConfig, initial};
 use flt_did::{DID_ROWS, DidTable, Signals};
-use flt_memory::EventMemory;
+use flt_memory::{EventMemory, Stored};
 use flt_model::Qualified;
 use std::marker::Model;
 
@@ -168,15 +170,16 @@ impl Faults {
         requires configured { event < length self.old.config.events.items }
         requires served { Serves (dids_of dids.now) self.old.config.events.items }
         ensures config { self.new.config ≡ self.old.config }
-        ensures stands { (life : Life) (marks : Trace) → FaultsStand life marks self.old → FaultsStand life (with_failed life signals.now.values event marks) self.new }
-        ensures others { (other : ℕ) → other ≢ event → find (is_of_event other) self.old.memory.entries ≡ None → slice_get self.new.states other ≡ slice_get self.old.states other }
+        ensures stands { Bears (λ life. with_failed life signals.now.values event) self.old self.new }
+        ensures others { KeepsOthersWithoutEntry event self.old self.new }
     {
-        let mark = states::fail(self.config.config(), &mut self.states, event as usize);
+        let rules = &self.config.config().events[event as usize];
+        let mark = flt_status::failed(rules, &mut self.states[event as usize]);
         self.notes = self.notes.after_failure(event, mark);
         if mark.entered {
-            let frame = dids.frame(&self.config.config().events[event as usize].dids, signals);
+            let frame = dids.frame(&rules.dids, signals);
             let outcome = self.memory.store(&self.config, &self.states, event, &frame);
-            states::follow(&mut self.states, outcome);
+            follow(&mut self.states, outcome);
         }
     }
 
@@ -184,29 +187,30 @@ impl Faults {
     fn pass(&mut self, event: u16)
         requires { event < length self.old.config.events.items }
         ensures config { self.new.config ≡ self.old.config }
-        ensures stands { (life : Life) (signals : List ℕ) (marks : Trace) → FaultsStand life marks self.old → FaultsStand life (Of event Passed signals ∷ marks) self.new }
-        ensures others { (other : ℕ) → other ≢ event → slice_get self.new.states other ≡ slice_get self.old.states other }
+        ensures stands { (signals : List ℕ) → Bears (λ life marks. Of event Passed signals ∷ marks) self.old self.new }
+        ensures others { KeepsOthers event self.old self.new }
     {
-        states::pass(&mut self.states, event as usize);
+        flt_status::passed(&mut self.states[event as usize]);
     }
 
-    /// Takes a result of an event, at these signals.
+    /// Takes the result of an event, if there is one, at these signals.
     pub fn take(
         &mut self,
         dids: &DidTable<DID_ROWS>,
         signals: &Signals,
         event: u16,
-        qualified: Qualified,
+        qualified: Option<Qualified>,
     )
         requires configured { event < length self.old.config.events.items }
         requires served { Serves (dids_of dids.now) self.old.config.events.items }
         ensures config { self.new.config ≡ self.old.config }
-        ensures stands { (life : Life) (marks : Trace) → FaultsStand life marks self.old → FaultsStand life (with_result life signals.now.values event (Some qualified) marks) self.new }
-        ensures others { (other : ℕ) → other ≢ event → find (is_of_event other) self.old.memory.entries ≡ None → slice_get self.new.states other ≡ slice_get self.old.states other }
+        ensures stands { Bears (λ life. with_result life signals.now.values event qualified) self.old self.new }
+        ensures others { KeepsOthersWithoutEntry event self.old self.new }
     {
         match qualified {
-            Qualified::Failed => self.fail(dids, signals, event),
-            Qualified::Passed => self.pass(event),
+            Some(Qualified::Failed) => self.fail(dids, signals, event),
+            Some(Qualified::Passed) => self.pass(event),
+            None => {}
         }
     }
 
@@ -214,33 +218,52 @@ impl Faults {
     pub fn end_cycle(&mut self, event: u16)
         requires { event < length self.old.config.events.items }
         ensures config { self.new.config ≡ self.old.config }
-        ensures stands { (life : Life) (signals : List ℕ) (marks : Trace) → FaultsStand life marks self.old → FaultsStand life (with_cycle life signals event marks) self.new }
-        ensures others { (other : ℕ) → other ≢ event → slice_get self.new.states other ≡ slice_get self.old.states other }
+        ensures stands { (signals : List ℕ) → Bears (λ life. with_cycle life signals event) self.old self.new }
+        ensures others { KeepsOthers event self.old self.new }
     {
-        if states::end_cycle(self.config.config(), &mut self.states, event as usize) {
+        let rules = &self.config.config().events[event as usize];
+        if flt_status::cycle(rules, &mut self.states[event as usize]) {
             self.memory.remove(event);
         }
     }
 
-    /// A tester cleared an event: it is as one that was never tested, without an entry and in no note.
-    pub fn clear(&mut self, event: u16)
+    /// A tester cleared an event: its state is as one that was never tested, and it is in no note. The entries stay.
+    pub fn forget(&mut self, event: u16)
         requires { event < length self.old.config.events.items }
         ensures config { self.new.config ≡ self.old.config }
-        ensures stands { (life : Life) (signals : List ℕ) (marks : Trace) → FaultsStand life marks self.old → FaultsStand life (Of event Clear signals ∷ marks) self.new }
-        ensures entries { self.new.memory.entries ≡ filter (λ entry. not (is_of_event event entry)) self.old.memory.entries }
-        ensures others { (other : ℕ) → other ≢ event → slice_get self.new.states other ≡ slice_get self.old.states other }
+        ensures memory { self.new.memory ≡ self.old.memory }
+        ensures stands { (held : Memory) (signals : List ℕ) → Bears (λ life marks. Of event Clear signals ∷ marks) (with_memory held self.old) (with_memory (without_entry event held) self.new) }
+        ensures others { KeepsOthers event self.old self.new }
     {
-        states::clear(&mut self.states, event as usize);
-        self.memory.remove(event);
+        flt_status::clear(&mut self.states[event as usize]);
         self.notes = self.notes.after_clear(event);
     }
 
-    /// A tester cleared all events: with no entry left, the overflow flag is taken back.
-    pub fn end_clear(&mut self)
-        requires { self.old.memory.entries ≡ [] }
-        ensures config { self.new.config ≡ self.old.config }
-        ensures stands { (life : Life) (marks : Trace) → FaultsStand life marks self.old → FaultsStand life (AllCleared ∷ marks) self.new }
+    /// Gives up the entry of an event, where it has one.
+    pub fn remove_entry(&mut self, event: u16)
+        ensures { self.new ≡ with_memory (without_entry event self.old.memory) self.old }
+    {
+        self.memory.remove(event);
+    }
+
+    /// Gives up each entry, and takes the overflow flag back.
+    pub fn remove_entries(&mut self)
+        ensures { self.new ≡ with_memory (record { entries = []; overflow = false }) self.old }
     {
         self.memory.clear();
+    }
+}
+
+/// What became of an event that was stored: the event whose entry gave way is displaced.
+fn follow(states: &mut [EventState], outcome: Stored)
+    requires { IsDisplacedBelow (length states.old) outcome }
+    ensures stand { (life : Life) (event : ℕ) (signals : List ℕ) (marks : Trace) → StatesStand life marks states.old → StatesStand life (with_outcome event signals outcome marks) states.new }
+    ensures others { (other : ℕ) → IsNotDisplaced other outcome → slice_get states.new other ≡ slice_get states.old other }
+{
+    match outcome {
+        Stored::Displaced(other) => flt_status::displaced(&mut states[other as usize]),
+        Stored::Updated => {}
+        Stored::Added => {}
+        Stored::Refused => {}
     }
 }

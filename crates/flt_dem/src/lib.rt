@@ -6,14 +6,12 @@
 #![tactic(auto)]
 
 mod copies;
-mod debounces;
 mod dem;
+mod events;
 mod faults;
 pub mod laws;
 mod notes;
-mod parts;
 mod state;
-mod states;
 
 pub use dem::Dem;
 pub use flt_model::{Cause, Shown};

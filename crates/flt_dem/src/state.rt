@@ -19,36 +19,31 @@ ghost use Rattle.flt_dem.specs.Standing.{notes_of};
 ghost use Rattle.flt_dem.specs.View.{counter_of};
 ghost use Rattle.flt_dem.specs.Manager.{StandsFor, IsUntouched, IsOfOtherCycle, is_cycle_started, cause_of, reply_of};
 
-use crate::faults::Faults;
+use crate::events::Events;
 use crate::notes::Which;
-use crate::{debounces, parts};
-use arrayvec::ArrayVec;
-use flt_config::{EVENTS, EntryState, EventState, Persist, ValidConfig};
+use flt_config::{EntryState, EventState, Persist, ValidConfig};
 use flt_did::{DID_ROWS, DidTable, Signals};
-use flt_model::{Cause, DebState, Report, Shown};
+use flt_model::{Cause, Report, Shown};
 use std::marker::Model;
 
 /// The operation cycles, which have the numbers 0 to 3.
 const CYCLES: usize = 4;
 
-/// The event manager without its table of data identifiers: the durable part, the debouncing of each
-/// event, which operation cycles are started, and the signals.
+/// The event manager without its table of data identifiers: the events, which operation cycles are
+/// started, and the signals.
 #[derive(Drop)]
 pub struct DemState {
-    faults: Faults,
-    debounces: ArrayVec<DebState, EVENTS>,
+    events: Events,
     started: [bool; CYCLES],
     signals: Signals,
 }
 
 impl Model for DemState {
-    ghost use Rattle.flt_dem.specs.Manager.{Manager, IsOfConfig};
+    ghost use Rattle.flt_dem.specs.Manager.{Manager};
 
     ghost Value = { Manager };
 
-    ghost view = { λ d. record { faults = d.faults; debounces = d.debounces.items; started = d.started; signals = d.signals.values } };
-
-    ghost invariant = { λ d. IsOfConfig d.faults.config d.debounces.items };
+    ghost view = { λ d. record { faults = d.events.faults; debounces = d.events.debounces; started = d.started; signals = d.signals.values } };
 }
 
 impl DemState {
@@ -60,10 +55,8 @@ impl DemState {
         ensures config { result.faults.config ≡ config }
         ensures stands { StandsFor (fresh config) [] result }
     {
-        let faults = Faults::new(config);
         DemState {
-            debounces: debounces::at_rest(faults.config()),
-            faults,
+            events: Events::new(config),
             started: [false; CYCLES],
             signals: Signals::zero(),
         }
@@ -75,8 +68,7 @@ impl DemState {
         ensures config { self.new.faults.config ≡ self.old.faults.config }
         ensures stands { StandsFor (record { config = self.old.faults.config; base = base.now }) [] self.new }
     {
-        self.faults.restore(base);
-        self.debounces = debounces::at_rest(self.faults.config());
+        self.events.restore(base);
         self.started = [false; CYCLES];
         self.signals = Signals::zero();
     }
@@ -86,7 +78,7 @@ impl DemState {
         ensures saved { (life : Life) (past : History) → StandsFor life past self.now → out.new ≡ saved_after life past }
         ensures stands { (life : Life) (past : History) → StandsFor life past self.now → StandsFor life (ops.Snapshot ∷ past) self.now }
     {
-        self.faults.persist(out);
+        self.events.faults().persist(out);
     }
 
     /// The configuration, whose memory has room for the entries.
@@ -94,7 +86,7 @@ impl DemState {
         ensures value { result.now ≡ self.now.faults.config }
         ensures room { length self.now.faults.memory.entries ≤ result.now.memory }
     {
-        self.faults.valid_config()
+        self.events.faults().valid_config()
     }
 
     /// Sets a signal, of the number 0 to 7.
@@ -129,18 +121,11 @@ impl DemState {
         if !setting {
             return Some(Cause::SettingOff);
         }
-        let cycle = self.faults.config().events[event as usize].cycle;
+        let cycle = self.events.faults().config().events[event as usize].cycle;
         if !self.started[cycle as usize] {
             return Some(Cause::NotStarted);
         }
-        parts::report(
-            &mut self.faults,
-            &mut self.debounces,
-            dids,
-            &self.signals,
-            event,
-            report,
-        );
+        self.events.report(dids, &self.signals, event, report);
         None
     }
 
@@ -153,13 +138,7 @@ impl DemState {
         ensures stands { (life : Life) (past : History) → setting ≡ not (is_setting_off past) → StandsFor life past self.old → StandsFor life (ops.Tick ticks ∷ past) self.new }
     {
         if setting {
-            parts::tick(
-                &mut self.faults,
-                &mut self.debounces,
-                dids,
-                &self.signals,
-                ticks,
-            );
+            self.events.tick(dids, &self.signals, ticks);
         }
     }
 
@@ -171,7 +150,7 @@ impl DemState {
         ensures stands { (life : Life) (past : History) → StandsFor life past self.old → StandsFor life (ops.Cycle cycle ∷ past) self.new }
         ensures others { (event : ℕ) → IsOfOtherCycle self.old.faults.config cycle event → IsUntouched event self.old self.new }
     {
-        parts::end_cycle(&mut self.faults, &mut self.debounces, cycle);
+        self.events.end_cycle(cycle);
         self.started[cycle as usize] = true;
     }
 
@@ -182,7 +161,7 @@ impl DemState {
         ensures config { self.new.faults.config ≡ self.old.faults.config }
         ensures stands { (life : Life) (past : History) (tester : ℕ) (bytes : RequestBytes) → cleared_dtc (ops.Request tester bytes) ≡ Some all_dtcs → StandsFor life past self.old → StandsFor life (ops.Request tester bytes ∷ past) self.new }
     {
-        parts::clear_all(&mut self.faults, &mut self.debounces);
+        self.events.clear_all();
     }
 
     /// Clears one event, as a tester's request for its DTC does: it is as one that was never tested,
@@ -193,14 +172,14 @@ impl DemState {
         ensures stands { (life : Life) (past : History) (tester : ℕ) (bytes : RequestBytes) → cleared_dtc (ops.Request tester bytes) ≡ Some (event_of life event).dtc → StandsFor life past self.old → StandsFor life (ops.Request tester bytes ∷ past) self.new }
         ensures others { (other : ℕ) → other ≢ event → IsUntouched other self.old self.new }
     {
-        parts::clear_one(&mut self.faults, &mut self.debounces, event);
+        self.events.clear_one(event);
     }
 
     /// The event that has a DTC, where one has.
     pub fn find(&self, dtc: u32) -> Option<u16>
         ensures { result ≡ position (has_dtc dtc) self.now.faults.config.events.items }
     {
-        self.faults.find(dtc)
+        self.events.faults().find(dtc)
     }
 
     /// The durable state of an event.
@@ -208,7 +187,7 @@ impl DemState {
         requires { event < length self.now.faults.config.events.items }
         ensures { slice_get self.now.faults.states event ≡ Some result }
     {
-        self.faults.state(event)
+        self.events.faults().state(event)
     }
 
     /// The fault detection counter of an event, from -128 (passed) to 127 (failed).
@@ -216,7 +195,7 @@ impl DemState {
         requires { event < length self.now.faults.config.events.items }
         ensures { result ≡ counter_of self.now event }
     {
-        debounces::fdc(self.faults.config(), &self.debounces, event as usize)
+        self.events.detection_counter(event)
     }
 
     /// What is shown of an event. To show it changes nothing.
@@ -225,14 +204,15 @@ impl DemState {
         ensures answer { (life : Life) (past : History) → StandsFor life past self.now → replies.Shown result ≡ answer life past (ops.Show event) }
         ensures stands { (life : Life) (past : History) → StandsFor life past self.now → StandsFor life (ops.Show event ∷ past) self.now }
     {
-        let state = self.faults.state(event);
+        let faults = self.events.faults();
+        let state = faults.state(event);
         Shown {
             status: state.status,
-            fdc: self.detection_counter(event),
+            fdc: self.events.detection_counter(event),
             failed: state.failed,
             clean: state.clean,
-            stored: self.faults.occurrence(event),
-            overflow: self.faults.overflow(),
+            stored: faults.occurrence(event),
+            overflow: faults.overflow(),
         }
     }
 
@@ -241,7 +221,7 @@ impl DemState {
         ensures value { option_copied result ≡ find (is_of_event event) self.now.faults.memory.entries }
         ensures stands { (life : Life) (past : History) → StandsFor life past self.now → option_copied result ≡ entry_where life event (trace life past) (has_entry life event (trace life past)) }
     {
-        self.faults.entry(event)
+        self.events.faults().entry(event)
     }
 
     /// The noted event that is asked for, where there is one.
@@ -249,6 +229,6 @@ impl DemState {
         ensures value { result ≡ noted_by which self.now.faults.notes }
         ensures stands { (life : Life) (past : History) → StandsFor life past self.now → result ≡ noted_by which (notes_of life (trace life past)) }
     {
-        self.faults.noted(which)
+        self.events.faults().noted(which)
     }
 }

@@ -1,20 +1,28 @@
-use Rattle.std.proofs.Common.{◌∙◌, length, sym, ap, arith, subst}
+use Rattle.std.proofs.Common.{◌<◌, ◌∙◌, get_or, sym, ap, arith}
 use Rattle.std.specs.Prelude.{slice_get}
-use Rattle.flt_dem.specs.Standing.{StatesStand}
+use Rattle.flt_model.specs.Life.{count, base_of, event_of}
+use Rattle.flt_model.specs.Mark.{marks_of}
+use Rattle.flt_model.specs.Mark.Mark.{Passed}
 use Rattle.flt_model.proofs.EntryLemmas.{passed_entries}
-use Rattle.flt_model.proofs.Common.{refill-whole}
+use Rattle.flt_dem.proofs.StateLemmas.{blank, read_state, state_marked}
+use Rattle.flt_dem.proofs.ReadLemmas.{refill-set, refill-other}
 use Rattle.flt_dem.proofs.faults.Faults.pass.Goals as goal
 
 pub returns-clause-stands : goal.returns-clause-stands
-returns-clause-stands c = λ life signals marks s.
+returns-clause-stands c = λ signals life marks s.
     let inside = rw (← c.self.view_is) at s in
-    let stood = subst (λ xs. StatesStand life marks xs) (sym c.deref_mut.ensures.value) inside.states_stand in
-    let whole = refill-whole c.self.inside.states.items c.pass.new.states (omega (arith, c.pass.auto.states, ap length c.deref_mut.ensures.value)) in
-    rw whole (record {
+    let event = c.args.event in
+    let items = c.self.inside.states.items in
+    let lent = c.deref_mut.result.now in
+    let configured = rw (← c.self.view_is) at c.requires in
+    let within : event < count life = omega (arith, configured, c.self.invariant.one_each, inside.states_stand.one_each) in
+    let was = ap (λ xs. get_or xs event blank) c.deref_mut.ensures.value ∙ read_state life event marks items within inside.states_stand in
+    rw (refill-set items lent event c.passed.new.state c.deref_mut.ensures.value) (record {
       config = inside.config;
-      states_stand = c.pass.ensures.stand life signals marks stood;
+      states_stand = state_marked life event Passed signals marks items c.passed.new.state within
+          (c.passed.ensures (event_of life event) (base_of life event) (marks_of event marks) was) inside.states_stand;
       memory_stands = record {
-        entries = inside.memory_stands.entries ∙ sym (passed_entries life c.args.event signals marks);
+        entries = inside.memory_stands.entries ∙ sym (passed_entries life event signals marks);
         overflow = inside.memory_stands.overflow;
       };
       notes = inside.notes;
@@ -22,5 +30,4 @@ returns-clause-stands c = λ life signals marks s.
 
 pub returns-clause-others : goal.returns-clause-others
 returns-clause-others c = λ other ne.
-    let whole = refill-whole c.self.inside.states.items c.pass.new.states (omega (arith, c.pass.auto.states, ap length c.deref_mut.ensures.value)) in
-    ap (λ xs. slice_get xs other) whole ∙ c.pass.ensures.others other ne ∙ ap (λ xs. slice_get xs other) c.deref_mut.ensures.value ∙ ap (λ f. slice_get f.states other) c.self.view_is
+    refill-other c.self.inside.states.items c.deref_mut.result.now c.args.event other c.passed.new.state c.deref_mut.ensures.value ne ∙ ap (λ f. slice_get f.states other) c.self.view_is

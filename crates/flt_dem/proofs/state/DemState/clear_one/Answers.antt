@@ -4,8 +4,6 @@ use Rattle.flt_config.specs.Validity.{IsValid}
 use Rattle.flt_model.specs.Life.{count, event_of}
 use Rattle.flt_model.specs.Happening.{cleared_dtc}
 use Rattle.flt_model.specs.declared.call.Op.TheVariants as ops
-use Rattle.flt_model.proofs.Common.{refill-whole}
-use Rattle.flt_dem.specs.Calls.{StandsAfter}
 use Rattle.flt_dem.proofs.CallLemmas.{stands_one}
 use Rattle.flt_dem.proofs.ClearLemmas.{reaches_own, reaches_others, clears_one}
 use Rattle.flt_dem.proofs.PartLemmas.{other_clear}
@@ -21,22 +19,17 @@ returns-clause-stands c = λ life past tester bytes clears s.
     let configured = rw (← c.self.view_is) at c.requires in
     let within : event < count life = omega (arith, configured, ap (λ k. length k.events.items) config) in
     let valid = subst (λ k. IsValid k) (sym config) c.clear_one.ensures.valid in
-    let whole = refill-whole c.self.inside.debounces.items c.clear_one.new.debounces (omega (arith, c.clear_one.auto.debounces, ap length c.deref_mut.ensures.value)) in
-    rw whole (record {
-      events = stands_one life past op event c.deref_mut.result.now c.clear_one.new.debounces c.self.inside.faults c.clear_one.new.faults within
+    record {
+      events = stands_one life past op event c.self.inside.events c.clear_one.new.self within
           (λ marks. clears_one life event (cleared_dtc op) marks valid within clears)
           (λ other ne. other_clear life past other tester dtc bytes clears (reaches_others life event other valid within ne))
-          (c.clear_one.ensures.part life past tester dtc bytes clears (reaches_own life event))
-          (subst (λ xs. StandsAfter life past xs c.self.inside.faults) (sym c.deref_mut.ensures.value) inside.events);
+          (c.clear_one.ensures.part life past tester dtc bytes clears (reaches_own life event)) inside.events;
       started = inside.started;
       signals = inside.signals;
-    })
+    }
 
 pub returns-clause-others : goal.returns-clause-others
-returns-clause-others c = λ other ne.
-    let whole = refill-whole c.self.inside.debounces.items c.clear_one.new.debounces (omega (arith, c.clear_one.auto.debounces, ap length c.deref_mut.ensures.value)) in
-    record {
-      debouncing = ap (λ xs. slice_get xs other) whole ∙ c.clear_one.ensures.others other ne ∙ ap (λ xs. slice_get xs other) c.deref_mut.ensures.value
-          ∙ ap (λ m. slice_get m.debounces other) c.self.view_is;
-      state = c.clear_one.ensures.states other ne ∙ ap (λ m. slice_get m.faults.states other) c.self.view_is;
-    }
+returns-clause-others c = λ other ne. record {
+  debouncing = c.clear_one.ensures.debouncing other ne ∙ ap (λ m. slice_get m.debounces other) c.self.view_is;
+  state = c.clear_one.ensures.states other ne ∙ ap (λ m. slice_get m.faults.states other) c.self.view_is;
+}

@@ -1,18 +1,9 @@
-use Rattle.std.proofs.Common.{◌∙◌, ap}
-use Rattle.flt_model.specs.Life.{fresh}
-use Rattle.flt_dem.proofs.ManagerLemmas.{rest_of_config, rest_states, rest_stands, none_started}
+use Rattle.flt_dem.proofs.ManagerLemmas.{none_started}
 use Rattle.flt_dem.proofs.state.DemState.make.Goals as goal
-
-pub invariant_of-result : goal.invariant_of-result
-invariant_of-result c = rest_of_config c.new-faults.result.config c.at_rest.result.items c.config.ensures.valid
-    (c.at_rest.ensures ∙ ap (λ k. rest_states k) c.config.ensures.value)
 
 pub returns-clause-stands : goal.returns-clause-stands
 returns-clause-stands c = record {
-  events = record {
-    debounces_stand = rest_stands (fresh c.args.config) c.at_rest.result.items (c.at_rest.ensures ∙ ap (λ k. rest_states k) (c.config.ensures.value ∙ c.new-faults.ensures.config));
-    faults_stand = c.new-faults.ensures.stands;
-  };
+  events = c.new.ensures.stands;
   started = none_started;
   signals = c.zero.ensures;
 }

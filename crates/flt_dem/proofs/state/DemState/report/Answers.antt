@@ -4,9 +4,8 @@ use Rattle.flt_config.specs.Validity.{IsValid}
 use Rattle.flt_model.specs.Life.{event_of}
 use Rattle.flt_model.specs.Happening.{is_started, counts_report}
 use Rattle.flt_model.specs.declared.call.Cause.TheVariants.{NotStarted}
-use Rattle.flt_model.proofs.Common.{refill-whole}
 use Rattle.flt_dem.specs.contracts.state.DemState.{the_view}
-use Rattle.flt_dem.specs.Calls.{StandsAfter}
+use Rattle.flt_dem.specs.Faults.{FaultsView}
 use Rattle.flt_dem.specs.Manager.{cause_of, is_cycle_started}
 use Rattle.flt_dem.proofs.ManagerLemmas.{cycle_read, cycle_stands, cause_is_answer, counts_where, stands_ignored}
 use Rattle.flt_dem.proofs.state.DemState.report.Goals as goal
@@ -22,10 +21,11 @@ returns-then-not-self-cycle-clause-ignored g c =
     let event = c.args.event in
     let configured = rw (← c.self.view_is) at c.requires.configured in
     let rules = c.index-deref-event.result in
-    let events = c.self.inside.faults.config.events.items in
-    let read : rules ≡ get_or events event rules = c.index-deref-event.is ∙ ap (λ xs. get_or xs event rules) (c.deref.ensures.0 ∙ ap (λ k. k.events.items) c.config.ensures.value) in
+    let events = c.self.inside.events.faults.config.events.items in
+    let read : rules ≡ get_or events event rules = c.index-deref-event.is ∙ ap (λ xs. get_or xs event rules) (c.deref.ensures.0 ∙ ap (λ k. k.events.items) (c.config.ensures.value ∙ ap (λ f. f.config) c.faults.ensures)) in
+    let of_config = subst (λ (f : FaultsView). IsValid f.config) c.faults.ensures c.config.ensures.valid in
     let below : rules.cycle < length c.self.inside.started =
-    let small = (c.config.ensures.valid.events event rules configured).cycle in omega (arith, small, ap (λ k. k.cycle) read, c.self.told) in
+    let small = (of_config.events event rules configured).cycle in omega (arith, small, ap (λ k. k.cycle) read, c.self.told) in
     let started : is_cycle_started c.args.self.now event ≡ false =
     ap (λ m. is_cycle_started m event) (sym c.self.view_is)
     ∙ cycle_read (the_view c.self.inside) event rules false configured read below
@@ -37,15 +37,16 @@ returns-then-not-self-cycle-clause-stands g c = λ life past setting s.
     let event = c.args.event in
     let configured = rw (← c.self.view_is) at c.requires.configured in
     let rules = c.index-deref-event.result in
-    let events = c.self.inside.faults.config.events.items in
-    let read : rules ≡ get_or events event rules = c.index-deref-event.is ∙ ap (λ xs. get_or xs event rules) (c.deref.ensures.0 ∙ ap (λ k. k.events.items) c.config.ensures.value) in
+    let events = c.self.inside.events.faults.config.events.items in
+    let read : rules ≡ get_or events event rules = c.index-deref-event.is ∙ ap (λ xs. get_or xs event rules) (c.deref.ensures.0 ∙ ap (λ k. k.events.items) (c.config.ensures.value ∙ ap (λ f. f.config) c.faults.ensures)) in
+    let of_config = subst (λ (f : FaultsView). IsValid f.config) c.faults.ensures c.config.ensures.valid in
     let below : rules.cycle < length c.self.inside.started =
-    let small = (c.config.ensures.valid.events event rules configured).cycle in omega (arith, small, ap (λ k. k.cycle) read, c.self.told) in
+    let small = (of_config.events event rules configured).cycle in omega (arith, small, ap (λ k. k.cycle) read, c.self.told) in
     let started : is_cycle_started c.args.self.now event ≡ false =
     ap (λ m. is_cycle_started m event) (sym c.self.view_is)
     ∙ cycle_read (the_view c.self.inside) event rules false configured read below
     ∙ ap (λ k. get_or c.self.inside.started k.cycle false) c.index-deref-event.is ∙ c.if-not-self-cycle.true in
-    let valid = subst (λ m. IsValid m.faults.config) c.self.view_is c.config.ensures.valid in
+    let valid = subst (λ m. IsValid m.faults.config) c.self.view_is of_config in
     let counts = counts_where life past event c.args.setting false setting (sym started ∙ cycle_stands life past c.args.self.now event valid c.requires.configured s) in
     stands_ignored life past c.args.self.now event c.args.report (counts ∙ ap (λ b. b && false) c.if-not-setting.false) s
 
@@ -54,15 +55,16 @@ returns-then-not-self-cycle-clause-answer g c = λ life past setting s.
     let event = c.args.event in
     let configured = rw (← c.self.view_is) at c.requires.configured in
     let rules = c.index-deref-event.result in
-    let events = c.self.inside.faults.config.events.items in
-    let read : rules ≡ get_or events event rules = c.index-deref-event.is ∙ ap (λ xs. get_or xs event rules) (c.deref.ensures.0 ∙ ap (λ k. k.events.items) c.config.ensures.value) in
+    let events = c.self.inside.events.faults.config.events.items in
+    let read : rules ≡ get_or events event rules = c.index-deref-event.is ∙ ap (λ xs. get_or xs event rules) (c.deref.ensures.0 ∙ ap (λ k. k.events.items) (c.config.ensures.value ∙ ap (λ f. f.config) c.faults.ensures)) in
+    let of_config = subst (λ (f : FaultsView). IsValid f.config) c.faults.ensures c.config.ensures.valid in
     let below : rules.cycle < length c.self.inside.started =
-    let small = (c.config.ensures.valid.events event rules configured).cycle in omega (arith, small, ap (λ k. k.cycle) read, c.self.told) in
+    let small = (of_config.events event rules configured).cycle in omega (arith, small, ap (λ k. k.cycle) read, c.self.told) in
     let started : is_cycle_started c.args.self.now event ≡ false =
     ap (λ m. is_cycle_started m event) (sym c.self.view_is)
     ∙ cycle_read (the_view c.self.inside) event rules false configured read below
     ∙ ap (λ k. get_or c.self.inside.started k.cycle false) c.index-deref-event.is ∙ c.if-not-self-cycle.true in
-    let valid = subst (λ m. IsValid m.faults.config) c.self.view_is c.config.ensures.valid in
+    let valid = subst (λ m. IsValid m.faults.config) c.self.view_is of_config in
     cause_is_answer life past c.args.self.now event c.args.report c.args.setting (Some NotStarted) valid c.requires.configured setting s
     (sym (ap (λ b. cause_of b (is_cycle_started c.args.self.now event)) c.if-not-setting.false ∙ ap (λ b. cause_of true b) started))
 
@@ -71,10 +73,11 @@ returns-clause-ignored g c =
     let event = c.args.event in
     let configured = rw (← c.self.view_is) at c.requires.configured in
     let rules = c.index-deref-event.result in
-    let events = c.self.inside.faults.config.events.items in
-    let read : rules ≡ get_or events event rules = c.index-deref-event.is ∙ ap (λ xs. get_or xs event rules) (c.deref.ensures.0 ∙ ap (λ k. k.events.items) c.config.ensures.value) in
+    let events = c.self.inside.events.faults.config.events.items in
+    let read : rules ≡ get_or events event rules = c.index-deref-event.is ∙ ap (λ xs. get_or xs event rules) (c.deref.ensures.0 ∙ ap (λ k. k.events.items) (c.config.ensures.value ∙ ap (λ f. f.config) c.faults.ensures)) in
+    let of_config = subst (λ (f : FaultsView). IsValid f.config) c.faults.ensures c.config.ensures.valid in
     let below : rules.cycle < length c.self.inside.started =
-    let small = (c.config.ensures.valid.events event rules configured).cycle in omega (arith, small, ap (λ k. k.cycle) read, c.self.told) in
+    let small = (of_config.events event rules configured).cycle in omega (arith, small, ap (λ k. k.cycle) read, c.self.told) in
     let started : is_cycle_started c.args.self.now event ≡ true =
     ap (λ m. is_cycle_started m event) (sym c.self.view_is)
     ∙ cycle_read (the_view c.self.inside) event rules false configured read below
@@ -86,58 +89,49 @@ returns-clause-stands g c = λ life past setting s.
     let event = c.args.event in
     let configured = rw (← c.self.view_is) at c.requires.configured in
     let rules = c.index-deref-event.result in
-    let events = c.self.inside.faults.config.events.items in
-    let read : rules ≡ get_or events event rules = c.index-deref-event.is ∙ ap (λ xs. get_or xs event rules) (c.deref.ensures.0 ∙ ap (λ k. k.events.items) c.config.ensures.value) in
+    let events = c.self.inside.events.faults.config.events.items in
+    let read : rules ≡ get_or events event rules = c.index-deref-event.is ∙ ap (λ xs. get_or xs event rules) (c.deref.ensures.0 ∙ ap (λ k. k.events.items) (c.config.ensures.value ∙ ap (λ f. f.config) c.faults.ensures)) in
+    let of_config = subst (λ (f : FaultsView). IsValid f.config) c.faults.ensures c.config.ensures.valid in
     let below : rules.cycle < length c.self.inside.started =
-    let small = (c.config.ensures.valid.events event rules configured).cycle in omega (arith, small, ap (λ k. k.cycle) read, c.self.told) in
+    let small = (of_config.events event rules configured).cycle in omega (arith, small, ap (λ k. k.cycle) read, c.self.told) in
     let started : is_cycle_started c.args.self.now event ≡ true =
     ap (λ m. is_cycle_started m event) (sym c.self.view_is)
     ∙ cycle_read (the_view c.self.inside) event rules false configured read below
     ∙ ap (λ k. get_or c.self.inside.started k.cycle false) c.index-deref-event.is ∙ c.if-not-self-cycle.false in
-    let valid = subst (λ m. IsValid m.faults.config) c.self.view_is c.config.ensures.valid in
+    let valid = subst (λ m. IsValid m.faults.config) c.self.view_is of_config in
     let counts : counts_report life event past ≡ true =
     counts_where life past event c.args.setting true setting (sym started ∙ cycle_stands life past c.args.self.now event valid c.requires.configured s)
     ∙ ap (λ b. b && true) c.if-not-setting.false in
     let inside = rw (← c.self.view_is) at s in
-    let items = c.self.inside.debounces.items in
-    let whole = refill-whole items c.report.new.debounces (omega (arith, c.report.auto.debounces, ap length c.deref_mut.ensures.value)) in
-    rw whole (record {
-      events = c.report.ensures.stands life past counts inside.signals
-          (subst (λ xs. StandsAfter life past xs c.self.inside.faults) (sym c.deref_mut.ensures.value) inside.events);
+    record {
+      events = c.report.ensures.stands life past counts inside.signals inside.events;
       started = inside.started;
       signals = inside.signals;
-    })
+    }
 
 pub returns-clause-answer : goal.returns-clause-answer
 returns-clause-answer g c = λ life past setting s.
     let event = c.args.event in
     let configured = rw (← c.self.view_is) at c.requires.configured in
     let rules = c.index-deref-event.result in
-    let events = c.self.inside.faults.config.events.items in
-    let read : rules ≡ get_or events event rules = c.index-deref-event.is ∙ ap (λ xs. get_or xs event rules) (c.deref.ensures.0 ∙ ap (λ k. k.events.items) c.config.ensures.value) in
+    let events = c.self.inside.events.faults.config.events.items in
+    let read : rules ≡ get_or events event rules = c.index-deref-event.is ∙ ap (λ xs. get_or xs event rules) (c.deref.ensures.0 ∙ ap (λ k. k.events.items) (c.config.ensures.value ∙ ap (λ f. f.config) c.faults.ensures)) in
+    let of_config = subst (λ (f : FaultsView). IsValid f.config) c.faults.ensures c.config.ensures.valid in
     let below : rules.cycle < length c.self.inside.started =
-    let small = (c.config.ensures.valid.events event rules configured).cycle in omega (arith, small, ap (λ k. k.cycle) read, c.self.told) in
+    let small = (of_config.events event rules configured).cycle in omega (arith, small, ap (λ k. k.cycle) read, c.self.told) in
     let started : is_cycle_started c.args.self.now event ≡ true =
     ap (λ m. is_cycle_started m event) (sym c.self.view_is)
     ∙ cycle_read (the_view c.self.inside) event rules false configured read below
     ∙ ap (λ k. get_or c.self.inside.started k.cycle false) c.index-deref-event.is ∙ c.if-not-self-cycle.false in
-    let valid = subst (λ m. IsValid m.faults.config) c.self.view_is c.config.ensures.valid in
+    let valid = subst (λ m. IsValid m.faults.config) c.self.view_is of_config in
     cause_is_answer life past c.args.self.now event c.args.report c.args.setting None valid c.requires.configured setting s
     (sym (ap (λ b. cause_of b (is_cycle_started c.args.self.now event)) c.if-not-setting.false ∙ ap (λ b. cause_of true b) started))
 
 pub returns-clause-debouncing : goal.returns-clause-debouncing
-returns-clause-debouncing g c = λ other ne.
-    let items = c.self.inside.debounces.items in
-    let whole = refill-whole items c.report.new.debounces (omega (arith, c.report.auto.debounces, ap length c.deref_mut.ensures.value)) in
-    ap (λ xs. slice_get xs other) whole ∙ c.report.ensures.others other ne ∙ ap (λ xs. slice_get xs other) c.deref_mut.ensures.value
-    ∙ ap (λ m. slice_get m.debounces other) c.self.view_is
+returns-clause-debouncing g c = λ other ne. c.report.ensures.debouncing other ne ∙ ap (λ m. slice_get m.debounces other) c.self.view_is
 
 pub returns-clause-others : goal.returns-clause-others
-returns-clause-others g c = λ other ne none.
-    let items = c.self.inside.debounces.items in
-    let whole = refill-whole items c.report.new.debounces (omega (arith, c.report.auto.debounces, ap length c.deref_mut.ensures.value)) in
-    record {
-      debouncing = ap (λ xs. slice_get xs other) whole ∙ c.report.ensures.others other ne ∙ ap (λ xs. slice_get xs other) c.deref_mut.ensures.value
-          ∙ ap (λ m. slice_get m.debounces other) c.self.view_is;
-      state = c.report.ensures.states other ne (rw (← c.self.view_is) at none) ∙ ap (λ m. slice_get m.faults.states other) c.self.view_is;
-    }
+returns-clause-others g c = λ other ne none. record {
+  debouncing = c.report.ensures.debouncing other ne ∙ ap (λ m. slice_get m.debounces other) c.self.view_is;
+  state = c.report.ensures.states other ne (rw (← c.self.view_is) at none) ∙ ap (λ m. slice_get m.faults.states other) c.self.view_is;
+}

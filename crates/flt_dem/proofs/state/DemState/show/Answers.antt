@@ -1,4 +1,5 @@
-use Rattle.std.proofs.Common.{rules, ◌≡◌, ◌<◌, ◌∙◌, Some, length, sym, ap, arith}
+use Rattle.std.proofs.Common.{rules, ◌≡◌, ◌<◌, ◌∙◌, Some, length, sym, ap, subst, arith}
+use Rattle.std.specs.Prelude.{slice_get}
 use Rattle.std.proofs.lemmas.Int.{to_z-of_z}
 use Rattle.std.specs.Int.{w8}
 use mir.Val.{SFits}
@@ -7,6 +8,8 @@ use Rattle.flt_model.specs.Durable.{state_at}
 use Rattle.flt_model.specs.Trace.{trace}
 use Rattle.flt_model.specs.declared.call.Op.TheVariants as ops
 use Rattle.flt_model.specs.declared.call.Reply.TheVariants as replies
+use Rattle.flt_dem.specs.Standing.{FaultsStand}
+use Rattle.flt_dem.specs.View.{counter_of}
 use Rattle.flt_dem.proofs.ViewLemmas.{counter_told}
 use Rattle.flt_dem.proofs.IdleLemmas.{stands_idle}
 use Rattle.flt_dem.proofs.state.DemState.show.Goals as goal
@@ -18,12 +21,14 @@ returns-clause-answer c = λ life past s.
     let configured = rw (← c.self.view_is) at c.requires in
     let faults = inside.events.faults_stand in
     let within : event < count life = omega (arith, configured, ap (λ k. length k.events.items) faults.config) in
-    let states : Some c.state-state.result ≡ Some (state_at life (trace life past) event) = sym c.state-state.ensures ∙ faults.states_stand.each event within in
+    let states : Some c.state-state.result ≡ Some (state_at life (trace life past) event) =
+    sym c.state-state.ensures ∙ ap (λ f. slice_get f.states event) c.faults-faults.ensures ∙ faults.states_stand.each event within in
     let state : c.state-state.result ≡ state_at life (trace life past) event = cc in
     let fits : SFits w8 c.detection_counter.result = search rules in
-    let counter = c.detection_counter.ensures ∙ counter_told life past c.args.self.now s event within in
-    let stored = c.occurrence.ensures life (trace life past) faults in
-    let overflow = c.overflow.ensures ∙ faults.memory_stands.overflow in
+    let counter = c.detection_counter.ensures ∙ ap (λ m. counter_of m event) c.self.view_is ∙ counter_told life past c.args.self.now s event within in
+    let stood = subst (λ f. FaultsStand life (trace life past) f) (sym c.faults-faults.ensures) faults in
+    let stored = c.occurrence.ensures life (trace life past) stood in
+    let overflow = c.overflow.ensures ∙ stood.memory_stands.overflow in
     rw (to_z-of_z w8 c.detection_counter.result fits) (λ i. replies.Shown (record {
       status = (state i).status;
       fdc = counter i;

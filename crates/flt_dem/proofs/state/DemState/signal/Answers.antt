@@ -11,7 +11,7 @@ returns-clause-stands c = λ life past s.
     let index = c.args.index in
     let value = c.args.value in
     record {
-      events = stands_none life past (ops.Signal index value) c.self.inside.debounces.items c.self.inside.faults (λ marks. refl) (λ event within. refl) inside.events;
+      events = stands_none life past (ops.Signal index value) c.self.inside.events (λ marks. refl) (λ event within. refl) inside.events;
       started = inside.started;
       signals = c.set.ensures ∙ ap (λ xs. slice_set xs index value) inside.signals ∙ set_signals index value past c.requires;
     }

@@ -1,0 +1,10 @@
+use Rattle.std.proofs.Common.{◌≡◌, [], false}
+use Rattle.flt_dem.proofs.ClearLemmas.{ClearedBelow}
+use Rattle.flt_dem.proofs.events.Events.clear_all.Given as goal
+
+abbrev pub invariant-loop-event : goal.invariant-loop-event
+invariant-loop-event l = record {
+  config : l.self.faults.config ≡ l.fn.self.faults.config;
+  gone : l.self.faults.memory ≡ record { entries = []; overflow = false };
+  cleared : ClearedBelow l.event l.fn.self l.self;
+}

@@ -1,0 +1,45 @@
+use Rattle.std.proofs.Common.{◌<◌, ◌∙◌, ◌∷◌, ap, length, arith}
+use Rattle.std.specs.Prelude.{slice_set}
+use Rattle.flt_model.specs.Life.{count}
+use Rattle.flt_model.specs.Debounce.{Ticked, debounced, qualified}
+use Rattle.flt_dem.specs.Events.{EventsView}
+use Rattle.flt_dem.proofs.ReadLemmas.{refill-set, rules_found, rules_read}
+use Rattle.flt_dem.proofs.DebounceLemmas.{was_debounced, debounced_more, kind_read, kept_of_config}
+use Rattle.flt_dem.proofs.PartLemmas.{part_of_ticks}
+use Rattle.flt_dem.proofs.events.Events.tick_one.Goals as goal
+
+pub invariant_of-self : goal.invariant_of-self
+invariant_of-self g c =
+    let event = c.args.event in
+    let config = c.self.inside.faults.config in
+    let debounces = c.self.inside.debounces.items in
+    let lent = c.deref_mut.result.now in
+    let configured = rw (← c.self.view_is) at c.requires.configured in
+    let rules = c.index-deref-event.result in
+    let found = rules_found config c.deref.result.now event rules c.index-deref-event.is (c.deref.ensures.0 ∙ ap (λ k. k.events.items) c.config.ensures.value) configured in
+    kept_of_config config debounces lent event rules found c.deref_mut.ensures.value configured c.self.invariant c.take.new.self.config c.tick-qualified.new.state c.take.ensures.config
+    (c.tick-qualified.ensures.kind (kind_read config debounces lent event rules found c.deref_mut.ensures.value configured c.self.invariant))
+
+pub returns-clause-part : goal.returns-clause-part
+returns-clause-part g c = λ life past on signals_are items marks own s.
+    let inside = rw (← c.self.view_is) at s in
+    let ticks = c.args.ticks in
+    let event = c.args.event in
+    let config = c.self.inside.faults.config in
+    let debounces = c.self.inside.debounces.items in
+    let lent = c.deref_mut.result.now in
+    let new = c.tick-qualified.new.state in
+    let configured = rw (← c.self.view_is) at c.requires.configured in
+    let rules = c.index-deref-event.result in
+    let items_is = c.deref.ensures.0 ∙ ap (λ k. k.events.items) c.config.ensures.value in
+    let known = inside.faults_stand.config in
+    let within : event < count life = omega (arith, configured, ap (λ k. length k.events.items) known) in
+    let found = rules_read config c.deref.result.now event rules c.index-deref-event.is items_is configured life known in
+    let now : EventsView = record { faults = c.take.new.self; debounces = slice_set debounces event new } in
+    let was = was_debounced life items event rules debounces lent c.deref_mut.ensures.value found within inside.debounces_stand in
+    rw (refill-set debounces lent event new c.deref_mut.ensures.value)
+    (part_of_ticks life past event items marks now own ticks c.args.signals.now.values c.tick-qualified.result on signals_are
+    (c.tick-qualified.ensures.qualified (items event) was ∙ ap (λ k. qualified k.debounce (items event) (Ticked ticks)) found)
+    (debounced_more life event (Ticked ticks) items debounces new within
+    (c.tick-qualified.ensures.debounced (items event) was ∙ ap (λ k. debounced k.debounce (Ticked ticks ∷ items event)) found) inside.debounces_stand)
+    (c.take.ensures.stands life marks inside.faults_stand))

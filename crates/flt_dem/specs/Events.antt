@@ -1,0 +1,21 @@
+-- The events as a contract sees them: the durable part, and the debouncing of each event.
+use Rattle.std.specs.Prelude.{◌≡◌, List, length}
+use Rattle.flt_config.specs.declared.config.Config.{Config}
+use Rattle.flt_model.specs.declared.call.DebState.{DebState}
+use Rattle.flt_memory.specs.Memory.{Memory}
+use Rattle.flt_dem.specs.Faults.{FaultsView, with_memory}
+use Rattle.flt_dem.specs.Debounces.{AreOfKind}
+
+-- the durable part, and one debouncing for each event by its number
+pub record EventsView : Type 0 where
+  pub faults : FaultsView
+  pub debounces : List DebState
+
+-- one debouncing for each event, of its kind
+pub record IsOfConfig (config : Config) (debounces : List DebState) : Type 0 where
+  pub one_each : length debounces ≡ length config.events.items
+  pub kinds : AreOfKind config.events.items debounces
+
+-- the events with these entries in place of theirs
+abbrev pub holding : Memory → EventsView → EventsView
+holding memory events = record events { faults = with_memory memory events.faults }

@@ -1,0 +1,208 @@
+//! The events, each of which takes its part of a call: in its debouncing, and in the durable part. A call that reaches all of them
+//! goes over them in order of number.
+
+ghost use Rattle.std.specs.Prelude.{◌≡◌, ◌≢◌, ◌<◌, ℕ, [], length, map, slice_get, unwrap_or};
+ghost use Rattle.flt_config.specs.Durable.{Fits};
+ghost use Rattle.flt_config.specs.Validity.{IsValid};
+ghost use Rattle.flt_model.specs.Life.{fresh, no_event};
+ghost use Rattle.flt_model.specs.Debounce.{debounced, detection_counter};
+ghost use Rattle.flt_model.specs.declared.call.DebState.TheVariants.{Idle};
+ghost use Rattle.flt_did.specs.Table.{dids_of};
+ghost use Rattle.flt_did.specs.Serves.{Serves};
+ghost use Rattle.flt_dem.specs.Faults.{KeepsOthers, KeepsOthersWithoutEntry};
+ghost use Rattle.flt_dem.specs.Calls.{StandsAfter, TakeReport, TakesPartOfTicks, TakeTicks, TakesPartOfCycle, TakeCycle, TakesPartOfClear, TakesPartOfAnyClear, TakeClearOfAll};
+ghost use Rattle.flt_dem.specs.Manager.{IsOfOtherCycle};
+
+use crate::faults::Faults;
+use arrayvec::ArrayVec;
+use flt_config::{Config, EVENTS, Persist, ValidConfig};
+use flt_did::{DID_ROWS, DidTable, Signals};
+use flt_model::{DebState, Report};
+use std::marker::Model;
+
+/// The durable part, and the debouncing of each of its events.
+#[derive(Drop)]
+pub struct Events {
+    faults: Faults,
+    debounces: ArrayVec<DebState, EVENTS>,
+}
+
+impl Model for Events {
+    ghost use Rattle.flt_dem.specs.Events.{EventsView, IsOfConfig};
+
+    ghost Value = { EventsView };
+
+    ghost view = { λ e. record { faults = e.faults; debounces = e.debounces.items } };
+
+    ghost invariant = { λ e. IsOfConfig e.faults.config e.debounces.items };
+}
+
+/// The debouncing of each event at rest, as at power-up.
+fn at_rest(config: &Config) -> ArrayVec<DebState, EVENTS>
+    requires { IsValid config.now }
+    ensures { result.items ≡ map (λ event. debounced event.debounce []) config.now.events.items }
+{
+    let mut debounces = ArrayVec::new();
+    for event in config.events.as_slice() {
+        debounces.push(flt_debounce::rest(&event.debounce));
+    }
+    debounces
+}
+
+impl Events {
+    /// The events of a controller that never saved a state, to which no call was made.
+    pub fn new(config: ValidConfig) -> Events
+        ensures config { result.faults.config ≡ config }
+        ensures stands { StandsAfter (fresh config) [] result }
+    {
+        let faults = Faults::new(config);
+        Events {
+            debounces: at_rest(faults.config()),
+            faults,
+        }
+    }
+
+    /// Takes over a saved state: what is not saved is at rest.
+    pub fn restore(&mut self, base: &Persist)
+        requires { Fits self.old.faults.config base.now }
+        ensures config { self.new.faults.config ≡ self.old.faults.config }
+        ensures stands { StandsAfter (record { config = self.old.faults.config; base = base.now }) [] self.new }
+    {
+        self.faults.restore(base);
+        self.debounces = at_rest(self.faults.config());
+    }
+
+    /// The durable part.
+    pub fn faults(&self) -> &Faults
+        ensures { result.now ≡ self.now.faults }
+    {
+        &self.faults
+    }
+
+    /// The fault detection counter of one event.
+    pub fn detection_counter(&self, event: u16) -> i8
+        requires { event < length self.now.faults.config.events.items }
+        ensures { result ≡ detection_counter (unwrap_or (slice_get self.now.faults.config.events.items event) no_event).debounce (unwrap_or (slice_get self.now.debounces event) Idle) }
+    {
+        let rules = &self.faults.config().events[event as usize];
+        flt_debounce::fdc(&rules.debounce, &self.debounces[event as usize])
+    }
+
+    /// Takes a report of one event, with the setting on and the event's cycle started.
+    pub fn report(
+        &mut self,
+        dids: &DidTable<DID_ROWS>,
+        signals: &Signals,
+        event: u16,
+        report: Report,
+    )
+        requires configured { event < length self.old.faults.config.events.items }
+        requires served { Serves (dids_of dids.now) self.old.faults.config.events.items }
+        ensures config { self.new.faults.config ≡ self.old.faults.config }
+        ensures stands { TakeReport event report signals.now.values self.old self.new }
+        ensures debouncing { (other : ℕ) → other ≢ event → slice_get self.new.debounces other ≡ slice_get self.old.debounces other }
+        ensures states { KeepsOthersWithoutEntry event self.old.faults self.new.faults }
+    {
+        let rules = &self.faults.config().events[event as usize];
+        let qualified = flt_debounce::report(
+            &rules.debounce,
+            &mut self.debounces[event as usize],
+            report,
+        );
+        self.faults.take(dids, signals, event, qualified);
+    }
+
+    /// Lets ticks go by for one event, with the setting on.
+    fn tick_one(&mut self, dids: &DidTable<DID_ROWS>, signals: &Signals, event: u16, ticks: u16)
+        requires configured { event < length self.old.faults.config.events.items }
+        requires served { Serves (dids_of dids.now) self.old.faults.config.events.items }
+        ensures config { self.new.faults.config ≡ self.old.faults.config }
+        ensures part { TakesPartOfTicks ticks signals.now.values event self.old self.new }
+    {
+        let rules = &self.faults.config().events[event as usize];
+        let qualified = flt_debounce::tick(
+            &rules.debounce,
+            &mut self.debounces[event as usize],
+            ticks,
+        );
+        self.faults.take(dids, signals, event, qualified);
+    }
+
+    /// Lets ticks go by for each event, with the setting on.
+    pub fn tick(&mut self, dids: &DidTable<DID_ROWS>, signals: &Signals, ticks: u16)
+        requires served { Serves (dids_of dids.now) self.old.faults.config.events.items }
+        ensures config { self.new.faults.config ≡ self.old.faults.config }
+        ensures stands { TakeTicks ticks signals.now.values self.old self.new }
+    {
+        for event in 0..self.faults.count() {
+            self.tick_one(dids, signals, event, ticks);
+        }
+    }
+
+    /// Ends the operation cycle of one event, where this is its cycle.
+    fn end_cycle_one(&mut self, event: u16, cycle: u8)
+        requires configured { event < length self.old.faults.config.events.items }
+        ensures config { self.new.faults.config ≡ self.old.faults.config }
+        ensures part { TakesPartOfCycle cycle event self.old self.new }
+        ensures debouncing { (other : ℕ) → IsOfOtherCycle self.old.faults.config cycle other → slice_get self.new.debounces other ≡ slice_get self.old.debounces other }
+        ensures states { (other : ℕ) → IsOfOtherCycle self.old.faults.config cycle other → slice_get self.new.faults.states other ≡ slice_get self.old.faults.states other }
+    {
+        let rules = &self.faults.config().events[event as usize];
+        if rules.cycle == cycle {
+            self.debounces[event as usize] = flt_debounce::rest(&rules.debounce);
+            self.faults.end_cycle(event);
+        }
+    }
+
+    /// Ends an operation cycle for each of its events.
+    pub fn end_cycle(&mut self, cycle: u8)
+        ensures config { self.new.faults.config ≡ self.old.faults.config }
+        ensures stands { TakeCycle cycle self.old self.new }
+        ensures debouncing { (event : ℕ) → IsOfOtherCycle self.old.faults.config cycle event → slice_get self.new.debounces event ≡ slice_get self.old.debounces event }
+        ensures states { (event : ℕ) → IsOfOtherCycle self.old.faults.config cycle event → slice_get self.new.faults.states event ≡ slice_get self.old.faults.states event }
+    {
+        for event in 0..self.faults.count() {
+            self.end_cycle_one(event, cycle);
+        }
+    }
+
+    /// Clears one event but for its entry: its debouncing is at rest, and its state is as one that was never tested.
+    fn forget(&mut self, event: u16)
+        requires configured { event < length self.old.faults.config.events.items }
+        ensures config { self.new.faults.config ≡ self.old.faults.config }
+        ensures valid { IsValid self.old.faults.config }
+        ensures memory { self.new.faults.memory ≡ self.old.faults.memory }
+        ensures part { TakesPartOfAnyClear event self.old self.new }
+        ensures debouncing { (other : ℕ) → other ≢ event → slice_get self.new.debounces other ≡ slice_get self.old.debounces other }
+        ensures states { KeepsOthers event self.old.faults self.new.faults }
+    {
+        let rules = &self.faults.config().events[event as usize];
+        self.debounces[event as usize] = flt_debounce::rest(&rules.debounce);
+        self.faults.forget(event);
+    }
+
+    /// Clears one event, with its entry.
+    pub fn clear_one(&mut self, event: u16)
+        requires configured { event < length self.old.faults.config.events.items }
+        ensures config { self.new.faults.config ≡ self.old.faults.config }
+        ensures valid { IsValid self.old.faults.config }
+        ensures part { TakesPartOfClear event self.old self.new }
+        ensures debouncing { (other : ℕ) → other ≢ event → slice_get self.new.debounces other ≡ slice_get self.old.debounces other }
+        ensures states { KeepsOthers event self.old.faults self.new.faults }
+    {
+        self.forget(event);
+        self.faults.remove_entry(event);
+    }
+
+    /// Clears each event, and the overflow flag: the entries go first, all at once.
+    pub fn clear_all(&mut self)
+        ensures config { self.new.faults.config ≡ self.old.faults.config }
+        ensures stands { TakeClearOfAll self.old self.new }
+    {
+        let count = self.faults.count();
+        self.faults.remove_entries();
+        for event in 0..count {
+            self.forget(event);
+        }
+    }
+}
