@@ -1,7 +1,10 @@
 -- The events as a contract sees them: the durable part, and the debouncing of each event.
-use Rattle.std.specs.Prelude.{◌≡◌, List, length}
+use Rattle.std.specs.Prelude.{◌≡◌, ℕ, ℤ, List, length, slice_get, unwrap_or}
 use Rattle.flt_config.specs.declared.config.Config.{Config}
+use Rattle.flt_model.specs.Life.{no_event}
+use Rattle.flt_model.specs.Debounce.{detection_counter}
 use Rattle.flt_model.specs.declared.call.DebState.{DebState}
+use Rattle.flt_model.specs.declared.call.DebState.TheVariants.{Idle}
 use Rattle.flt_memory.specs.Memory.{Memory}
 use Rattle.flt_dem.specs.Faults.{FaultsView, with_memory}
 use Rattle.flt_dem.specs.Debounces.{AreOfKind}
@@ -19,3 +22,8 @@ pub record IsOfConfig (config : Config) (debounces : List DebState) : Type 0 whe
 -- the events with these entries in place of theirs
 abbrev pub holding : Memory → EventsView → EventsView
 holding memory events = record events { faults = with_memory memory events.faults }
+
+-- the fault detection counter of an event
+abbrev pub counter_at : EventsView → ℕ → ℤ
+counter_at events event =
+    detection_counter (unwrap_or (slice_get events.faults.config.events.items event) no_event).debounce (unwrap_or (slice_get events.debounces event) Idle)

@@ -27,11 +27,11 @@ without_entry event memory = record memory { entries = filter (λ entry. not (is
 abbrev pub with_memory : Memory → FaultsView → FaultsView
 with_memory memory faults = record faults { memory = memory }
 
--- the states of the other events are as before
-abbrev pub KeepsOthers : ℕ → FaultsView → FaultsView → Type 0
-KeepsOthers event old new = (other : ℕ) → other ≢ event → slice_get new.states other ≡ slice_get old.states other
+-- what a list has of the other events is as before
+abbrev pub KeepsOthers : {A : Type 0} → ℕ → List A → List A → Type 0
+KeepsOthers event old new = (other : ℕ) → other ≢ event → slice_get new other ≡ slice_get old other
 
--- those of the other events without an entry are
+-- the states of the other events without an entry are as before
 abbrev pub KeepsOthersWithoutEntry : ℕ → FaultsView → FaultsView → Type 0
 KeepsOthersWithoutEntry event old new =
     (other : ℕ) → other ≢ event → find (is_of_event other) old.memory.entries ≡ None → slice_get new.states other ≡ slice_get old.states other

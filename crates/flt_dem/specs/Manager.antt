@@ -1,14 +1,26 @@
 -- The event manager as a contract sees it, and what it stands for.
-use Rattle.std.specs.Prelude.{◌≡◌, ◌≢◌, ℕ, ◌<◌, Bool, true, false, List, slice_get, unwrap_or, Option, Some, None, IfSome}
+use Rattle.std.specs.Prelude.{◌≡◌, ◌≢◌, ℕ, ◌<◌, Bool, true, false, not, List, ◌∷◌, slice_get, find, unwrap_or, Option, Some, None, IfSome}
 use Rattle.flt_config.specs.declared.config.Config.{Config}
+use Rattle.flt_config.specs.declared.persist.EntryState.{EntryState}
+use Rattle.flt_config.specs.Durable.{is_of_event}
 use Rattle.flt_model.specs.Life.{Life, History, no_event}
-use Rattle.flt_model.specs.Happening.{is_started, signals}
+use Rattle.flt_model.specs.Happening.{is_started, signals, cleared_dtc}
+use Rattle.flt_model.specs.Session.{is_setting_off}
+use Rattle.flt_model.specs.Request.{RequestBytes}
+use Rattle.flt_model.specs.Entry.{has_entry}
+use Rattle.flt_model.specs.Trace.{trace}
+use Rattle.flt_model.specs.Answer.{answer, entry_where}
+use Rattle.flt_model.specs.declared.call.Op.{Op}
+use Rattle.flt_model.specs.declared.call.Op.TheVariants as ops
 use Rattle.flt_model.specs.declared.call.DebState.{DebState}
 use Rattle.flt_model.specs.declared.call.Cause.{Cause}
 use Rattle.flt_model.specs.declared.call.Cause.TheVariants.{SettingOff, NotStarted}
 use Rattle.flt_model.specs.declared.call.Reply.{Reply}
 use Rattle.flt_model.specs.declared.call.Reply.TheVariants as replies
+use Rattle.flt_dem.specs.declared.notes.Which.{Which}
+use Rattle.flt_dem.specs.Notes.{noted_by}
 use Rattle.flt_dem.specs.Faults.{FaultsView}
+use Rattle.flt_dem.specs.Standing.{notes_of}
 use Rattle.flt_dem.specs.Events.{EventsView}
 use Rattle.flt_dem.specs.Calls.{StandsAfter}
 
@@ -53,3 +65,49 @@ pub record IsUntouched (event : ℕ) (before now : Manager) : Type 0 where
 -- the event is not of this operation cycle
 abbrev pub IsOfOtherCycle : Config → ℕ → ℕ → Type 0
 IsOfOtherCycle config cycle event = IfSome (slice_get config.events.items event) (λ rules. rules.cycle ≢ cycle)
+
+-- what a list has of the events of other cycles is as before
+abbrev pub KeepsOtherCycles : {A : Type 0} → Config → ℕ → List A → List A → Type 0
+KeepsOtherCycles config cycle old new = (event : ℕ) → IsOfOtherCycle config cycle event → slice_get new event ≡ slice_get old event
+
+-- ---- What a call makes of a manager, in words for contracts.
+
+-- it stands before the call, and stands with the call more after
+abbrev pub Takes : Op → Manager → Manager → Type 0
+Takes op old new = (life : Life) (past : History) → StandsFor life past old → StandsFor life (op ∷ past) new
+
+-- it does where the first tells whether the setting is on
+abbrev pub TakesUnder : Bool → Op → Manager → Manager → Type 0
+TakesUnder setting op old new =
+    (life : Life) (past : History) → setting ≡ not (is_setting_off past) → StandsFor life past old → StandsFor life (op ∷ past) new
+
+-- it takes each request of a tester that clears this DTC
+abbrev pub TakesClear : (Life → ℕ) → Manager → Manager → Type 0
+TakesClear dtc old new =
+    (life : Life) (past : History) (tester : ℕ) (bytes : RequestBytes) → cleared_dtc (ops.Request tester bytes) ≡ Some (dtc life) →
+    StandsFor life past old → StandsFor life (ops.Request tester bytes ∷ past) new
+
+-- a value is what the base and the calls so far make of it
+abbrev pub IsTold : {A : Type 0} → (Life → History → A) → Manager → A → Type 0
+IsTold told manager value = (life : Life) (past : History) → StandsFor life past manager → value ≡ told life past
+
+-- the reply is the answer to the call
+abbrev pub Answers : Op → Manager → Reply → Type 0
+Answers op manager reply = (life : Life) (past : History) → StandsFor life past manager → reply ≡ answer life past op
+
+-- it is where the first tells whether the setting is on
+abbrev pub AnswersUnder : Bool → Op → Manager → Reply → Type 0
+AnswersUnder setting op manager reply =
+    (life : Life) (past : History) → setting ≡ not (is_setting_off past) → StandsFor life past manager → reply ≡ answer life past op
+
+-- the other events without an entry are untouched
+abbrev pub LeavesOthers : ℕ → Manager → Manager → Type 0
+LeavesOthers event old new = (other : ℕ) → other ≢ event → find (is_of_event other) old.faults.memory.entries ≡ None → IsUntouched other old new
+
+-- the entry of an event that the calls so far make, if they make one
+abbrev pub entry_after : ℕ → Life → History → Option EntryState
+entry_after event life past = entry_where life event (trace life past) (has_entry life event (trace life past))
+
+-- the event that they note
+abbrev pub noted_after : Which → Life → History → Option ℕ
+noted_after which life past = noted_by which (notes_of life (trace life past))

@@ -1,17 +1,18 @@
 -- What the durable part of the event manager stands for: a base and the marks of all events behind it.
-use Rattle.std.specs.Prelude.{◌≡◌, ◌≢◌, ℕ, ◌<◌, List, ◌∷◌, length, Some, slice_get}
+use Rattle.std.specs.Prelude.{◌≡◌, ◌≢◌, ℕ, ◌<◌, List, ◌∷◌, length, Some, slice_get, option_map, unwrap_or}
 use Rattle.flt_config.specs.declared.persist.EventState.{EventState}
 use Rattle.flt_model.specs.Life.{Life, count}
 use Rattle.flt_model.specs.Mark.{Trace, Of}
-use Rattle.flt_model.specs.Mark.Mark.{Displaced, Added, Refused}
+use Rattle.flt_model.specs.Mark.Mark.{Displaced, Added, Refused, Clear}
 use Rattle.flt_model.specs.Durable.{state_at}
-use Rattle.flt_model.specs.Entry.{entries, overflow}
+use Rattle.flt_model.specs.Entry.{entries, overflow, has_entry}
+use Rattle.flt_model.specs.Answer.{entry_where}
 use Rattle.flt_model.specs.Noted.{is_entering, is_confirming, recent, first}
 use Rattle.flt_memory.specs.Memory.{Memory}
 use Rattle.flt_memory.specs.declared.memory.Stored.{Stored}
 use Rattle.flt_memory.specs.declared.memory.Stored.TheVariants as outcomes
 use Rattle.flt_dem.specs.declared.notes.Notes.{Notes}
-use Rattle.flt_dem.specs.Faults.{FaultsView}
+use Rattle.flt_dem.specs.Faults.{FaultsView, with_memory, without_entry}
 
 -- each event's state is what the marks make of it
 pub record StatesStand (life : Life) (marks : Trace) (states : List EventState) : Type 0 where
@@ -59,3 +60,17 @@ IsNotDisplaced event _ = Unit {0}
 -- the durable part stands before, and stands with more marks after
 abbrev pub Bears : (Life → Trace → Trace) → FaultsView → FaultsView → Type 0
 Bears more old new = (life : Life) (marks : Trace) → FaultsStand life marks old → FaultsStand life (more life marks) new
+
+-- it bears the clear of an event whatever entries it holds, where it gives up the event's
+abbrev pub BearsClear : ℕ → FaultsView → FaultsView → Type 0
+BearsClear event old new =
+    (held : Memory) (signals : List ℕ) → Bears (λ life marks. Of event Clear signals ∷ marks) (with_memory held old) (with_memory (without_entry event held) new)
+
+-- the states follow what became of an event that was stored
+abbrev pub StatesFollow : Stored → List EventState → List EventState → Type 0
+StatesFollow outcome old new =
+    (life : Life) (event : ℕ) (signals : List ℕ) (marks : Trace) → StatesStand life marks old → StatesStand life (with_outcome event signals outcome marks) new
+
+-- how often an event occurred that has an entry, and 0 without an entry
+abbrev pub occurrence_of : ℕ → Life → Trace → ℕ
+occurrence_of event life marks = unwrap_or (option_map (λ entry. entry.occurrence) (entry_where life event marks (has_entry life event marks))) 0

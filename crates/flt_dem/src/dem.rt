@@ -1,23 +1,19 @@
 //! The event manager with its table of data identifiers.
 
-ghost use Rattle.std.specs.Prelude.{◌≡◌, ◌≢◌, ◌<◌, ℕ, [], ◌∷◌, not, length, slice_get, slice_set, find, position, option_copied, Some, None, IfSome, false};
+ghost use Rattle.std.specs.Prelude.{◌≡◌, ◌≢◌, ◌<◌, ℕ, [], length, slice_get, slice_set, find, position, option_copied, Some, None, IfSome, false};
 ghost use Rattle.std.proofs.Props.{props};
 ghost use Rattle.flt_config.specs.Durable.{Fits, is_of_event};
 ghost use Rattle.flt_config.specs.Validity.{has_dtc};
-ghost use Rattle.flt_model.specs.Life.{Life, History, event_of, fresh};
-ghost use Rattle.flt_model.specs.Happening.{cleared_dtc, all_dtcs};
-ghost use Rattle.flt_model.specs.Session.{is_setting_off};
-ghost use Rattle.flt_model.specs.Entry.{has_entry};
-ghost use Rattle.flt_model.specs.Trace.{trace};
+ghost use Rattle.flt_model.specs.Life.{event_of, fresh};
+ghost use Rattle.flt_model.specs.Happening.{all_dtcs};
 ghost use Rattle.flt_model.specs.Durable.{saved_after};
-ghost use Rattle.flt_model.specs.Answer.{answer, entry_where};
 ghost use Rattle.flt_model.specs.declared.call.Op.TheVariants as ops;
 ghost use Rattle.flt_model.specs.declared.call.Reply.TheVariants as replies;
 ghost use Rattle.flt_did.specs.Table.{dids_of};
 ghost use Rattle.flt_did.specs.Serves.{Serves};
-ghost use Rattle.flt_model.specs.Request.{RequestBytes};
-ghost use Rattle.flt_dem.specs.Standing.{notes_of};
+ghost use Rattle.flt_dem.specs.Faults.{KeepsOthers};
 ghost use Rattle.flt_dem.specs.Manager.{StandsFor, IsUntouched, IsOfOtherCycle, is_cycle_started, cause_of, reply_of};
+ghost use Rattle.flt_dem.specs.Manager.{Takes, TakesUnder, TakesClear, IsTold, Answers, AnswersUnder, LeavesOthers, entry_after, noted_after};
 
 use crate::notes::Which;
 use crate::state::DemState;
@@ -66,8 +62,8 @@ impl Dem {
 
     /// Writes the durable state: what is to be saved. That changes nothing.
     pub fn persist(&self, out: &mut Persist)
-        ensures saved { (life : Life) (past : History) → StandsFor life past (state_of self.now) → out.new ≡ saved_after life past }
-        ensures stands { (life : Life) (past : History) → StandsFor life past (state_of self.now) → StandsFor life (ops.Snapshot ∷ past) (state_of self.now) }
+        ensures saved { IsTold saved_after (state_of self.now) out.new }
+        ensures stands { Takes ops.Snapshot (state_of self.now) (state_of self.now) }
     {
         self.state.persist(out);
     }
@@ -84,7 +80,7 @@ impl Dem {
         requires { index < 8 }
         ensures dids { table_of self.new ≡ table_of self.old }
         ensures value { state_of self.new ≡ record (state_of self.old) { signals = slice_set (state_of self.old).signals index value } }
-        ensures stands { (life : Life) (past : History) → StandsFor life past (state_of self.old) → StandsFor life (ops.Signal index value ∷ past) (state_of self.new) }
+        ensures stands { Takes (ops.Signal index value) (state_of self.old) (state_of self.new) }
     {
         self.state.signal(index, value);
     }
@@ -98,10 +94,10 @@ impl Dem {
         ensures dids { table_of self.new ≡ table_of self.old }
         ensures ignored { result ≡ cause_of setting (is_cycle_started (state_of self.old) event) }
         ensures unchanged { IfSome result (λ _. state_of self.new ≡ state_of self.old) }
-        ensures debouncing { (other : ℕ) → other ≢ event → slice_get (state_of self.new).debounces other ≡ slice_get (state_of self.old).debounces other }
-        ensures others { (other : ℕ) → other ≢ event → find (is_of_event other) (state_of self.old).faults.memory.entries ≡ None → IsUntouched other (state_of self.old) (state_of self.new) }
-        ensures stands { (life : Life) (past : History) → setting ≡ not (is_setting_off past) → StandsFor life past (state_of self.old) → StandsFor life (ops.Report event report ∷ past) (state_of self.new) }
-        ensures answer { (life : Life) (past : History) → setting ≡ not (is_setting_off past) → StandsFor life past (state_of self.old) → reply_of result ≡ answer life past (ops.Report event report) }
+        ensures debouncing { KeepsOthers event (state_of self.old).debounces (state_of self.new).debounces }
+        ensures others { LeavesOthers event (state_of self.old) (state_of self.new) }
+        ensures stands { TakesUnder setting (ops.Report event report) (state_of self.old) (state_of self.new) }
+        ensures answer { AnswersUnder setting (ops.Report event report) (state_of self.old) (reply_of result) }
     {
         self.state.report(&self.dids, event, report, setting)
     }
@@ -112,7 +108,7 @@ impl Dem {
         ensures config { config_of self.new ≡ config_of self.old }
         ensures dids { table_of self.new ≡ table_of self.old }
         ensures unchanged { setting ≡ false → state_of self.new ≡ state_of self.old }
-        ensures stands { (life : Life) (past : History) → setting ≡ not (is_setting_off past) → StandsFor life past (state_of self.old) → StandsFor life (ops.Tick ticks ∷ past) (state_of self.new) }
+        ensures stands { TakesUnder setting (ops.Tick ticks) (state_of self.old) (state_of self.new) }
     {
         self.state.tick(&self.dids, ticks, setting);
     }
@@ -123,7 +119,7 @@ impl Dem {
         requires { cycle < 4 }
         ensures config { config_of self.new ≡ config_of self.old }
         ensures dids { table_of self.new ≡ table_of self.old }
-        ensures stands { (life : Life) (past : History) → StandsFor life past (state_of self.old) → StandsFor life (ops.Cycle cycle ∷ past) (state_of self.new) }
+        ensures stands { Takes (ops.Cycle cycle) (state_of self.old) (state_of self.new) }
         ensures others { (event : ℕ) → IsOfOtherCycle (config_of self.old) cycle event → IsUntouched event (state_of self.old) (state_of self.new) }
     {
         self.state.cycle(cycle);
@@ -135,7 +131,7 @@ impl Dem {
     pub fn clear_all(&mut self)
         ensures config { config_of self.new ≡ config_of self.old }
         ensures dids { table_of self.new ≡ table_of self.old }
-        ensures stands { (life : Life) (past : History) (tester : ℕ) (bytes : RequestBytes) → cleared_dtc (ops.Request tester bytes) ≡ Some all_dtcs → StandsFor life past (state_of self.old) → StandsFor life (ops.Request tester bytes ∷ past) (state_of self.new) }
+        ensures stands { TakesClear (λ _. all_dtcs) (state_of self.old) (state_of self.new) }
     {
         self.state.clear_all();
     }
@@ -146,7 +142,7 @@ impl Dem {
         requires { event < length (config_of self.old).events.items }
         ensures config { config_of self.new ≡ config_of self.old }
         ensures dids { table_of self.new ≡ table_of self.old }
-        ensures stands { (life : Life) (past : History) (tester : ℕ) (bytes : RequestBytes) → cleared_dtc (ops.Request tester bytes) ≡ Some (event_of life event).dtc → StandsFor life past (state_of self.old) → StandsFor life (ops.Request tester bytes ∷ past) (state_of self.new) }
+        ensures stands { TakesClear (λ life. (event_of life event).dtc) (state_of self.old) (state_of self.new) }
         ensures others { (other : ℕ) → other ≢ event → IsUntouched other (state_of self.old) (state_of self.new) }
     {
         self.state.clear_one(event);
@@ -162,8 +158,8 @@ impl Dem {
     /// What is shown of an event. To show it changes nothing.
     pub fn show(&self, event: u16) -> Shown
         requires { event < length (config_of self.now).events.items }
-        ensures answer { (life : Life) (past : History) → StandsFor life past (state_of self.now) → replies.Shown result ≡ answer life past (ops.Show event) }
-        ensures stands { (life : Life) (past : History) → StandsFor life past (state_of self.now) → StandsFor life (ops.Show event ∷ past) (state_of self.now) }
+        ensures answer { Answers (ops.Show event) (state_of self.now) (replies.Shown result) }
+        ensures stands { Takes (ops.Show event) (state_of self.now) (state_of self.now) }
     {
         self.state.show(event)
     }
@@ -171,7 +167,7 @@ impl Dem {
     /// The entry of an event, where it has one.
     pub fn entry(&self, event: u16) -> Option<&EntryState>
         ensures value { option_copied result ≡ find (is_of_event event) (state_of self.now).faults.memory.entries }
-        ensures stands { (life : Life) (past : History) → StandsFor life past (state_of self.now) → option_copied result ≡ entry_where life event (trace life past) (has_entry life event (trace life past)) }
+        ensures stands { IsTold (entry_after event) (state_of self.now) (option_copied result) }
     {
         self.state.entry(event)
     }
@@ -179,7 +175,7 @@ impl Dem {
     /// The noted event that is asked for, where there is one.
     pub fn noted(&self, which: Which) -> Option<u16>
         ensures value { result ≡ noted_by which (state_of self.now).faults.notes }
-        ensures stands { (life : Life) (past : History) → StandsFor life past (state_of self.now) → result ≡ noted_by which (notes_of life (trace life past)) }
+        ensures stands { IsTold (noted_after which) (state_of self.now) result }
     {
         self.state.noted(which)
     }

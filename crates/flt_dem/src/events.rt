@@ -1,17 +1,18 @@
 //! The events, each of which takes its part of a call: in its debouncing, and in the durable part. A call that reaches all of them
 //! goes over them in order of number.
 
-ghost use Rattle.std.specs.Prelude.{◌≡◌, ◌≢◌, ◌<◌, ℕ, [], length, map, slice_get, unwrap_or};
+ghost use Rattle.std.specs.Prelude.{◌≡◌, ◌<◌, [], length, map};
 ghost use Rattle.flt_config.specs.Durable.{Fits};
 ghost use Rattle.flt_config.specs.Validity.{IsValid};
-ghost use Rattle.flt_model.specs.Life.{fresh, no_event};
-ghost use Rattle.flt_model.specs.Debounce.{debounced, detection_counter};
-ghost use Rattle.flt_model.specs.declared.call.DebState.TheVariants.{Idle};
+ghost use Rattle.flt_model.specs.Life.{fresh};
+ghost use Rattle.flt_model.specs.Debounce.{debounced};
 ghost use Rattle.flt_did.specs.Table.{dids_of};
 ghost use Rattle.flt_did.specs.Serves.{Serves};
 ghost use Rattle.flt_dem.specs.Faults.{KeepsOthers, KeepsOthersWithoutEntry};
-ghost use Rattle.flt_dem.specs.Calls.{StandsAfter, TakeReport, TakesPartOfTicks, TakeTicks, TakesPartOfCycle, TakeCycle, TakesPartOfClear, TakesPartOfAnyClear, TakeClearOfAll};
-ghost use Rattle.flt_dem.specs.Manager.{IsOfOtherCycle};
+ghost use Rattle.flt_dem.specs.Calls.{StandsAfter, TakeReport, TakesPartOfTicks, TakeTicks, TakesPartOfCycle, TakeCycle};
+ghost use Rattle.flt_dem.specs.Calls.{TakesPartOfClear, TakesPartOfAnyClear, TakeClearOfAll};
+ghost use Rattle.flt_dem.specs.Events.{counter_at};
+ghost use Rattle.flt_dem.specs.Manager.{KeepsOtherCycles};
 
 use crate::faults::Faults;
 use arrayvec::ArrayVec;
@@ -82,7 +83,7 @@ impl Events {
     /// The fault detection counter of one event.
     pub fn detection_counter(&self, event: u16) -> i8
         requires { event < length self.now.faults.config.events.items }
-        ensures { result ≡ detection_counter (unwrap_or (slice_get self.now.faults.config.events.items event) no_event).debounce (unwrap_or (slice_get self.now.debounces event) Idle) }
+        ensures { result ≡ counter_at self.now event }
     {
         let rules = &self.faults.config().events[event as usize];
         flt_debounce::fdc(&rules.debounce, &self.debounces[event as usize])
@@ -100,7 +101,7 @@ impl Events {
         requires served { Serves (dids_of dids.now) self.old.faults.config.events.items }
         ensures config { self.new.faults.config ≡ self.old.faults.config }
         ensures stands { TakeReport event report signals.now.values self.old self.new }
-        ensures debouncing { (other : ℕ) → other ≢ event → slice_get self.new.debounces other ≡ slice_get self.old.debounces other }
+        ensures debouncing { KeepsOthers event self.old.debounces self.new.debounces }
         ensures states { KeepsOthersWithoutEntry event self.old.faults self.new.faults }
     {
         let rules = &self.faults.config().events[event as usize];
@@ -144,8 +145,8 @@ impl Events {
         requires configured { event < length self.old.faults.config.events.items }
         ensures config { self.new.faults.config ≡ self.old.faults.config }
         ensures part { TakesPartOfCycle cycle event self.old self.new }
-        ensures debouncing { (other : ℕ) → IsOfOtherCycle self.old.faults.config cycle other → slice_get self.new.debounces other ≡ slice_get self.old.debounces other }
-        ensures states { (other : ℕ) → IsOfOtherCycle self.old.faults.config cycle other → slice_get self.new.faults.states other ≡ slice_get self.old.faults.states other }
+        ensures debouncing { KeepsOtherCycles self.old.faults.config cycle self.old.debounces self.new.debounces }
+        ensures states { KeepsOtherCycles self.old.faults.config cycle self.old.faults.states self.new.faults.states }
     {
         let rules = &self.faults.config().events[event as usize];
         if rules.cycle == cycle {
@@ -158,8 +159,8 @@ impl Events {
     pub fn end_cycle(&mut self, cycle: u8)
         ensures config { self.new.faults.config ≡ self.old.faults.config }
         ensures stands { TakeCycle cycle self.old self.new }
-        ensures debouncing { (event : ℕ) → IsOfOtherCycle self.old.faults.config cycle event → slice_get self.new.debounces event ≡ slice_get self.old.debounces event }
-        ensures states { (event : ℕ) → IsOfOtherCycle self.old.faults.config cycle event → slice_get self.new.faults.states event ≡ slice_get self.old.faults.states event }
+        ensures debouncing { KeepsOtherCycles self.old.faults.config cycle self.old.debounces self.new.debounces }
+        ensures states { KeepsOtherCycles self.old.faults.config cycle self.old.faults.states self.new.faults.states }
     {
         for event in 0..self.faults.count() {
             self.end_cycle_one(event, cycle);
@@ -173,8 +174,8 @@ impl Events {
         ensures valid { IsValid self.old.faults.config }
         ensures memory { self.new.faults.memory ≡ self.old.faults.memory }
         ensures part { TakesPartOfAnyClear event self.old self.new }
-        ensures debouncing { (other : ℕ) → other ≢ event → slice_get self.new.debounces other ≡ slice_get self.old.debounces other }
-        ensures states { KeepsOthers event self.old.faults self.new.faults }
+        ensures debouncing { KeepsOthers event self.old.debounces self.new.debounces }
+        ensures states { KeepsOthers event self.old.faults.states self.new.faults.states }
     {
         let rules = &self.faults.config().events[event as usize];
         self.debounces[event as usize] = flt_debounce::rest(&rules.debounce);
@@ -187,8 +188,8 @@ impl Events {
         ensures config { self.new.faults.config ≡ self.old.faults.config }
         ensures valid { IsValid self.old.faults.config }
         ensures part { TakesPartOfClear event self.old self.new }
-        ensures debouncing { (other : ℕ) → other ≢ event → slice_get self.new.debounces other ≡ slice_get self.old.debounces other }
-        ensures states { KeepsOthers event self.old.faults self.new.faults }
+        ensures debouncing { KeepsOthers event self.old.debounces self.new.debounces }
+        ensures states { KeepsOthers event self.old.faults.states self.new.faults.states }
     {
         self.forget(event);
         self.faults.remove_entry(event);

@@ -1,20 +1,17 @@
 //! The durable part of the event manager: states, entries and notes, one mark at a time.
 
-ghost use Rattle.std.specs.Prelude.{◌≡◌, ◌≢◌, ◌<◌, ◌≤◌, [], ◌∷◌, ℕ, List, length, slice_get, find, position, All, Some, false, option_copied, option_map, unwrap_or};
+ghost use Rattle.std.specs.Prelude.{◌≡◌, ◌≢◌, ◌<◌, ◌≤◌, [], ◌∷◌, ℕ, List, length, slice_get, find, position, All, Some, false, option_copied};
 ghost use Rattle.flt_config.specs.Validity.{IsValid, has_dtc};
 ghost use Rattle.flt_config.specs.Durable.{Fits, is_of_event};
 ghost use Rattle.flt_model.specs.Life.{Life, fresh};
 ghost use Rattle.flt_model.specs.Mark.{Trace, Of, AllCleared};
-ghost use Rattle.flt_model.specs.Mark.Mark.{Passed, Clear};
+ghost use Rattle.flt_model.specs.Mark.Mark.{Passed};
 ghost use Rattle.flt_model.specs.Trace.{with_failed, with_result, with_cycle};
 ghost use Rattle.flt_model.specs.Durable.{saved};
-ghost use Rattle.flt_model.specs.Entry.{has_entry};
-ghost use Rattle.flt_model.specs.Answer.{entry_where};
 ghost use Rattle.flt_did.specs.Table.{dids_of};
 ghost use Rattle.flt_did.specs.Serves.{Serves};
-ghost use Rattle.flt_memory.specs.Memory.{Memory};
 ghost use Rattle.flt_dem.specs.Faults.{with_memory, without_entry, KeepsOthers, KeepsOthersWithoutEntry};
-ghost use Rattle.flt_dem.specs.Standing.{FaultsStand, StatesStand, Bears, IsDisplacedBelow, IsNotDisplaced, with_outcome};
+ghost use Rattle.flt_dem.specs.Standing.{FaultsStand, Bears, BearsClear, StatesFollow, IsDisplacedBelow, IsNotDisplaced, occurrence_of};
 
 use crate::copies;
 use crate::notes::{Notes, Which};
@@ -143,7 +140,7 @@ impl Faults {
 
     /// How often an event occurred that has an entry, and 0 without an entry.
     pub fn occurrence(&self, event: u16) -> u8
-        ensures { (life : Life) (marks : Trace) → FaultsStand life marks self.now → result ≡ unwrap_or (option_map (λ entry. entry.occurrence) (entry_where life event marks (has_entry life event marks))) 0 }
+        ensures { (life : Life) (marks : Trace) → FaultsStand life marks self.now → result ≡ occurrence_of event life marks }
     {
         match self.memory.find(event) {
             Some(entry) => entry.occurrence,
@@ -188,7 +185,7 @@ impl Faults {
         requires { event < length self.old.config.events.items }
         ensures config { self.new.config ≡ self.old.config }
         ensures stands { (signals : List ℕ) → Bears (λ life marks. Of event Passed signals ∷ marks) self.old self.new }
-        ensures others { KeepsOthers event self.old self.new }
+        ensures others { KeepsOthers event self.old.states self.new.states }
     {
         flt_status::passed(&mut self.states[event as usize]);
     }
@@ -219,7 +216,7 @@ impl Faults {
         requires { event < length self.old.config.events.items }
         ensures config { self.new.config ≡ self.old.config }
         ensures stands { (signals : List ℕ) → Bears (λ life. with_cycle life signals event) self.old self.new }
-        ensures others { KeepsOthers event self.old self.new }
+        ensures others { KeepsOthers event self.old.states self.new.states }
     {
         let rules = &self.config.config().events[event as usize];
         if flt_status::cycle(rules, &mut self.states[event as usize]) {
@@ -232,8 +229,8 @@ impl Faults {
         requires { event < length self.old.config.events.items }
         ensures config { self.new.config ≡ self.old.config }
         ensures memory { self.new.memory ≡ self.old.memory }
-        ensures stands { (held : Memory) (signals : List ℕ) → Bears (λ life marks. Of event Clear signals ∷ marks) (with_memory held self.old) (with_memory (without_entry event held) self.new) }
-        ensures others { KeepsOthers event self.old self.new }
+        ensures stands { BearsClear event self.old self.new }
+        ensures others { KeepsOthers event self.old.states self.new.states }
     {
         flt_status::clear(&mut self.states[event as usize]);
         self.notes = self.notes.after_clear(event);
@@ -257,7 +254,7 @@ impl Faults {
 /// What became of an event that was stored: the event whose entry gave way is displaced.
 fn follow(states: &mut [EventState], outcome: Stored)
     requires { IsDisplacedBelow (length states.old) outcome }
-    ensures stand { (life : Life) (event : ℕ) (signals : List ℕ) (marks : Trace) → StatesStand life marks states.old → StatesStand life (with_outcome event signals outcome marks) states.new }
+    ensures stand { StatesFollow outcome states.old states.new }
     ensures others { (other : ℕ) → IsNotDisplaced other outcome → slice_get states.new other ≡ slice_get states.old other }
 {
     match outcome {

@@ -1,23 +1,19 @@
 //! The event manager without the functions of its table of data identifiers.
 
-ghost use Rattle.std.specs.Prelude.{◌≡◌, ◌≢◌, ◌<◌, ◌≤◌, ℕ, [], ◌∷◌, not, length, slice_get, slice_set, find, position, option_copied, Some, None, IfSome, false};
+ghost use Rattle.std.specs.Prelude.{◌≡◌, ◌≢◌, ◌<◌, ◌≤◌, ℕ, [], length, slice_get, slice_set, find, position, option_copied, Some, None, IfSome, false};
 ghost use Rattle.flt_config.specs.Durable.{Fits, is_of_event};
 ghost use Rattle.flt_config.specs.Validity.{has_dtc};
-ghost use Rattle.flt_model.specs.Life.{Life, History, event_of, fresh};
-ghost use Rattle.flt_model.specs.Happening.{cleared_dtc, all_dtcs};
-ghost use Rattle.flt_model.specs.Session.{is_setting_off};
-ghost use Rattle.flt_model.specs.Entry.{has_entry};
-ghost use Rattle.flt_model.specs.Trace.{trace};
+ghost use Rattle.flt_model.specs.Life.{event_of, fresh};
+ghost use Rattle.flt_model.specs.Happening.{all_dtcs};
 ghost use Rattle.flt_model.specs.Durable.{saved_after};
-ghost use Rattle.flt_model.specs.Answer.{answer, entry_where};
 ghost use Rattle.flt_model.specs.declared.call.Op.TheVariants as ops;
 ghost use Rattle.flt_model.specs.declared.call.Reply.TheVariants as replies;
 ghost use Rattle.flt_did.specs.Table.{dids_of};
 ghost use Rattle.flt_did.specs.Serves.{Serves};
-ghost use Rattle.flt_model.specs.Request.{RequestBytes};
-ghost use Rattle.flt_dem.specs.Standing.{notes_of};
 ghost use Rattle.flt_dem.specs.View.{counter_of};
+ghost use Rattle.flt_dem.specs.Faults.{KeepsOthers};
 ghost use Rattle.flt_dem.specs.Manager.{StandsFor, IsUntouched, IsOfOtherCycle, is_cycle_started, cause_of, reply_of};
+ghost use Rattle.flt_dem.specs.Manager.{Takes, TakesUnder, TakesClear, IsTold, Answers, AnswersUnder, LeavesOthers, entry_after, noted_after};
 
 use crate::events::Events;
 use crate::notes::Which;
@@ -75,8 +71,8 @@ impl DemState {
 
     /// Writes the durable state: what is to be saved. That changes nothing.
     pub fn persist(&self, out: &mut Persist)
-        ensures saved { (life : Life) (past : History) → StandsFor life past self.now → out.new ≡ saved_after life past }
-        ensures stands { (life : Life) (past : History) → StandsFor life past self.now → StandsFor life (ops.Snapshot ∷ past) self.now }
+        ensures saved { IsTold saved_after self.now out.new }
+        ensures stands { Takes ops.Snapshot self.now self.now }
     {
         self.events.faults().persist(out);
     }
@@ -93,7 +89,7 @@ impl DemState {
     pub fn signal(&mut self, index: u8, value: u16)
         requires { index < 8 }
         ensures value { self.new ≡ record self.old { signals = slice_set self.old.signals index value } }
-        ensures stands { (life : Life) (past : History) → StandsFor life past self.old → StandsFor life (ops.Signal index value ∷ past) self.new }
+        ensures stands { Takes (ops.Signal index value) self.old self.new }
     {
         self.signals.set(index, value);
     }
@@ -113,10 +109,10 @@ impl DemState {
         ensures config { self.new.faults.config ≡ self.old.faults.config }
         ensures ignored { result ≡ cause_of setting (is_cycle_started self.old event) }
         ensures unchanged { IfSome result (λ _. self.new ≡ self.old) }
-        ensures debouncing { (other : ℕ) → other ≢ event → slice_get self.new.debounces other ≡ slice_get self.old.debounces other }
-        ensures others { (other : ℕ) → other ≢ event → find (is_of_event other) self.old.faults.memory.entries ≡ None → IsUntouched other self.old self.new }
-        ensures stands { (life : Life) (past : History) → setting ≡ not (is_setting_off past) → StandsFor life past self.old → StandsFor life (ops.Report event report ∷ past) self.new }
-        ensures answer { (life : Life) (past : History) → setting ≡ not (is_setting_off past) → StandsFor life past self.old → reply_of result ≡ answer life past (ops.Report event report) }
+        ensures debouncing { KeepsOthers event self.old.debounces self.new.debounces }
+        ensures others { LeavesOthers event self.old self.new }
+        ensures stands { TakesUnder setting (ops.Report event report) self.old self.new }
+        ensures answer { AnswersUnder setting (ops.Report event report) self.old (reply_of result) }
     {
         if !setting {
             return Some(Cause::SettingOff);
@@ -135,7 +131,7 @@ impl DemState {
         requires served { Serves (dids_of dids.now) self.old.faults.config.events.items }
         ensures config { self.new.faults.config ≡ self.old.faults.config }
         ensures unchanged { setting ≡ false → self.new ≡ self.old }
-        ensures stands { (life : Life) (past : History) → setting ≡ not (is_setting_off past) → StandsFor life past self.old → StandsFor life (ops.Tick ticks ∷ past) self.new }
+        ensures stands { TakesUnder setting (ops.Tick ticks) self.old self.new }
     {
         if setting {
             self.events.tick(dids, &self.signals, ticks);
@@ -147,7 +143,7 @@ impl DemState {
     pub fn cycle(&mut self, cycle: u8)
         requires { cycle < 4 }
         ensures config { self.new.faults.config ≡ self.old.faults.config }
-        ensures stands { (life : Life) (past : History) → StandsFor life past self.old → StandsFor life (ops.Cycle cycle ∷ past) self.new }
+        ensures stands { Takes (ops.Cycle cycle) self.old self.new }
         ensures others { (event : ℕ) → IsOfOtherCycle self.old.faults.config cycle event → IsUntouched event self.old self.new }
     {
         self.events.end_cycle(cycle);
@@ -159,7 +155,7 @@ impl DemState {
     /// flag is taken back.
     pub fn clear_all(&mut self)
         ensures config { self.new.faults.config ≡ self.old.faults.config }
-        ensures stands { (life : Life) (past : History) (tester : ℕ) (bytes : RequestBytes) → cleared_dtc (ops.Request tester bytes) ≡ Some all_dtcs → StandsFor life past self.old → StandsFor life (ops.Request tester bytes ∷ past) self.new }
+        ensures stands { TakesClear (λ _. all_dtcs) self.old self.new }
     {
         self.events.clear_all();
     }
@@ -169,7 +165,7 @@ impl DemState {
     pub fn clear_one(&mut self, event: u16)
         requires { event < length self.old.faults.config.events.items }
         ensures config { self.new.faults.config ≡ self.old.faults.config }
-        ensures stands { (life : Life) (past : History) (tester : ℕ) (bytes : RequestBytes) → cleared_dtc (ops.Request tester bytes) ≡ Some (event_of life event).dtc → StandsFor life past self.old → StandsFor life (ops.Request tester bytes ∷ past) self.new }
+        ensures stands { TakesClear (λ life. (event_of life event).dtc) self.old self.new }
         ensures others { (other : ℕ) → other ≢ event → IsUntouched other self.old self.new }
     {
         self.events.clear_one(event);
@@ -201,8 +197,8 @@ impl DemState {
     /// What is shown of an event. To show it changes nothing.
     pub fn show(&self, event: u16) -> Shown
         requires { event < length self.now.faults.config.events.items }
-        ensures answer { (life : Life) (past : History) → StandsFor life past self.now → replies.Shown result ≡ answer life past (ops.Show event) }
-        ensures stands { (life : Life) (past : History) → StandsFor life past self.now → StandsFor life (ops.Show event ∷ past) self.now }
+        ensures answer { Answers (ops.Show event) self.now (replies.Shown result) }
+        ensures stands { Takes (ops.Show event) self.now self.now }
     {
         let faults = self.events.faults();
         let state = faults.state(event);
@@ -219,7 +215,7 @@ impl DemState {
     /// The entry of an event, where it has one.
     pub fn entry(&self, event: u16) -> Option<&EntryState>
         ensures value { option_copied result ≡ find (is_of_event event) self.now.faults.memory.entries }
-        ensures stands { (life : Life) (past : History) → StandsFor life past self.now → option_copied result ≡ entry_where life event (trace life past) (has_entry life event (trace life past)) }
+        ensures stands { IsTold (entry_after event) self.now (option_copied result) }
     {
         self.events.faults().entry(event)
     }
@@ -227,7 +223,7 @@ impl DemState {
     /// The noted event that is asked for, where there is one.
     pub fn noted(&self, which: Which) -> Option<u16>
         ensures value { result ≡ noted_by which self.now.faults.notes }
-        ensures stands { (life : Life) (past : History) → StandsFor life past self.now → result ≡ noted_by which (notes_of life (trace life past)) }
+        ensures stands { IsTold (noted_after which) self.now result }
     {
         self.events.faults().noted(which)
     }
