@@ -46,12 +46,16 @@ impl Notes {
         ensures recent_failed { result.recent_failed ≡ noted_recent_after mark.entered event self.recent_failed }
         ensures recent_confirmed { result.recent_confirmed ≡ noted_recent_after mark.confirmed event self.recent_confirmed }
     {
-        Notes {
-            first_failed: first_after(mark.entered, event, self.first_failed),
-            first_confirmed: first_after(mark.confirmed, event, self.first_confirmed),
-            recent_failed: recent_after(mark.entered, event, self.recent_failed),
-            recent_confirmed: recent_after(mark.confirmed, event, self.recent_confirmed),
+        let mut notes = self;
+        if mark.entered {
+            notes.first_failed = notes.first_failed.or(Some(event));
+            notes.recent_failed = Some(event);
         }
+        if mark.confirmed {
+            notes.first_confirmed = notes.first_confirmed.or(Some(event));
+            notes.recent_confirmed = Some(event);
+        }
+        notes
     }
 
     /// The notes after a clear of an event: those that name it are none.
@@ -77,24 +81,6 @@ impl Notes {
             Which::RecentConfirmed => self.recent_confirmed,
         }
     }
-}
-
-/// The first notable event, where one more may be.
-fn first_after(is_notable: bool, event: u16, noted: Option<u16>) -> Option<u16>
-    ensures { result ≡ noted_first_after is_notable event noted }
-{
-    if is_notable {
-        noted.or(Some(event))
-    } else {
-        noted
-    }
-}
-
-/// The most recent notable event, where one more may be.
-fn recent_after(is_notable: bool, event: u16, noted: Option<u16>) -> Option<u16>
-    ensures { result ≡ noted_recent_after is_notable event noted }
-{
-    if is_notable { Some(event) } else { noted }
 }
 
 /// A noted event, where it is another one.
