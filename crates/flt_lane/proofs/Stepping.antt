@@ -8,6 +8,9 @@ use Rattle.flt_config.specs.declared.config.Config.{Config}
 use Rattle.flt_config.specs.declared.persist.Persist.{Persist}
 use Rattle.flt_config.specs.Durable.{Fits}
 use Rattle.flt_config.specs.Validity.{IsValid}
+use Rattle.flt_dcm.specs.ReplyKind.{reply_with}
+use Rattle.flt_dcm.specs.declared.reply_kind.ReplyKind.{ReplyKind}
+use Rattle.flt_dcm.specs.declared.reply_kind.ReplyKind.TheVariants as kinds
 use Rattle.flt_model.specs.Life.{Life, History}
 use Rattle.flt_model.specs.Answer.{answer, answer_report}
 use Rattle.flt_model.specs.Durable.{saved_after}
@@ -97,6 +100,16 @@ size_of_answer start past (ops.Cycle cycle) reply is most = let size = ap reply_
 size_of_answer start past (ops.Show event) reply is most = let size = ap reply_size is in omega (arith, size)
 size_of_answer start past ops.Snapshot reply is most = let size = ap reply_size is in omega (arith, size)
 size_of_answer start past (ops.Saved number) reply is most = let size = ap reply_size is in omega (arith, size)
+
+size_with : (kind : ReplyKind) (bytes : List ℕ) → length bytes ≤ 512 → reply_size (reply_with kind bytes) ≤ 512
+size_with kinds.Taken bytes most = omega arith
+size_with (kinds.Ignored cause) bytes most = omega arith
+size_with (kinds.Shown shown) bytes most = omega arith
+size_with kinds.Response bytes most = most
+size_with kinds.Silent bytes most = omega arith
+
+pub size_of_told : (start : Life) (past : History) (op : Op) (kind : ReplyKind) (bytes : List ℕ) → reply_with kind bytes ≡ answer start past op → length bytes ≤ 512 → reply_size (reply_with kind bytes) ≤ response_size (action.Call op)
+size_of_told start past op kind bytes is most = size_of_answer start past op (reply_with kind bytes) is (size_with kind bytes most)
 
 -- ---- calls of the queue
 

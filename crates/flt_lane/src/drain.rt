@@ -1,8 +1,8 @@
 //! A drain: jobs are taken from the queue, written, and noted as done.
-ghost use Rattle.std.specs.Prelude.{◌≡◌, ◌≤◌, ◌∷◌, List};
+ghost use Rattle.std.specs.Prelude.{◌≡◌, ◌≤◌, ◌∷◌, ℕ, List};
 ghost use Rattle.flt_config.specs.declared.config.Config.{Config};
 ghost use Rattle.flt_config.specs.Validity.{IsValid};
-ghost use Rattle.flt_life.specs.Answers.{told_size};
+ghost use Rattle.flt_life.specs.Answers.{told_size, told_with};
 ghost use Rattle.flt_life.specs.Ordered.{Deed};
 ghost use Rattle.flt_queue.specs.Call as queued;
 ghost use Rattle.flt_queue.specs.Queue.{IsJob};
@@ -21,7 +21,7 @@ use flt_config::ValidConfig;
 use flt_flash::Blocks;
 use flt_life::StepAnswer;
 use flt_queue::{Job, QueueLock, QueueReply, QueueSeat, WAITING};
-use flt_shared::Reply;
+use flt_shared::ReplyKind;
 use flt_store::Store;
 use std::sync::Wait;
 
@@ -79,15 +79,15 @@ pub(crate) fn drain<R: Wait, B: Blocks + Drop>(
     store: &mut Store<B>,
     config: &ValidConfig,
     seat: &mut QueueSeat,
-) -> StepAnswer<Reply>
+) -> StepAnswer<ReplyKind>
     requires lock { turn.IsSeatOf queue.now.turn seat.old }
     requires blocks { seat.old.start ≡ config.now.blocks }
     requires valid { IsValid config.now }
     requires left { 64 ≤ seat.old.left }
-    ensures queues { Queues seat.old steps.Drain result seat.new }
-    ensures size { told_size result ≡ 0 }
+    ensures queues { (bytes : List ℕ) → Queues seat.old steps.Drain (told_with bytes result) seat.new }
+    ensures size { (bytes : List ℕ) → told_size (told_with bytes result) ≡ 0 }
     ensures lock { turn.IsSeatOf queue.now.turn seat.new }
-    ensures carries { (dem : Seat) (earlier : List Deed) → Carries config.now dem dem seat.old seat.new earlier ((steps.Drain, result) ∷ earlier) store.old store.new }
+    ensures carries { (bytes : List ℕ) (dem : Seat) (earlier : List Deed) → Carries config.now dem dem seat.old seat.new earlier ((steps.Drain, told_with bytes result) ∷ earlier) store.old store.new }
     ensures leaves { Leaves store.old store.new }
 {
     let mut written: u16 = 0;

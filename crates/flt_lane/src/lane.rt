@@ -12,6 +12,7 @@ use crate::beside::{Owned, Work, work_beside, work_first};
 use crate::gate::Gate;
 use crate::locks::Locks;
 use crate::step::{do_step, make_call};
+use arrayvec::ArrayVec;
 use flt_config::ValidConfig;
 use flt_flash::Blocks;
 use flt_life::LaneReplies;
@@ -48,10 +49,19 @@ fn run_lane<R: Wait, G: Gate>(
     ensures seats { AreSeatsOf (both dem.now queue.now) lane.new }
 {
     let steps = lane.steps;
+    let mut response = ArrayVec::new();
     for (index, step) in steps.iter().enumerate() {
         gate.before(rt, lane.number, index as u32);
-        let answer = make_call(rt, dem, queue, &mut lane.seat, &mut lane.queue_seat, step);
-        lane.replies.keep_whole(answer);
+        let answer = make_call(
+            rt,
+            dem,
+            queue,
+            &mut lane.seat,
+            &mut lane.queue_seat,
+            step,
+            &mut response,
+        );
+        lane.replies.keep(answer, response.as_slice());
         gate.after(rt, lane.number, index as u32);
     }
 }
@@ -75,6 +85,7 @@ fn run_store_lane<R: Wait, G: Gate, B: Blocks + Drop>(
     ensures seats { AreSeatsOf (both dem.now queue.now) lane.new }
 {
     let steps = lane.steps;
+    let mut response = ArrayVec::new();
     for (index, step) in steps.iter().enumerate() {
         gate.before(rt, lane.number, index as u32);
         let answer = do_step(
@@ -86,8 +97,9 @@ fn run_store_lane<R: Wait, G: Gate, B: Blocks + Drop>(
             &mut lane.seat,
             &mut lane.queue_seat,
             step,
+            &mut response,
         );
-        lane.replies.keep_whole(answer);
+        lane.replies.keep(answer, response.as_slice());
         gate.after(rt, lane.number, index as u32);
     }
 }

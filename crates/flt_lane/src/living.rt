@@ -25,9 +25,11 @@ use crate::gate::{Gate, SharedGate};
 use crate::locks::Locks;
 use crate::room::PartRoom;
 use crate::step::do_step;
+use arrayvec::ArrayVec;
 use flt_config::ValidConfig;
 use flt_flash::Blocks;
 use flt_life::LaneReplies;
+use flt_model::RESPONSE;
 use flt_queue::QueueSeat;
 use flt_script::Step;
 use flt_shared::DemSeat;
@@ -47,6 +49,7 @@ fn run_one<R: Wait, G: Gate, B: Blocks + Drop>(
     step: &Step,
     own: &mut LaneReplies,
     gate: &G,
+    response: &mut ArrayVec<u8, RESPONSE>,
 )
     requires lock { IsSeatOf locks.now.dem main.old × (main.old.number ≡ 0) }
     requires queue { turn.IsSeatOf locks.now.queue.turn jobs.old × (jobs.old.number ≡ 0) }
@@ -80,8 +83,9 @@ fn run_one<R: Wait, G: Gate, B: Blocks + Drop>(
         main,
         jobs,
         step,
+        response,
     );
-    own.keep_whole(answer);
+    own.keep(answer, response.as_slice());
     gate.after(rt, 0, index);
 }
 
@@ -97,6 +101,7 @@ fn run_part<'a, R: Threads + Wait + Sync, G: SharedGate, B: Blocks + Drop>(
     own: &mut LaneReplies,
     told: &mut Vec<LaneReplies>,
     gate: &G,
+    response: &mut ArrayVec<u8, RESPONSE>,
 )
     requires lock { IsSeatOf locks.now.dem main.old × IsMain main.old }
     requires queue { turn.IsSeatOf locks.now.queue.turn jobs.old × IsMain jobs.old }
@@ -130,7 +135,11 @@ fn run_part<'a, R: Threads + Wait + Sync, G: SharedGate, B: Blocks + Drop>(
     ensures armed { (driver_of store.new).device.bench.armed ≤ (driver_of store.old).device.bench.armed + arms_in (part_in part.entry) }
 {
     match part {
-        PartRoom::One(step) => run_one(rt, locks, store, config, main, jobs, step, own, gate),
+        PartRoom::One(step) => {
+            run_one(
+                rt, locks, store, config, main, jobs, step, own, gate, response,
+            );
+        }
         PartRoom::Lanes(rooms, works) => {
             run_lanes(
                 rt, locks, store, config, main, jobs, rooms, works, told, gate,
@@ -179,7 +188,20 @@ pub(crate) fn run_parts<'a, R: Threads + Wait + Sync, G: SharedGate, B: Blocks +
         (driver_of store.old).device.bench.arms (driver_of store.new).device.bench.arms }
     ensures armed { (driver_of store.new).device.bench.armed ≤ (driver_of store.old).device.bench.armed + sum_by arms_in (map part_in parts.entry.items) }
 {
+    let mut response = ArrayVec::new();
     for part in parts {
-        run_part(rt, locks, store, config, main, jobs, part, own, told, gate);
+        run_part(
+            rt,
+            locks,
+            store,
+            config,
+            main,
+            jobs,
+            part,
+            own,
+            told,
+            gate,
+            &mut response,
+        );
     }
 }

@@ -1,11 +1,11 @@
 //! One step of a lane.
-ghost use Rattle.std.specs.Prelude.{◌≡◌, ◌+◌, ◌<◌, ◌≤◌, ◌∷◌, [], List, IsErr, IfOk, false, true};
+ghost use Rattle.std.specs.Prelude.{◌≡◌, ◌+◌, ◌<◌, ◌≤◌, ◌∷◌, [], ℕ, List, IsErr, IfOk, false, true};
 ghost use mathlib.Core.Logic.{◌↔◌};
 ghost use Rattle.flt_config.specs.declared.config.Config.{Config};
 ghost use Rattle.flt_config.specs.Durable.{Fits};
 ghost use Rattle.flt_config.specs.Validity.{IsValid};
 ghost use Rattle.flt_life.specs.Actions.{IsPossible, action_of, arm_count, arms_of, response_size};
-ghost use Rattle.flt_life.specs.Answers.{told_size, reply_size};
+ghost use Rattle.flt_life.specs.Answers.{told_size, told_with};
 ghost use Rattle.flt_life.specs.declared.action.Action.TheVariants as action;
 ghost use Rattle.flt_life.specs.Ordered.{Deed, with_deed};
 ghost use Rattle.flt_life.specs.Parts.{IsPossibleInLane};
@@ -16,7 +16,7 @@ ghost use Rattle.flt_queue.specs.Queue as queues;
 ghost use Rattle.flt_queue.specs.declared.job.QueueOp.{QueueOp as JobCall};
 ghost use Rattle.flt_script.specs.Step.{is_store_step};
 ghost use Rattle.flt_script.specs.declared.step.Step.TheVariants as steps;
-ghost use Rattle.flt_shared.specs.Call.{IsCall, Seat as DemView};
+ghost use Rattle.flt_shared.specs.Call.{Seat as DemView};
 ghost use Rattle.flt_shared.specs.Lock.{IsSeatOf};
 ghost use Rattle.flt_store.specs.Store.{driver_of};
 ghost use Rattle.flt_turn.specs.Seats as turn;
@@ -29,63 +29,38 @@ use crate::drain::drain;
 use arrayvec::ArrayVec;
 use flt_config::{ValidConfig, initial};
 use flt_flash::Blocks;
-use flt_life::StepAnswer;
+use flt_life::{Action, StepAnswer, action_of};
 use flt_model::RESPONSE;
 use flt_queue::{BYTES, Job, QueueAnswer, QueueLock, QueueSeat};
 use flt_script::Step;
-use flt_shared::{DemAnswer, DemLock, DemSeat, Reply};
+use flt_shared::{DemLock, DemSeat, ReplyKind};
 use flt_store::Store;
 use std::sync::Wait;
 
-/// Makes the call of a step that calls the status machine.
-fn call<R: Wait>(rt: &R, dem: &DemLock, seat: &mut DemSeat, step: &Step) -> DemAnswer
-    requires lock { IsSeatOf dem.now seat.old }
-    requires step { IsPossibleInLane seat.old.start.config step.now }
-    requires one { (op : Op) × (action_of step.now ≡ action.Call op) }
-    ensures full { IsErr result ↔ (seat.old.left ≡ 0) }
-    ensures call { IfOk result (λ told. (op : Op) × (action_of step.now ≡ action.Call op) × IsCall seat.old seat.new op told) }
-{
-    match step {
-        Step::Report { event, report } => dem.report(rt, seat, *event, *report),
-        Step::Show { event } => dem.show(rt, seat, *event),
-        Step::Cycle { cycle } => dem.cycle(rt, seat, *cycle),
-        Step::Tick { ticks } => dem.tick(rt, seat, *ticks),
-        Step::Signal { index, value } => dem.signal(rt, seat, *index, *value),
-        Step::Request { tester, bytes } => dem.request(rt, seat, *tester, bytes),
-        Step::Save
-        | Step::Post { .. }
-        | Step::Drain
-        | Step::Get { .. }
-        | Step::Ask { .. }
-        | Step::Arming(_) => unreachable!(),
-    }
-}
-
-/// How many bytes a reply has that is a response.
-fn length_of(reply: &Reply) -> usize
-    ensures size { result ≡ reply_size reply.now }
-    ensures most { result ≤ 512 }
-{
-    match reply {
-        Reply::Response(bytes) => bytes.len(),
-        _ => 0,
-    }
-}
-
-/// Makes the call of a step that calls the status machine on a seat that has one left, and answers by it.
-fn call_dem<R: Wait>(rt: &R, dem: &DemLock, seat: &mut DemSeat, step: &Step) -> StepAnswer<Reply>
+/// Makes the call of a step that calls the status machine on a seat that has one left, and answers by it. The bytes of a response are
+/// written in place of what `response` holds.
+fn call_dem<R: Wait>(
+    rt: &R,
+    dem: &DemLock,
+    seat: &mut DemSeat,
+    step: &Step,
+    response: &mut ArrayVec<u8, RESPONSE>,
+) -> StepAnswer<ReplyKind>
     requires lock { IsSeatOf dem.now seat.old }
     requires step { IsPossibleInLane seat.old.start.config step.now }
     requires one { (op : Op) × (action_of step.now ≡ action.Call op) }
     requires left { 1 ≤ seat.old.left }
-    ensures made { Makes seat.old step.now result seat.new }
-    ensures size { told_size result ≤ response_size (action_of step.now) }
+    ensures made { Makes seat.old step.now (told_with response.new.items result) seat.new }
+    ensures size { told_size (told_with response.new.items result) ≤ response_size (action_of step.now) }
     ensures lock { IsSeatOf dem.now seat.new }
 {
-    let Ok(told) = call(rt, dem, seat, step) else {
+    let Action::Call(op) = action_of(step) else {
         unreachable!()
     };
-    let length = length_of(&told.reply);
+    let Ok(told) = dem.call_into(rt, seat, op, response) else {
+        unreachable!()
+    };
+    let length = response.len();
     prove!(length <= RESPONSE);
     StepAnswer::Dem(told)
 }
@@ -127,12 +102,12 @@ fn ask_queue<R: Wait>(
     queue: &QueueLock,
     seat: &mut QueueSeat,
     step: &Step,
-) -> StepAnswer<Reply>
+) -> StepAnswer<ReplyKind>
     requires lock { turn.IsSeatOf queue.now.turn seat.old }
     requires one { (op : JobCall) × (action_of step.now ≡ action.Queue op) × queues.IsAdmitted seat.old.start op }
     requires left { 1 ≤ seat.old.left }
-    ensures queues { Queues seat.old step.now result seat.new }
-    ensures size { told_size result ≡ 0 }
+    ensures queues { (bytes : List ℕ) → Queues seat.old step.now (told_with bytes result) seat.new }
+    ensures size { (bytes : List ℕ) → told_size (told_with bytes result) ≡ 0 }
     ensures lock { turn.IsSeatOf queue.now.turn seat.new }
 {
     let Ok(told) = call_queue(rt, queue, seat, step) else {
@@ -149,7 +124,8 @@ pub(crate) fn make_call<R: Wait>(
     seat: &mut DemSeat,
     jobs: &mut QueueSeat,
     step: &Step,
-) -> StepAnswer<Reply>
+    response: &mut ArrayVec<u8, RESPONSE>,
+) -> StepAnswer<ReplyKind>
     requires lock { IsSeatOf dem.now seat.old }
     requires queue { turn.IsSeatOf queue.now.turn jobs.old }
     requires blocks { jobs.old.start ≡ seat.old.start.config.blocks }
@@ -157,15 +133,15 @@ pub(crate) fn make_call<R: Wait>(
     requires no_store { is_store_step step.now ≡ false }
     requires left { calls_by step.now ≤ seat.old.left }
     requires queued { queued_by step.now ≤ jobs.old.left }
-    ensures made { Makes seat.old step.now result seat.new }
-    ensures queues { Queues jobs.old step.now result jobs.new }
-    ensures size { told_size result ≤ response_size (action_of step.now) }
+    ensures made { Makes seat.old step.now (told_with response.new.items result) seat.new }
+    ensures queues { Queues jobs.old step.now (told_with response.new.items result) jobs.new }
+    ensures size { told_size (told_with response.new.items result) ≤ response_size (action_of step.now) }
     ensures lock { IsSeatOf dem.now seat.new }
     ensures queue { turn.IsSeatOf queue.now.turn jobs.new }
 {
     match step {
         Step::Post { .. } | Step::Ask { .. } => ask_queue(rt, queue, jobs, step),
-        _ => call_dem(rt, dem, seat, step),
+        _ => call_dem(rt, dem, seat, step, response),
     }
 }
 
@@ -176,16 +152,16 @@ fn save<R: Wait, B: Blocks + Drop>(
     store: &mut Store<B>,
     config: &ValidConfig,
     seat: &mut DemSeat,
-) -> StepAnswer<Reply>
+) -> StepAnswer<ReplyKind>
     requires lock { IsSeatOf dem.now seat.old }
     requires same { seat.old.start.config ≡ config.now }
     requires valid { IsValid config.now }
     requires fits { Fits config.now seat.old.start.base }
     requires left { 2 ≤ seat.old.left }
-    ensures made { Makes seat.old steps.Save result seat.new }
-    ensures size { told_size result ≡ 0 }
+    ensures made { (bytes : List ℕ) → Makes seat.old steps.Save (told_with bytes result) seat.new }
+    ensures size { (bytes : List ℕ) → told_size (told_with bytes result) ≡ 0 }
     ensures lock { IsSeatOf dem.now seat.new }
-    ensures carries { (jobs : Jobs) (earlier : List Deed) → Carries config.now seat.old seat.new jobs jobs earlier ((steps.Save, result) ∷ earlier) store.old store.new }
+    ensures carries { (bytes : List ℕ) (jobs : Jobs) (earlier : List Deed) → Carries config.now seat.old seat.new jobs jobs earlier ((steps.Save, told_with bytes result) ∷ earlier) store.old store.new }
     ensures leaves { Leaves store.old store.new }
 {
     let mut state = initial(config);
@@ -204,10 +180,10 @@ fn save<R: Wait, B: Blocks + Drop>(
 }
 
 /// Reads an application block.
-fn get<B: Blocks + Drop>(store: &mut Store<B>, block: u8) -> StepAnswer<Reply>
+fn get<B: Blocks + Drop>(store: &mut Store<B>, block: u8) -> StepAnswer<ReplyKind>
     requires block { block < 40 }
-    ensures got { IsGot result }
-    ensures carries { (c : Config) (seat : DemView) (jobs : Jobs) (earlier : List Deed) → Carries c seat seat jobs jobs earlier ((steps.Get block, result) ∷ earlier) store.old store.new }
+    ensures got { (bytes : List ℕ) → IsGot (told_with bytes result) }
+    ensures carries { (bytes : List ℕ) (c : Config) (seat : DemView) (jobs : Jobs) (earlier : List Deed) → Carries c seat seat jobs jobs earlier ((steps.Get block, told_with bytes result) ∷ earlier) store.old store.new }
     ensures leaves { Leaves store.old store.new }
 {
     let mut bytes = ArrayVec::new();
@@ -228,7 +204,7 @@ fn touch_store<R: Wait, B: Blocks + Drop>(
     seat: &mut DemSeat,
     jobs: &mut QueueSeat,
     step: &Step,
-) -> StepAnswer<Reply>
+) -> StepAnswer<ReplyKind>
     requires lock { IsSeatOf dem.now seat.old }
     requires queue { turn.IsSeatOf queue.now.turn jobs.old }
     requires blocks { jobs.old.start ≡ seat.old.start.config.blocks }
@@ -239,12 +215,12 @@ fn touch_store<R: Wait, B: Blocks + Drop>(
     requires store { is_store_step step.now ≡ true }
     requires left { calls_by step.now ≤ seat.old.left }
     requires queued { queued_by step.now ≤ jobs.old.left }
-    ensures made { Makes seat.old step.now result seat.new }
-    ensures queues { Queues jobs.old step.now result jobs.new }
-    ensures size { told_size result ≡ 0 }
+    ensures made { (bytes : List ℕ) → Makes seat.old step.now (told_with bytes result) seat.new }
+    ensures queues { (bytes : List ℕ) → Queues jobs.old step.now (told_with bytes result) jobs.new }
+    ensures size { (bytes : List ℕ) → told_size (told_with bytes result) ≡ 0 }
     ensures lock { IsSeatOf dem.now seat.new }
     ensures queue { turn.IsSeatOf queue.now.turn jobs.new }
-    ensures carries { (earlier : List Deed) → Carries config.now seat.old seat.new jobs.old jobs.new earlier ((step.now, result) ∷ earlier) store.old store.new }
+    ensures carries { (bytes : List ℕ) (earlier : List Deed) → Carries config.now seat.old seat.new jobs.old jobs.new earlier ((step.now, told_with bytes result) ∷ earlier) store.old store.new }
     ensures leaves { Leaves store.old store.new }
 {
     match step {
@@ -265,7 +241,8 @@ pub(crate) fn do_step<R: Wait, B: Blocks + Drop>(
     seat: &mut DemSeat,
     jobs: &mut QueueSeat,
     step: &Step,
-) -> StepAnswer<Reply>
+    response: &mut ArrayVec<u8, RESPONSE>,
+) -> StepAnswer<ReplyKind>
     requires lock { IsSeatOf dem.now seat.old }
     requires queue { turn.IsSeatOf queue.now.turn jobs.old }
     requires blocks { jobs.old.start ≡ seat.old.start.config.blocks }
@@ -276,12 +253,12 @@ pub(crate) fn do_step<R: Wait, B: Blocks + Drop>(
     requires arms { (driver_of store.old).device.bench.armed + arm_count (action_of step.now) ≤ 64 }
     requires left { calls_by step.now ≤ seat.old.left }
     requires queued { queued_by step.now ≤ jobs.old.left }
-    ensures made { Makes seat.old step.now result seat.new }
-    ensures queues { Queues jobs.old step.now result jobs.new }
-    ensures size { told_size result ≤ response_size (action_of step.now) }
+    ensures made { Makes seat.old step.now (told_with response.new.items result) seat.new }
+    ensures queues { Queues jobs.old step.now (told_with response.new.items result) jobs.new }
+    ensures size { told_size (told_with response.new.items result) ≤ response_size (action_of step.now) }
     ensures lock { IsSeatOf dem.now seat.new }
     ensures queue { turn.IsSeatOf queue.now.turn jobs.new }
-    ensures carries { (earlier : List Deed) → Carries config.now seat.old seat.new jobs.old jobs.new earlier (with_deed step.now result earlier) store.old store.new }
+    ensures carries { (earlier : List Deed) → Carries config.now seat.old seat.new jobs.old jobs.new earlier (with_deed step.now (told_with response.new.items result) earlier) store.old store.new }
     ensures goes_on { GoesOn (driver_of store.old) (driver_of store.new) }
     ensures given { WereGiven (arms_of (action_of step.now)) (driver_of store.old).device.bench.arms (driver_of store.new).device.bench.arms }
     ensures armed { (driver_of store.new).device.bench.armed ≤ (driver_of store.old).device.bench.armed + arm_count (action_of step.now) }
@@ -294,6 +271,6 @@ pub(crate) fn do_step<R: Wait, B: Blocks + Drop>(
             store.arm(*arm);
             StepAnswer::Armed
         }
-        _ => make_call(rt, dem, queue, seat, jobs, step),
+        _ => make_call(rt, dem, queue, seat, jobs, step, response),
     }
 }

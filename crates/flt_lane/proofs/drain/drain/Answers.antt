@@ -28,12 +28,12 @@ loop-job-preserved g c =
     }
 
 pub returns-in_default-clause-queues : goal.returns-in_default-clause-queues
-returns-in_default-clause-queues g c =
+returns-in_default-clause-queues g c = λ bytes.
     short_drained c.args.config.now c.args.seat.now c.loop-job.seat c.take_job.new.seat c.loop-job.written c.loop-job.failed c.loop-job._job c.args.store.now c.loop-job.store c.take_job.new.store (omega (arith, c.loop-job-test.true))
     c.loop-job.invariant.drained c.in_default.ensures.looks
 
 pub returns-in_default-clause-carries : goal.returns-in_default-clause-carries
-returns-in_default-clause-carries g c = λ dem earlier.
+returns-in_default-clause-carries g c = λ bytes dem earlier.
     short_carries c.args.config.now dem earlier c.args.seat.now c.loop-job.seat c.take_job.new.seat c.loop-job.written c.loop-job.failed c.loop-job._job c.args.store.now c.loop-job.store c.take_job.new.store (omega (arith, c.loop-job-test.true))
     c.loop-job.invariant.drained c.in_default.ensures.looks
 
@@ -46,11 +46,11 @@ all_taken : (job : ℕ) → job ≡ 32 → job ≡ 32
 all_taken job is = is
 
 pub returns-clause-queues : goal.returns-clause-queues
-returns-clause-queues g c =
+returns-clause-queues g c = λ bytes.
     full_drained c.args.config.now c.args.seat.now c.loop-job.seat c.loop-job.written c.loop-job.failed c.args.store.now c.loop-job.store
     (subst (λ n. HasDrained c.args.config.now c.args.seat.now c.loop-job.seat c.loop-job.written c.loop-job.failed n c.args.store.now c.loop-job.store) (all_taken c.loop-job._job (omega (arith, c.loop-job-test.false, c.loop-job.auto._job-end))) c.loop-job.invariant.drained)
 
 pub returns-clause-carries : goal.returns-clause-carries
-returns-clause-carries g c = λ dem earlier.
+returns-clause-carries g c = λ bytes dem earlier.
     full_carries c.args.config.now dem earlier c.args.seat.now c.loop-job.seat c.loop-job.written c.loop-job.failed c.args.store.now c.loop-job.store
     (subst (λ n. HasDrained c.args.config.now c.args.seat.now c.loop-job.seat c.loop-job.written c.loop-job.failed n c.args.store.now c.loop-job.store) (all_taken c.loop-job._job (omega (arith, c.loop-job-test.false, c.loop-job.auto._job-end))) c.loop-job.invariant.drained)

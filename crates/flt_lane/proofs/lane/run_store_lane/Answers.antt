@@ -1,8 +1,9 @@
 use Rattle.std.proofs.Common.{arith, refl, rules, sym, subst, ap, ◌∙◌}
 use Rattle.flt_config.specs.Durable.{Fits}
 use Rattle.flt_life.specs.Actions.{IsPossible, action_of}
-use Rattle.flt_lane.proofs.Running.{begins, calls_left, goes_on, has_run, possible_next, queued_left, seats_stay, start_now, take_past}
+use Rattle.flt_lane.proofs.Running.{begins, calls_left, goes_on, has_run, possible_next, queued_left, seats_stay, start_now, take_past, whole_size, whole_told}
 use Rattle.flt_lane.proofs.Storing.{has_stored, leaves_step, no_arm, storing_begins, storing_more}
+use Rattle.flt_life.specs.Answers.{told_with}
 use Rattle.flt_lane.specs.Work.{both}
 use Rattle.flt_lane.proofs.lane.run_store_lane.Goals as goal
 
@@ -25,15 +26,19 @@ do_step-answer-requires-clause-queued g c =
 pub loop-index-preserved : goal.loop-index-preserved
 loop-index-preserved g c =
     let locks = both c.args.dem.now c.args.queue.now in
-    let kept = c.keep_whole.ensures in
+    let kept = c.keep.ensures in
     let made = c.do_step-answer.ensures in
     let on = c.loop-index.invariant in
+    let answer = c.do_step-answer.result in
+    let response = c.do_step-answer.new.response.items in
+    let told = told_with response answer in
+    let gained = whole_told _ _ answer response _ c.as_slice.ensures.value kept.told in
     let step = c.index-steps-index.result in
     let possible = possible_next locks c.args.lane.now c.loop-index.lane c.loop-index.index step c.requires.ready on.part (search rules) c.index-steps-index.is in
-    let more = goes_on locks c.args.lane.now _ c.loop-index.index step c.requires.ready on.part (search rules) c.index-steps-index.is _ c.do_step-answer.result
-    made.made made.queues made.size kept.told kept.answers kept.room kept.responses kept.bytes refl refl
-    (seats_stay locks _ _ step c.do_step-answer.result on.part.seats made.made made.queues made.lock made.queue) in
-    storing_more c.args.config.now locks c.args.lane.now _ _ c.loop-index.index step c.do_step-answer.result c.args.store.now _ c.do_step-answer.new.store (search rules) c.index-steps-index.is on more kept.told made.carries
+    let more = goes_on locks c.args.lane.now _ c.loop-index.index step c.requires.ready on.part (search rules) c.index-steps-index.is _ told
+    made.made made.queues made.size gained kept.answers kept.room (whole_size _ _ answer response _ c.as_slice.ensures.value kept.responses) kept.bytes refl refl
+    (seats_stay locks _ _ step told on.part.seats made.made made.queues made.lock made.queue) in
+    storing_more c.args.config.now locks c.args.lane.now _ _ c.loop-index.index step told c.args.store.now _ c.do_step-answer.new.store (search rules) c.index-steps-index.is on more gained made.carries
     (leaves_step step _ c.do_step-answer.new.store possible.0 made.goes_on made.given made.armed)
 
 pub returns-clause-ran : goal.returns-clause-ran

@@ -1,6 +1,7 @@
 use Rattle.std.proofs.Common.{◌∷◌, List, arith, refl, subst, sym}
 use Rattle.flt_flash.specs.declared.arm.Arm.{Arm}
 use Rattle.flt_life.specs.Actions.{arms_of}
+use Rattle.flt_life.specs.Answers.{told_with}
 use Rattle.flt_life.specs.Ordered.{Deed, deed_if, with_deed}
 use Rattle.flt_life.specs.declared.answer.StepAnswer.TheVariants.{Armed}
 use Rattle.flt_queue.specs.Call as queued
@@ -43,7 +44,7 @@ returns-in_default g c =
       lock = c.make_call.ensures.lock;
       queue = c.make_call.ensures.queue;
       carries = λ earlier.
-          subst (λ b. Carries c.args.config.now c.args.seat.now c.make_call.new.seat c.args.jobs.now c.make_call.new.jobs earlier (deed_if b c.args.step.now c.make_call.result earlier) c.args.store.now c.args.store.now) (sym store)
+          subst (λ b. Carries c.args.config.now c.args.seat.now c.make_call.new.seat c.args.jobs.now c.make_call.new.jobs earlier (deed_if b c.args.step.now (told_with c.make_call.new.response.items c.make_call.result) earlier) c.args.store.now c.args.store.now) (sym store)
           (carries_beside c.args.config.now c.args.seat.now c.make_call.new.seat c.args.jobs.now c.make_call.new.jobs earlier c.args.store.now
           (λ known is. known_along MayBeAsked reply_after c.args.seat.now made.calls c.make_call.new.seat known made.chain is)
           (λ known is. known_along queue.IsAdmitted queued.reply_after c.args.jobs.now queues.calls c.make_call.new.jobs known queues.chain is));

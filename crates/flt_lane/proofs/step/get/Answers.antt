@@ -43,7 +43,7 @@ held_by : (first : ℕ → Content) (past : History) (earlier : List Deed) (valu
 held_by first past earlier values block content below is held = subst (MayHold block (first (application_number block)) (up_to_done (jobs_told (answers_of earlier)) past)) is (held.held block below)
 
 pub returns-in-Ok-true-clause-carries : goal.returns-in-Ok-true-clause-carries
-returns-in-Ok-true-clause-carries g c = λ config seat jobs earlier.
+returns-in-Ok-true-clause-carries g c = λ bytes config seat jobs earlier.
     let told : Told = answers.Bytes c.get_block.new.out in
     read_carries config seat jobs earlier c.args.block told c.args.store.now c.get_block.new.self c.get_block.ensures.values (c.get_block.ensures.running config) tt refl refl refl
     (λ begun caused. caused_read config begun (answers_of earlier) c.args.store.now c.get_block.new.self caused told tt c.get_block.ensures.follows (c.get_block.ensures.running config caused.held_now caused.spare_now caused.running))
@@ -51,7 +51,7 @@ returns-in-Ok-true-clause-carries g c = λ config seat jobs earlier.
     (gets_bytes _ c.in-Ok-true.field-0 _ (c.in-Ok-true.ensures.got config alive.held alive.spare alive.running) c.in-Ok-true.field-0-test) held)
 
 pub returns-in-Ok-false-clause-carries : goal.returns-in-Ok-false-clause-carries
-returns-in-Ok-false-clause-carries g c = λ config seat jobs earlier.
+returns-in-Ok-false-clause-carries g c = λ bytes config seat jobs earlier.
     let told : Told = answers.NoBlock in
     read_carries config seat jobs earlier c.args.block told c.args.store.now c.get_block.new.self c.get_block.ensures.values (c.get_block.ensures.running config) tt refl refl refl
     (λ begun caused. caused_read config begun (answers_of earlier) c.args.store.now c.get_block.new.self caused told tt c.get_block.ensures.follows (c.get_block.ensures.running config caused.held_now caused.spare_now caused.running))
@@ -59,7 +59,7 @@ returns-in-Ok-false-clause-carries g c = λ config seat jobs earlier.
     (gets_none _ c.in-Ok-false.field-0 _ (c.in-Ok-false.ensures.got config alive.held alive.spare alive.running) c.in-Ok-false.field-0-test) held)
 
 pub returns-in-Err-clause-carries : goal.returns-in-Err-clause-carries
-returns-in-Err-clause-carries g c = λ config seat jobs earlier.
+returns-in-Err-clause-carries g c = λ bytes config seat jobs earlier.
     let told : Told = answers.BlockFlash in
     read_carries config seat jobs earlier c.args.block told c.args.store.now c.get_block.new.self c.get_block.ensures.values (c.get_block.ensures.running config) tt refl refl refl
     (λ begun caused. caused_unread config begun (answers_of earlier) c.args.store.now c.get_block.new.self caused c.get_block.ensures.follows

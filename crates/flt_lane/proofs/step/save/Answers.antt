@@ -16,14 +16,14 @@ save-requires g c =
     taken_fits c.args.config.now c.args.seat.now.start (past c.in-Ok._taken.place c.snapshot.new.seat.seen) c.snapshot.new.out c.requires.same c.requires.valid c.requires.fits c.in-Ok.ensures.state
 
 pub returns-in-Ok-saved-clause-made : goal.returns-in-Ok-saved-clause-made
-returns-in-Ok-saved-clause-made g c =
+returns-in-Ok-saved-clause-made g c = λ bytes.
     saved_made c.args.seat.now c.snapshot.new.seat c.in-Ok-save.generation c.in-Ok._taken c.in-Ok-saved._noted c.saved.new.seat c.in-Ok.ensures.call c.in-Ok-saved.ensures.call
 
 pub returns-in-Err-clause-made : goal.returns-in-Err-clause-made
-returns-in-Err-clause-made g c = failed_made c.args.seat.now c.in-Err.fault c.in-Ok._taken c.snapshot.new.seat c.in-Ok.ensures.call
+returns-in-Err-clause-made g c = λ bytes. failed_made c.args.seat.now c.in-Err.fault c.in-Ok._taken c.snapshot.new.seat c.in-Ok.ensures.call
 
 pub returns-in-Ok-saved-clause-carries : goal.returns-in-Ok-saved-clause-carries
-returns-in-Ok-saved-clause-carries g c = λ jobs earlier. record {
+returns-in-Ok-saved-clause-carries g c = λ bytes jobs earlier. record {
   alive = λ alive. (let saved = c.in-Ok-save.ensures.saved alive.held alive.spare alive.running in record { held = _; spare = _; running = saved.running });
   living = λ first start living. living_saved c.args.config.now c.args.seat.now c.snapshot.new.seat c.in-Ok._taken c.snapshot.new.out c.in-Ok.ensures.call c.in-Ok.ensures.state earlier c.args.store.now c.save.new.self
       first start living c.saved.new.seat c.in-Ok-save.generation c.in-Ok-saved._noted c.in-Ok-saved.ensures.call c.in-Ok-save.ensures.saved;
@@ -33,7 +33,7 @@ returns-in-Ok-saved-clause-carries g c = λ jobs earlier. record {
 }
 
 pub returns-in-Err-clause-carries : goal.returns-in-Err-clause-carries
-returns-in-Err-clause-carries g c = λ jobs earlier. record {
+returns-in-Err-clause-carries g c = λ bytes jobs earlier. record {
   alive = λ alive. (let left = c.in-Err.ensures.failed alive.held alive.spare alive.running in record { held = left.now_held; spare = left.now_spare; running = left.running });
   living = λ first start living. living_failed c.args.config.now c.args.seat.now c.snapshot.new.seat c.in-Ok._taken c.snapshot.new.out c.in-Ok.ensures.call c.in-Ok.ensures.state earlier c.args.store.now c.save.new.self
       first start living c.in-Err.fault c.in-Err.ensures.failed;

@@ -1,5 +1,6 @@
 use Rattle.std.proofs.Common.{refl, subst, sym}
 use Rattle.flt_life.specs.Actions.{action_of}
+use Rattle.flt_life.specs.Answers.{told_with}
 use Rattle.flt_script.specs.declared.step.Step.{Step}
 use Rattle.flt_script.specs.declared.step.Step.TheVariants as steps
 use Rattle.flt_lane.specs.Runs.{Makes, Queues}
@@ -7,13 +8,13 @@ use Rattle.flt_lane.proofs.Stepping.{none_made, none_queued}
 use Rattle.flt_lane.proofs.step.touch_store.Goals as goal
 
 pub returns-in-Save-clause-queues : goal.returns-in-Save-clause-queues
-returns-in-Save-clause-queues g c = subst (λ (s : Step). Queues c.args.jobs.now s c.save.result c.args.jobs.now) (sym c.in-Save.is) (none_queued c.args.jobs.now steps.Save c.save.result refl)
+returns-in-Save-clause-queues g c = λ bytes. subst (λ (s : Step). Queues c.args.jobs.now s (told_with bytes c.save.result) c.args.jobs.now) (sym c.in-Save.is) (none_queued c.args.jobs.now steps.Save (told_with bytes c.save.result) refl)
 
 pub returns-in-Drain-clause-made : goal.returns-in-Drain-clause-made
-returns-in-Drain-clause-made g c = subst (λ (s : Step). Makes c.args.seat.now s c.drain.result c.args.seat.now) (sym c.in-Drain.is) (none_made c.args.seat.now steps.Drain c.drain.result refl)
+returns-in-Drain-clause-made g c = λ bytes. subst (λ (s : Step). Makes c.args.seat.now s (told_with bytes c.drain.result) c.args.seat.now) (sym c.in-Drain.is) (none_made c.args.seat.now steps.Drain (told_with bytes c.drain.result) refl)
 
 pub returns-in-Get-clause-made : goal.returns-in-Get-clause-made
-returns-in-Get-clause-made g c = subst (λ (s : Step). Makes c.args.seat.now s c.get.result c.args.seat.now) (sym c.in-Get.is) (none_made c.args.seat.now (steps.Get _) c.get.result (c.get.ensures.got, refl))
+returns-in-Get-clause-made g c = λ bytes. subst (λ (s : Step). Makes c.args.seat.now s (told_with bytes c.get.result) c.args.seat.now) (sym c.in-Get.is) (none_made c.args.seat.now (steps.Get _) (told_with bytes c.get.result) (c.get.ensures.got bytes, refl))
 
 pub returns-in-Get-clause-queues : goal.returns-in-Get-clause-queues
-returns-in-Get-clause-queues g c = subst (λ (s : Step). Queues c.args.jobs.now s c.get.result c.args.jobs.now) (sym c.in-Get.is) (none_queued c.args.jobs.now (steps.Get _) c.get.result refl)
+returns-in-Get-clause-queues g c = λ bytes. subst (λ (s : Step). Queues c.args.jobs.now s (told_with bytes c.get.result) c.args.jobs.now) (sym c.in-Get.is) (none_queued c.args.jobs.now (steps.Get _) (told_with bytes c.get.result) refl)
