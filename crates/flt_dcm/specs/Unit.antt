@@ -21,7 +21,7 @@ pub record UnitView : Type 0 where
   pub base : Persist
 
 -- There is a session for each of the four testers, and the base fits the configuration.
-pub record IsOfConfig (config : Config) (sessions : List Session) (base : Persist) : Type 0 where
+pub record IsUnitOf (config : Config) (sessions : List Session) (base : Persist) : Type 0 where
   pub one_each : length sessions ≡ 4
   pub fits : Fits config base
 

@@ -12,7 +12,7 @@ ghost use Rattle.flt_model.specs.declared.call.Reply.TheVariants as replies;
 ghost use Rattle.flt_did.specs.Table.{dids_of};
 ghost use Rattle.flt_did.specs.Serves.{Serves};
 ghost use Rattle.flt_model.specs.Request.{RequestBytes};
-ghost use Rattle.flt_dem.specs.Manager.{StandsFor, reply_of as cause_reply};
+ghost use Rattle.flt_dem.specs.Manager.{StandsFor, report_reply as cause_reply};
 ghost use Rattle.flt_dem.specs.View.{view_of};
 ghost use Rattle.flt_dcm.specs.Session.{is_extended_one, has_hold, heard, after, after_asked, ticked};
 ghost use Rattle.flt_dcm.specs.Standard.{SaysStandard};
@@ -43,13 +43,13 @@ pub struct UnitState {
 }
 
 impl Model for UnitState {
-    ghost use Rattle.flt_dcm.specs.Unit.{UnitView, IsOfConfig};
+    ghost use Rattle.flt_dcm.specs.Unit.{UnitView, IsUnitOf};
 
     ghost Value = { UnitView };
 
     ghost view = { λ u. record { dem = u.dem; sessions = u.sessions; base = u.base } };
 
-    ghost invariant = { λ u. IsOfConfig u.dem.faults.config u.sessions u.base };
+    ghost invariant = { λ u. IsUnitOf u.dem.faults.config u.sessions u.base };
 }
 
 /// A copy of a durable state, which takes no memory.

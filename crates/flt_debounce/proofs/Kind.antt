@@ -1,7 +1,7 @@
 -- A state of a counter is a count.
 use Rattle.std.proofs.Common.{◌≡◌, ℤ, Option, refl}
 use Rattle.flt_config.specs.declared.config.Debounce.TheVariants.{Counter}
-use Rattle.flt_model.specs.Debounce.{IsStateOf}
+use Rattle.flt_model.specs.Debounce.{IsOfKind}
 use Rattle.flt_model.specs.declared.call.DebState.{DebState}
 use Rattle.flt_model.specs.declared.call.DebState.TheVariants.{Count, Idle, Failing, Passing, AtFailed, AtPassed}
 
@@ -11,7 +11,7 @@ pub record IsCount (state : DebState) : Type 0 where
   pub is : state ≡ Count value
 
 pub counted_state : (fail_at pass_at up down : ℤ) (jump_up jump_down : Option ℤ) (state : DebState) →
-    IsStateOf (Counter fail_at pass_at up down jump_up jump_down) state → IsCount state
+    IsOfKind (Counter fail_at pass_at up down jump_up jump_down) state → IsCount state
 counted_state fail_at pass_at up down jump_up jump_down (Count value) kind = record { value = value; is = refl }
 counted_state fail_at pass_at up down jump_up jump_down Idle kind = absurd kind
 counted_state fail_at pass_at up down jump_up jump_down (Failing ticks) kind = absurd kind

@@ -3,7 +3,7 @@
 ghost use Rattle.std.specs.Prelude.{◌≡◌, ℤ, pos, ◌+ℤ◌, ◌-ℤ◌, ◌<ℤ◌, ◌≤ℤ◌};
 ghost use Rattle.std.specs.Int.{int_min, int_max};
 ghost use Rattle.flt_config.specs.Validity.{IsDebounceInRange};
-ghost use Rattle.flt_model.specs.Debounce.{counted, qualified_at, IsStateOf, lifted, lowered};
+ghost use Rattle.flt_model.specs.Debounce.{counted, qualified_at, IsOfKind, lifted, lowered};
 ghost use Rattle.flt_debounce.specs.Step.{count_of};
 
 use flt_config::Debounce;
@@ -65,7 +65,7 @@ fn sink(value: i16, down: i16, limit: i16) -> i16
 pub fn after(rules: &Debounce, value: i16, report: Report) -> i16
     requires { IsDebounceInRange rules.now }
     ensures value { result ≡ counted rules.now report value }
-    ensures kind { IsStateOf rules.now (DebState.Count value) → IsStateOf rules.now (DebState.Count result) }
+    ensures kind { IsOfKind rules.now (DebState.Count value) → IsOfKind rules.now (DebState.Count result) }
 {
     match *rules {
         Debounce::Counter {

@@ -2,7 +2,7 @@
 
 ghost use Rattle.std.specs.Prelude.{◌≡◌, ◌<◌, ◌≤◌, pos, neg_ℤ};
 ghost use Rattle.flt_config.specs.Validity.{IsDebounceInRange};
-ghost use Rattle.flt_model.specs.Debounce.{IsStateOf, detection_counter, scaled};
+ghost use Rattle.flt_model.specs.Debounce.{IsOfKind, detection_counter, scaled};
 
 use flt_config::Debounce;
 use flt_model::DebState;
@@ -22,7 +22,7 @@ fn share(scale: u8, part: u16, whole: u16) -> u8
 /// scale of timers is this profile's).
 pub fn fdc(rules: &Debounce, state: &DebState) -> i8
     requires in_range { IsDebounceInRange rules.now }
-    requires kind { IsStateOf rules.now state.now }
+    requires kind { IsOfKind rules.now state.now }
     ensures { result ≡ detection_counter rules.now state.now }
 {
     match (*rules, *state) {

@@ -10,7 +10,7 @@ mod time;
 
 ghost use Rattle.std.specs.Prelude.{◌≡◌, ◌∷◌, []};
 ghost use Rattle.flt_config.specs.Validity.{IsDebounceInRange};
-ghost use Rattle.flt_model.specs.Debounce.{Happenings, Reported, Ticked, Ended, Cleared, debounced, qualified, IsStateOf};
+ghost use Rattle.flt_model.specs.Debounce.{Happenings, Reported, Ticked, Ended, Cleared, debounced, qualified, IsOfKind};
 ghost use Rattle.flt_debounce.specs.Step.{after_report, report_result, after_ticks, ticks_result};
 
 pub use detection::fdc;
@@ -20,7 +20,7 @@ pub use flt_model::{DebState, Qualified, Report};
 /// The state at rest: as at power-up, at the end of the event's cycle and after a clear.
 pub fn rest(rules: &Debounce) -> DebState
     requires { IsDebounceInRange rules.now }
-    ensures kind { IsStateOf rules.now result }
+    ensures kind { IsOfKind rules.now result }
     ensures started { result ≡ debounced rules.now [] }
     ensures ended { (past : Happenings) → result ≡ debounced rules.now (Ended ∷ past) }
     ensures cleared { (past : Happenings) → result ≡ debounced rules.now (Cleared ∷ past) }
@@ -35,7 +35,7 @@ pub fn rest(rules: &Debounce) -> DebState
 /// where it qualifies nothing.
 pub fn report(rules: &Debounce, state: &mut DebState, report: Report) -> Option<Qualified>
     requires { IsDebounceInRange rules.now }
-    ensures kind { IsStateOf rules.now state.old → IsStateOf rules.now state.new }
+    ensures kind { IsOfKind rules.now state.old → IsOfKind rules.now state.new }
     ensures step { state.new ≡ after_report rules.now state.old report }
     ensures answer { result ≡ report_result rules.now state.old report }
     ensures debounced { (past : Happenings) → state.old ≡ debounced rules.now past → state.new ≡ debounced rules.now (Reported report ∷ past) }
@@ -62,7 +62,7 @@ pub fn report(rules: &Debounce, state: &mut DebState, report: Report) -> Option<
 /// timer qualifies once, at the tick that brings it to its threshold, and a counter never.
 pub fn tick(rules: &Debounce, state: &mut DebState, ticks: u16) -> Option<Qualified>
     requires { IsDebounceInRange rules.now }
-    ensures kind { IsStateOf rules.now state.old → IsStateOf rules.now state.new }
+    ensures kind { IsOfKind rules.now state.old → IsOfKind rules.now state.new }
     ensures step { state.new ≡ after_ticks rules.now state.old ticks }
     ensures answer { result ≡ ticks_result rules.now state.old ticks }
     ensures debounced { (past : Happenings) → state.old ≡ debounced rules.now past → state.new ≡ debounced rules.now (Ticked ticks ∷ past) }

@@ -9,7 +9,7 @@ use Rattle.std.proofs.lemmas.Option.{slice_get-get_or}
 use Rattle.flt_config.specs.declared.config.Config.{Config}
 use Rattle.flt_config.specs.declared.config.EventCfg.{EventCfg}
 use Rattle.flt_model.specs.Life.{Life, count, event_of}
-use Rattle.flt_model.specs.Debounce.{Happening, Happenings, IsStateOf, debounced}
+use Rattle.flt_model.specs.Debounce.{Happening, Happenings, IsOfKind, debounced}
 use Rattle.flt_model.specs.declared.call.DebState.{DebState}
 use Rattle.flt_model.specs.declared.call.DebState.TheVariants.{Count}
 use Rattle.flt_dem.specs.Debounces.{DebouncesStand, AreOfKind, and_then}
@@ -44,7 +44,7 @@ debounced_more life event happening items debounces new within is s = record {
 
 -- a state of the event's kind in place of its own
 pub kind_kept : (events : List EventCfg) (debounces : List DebState) (event : ℕ) (rules : EventCfg) (new : DebState) → event < length debounces →
-    slice_get events event ≡ Some rules → IsStateOf rules.debounce new → AreOfKind events debounces → AreOfKind events (slice_set debounces event new)
+    slice_get events event ≡ Some rules → IsOfKind rules.debounce new → AreOfKind events debounces → AreOfKind events (slice_set debounces event new)
 kind_kept events debounces event rules new within is kind kinds other other_rules state found at =
     ⊎_elim
     (λ same.
@@ -52,7 +52,7 @@ kind_kept events debounces event rules new within is kind kinds other other_rule
     let which : rules ≡ other_rules = cc (is, here) in
     let there : slice_get (slice_set debounces event new) event ≡ Some state = ap (λ x. slice_get (slice_set debounces event new) x) same ∙ at in
     let now : new ≡ state = cc (slice_get-set_same debounces event new within, there) in
-    subst (λ r. IsStateOf r.debounce state) which (subst (λ x. IsStateOf rules.debounce x) now kind))
+    subst (λ r. IsOfKind r.debounce state) which (subst (λ x. IsOfKind rules.debounce x) now kind))
     (λ ne. kinds other other_rules state found (sym (slice_get-set_other debounces event other new ne) ∙ at))
     (cases_eq event other)
 
@@ -67,14 +67,14 @@ was_debounced life items event rules debounces lent is found within s =
 module _ (config : Config) (debounces lent : List DebState) (event : ℕ) (rules : EventCfg) (found : slice_get config.events.items event ≡ Some rules) (is : lent ≡ debounces)
     (within : event < length config.events.items) (of_config : IsOfConfig config debounces) where
   -- it is of the event's kind
-  pub kind_read : IsStateOf rules.debounce (get_or lent event blank)
+  pub kind_read : IsOfKind rules.debounce (get_or lent event blank)
   kind_read =
       let inside : event < length debounces = omega (arith, of_config.one_each) in
       of_config.kinds event rules (get_or lent event blank) found
       (slice_get-get_or debounces event blank inside ∙ ap Some (ap (λ xs. get_or xs event blank) (sym is)))
 
   -- and where another of this kind comes back, each is
-  pub kept_of_config : (now : Config) (new : DebState) → now ≡ config → IsStateOf rules.debounce new →
+  pub kept_of_config : (now : Config) (new : DebState) → now ≡ config → IsOfKind rules.debounce new →
       IsOfConfig now (refill (length debounces) debounces (slice_set lent event new))
   kept_of_config now new same kind =
       subst (λ k. IsOfConfig k (refill (length debounces) debounces (slice_set lent event new))) (sym same)

@@ -8,7 +8,7 @@ use Rattle.flt_config.specs.declared.config.Config.{Config}
 use Rattle.flt_config.specs.declared.config.EventCfg.{EventCfg}
 use Rattle.flt_config.specs.Validity.{IsValid, IsDebounceInRange}
 use Rattle.flt_model.specs.Life.{Life, History, event_of, no_event}
-use Rattle.flt_model.specs.Debounce.{IsStateOf, debounced}
+use Rattle.flt_model.specs.Debounce.{IsOfKind, debounced}
 use Rattle.flt_model.specs.Happening.{is_started, signals, counts_report}
 use Rattle.flt_model.specs.Session.{is_setting_off}
 use Rattle.flt_model.specs.Answer.{answer, answer_report}
@@ -20,7 +20,7 @@ use Rattle.flt_model.proofs.Common.{slice_get-set_same, slice_get-set_other}
 use Rattle.flt_model.proofs.RangeLaws.{debouncing_stays_in_range}
 use Rattle.flt_dem.specs.Debounces.{DebouncesStand, AreOfKind}
 use Rattle.flt_dem.specs.Events.{IsOfConfig}
-use Rattle.flt_dem.specs.Manager.{Manager, StandsFor, events_of, is_cycle_started, cause_of, reply_of}
+use Rattle.flt_dem.specs.Manager.{Manager, StandsFor, events_of, is_cycle_started, cause_of, report_reply}
 use Rattle.flt_dem.proofs.CallLemmas.{stands_none}
 use Rattle.flt_dem.proofs.PartLemmas.{ignored_report}
 
@@ -77,7 +77,7 @@ rest_kinds config debounces valid is event rules state found at =
     let here : at_rest rules ≡ state = cc in
     let within = slice_get_within events event rules found in
     let in_range = subst (λ (e : EventCfg). IsDebounceInRange e.debounce) (get_or_from_slice_get events event rules no_event found) ((valid.events event no_event within).debounce) in
-    subst (λ s. IsStateOf rules.debounce s) here (debouncing_stays_in_range rules.debounce [] in_range)
+    subst (λ s. IsOfKind rules.debounce s) here (debouncing_stays_in_range rules.debounce [] in_range)
 
 pub rest_of_config : (config : Config) (debounces : List DebState) → IsValid config → debounces ≡ rest_states config → IsOfConfig config debounces
 rest_of_config config debounces valid is = record {
@@ -125,7 +125,7 @@ cycle_stands life past manager event valid within s =
     ap (λ o. unwrap_or o false) (s.started cycle (cycle_below manager.faults.config event valid within))
     ∙ ap (λ k. is_started (unwrap_or (slice_get k.events.items event) no_event).cycle past) (sym s.events.faults_stand.config)
 
-cause_answers : (off started : Bool) → reply_of (cause_of (not off) started) ≡ answer_report off started
+cause_answers : (off started : Bool) → report_reply (cause_of (not off) started) ≡ answer_report off started
 cause_answers true started = refl
 cause_answers false true = refl
 cause_answers false false = refl
@@ -133,11 +133,11 @@ cause_answers false false = refl
 -- why a report is ignored decides what is answered
 pub cause_is_answer : (life : Life) (past : History) (manager : Manager) (event : ℕ) (report : Report) (setting : Bool) (cause : Option Cause) →
     IsValid manager.faults.config → event < length manager.faults.config.events.items → setting ≡ not (is_setting_off past) → StandsFor life past manager →
-    cause ≡ cause_of setting (is_cycle_started manager event) → reply_of cause ≡ answer life past (ops.Report event report)
+    cause ≡ cause_of setting (is_cycle_started manager event) → report_reply cause ≡ answer life past (ops.Report event report)
 cause_is_answer life past manager event report setting cause valid within setting_is s is =
-    ap (λ c. reply_of c) is
-    ∙ ap (λ b. reply_of (cause_of b (is_cycle_started manager event))) setting_is
-    ∙ ap (λ b. reply_of (cause_of (not (is_setting_off past)) b)) (cycle_stands life past manager event valid within s)
+    ap (λ c. report_reply c) is
+    ∙ ap (λ b. report_reply (cause_of b (is_cycle_started manager event))) setting_is
+    ∙ ap (λ b. report_reply (cause_of (not (is_setting_off past)) b)) (cycle_stands life past manager event valid within s)
     ∙ cause_answers (is_setting_off past) (is_started (event_of life event).cycle past)
 
 -- a report counts where neither the setting nor its cycle is in the way

@@ -6,7 +6,7 @@ use Rattle.flt_model.specs.Mark.Mark.{Failed}
 use Rattle.flt_model.specs.Status.{enters}
 use Rattle.flt_model.specs.Entry.{holders, has_entry, worst, rank_of}
 use Rattle.flt_model.specs.Trace.{with_failed, stored_where, stored, added, added_in_full, added_for}
-use Rattle.flt_model.specs.Noted.{is_entering, is_confirming, first_after, recent_after}
+use Rattle.flt_model.specs.Noted.{is_entering_failure, is_confirming_failure, first_after, recent_after}
 use Rattle.flt_dem.specs.declared.notes.Notes.{Notes}
 use Rattle.flt_dem.specs.Standing.{notes_of}
 
@@ -38,7 +38,7 @@ notes_failed life signals event trace = notes_where life signals event (Of event
 
 -- the notes after a failure are those that its marks make
 pub notes_after : (life : Life) (signals : List ℕ) (event : ℕ) (marks : Trace) (old new : Notes) (entered confirmed : Bool) →
-    old ≡ notes_of life marks → entered ≡ is_entering life event marks → confirmed ≡ is_confirming life event marks →
+    old ≡ notes_of life marks → entered ≡ is_entering_failure life event marks → confirmed ≡ is_confirming_failure life event marks →
     new.first_failed ≡ first_after entered event old.first_failed → new.first_confirmed ≡ first_after confirmed event old.first_confirmed →
     new.recent_failed ≡ recent_after entered event old.recent_failed → new.recent_confirmed ≡ recent_after confirmed event old.recent_confirmed →
     new ≡ notes_of life (with_failed life signals event marks)

@@ -11,7 +11,7 @@ use Rattle.flt_model.specs.Mark.{Mark, Trace, Of, marks_of, own}
 use Rattle.flt_model.specs.Mark.Mark.{Cycle, Aged, Added, Refused}
 use Rattle.flt_model.specs.Status.{durable, ages}
 use Rattle.flt_model.specs.Trace.{with_cycle, aged_where}
-use Rattle.flt_status.specs.Standing.{with_cycle as with_marks_of_cycle}
+use Rattle.flt_status.specs.Standing.{with_cycle_end as with_marks_of_cycle}
 use Rattle.flt_model.specs.Durable.{state_at}
 use Rattle.flt_dem.specs.Standing.{StatesStand}
 use Rattle.flt_model.proofs.Common.{slice_get-set_same, slice_get-set_other}

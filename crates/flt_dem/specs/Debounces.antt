@@ -2,7 +2,7 @@
 use Rattle.std.specs.Prelude.{◌≡◌, ℕ, ◌==◌, ◌<◌, if◌then◌else◌, List, length, slice_get, Option, Some}
 use Rattle.flt_config.specs.declared.config.EventCfg.{EventCfg}
 use Rattle.flt_model.specs.Life.{Life, count, event_of}
-use Rattle.flt_model.specs.Debounce.{Happening, Happenings, IsStateOf, debounced}
+use Rattle.flt_model.specs.Debounce.{Happening, Happenings, IsOfKind, debounced}
 use Rattle.flt_model.specs.Happening.{with_happening}
 use Rattle.flt_model.specs.declared.call.DebState.{DebState}
 
@@ -18,4 +18,4 @@ and_then event happening items other = if event == other then with_happening hap
 -- each debouncing is of its event's kind, within its thresholds
 abbrev pub AreOfKind : List EventCfg → List DebState → Type 0
 AreOfKind events debounces = (event : ℕ) (rules : EventCfg) (state : DebState) →
-    slice_get events event ≡ Some rules → slice_get debounces event ≡ Some state → IsStateOf rules.debounce state
+    slice_get events event ≡ Some rules → slice_get debounces event ≡ Some state → IsOfKind rules.debounce state

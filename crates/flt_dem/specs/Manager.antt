@@ -53,9 +53,9 @@ cause_of true false = Some NotStarted
 cause_of true true = None
 
 -- the answer to a report, by why it is ignored
-abbrev pub reply_of : Option Cause → Reply
-reply_of None = replies.Taken
-reply_of (Some cause) = replies.Ignored cause
+abbrev pub report_reply : Option Cause → Reply
+report_reply None = replies.Taken
+report_reply (Some cause) = replies.Ignored cause
 
 -- the debouncing and the state of an event are as before
 pub record IsUntouched (event : ℕ) (before now : Manager) : Type 0 where

@@ -7,7 +7,7 @@ use Rattle.flt_model.specs.Mark.Mark.{Displaced, Added, Refused, Clear}
 use Rattle.flt_model.specs.Durable.{state_at}
 use Rattle.flt_model.specs.Entry.{entries, overflow, has_entry}
 use Rattle.flt_model.specs.Answer.{entry_where}
-use Rattle.flt_model.specs.Noted.{is_entering, is_confirming, recent, first}
+use Rattle.flt_model.specs.Noted.{is_entering_failure, is_confirming_failure, recent, first}
 use Rattle.flt_memory.specs.Memory.{Memory}
 use Rattle.flt_memory.specs.declared.memory.Stored.{Stored}
 use Rattle.flt_memory.specs.declared.memory.Stored.TheVariants as outcomes
@@ -27,10 +27,10 @@ pub record MemoryStands (life : Life) (marks : Trace) (memory : Memory) : Type 0
 -- the events that the marks note
 abbrev pub notes_of : Life → Trace → Notes
 notes_of life marks = record {
-  first_failed = first (is_entering life) life.base.first_failed marks;
-  first_confirmed = first (is_confirming life) life.base.first_confirmed marks;
-  recent_failed = recent (is_entering life) life.base.recent_failed marks;
-  recent_confirmed = recent (is_confirming life) life.base.recent_confirmed marks;
+  first_failed = first (is_entering_failure life) life.base.first_failed marks;
+  first_confirmed = first (is_confirming_failure life) life.base.first_confirmed marks;
+  recent_failed = recent (is_entering_failure life) life.base.recent_failed marks;
+  recent_confirmed = recent (is_confirming_failure life) life.base.recent_confirmed marks;
 }
 
 -- all of it is what the marks make of it, under the life's configuration

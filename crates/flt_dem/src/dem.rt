@@ -12,7 +12,7 @@ ghost use Rattle.flt_model.specs.declared.call.Reply.TheVariants as replies;
 ghost use Rattle.flt_did.specs.Table.{dids_of};
 ghost use Rattle.flt_did.specs.Serves.{Serves};
 ghost use Rattle.flt_dem.specs.Faults.{KeepsOthers};
-ghost use Rattle.flt_dem.specs.Manager.{StandsFor, IsUntouched, IsOfOtherCycle, is_cycle_started, cause_of, reply_of};
+ghost use Rattle.flt_dem.specs.Manager.{StandsFor, IsUntouched, IsOfOtherCycle, is_cycle_started, cause_of, report_reply};
 ghost use Rattle.flt_dem.specs.Manager.{Takes, TakesUnder, TakesClear, IsTold, Answers, AnswersUnder, LeavesOthers, entry_after, noted_after};
 
 use crate::notes::Which;
@@ -97,7 +97,7 @@ impl Dem {
         ensures debouncing { KeepsOthers event (state_of self.old).debounces (state_of self.new).debounces }
         ensures others { LeavesOthers event (state_of self.old) (state_of self.new) }
         ensures stands { TakesUnder setting (ops.Report event report) (state_of self.old) (state_of self.new) }
-        ensures answer { AnswersUnder setting (ops.Report event report) (state_of self.old) (reply_of result) }
+        ensures answer { AnswersUnder setting (ops.Report event report) (state_of self.old) (report_reply result) }
     {
         self.state.report(&self.dids, event, report, setting)
     }

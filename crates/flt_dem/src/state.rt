@@ -12,7 +12,7 @@ ghost use Rattle.flt_did.specs.Table.{dids_of};
 ghost use Rattle.flt_did.specs.Serves.{Serves};
 ghost use Rattle.flt_dem.specs.View.{counter_of};
 ghost use Rattle.flt_dem.specs.Faults.{KeepsOthers};
-ghost use Rattle.flt_dem.specs.Manager.{StandsFor, IsUntouched, IsOfOtherCycle, is_cycle_started, cause_of, reply_of};
+ghost use Rattle.flt_dem.specs.Manager.{StandsFor, IsUntouched, IsOfOtherCycle, is_cycle_started, cause_of, report_reply};
 ghost use Rattle.flt_dem.specs.Manager.{Takes, TakesUnder, TakesClear, IsTold, Answers, AnswersUnder, LeavesOthers, entry_after, noted_after};
 
 use crate::events::Events;
@@ -112,7 +112,7 @@ impl DemState {
         ensures debouncing { KeepsOthers event self.old.debounces self.new.debounces }
         ensures others { LeavesOthers event self.old self.new }
         ensures stands { TakesUnder setting (ops.Report event report) self.old self.new }
-        ensures answer { AnswersUnder setting (ops.Report event report) self.old (reply_of result) }
+        ensures answer { AnswersUnder setting (ops.Report event report) self.old (report_reply result) }
     {
         if !setting {
             return Some(Cause::SettingOff);

@@ -12,7 +12,7 @@ use Rattle.flt_generation.specs.Layout.{mark_id, commit_id, mark_number, is_used
 use Rattle.flt_generation.specs.Reading.{mark_in, commit_in}
 use Rattle.flt_generation.specs.Excess.{IsBorne}
 use Rattle.flt_generation.specs.Holding.{Generation, first_generation, Fault, damaged, other, ◌>>=◌, marked, parts_read, generation_of, named, applications_judged, excess_judged, held_by}
-use Rattle.flt_generation.specs.Faults.{IsMarkDamaged, IsOthers, IsCommitDamaged, HoldBelow, IsPartDamaged, IsApplicationDamaged, HasFault, rank_of, HasFirstFault}
+use Rattle.flt_generation.specs.Faults.{IsMarkDamaged, IsOthers, IsCommitDamaged, HoldBelow, IsPartDamaged, IsApplicationDamaged, HasFault, judging_order, HasFirstFault}
 use Rattle.flt_generation.proofs.Marks.{mark_read}
 use Rattle.flt_generation.proofs.Commits.{read_commit}
 use Rattle.flt_generation.proofs.Short.{HasSizes}
@@ -24,7 +24,7 @@ part_within : (c : Config) (id : ℕ) → IsTrue (is_used c id) → (3 ≤ id) �
 part_within c id used = let range = and_parts _ _ (and_parts _ _ used).0 in (leb-true 3 id range.0, ltb-true id 24 range.1)
 
 -- a block is judged by its identifier
-rank_at : (id : ℕ) → 0 < id → rank_of (damaged (Block id)) ≡ 2 * id
+rank_at : (id : ℕ) → 0 < id → judging_order (damaged (Block id)) ≡ 2 * id
 rank_at zero some = absurd (omega (arith, some))
 rank_at (suc k) some = omega arith
 
@@ -53,7 +53,7 @@ module _ (c : Config) (value : ℕ → Content) (commit : Content) where
     applications : (id : ℕ) → 2 * id < bound → IsApplicationDamaged value id → ⊥
     borne : 208 < bound → IsBorne c value
 
-  none_before : (bound : ℕ) → NoneBefore bound → (fault : Fault) → rank_of fault < bound → HasFault c value commit fault → ⊥
+  none_before : (bound : ℕ) → NoneBefore bound → (fault : Fault) → judging_order fault < bound → HasFault c value commit fault → ⊥
   none_before bound none (other found) below is = none.own below found is
   none_before bound none (damaged (Page sector page)) below is = is
   none_before bound none (damaged (Block zero)) below (inl is) = omega (arith, is.0)
@@ -82,7 +82,7 @@ module _ (c : Config) (value : ℕ → Content) (commit : Content) where
   module _ (g : Generation) (fine : IsFine) where
     by_excess : ((id : ℕ) → IsApplicationDamaged value id → ⊥) → (result : Result (Unit {0}) Fault) → ExcessIs c value result → HeldIs (result >>= (λ _. Ok g))
     by_excess applications result (is_borne borne told) =
-        holds g (λ fault is. none_before (rank_of fault + 1) (record { mark = λ _. fine.mark; own = λ _. fine.own; commit_ = λ _. fine.commit_; parts = λ id _. fine.parts id; applications = λ id _. applications id; borne = λ _. borne }) fault (omega arith) is)
+        holds g (λ fault is. none_before (judging_order fault + 1) (record { mark = λ _. fine.mark; own = λ _. fine.own; commit_ = λ _. fine.commit_; parts = λ id _. fine.parts id; applications = λ id _. applications id; borne = λ _. borne }) fault (omega arith) is)
         (ap (λ (r : Result (Unit {0}) Fault). r >>= (λ _. Ok g)) told)
     by_excess applications result (too_great past told) =
         has (damaged (Block 0))
@@ -241,7 +241,7 @@ module _ (c : Config) (value : ℕ → Content) (commit : Content) where
   id_small id (inr (inr (inr (inr is)))) = omega (arith, is.0)
 
   -- two faults of one rank are one
-  same_fault : (first second : Fault) → rank_of first ≡ rank_of second → HasFault c value commit first → HasFault c value commit second → first ≡ second
+  same_fault : (first second : Fault) → judging_order first ≡ judging_order second → HasFault c value commit first → HasFault c value commit second → first ≡ second
   same_fault (damaged (Page s p)) second rank one two = absurd one
   same_fault first (damaged (Page s p)) rank one two = absurd two
   same_fault (other first) (other second) rank one two = ap other (one_other first second one two)
@@ -266,7 +266,7 @@ module _ (c : Config) (value : ℕ → Content) (commit : Content) where
       told_where : HasFirstFault c value commit fault → held_by c value commit ≡ Err fault
       told_where is = elim (held_is sizes) [
         | holds g none told ↦ absurd (none fault is.is)
-        | has found first told ↦ told ∙ ap Err (elim (cases_order (rank_of found) (rank_of fault)) [
+        | has found first told ↦ told ∙ ap Err (elim (cases_order (judging_order found) (judging_order fault)) [
           | inl same ↦ same_fault found fault same first.is is.is
           | inr (inl less) ↦ absurd (is.first found less first.is)
           | inr (inr more) ↦ absurd (first.first fault more is.is)

@@ -67,13 +67,13 @@ HasFault c value commit (damaged (Block id)) =
 
 -- the place of a fault in the order of judging: the pages, then the blocks by their identifiers, another configuration's mark behind the
 -- block of the mark, and the excess, which is told at 0, behind all others
-abbrev pub rank_of : Fault → ℕ
-rank_of (damaged (Page sector page)) = 0
-rank_of (damaged (Block zero)) = 2 * (first_application + applications)
-rank_of (damaged (Block (suc before))) = 2 * (before + 1)
-rank_of (other mark) = 2 * mark_id + 1
+abbrev pub judging_order : Fault → ℕ
+judging_order (damaged (Page sector page)) = 0
+judging_order (damaged (Block zero)) = 2 * (first_application + applications)
+judging_order (damaged (Block (suc before))) = 2 * (before + 1)
+judging_order (other mark) = 2 * mark_id + 1
 
 -- an image has this fault, and none that is judged before it
 pub record HasFirstFault (c : Config) (value : ℕ → Content) (commit : Content) (fault : Fault) : Type 0 where
   pub is : HasFault c value commit fault
-  pub first : (earlier : Fault) → rank_of earlier < rank_of fault → HasFault c value commit earlier → ⊥
+  pub first : (earlier : Fault) → judging_order earlier < judging_order fault → HasFault c value commit earlier → ⊥

@@ -11,7 +11,7 @@ use Rattle.flt_turn.specs.Seats.{Seated, Extends}
 use Rattle.flt_turn.proofs.Journals.{calls_of-append, calls_of_other, prefix_longer}
 use Rattle.flt_life.specs.Mixing.{Call, ops_asked}
 use Rattle.flt_lane.specs.Chain.{Chain}
-use Rattle.flt_life.specs.Mixing.{Mixes, Block, Follows, asked_of, IsTold, BlockTold}
+use Rattle.flt_life.specs.Mixing.{Mixes, Block, HasInOrder, asked_of, IsTold, BlockTold}
 use Rattle.flt_lane.specs.Lived.{IsEnded, IsMain, IsWhole, Trails, HasLived}
 use Rattle.flt_lane.proofs.Journals.{more_calls, none_left, no_call_before, one_call, no_call_of_others}
 use Rattle.flt_lane.proofs.Chains.{call_own, call_told}
@@ -47,7 +47,7 @@ module _ {S O R : Type 0} (admits : S → O → Type 0) (answer : S → List O �
   -- ---- no call, and blocks behind others
 
   pub lived_none : (main : Seated S O) → IsMain main → HasLived {R = R} answer main main 0 []
-  unfolding Follows
+  unfolding HasInOrder
   lived_none main is = record {
     main_after = is;
     start_is = refl;

@@ -11,7 +11,7 @@ use Rattle.flt_turn.specs.declared.vault.Entry.{Entry}
 use Rattle.flt_turn.specs.Journal.{calls_of}
 use Rattle.flt_life.specs.Answers.{Told}
 use Rattle.flt_life.specs.Making.{AreMadeBy, LanesMake, PartMakes, PartsMake}
-use Rattle.flt_life.specs.Mixing.{Block, Call, Follows, Mixes, asked_of, ops_asked}
+use Rattle.flt_life.specs.Mixing.{Block, Call, HasInOrder, Mixes, asked_of, ops_asked}
 use Rattle.flt_life.specs.Ordered.{Deed, block_deeds, deed_if, deeds_in, lane_deeds, with_deed}
 use Rattle.flt_life.specs.Parts.{width}
 use Rattle.flt_lane.proofs.Journals.{head_call, no_call_behind}
@@ -112,8 +112,8 @@ module _ {O : Type 0} (weight : O → ℕ) where
   weigh_blocks [] = 0
   weigh_blocks (lanes ∷ blocks) = weigh_lanes (asked_of lanes) + weigh_blocks blocks
 
-  pub follows_most : {R : Type 0} (blocks : List (Block O R)) (journal : List (Entry O)) → Follows blocks journal → weigh journal ≤ weigh_blocks blocks
-  unfolding Follows
+  pub follows_most : {R : Type 0} (blocks : List (Block O R)) (journal : List (Entry O)) → HasInOrder blocks journal → weigh journal ≤ weigh_blocks blocks
+  unfolding HasInOrder
   follows_most [] journal none = let is = ap weigh none in omega (arith, is)
   follows_most (lanes ∷ blocks) journal follows =
       let sum = ap weigh follows.2 ∙ weigh-append follows.0 follows.1 in

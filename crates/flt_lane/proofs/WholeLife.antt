@@ -8,7 +8,7 @@ use Rattle.flt_turn.specs.Journal.{calls_of, Interleaves}
 use Rattle.flt_turn.specs.Seats.{Seated, main_seat}
 use Rattle.flt_life.specs.Answers.{Told}
 use Rattle.flt_life.specs.Played.{IsMade}
-use Rattle.flt_life.specs.Mixing.{Call, Mixes, Follows, calls_in_lane}
+use Rattle.flt_life.specs.Mixing.{Call, Mixes, HasInOrder, calls_in_lane}
 use Rattle.flt_lane.specs.Lived.{IsEnded, IsMain, IsWhole}
 use Rattle.flt_script.specs.Part.{PartOf}
 use Rattle.flt_life.specs.Making.{PartsMake}
@@ -47,7 +47,7 @@ module _ {S O R : Type 0} (answer : S → List O → O → R) (MadeBy : Step →
       record {
         blocks = ran.blocks;
         made = subst (λ n. PartsMake MadeBy n parts own lanes ran.blocks) first ran.made;
-        follows = subst (Follows ran.blocks) (sym journal_is) trail.follows;
+        follows = subst (HasInOrder ran.blocks) (sym journal_is) trail.follows;
         told = trail.told;
         rising = λ number. rise_lower (length trail.before) 0 (calls_in_lane number ran.blocks) (omega arith) (trail.rising number);
       }

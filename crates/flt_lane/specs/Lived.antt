@@ -4,7 +4,7 @@ use mathlib.Core.List.{IsPrefix}
 use Rattle.flt_turn.specs.declared.vault.Entry.{Entry}
 use Rattle.flt_turn.specs.Journal.{calls_of}
 use Rattle.flt_turn.specs.Seats.{Seated}
-use Rattle.flt_life.specs.Mixing.{Mixes, Block, Follows, BlockTold, Rise, calls_in_lane}
+use Rattle.flt_life.specs.Mixing.{Mixes, Block, HasInOrder, BlockTold, Rise, calls_in_lane}
 
 -- A joined lane: its number was given out, and a joined seat knew all of its calls.
 pub record IsEnded {S O : Type 0} (main : Seated S O) (lane : ℕ × List O) : Type 0 where
@@ -34,7 +34,7 @@ pub record Trails {S O R : Type 0} (answer : S → List O → O → R) (main : S
   pub rest : List (Entry O)
   pub split : journal ≡ before ++ rest
   pub whole : IsWhole main before
-  pub follows : Follows blocks rest
+  pub follows : HasInOrder blocks rest
   pub told : All (BlockTold answer main.start journal) blocks
   pub rising : (number : ℕ) → Rise (length before) (calls_in_lane number blocks)
 

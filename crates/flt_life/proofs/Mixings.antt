@@ -5,7 +5,7 @@ use Rattle.std.proofs.lemmas.List.{append-nil, append_assoc}
 use mathlib.Core.List.{IsPrefix}
 use Rattle.flt_turn.specs.declared.vault.Entry.{Entry}
 use Rattle.flt_turn.specs.Journal.{ops_of}
-use Rattle.flt_life.specs.Mixing.{Call, Mixes, Block, Follows, asked_of, IsTold, BlockTold}
+use Rattle.flt_life.specs.Mixing.{Call, Mixes, Block, HasInOrder, asked_of, IsTold, BlockTold}
 
 module _ {X : Type 0} where
   pub get_longer : (xs ys : List X) (k : ℕ) (x : X) → slice_get xs k ≡ Some x → slice_get (xs ++ ys) k ≡ Some x
@@ -42,16 +42,16 @@ module _ {S O R : Type 0} (answer : S → List O → O → R) (start : S) where
   blocks_longer journal longer blocks pre all k d within = block_longer journal longer (get_or blocks k d) pre (all k d within)
 
 module _ {O R : Type 0} where
-  pub follows_one : (lanes : Block O R) (journal : List (Entry O)) → Follows (lanes ∷ []) journal → Mixes journal (asked_of lanes)
-  unfolding Follows
+  pub follows_one : (lanes : Block O R) (journal : List (Entry O)) → HasInOrder (lanes ∷ []) journal → Mixes journal (asked_of lanes)
+  unfolding HasInOrder
   follows_one lanes journal f = subst (λ j. Mixes j (asked_of lanes)) (sym (f.2 ∙ ap (λ l. f.0 ++ l) f.4 ∙ append-nil f.0)) f.3
 
-  pub one_follows : (lanes : Block O R) (journal : List (Entry O)) → Mixes journal (asked_of lanes) → Follows (lanes ∷ []) journal
-  unfolding Follows
+  pub one_follows : (lanes : Block O R) (journal : List (Entry O)) → Mixes journal (asked_of lanes) → HasInOrder (lanes ∷ []) journal
+  unfolding HasInOrder
   one_follows lanes journal mixes = (journal, [], sym (append-nil journal), mixes, refl)
 
-  pub follow_more : (blocks more : List (Block O R)) (journal rest : List (Entry O)) → Follows blocks journal → Follows more rest → Follows (blocks ++ more) (journal ++ rest)
-  unfolding Follows
-  follow_more [] more journal rest none second = subst (λ l. Follows more (l ++ rest)) (sym none) second
+  pub follow_more : (blocks more : List (Block O R)) (journal rest : List (Entry O)) → HasInOrder blocks journal → HasInOrder more rest → HasInOrder (blocks ++ more) (journal ++ rest)
+  unfolding HasInOrder
+  follow_more [] more journal rest none second = subst (λ l. HasInOrder more (l ++ rest)) (sym none) second
   follow_more (lanes ∷ blocks) more journal rest f second =
       (f.0, f.1 ++ rest, ap (λ l. l ++ rest) f.2 ∙ append_assoc f.0 f.1 rest, f.3, follow_more blocks more f.1 rest f.4 second)

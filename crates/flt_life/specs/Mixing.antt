@@ -29,9 +29,9 @@ abbrev pub asked_of : {O R : Type 0} → Block O R → List (ℕ × List O)
 asked_of lanes = map (λ lane. (lane.0, ops_asked lane.1)) lanes
 
 -- The journal has the calls of these blocks: those of each block stand together, behind those of the blocks before it.
-unfoldable pub Follows : {O R : Type 0} → List (Block O R) → List (Entry O) → Type 0
-Follows [] journal = journal ≡ []
-Follows {O} {R} (lanes ∷ blocks) journal = (block : List (Entry O)) × (rest : List (Entry O)) × (journal ≡ block ++ rest) × Mixes block (asked_of lanes) × Follows blocks rest
+unfoldable pub HasInOrder : {O R : Type 0} → List (Block O R) → List (Entry O) → Type 0
+HasInOrder [] journal = journal ≡ []
+HasInOrder {O} {R} (lanes ∷ blocks) journal = (block : List (Entry O)) × (rest : List (Entry O)) × (journal ≡ block ++ rest) × Mixes block (asked_of lanes) × HasInOrder blocks rest
 
 -- A call of this lane stands at the place that it was told, and is answered after the calls before that place.
 pub record IsTold {S O R : Type 0} (answer : S → List O → O → R) (start : S) (journal : List (Entry O)) (lane : ℕ) (call : Call O R) : Type 0 where

@@ -24,7 +24,7 @@ use Rattle.flt_life.specs.Draining.{DrainMakes}
 use Rattle.flt_life.specs.Journal.{Journal}
 use Rattle.flt_life.specs.Making.{PartsMake}
 use Rattle.flt_turn.specs.declared.vault.Entry.{Entry}
-use Rattle.flt_life.specs.Mixing.{Call, Block, Follows, BlockTold, Rise, calls_in_lane}
+use Rattle.flt_life.specs.Mixing.{Call, Block, HasInOrder, BlockTold, Rise, calls_in_lane}
 use Rattle.flt_life.specs.Parts.{own_actions, lanes_in}
 
 -- the machine's reply after these calls, the oldest first
@@ -76,7 +76,7 @@ StepQueues step told calls = ActionQueues (action_of step) told calls
 pub record IsMade {S O R : Type 0} (MadeBy : Step → Told → List (Call O R) → Type 0) (answer : S → List O → O → R) (start : S) (parts : List (PartOf Step)) (own : List Told) (lanes : List (List Told)) (journal : List (Entry O)) : Type 0 where
   pub blocks : List (Block O R)
   pub made : PartsMake MadeBy 1 parts own lanes blocks
-  pub follows : Follows blocks journal
+  pub follows : HasInOrder blocks journal
   pub told : All (BlockTold answer start journal) blocks
   pub rising : (number : ℕ) → Rise 0 (calls_in_lane number blocks)
 

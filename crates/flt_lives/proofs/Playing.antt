@@ -20,7 +20,7 @@ use Rattle.flt_life.specs.Actions.{action_of}
 use Rattle.flt_life.specs.Answers.{Told}
 use Rattle.flt_life.specs.Journal.{Journal}
 use Rattle.flt_life.specs.Making.{PartsMake}
-use Rattle.flt_life.specs.Mixing.{Call, Block, Mixes, Follows, asked_of, ops_asked, IsTold, BlockTold, Rise}
+use Rattle.flt_life.specs.Mixing.{Call, Block, Mixes, HasInOrder, asked_of, ops_asked, IsTold, BlockTold, Rise}
 use Rattle.flt_life.specs.Parts.{widths}
 use Rattle.flt_config.specs.declared.config.Config.{Config}
 use Rattle.flt_config.specs.declared.persist.Persist.{Persist}
@@ -99,7 +99,7 @@ module _ {S O R : Type 0} (answer : S → List O → O → R) (start : S) where
   module _ (MadeBy : Step → Told → List (Call O R) → Type 0) where
     -- no step
     made_none : IsMade MadeBy answer start [] [] [] []
-    unfolding Follows
+    unfolding HasInOrder
     made_none = record { blocks = []; made = parts_none MadeBy 1; follows = refl; told = All-nil (BlockTold answer start []); rising = λ number. rise_none 0 [] refl }
 
     -- a step more, which made these calls

@@ -1,7 +1,7 @@
 //! How bad an entry is where the memory is full.
 ghost use Rattle.std.specs.Prelude.{◌≡◌, ◌<◌, ◌≤◌, ◌↔◌, IsTrue, IfSome, IfNone, length, All};
 ghost use Rattle.flt_model.specs.Entry.{IsWorse};
-ghost use Rattle.flt_memory.specs.Displacement.{rank_of as event_rank, ranks_of, priority_of, IsWorst, GivesWay, IsDisplaced, StaysFull};
+ghost use Rattle.flt_memory.specs.Displacement.{rank_in as event_rank, ranks_of, priority_of, IsWorst, GivesWay, IsDisplaced, StaysFull};
 
 use flt_config::{Config, EntryState, EventState};
 use flt_model::Rank;

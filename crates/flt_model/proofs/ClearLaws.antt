@@ -20,7 +20,7 @@ use Rattle.flt_model.specs.Entry.{holders, has_entry, is_other, worst, rank_of, 
 use Rattle.flt_model.specs.Debounce.{Happening, Reported, Ticked, Ended, Cleared}
 use Rattle.flt_model.specs.Happening.{happening_of, signals, cleared_dtc, all_dtcs}
 use Rattle.flt_model.specs.Trace.{trace, with_clear, in_order, event_part, with_marks, with_result, result_of, aged_where, stored_where, stored, added, added_in_full, added_for}
-use Rattle.flt_model.specs.Noted.{Notable, is_entering, is_confirming, recent, first, without, recent_after, first_after}
+use Rattle.flt_model.specs.Noted.{Notable, is_entering_failure, is_confirming_failure, recent, first, without, recent_after, first_after}
 use Rattle.flt_model.specs.Durable.{below, state_at, saved}
 use Rattle.flt_model.specs.CallLaws.{ClearOfAllLeavesFirstState}
 use Rattle.flt_model.proofs.WorstLemmas.{worst_is_at}
@@ -299,10 +299,10 @@ module _ (life : Life) (fits : Fits life.config life.base) (sent : List ℕ) (ma
       let now = AllCleared ∷ all_cleared sent (count life) marks in
       let states = map_below-replicate (state_at life now) start_state (count life) state_is in
       let held = ap (map (λ event. entry_of life event now)) holders_are in
-      let ff = first_is (is_entering life) life.base.first_failed fits.first_failed in
-      let fc = first_is (is_confirming life) life.base.first_confirmed fits.first_confirmed in
-      let rf = recent_is (is_entering life) life.base.recent_failed fits.recent_failed in
-      let rc = recent_is (is_confirming life) life.base.recent_confirmed fits.recent_confirmed in
+      let ff = first_is (is_entering_failure life) life.base.first_failed fits.first_failed in
+      let fc = first_is (is_confirming_failure life) life.base.first_confirmed fits.first_confirmed in
+      let rf = recent_is (is_entering_failure life) life.base.recent_failed fits.recent_failed in
+      let rc = recent_is (is_confirming_failure life) life.base.recent_confirmed fits.recent_confirmed in
       λ i. record {
         events = record { items = states i };
         entries = record { items = held i };

@@ -8,7 +8,7 @@ use Rattle.flt_config.specs.Validity.{IsCounterInRange}
 use Rattle.flt_model.specs.declared.call.Report.TheVariants as reports
 use Rattle.flt_model.specs.declared.call.Qualified.{Qualified}
 use Rattle.flt_model.specs.declared.call.Qualified.TheVariants.{Passed, Failed}
-use Rattle.flt_model.specs.Debounce.{Happenings, Reported, Ticked, Ended, Cleared, IsStateOf, counter, lifted, lowered, timed, last_direction, is_reached, reached, running, threshold, run, elapsed, has_definite}
+use Rattle.flt_model.specs.Debounce.{Happenings, Reported, Ticked, Ended, Cleared, IsOfKind, counter, lifted, lowered, timed, last_direction, is_reached, reached, running, threshold, run, elapsed, has_definite}
 use Rattle.flt_model.specs.DebounceLaws.{DebouncingStaysInRange}
 
 least_in_range : (limit low value : ℤ) → low ≤ℤ value → low ≤ℤ limit → (low ≤ℤ int_min value limit) × (int_min value limit ≤ℤ limit)
@@ -55,15 +55,15 @@ module _ (fail_at pass_at up down : ℤ) (jump_up jump_down : Option ℤ) (s : S
   counter_in_range (Reported reports.PrePassed ∷ past) =
       sunk_in_range fail_at pass_at down jump_down (counter (Counter fail_at pass_at up down jump_up jump_down) past) s.above s.below s.falls (counter_in_range past)
 
-reached_in_range : (fail pass : ℕ) (way : Qualified) → IsStateOf (Time fail pass) (reached way)
+reached_in_range : (fail pass : ℕ) (way : Qualified) → IsOfKind (Time fail pass) (reached way)
 reached_in_range fail pass Failed = tt
 reached_in_range fail pass Passed = tt
 
-running_in_range : (fail pass : ℕ) (way : Qualified) (ticks : ℕ) → ticks < threshold fail pass way → IsStateOf (Time fail pass) (running way ticks)
+running_in_range : (fail pass : ℕ) (way : Qualified) (ticks : ℕ) → ticks < threshold fail pass way → IsOfKind (Time fail pass) (running way ticks)
 running_in_range fail pass Failed ticks h = h
 running_in_range fail pass Passed ticks h = h
 
-timed_in_range : (fail pass : ℕ) (past : Happenings) (way : Option Qualified) → IsStateOf (Time fail pass) (timed fail pass past way)
+timed_in_range : (fail pass : ℕ) (past : Happenings) (way : Option Qualified) → IsOfKind (Time fail pass) (timed fail pass past way)
 timed_in_range fail pass past None = tt
 timed_in_range fail pass past (Some way) =
     elim (cases_Bool (is_reached fail pass way past)) [

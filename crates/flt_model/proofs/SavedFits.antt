@@ -12,7 +12,7 @@ use Rattle.flt_config.specs.Validity.{IsValid, IsEventInRange, IsFromTo}
 use Rattle.flt_config.specs.Durable.{Fits, AreStatesOf, IsStateOf, IsEntryOf, IsOfOtherEvent, IsNoted, start_state}
 use Rattle.flt_model.specs.Life.{Life, History, no_event, count, event_of, base_of}
 use Rattle.flt_model.specs.Mark.{Trace, marks_of}
-use Rattle.flt_model.specs.Noted.{Notable, is_entering as is_entering_event, is_confirming, recent, first}
+use Rattle.flt_model.specs.Noted.{Notable, is_entering_failure as is_entering_event, is_confirming_failure, recent, first}
 use Rattle.flt_model.specs.Entry.{holders, has_entry, entry_of, base_entry, base_occurrence, is_entering}
 use Rattle.flt_model.specs.Trace.{trace}
 use Rattle.flt_model.specs.Durable.{below, state_at, saved}
@@ -165,9 +165,9 @@ module _ (life : Life) (valid : IsValid life.config) (fits : Fits life.config li
         entries = entries_are marks framed b;
         distinct = apart marks room.distinct;
         first_failed = first_configured marks b (is_entering_event life) life.base.first_failed fits.first_failed;
-        first_confirmed = first_configured marks b (is_confirming life) life.base.first_confirmed fits.first_confirmed;
+        first_confirmed = first_configured marks b (is_confirming_failure life) life.base.first_confirmed fits.first_confirmed;
         recent_failed = recent_configured marks b (is_entering_event life) life.base.recent_failed fits.recent_failed;
-        recent_confirmed = recent_configured marks b (is_confirming life) life.base.recent_confirmed fits.recent_confirmed;
+        recent_confirmed = recent_configured marks b (is_confirming_failure life) life.base.recent_confirmed fits.recent_confirmed;
       }
 
 pub saved_states_fit : SavedStatesFit

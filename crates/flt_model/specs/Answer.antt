@@ -36,8 +36,8 @@ event_view life past marks event = record {
 }
 
 -- The noted event that a sub-function reads.
-abbrev pub noted_by : Persist → ℕ → Option ℕ
-noted_by state sub =
+abbrev pub noted_for : Persist → ℕ → Option ℕ
+noted_for state sub =
     if sub == 0x0B then state.first_failed
     else if sub == 0x0C then state.first_confirmed
     else if sub == 0x0D then state.recent_failed
@@ -47,7 +47,7 @@ noted_by state sub =
 abbrev pub view : Life → History → Trace → View
 view life past marks = record {
   events = map (event_view life past marks) (below (count life));
-  noted = noted_by (saved life marks);
+  noted = noted_for (saved life marks);
 }
 
 -- What is shown of an event.

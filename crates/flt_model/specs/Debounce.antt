@@ -181,15 +181,15 @@ qualified (Time fail pass) past _ = None
 -- ---- ranges
 
 -- A state of the debouncing's kind, within its thresholds.
-abbrev pub IsStateOf : Debounce → DebState → Type 0
-IsStateOf (Counter fail_at pass_at up down jump_up jump_down) (Count value) = (pass_at ≤ℤ value) × (value ≤ℤ fail_at)
-IsStateOf (Counter fail_at pass_at up down jump_up jump_down) _ = ⊥
-IsStateOf (Time fail pass) Idle = Unit {0}
-IsStateOf (Time fail pass) (Failing ticks) = ticks < fail
-IsStateOf (Time fail pass) (Passing ticks) = ticks < pass
-IsStateOf (Time fail pass) AtFailed = Unit {0}
-IsStateOf (Time fail pass) AtPassed = Unit {0}
-IsStateOf (Time fail pass) (Count value) = ⊥
+abbrev pub IsOfKind : Debounce → DebState → Type 0
+IsOfKind (Counter fail_at pass_at up down jump_up jump_down) (Count value) = (pass_at ≤ℤ value) × (value ≤ℤ fail_at)
+IsOfKind (Counter fail_at pass_at up down jump_up jump_down) _ = ⊥
+IsOfKind (Time fail pass) Idle = Unit {0}
+IsOfKind (Time fail pass) (Failing ticks) = ticks < fail
+IsOfKind (Time fail pass) (Passing ticks) = ticks < pass
+IsOfKind (Time fail pass) AtFailed = Unit {0}
+IsOfKind (Time fail pass) AtPassed = Unit {0}
+IsOfKind (Time fail pass) (Count value) = ⊥
 
 -- ---- the fault detection counter
 

@@ -7,11 +7,11 @@ use Rattle.flt_model.specs.declared.call.DebState.{DebState}
 use Rattle.flt_model.specs.declared.call.DebState.TheVariants.{Count}
 use Rattle.flt_model.specs.declared.call.Qualified.{Qualified}
 use Rattle.flt_model.specs.declared.call.Qualified.TheVariants.{Passed, Failed}
-use Rattle.flt_model.specs.Debounce.{Happenings, Ticked, IsStateOf, is_of, debounced, qualified, reached, detection_counter}
+use Rattle.flt_model.specs.Debounce.{Happenings, Ticked, IsOfKind, is_of, debounced, qualified, reached, detection_counter}
 
 -- A counter stays between its thresholds, and a timer below its own.
 abbrev pub DebouncingStaysInRange : Type 0
-DebouncingStaysInRange = (rules : Debounce) (past : Happenings) → IsDebounceInRange rules → IsStateOf rules (debounced rules past)
+DebouncingStaysInRange = (rules : Debounce) (past : Happenings) → IsDebounceInRange rules → IsOfKind rules (debounced rules past)
 
 -- The state at the threshold of a result.
 abbrev pub at_threshold : Debounce → Qualified → DebState
@@ -27,7 +27,7 @@ pub record TellsThresholds (rules : Debounce) (state : DebState) : Type 0 where
   pub passed : (detection_counter rules state ≡ negsuc 127) ↔ (state ≡ at_threshold rules Passed)
 
 abbrev pub DetectionCounterTellsThresholds : Type 0
-DetectionCounterTellsThresholds = (rules : Debounce) (state : DebState) → IsDebounceInRange rules → IsStateOf rules state → TellsThresholds rules state
+DetectionCounterTellsThresholds = (rules : Debounce) (state : DebState) → IsDebounceInRange rules → IsOfKind rules state → TellsThresholds rules state
 
 -- A run of this direction was broken off among these: by a rest, or by a report of the other direction.
 abbrev pub is_broken_off : Qualified → Happenings → Bool

@@ -7,7 +7,7 @@ use Rattle.flt_model.specs.Mark.{Trace, marks_of}
 use Rattle.flt_model.specs.Status.{durable}
 use Rattle.flt_model.specs.Entry.{entries, overflow}
 use Rattle.flt_model.specs.Trace.{trace}
-use Rattle.flt_model.specs.Noted.{is_entering, is_confirming, recent, first}
+use Rattle.flt_model.specs.Noted.{is_entering_failure, is_confirming_failure, recent, first}
 
 -- The numbers below a number.
 abbrev pub below : ℕ → List ℕ
@@ -24,10 +24,10 @@ saved life marks = record {
   events = record { items = map (state_at life marks) (below (count life)) };
   entries = record { items = entries life marks };
   overflow = overflow life marks;
-  first_failed = first (is_entering life) life.base.first_failed marks;
-  first_confirmed = first (is_confirming life) life.base.first_confirmed marks;
-  recent_failed = recent (is_entering life) life.base.recent_failed marks;
-  recent_confirmed = recent (is_confirming life) life.base.recent_confirmed marks;
+  first_failed = first (is_entering_failure life) life.base.first_failed marks;
+  first_confirmed = first (is_confirming_failure life) life.base.first_confirmed marks;
+  recent_failed = recent (is_entering_failure life) life.base.recent_failed marks;
+  recent_confirmed = recent (is_confirming_failure life) life.base.recent_confirmed marks;
 }
 
 -- The durable state after a list of calls.

@@ -15,15 +15,15 @@ HoldersHaveEntries = (life : Life) (trace : Trace) (event : ℕ) →
     is_among event (holders life trace) ≡ has_entry life event trace
 
 -- An entry is worse than another by its rank, or of the same rank and older.
-abbrev pub IsWorseAt : (ℕ → Rank) → List ℕ → ℕ → ℕ → Type 0
-IsWorseAt rank events i j =
+abbrev pub IsWorseEntry : (ℕ → Rank) → List ℕ → ℕ → ℕ → Type 0
+IsWorseEntry rank events i j =
     IsWorse (rank (slice_index events i)) (rank (slice_index events j))
     ⊎ ((rank (slice_index events i) ≡ rank (slice_index events j)) × (i < j))
 
 -- The worst of the events is the one than which no other is worse.
 abbrev pub WorstIsUnique : Type 0
 WorstIsUnique = (rank : ℕ → Rank) (events : List ℕ) (place : ℕ) → place < length events →
-    ((k : ℕ) → k < length events → ¬ IsWorseAt rank events k place) → worst rank events ≡ Some (slice_index events place)
+    ((k : ℕ) → k < length events → ¬ IsWorseEntry rank events k place) → worst rank events ≡ Some (slice_index events place)
 
 -- Each event once.
 abbrev pub Distinct : List ℕ → Type 0

@@ -11,12 +11,12 @@ abbrev pub Notable : Type 0
 Notable = ℕ → Trace → Bool
 
 -- The failure changes the test result.
-abbrev pub is_entering : Life → Notable
-is_entering life event trace = enters (base_of life event) (marks_of event trace)
+abbrev pub is_entering_failure : Life → Notable
+is_entering_failure life event trace = enters (base_of life event) (marks_of event trace)
 
 -- The failure confirms its event.
-abbrev pub is_confirming : Life → Notable
-is_confirming life event trace = confirms (base_of life event) (event_of life event) (marks_of event trace)
+abbrev pub is_confirming_failure : Life → Notable
+is_confirming_failure life event trace = confirms (base_of life event) (event_of life event) (marks_of event trace)
 
 -- A clear takes the event's note away.
 abbrev pub without : ℕ → Option ℕ → Option ℕ

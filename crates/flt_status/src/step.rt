@@ -6,7 +6,7 @@ ghost use Rattle.flt_model.specs.Mark.Mark.{Failed, Passed, Cycle, Clear, Displa
 ghost use Rattle.flt_model.specs.Status.{enters, confirms, ages};
 ghost use Rattle.flt_config.specs.declared.config.EventCfg.{EventCfg};
 ghost use Rattle.flt_config.specs.declared.persist.EventState.{EventState};
-ghost use Rattle.flt_status.specs.Standing.{StandsFor, with_cycle};
+ghost use Rattle.flt_status.specs.Standing.{IsDecidedBy, with_cycle_end};
 
 use crate::byte::{pack, unpack};
 use flt_config::{EventCfg, EventState};
@@ -23,7 +23,7 @@ pub struct FailedMark {
 
 /// The test passed: bits 0, 4 and 6 become 0.
 pub fn passed(state: &mut EventState)
-    ensures { (rules : EventCfg) (base : EventState) (past : Past) → StandsFor rules base past state.old → StandsFor rules base (Passed ∷ past) state.new }
+    ensures { (rules : EventCfg) (base : EventState) (past : Past) → IsDecidedBy rules base past state.old → IsDecidedBy rules base (Passed ∷ past) state.new }
 {
     let status = unpack(state.status);
     state.status = pack(Status {
@@ -36,7 +36,7 @@ pub fn passed(state: &mut EventState)
 
 /// A tester cleared the event: it is as one that was never tested.
 pub fn clear(state: &mut EventState)
-    ensures { (rules : EventCfg) (base : EventState) (past : Past) → StandsFor rules base (Clear ∷ past) state.new }
+    ensures { (rules : EventCfg) (base : EventState) (past : Past) → IsDecidedBy rules base (Clear ∷ past) state.new }
 {
     *state = EventState {
         status: 0x50,
@@ -48,7 +48,7 @@ pub fn clear(state: &mut EventState)
 
 /// The event's entry gave way to another's: the event is no longer confirmed, and lights no indicator.
 pub fn displaced(state: &mut EventState)
-    ensures { (rules : EventCfg) (base : EventState) (past : Past) → StandsFor rules base past state.old → StandsFor rules base (Displaced ∷ past) state.new }
+    ensures { (rules : EventCfg) (base : EventState) (past : Past) → IsDecidedBy rules base past state.old → IsDecidedBy rules base (Displaced ∷ past) state.new }
 {
     let status = unpack(state.status);
     state.lit = false;
@@ -103,9 +103,9 @@ fn aging_threshold(rules: &EventCfg, lit: bool) -> u16
 /// `confirm` failed cycles the event is confirmed, and lights the indicator where it has one. The
 /// clean count begins anew.
 pub fn failed(rules: &EventCfg, state: &mut EventState) -> FailedMark
-    ensures marked { (base : EventState) (past : Past) → StandsFor rules.now base past state.old → StandsFor rules.now base (Failed ∷ past) state.new }
-    ensures entered { (base : EventState) (past : Past) → StandsFor rules.now base past state.old → result.entered ≡ enters base past }
-    ensures confirmed { (base : EventState) (past : Past) → StandsFor rules.now base past state.old → result.confirmed ≡ confirms base rules.now past }
+    ensures marked { (base : EventState) (past : Past) → IsDecidedBy rules.now base past state.old → IsDecidedBy rules.now base (Failed ∷ past) state.new }
+    ensures entered { (base : EventState) (past : Past) → IsDecidedBy rules.now base past state.old → result.entered ≡ enters base past }
+    ensures confirmed { (base : EventState) (past : Past) → IsDecidedBy rules.now base past state.old → result.confirmed ≡ confirms base rules.now past }
 {
     let before = unpack(state.status);
     let count = failed_cycles(state.failed, !before.failed_this_cycle);
@@ -138,8 +138,8 @@ pub fn failed(rules: &EventCfg, state: &mut EventState) -> FailedMark
 /// The answer tells whether the event aged: whether the clean count came to `age`, or to `heal + age`
 /// where the event was lit. Then it is no longer confirmed, and its entry is to be removed.
 pub fn cycle(rules: &EventCfg, state: &mut EventState) -> bool
-    ensures marked { (base : EventState) (past : Past) → StandsFor rules.now base past state.old → StandsFor rules.now base (with_cycle rules.now base past) state.new }
-    ensures aged { (base : EventState) (past : Past) → StandsFor rules.now base past state.old → result ≡ ages base rules.now past }
+    ensures marked { (base : EventState) (past : Past) → IsDecidedBy rules.now base past state.old → IsDecidedBy rules.now base (with_cycle_end rules.now base past) state.new }
+    ensures aged { (base : EventState) (past : Past) → IsDecidedBy rules.now base past state.old → result ≡ ages base rules.now past }
 {
     let before = unpack(state.status);
     let clean = !before.failed_this_cycle & !before.not_completed_this_cycle;

@@ -9,7 +9,7 @@ use Rattle.flt_config.specs.declared.config.Config.{Config}
 use Rattle.flt_generation.specs.declared.place.Place.TheVariants.{Page, Block}
 use Rattle.flt_generation.specs.Layout.{numbers}
 use Rattle.flt_generation.specs.Holding.{Generation, Fault, damaged, other, held, spare, held_by}
-use Rattle.flt_generation.specs.Faults.{HasFault, rank_of, HasFirstFault}
+use Rattle.flt_generation.specs.Faults.{HasFault, judging_order, HasFirstFault}
 use Rattle.flt_generation.specs.Laws.{IsGiven}
 use Rattle.flt_generation.proofs.ImageLaws as laws
 use Rattle.flt_whole.specs.Whole.{unless_damaged}
@@ -21,7 +21,7 @@ least_of : (c : Config) → IsGiven c → 2 ≤ c.pages
 least_of c given = omega (arith, given.valid.pages.0)
 
 -- each fault of the blocks comes behind those of the pages
-behind_pages : (c : Config) (value : ℕ → Content) (commit : Content) (fault : Fault) → HasFault c value commit fault → 0 < rank_of fault
+behind_pages : (c : Config) (value : ℕ → Content) (commit : Content) (fault : Fault) → HasFault c value commit fault → 0 < judging_order fault
 behind_pages c value commit (damaged (Page sector page)) is = absurd is
 behind_pages c value commit (damaged (Block zero)) is = omega arith
 behind_pages c value commit (damaged (Block (suc k))) is = omega arith

@@ -7,7 +7,7 @@ use Rattle.flt_config.specs.declared.config.Config.{Config}
 use Rattle.flt_generation.specs.declared.place.Place.TheVariants.{Page, Block}
 use Rattle.flt_generation.specs.Layout.{numbers, first_commit, second_commit}
 use Rattle.flt_generation.specs.Holding.{Generation, first_generation, Fault, damaged, other, either_copy, only_bytes, IsHeld, IsSpare}
-use Rattle.flt_generation.specs.Faults.{HasFault, rank_of}
+use Rattle.flt_generation.specs.Faults.{HasFault, judging_order}
 use Rattle.flt_generation.specs.Laws.{IsGiven}
 use Rattle.flt_whole.specs.Image.{image_damage, image_blocks, image_held, image_spare, IsSoundImage}
 
@@ -20,7 +20,7 @@ HasImageFault c image commit (other mark) = HasFault c (image_blocks c image) co
 -- an image has this fault, and none that is judged before it
 pub record HasFirstImageFault (c : Config) (image : List (List (List ℕ))) (commit : Content) (fault : Fault) : Type 0 where
   pub is : HasImageFault c image commit fault
-  pub first : (earlier : Fault) → rank_of earlier < rank_of fault → HasImageFault c image commit earlier → ⊥
+  pub first : (earlier : Fault) → judging_order earlier < judging_order fault → HasImageFault c image commit earlier → ⊥
 
 -- the fault that is told is the first: that of the pages, and then those of the blocks in the order of judging
 abbrev pub TellsFirstImageFault : (Config → List (List (List ℕ)) → Result Generation Fault) → ((ℕ → Content) → Content) → Type 0

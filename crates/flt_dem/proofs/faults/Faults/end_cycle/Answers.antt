@@ -4,7 +4,7 @@ use Rattle.std.specs.Prelude.{slice_get, slice_set}
 use Rattle.flt_model.specs.Life.{count, base_of}
 use Rattle.flt_model.specs.Mark.{marks_of}
 use Rattle.flt_model.specs.Status.{ages, durable}
-use Rattle.flt_status.specs.Standing.{with_cycle}
+use Rattle.flt_status.specs.Standing.{with_cycle_end}
 use Rattle.flt_dem.proofs.StateLemmas.{was_state, state_cycled}
 use Rattle.flt_dem.proofs.ReadLemmas.{refill-set, refill-other, rules_read}
 use Rattle.flt_dem.proofs.EndLemmas.{memory_cycled, memory_aged, notes_cycled}
@@ -34,7 +34,7 @@ returns-then-cycle-clause-stands c = λ signals life marks s.
     rw (refill-set items lent event c.cycle.new.state c.deref_mut.ensures.value) (record {
       config = inside.config;
       states_stand = state_cycled life event signals marks items c.cycle.new.state within
-          (c.cycle.ensures.marked (base_of life event) past was ∙ ap (λ k. durable (base_of life event) k (with_cycle k (base_of life event) past)) found) inside.states_stand;
+          (c.cycle.ensures.marked (base_of life event) past was ∙ ap (λ k. durable (base_of life event) k (with_cycle_end k (base_of life event) past)) found) inside.states_stand;
       memory_stands = memory_aged life event signals marks c.self.inside.memory c.remove.new.self
           (ap (λ k. ages (base_of life event) k past) (sym found) ∙ sym (c.cycle.ensures.aged (base_of life event) past was) ∙ c.if-cycle.true)
           c.remove.ensures.entries c.remove.ensures.overflow inside.memory_stands;
@@ -56,7 +56,7 @@ returns-else-cycle-clause-stands c = λ signals life marks s.
     rw (refill-set items lent event c.cycle.new.state c.deref_mut.ensures.value) (record {
       config = inside.config;
       states_stand = state_cycled life event signals marks items c.cycle.new.state within
-          (c.cycle.ensures.marked (base_of life event) past was ∙ ap (λ k. durable (base_of life event) k (with_cycle k (base_of life event) past)) found) inside.states_stand;
+          (c.cycle.ensures.marked (base_of life event) past was ∙ ap (λ k. durable (base_of life event) k (with_cycle_end k (base_of life event) past)) found) inside.states_stand;
       memory_stands = memory_cycled life event signals marks c.self.inside.memory
           (ap (λ k. ages (base_of life event) k past) (sym found) ∙ sym (c.cycle.ensures.aged (base_of life event) past was) ∙ c.if-cycle.false) inside.memory_stands;
       notes = inside.notes ∙ sym (notes_cycled life event signals marks);
