@@ -102,7 +102,7 @@ impl Dem {
         self.state.report(&self.dids, event, report, setting)
     }
 
-    /// Lets ticks of 10 ms go by, at least 1, in view of whether the setting is on: with the setting off
+    /// Lets ticks of 10 ms go by, in view of whether the setting is on: with the setting off
     /// nothing changes, and else each event ticks, in order of number.
     pub fn tick(&mut self, ticks: u16, setting: bool)
         ensures config { config_of self.new ≡ config_of self.old }

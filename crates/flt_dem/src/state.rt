@@ -125,7 +125,7 @@ impl DemState {
         None
     }
 
-    /// Lets ticks of 10 ms go by, at least 1, in view of whether the setting is on: with the setting off
+    /// Lets ticks of 10 ms go by, in view of whether the setting is on: with the setting off
     /// nothing changes, and else each event ticks, in order of number.
     pub fn tick(&mut self, dids: &DidTable<DID_ROWS>, ticks: u16, setting: bool)
         requires served { Serves (dids_of dids.now) self.old.faults.config.events.items }

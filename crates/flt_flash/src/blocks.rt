@@ -42,7 +42,7 @@ pub enum BlockFault {
 /// Blocks of 1 to 128 bytes under the numbers with which the driver was made, over a device that loses power and fails.
 ///
 /// A driver is stale when it was just made, after a write, invalidate or mount that answered `Flash` or `Damaged`, and
-/// after `power_up`. The next call of a stale driver mounts first, and may answer the fault of that mount.
+/// after `power_up`; a read that fails may leave a stale one stale. The next call of a stale driver mounts first, and may answer the fault of that mount.
 pub trait Blocks {
     /// The blocks, and what the device tells. Room, operations and erases are told or not, as the driver has them.
     ghost state: { Self → BlocksState };

@@ -58,7 +58,7 @@ impl FlashMem {
     }
 
     /// A flash with this image of 4 to 2,048 pages, an even number, sector 0's pages first, whose power may come back
-    /// `boots` times. The error is want of memory.
+    /// `boots` times. The error is want of memory; the image is let go then.
     pub fn of(alloc: Global, image: Vec<[u8; 32]>, boots: u16) -> Result<FlashMem, AllocError>
         requires even { length image.items % 2 ≡ 0 }
         requires least { 4 ≤ length image.items }
@@ -120,7 +120,7 @@ impl FlashMem {
         }
     }
 
-    /// A page as it was at a power-up, the first one being number 0.
+    /// A page as it was at a power-up, the first one being number 0. There is one for each `power_up`.
     pub fn boot_page(&self, boot: u16, sector: u8, page: u16) -> &[u8; 32]
         requires boot { boot < length (state_of self.now).bench.boots }
         requires sector { sector < 2 }

@@ -21,7 +21,7 @@ pub trait Source {
     ///
     /// # Errors
     ///
-    /// `Failed` only where the count of faults rose. Nothing was taken.
+    /// `Failed` only where the count of faults rose. Nothing was taken, and `out` holds anything.
     fn pull(&mut self, out: &mut [u8]) -> Result<usize, Failed>
         requires { 0 < length out.old }
         ensures bound { ReadsAtMost result out.new }

@@ -20,8 +20,10 @@ use std::thread::Threads;
 
 /// Is asked before each step of a lane and after it, and may hold the lane there. It changes nothing of what a lane does.
 pub trait Gate {
+    /// Is asked before the step of this number of a lane, counted from 0.
     fn before<R: Wait>(&self, rt: &R, lane: u32, step: u32);
 
+    /// Is asked after it.
     fn after<R: Wait>(&self, rt: &R, lane: u32, step: u32);
 }
 

@@ -1,5 +1,5 @@
 //! A whole life, from the state that a start-up restored to the unit for the next one.
-ghost use Rattle.std.specs.Prelude.{◌≡◌, ◌<◌, ◌≤◌, ◌+◌, ◌^◌, All, IfOk, length, sum_by};
+ghost use Rattle.std.specs.Prelude.{◌≡◌, ◌<◌, ◌≤◌, ◌+◌, ◌^◌, All, IfOk, OnErr, length, sum_by};
 ghost use Rattle.flt_config.specs.Durable.{Fits};
 ghost use Rattle.flt_dcm.specs.Whole.{config_of};
 ghost use Rattle.flt_flash.specs.State.{HasRisenBy};
@@ -52,7 +52,7 @@ fn copy_of(state: &Persist) -> Persist
 
 /// Lives on two locks, of the machine and of the queue, from the state that a start-up restored under this number, over the store that it left: lane 0 makes its steps, and
 /// the lanes of each block at once. The answers go to the room that was taken for them. All memory is taken before the first call;
-/// where it is wanting no step was made.
+/// where it is wanting no step was made, and the store and the flash are as they were.
 pub fn live_on_lock<R: Threads + Wait + Sync, G: SharedGate, B: Blocks + Drop>(
     rt: &R,
     gate: &G,
@@ -83,6 +83,7 @@ pub fn live_on_lock<R: Threads + Wait + Sync, G: SharedGate, B: Blocks + Drop>(
     ensures kept { IfOk result (λ lived. KeepsApplications (moment_of (driver_of store.old)) (moment_of (driver_of store.new)) (view_of (parts_of parts.now) lived.life)) }
     ensures given { IfOk result (λ lived.
         WereGiven (all_arms (own_actions (parts_of parts.now))) (driver_of store.old).device.bench.arms (driver_of store.new).device.bench.arms) }
+    ensures untouched { OnErr result (driver_of store.new ≡ driver_of store.old) }
     ensures armed { (driver_of store.new).device.bench.armed ≤ (driver_of store.old).device.bench.armed + sum_by arms_in (parts_of parts.now) }
     ensures alive { IsAlive config.now store.new }
     ensures goes_on { GoesOn (driver_of store.old) (driver_of store.new) }

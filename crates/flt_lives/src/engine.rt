@@ -1,5 +1,5 @@
 //! Who makes the steps of a life.
-ghost use Rattle.std.specs.Prelude.{◌≡◌, ◌+◌, ◌≤◌, ◌<◌, ◌^◌, All, IfOk, List, length, sum_by};
+ghost use Rattle.std.specs.Prelude.{◌≡◌, ◌+◌, ◌≤◌, ◌<◌, ◌^◌, All, IfOk, OnErr, List, length, sum_by};
 ghost use Rattle.flt_config.specs.Durable.{Fits};
 ghost use Rattle.flt_config.specs.declared.config.Config.{Config};
 ghost use Rattle.flt_flash.specs.State.{HasRisenBy};
@@ -35,12 +35,15 @@ pub struct Lived<E> {
 
 /// Makes the steps of a life that was started, on a machine of its own.
 pub trait Engine<D: Blocks + Drop>: Sized {
+    /// The configuration of its machine.
     ghost machine_config: { Self → Config };
 
+    /// Which parts it can make.
     ghost can_make: { List (PartOf Step) → Type 0 };
 
     /// Makes the steps of these parts, from the state that a start-up restored under this number, over the store that it left. The
-    /// answers go to the room that was taken for them.
+    /// answers go to the room that was taken for them. The error, for want of memory, comes before the first step: the store and the flash
+    /// are as they were. Afterwards the buffers hold anything.
     fn live(
         self,
         alloc: Global,
@@ -69,6 +72,7 @@ pub trait Engine<D: Blocks + Drop>: Sized {
         ensures played { IfOk result (λ lived. IsPlayed config.now (view_of (parts_of parts.now) lived.life)) }
         ensures kept { IfOk result (λ lived. KeepsApplications (moment_of (driver_of store.old)) (moment_of (driver_of store.new)) (view_of (parts_of parts.now) lived.life)) }
         ensures given { IfOk result (λ lived. WereGiven (all_arms (own_actions (parts_of parts.now))) (driver_of store.old).device.bench.arms (driver_of store.new).device.bench.arms) }
+        ensures untouched { OnErr result (driver_of store.new ≡ driver_of store.old) }
         ensures armed { (driver_of store.new).device.bench.armed ≤ (driver_of store.old).device.bench.armed + sum_by arms_in (parts_of parts.now) }
         ensures alive { IsAlive config.now store.new }
         ensures goes_on { GoesOn (driver_of store.old) (driver_of store.new) };

@@ -63,7 +63,7 @@ pub enum Op {
         event: u16,
         report: Report,
     },
-    /// Time goes on by this many ticks of 10 ms, at least 1.
+    /// Time goes on by this many ticks of 10 ms.
     Tick {
         ticks: u16,
     },

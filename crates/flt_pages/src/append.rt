@@ -62,7 +62,7 @@ fn fill_up(bytes: &[u8]) -> [u8; 32]
     page
 }
 
-/// Programs 1 to 32 plain bytes, filled up with ones, on a blank page. After a failure each bit is 1 or as asked.
+/// Programs at most 32 plain bytes, filled up with ones, on a blank page. After a failure each bit is 1 or as asked.
 pub fn append_piece<F: Flash>(
     flash: &mut F,
     sector: u8,

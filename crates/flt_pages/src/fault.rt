@@ -4,7 +4,7 @@ ghost use Rattle.flt_pages.specs.declared.fault.PageFault.TheVariants.{Flash};
 
 use flt_flash::FlashFailed;
 
-/// Why pages can't be told. The flash stays as it was.
+/// Why pages can't be told. The image of the flash stays.
 #[derive(Clone, Copy, Debug, PartialEq, Eq)]
 pub enum PageFault {
     /// A read failed: the flash's count of faults rose.

@@ -16,7 +16,8 @@ use flt_pages::{Item, Numbers, PageFault, blank_from, item};
 /// The page at which the log of a sector with `used` pages ends, for these block numbers; `Damaged` is its first fault, of an
 /// item or of the pages behind the end. It fills the table with the place of each block's current record.
 ///
-/// It goes over the log once: it reads heads, gates and the pages behind the end, and changes nothing of the flash.
+/// It goes over the log once: it reads heads, gates and the pages behind the end, and changes nothing of the flash. After an error the
+/// table tells nothing.
 pub fn find_places<F: Flash>(
     flash: &mut F,
     sector: u8,

@@ -1,5 +1,5 @@
 //! The bytes of the blocks that a commit names.
-ghost use Rattle.std.specs.Prelude.{◌≡◌, ◌≢◌, ◌<◌, ◌≤◌, ℕ, length, IfSome, IsTrue};
+ghost use Rattle.std.specs.Prelude.{◌≡◌, ◌≢◌, ◌<◌, ◌≤◌, ℕ, [], length, IfNone, IfSome, IsTrue};
 ghost use Rattle.flt_nvm.specs.Driver.{driver_of, table_of};
 ghost use Rattle.flt_image.specs.Table.{block_table};
 ghost use Rattle.flt_image.specs.Blocks.{bytes_at};
@@ -84,6 +84,7 @@ pub fn read_blocks<B: Blocks + Drop>(
     requires table { table_of nvm.old ≡ block_table }
     requires mounted { IsTrue (driver_of nvm.old).has_mounted }
     requires form { IfSome commit.now (IsCommit config.now) }
+    ensures none { IfNone commit.now ((id : ℕ) → bytes_at result id ≡ []) }
     ensures learned { IfSome commit.now (λ commit. AreLearned config.now (driver_of nvm.old) (driver_of nvm.new) commit (bytes_at result)) }
     ensures reads { Reads (driver_of nvm.old) (driver_of nvm.new) }
     ensures table { table_of nvm.new ≡ table_of nvm.old }

@@ -45,6 +45,7 @@ pub fn restore<B: Blocks + Drop>(
     ensures restored { IfOk result (λ commit. Restores config.now (driver_of nvm.old) (driver_of nvm.new) commit out.new) }
     ensures refused { (fault : StartFault) → result ≡ Err fault → Refuses config.now (driver_of nvm.old) (driver_of nvm.new) fault }
     ensures unread { IsErrOf result Flash → IsImageUnread config.now (driver_of nvm.old) (driver_of nvm.new) }
+    ensures stays { IsFalse (driver_of nvm.new).is_stale }
     ensures values { SameValues (driver_of nvm.old) (driver_of nvm.new) }
     ensures image { SameImage (driver_of nvm.old) (driver_of nvm.new) }
     ensures spent { SameSpent (driver_of nvm.old) (driver_of nvm.new) }

@@ -6,7 +6,7 @@ ghost use Rattle.flt_script.specs.Step.{are_parts_in, steps_of, lanes_of, arms_o
 use crate::step::Part;
 use flt_config::ValidConfig;
 
-/// What is configured, and what is done: a script that `parse` accepted.
+/// What is configured, and what is done: a script that `parse` accepted, or that `load` made.
 #[derive(Drop)]
 pub struct Script {
     /// The configuration that the lines write, with the defaults for what they leave out.

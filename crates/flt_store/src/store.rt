@@ -31,6 +31,9 @@ use flt_nvm::Nvm;
 use flt_restore::read_blocks;
 
 /// The saved generations of a durable state, and the application blocks, in the blocks of a driver.
+///
+/// A store is made, and then started up. What its other calls promise is said of a store whose last start-up answered `Ok`; of another
+/// nothing is said, not even that a foreign image stays.
 #[derive(Drop)]
 pub struct Store<B: Blocks + Drop> {
     nvm: Nvm<B>,

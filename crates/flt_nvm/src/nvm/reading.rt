@@ -114,7 +114,7 @@ impl<B: Blocks + Drop> Nvm<B> {
 
     /// Makes both copies of a redundant block hold `bytes`, which copy `copy`, 1 or 2, holds. That copy is never written: the other
     /// is read, and written where it does not hold them or can't be read in three tries. After an error the other copy holds what it
-    /// held or `bytes`.
+    /// held or `bytes`, and the driver may be stale: `start` comes before `look_up` and `spent` then.
     pub fn repair(&mut self, id: u16, copy: u8, bytes: &[u8]) -> Result<(), BlockFault>
         requires redundant { IsRedundant (table_of self.old) id }
         requires least_copy { 1 ≤ copy }

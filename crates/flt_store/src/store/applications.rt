@@ -60,14 +60,15 @@ fn read_application<B: Blocks + Drop>(
 }
 
 impl<B: Blocks + Drop> Store<B> {
-    ghost use Rattle.std.specs.Prelude.{ℕ, IsErrOf, IsOk, OnErr, IsTrue};
+    ghost use Rattle.std.specs.Prelude.{ℕ, [], IsErrOf, IsOk, OnErr, IsTrue};
     ghost use Rattle.flt_flash.specs.Calls.{Follows, OthersKept};
     ghost use Rattle.flt_nvm.specs.Leaves.{IsEither};
     ghost use Rattle.flt_config.specs.declared.config.Config.{Config};
     ghost use Rattle.flt_store.specs.Cause.{FailsThrice};
     ghost use Rattle.flt_store.specs.Store.{driver_of, is_settled, Gets, IsRunning, IsUnhindered, WhileRunning};
 
-    /// Puts 1 to 32 bytes into application block `block`, which is below the configuration's number of blocks.
+    /// Puts 1 to 32 bytes into application block `block`. What follows is said of a store whose last start-up answered `Ok`, and of a
+    /// block below the configuration's number of blocks.
     ///
     /// After `Ok` the block holds them; after an error it holds what it held or them. No other block and no generation changes.
     /// `Flash` comes only where three tries failed, `SequenceSpent` only where the record can't be written any more; where neither
@@ -94,7 +95,7 @@ impl<B: Blocks + Drop> Store<B> {
     }
 
     /// Gives the bytes of application block `block` in place of what `out` held, and true; false and no byte, where it was never
-    /// written. The error comes only where three tries failed; after it `out` is empty.
+    /// written. Of a store whose last start-up answered `Ok`, the error comes only where three tries failed; after it `out` is empty.
     pub fn get_block(
         &mut self,
         block: u8,
@@ -102,6 +103,7 @@ impl<B: Blocks + Drop> Store<B> {
     ) -> Result<bool, FlashFailed>
         requires { block < applications }
         ensures got { (c : Config) → WhileRunning c self.old (λ held spare. IfOk result (λ found. Gets ((driver_of self.old).value (application_number block)) found out.new.items)) }
+        ensures empty { OnErr result (out.new.items ≡ []) }
         ensures flash { (c : Config) → WhileRunning c self.old (λ held spare. OnErr result (FailsThrice (driver_of self.old) (driver_of self.new))) }
         ensures completed { (c : Config) → WhileRunning c self.old (λ held spare. (FailsThrice (driver_of self.old) (driver_of self.new) → ⊥) → IsOk result) }
         ensures values { SameValues (driver_of self.old) (driver_of self.new) }

@@ -79,7 +79,7 @@ fn begin_by<B: Blocks + Drop>(
 }
 
 impl<B: Blocks + Drop> Store<B> {
-    ghost use Rattle.flt_store.specs.Store.{driver_of};
+    ghost use Rattle.flt_store.specs.Store.{driver_of, is_settled};
     ghost use Rattle.flt_store.specs.Start.{RefusedFor, Starts};
 
     // Starts up on a driver that was mounted.
@@ -94,6 +94,7 @@ impl<B: Blocks + Drop> Store<B> {
         ensures spent { IsErrOf result StartFault.SequenceSpent → IsOutOfNumbers config.now (driver_of self.old) (driver_of self.new) }
         ensures left { (held spare : Generation) → IsSound config.now (driver_of self.old).value held spare → OnErr result (OldOrNew config.now (driver_of self.new).value held spare held) }
         ensures fits { OnOk result (Fits config.now out.new) }
+        ensures unsettled { IsFalse (is_settled self.old) → OnErr result (IsFalse (is_settled self.new)) }
         ensures fresh { OnOk result (IsFalse (driver_of self.new).is_stale) }
         ensures applications { SameApplications (driver_of self.old).value (driver_of self.new).value }
         ensures follows { Follows (driver_of self.old) (driver_of self.new) }
@@ -134,6 +135,7 @@ impl<B: Blocks + Drop> Store<B> {
         ensures spent { IsErrOf result StartFault.SequenceSpent → IsOutOfNumbers config.now (driver_of self.old) (driver_of self.new) }
         ensures left { (held spare : Generation) → IsSound config.now (driver_of self.old).value held spare → OnErr result (OldOrNew config.now (driver_of self.new).value held spare held) }
         ensures fits { OnOk result (Fits config.now out.new) }
+        ensures unsettled { OnErr result (IsFalse (is_settled self.new)) }
         ensures fresh { OnOk result (IsFalse (driver_of self.new).is_stale) }
         ensures applications { SameApplications (driver_of self.old).value (driver_of self.new).value }
         ensures follows { Follows (driver_of self.old) (driver_of self.new) }
