@@ -1,6 +1,6 @@
 -- What steps carry on of the store and of the application blocks.
-use Rattle.std.proofs.Common.{◌≡◌, ◌⊎◌, inl, inr, ⊎_elim, ℕ, ◌≤◌, ◌<◌, ◌+◌, ◌*◌, Bool, true, false, List, [], ◌∷◌, ◌++◌, map, length, reverse, refl, ap, subst, sym, arith, ◌∙◌}
-use Rattle.std.specs.Prelude.{Contains, IsTrue, IsFalse}
+use Rattle.std.proofs.Common.{◌≡◌, inl, inr, ⊎_elim, ℕ, ◌+◌, Bool, true, false, List, ◌∷◌, map, reverse, refl, ap, subst, sym, arith, ◌∙◌}
+use Rattle.std.specs.Prelude.{Contains}
 use Rattle.std.proofs.lemmas.Bool.{true≢false, false≢true}
 use Rattle.std.proofs.lemmas.List.Elements.{Contains-append_left, Contains-append_right}
 use mathlib.Core.List.{IsPrefix}
@@ -11,7 +11,7 @@ use Rattle.flt_flash.specs.declared.arm.Arm.{Arm}
 use Rattle.flt_flash.specs.declared.blocks.Blocks.{Ghosts}
 use Rattle.flt_config.specs.declared.config.Config.{Config}
 use Rattle.flt_generation.specs.Holding.{Generation, SameApplications}
-use Rattle.flt_generation.specs.Layout.{applications, application_number}
+use Rattle.flt_generation.specs.Layout.{application_number}
 use Rattle.flt_queue.specs.Queue.{History}
 use Rattle.flt_store.specs.declared.store.Store.{Store}
 use Rattle.flt_store.specs.Store.{Gets, IsRunning, driver_of}
@@ -19,7 +19,6 @@ use Rattle.flt_turn.specs.declared.vault.Entry.{Entry}
 use Rattle.flt_turn.specs.Journal.{ops_of}
 use Rattle.flt_turn.specs.Seats.{Seated}
 use Rattle.flt_script.specs.declared.step.Step.TheVariants as steps
-use Rattle.flt_life.specs.Answers.{Told}
 use Rattle.flt_life.specs.Applications.{GetsBy, HoldApplications, MayHold, jobs_told, up_to_done}
 use Rattle.flt_life.specs.Ordered.{Deed}
 use Rattle.flt_life.specs.declared.answer.StepAnswer.TheVariants as answers

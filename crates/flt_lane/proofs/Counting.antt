@@ -1,5 +1,5 @@
 -- The journals of a life have no more calls of saves and of drains than its deeds make.
-use Rattle.std.proofs.Common.{◌≡◌, ℕ, ◌<◌, ◌≤◌, ◌+◌, ◌*◌, Bool, true, false, not, cond, List, [], ◌∷◌, ◌++◌, length, reverse, refl, ap, subst, sym, arith, ◌∙◌}
+use Rattle.std.proofs.Common.{◌≡◌, ℕ, ◌≤◌, ◌+◌, ◌*◌, Bool, true, false, not, cond, List, [], ◌∷◌, ◌++◌, length, reverse, refl, ap, sym, arith, ◌∙◌}
 use Rattle.std.specs.Prelude.{nat_lt, sum_by}
 use Rattle.std.proofs.lemmas.Bool.{lt-ltb}
 use Rattle.std.proofs.lemmas.List.Sums.{sum_by-cons}
@@ -21,7 +21,7 @@ use Rattle.flt_life.specs.Ordered.{Deed, deeds_in}
 use Rattle.flt_life.specs.Played.{IsMade, StepMakes, StepQueues}
 use Rattle.flt_life.specs.declared.answer.StepAnswer.TheVariants as answers
 use Rattle.flt_lane.specs.Living.{drain_call, drains_by, drains_in, drains_of, last_take, save_call, saves_by, saves_in, saves_of}
-use Rattle.flt_lane.proofs.Weights.{amount_newest, amount_of, follows_most, ops-append, parts_most, weigh, weigh_ops}
+use Rattle.flt_lane.proofs.Weights.{amount_newest, amount_of, follows_most, parts_most, weigh, weigh_ops}
 
 -- ---- saves
 

@@ -1,11 +1,10 @@
 -- What the calls of a drain leave of the application blocks, by what the seat of the queue knows of the journal.
-use Rattle.std.proofs.Common.{◌≡◌, ℕ, ◌≤◌, ◌+◌, ◌*◌, Bool, true, false, not, List, [], ◌∷◌, ◌++◌, Option, Some, None, length, reverse, refl, ap, subst, sym, arith, ◌∙◌}
-use Rattle.std.specs.Prelude.{IsTrue, IsFalse, sum_by}
+use Rattle.std.proofs.Common.{◌≡◌, ℕ, ◌≤◌, ◌+◌, ◌*◌, Bool, true, false, not, List, [], ◌∷◌, ◌++◌, Option, Some, None, reverse, refl, ap, subst, sym, arith, ◌∙◌}
+use Rattle.std.specs.Prelude.{IsTrue, IsFalse}
 use Rattle.std.proofs.lemmas.List.{append-nil, append_assoc, length-append}
 use Rattle.std.proofs.lemmas.List.Sums.{sum_by_push}
 use Rattle.flt_flash.specs.Content.{Content}
 use Rattle.flt_flash.specs.State.{HasRisenBy}
-use Rattle.flt_flash.specs.Blocks.{BlocksState}
 use Rattle.flt_flash.specs.Calls.{Follows}
 use Rattle.flt_flash.specs.declared.blocks.Blocks.{Ghosts}
 use Rattle.flt_config.specs.declared.config.Config.{Config}
@@ -25,19 +24,17 @@ use Rattle.flt_turn.specs.declared.vault.Entry.{Entry}
 use Rattle.flt_turn.specs.Journal.{entry}
 use Rattle.flt_turn.specs.Sums.{one_if}
 use Rattle.flt_life.specs.Answers.{Told}
-use Rattle.flt_life.specs.Applications.{job_behind, jobs_told}
-use Rattle.flt_life.specs.Draining.{Drained, QueueCall, calls_for, calls_for_all, take_at}
-use Rattle.flt_life.specs.Mixing.{Call}
+use Rattle.flt_life.specs.Applications.{job_behind}
+use Rattle.flt_life.specs.Draining.{Drained, calls_for, calls_for_all}
 use Rattle.flt_life.specs.Ordered.{Deed}
 use Rattle.flt_life.specs.declared.answer.StepAnswer.TheVariants as answers
 use Rattle.flt_lives.specs.Living.{IsCaused}
 use Rattle.flt_lane.specs.Chain.{Chain}
-use Rattle.flt_lane.specs.Draining.{DrainsOn, FindsNone, HasDrained, MakesJobs, TakesJob}
+use Rattle.flt_lane.specs.Draining.{DrainsOn, HasDrained, MakesJobs, TakesJob}
 use Rattle.flt_lane.specs.Living.{AreHeld, HoldsBy, drain_call, drains_in}
 use Rattle.flt_lane.specs.Runs.{QueueSeat}
-use Rattle.flt_lane.specs.Stored.{Leaves}
 use Rattle.flt_lane.proofs.Applying.{IsInHand, IsWritten, drains-append, hand_further, hand_taken, held_beside, held_done, held_further, newest_more, newest_of, queue_calls}
-use Rattle.flt_lane.proofs.Chains.{chain_fact, chain_more, chain_of_one}
+use Rattle.flt_lane.proofs.Chains.{chain_fact, chain_more}
 use Rattle.flt_lane.proofs.Knowing.{Since, since, knows_all}
 use Rattle.flt_lane.proofs.Leaving.{leaves_nothing, leaves_further}
 

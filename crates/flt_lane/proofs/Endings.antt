@@ -1,6 +1,5 @@
 -- The end of a life: what its store holds by the journals that the closed locks left.
-use Rattle.std.proofs.Common.{◌≡◌, ◌⊎◌, inl, inr, ⊎_elim, ℕ, ◌≤◌, ◌+◌, List, [], ◌∷◌, ◌++◌, All, map, reverse, refl, sym, ap, subst, arith, ◌∙◌}
-use Rattle.std.specs.Prelude.{IsTrue}
+use Rattle.std.proofs.Common.{◌≡◌, inl, ⊎_elim, ℕ, ◌≤◌, List, [], map, reverse, refl, sym, ap, subst, arith, ◌∙◌}
 use Rattle.std.proofs.lemmas.List.Elements.{All-contains}
 use mathlib.Core.List.{IsPrefix}
 use Rattle.flt_config.specs.declared.config.Config.{Config}
@@ -8,24 +7,19 @@ use Rattle.flt_flash.specs.Content.{Content}
 use Rattle.flt_flash.specs.declared.blocks.Blocks.{Ghosts}
 use Rattle.flt_generation.specs.Holding.{Generation}
 use Rattle.flt_generation.specs.Layout.{application_number}
-use Rattle.flt_model.specs.declared.call.Op.{Op}
 use Rattle.flt_queue.specs.declared.job.QueueOp.{QueueOp}
 use Rattle.flt_queue.specs.Queue.{History}
-use Rattle.flt_script.specs.declared.step.Step.{Step}
-use Rattle.flt_script.specs.Part.{PartOf}
 use Rattle.flt_store.specs.declared.store.Store.{Store}
-use Rattle.flt_store.specs.Store.{IsRunning, driver_of}
+use Rattle.flt_store.specs.Store.{IsRunning}
 use Rattle.flt_turn.specs.declared.vault.Entry.{Entry}
-use Rattle.flt_turn.specs.Journal.{ops_of}
 use Rattle.flt_turn.specs.Seats.{Seated, main_seat}
-use Rattle.flt_life.specs.Answers.{Told}
 use Rattle.flt_life.specs.Applications.{AreGot, HoldApplications, jobs_told}
 use Rattle.flt_life.specs.Journal.{Journal}
 use Rattle.flt_life.specs.Ordered.{Deed}
 use Rattle.flt_shared.specs.Call.{Seat}
 use Rattle.flt_lives.specs.Living.{IsKept}
 use Rattle.flt_lane.specs.Lived.{IsWhole}
-use Rattle.flt_lane.specs.Living.{AreHeld, HoldsBy, HoldsOn, IsKnownTo, IsLivingOn, answers_of, drains_in, drains_of, saves_in, saves_of}
+use Rattle.flt_lane.specs.Living.{AreHeld, HoldsOn, IsKnownTo, IsLivingOn, answers_of, drains_in, drains_of, saves_in, saves_of}
 use Rattle.flt_lane.specs.Runs.{QueueSeat}
 use Rattle.flt_lane.proofs.Applying.{drains-append, held_further, may_whole, newest_of, queue_calls}
 use Rattle.flt_lane.proofs.Journals.{prefix_trans}

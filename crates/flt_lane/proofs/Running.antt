@@ -1,5 +1,5 @@
 -- A lane after some of its steps.
-use Rattle.std.proofs.Common.{◌≡◌, ℕ, zero, suc, ◌<◌, ◌≤◌, ◌+◌, List, [], ◌∷◌, ◌++◌, All, length, take, drop, get_or, drop-cons, add-one, arith, refl, sym, ap, subst, ◌∙◌}
+use Rattle.std.proofs.Common.{◌≡◌, ℕ, zero, suc, ◌<◌, ◌≤◌, ◌+◌, List, [], ◌∷◌, ◌++◌, length, take, drop, get_or, drop-cons, add-one, arith, refl, sym, ap, subst, ◌∙◌}
 use Rattle.std.specs.Prelude.{sum_by, vec_len}
 use Rattle.std.specs.Vec.{vec_capacity}
 use Rattle.std.proofs.lemmas.List.{take_more, take-append-drop, append-nil, append_assoc}
@@ -17,7 +17,7 @@ use Rattle.flt_dcm.specs.declared.reply_kind.ReplyKind.TheVariants as kinds
 use Rattle.flt_life.specs.Answers.{Told, reply_size, response_length, size_of, told_size, told_with}
 use Rattle.flt_life.specs.declared.answer.StepAnswer.{StepAnswer}
 use Rattle.flt_life.specs.declared.answer.StepAnswer.TheVariants as answers
-use Rattle.flt_life.specs.Parts.{IsPossibleInLane, calls_of, queued_of}
+use Rattle.flt_life.specs.Parts.{IsPossibleInLane}
 use Rattle.flt_life.specs.Played.{StepMakes, StepQueues}
 use Rattle.flt_life.specs.declared.replies.LaneReplies.{LaneReplies}
 use Rattle.flt_life.specs.Room.{HasRoomForSteps, told_in}

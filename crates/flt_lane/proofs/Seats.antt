@@ -19,7 +19,7 @@ use Rattle.flt_lane.specs.declared.lane.LaneWork.{LaneWork}
 use Rattle.flt_lane.specs.declared.locks.Locks.{Locks}
 use Rattle.flt_lane.specs.Room.{IsLaneFor, all_calls, all_queued}
 use Rattle.flt_lane.specs.Runs.{QueueSeat}
-use Rattle.flt_lane.specs.Work.{AreSeatsOf, IsReady}
+use Rattle.flt_lane.specs.Work.{IsReady}
 use Rattle.flt_lane.specs.Block.{IsSplitSeat, IsSplit, AreSplit, IsSplitOff, AreJoined}
 use Rattle.flt_lane.proofs.Blocks.{all_right}
 

@@ -7,7 +7,6 @@ use Rattle.flt_did.specs.contracts.table.DidTable as did
 use denote.Struct.Struct.{Struct}
 use Rattle.std.specs.contracts.snapshot.Snapshot as snapshot
 use denote.Builtin.{unit}
-use Rattle.arrayvec.specs.contracts.array_vec.ArrayVec as array
 use Rattle.std.specs.contracts.option.Option as option
 use denote.Struct.Declared.{shape}
 use Rattle.flt_did.specs.contracts.row.Row as row

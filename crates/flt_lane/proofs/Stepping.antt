@@ -1,6 +1,5 @@
 -- What one step makes of its seats.
-use Rattle.std.proofs.Common.{◌≡◌, ℕ, ◌≤◌, ◌<◌, ◌+◌, ◌*◌, Bool, true, false, not, List, [], ◌∷◌, ◌++◌, length, arith, refl, sym, ap, subst, ◌∙◌}
-use Rattle.std.specs.Prelude.{sum_by, IsTrue}
+use Rattle.std.proofs.Common.{◌≡◌, ℕ, ◌≤◌, ◌<◌, Bool, true, false, List, [], ◌∷◌, ◌++◌, length, arith, refl, sym, ap, subst, ◌∙◌}
 use Rattle.std.proofs.lemmas.Bool.{true≢false, false≢true}
 use Rattle.std.proofs.lemmas.List.{append-nil}
 use Rattle.flt_flash.specs.declared.arm.Arm.{Arm}
@@ -33,14 +32,13 @@ use Rattle.flt_turn.specs.declared.answer.Answer.{Answer}
 use Rattle.flt_shared.specs.Call.{Seat, IsCall, MayBeAsked, reply_after}
 use Rattle.flt_life.specs.Actions.{action_of, arms_of, call_count, queue_count, response_size}
 use Rattle.flt_life.specs.Answers.{Told, reply_size}
-use Rattle.flt_life.specs.Draining.{DrainMakes, QueueCall, calls_for_all, take_at}
-use Rattle.flt_life.specs.Mixing.{Call}
+use Rattle.flt_life.specs.Draining.{calls_for_all, take_at}
 use Rattle.flt_life.specs.Parts.{IsPossibleInLane}
-use Rattle.flt_life.specs.Played.{ActionMakes, ActionQueues, IsGot, StepMakes, StepQueues}
+use Rattle.flt_life.specs.Played.{ActionMakes, ActionQueues, StepMakes, StepQueues}
 use Rattle.flt_life.specs.declared.action.Action.TheVariants as action
 use Rattle.flt_life.specs.declared.answer.StepAnswer.TheVariants as answers
 use Rattle.flt_lane.specs.Chain.{Chain}
-use Rattle.flt_lane.specs.Draining.{FindsNone, HasDrained, MakesJobs}
+use Rattle.flt_lane.specs.Draining.{FindsNone, HasDrained}
 use Rattle.flt_lane.specs.Runs.{Makes, Queues, QueueSeat}
 use Rattle.flt_lane.proofs.Chains.{chain_fact, chain_more, chain_of_one}
 

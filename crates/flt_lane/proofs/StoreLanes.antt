@@ -1,5 +1,5 @@
 -- The lanes of a block, of which one at most touches the store: what the block carries on.
-use Rattle.std.proofs.Common.{◌≡◌, ◌≢◌, ◌⊎◌, inl, inr, ⊎_elim, ℕ, ◌<◌, ◌≤◌, ◌+◌, true, false, List, [], ◌∷◌, ◌++◌, All, length, map, get_or, reverse, refl, ap, subst, sym, arith, ◌∙◌}
+use Rattle.std.proofs.Common.{◌≡◌, inl, inr, ⊎_elim, ℕ, ◌<◌, ◌+◌, false, List, [], ◌∷◌, ◌++◌, All, length, map, get_or, reverse, ap, subst, sym, arith, ◌∙◌}
 use Rattle.std.specs.Prelude.{Contains}
 use Rattle.std.proofs.lemmas.Bool.{cases_eq}
 use Rattle.std.proofs.lemmas.List.{append_cancel_left, get_or-map, length-map}
@@ -14,14 +14,12 @@ use Rattle.flt_shared.specs.Call.{Seat, MayBeAsked, reply_after}
 use Rattle.flt_store.specs.declared.store.Store.{Store}
 use Rattle.flt_turn.specs.Seats.{Seated}
 use Rattle.flt_life.specs.Answers.{Told}
-use Rattle.flt_life.specs.Mixing.{Call}
 use Rattle.flt_life.specs.Ordered.{Deed, block_deeds, lane_deeds}
 use Rattle.flt_life.specs.Room.{told_in}
 use Rattle.flt_lane.specs.declared.lane.LaneWork.{LaneWork}
 use Rattle.flt_lane.specs.declared.locks.Locks.{Locks}
 use Rattle.flt_lane.specs.Block.{IsSplitSeat, AreSplit, IsSplitOff, AreJoined, RunsLanes}
 use Rattle.flt_lane.specs.BlockRun.{HasRunLanes}
-use Rattle.flt_lane.specs.Chain.{Chain}
 use Rattle.flt_lane.specs.Lived.{IsMain}
 use Rattle.flt_lane.specs.Living.{Carries}
 use Rattle.flt_lane.specs.Room.{all_calls, all_queued}

@@ -1,5 +1,5 @@
 -- One job of a drain: it is taken, written, and noted; or none waits.
-use Rattle.std.proofs.Common.{◌≡◌, ◌⊎◌, ℕ, ◌<◌, ◌≤◌, ◌+◌, ◌*◌, Bool, true, false, not, List, [], ◌∷◌, Option, Some, None, Ok, Err, refl, ap, subst, sym, arith, ◌∙◌}
+use Rattle.std.proofs.Common.{◌≡◌, ◌+◌, Bool, not, [], ◌∷◌, Option, Some, None, refl, subst, arith}
 use Rattle.flt_flash.specs.declared.blocks.Blocks.{Ghosts}
 use Rattle.flt_config.specs.declared.config.Config.{Config}
 use Rattle.flt_queue.specs.Call as queued
@@ -13,8 +13,7 @@ use Rattle.flt_store.specs.declared.store.Store.{Store}
 use Rattle.flt_store.specs.Store.{driver_of}
 use Rattle.flt_turn.specs.declared.answer.Answer.{Answer}
 use Rattle.flt_turn.specs.Sums.{one_if}
-use Rattle.flt_life.specs.Draining.{Drained, QueueCall, take_at}
-use Rattle.flt_life.specs.Mixing.{Call}
+use Rattle.flt_life.specs.Draining.{take_at}
 use Rattle.flt_lane.specs.Draining.{FindsNone, MakesJobs, TakesJob, WritesJob}
 use Rattle.flt_lane.specs.Living.{HoldsBy}
 use Rattle.flt_lane.specs.Runs.{QueueSeat}

@@ -1,6 +1,5 @@
 -- The lanes of a block on both locks, out of what each lane did.
-use Rattle.std.proofs.Common.{◌≡◌, ℕ, suc, ◌<◌, ◌≤◌, ◌+◌, List, [], ◌∷◌, ◌++◌, All, length, map, get_or, arith, refl, sym, ap, subst, ◌∙◌}
-use Rattle.std.proofs.lemmas.List.{append-nil}
+use Rattle.std.proofs.Common.{◌≡◌, ℕ, suc, ◌<◌, ◌+◌, List, [], ◌∷◌, ◌++◌, length, map, get_or, arith, refl, sym, ap, subst, ◌∙◌}
 use Rattle.flt_model.specs.declared.call.Op.{Op}
 use Rattle.flt_model.specs.declared.life.DemStart.{DemStart}
 use Rattle.flt_queue.specs.declared.job.QueueOp.{QueueOp}
@@ -18,9 +17,8 @@ use Rattle.flt_lane.specs.Block.{IsSplitSeat, AreSplit, IsSplitOff, AreJoined, H
 use Rattle.flt_lane.specs.Lived.{IsMain}
 use Rattle.flt_lane.specs.Room.{all_calls, all_queued}
 use Rattle.flt_lane.specs.Runs.{QueueSeat, Runs, RunsQueue, calls_by, queued_by}
-use Rattle.flt_lane.specs.Stored.{HaveRun}
 use Rattle.flt_lane.specs.Work.{HasRun}
-use Rattle.flt_lane.proofs.BlockRuns.{Lane, IsRun, AreRunLanes, afters, ran_block, steps_all, tolds}
+use Rattle.flt_lane.proofs.BlockRuns.{Lane, AreRunLanes, afters, ran_block, steps_all, tolds}
 
 -- the lanes on each lock
 abbrev pub dem_lanes : List LaneWork → List LaneWork → List (Lane DemStart Op)

@@ -1,5 +1,5 @@
 -- A drain on its way.
-use Rattle.std.specs.Prelude.{◌≡◌, ℕ, ◌+◌, ◌*◌, ◌≤◌, Bool, true, false, not, List, [], ◌∷◌, length, sum_by, Option, Some, None, IsFalse}
+use Rattle.std.specs.Prelude.{◌≡◌, ℕ, ◌+◌, ◌*◌, ◌≤◌, Bool, true, not, List, [], ◌∷◌, length, sum_by, Option, Some, None, IsFalse}
 use Rattle.flt_flash.specs.Calls.{Follows, OthersKept}
 use Rattle.flt_flash.specs.Content.{Content, bytes as holding}
 use Rattle.flt_flash.specs.State.{HasRisenBy}

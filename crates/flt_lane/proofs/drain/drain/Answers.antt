@@ -1,4 +1,4 @@
-use Rattle.std.proofs.Common.{◌≡◌, ◌∙◌, ◌+◌, ℕ, Bool, true, false, not, refl, subst, sym, arith}
+use Rattle.std.proofs.Common.{◌≡◌, ◌∙◌, ◌+◌, ℕ, Bool, true, false, not, refl, subst, arith}
 use Rattle.std.specs.Int.{from_bool}
 use Rattle.flt_turn.specs.Sums.{one_if}
 use Rattle.flt_lane.specs.Draining.{HasDrained}

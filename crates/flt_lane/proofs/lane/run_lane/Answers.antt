@@ -1,7 +1,7 @@
 use Rattle.std.proofs.Common.{refl, rules}
 use Rattle.flt_life.specs.Answers.{told_with}
 use Rattle.flt_lane.specs.Work.{both}
-use Rattle.flt_lane.proofs.Running.{begins, calls_left, goes_on, has_run, possible_next, queued_left, seats_stay, whole_size, whole_told}
+use Rattle.flt_lane.proofs.Running.{begins, goes_on, has_run, seats_stay, whole_size, whole_told}
 use Rattle.flt_lane.proofs.lane.run_lane.Goals as goal
 
 pub loop-index-init : goal.loop-index-init

@@ -1,8 +1,7 @@
-use Rattle.std.proofs.Common.{arith, refl, rules, sym, subst, ap, ◌∙◌}
+use Rattle.std.proofs.Common.{refl, rules, sym, subst}
 use Rattle.flt_config.specs.Durable.{Fits}
-use Rattle.flt_life.specs.Actions.{IsPossible, action_of}
 use Rattle.flt_lane.proofs.Running.{begins, calls_left, goes_on, has_run, possible_next, queued_left, seats_stay, start_now, take_past, whole_size, whole_told}
-use Rattle.flt_lane.proofs.Storing.{has_stored, leaves_step, no_arm, storing_begins, storing_more}
+use Rattle.flt_lane.proofs.Storing.{has_stored, leaves_step, storing_begins, storing_more}
 use Rattle.flt_life.specs.Answers.{told_with}
 use Rattle.flt_lane.specs.Work.{both}
 use Rattle.flt_lane.proofs.lane.run_store_lane.Goals as goal

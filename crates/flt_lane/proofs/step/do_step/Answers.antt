@@ -1,8 +1,7 @@
-use Rattle.std.proofs.Common.{◌∷◌, List, arith, refl, subst, sym}
+use Rattle.std.proofs.Common.{List, arith, refl, subst, sym}
 use Rattle.flt_flash.specs.declared.arm.Arm.{Arm}
-use Rattle.flt_life.specs.Actions.{arms_of}
 use Rattle.flt_life.specs.Answers.{told_with}
-use Rattle.flt_life.specs.Ordered.{Deed, deed_if, with_deed}
+use Rattle.flt_life.specs.Ordered.{deed_if, with_deed}
 use Rattle.flt_life.specs.declared.answer.StepAnswer.TheVariants.{Armed}
 use Rattle.flt_queue.specs.Call as queued
 use Rattle.flt_queue.specs.Queue as queue
