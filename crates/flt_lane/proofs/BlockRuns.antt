@@ -1,12 +1,12 @@
 -- A block whose lanes were split off, ran and were joined: on each lock.
-use Rattle.std.proofs.Common.{◌≡◌, ℕ, suc, ◌<◌, ◌≤◌, ◌+◌, List, [], ◌∷◌, ◌++◌, All, length, map, get_or, arith, refl, sym, ap, subst, ◌∙◌}
+use Rattle.std.proofs.Common.{◌≡◌, ℕ, ◌<◌, ◌≤◌, ◌+◌, List, [], ◌∷◌, ◌++◌, All, length, map, arith, refl, sym, ap, subst, ◌∙◌}
 use Rattle.std.proofs.lemmas.List.{length-map}
 use Rattle.std.proofs.lemmas.List.Elements.{All-nil, All-cons}
 use Rattle.flt_script.specs.declared.step.Step.{Step}
 use Rattle.flt_turn.specs.Seats.{Seated}
 use Rattle.flt_life.specs.Answers.{Told}
 use Rattle.flt_life.specs.Mixing.{Call, Block, Rise, calls_in_block}
-use Rattle.flt_life.specs.Making.{AreMadeBy, LanesMake}
+use Rattle.flt_life.specs.Making.{LanesMake}
 use Rattle.flt_life.proofs.Rising.{rise_block, rise_none}
 use Rattle.flt_lane.specs.Lived.{IsMain}
 use Rattle.flt_lane.specs.Runs.{RunsBy}
