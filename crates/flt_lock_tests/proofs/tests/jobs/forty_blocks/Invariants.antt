@@ -1,5 +1,5 @@
 use Rattle.std.proofs.Common.{◌≡◌}
-use Rattle.flt_queue.proofs.tests.forty_blocks.Given as goal
+use Rattle.flt_lock_tests.proofs.tests.jobs.forty_blocks.Given as goal
 
 abbrev pub invariant-loop-block : goal.invariant-loop-block
 invariant-loop-block g l = l.queue.blocks ≡ 40

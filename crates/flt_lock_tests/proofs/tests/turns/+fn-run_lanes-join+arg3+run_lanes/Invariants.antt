@@ -1,4 +1,4 @@
-use Rattle.flt_turn.proofs.tests.+fn-run_lanes-join+arg3+run_lanes.Given as goal
+use Rattle.flt_lock_tests.proofs.tests.turns.+fn-run_lanes-join+arg3+run_lanes.Given as goal
 
 abbrev pub decreases-join+arg3 : goal.decreases-join+arg3
 decreases-join+arg3 g l = l.others

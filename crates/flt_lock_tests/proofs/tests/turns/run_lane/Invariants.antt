@@ -1,5 +1,5 @@
 use Rattle.std.proofs.Common.{◌≡◌, ◌≤◌}
-use Rattle.flt_turn.proofs.tests.run_lane.Given as goal
+use Rattle.flt_lock_tests.proofs.tests.turns.run_lane.Given as goal
 
 abbrev pub invariant-loop-seat : goal.invariant-loop-seat
 invariant-loop-seat g l = (l.seat.lock ≡ l.initial.seat.lock) × (l.seat.left ≤ 10000)
