@@ -1,12 +1,14 @@
 -- The lives of a script, as they were made; no life is refused for the flash: it is dark instead.
-use Rattle.std.proofs.Common.{◌≡◌, ◌≢◌, ◌∙◌, ℕ, List, [], ◌∷◌, ◌++◌, length, reverse, Option, None, Some, ap, refl, sym, subst, Global}
+use Rattle.std.proofs.Common.{◌≡◌, ◌≢◌, ◌∙◌, ℕ, ◌<◌, arith, List, [], ◌∷◌, ◌++◌, length, reverse, Option, None, Some, ap, refl, sym, subst, Global}
 use Rattle.std.specs.Prelude.{All, IfSome, Vec}
 use Rattle.std.proofs.lemmas.List.{length-map, reverse-append, reverse-reverse}
 use Rattle.std.proofs.lemmas.List.Elements.{All-nil, All-cons, All-head, All-tail, All-append}
 use Rattle.flt_flash.specs.declared.arm.ArmMade.{ArmMade}
 use Rattle.flt_flash.specs.State.{FlashState, Boot as PowerUp}
 use Rattle.flt_config.specs.declared.config.Config.{Config}
+use Rattle.flt_generation.specs.Laws.{IsGiven}
 use Rattle.flt_restore.specs.declared.fault.StartFault.TheVariants.{Flash}
+use Rattle.flt_life.specs.declared.life.Boot.{Boot}
 use Rattle.flt_life.specs.declared.life.Boot.TheVariants.{Refused}
 use Rattle.flt_life.specs.declared.life.Life.{Life}
 use Rattle.flt_life.specs.Chain.{LifeView, IsLifeBegunBy, AreLinked}
@@ -33,44 +35,58 @@ views_not_flash c medium arms earlier next (boot ∷ boots) (life ∷ lives) lin
     All-cons (λ (l : LifeView). l.boot ≢ Refused Flash) life lives (not_flash c (moment_at medium boot) (moment_at medium next) _ life linked.0) (views_not_flash c medium arms earlier boot boots lives linked.1)
 
 -- the same of the lives in their order
-all_of_views : (script : List (List (PartOf Step))) (lives : List Life) → All (λ (life : LifeView). life.boot ≢ Refused Flash) (views_of script lives) → All (λ (life : Life). life.boot ≢ Refused Flash) lives
-all_of_views script [] all = All-nil _
-all_of_views [] (life ∷ rest) all =
-    All-cons (λ (l : Life). l.boot ≢ Refused Flash) life rest (All-head (λ (l : LifeView). l.boot ≢ Refused Flash) (view_of [] life) (views_of [] rest) all)
-    (all_of_views [] rest (All-tail (λ (l : LifeView). l.boot ≢ Refused Flash) (view_of [] life) (views_of [] rest) all))
-all_of_views (parts ∷ script) (life ∷ rest) all =
-    All-cons (λ (l : Life). l.boot ≢ Refused Flash) life rest (All-head (λ (l : LifeView). l.boot ≢ Refused Flash) (view_of parts life) (views_of script rest) all)
-    (all_of_views script rest (All-tail (λ (l : LifeView). l.boot ≢ Refused Flash) (view_of parts life) (views_of script rest) all))
+pub all_of_views : (P : Boot → Type 0) (script : List (List (PartOf Step))) (lives : List Life) → All (λ (life : LifeView). P life.boot) (views_of script lives) → All (λ (life : Life). P life.boot) lives
+all_of_views P script [] all = All-nil _
+all_of_views P [] (life ∷ rest) all =
+    All-cons (λ (l : Life). P l.boot) life rest (All-head (λ (l : LifeView). P l.boot) (view_of [] life) (views_of [] rest) all)
+    (all_of_views P [] rest (All-tail (λ (l : LifeView). P l.boot) (view_of [] life) (views_of [] rest) all))
+all_of_views P (parts ∷ script) (life ∷ rest) all =
+    All-cons (λ (l : Life). P l.boot) life rest (All-head (λ (l : LifeView). P l.boot) (view_of parts life) (views_of script rest) all)
+    (all_of_views P script rest (All-tail (λ (l : LifeView). P l.boot) (view_of parts life) (views_of script rest) all))
 
-turned : (P : LifeView → Type 0) (lives : List LifeView) → All P lives → All P (reverse lives)
+pub turned : {A : Type 0} (P : A → Type 0) (all : List A) → All P all → All P (reverse all)
 turned P [] all = all
-turned P (life ∷ rest) all =
-    subst (All P) (sym (reverse-append (life ∷ []) rest)) (All-append P (reverse rest) (life ∷ []) (turned P rest (All-tail P life rest all)) (All-cons P life [] (All-head P life rest all) (All-nil P)))
+turned P (one ∷ rest) all =
+    subst (All P) (sym (reverse-append (one ∷ []) rest)) (All-append P (reverse rest) (one ∷ []) (turned P rest (All-tail P one rest all)) (All-cons P one [] (All-head P one rest all) (All-nil P)))
+
+-- what holds of how each life began, as the lives are seen, holds so of the lives
+pub all_of_seen : (P : Boot → Type 0) (script : List (List (PartOf Step))) (lives : List Life) → All (λ (life : LifeView). P life.boot) (lives_seen script lives) → All (λ (life : Life). P life.boot) lives
+all_of_seen P script lives all =
+    all_of_views P script lives (subst (All (λ (life : LifeView). P life.boot)) (reverse-reverse (views_of script lives)) (turned (λ (life : LifeView). P life.boot) (lives_seen script lives) all))
 
 pub none_by_flash : (c : Config) (medium : Medium) (arms : Option (List ArmMade)) (earlier : ℕ) (next : PowerUp) (boots : List PowerUp) (script : List (List (PartOf Step))) (lives : List Life)
     → AreLinked c medium arms earlier next boots (lives_seen script lives) → All (λ (life : Life). life.boot ≢ Refused Flash) lives
-none_by_flash c medium arms earlier next boots script lives linked =
-    let back = turned (λ (life : LifeView). life.boot ≢ Refused Flash) (lives_seen script lives) (views_not_flash c medium arms earlier next boots (lives_seen script lives) linked) in
-    all_of_views script lives (subst (All (λ (life : LifeView). life.boot ≢ Refused Flash)) (reverse-reverse (views_of script lives)) back)
+none_by_flash c medium arms earlier next boots script lives linked = all_of_seen (λ b. b ≢ Refused Flash) script lives (views_not_flash c medium arms earlier next boots (lives_seen script lives) linked)
 
 -- ---- the lives of a script
+
+-- a script that was lived has a life
+pub some_lives : (script : List (List (PartOf Step))) (made : Made) → lists made.script.items ≡ script → 0 < length script
+some_lives script made is =
+    let size = made.script.ok.0 in
+    let some = made.some in
+    let many = length-map made.script.items (λ life. parts_of life.items) in
+    let same : length (lists made.script.items) ≡ length script = λ i. length (is i) in
+    omega (arith, size, some, many, same)
 
 pub if_some : {A : Type 0} {P Q : A → Type 0} (o : Option A) → ((x : A) → P x → Q x) → IfSome o P → IfSome o Q
 if_some None weaker holds = tt
 if_some (Some x) weaker holds = weaker x holds
 
 pub lived_by : (script : Script) (lives : List (Vec Part Global)) (is : lives ≡ script.lives.items) (before after : FlashState) (run : Option (Vec Life Global)) (made : Made)
+    → IsGiven script.config
     → lists made.script.items ≡ lists script.lives.items → run ≡ Some made.lives
     → IfSome run (λ lived. IsRunOf script.config before after (lives_seen (lists lives) lived.items))
     → IfSome run (λ lived. ArePlayed script.config (lives_seen (lists lives) lived.items))
     → IfSome run (λ lived. AreEnded (length lives) (lives_seen (lists lives) lived.items))
     → IfSome run (λ lived. AreGiven (arms_given (lives_seen (lists lives) lived.items)) before.bench.arms after.bench.arms)
     → IsLivedBy (content script) before after made
-lived_by script lives is before after run made script_is ran linked played ended given =
+lived_by script lives is before after run made valid script_is ran linked played ended given =
     let seen : lives_seen (lists lives) made.lives.items ≡ lives_seen (lists script.lives.items) made.lives.items = λ i. lives_seen (lists (is i)) made.lives.items in
     record {
       script_is = script_is;
       lived = record {
+        valid = valid;
         played = subst (ArePlayed script.config) seen (subst (λ run. IfSome run (λ lived. ArePlayed script.config (lives_seen (lists lives) lived.items))) ran played);
         ended = subst (λ many. AreEnded many (lives_seen (lists script.lives.items) made.lives.items)) (ap length is ∙ sym (length-map script.lives.items (λ (life : Vec Part Global). parts_of life.items)))
             (subst (AreEnded (length lives)) seen (subst (λ run. IfSome run (λ lived. AreEnded (length lives) (lives_seen (lists lives) lived.items))) ran ended));

@@ -5,6 +5,7 @@ ghost use Rattle.flt_did.specs.Table.{dids_of};
 ghost use Rattle.flt_dcm.specs.Whole.{config_of};
 ghost use Rattle.flt_script.specs.Part.{parts_of};
 ghost use Rattle.flt_script.specs.Script.{content};
+ghost use Rattle.flt_generation.specs.Laws.{IsGiven};
 ghost use Rattle.flt_restore.specs.declared.fault.StartFault.TheVariants.{Flash};
 ghost use Rattle.flt_life.specs.declared.life.Boot.TheVariants.{Refused};
 ghost use Rattle.flt_life.specs.Lives.{lists};
@@ -42,6 +43,15 @@ pub(crate) fn unit_of(config: &ValidConfig, dids: DidTable<DID_ROWS>) -> Unit
     Unit::make(Dem::make(config.twin(), dids))
 }
 
+/// Looks at a configuration, which is valid, and whose numbers are those of their types.
+fn look_at_config(config: &ValidConfig)
+    ensures { IsGiven config.now }
+{
+    let config = config.config();
+    let _id = config.id;
+    let _events = config.events.len();
+}
+
 /// The lives of a script, as they were made.
 fn made_of<B: Drop>(script: Script, run: Run<B>) -> Lived<B>
     requires { IfSome run.lives (λ lives. All (λ life. life.boot ≢ Refused Flash) lives.items) }
@@ -75,6 +85,7 @@ pub(crate) fn live_alone<B: Bench + Drop>(
     ensures lived { IfSome result.made (IsLivedBy (content script) (B.state bench) (B.state result.bench)) }
     ensures sound { FlashStaysSound script.config (B.state bench) (B.state result.bench) }
 {
+    look_at_config(&script.config);
     look_at_lives(&script.lives);
     let run = run_alone(alloc, unit, bench, &script.config, &script.lives);
     made_of(script, run)
@@ -97,6 +108,7 @@ pub(crate) fn live_in_lanes<R: Threads + Wait + Sync, G: SharedGate, B: Bench + 
     ensures lived { IfSome result.made (IsLivedBy (content script) (B.state bench) (B.state result.bench)) }
     ensures sound { FlashStaysSound script.config (B.state bench) (B.state result.bench) }
 {
+    look_at_config(&script.config);
     look_at_lives(&script.lives);
     let run = run_in_lanes(rt, gate, alloc, unit, bench, &script.config, &script.lives);
     made_of(script, run)

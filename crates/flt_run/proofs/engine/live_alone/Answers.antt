@@ -32,7 +32,7 @@ pub returns-clause-lived : goal.returns-clause-lived
 returns-clause-lived g c =
     let before = g.B.Flash.state c.args.bench in
     let ran = if_some c.made_of.result.made
-    (λ made is. lived_by c.args.script c.deref-2.result.now c.deref-2.ensures.value before (g.B.Flash.state c.run_alone-run.result.bench) c.run_alone-run.result.lives made is.0 is.1
+    (λ made is. lived_by c.args.script c.deref-2.result.now c.deref-2.ensures.value before (g.B.Flash.state c.run_alone-run.result.bench) c.run_alone-run.result.lives made c.look_at_config.ensures is.0 is.1
     c.run_alone-run.ensures.linked c.run_alone-run.ensures.played c.run_alone-run.ensures.ended c.run_alone-run.ensures.given)
     c.made_of.ensures.made in
     rw c.made_of.ensures.bench ran
