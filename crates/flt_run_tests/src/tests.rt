@@ -1,0 +1,3 @@
+// Whole runs.
+mod hostile;
+mod reports;
