@@ -128,7 +128,7 @@ fn agrees(dem: &mut Dem, step: Step) -> bool {
         }
         Step::Report(event, report) => reports(dem, event, report),
         Step::Tick(ticks) => {
-            dem.tick(ticks, true);
+            dem.state.tick(&dem.dids, ticks, true);
             true
         }
         Step::Cycle(cycle) => {

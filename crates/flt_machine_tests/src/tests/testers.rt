@@ -6,7 +6,7 @@ ghost use Rattle.flt_dcm.specs.Whole.{config_of};
 use arrayvec::ArrayVec;
 use flt_config::{Config, DIDS, Debounce, DidUse, EVENTS, EventCfg, Persist, check, initial};
 use flt_dcm::*;
-use flt_dem::Dem;
+use flt_dem::DemState;
 use flt_did::{DID_ROWS, DidTable, did_0101, did_0103};
 use flt_model::{REQUEST, Report};
 
@@ -69,7 +69,8 @@ fn served(config: Config, dids: DidTable<DID_ROWS>) -> Option<Server> {
         Ok(config) => {
             let saved = initial(&config);
             if dids.serves(&config.config().events) {
-                let unit = Unit::make(Dem::make(config, dids));
+                let state = UnitState::make(DemState::make(config));
+                let unit = Unit { state, dids };
                 Some(Server { unit, saved })
             } else {
                 None

@@ -177,7 +177,7 @@ fn run_case(
 #[test]
 fn each_operation_is_cut_and_fails(rt: HostRuntime) -> Result<(), Fail> {
     let config = configured(1, 1, 1)?;
-    let mut stops = 0;
+    let mut stops: u32 = 0;
     for pattern in &[Pattern::Nothing, Pattern::All, Pattern::Tail, Pattern::Odd] {
         let pattern = *pattern;
         for after in 1..OPERATIONS + 2 {
@@ -187,7 +187,7 @@ fn each_operation_is_cut_and_fails(rt: HostRuntime) -> Result<(), Fail> {
             let fault = run_case(&rt, rt.alloc(), &config, Arm::Fault { after, pattern })?;
             assert!(&rt; fault == (true, last), "{after} {pattern:?}");
             if !last {
-                stops += 1;
+                stops = stops.saturating_add(1);
             }
         }
     }
