@@ -1,0 +1,58 @@
+-- Why a run that met no fault answers 0, or 7.
+use Rattle.std.proofs.Common.{◌≡◌, ◌⊎◌, ⊎_elim, ℕ, ◌==◌, List, [], ◌∷◌, Option, None, Some, inl, inr, refl, sym, subst, eqb-true}
+use Rattle.std.specs.Prelude.{IfSome, IsSomeAnd, IsOk, IsTrue}
+use Rattle.std.proofs.lemmas.Bool.{cases_Bool, false≢true}
+use Rattle.flt_config.specs.declared.config.DidUse.{DidUse}
+use Rattle.flt_script.specs.Script.{script_of}
+use Rattle.flt_run.specs.declared.command.Command.{Command}
+use Rattle.flt_run.specs.declared.command.Command.TheVariants.{Run, Check, Load}
+use Rattle.flt_run.specs.Ending.{Inside, Outside, IsFaultless, StatusesHaveCauses, is_among, read_of}
+
+-- a number that is among some is the first of them, or among the others
+first_or_later : (status one : ℕ) (rest : List ℕ) → IsTrue (is_among status (one ∷ rest)) → (one ≡ status) ⊎ IsTrue (is_among status rest)
+first_or_later status one rest among = ⊎_elim (λ yes. inl (eqb-true one status yes)) (λ no. inr (rw no at among)) (cases_Bool (one == status))
+
+-- the bytes are told, and are a script
+told_script : {P : Type 0} (dids : List DidUse) (left : Option (List ℕ)) → IsSomeAnd left (λ bytes. IsOk (script_of dids (read_of bytes)))
+    → IfSome left (λ bytes. IsOk (script_of dids (read_of bytes)) → P) → P
+told_script dids None good then_ = absurd good
+told_script dids (Some bytes) good then_ = then_ good
+
+module _ (dids : List DidUse) (inside : Inside) (outside : Outside) (status : ℕ) where
+  module _ (command : Option Command) (causes : StatusesHaveCauses dids inside outside command status) (fine : IsFaultless dids inside outside command) where
+    abbrev Good : Type 0
+    Good = IsTrue (is_among status (0 ∷ 7 ∷ []))
+
+    good_zero : status ≡ 0 → Good
+    good_zero e = subst (λ s. IsTrue (is_among s (0 ∷ 7 ∷ []))) (sym e) refl
+
+    good_seven : status ≡ 7 → Good
+    good_seven e = subst (λ s. IsTrue (is_among s (0 ∷ 7 ∷ []))) (sym e) refl
+
+    by_lives : IsTrue (is_among status (0 ∷ 5 ∷ 6 ∷ 8 ∷ [])) → Good
+    by_lives among =
+        let ends = causes.lives fine.makes among in
+        let last = fine.last ends.0 ends.1 ends.2.boot ends.2.earlier ends.2.is in
+        good_zero (ends.2.cause.completed last.whole last.holds.0 last.holds.1 last.left last.few)
+
+    among_lives : (one : ℕ) → IsTrue (is_among one (0 ∷ 5 ∷ 6 ∷ 8 ∷ [])) → one ≡ status → Good
+    among_lives one is e = by_lives (subst (λ s. IsTrue (is_among s (0 ∷ 5 ∷ 6 ∷ 8 ∷ []))) e is)
+
+    from_four : IsTrue (is_among status (4 ∷ 5 ∷ 6 ∷ 7 ∷ 8 ∷ [])) → Good
+    from_four among = ⊎_elim (λ e. absurd (fine.sink (causes.unwritable (sym e)))) (λ more. ⊎_elim (among_lives 5 refl) (λ more. ⊎_elim (among_lives 6 refl)
+        (λ more. ⊎_elim (λ e. good_seven (sym e)) (λ more. ⊎_elim (among_lives 8 refl) (λ none. absurd (false≢true none)) (first_or_later status 8 [] more))
+        (first_or_later status 7 (8 ∷ []) more)) (first_or_later status 6 (7 ∷ 8 ∷ []) more)) (first_or_later status 5 (6 ∷ 7 ∷ 8 ∷ []) more))
+        (first_or_later status 4 (5 ∷ 6 ∷ 7 ∷ 8 ∷ []) among)
+
+    from_read : IsTrue (is_among status (0 ∷ 3 ∷ 4 ∷ 5 ∷ 6 ∷ 7 ∷ 8 ∷ [])) → Good
+    from_read among = ⊎_elim (λ e. good_zero (sym e)) (λ more. ⊎_elim (λ e. absurd (fine.source (causes.unreadable (sym e)))) from_four
+        (first_or_later status 3 (4 ∷ 5 ∷ 6 ∷ 7 ∷ 8 ∷ []) more)) (first_or_later status 0 (3 ∷ 4 ∷ 5 ∷ 6 ∷ 7 ∷ 8 ∷ []) among)
+
+    from_load : IsTrue (is_among status (0 ∷ 4 ∷ 5 ∷ 6 ∷ 7 ∷ 8 ∷ [])) → Good
+    from_load among = ⊎_elim (λ e. good_zero (sym e)) from_four (first_or_later status 0 (4 ∷ 5 ∷ 6 ∷ 7 ∷ 8 ∷ []) among)
+
+  pub faultless_ends : (command : Option Command) → StatusesHaveCauses dids inside outside command status → IsFaultless dids inside outside command → IsTrue (is_among status (0 ∷ 7 ∷ []))
+  faultless_ends None causes fine = absurd (false≢true fine.makes)
+  faultless_ends (Some Run) causes fine = from_read (Some Run) causes fine (told_script dids inside.left (fine.script refl) (causes.completed refl))
+  faultless_ends (Some Check) causes fine = absurd (false≢true fine.makes)
+  faultless_ends (Some (Load count lanes)) causes fine = from_load (Some (Load count lanes)) causes fine (causes.loaded count lanes refl)
