@@ -4,20 +4,9 @@ ghost use Rattle.std.specs.Prelude.{◌≡◌, ℤ, pos, ◌+ℤ◌, ◌-ℤ◌,
 ghost use Rattle.std.specs.Int.{int_min, int_max};
 ghost use Rattle.flt_config.specs.Validity.{IsDebounceInRange};
 ghost use Rattle.flt_model.specs.Debounce.{counted, qualified_at, IsOfKind, lifted, lowered};
-ghost use Rattle.flt_debounce.specs.Step.{count_of};
 
 use flt_config::Debounce;
 use flt_model::{DebState, Qualified, Report};
-
-/// The value of a counter's state, and 0 of a timer's.
-pub fn value(state: DebState) -> i16
-    ensures { result ≡ count_of state }
-{
-    match state {
-        DebState::Count(value) => value,
-        _ => 0,
-    }
-}
 
 /// The value where a jump lifts it.
 fn lift(jump: Option<i16>, value: i16) -> i16

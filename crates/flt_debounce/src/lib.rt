@@ -47,7 +47,11 @@ pub fn report(rules: &Debounce, state: &mut DebState, report: Report) -> Option<
             pass_at,
             ..
         } => {
-            let value = counter::after(rules, counter::value(*state), report);
+            let before = match *state {
+                DebState::Count(value) => value,
+                _ => 0,
+            };
+            let value = counter::after(rules, before, report);
             *state = DebState::Count(value);
             counter::qualified(fail_at, pass_at, value)
         }

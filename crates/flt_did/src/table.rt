@@ -117,33 +117,25 @@ impl<const ROWS: usize> DidTable<ROWS> {
     {
         let mut frame = ArrayVec::new();
         for did in dids.as_slice() {
-            put_did(&mut frame, &self.rows, *did, signals);
+            put_value(&mut frame, &self.rows, *did, signals);
         }
         frame
     }
 }
 
-fn put_did(frame: &mut Frame, rows: &[Option<Row>], did: DidUse, signals: &Signals)
+/// Appends the value of a data identifier of the table at these signals, big-endian in its width.
+fn put_value(frame: &mut Frame, rows: &[Option<Row>], did: DidUse, signals: &Signals)
     requires present { find (is_did did.id) (rows_dids rows.now) ≡ Some did }
     requires room { length frame.old.items + did.width ≤ FRAME }
     ensures bytes { frame.new.items ≡ frame.old.items ++ did_bytes signals.now.values did }
     ensures length { length frame.new.items ≡ length frame.old.items + did.width }
 {
     match find_row(rows, did.id) {
-        Some(row) => put_value(frame, row.width, (row.read)(signals)),
+        Some(row) => {
+            let bytes = (row.read)(signals).to_be_bytes();
+            frame.try_extend_from_slice(&bytes[8 - row.width as usize..]).unwrap();
+        }
         None => unreachable!(),
-    }
-}
-
-fn put_value(frame: &mut Frame, width: u8, value: u64)
-    requires width { width ≤ 8 }
-    requires room { length frame.old.items + width ≤ FRAME }
-    ensures bytes { frame.new.items ≡ frame.old.items ++ big_endian width value }
-    ensures length { length frame.new.items ≡ length frame.old.items + width }
-{
-    let bytes = value.to_be_bytes();
-    for byte in &bytes[8 - width as usize..] {
-        frame.push(*byte);
     }
 }
 

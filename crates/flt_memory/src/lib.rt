@@ -4,7 +4,6 @@
 //! says: read that first, then `specs/Displacement`.
 #![tactic(auto)]
 
-mod entry;
 mod memory;
 mod rank;
 

@@ -1,8 +1,9 @@
 //! The fault memory.
 ghost use Rattle.std.specs.Prelude.{◌≡◌, ◌+◌, ◌<◌, ◌≤◌, ◌↔◌, [], false, not, length, IsTrue, IsSome, All, AllPairs, position, find, filter, option_copied, slice_set, slice_index_or};
 ghost use Rattle.flt_config.specs.Durable.{is_of_event as is_event};
+ghost use Rattle.flt_config.specs.declared.persist.EntryState.{EntryState as Entry};
+ghost use Rattle.flt_model.specs.Entry.{updated, new_entry};
 
-use crate::entry::{entry_of, update_at};
 use crate::rank::displaced_place;
 use arrayvec::ArrayVec;
 use flt_config::{Config, ENTRIES, EVENTS, EntryState, EventState, Frame, ValidConfig, place_of};
@@ -116,6 +117,35 @@ fn find_entry(entries: &[EntryState], event: u16) -> Option<&EntryState>
         }
     }
     None
+}
+
+/// A first entry of an event, with the frame of its first occurrence.
+fn entry_of(event: u16, frame: &Frame) -> EntryState
+    ensures { result ≡ new_entry event frame.now.items }
+{
+    EntryState {
+        event,
+        occurrence: 1,
+        first: frame.clone().unwrap(),
+        recent: frame.clone().unwrap(),
+    }
+}
+
+/// The entry's event occurred once more: the occurrence rises, and stops at 255, and the recent frame is
+/// replaced.
+fn update(entry: &mut EntryState, frame: &Frame)
+    ensures { entry.new ≡ updated entry.old frame.now.items }
+{
+    entry.occurrence = entry.occurrence.saturating_add(1);
+    entry.recent = frame.clone().unwrap();
+}
+
+/// The same of the entry at a place, which stays there.
+fn update_at(entries: &mut ArrayVec<EntryState, ENTRIES>, place: usize, frame: &Frame)
+    requires { place < length entries.old.items }
+    ensures { (d : Entry) → entries.new.items ≡ slice_set entries.old.items place (updated (slice_index_or entries.old.items place d) frame.now.items) }
+{
+    update(&mut entries[place], frame);
 }
 
 impl EventMemory {

@@ -1,5 +1,6 @@
 -- What one more mark does to a flag and to a count.
 use Rattle.std.proofs.Common.{◌≡◌, ℕ, ◌+◌, Bool, true, false, not, ◌&&◌, ◌||◌, cond, min, Some, None, refl, arith}
+use mir.Val.{bool_byte}
 use Rattle.std.specs.Prelude.{unwrap_or, ◌∷◌, nat_lt}
 use Rattle.std.proofs.lemmas.Bool.{and_right}
 use Rattle.std.proofs.Math.Bool.{and-true}
@@ -26,6 +27,11 @@ cleared_where false false = refl
 pub stopped_count : (limit n : ℕ) (counted : Bool) → min limit (cond counted (n + 1) n) ≡ min limit (cond counted (min limit n + 1) (min limit n))
 stopped_count limit n true = omega arith
 stopped_count limit n false = omega arith
+
+-- a stopped count to which one is added where that is counted
+pub added_count : (limit n : ℕ) (counted : Bool) → min (min limit n + bool_byte counted) limit ≡ min limit (cond counted (n + 1) n)
+added_count limit n true = omega arith
+added_count limit n false = omega arith
 
 -- a stopped count that starts again
 pub restarted_count : (limit n : ℕ) (restarts : Bool) → min limit (unwrap_or (cond restarts (Some 0) None) n) ≡ cond restarts 0 (min limit n)

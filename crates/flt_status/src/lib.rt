@@ -4,7 +4,6 @@
 //! stands for one mark more. Read `specs/Status` of `flt_model` first, then `specs/Standing`.
 #![tactic(auto)]
 
-mod byte;
 pub mod laws;
 mod step;
 

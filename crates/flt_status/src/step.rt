@@ -1,14 +1,15 @@
-//! What each mark changes.
+//! What each mark changes, over the status byte as its bits.
 
 ghost use Rattle.std.specs.Prelude.{◌≡◌, ◌+◌, ◌∷◌, min, if◌then◌else◌};
 ghost use Rattle.flt_model.specs.Mark.{Past};
 ghost use Rattle.flt_model.specs.Mark.Mark.{Failed, Passed, Cycle, Clear, Displaced};
+ghost use Rattle.flt_model.specs.Byte.{byte_of};
 ghost use Rattle.flt_model.specs.Status.{enters, confirms, ages};
+ghost use Rattle.flt_model.specs.declared.status.Status.{Status};
 ghost use Rattle.flt_config.specs.declared.config.EventCfg.{EventCfg};
 ghost use Rattle.flt_config.specs.declared.persist.EventState.{EventState};
 ghost use Rattle.flt_status.specs.Standing.{IsDecidedBy, with_cycle_end};
 
-use crate::byte::{pack, unpack};
 use flt_config::{EventCfg, EventState};
 use flt_model::Status;
 
@@ -19,6 +20,36 @@ pub struct FailedMark {
     pub entered: bool,
     /// Whether bit 3, confirmedDTC, went from 0 to 1.
     pub confirmed: bool,
+}
+
+/// The bits of the byte.
+fn unpack(byte: u8) -> Status
+    ensures { (status : Status) → byte ≡ byte_of status → result ≡ status }
+{
+    Status {
+        test_failed: byte & 0x01 != 0,
+        failed_this_cycle: byte & 0x02 != 0,
+        pending: byte & 0x04 != 0,
+        confirmed: byte & 0x08 != 0,
+        not_completed_since_clear: byte & 0x10 != 0,
+        failed_since_clear: byte & 0x20 != 0,
+        not_completed_this_cycle: byte & 0x40 != 0,
+        indicator_requested: byte & 0x80 != 0,
+    }
+}
+
+/// The byte of these bits.
+fn pack(status: Status) -> u8
+    ensures { result ≡ byte_of status }
+{
+    (status.test_failed as u8)
+        + 2 * (status.failed_this_cycle as u8)
+        + 4 * (status.pending as u8)
+        + 8 * (status.confirmed as u8)
+        + 16 * (status.not_completed_since_clear as u8)
+        + 32 * (status.failed_since_clear as u8)
+        + 64 * (status.not_completed_this_cycle as u8)
+        + 128 * (status.indicator_requested as u8)
 }
 
 /// The test passed: bits 0, 4 and 6 become 0.
@@ -59,17 +90,6 @@ pub fn displaced(state: &mut EventState)
     });
 }
 
-/// The failed cycles, with this one where it is counted.
-fn failed_cycles(failed: u8, is_counted: bool) -> u8
-    ensures { result ≡ min 255 (if is_counted then failed + 1 else failed) }
-{
-    if is_counted {
-        failed.saturating_add(1)
-    } else {
-        failed
-    }
-}
-
 /// The failed cycles, after the end of a cycle.
 fn failed_cycles_left(failed: u8, is_clean: bool) -> u8
     ensures { result ≡ (if is_clean then 0 else failed) }
@@ -108,7 +128,8 @@ pub fn failed(rules: &EventCfg, state: &mut EventState) -> FailedMark
     ensures confirmed { (base : EventState) (past : Past) → IsDecidedBy rules.now base past state.old → result.confirmed ≡ confirms base rules.now past }
 {
     let before = unpack(state.status);
-    let count = failed_cycles(state.failed, !before.failed_this_cycle);
+    let is_first = !before.failed_this_cycle;
+    let count = state.failed.saturating_add(is_first as u8);
     let confirmed = before.confirmed | (rules.confirm <= count);
     let lit = rules.indicator & confirmed;
     let status = pack(Status {

@@ -1,5 +1,5 @@
 use Rattle.flt_model.proofs.Common.{bool_byte_value}
-use Rattle.flt_status.proofs.byte.pack.Goals as goal
+use Rattle.flt_status.proofs.step.pack.Goals as goal
 
 pub returns : goal.returns
 returns c = simp bool_byte_value
