@@ -16,7 +16,7 @@ use Rattle.flt_dem.specs.Manager.{Manager}
 use Rattle.flt_dem.specs.View.{rules_of, event_seen}
 use Rattle.flt_dcm.specs.Listing.{listed, head_of}
 use Rattle.flt_dcm.specs.declared.listing.Listing.{Listing}
-use Rattle.flt_dcm.specs.declared.listing.Listing.TheVariants.{ByMask, Supported, Snapshots, Counters}
+use Rattle.flt_dcm.specs.declared.listing.Listing.TheVariants.{ByMask, Supported, Counters}
 
 -- the events below a number
 abbrev pub seen_to : Manager → ℕ → List EventView
@@ -143,21 +143,32 @@ records_total manager (suc n) =
     let before = records_total manager n in
     omega (arith, more, own, before)
 
-whole_list_fits : (listing : Listing) (manager : Manager) (n : ℕ) → n ≤ EVENTS → length manager.faults.memory.entries ≤ ENTRIES →
-    length (head_of listing) + length (flat_map (listed listing) (seen_to manager n)) ≤ RESPONSE
-whole_list_fits (ByMask mask) manager n few room = let at_most = four_each (listed (ByMask mask)) manager n (λ event. if_masked (is_masked mask event) event) in omega (arith, at_most, few)
-whole_list_fits Supported manager n few room = let at_most = four_each (listed Supported) manager n (λ event. omega arith) in omega (arith, at_most, few)
-whole_list_fits Snapshots manager n few room =
+all_records_fit : (manager : Manager) (n : ℕ) → length manager.faults.memory.entries ≤ ENTRIES → length (flat_map records_of (seen_to manager n)) ≤ 128
+all_records_fit manager n room =
     let sum = records_total manager n in
     let at_most = entries_at_most manager.faults.memory.entries n in
     omega (arith, sum, at_most, room)
-whole_list_fits Counters manager n few room = let at_most = four_each (listed Counters) manager n (λ event. if_prefailed (is_prefailed event) event) in omega (arith, at_most, few)
+
+-- the records of one event more fit behind those before it
+pub records_fit : (manager : Manager) (k n : ℕ) (out : List ℕ) → out ≡ (0x59 ∷ 0x03 ∷ []) ++ flat_map records_of (seen_to manager k) → k < n →
+    length manager.faults.memory.entries ≤ ENTRIES → length out + length (records_of (event_seen manager k)) ≤ RESPONSE
+records_fit manager k n out is h room =
+    let all = all_records_fit manager n room in
+    let part = part_fits records_of manager k n h in
+    let length_is = ap length is in
+    omega (arith, all, part, length_is)
+
+whole_list_fits : (listing : Listing) (manager : Manager) (n : ℕ) → n ≤ EVENTS →
+    length (head_of listing) + length (flat_map (listed listing) (seen_to manager n)) ≤ RESPONSE
+whole_list_fits (ByMask mask) manager n few = let at_most = four_each (listed (ByMask mask)) manager n (λ event. if_masked (is_masked mask event) event) in omega (arith, at_most, few)
+whole_list_fits Supported manager n few = let at_most = four_each (listed Supported) manager n (λ event. omega arith) in omega (arith, at_most, few)
+whole_list_fits Counters manager n few = let at_most = four_each (listed Counters) manager n (λ event. if_prefailed (is_prefailed event) event) in omega (arith, at_most, few)
 
 -- one event more fits behind those before it
 pub list_fits : (listing : Listing) (manager : Manager) (k n : ℕ) (out : List ℕ) → out ≡ head_of listing ++ flat_map (listed listing) (seen_to manager k) → k < n → n ≤ EVENTS →
-    length manager.faults.memory.entries ≤ ENTRIES → length out + length (listed listing (event_seen manager k)) ≤ RESPONSE
-list_fits listing manager k n out is h few room =
-    let all = whole_list_fits listing manager n few room in
+    length out + length (listed listing (event_seen manager k)) ≤ RESPONSE
+list_fits listing manager k n out is h few =
+    let all = whole_list_fits listing manager n few in
     let part = part_fits (listed listing) manager k n h in
     let length_is = ap length is ∙ length-append (head_of listing) (flat_map (listed listing) (seen_to manager k)) in
     omega (arith, all, part, length_is)

@@ -1,6 +1,7 @@
 pub mod Session
 pub mod Listing
 pub mod Unknown
+pub mod Requests
 pub mod Unit
 pub mod ReplyKind
 pub mod Standard

@@ -1,5 +1,5 @@
 //! Lists of DTCs, in order of event number (ISO 14229-1, service 0x19, sub-functions 0x02, 0x03, 0x0A and 0x14).
-ghost use Rattle.std.specs.Prelude.{◌≡◌, ◌<◌, ◌≤◌, ◌+◌, ◌++◌, length, is_some};
+ghost use Rattle.std.specs.Prelude.{◌≡◌, ◌<◌, ◌≤◌, ◌+◌, ◌++◌, ◌∷◌, [], length, is_some};
 ghost use Rattle.std.specs.List.{flat_map};
 ghost use Rattle.flt_model.specs.Response.{is_masked, is_prefailed, with_status, with_counter, records_of};
 ghost use Rattle.flt_dem.specs.View.{event_seen, rules_of, view_of};
@@ -20,8 +20,6 @@ pub(crate) enum Listing {
     ByMask(u8),
     /// All, each with its status.
     Supported,
-    /// Those with an entry, each with its two snapshot record numbers.
-    Snapshots,
     /// Those whose fault detection counter is from 1 to 126, each with it.
     Counters,
 }
@@ -63,16 +61,15 @@ pub(crate) fn put_status(dem: &DemState, event: u16, out: &mut ArrayVec<u8, RESP
 }
 
 /// Appends the two snapshot record numbers of an event, where it has an entry.
-fn put_records(dem: &DemState, event: u16, out: &mut ArrayVec<u8, RESPONSE>)
+fn put_records(dem: &DemState, event: u16, has_entry: bool, out: &mut ArrayVec<u8, RESPONSE>)
     requires event { event < length dem.now.faults.config.events.items }
+    requires entry { has_entry ≡ is_some (event_seen dem.now event).entry }
     requires room { length out.old.items + length (records_of (event_seen dem.now event)) ≤ RESPONSE }
     ensures { out.new.items ≡ out.old.items ++ records_of (event_seen dem.now event) }
 {
-    if dem.entry(event).is_some() {
-        put_dtc(dtc_of(dem, event), out);
-        out.push(0x01);
-        put_dtc(dtc_of(dem, event), out);
-        out.push(0x02);
+    if has_entry {
+        let [_, high, middle, low] = dtc_of(dem, event).to_be_bytes();
+        put_bytes(&[high, middle, low, 0x01, high, middle, low, 0x02], out);
     }
 }
 
@@ -98,7 +95,6 @@ impl Listing {
         match self {
             Listing::ByMask(_) => put_bytes(&[0x59, 0x02, AVAILABILITY_MASK], out),
             Listing::Supported => put_bytes(&[0x59, 0x0A, AVAILABILITY_MASK], out),
-            Listing::Snapshots => put_bytes(&[0x59, 0x03], out),
             Listing::Counters => put_bytes(&[0x59, 0x14], out),
         }
     }
@@ -116,7 +112,6 @@ impl Listing {
                 }
             }
             Listing::Supported => put_status(dem, event, out),
-            Listing::Snapshots => put_records(dem, event, out),
             Listing::Counters => put_counter(dem, event, out),
         }
     }
@@ -130,5 +125,19 @@ impl Listing {
         for event in 0..event_count(dem) {
             self.put_event(dem, event, out);
         }
+    }
+}
+
+/// Writes the response of the DTCs with an entry, each with its two snapshot record numbers: one walk over the entries
+/// tells which events have one.
+pub(crate) fn put_stored(dem: &DemState, out: &mut ArrayVec<u8, RESPONSE>)
+    requires { length out.old.items ≡ 0 }
+    ensures { out.new.items ≡ (0x59 ∷ 0x03 ∷ []) ++ flat_map records_of (view_of dem.now).events }
+{
+    put_bytes(&[0x59, 0x03], out);
+    let stored = dem.stored();
+    let count = event_count(dem);
+    for event in 0..count {
+        put_records(dem, event, stored[event as usize], out);
     }
 }

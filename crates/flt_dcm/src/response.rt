@@ -1,14 +1,15 @@
 //! The positive response to a request that was read (ISO 14229-1, in this profile).
-ghost use Rattle.std.specs.Prelude.{◌≡◌, ◌<◌, ◌++◌, [], ◌∷◌, length, filter, find, position, Some, None, OnOk, OnErr, IfOk};
+ghost use Rattle.std.specs.Prelude.{◌≡◌, ◌<◌, [], length, filter, find, position, Some, None, OnOk, OnErr, IfOk};
 ghost use Rattle.std.specs.Result.{result_ok};
 ghost use Rattle.flt_config.specs.Validity.{has_dtc};
 ghost use Rattle.flt_model.specs.Response.{is_masked, is_of_dtc, positive, sub_of_session, sub_of_setting};
-ghost use Rattle.flt_dem.specs.View.{event_seen, view_of};
+ghost use Rattle.flt_dem.specs.View.{view_of};
 ghost use Rattle.flt_dem.specs.Notes.{noted_by};
 ghost use Rattle.flt_dem.specs.View.{noted_at};
+ghost use Rattle.flt_dcm.specs.Requests.{IsEventOf};
 ghost use Rattle.flt_dcm.specs.Unknown.{ClearsNone};
 
-use crate::listing::{AVAILABILITY_MASK, Listing, event_count, is_masked, put_status};
+use crate::listing::{AVAILABILITY_MASK, Listing, event_count, is_masked, put_status, put_stored};
 use crate::record::{put_extended_data, put_snapshots};
 use arrayvec::ArrayVec;
 use flt_dem::{DemState, Which};
@@ -24,7 +25,7 @@ pub(crate) struct UnknownDtc;
 /// The event that has a DTC.
 pub(crate) fn event_of(dem: &DemState, dtc: u32) -> Result<u16, UnknownDtc>
     ensures position { result_ok result ≡ position (has_dtc dtc) dem.now.faults.config.events.items }
-    ensures known { IfOk result (λ event. (event < length dem.now.faults.config.events.items) × (find (is_of_dtc dtc) (view_of dem.now).events ≡ Some (event_seen dem.now event))) }
+    ensures known { IfOk result (IsEventOf dtc dem.now) }
     ensures unknown { OnErr result (find (is_of_dtc dtc) (view_of dem.now).events ≡ None) }
 {
     match dem.find(dtc) {
@@ -184,7 +185,7 @@ pub(crate) fn put_positive(
             Ok(())
         }
         Request::Snapshots => {
-            Listing::Snapshots.put(dem, out);
+            put_stored(dem, out);
             Ok(())
         }
         Request::Snapshot { dtc, number } => put_snapshots_of(dem, dtc, number, out),

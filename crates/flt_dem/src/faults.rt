@@ -1,6 +1,6 @@
 //! The durable part of the event manager: states, entries and notes, one mark at a time.
 
-ghost use Rattle.std.specs.Prelude.{◌≡◌, ◌≢◌, ◌<◌, ◌≤◌, [], ◌∷◌, ℕ, List, length, slice_get, find, position, All, Some, false, option_copied};
+ghost use Rattle.std.specs.Prelude.{◌≡◌, ◌≢◌, ◌<◌, ◌≤◌, [], ◌∷◌, ℕ, List, length, slice_get, find, position, All, Some, false, option_copied, is_some, slice_index_or};
 ghost use Rattle.flt_config.specs.Validity.{IsValid, has_dtc};
 ghost use Rattle.flt_config.specs.Durable.{Fits, is_of_event};
 ghost use Rattle.flt_model.specs.Life.{Life, fresh};
@@ -136,6 +136,13 @@ impl Faults {
         ensures { option_copied result ≡ find (is_of_event event) self.now.memory.entries }
     {
         self.memory.find(event)
+    }
+
+    /// Which events have an entry, by their numbers, found in one walk over the entries.
+    pub fn stored(&self) -> [bool; EVENTS]
+        ensures { (event : ℕ) → event < EVENTS → slice_index_or result event false ≡ is_some (find (is_of_event event) self.now.memory.entries) }
+    {
+        self.memory.stored()
     }
 
     /// How often an event occurred that has an entry, and 0 without an entry.

@@ -1,6 +1,6 @@
 //! The event manager without the functions of its table of data identifiers.
 
-ghost use Rattle.std.specs.Prelude.{◌≡◌, ◌≢◌, ◌<◌, ◌≤◌, ℕ, [], length, slice_get, slice_set, find, position, option_copied, Some, None, IfSome, false};
+ghost use Rattle.std.specs.Prelude.{◌≡◌, ◌≢◌, ◌<◌, ◌≤◌, ℕ, [], length, slice_get, slice_set, find, position, option_copied, is_some, slice_index_or, Some, None, IfSome, false};
 ghost use Rattle.flt_config.specs.Durable.{Fits, is_of_event};
 ghost use Rattle.flt_config.specs.Validity.{has_dtc};
 ghost use Rattle.flt_model.specs.Life.{event_of, fresh};
@@ -17,7 +17,7 @@ ghost use Rattle.flt_dem.specs.Manager.{Takes, TakesUnder, TakesClear, IsTold, A
 
 use crate::events::Events;
 use crate::notes::Which;
-use flt_config::{EntryState, EventState, Persist, ValidConfig};
+use flt_config::{EVENTS, EntryState, EventState, Persist, ValidConfig};
 use flt_did::{DID_ROWS, DidTable, Signals};
 use flt_model::{Cause, Report, Shown};
 use std::marker::Model;
@@ -218,6 +218,13 @@ impl DemState {
         ensures stands { IsTold (entry_after event) self.now (option_copied result) }
     {
         self.events.faults().entry(event)
+    }
+
+    /// Which events have an entry, by their numbers, found in one walk over the entries.
+    pub fn stored(&self) -> [bool; EVENTS]
+        ensures { (event : ℕ) → event < EVENTS → slice_index_or result event false ≡ is_some (find (is_of_event event) self.now.faults.memory.entries) }
+    {
+        self.events.faults().stored()
     }
 
     /// The noted event that is asked for, where there is one.

@@ -1,5 +1,5 @@
 //! The fault memory.
-ghost use Rattle.std.specs.Prelude.{◌≡◌, ◌+◌, ◌<◌, ◌≤◌, ◌↔◌, [], false, not, length, IsTrue, IsSome, All, AllPairs, position, find, filter, option_copied, slice_set, slice_index_or};
+ghost use Rattle.std.specs.Prelude.{◌≡◌, ℕ, ◌+◌, ◌<◌, ◌≤◌, ◌↔◌, [], false, not, length, IsTrue, IsSome, is_some, All, AllPairs, position, find, filter, option_copied, slice_set, slice_index_or};
 ghost use Rattle.flt_config.specs.Durable.{is_of_event as is_event};
 ghost use Rattle.flt_config.specs.declared.persist.EntryState.{EntryState as Entry};
 ghost use Rattle.flt_model.specs.Entry.{updated, new_entry};
@@ -93,6 +93,19 @@ impl EventMemory {
         ensures { option_copied result ≡ find (is_of_event event) self.now.entries }
     {
         find_entry(&self.entries, event)
+    }
+
+    /// Which events have an entry, by their numbers, found in one walk over the entries.
+    pub fn stored(&self) -> [bool; EVENTS]
+        ensures { (event : ℕ) → event < EVENTS → slice_index_or result event false ≡ is_some (find (is_of_event event) self.now.entries) }
+    {
+        let mut stored = [false; EVENTS];
+        for entry in self.entries.as_slice() {
+            if (entry.event as usize) < EVENTS {
+                stored[entry.event as usize] = true;
+            }
+        }
+        stored
     }
 
     /// Removes the event's entry, and answers whether there was one.
