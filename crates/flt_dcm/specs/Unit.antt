@@ -1,16 +1,18 @@
 -- The whole status machine as a contract sees it, what it stands for, and which calls it takes.
-use Rattle.std.specs.Prelude.{◌≡◌, ℕ, ◌<◌, List, length, slice_get, unwrap_or, Some}
+use Rattle.std.specs.Prelude.{◌≡◌, ℕ, ◌<◌, List, ◌∷◌, length, slice_get, slice_set, unwrap_or, Some}
 use Rattle.flt_config.specs.declared.config.Config.{Config}
 use Rattle.flt_config.specs.declared.persist.Persist.{Persist}
 use Rattle.flt_config.specs.Durable.{Fits}
 use Rattle.flt_model.specs.Life.{Life, History}
+use Rattle.flt_model.specs.Answer.{answer}
 use Rattle.flt_model.specs.Durable.{saved_after}
+use Rattle.flt_model.specs.Request.{RequestBytes}
 use Rattle.flt_model.specs.declared.call.Op.{Op}
 use Rattle.flt_model.specs.declared.call.Op.TheVariants as ops
 use Rattle.flt_model.specs.declared.call.Reply.{Reply}
 use Rattle.flt_model.specs.declared.call.Reply.TheVariants as replies
 use Rattle.flt_dem.specs.Manager.{Manager, StandsFor}
-use Rattle.flt_dcm.specs.Session.{SessionStands}
+use Rattle.flt_dcm.specs.Session.{SessionStands, heard}
 use Rattle.flt_dcm.specs.declared.session.Session.{Session}
 use Rattle.flt_dcm.specs.declared.session.Session.TheVariants.{Default}
 
@@ -72,3 +74,22 @@ IsRequest _ = ⊥
 abbrev pub IsNegative : Reply → Type 0
 IsNegative (replies.Response bytes) = slice_get bytes.items 0 ≡ Some 0x7F
 IsNegative _ = ⊥
+
+-- ---- What a call makes of a unit, in words for contracts.
+
+-- It stands before the call, and stands with the call more after.
+abbrev pub Takes : Op → UnitView → UnitView → Type 0
+Takes op old new = (life : Life) (past : History) → Stands life past old → Stands life (op ∷ past) new
+
+-- The reply is the answer to the call.
+abbrev pub Answers : Op → UnitView → Reply → Type 0
+Answers op unit reply = (life : Life) (past : History) → Stands life past unit → reply ≡ answer life past op
+
+-- It heard a tester: the silent time of that session begins anew, and nothing else is changed.
+abbrev pub with_heard : ℕ → UnitView → UnitView
+with_heard tester unit = record unit { sessions = slice_set unit.sessions tester (heard (session_at unit.sessions tester)) }
+
+-- Where the call is a request that gets a negative response, it heard the tester, and nothing else is changed.
+abbrev pub OnlyHearsWhereNegative : Op → Reply → UnitView → UnitView → Type 0
+OnlyHearsWhereNegative op reply old new =
+    (tester : ℕ) (bytes : RequestBytes) → op ≡ ops.Request tester bytes → IsNegative reply → new ≡ with_heard tester old

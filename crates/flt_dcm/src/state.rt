@@ -1,22 +1,22 @@
 //! The whole status machine without the functions of its table of data identifiers.
-ghost use Rattle.std.specs.Prelude.{◌≡◌, ◌≢◌, ◌<◌, ℕ, [], ◌∷◌, map, length, slice_set, Some};
+ghost use Rattle.std.specs.Prelude.{◌≡◌, ◌≢◌, ◌<◌, [], ◌∷◌, map, length, Some};
 ghost use Rattle.std.specs.List.{list_any};
 ghost use Rattle.flt_config.specs.Durable.{Fits};
 ghost use Rattle.flt_model.specs.Life.{Life, History, fresh};
 ghost use Rattle.flt_model.specs.Answer.{answer};
-ghost use Rattle.flt_model.specs.Happening.{cleared_dtc, dtc_of_clear};
+ghost use Rattle.flt_model.specs.Happening.{dtc_of_clear};
 ghost use Rattle.flt_model.specs.Request.{asked};
 ghost use Rattle.flt_model.specs.Response.{negative, positive, reply_of, responded, response, unless_silent};
 ghost use Rattle.flt_model.specs.declared.call.Op.TheVariants as ops;
 ghost use Rattle.flt_model.specs.declared.call.Reply.TheVariants as replies;
 ghost use Rattle.flt_did.specs.Table.{dids_of};
 ghost use Rattle.flt_did.specs.Serves.{Serves};
-ghost use Rattle.flt_model.specs.Request.{RequestBytes};
-ghost use Rattle.flt_dem.specs.Manager.{StandsFor, report_reply as cause_reply};
+ghost use Rattle.flt_dem.specs.Manager.{report_reply as cause_reply};
 ghost use Rattle.flt_dem.specs.View.{view_of};
 ghost use Rattle.flt_dcm.specs.Session.{is_extended_one, has_hold, heard, after, after_asked, ticked};
 ghost use Rattle.flt_dcm.specs.Standard.{SaysStandard};
-ghost use Rattle.flt_dcm.specs.Unit.{Stands, IsAdmitted, IsReading, IsNegative, IsRequest, written, session_at};
+ghost use Rattle.flt_dcm.specs.Requests.{TakesClearOf, TakesBytes};
+ghost use Rattle.flt_dcm.specs.Unit.{Stands, Takes, Answers, IsAdmitted, IsReading, IsNegative, IsRequest, OnlyHearsWhereNegative, written, with_heard};
 ghost use Rattle.flt_dcm.specs.ReplyKind.{reply_with};
 
 use crate::reply_kind::ReplyKind;
@@ -70,7 +70,7 @@ fn refuse(service: u8, code: u8, out: &mut ArrayVec<u8, RESPONSE>)
 /// Clears a DTC, or all of them. A DTC that no event has clears nothing.
 fn clear(dem: &mut DemState, dtc: u32)
     ensures config { dem.new.faults.config ≡ dem.old.faults.config }
-    ensures stands { (life : Life) (past : History) (tester : ℕ) (sent : RequestBytes) → cleared_dtc (ops.Request tester sent) ≡ Some dtc → StandsFor life past dem.old → StandsFor life (ops.Request tester sent ∷ past) dem.new }
+    ensures stands { TakesClearOf (Some dtc) dem.old dem.new }
 {
     if dtc == ALL_DTCS {
         dem.clear_all();
@@ -86,7 +86,7 @@ fn clear(dem: &mut DemState, dtc: u32)
 fn carry_out(dem: &mut DemState, session: &mut Session, request: Request)
     ensures config { dem.new.faults.config ≡ dem.old.faults.config }
     ensures session { session.new ≡ after session.old request }
-    ensures stands { (life : Life) (past : History) (tester : ℕ) (sent : RequestBytes) → cleared_dtc (ops.Request tester sent) ≡ dtc_of_clear request → StandsFor life past dem.old → StandsFor life (ops.Request tester sent ∷ past) dem.new }
+    ensures stands { TakesClearOf (dtc_of_clear request) dem.old dem.new }
 {
     *session = session.after(request);
     match request {
@@ -107,7 +107,7 @@ fn respond(
     requires { out.old.items ≡ [] }
     ensures config { dem.new.faults.config ≡ dem.old.faults.config }
     ensures session { session.new ≡ after session.old asked.request }
-    ensures stands { (life : Life) (past : History) (tester : ℕ) (sent : RequestBytes) → cleared_dtc (ops.Request tester sent) ≡ dtc_of_clear asked.request → StandsFor life past dem.old → StandsFor life (ops.Request tester sent ∷ past) dem.new }
+    ensures stands { TakesClearOf (dtc_of_clear asked.request) dem.old dem.new }
     ensures answer { unless_silent result out.new.items ≡ responded service asked.silent (positive (view_of dem.old) asked.request) }
     ensures negative { IsNegative (unless_silent result out.new.items) → (dem.new ≡ dem.old) × (session.new ≡ session.old) }
 {
@@ -134,7 +134,7 @@ fn request(
     requires { 0 < length bytes.now }
     ensures config { dem.new.faults.config ≡ dem.old.faults.config }
     ensures session { session.new ≡ after_asked (heard session.old) (asked (is_extended_one session.old) bytes.now) }
-    ensures stands { (life : Life) (past : History) (tester : ℕ) (sent : RequestBytes) → sent.items ≡ bytes.now → StandsFor life past dem.old → StandsFor life (ops.Request tester sent ∷ past) dem.new }
+    ensures stands { TakesBytes bytes.now dem.old dem.new }
     ensures answer { unless_silent result out.new.items ≡ response (view_of dem.old) (is_extended_one session.old) bytes.now }
     ensures negative { IsNegative (unless_silent result out.new.items) → (dem.new ≡ dem.old) × (session.new ≡ heard session.old) }
 {
@@ -204,7 +204,7 @@ impl UnitState {
         requires { index < 8 }
         ensures config { self.new.dem.faults.config ≡ self.old.dem.faults.config }
         ensures base { self.new.base ≡ self.old.base }
-        ensures stands { (life : Life) (past : History) → Stands life past self.old → Stands life (ops.Signal index value ∷ past) self.new }
+        ensures stands { Takes (ops.Signal index value) self.old self.new }
     {
         self.dem.signal(index, value);
     }
@@ -216,8 +216,8 @@ impl UnitState {
         requires configured { event < length self.old.dem.faults.config.events.items }
         ensures config { self.new.dem.faults.config ≡ self.old.dem.faults.config }
         ensures base { self.new.base ≡ self.old.base }
-        ensures stands { (life : Life) (past : History) → Stands life past self.old → Stands life (ops.Report event report ∷ past) self.new }
-        ensures answer { (life : Life) (past : History) → Stands life past self.old → cause_reply result ≡ answer life past (ops.Report event report) }
+        ensures stands { Takes (ops.Report event report) self.old self.new }
+        ensures answer { Answers (ops.Report event report) self.old (cause_reply result) }
     {
         let setting = !is_setting_off(&self.sessions);
         self.dem.report(dids, event, report, setting)
@@ -228,7 +228,7 @@ impl UnitState {
         requires served { Serves (dids_of dids.now) self.old.dem.faults.config.events.items }
         ensures config { self.new.dem.faults.config ≡ self.old.dem.faults.config }
         ensures base { self.new.base ≡ self.old.base }
-        ensures stands { (life : Life) (past : History) → Stands life past self.old → Stands life (ops.Tick ticks ∷ past) self.new }
+        ensures stands { Takes (ops.Tick ticks) self.old self.new }
     {
         let setting = !is_setting_off(&self.sessions);
         self.dem.tick(dids, ticks, setting);
@@ -240,7 +240,7 @@ impl UnitState {
         requires { cycle < 4 }
         ensures config { self.new.dem.faults.config ≡ self.old.dem.faults.config }
         ensures base { self.new.base ≡ self.old.base }
-        ensures stands { (life : Life) (past : History) → Stands life past self.old → Stands life (ops.Cycle cycle ∷ past) self.new }
+        ensures stands { Takes (ops.Cycle cycle) self.old self.new }
     {
         self.dem.cycle(cycle);
     }
@@ -257,9 +257,9 @@ impl UnitState {
         requires some { 0 < length bytes.now.items }
         ensures config { self.new.dem.faults.config ≡ self.old.dem.faults.config }
         ensures base { self.new.base ≡ self.old.base }
-        ensures stands { (life : Life) (past : History) → Stands life past self.old → Stands life (ops.Request tester bytes.now ∷ past) self.new }
-        ensures answer { (life : Life) (past : History) → Stands life past self.old → unless_silent result out.new.items ≡ answer life past (ops.Request tester bytes.now) }
-        ensures negative { IsNegative (unless_silent result out.new.items) → self.new ≡ record self.old { sessions = slice_set self.old.sessions tester (heard (session_at self.old.sessions tester)) } }
+        ensures stands { Takes (ops.Request tester bytes.now) self.old self.new }
+        ensures answer { Answers (ops.Request tester bytes.now) self.old (unless_silent result out.new.items) }
+        ensures negative { IsNegative (unless_silent result out.new.items) → self.new ≡ with_heard tester self.old }
     {
         request(
             &mut self.dem,
@@ -272,8 +272,8 @@ impl UnitState {
     /// What is shown of an event. To show it changes nothing.
     fn show(&self, event: u16) -> Shown
         requires { event < length self.now.dem.faults.config.events.items }
-        ensures answer { (life : Life) (past : History) → Stands life past self.now → replies.Shown result ≡ answer life past (ops.Show event) }
-        ensures stands { (life : Life) (past : History) → Stands life past self.now → Stands life (ops.Show event ∷ past) self.now }
+        ensures answer { Answers (ops.Show event) self.now (replies.Shown result) }
+        ensures stands { Takes (ops.Show event) self.now self.now }
     {
         self.dem.show(event)
     }
@@ -289,12 +289,11 @@ impl UnitState {
         requires admitted { IsAdmitted self.old.dem.faults.config op.now }
         ensures config { self.new.dem.faults.config ≡ self.old.dem.faults.config }
         ensures base { self.new.base ≡ self.old.base }
-        ensures stands { (life : Life) (past : History) → Stands life past self.old → Stands life (op.now ∷ past) self.new }
-        ensures answer { (life : Life) (past : History) → Stands life past self.old → reply_with result response.new.items ≡ answer life past op.now }
+        ensures stands { Takes op.now self.old self.new }
+        ensures answer { Answers op.now self.old (reply_with result response.new.items) }
         ensures unsent { ¬ IsRequest op.now → response.new ≡ response.old }
         ensures reading { IsReading op.now → self.new ≡ self.old }
-        ensures negative { (tester : ℕ) (bytes : RequestBytes) → op.now ≡ ops.Request tester bytes → IsNegative (reply_with result response.new.items)
-            → self.new ≡ record self.old { sessions = slice_set self.old.sessions tester (heard (session_at self.old.sessions tester)) } }
+        ensures negative { OnlyHearsWhereNegative op.now (reply_with result response.new.items) self.old self.new }
     {
         match op {
             Op::Signal { index, value } => {
@@ -333,14 +332,13 @@ impl UnitState {
         requires admitted { IsAdmitted self.old.dem.faults.config op.now }
         ensures config { self.new.dem.faults.config ≡ self.old.dem.faults.config }
         ensures base { self.new.base ≡ self.old.base }
-        ensures stands { (life : Life) (past : History) → Stands life past self.old → Stands life (op.now ∷ past) self.new }
-        ensures answer { (life : Life) (past : History) → Stands life past self.old → reply_with result response.new.items ≡ answer life past op.now }
+        ensures stands { Takes op.now self.old self.new }
+        ensures answer { Answers op.now self.old (reply_with result response.new.items) }
         ensures unsent { ¬ IsRequest op.now → response.new ≡ response.old }
         ensures written { (life : Life) (past : History) → Stands life past self.old → out.new ≡ written life past op.now out.old }
         ensures kept { op.now ≢ ops.Snapshot → out.new ≡ out.old }
         ensures reading { IsReading op.now → self.new ≡ self.old }
-        ensures negative { (tester : ℕ) (bytes : RequestBytes) → op.now ≡ ops.Request tester bytes → IsNegative (reply_with result response.new.items)
-            → self.new ≡ record self.old { sessions = slice_set self.old.sessions tester (heard (session_at self.old.sessions tester)) } }
+        ensures negative { OnlyHearsWhereNegative op.now (reply_with result response.new.items) self.old self.new }
     {
         match op {
             Op::Snapshot => self.dem.persist(out),
@@ -362,14 +360,13 @@ impl UnitState {
         requires admitted { IsAdmitted self.old.dem.faults.config op.now }
         ensures config { self.new.dem.faults.config ≡ self.old.dem.faults.config }
         ensures base { self.new.base ≡ self.old.base }
-        ensures stands { (life : Life) (past : History) → Stands life past self.old → Stands life (op.now ∷ past) self.new }
-        ensures answer { (life : Life) (past : History) → Stands life past self.old → reply_with result response.new.items ≡ answer life past op.now }
+        ensures stands { Takes op.now self.old self.new }
+        ensures answer { Answers op.now self.old (reply_with result response.new.items) }
         ensures unsent { ¬ IsRequest op.now → response.new ≡ response.old }
         ensures written { (life : Life) (past : History) → Stands life past self.old → out.new ≡ written life past op.now out.old }
         ensures kept { op.now ≢ ops.Snapshot → out.new ≡ out.old }
         ensures reading { IsReading op.now → self.new ≡ self.old }
-        ensures negative { (tester : ℕ) (bytes : RequestBytes) → op.now ≡ ops.Request tester bytes → IsNegative (reply_with result response.new.items)
-            → self.new ≡ record self.old { sessions = slice_set self.old.sessions tester (heard (session_at self.old.sessions tester)) } }
+        ensures negative { OnlyHearsWhereNegative op.now (reply_with result response.new.items) self.old self.new }
         ensures standard { (life : Life) (past : History) → Stands life past self.old → SaysStandard life (op.now ∷ past) self.new.dem }
     {
         self.take(dids, op, out, response)
@@ -381,13 +378,12 @@ impl UnitState {
         requires admitted { IsAdmitted self.old.dem.faults.config op.now }
         ensures config { self.new.dem.faults.config ≡ self.old.dem.faults.config }
         ensures base { self.new.base ≡ self.old.base }
-        ensures stands { (life : Life) (past : History) → Stands life past self.old → Stands life (op.now ∷ past) self.new }
-        ensures answer { (life : Life) (past : History) → Stands life past self.old → result ≡ answer life past op.now }
+        ensures stands { Takes op.now self.old self.new }
+        ensures answer { Answers op.now self.old result }
         ensures written { (life : Life) (past : History) → Stands life past self.old → out.new ≡ written life past op.now out.old }
         ensures kept { op.now ≢ ops.Snapshot → out.new ≡ out.old }
         ensures reading { IsReading op.now → self.new ≡ self.old }
-        ensures negative { (tester : ℕ) (bytes : RequestBytes) → op.now ≡ ops.Request tester bytes → IsNegative result
-            → self.new ≡ record self.old { sessions = slice_set self.old.sessions tester (heard (session_at self.old.sessions tester)) } }
+        ensures negative { OnlyHearsWhereNegative op.now result self.old self.new }
         ensures standard { (life : Life) (past : History) → Stands life past self.old → SaysStandard life (op.now ∷ past) self.new.dem }
     {
         let mut response = ArrayVec::new();

@@ -1,5 +1,5 @@
 //! The whole status machine with its table of data identifiers.
-ghost use Rattle.std.specs.Prelude.{◌≡◌, ◌≢◌, ℕ, [], ◌∷◌, slice_set};
+ghost use Rattle.std.specs.Prelude.{◌≡◌, ◌≢◌, [], ◌∷◌};
 ghost use Rattle.std.proofs.Props.{props};
 ghost use Rattle.flt_config.specs.Durable.{Fits};
 ghost use Rattle.flt_model.specs.Life.{Life, History, fresh};
@@ -7,11 +7,9 @@ ghost use Rattle.flt_model.specs.Answer.{answer};
 ghost use Rattle.flt_model.specs.declared.call.Op.TheVariants as ops;
 ghost use Rattle.flt_did.specs.Table.{dids_of};
 ghost use Rattle.flt_did.specs.Serves.{Serves};
-ghost use Rattle.flt_model.specs.Request.{RequestBytes};
 ghost use Rattle.flt_dem.specs.Dem.{config_of as dem_config, table_of as dem_table};
-ghost use Rattle.flt_dcm.specs.Session.{heard};
 ghost use Rattle.flt_dcm.specs.Standard.{SaysStandard};
-ghost use Rattle.flt_dcm.specs.Unit.{Stands, IsAdmitted, IsReading, IsNegative, IsRequest, written, session_at};
+ghost use Rattle.flt_dcm.specs.Unit.{Stands, Takes, Answers, IsAdmitted, IsReading, IsRequest, OnlyHearsWhereNegative, written};
 ghost use Rattle.flt_dcm.specs.ReplyKind.{reply_with};
 
 use crate::reply_kind::ReplyKind;
@@ -80,14 +78,13 @@ impl Unit {
         ensures config { config_of self.new ≡ config_of self.old }
         ensures dids { table_of self.new ≡ table_of self.old }
         ensures base { (state_of self.new).base ≡ (state_of self.old).base }
-        ensures stands { (life : Life) (past : History) → Stands life past (state_of self.old) → Stands life (op.now ∷ past) (state_of self.new) }
-        ensures answer { (life : Life) (past : History) → Stands life past (state_of self.old) → reply_with result response.new.items ≡ answer life past op.now }
+        ensures stands { Takes op.now (state_of self.old) (state_of self.new) }
+        ensures answer { Answers op.now (state_of self.old) (reply_with result response.new.items) }
         ensures unsent { ¬ IsRequest op.now → response.new ≡ response.old }
         ensures written { (life : Life) (past : History) → Stands life past (state_of self.old) → out.new ≡ written life past op.now out.old }
         ensures kept { op.now ≢ ops.Snapshot → out.new ≡ out.old }
         ensures reading { IsReading op.now → state_of self.new ≡ state_of self.old }
-        ensures negative { (tester : ℕ) (bytes : RequestBytes) → op.now ≡ ops.Request tester bytes → IsNegative (reply_with result response.new.items)
-            → state_of self.new ≡ record (state_of self.old) { sessions = slice_set (state_of self.old).sessions tester (heard (session_at (state_of self.old).sessions tester)) } }
+        ensures negative { OnlyHearsWhereNegative op.now (reply_with result response.new.items) (state_of self.old) (state_of self.new) }
         ensures standard { (life : Life) (past : History) → Stands life past (state_of self.old) → SaysStandard life (op.now ∷ past) (state_of self.new).dem }
     {
         self.state.apply_into(&self.dids, op, out, response)
@@ -99,13 +96,12 @@ impl Unit {
         ensures config { config_of self.new ≡ config_of self.old }
         ensures dids { table_of self.new ≡ table_of self.old }
         ensures base { (state_of self.new).base ≡ (state_of self.old).base }
-        ensures stands { (life : Life) (past : History) → Stands life past (state_of self.old) → Stands life (op.now ∷ past) (state_of self.new) }
-        ensures answer { (life : Life) (past : History) → Stands life past (state_of self.old) → result ≡ answer life past op.now }
+        ensures stands { Takes op.now (state_of self.old) (state_of self.new) }
+        ensures answer { Answers op.now (state_of self.old) result }
         ensures written { (life : Life) (past : History) → Stands life past (state_of self.old) → out.new ≡ written life past op.now out.old }
         ensures kept { op.now ≢ ops.Snapshot → out.new ≡ out.old }
         ensures reading { IsReading op.now → state_of self.new ≡ state_of self.old }
-        ensures negative { (tester : ℕ) (bytes : RequestBytes) → op.now ≡ ops.Request tester bytes → IsNegative result
-            → state_of self.new ≡ record (state_of self.old) { sessions = slice_set (state_of self.old).sessions tester (heard (session_at (state_of self.old).sessions tester)) } }
+        ensures negative { OnlyHearsWhereNegative op.now result (state_of self.old) (state_of self.new) }
         ensures standard { (life : Life) (past : History) → Stands life past (state_of self.old) → SaysStandard life (op.now ∷ past) (state_of self.new).dem }
     {
         self.state.apply(&self.dids, op, out)
