@@ -1,4 +1,6 @@
-ghost use Rattle.std.specs.Prelude.{◌≡◌, IfOk, IfSome, IsTrue};
+ghost use Rattle.std.specs.Prelude.{◌≡◌, ◌≢◌, IfOk, IfSome, IsTrue, option_map};
+ghost use Rattle.flt_script.specs.declared.keyword.Keyword.TheVariants as keywords;
+ghost use Rattle.flt_script.specs.declared.line.Line.TheVariants as lines;
 ghost use Rattle.flt_script.specs.Behind.{step_of};
 ghost use Rattle.flt_script.specs.Bytes.{tester_of};
 ghost use Rattle.flt_script.specs.Event.{only, event_of};
@@ -267,11 +269,82 @@ fn post_with(urgent: bool, mut words: Words<'_>) -> Option<Line>
 }
 
 /// What the words behind the word event say.
-fn event_with(alloc: Global, words: Words<'_>) -> Result<Option<EventLine>, AllocError>
-    ensures { IfOk result (λ event. event ≡ event_of words.entry) }
+fn event_with(alloc: Global, words: Words<'_>) -> Result<Option<Line>, AllocError>
+    ensures { IfOk result (λ line. line ≡ option_map lines.Event (event_of words.entry)) }
 {
     let words = words.collect::<Vec<&[u8]>>(alloc)?;
-    Ok(event_of(&words))
+    Ok(event_of(&words).map(Line::Event))
+}
+
+/// What the words behind a keyword other than event say.
+#[tactic(auto, unfolding(crate::specs::Line::line_with))]
+fn other_line_with(keyword: Keyword, words: Words<'_>) -> Option<Line>
+    ensures { keyword ≢ keywords.Event → result ≡ line_with keyword words.entry }
+{
+    match keyword {
+        Keyword::Event => None,
+        Keyword::Pass => report_with(Report::Passed, words),
+        Keyword::Fail => report_with(Report::Failed, words),
+        Keyword::PrePass => report_with(Report::PrePassed, words),
+        Keyword::PreFail => report_with(Report::PreFailed, words),
+        Keyword::Show => {
+            let event = only_number(words)?;
+            Some(Line::Step(StepLine::Show { event }))
+        }
+        Keyword::Cycle => {
+            let cycle = only_number(words)?;
+            Some(Line::Step(StepLine::Cycle { cycle }))
+        }
+        Keyword::Tick => {
+            let ticks = only_number(words)?;
+            Some(Line::Step(StepLine::Tick { ticks }))
+        }
+        Keyword::Signal => {
+            let (index, value) = two_numbers(words)?;
+            Some(Line::Step(StepLine::Signal { index, value }))
+        }
+        Keyword::Request => request_with(words),
+        Keyword::Did => did_with(words),
+        Keyword::Config => Some(Line::Config(only_number(words)?)),
+        Keyword::Memory => Some(Line::Memory(only_number(words)?)),
+        Keyword::Blocks => Some(Line::Blocks(only_number(words)?)),
+        Keyword::Flash => {
+            let (sectors, pages) = two_numbers(words)?;
+            Some(Line::Flash { sectors, pages })
+        }
+        Keyword::Save => alone(Line::Step(StepLine::Save), words),
+        Keyword::Post => post_with(false, words),
+        Keyword::Urge => post_with(true, words),
+        Keyword::Drain => alone(Line::Step(StepLine::Drain), words),
+        Keyword::Get => {
+            let block = only_number(words)?;
+            Some(Line::Step(StepLine::Get { block }))
+        }
+        Keyword::Ask => {
+            let block = only_number(words)?;
+            Some(Line::Step(StepLine::Ask { block }))
+        }
+        Keyword::Power => alone(Line::Power, words),
+        Keyword::Par => alone(Line::Par, words),
+        Keyword::Lane => alone(Line::Lane, words),
+        Keyword::End => alone(Line::End, words),
+        Keyword::Cut => {
+            let (after, pattern) = number_and_pattern(words)?;
+            Some(Line::Step(StepLine::Arming(ArmLine::Cut { after, pattern })))
+        }
+        Keyword::Fault => {
+            let (after, pattern) = number_and_pattern(words)?;
+            Some(Line::Step(StepLine::Arming(ArmLine::Fault { after, pattern })))
+        }
+        Keyword::Mute => {
+            let (sector, page, times) = three_numbers(words)?;
+            Some(Line::Step(StepLine::Arming(ArmLine::Mute {
+                sector,
+                page,
+                times,
+            })))
+        }
+    }
 }
 
 /// What the words behind a keyword say.
@@ -280,53 +353,8 @@ fn line_with(alloc: Global, keyword: Keyword, words: Words<'_>) -> Result<Option
     ensures { IfOk result (λ line. line ≡ line_with keyword words.entry) }
 {
     match keyword {
-        Keyword::Pass => Ok(report_with(Report::Passed, words)),
-        Keyword::Fail => Ok(report_with(Report::Failed, words)),
-        Keyword::PrePass => Ok(report_with(Report::PrePassed, words)),
-        Keyword::PreFail => Ok(report_with(Report::PreFailed, words)),
-        Keyword::Show => {
-            Ok(only_number(words).map(|event| Line::Step(StepLine::Show { event })))
-        }
-        Keyword::Cycle => {
-            Ok(only_number(words).map(|cycle| Line::Step(StepLine::Cycle { cycle })))
-        }
-        Keyword::Tick => Ok(only_number(words).map(|ticks| Line::Step(StepLine::Tick { ticks }))),
-        Keyword::Signal => Ok(two_numbers(words).map(|(index, value)| Line::Step(StepLine::Signal {
-            index,
-            value,
-        }))),
-        Keyword::Request => Ok(request_with(words)),
-        Keyword::Event => Ok(event_with(alloc, words)?.map(Line::Event)),
-        Keyword::Did => Ok(did_with(words)),
-        Keyword::Config => Ok(only_number(words).map(Line::Config)),
-        Keyword::Memory => Ok(only_number(words).map(Line::Memory)),
-        Keyword::Blocks => Ok(only_number(words).map(Line::Blocks)),
-        Keyword::Flash => {
-            Ok(two_numbers(words).map(|(sectors, pages)| Line::Flash { sectors, pages }))
-        }
-        Keyword::Save => Ok(alone(Line::Step(StepLine::Save), words)),
-        Keyword::Post => Ok(post_with(false, words)),
-        Keyword::Urge => Ok(post_with(true, words)),
-        Keyword::Drain => Ok(alone(Line::Step(StepLine::Drain), words)),
-        Keyword::Get => Ok(only_number(words).map(|block| Line::Step(StepLine::Get { block }))),
-        Keyword::Ask => Ok(only_number(words).map(|block| Line::Step(StepLine::Ask { block }))),
-        Keyword::Power => Ok(alone(Line::Power, words)),
-        Keyword::Par => Ok(alone(Line::Par, words)),
-        Keyword::Lane => Ok(alone(Line::Lane, words)),
-        Keyword::End => Ok(alone(Line::End, words)),
-        Keyword::Cut => Ok(number_and_pattern(words).map(|(after, pattern)| {
-            Line::Step(StepLine::Arming(ArmLine::Cut { after, pattern }))
-        })),
-        Keyword::Fault => Ok(number_and_pattern(words).map(|(after, pattern)| {
-            Line::Step(StepLine::Arming(ArmLine::Fault { after, pattern }))
-        })),
-        Keyword::Mute => Ok(three_numbers(words).map(|(sector, page, times)| {
-            Line::Step(StepLine::Arming(ArmLine::Mute {
-                sector,
-                page,
-                times,
-            }))
-        })),
+        Keyword::Event => event_with(alloc, words),
+        _ => Ok(other_line_with(keyword, words)),
     }
 }
 
