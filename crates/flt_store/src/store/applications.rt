@@ -22,9 +22,7 @@ fn push_all(bytes: &[u8], out: &mut ArrayVec<u8, APPLICATION_LENGTH>)
     requires { length out.old.items + length bytes.now ≤ application_length }
     ensures { out.new.items ≡ out.old.items ++ bytes.now }
 {
-    for byte in bytes {
-        out.push(*byte);
-    }
+    out.try_extend_from_slice(bytes).unwrap();
 }
 
 fn write_application<B: Blocks + Drop>(
