@@ -1,5 +1,6 @@
 // The driver over two sectors.
-ghost use Rattle.std.specs.Prelude.{◌≡◌, ◌≢◌, ◌+◌, ◌-◌, ◌*◌, ◌^◌, ◌<◌, ◌≤◌, ℕ, length, true, false, Contains, IsFalse, IsTrue, IfOk, IfErr, IfSome, OnOk, OnErr, IsErrOf, Ok, Some, None};
+ghost use Rattle.std.specs.Prelude.{◌≡◌, ◌≢◌, ◌+◌, ◌-◌, ◌*◌, ◌^◌, ◌<◌, ◌≤◌, ℕ, length, true, false, Contains};
+ghost use Rattle.std.specs.Prelude.{IsFalse, IsTrue, IfOk, IfErr, IfSome, OnOk, OnErr, IsErrOf, Ok, Some, None};
 ghost use Rattle.std.specs.List.{AllPairs};
 ghost use Rattle.std.proofs.Props.{props};
 ghost use Rattle.flt_flash.specs.Content.{invalid, bytes as holding, size_of};
@@ -75,7 +76,8 @@ pub struct Fee<F: Flash> {
     ghost distinct: { AllPairs (λ a b. a ≢ b) numbers },
     ghost sized: { length places.items ≡ length numbers },
     ghost mounted: { IsMounted is_stale has_mounted used numbers (F.state flash).image sector sequence end },
-    ghost table: { IsFalse is_stale → Tells numbers places.items (sector_at (F.state flash).image sector) end (block_value used numbers (F.state flash).image) } by { Prim.hlevel props },
+    ghost table: { IsFalse is_stale → Tells numbers places.items (sector_at (F.state flash).image sector) end
+    (block_value used numbers (F.state flash).image) } by { Prim.hlevel props },
 }
 
 impl<F: Flash> Fee<F> {
@@ -221,7 +223,8 @@ impl<F: Flash> Fee<F> {
         requires next { self.old.sequence + 1 < 2 ^ 32 }
         requires room { 2 + live_pages (state_of F.state self.old) ≤ self.old.used }
         ensures room { OnOk result (self.new.end ≤ 2 + live_pages (state_of F.state self.old)) }
-        ensures erases { OnOk result (Erases (3 + 2 * live_pages (state_of F.state self.old)) (1 - self.old.sector) (F.state self.old.flash) (F.state self.new.flash)) }
+        ensures erases { OnOk result (Erases (3 + 2 * live_pages (state_of F.state self.old)) (1 - self.old.sector) (F.state self.old.flash)
+            (F.state self.new.flash)) }
         ensures values { SameValues (state_of F.state self.old) (state_of F.state self.new) }
         ensures calls { Calls (state_of F.state self.old) (state_of F.state self.new) result }
         ensures never_full { NeverFull result }
@@ -254,7 +257,8 @@ impl<F: Flash> Fee<F> {
         requires most { size ≤ 128 }
         ensures answers { AnswersBy (refusal (state_of F.state self.old) block size) result }
         ensures room { OnOk result (self.new.end + record_pages size ≤ self.new.used) }
-        ensures made { OnOk result (MakesRoom self.old.used self.old.end (live_pages (state_of F.state self.old)) size self.old.sector (F.state self.old.flash) (F.state self.new.flash)) }
+        ensures made { OnOk result (MakesRoom self.old.used self.old.end (live_pages (state_of F.state self.old)) size self.old.sector (F.state self.old.flash)
+            (F.state self.new.flash)) }
         ensures refused { UnlessFailed result (OnErr result (F.state self.new.flash ≡ F.state self.old.flash)) }
         ensures full { (live needed : ℕ) → IsErrOf result (Full live needed) → IsFull (state_of F.state self.new) size live needed }
         ensures spent { IsErrOf result SequenceSpent → IsTrue ((state_of F.state self.new).is_stuck block size) }
@@ -287,7 +291,8 @@ impl<F: Flash> Fee<F> {
         ensures calls { Calls (state_of F.state self.old) (state_of F.state self.new) result }
         ensures stale { Settles result (state_of F.state self.new) }
         ensures answers { AnswersBy (refusal (state_of F.state self.old) block (length bytes.now)) result }
-        ensures stores { UnlessFailed result (Stores self.old.used self.old.end (live_pages (state_of F.state self.old)) (length bytes.now) self.old.sector (F.state self.old.flash) (F.state self.new.flash)) }
+        ensures stores { UnlessFailed result (Stores self.old.used self.old.end (live_pages (state_of F.state self.old)) (length bytes.now) self.old.sector
+            (F.state self.old.flash) (F.state self.new.flash)) }
         ensures even { UnlessFlash result (StaysEven self.old.used (F.state self.old.flash) (F.state self.new.flash)) }
     {
         match self.make_room(block, bytes.len() as u16) {
@@ -305,7 +310,10 @@ impl<F: Flash> Fee<F> {
         ensures calls { Calls (state_of F.state self.old) (state_of F.state self.new) result }
         ensures stale { Settles result (state_of F.state self.new) }
         ensures answers { AnswersBy (refusal (state_of F.state self.old) block (length bytes.now)) result }
-        ensures stores { IsFalse (state_of F.state self.old).is_stale → NoFault (state_of F.state self.old) (state_of F.state self.new) → StoreCosts (is_past self.old.used self.old.numbers (F.state self.old.flash).image (length bytes.now) (current self.old.used (F.state self.old.flash).image)) (state_of F.state self.old) (state_of F.state self.new) (length bytes.now) }
+        ensures stores { IsFalse (state_of F.state self.old).is_stale → NoFault (state_of F.state self.old) (state_of F.state self.new)
+            → StoreCosts
+            (is_past self.old.used self.old.numbers (F.state self.old.flash).image (length bytes.now) (current self.old.used (F.state self.old.flash).image))
+            (state_of F.state self.old) (state_of F.state self.new) (length bytes.now) }
         ensures costs { Costs (state_of F.state self.old) (state_of F.state self.new) (length bytes.now) }
         ensures even { UnlessFlash result (StaysEven self.old.used (F.state self.old.flash) (F.state self.new.flash)) }
     {
@@ -336,7 +344,8 @@ impl<F: Flash> Fee<F> {
         ensures never_full { NeverFull result }
         ensures stale { IsFalse (state_of F.state self.new).is_stale }
         ensures image { SameImage (state_of F.state self.old) (state_of F.state self.new) }
-        ensures spends { OnOk result (Spends (byte_pages (size_of ((state_of F.state self.old).value block))) (F.state self.old.flash) (F.state self.new.flash)) }
+        ensures spends { OnOk result (Spends (byte_pages (size_of ((state_of F.state self.old).value block))) (F.state self.old.flash)
+            (F.state self.new.flash)) }
         ensures even { StaysEven self.old.used (F.state self.old.flash) (F.state self.new.flash) }
     {
         match self.place(block) {
@@ -349,7 +358,8 @@ impl<F: Flash> Fee<F> {
     fn take(&mut self, place: RecordPlace, out: &mut [u8; 128]) -> Result<Found, BlockFault>
         requires settled { IsFalse (state_of F.state self.old).is_stale }
         requires within { IsPlaceWithin self.old.used place }
-        ensures found { IfOk result (λ found. Finds (asked_of place.valid (bytes_at (sector_at (F.state self.old.flash).image self.old.sector) place)) found out.old out.new) }
+        ensures found { IfOk result (λ found. Finds (asked_of place.valid
+            (bytes_at (sector_at (F.state self.old.flash).image self.old.sector) place)) found out.old out.new) }
         ensures nothing { OnErr result (out.new ≡ out.old) }
         ensures values { SameValues (state_of F.state self.old) (state_of F.state self.new) }
         ensures spent { SameSpent (state_of F.state self.old) (state_of F.state self.new) }
@@ -357,7 +367,8 @@ impl<F: Flash> Fee<F> {
         ensures never_full { NeverFull result }
         ensures stale { IsFalse (state_of F.state self.new).is_stale }
         ensures image { SameImage (state_of F.state self.old) (state_of F.state self.new) }
-        ensures spends { OnOk result (Spends (byte_pages (size_of (asked_of place.valid (bytes_at (sector_at (F.state self.old.flash).image self.old.sector) place)))) (F.state self.old.flash) (F.state self.new.flash)) }
+        ensures spends { OnOk result (Spends (byte_pages (size_of (asked_of place.valid
+            (bytes_at (sector_at (F.state self.old.flash).image self.old.sector) place)))) (F.state self.old.flash) (F.state self.new.flash)) }
         ensures even { StaysEven self.old.used (F.state self.old.flash) (F.state self.new.flash) }
     {
         if !place.valid {
@@ -429,7 +440,8 @@ impl<F: Bench> Blocks for Fee<F> {
         ensures stale { Settles result (state_of F.state self.new) }
 
         // The sectors wear evenly.
-        ensures even { NoFault (state_of F.state self.old) (state_of F.state self.new) → StaysEven self.old.used (F.state self.old.flash) (F.state self.new.flash) }
+        ensures even { NoFault (state_of F.state self.old) (state_of F.state self.new)
+            → StaysEven self.old.used (F.state self.old.flash) (F.state self.new.flash) }
     {
         self.look()
     }
@@ -444,13 +456,17 @@ impl<F: Bench> Blocks for Fee<F> {
         ensures costs { Costs (state_of F.state self.old) (state_of F.state self.new) (length bytes.now) }
 
         // It costs the pages of its record where that fits behind the log, and else a switch of the sectors with one erase too.
-        ensures stores { IsFalse (state_of F.state self.old).is_stale → NoFault (state_of F.state self.old) (state_of F.state self.new) → StoreCosts (is_past self.old.used self.old.numbers (F.state self.old.flash).image (length bytes.now) (current self.old.used (F.state self.old.flash).image)) (state_of F.state self.old) (state_of F.state self.new) (length bytes.now) }
+        ensures stores { IsFalse (state_of F.state self.old).is_stale → NoFault (state_of F.state self.old) (state_of F.state self.new)
+            → StoreCosts
+            (is_past self.old.used self.old.numbers (F.state self.old.flash).image (length bytes.now) (current self.old.used (F.state self.old.flash).image))
+            (state_of F.state self.old) (state_of F.state self.new) (length bytes.now) }
 
         // It is refused exactly where there is no room for it, or else no sequence number for a switch.
         ensures answers { AnswersBy (refusal (state_of F.state self.old) block (length bytes.now)) result }
 
         // The sectors wear evenly.
-        ensures even { NoFault (state_of F.state self.old) (state_of F.state self.new) → StaysEven self.old.used (F.state self.old.flash) (F.state self.new.flash) }
+        ensures even { NoFault (state_of F.state self.old) (state_of F.state self.new)
+            → StaysEven self.old.used (F.state self.old.flash) (F.state self.new.flash) }
     {
         self.put(block, bytes, true)
     }
@@ -471,7 +487,8 @@ impl<F: Bench> Blocks for Fee<F> {
         ensures costs { ReadCosts (state_of F.state self.old) (state_of F.state self.new) block }
 
         // The sectors wear evenly.
-        ensures even { NoFault (state_of F.state self.old) (state_of F.state self.new) → StaysEven self.old.used (F.state self.old.flash) (F.state self.new.flash) }
+        ensures even { NoFault (state_of F.state self.old) (state_of F.state self.new)
+            → StaysEven self.old.used (F.state self.old.flash) (F.state self.new.flash) }
     {
         match self.settle() {
             Err(fault) => Err(fault),
@@ -495,13 +512,17 @@ impl<F: Bench> Blocks for Fee<F> {
         ensures costs { Costs (state_of F.state self.old) (state_of F.state self.new) 0 }
 
         // It costs the pages of its record where that fits behind the log, and else a switch of the sectors with one erase too.
-        ensures stores { IsFalse (state_of F.state self.old).is_stale → NoFault (state_of F.state self.old) (state_of F.state self.new) → StoreCosts (is_past self.old.used self.old.numbers (F.state self.old.flash).image 0 (current self.old.used (F.state self.old.flash).image)) (state_of F.state self.old) (state_of F.state self.new) 0 }
+        ensures stores { IsFalse (state_of F.state self.old).is_stale → NoFault (state_of F.state self.old) (state_of F.state self.new)
+            → StoreCosts
+            (is_past self.old.used self.old.numbers (F.state self.old.flash).image 0 (current self.old.used (F.state self.old.flash).image))
+            (state_of F.state self.old) (state_of F.state self.new) 0 }
 
         // It is refused exactly where there is no room for it, or else no sequence number for a switch.
         ensures answers { AnswersBy (refusal (state_of F.state self.old) block 0) result }
 
         // The sectors wear evenly.
-        ensures even { NoFault (state_of F.state self.old) (state_of F.state self.new) → StaysEven self.old.used (F.state self.old.flash) (F.state self.new.flash) }
+        ensures even { NoFault (state_of F.state self.old) (state_of F.state self.new)
+            → StaysEven self.old.used (F.state self.old.flash) (F.state self.new.flash) }
     {
         self.put(block, &[], false)
     }

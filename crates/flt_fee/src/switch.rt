@@ -36,15 +36,18 @@ fn copy_block<F: Flash>(
     requires sound { (log used numbers.now (sector_at (F.state flash.old).image sector)).fault ≡ None }
     requires size { length places.old ≡ length numbers.now }
     requires distinct { AllPairs (λ a b. a ≢ b) numbers.now }
-    requires place { (found : Option RecordPlace) → IsPlaceOf numbers.now places.old number found → IsAt (sector_at (F.state flash.old).image sector) used (held_in used numbers.now (sector_at (F.state flash.old).image sector) number) found }
+    requires place { (found : Option RecordPlace) → IsPlaceOf numbers.now places.old number found
+        → IsAt (sector_at (F.state flash.old).image sector) used (held_in used numbers.now (sector_at (F.state flash.old).image sector) number) found }
     requires number { Contains numbers.now number }
     requires begun { 2 ≤ end }
     requires room { end + pages_of (held_in used numbers.now (sector_at (F.state flash.old).image sector) number) ≤ used }
     requires blank { AreBlank (sector_at (F.state flash.old).image other) end used }
-    ensures copies { CopiesBlock (F.state flash.old) (F.state flash.new) other used numbers.now number end (held_in used numbers.now (sector_at (F.state flash.old).image sector) number) result }
+    ensures copies { CopiesBlock (F.state flash.old) (F.state flash.new) other used numbers.now number end
+        (held_in used numbers.now (sector_at (F.state flash.old).image sector) number) result }
     ensures size { length places.new ≡ length numbers.now }
     ensures operations { IfOk result (λ last. (F.state flash.new).operations + 2 * end ≤ (F.state flash.old).operations + 2 * last) }
-    ensures table { IfOk result (λ last. Replaces numbers.now (sector_at (F.state flash.new).image other) places.old places.new number last (held_in used numbers.now (sector_at (F.state flash.old).image sector) number)) }
+    ensures table { IfOk result (λ last. Replaces numbers.now (sector_at (F.state flash.new).image other) places.old places.new number last
+        (held_in used numbers.now (sector_at (F.state flash.old).image sector) number)) }
 {
     match place_of(numbers, places, number) {
         None => Ok(end),
@@ -76,9 +79,11 @@ fn copy_blocks<F: Flash>(
     requires blank { AreBlank (sector_at (F.state flash.old).image other) 2 used }
     requires size { length places.old ≡ length numbers.now }
     requires distinct { AllPairs (λ a b. a ≢ b) numbers.now }
-    requires table { Tells numbers.now places.old (sector_at (F.state flash.old).image sector) used (held_in used numbers.now (sector_at (F.state flash.old).image sector)) }
+    requires table { Tells numbers.now places.old (sector_at (F.state flash.old).image sector) used
+        (held_in used numbers.now (sector_at (F.state flash.old).image sector)) }
     ensures size { length places.new ≡ length numbers.now }
-    ensures table { IfOk result (λ end. Tells numbers.now places.new (sector_at (F.state flash.new).image other) end (held_in used numbers.now (sector_at (F.state flash.old).image sector))) }
+    ensures table { IfOk result (λ end. Tells numbers.now places.new (sector_at (F.state flash.new).image other) end
+        (held_in used numbers.now (sector_at (F.state flash.old).image sector))) }
     ensures operations { IfOk result (λ end. (F.state flash.new).operations + 4 ≤ (F.state flash.old).operations + 2 * end) }
     ensures copies { CopiesBlocks (F.state flash.old) (F.state flash.new) sector other used numbers.now result }
 {
@@ -110,13 +115,17 @@ pub(crate) fn switch_sectors<F: Flash>(
     requires room { 2 + current_pages used numbers.now (sector_at (F.state flash.old).image sector) ≤ used }
     requires size { length places.old ≡ length numbers.now }
     requires distinct { AllPairs (λ a b. a ≢ b) numbers.now }
-    requires table { Tells numbers.now places.old (sector_at (F.state flash.old).image sector) used (held_in used numbers.now (sector_at (F.state flash.old).image sector)) }
+    requires table { Tells numbers.now places.old (sector_at (F.state flash.old).image sector) used
+        (held_in used numbers.now (sector_at (F.state flash.old).image sector)) }
     ensures size { length places.new ≡ length numbers.now }
-    ensures table { IfOk result (λ end. Tells numbers.now places.new (sector_at (F.state flash.new).image (1 - sector)) end (held_in used numbers.now (sector_at (F.state flash.old).image sector))) }
+    ensures table { IfOk result (λ end. Tells numbers.now places.new (sector_at (F.state flash.new).image (1 - sector)) end
+        (held_in used numbers.now (sector_at (F.state flash.old).image sector))) }
     ensures room { IfOk result (λ end. end ≤ 2 + current_pages used numbers.now (sector_at (F.state flash.old).image sector)) }
-    ensures switched { IfOk result (λ end. Stands used numbers.now (F.state flash.new).image (1 - sector) (sequence + 1) end (held_in used numbers.now (sector_at (F.state flash.old).image sector))) }
+    ensures switched { IfOk result (λ end. Stands used numbers.now (F.state flash.new).image (1 - sector) (sequence + 1) end
+        (held_in used numbers.now (sector_at (F.state flash.old).image sector))) }
     ensures left { Keeps used numbers.now (F.state flash.new).image (held_in used numbers.now (sector_at (F.state flash.old).image sector)) }
-    ensures erases { OnOk result (Erases (3 + 2 * current_pages used numbers.now (sector_at (F.state flash.old).image sector)) (1 - sector) (F.state flash.old) (F.state flash.new)) }
+    ensures erases { OnOk result (Erases (3 + 2 * current_pages used numbers.now (sector_at (F.state flash.old).image sector)) (1 - sector) (F.state flash.old)
+        (F.state flash.new)) }
     ensures runs { Runs (F.state flash.old) (F.state flash.new) }
     ensures cause { OnErr result (HasRisenBy 1 (F.state flash.old).faults (F.state flash.new).faults) }
 {

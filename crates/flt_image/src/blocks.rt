@@ -44,9 +44,7 @@ fn kept(bytes: &[u8]) -> KeptBytes
     ensures { result.items ≡ bytes.now }
 {
     let mut kept = KeptBytes::new();
-    for byte in bytes {
-        kept.push(*byte);
-    }
+    kept.try_extend_from_slice(bytes).unwrap();
     kept
 }
 

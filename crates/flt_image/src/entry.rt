@@ -78,9 +78,7 @@ fn frame_at(bytes: &[u8], at: usize) -> Frame
 {
     let count = (bytes[3] as usize).min(FRAME);
     let mut frame = Frame::new();
-    for byte in &bytes[at..at + count] {
-        frame.push(*byte);
-    }
+    frame.try_extend_from_slice(&bytes[at..at + count]).unwrap();
     frame
 }
 

@@ -7,22 +7,21 @@ use arrayvec::ArrayVec;
 /// The bytes of one block, at most 128.
 pub type BlockBytes = ArrayVec<u8, 128>;
 
+/// As many zeros as a block may have.
+const ZEROS: [u8; 128] = [0; 128];
+
 pub(crate) fn push_all(out: &mut BlockBytes, bytes: &[u8])
     requires { length out.old.items + length bytes.now ≤ 128 }
     ensures { out.new.items ≡ out.old.items ++ bytes.now }
 {
-    for byte in bytes {
-        out.push(*byte);
-    }
+    out.try_extend_from_slice(bytes).unwrap();
 }
 
 pub(crate) fn push_zeros(out: &mut BlockBytes, count: usize)
     requires { length out.old.items + count ≤ 128 }
     ensures { out.new.items ≡ out.old.items ++ replicate count 0 }
 {
-    for _place in 0..count {
-        out.push(0);
-    }
+    push_all(out, &ZEROS[..count]);
 }
 
 /// The number in two bytes, big-endian.

@@ -91,7 +91,8 @@ fn set_state(states: &mut ArrayVec<EventState, EVENTS>, event: usize, state: Eve
 // Gives the events from `first` on the states that stand in a block.
 fn set_states(states: &[EventState], first: u16, into: &mut ArrayVec<EventState, EVENTS>)
     requires { first + length states.now ≤ length into.old.items }
-    ensures { (held : List ℕ) → states.now ≡ block_states held (length states.now) → into.new.items ≡ with_states held first (length states.now) into.old.items }
+    ensures { (held : List ℕ) → states.now ≡ block_states held (length states.now)
+        → into.new.items ≡ with_states held first (length states.now) into.old.items }
 {
     let count = states.len();
     for place in 0..count {

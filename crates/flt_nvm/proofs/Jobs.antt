@@ -1,13 +1,14 @@
 -- What a job leaves follows from what each of its tries leaves.
-use Rattle.std.proofs.Common.{◌≡◌, ◌⊎◌, inl, inr, ⊎_elim, ℕ, zero, suc, true, false, Result, Ok, Err, is_ok, refl, ◌∙◌, subst}
+use Rattle.std.proofs.Common.{◌≡◌, ◌⊎◌, inl, inr, ⊎_elim, ℕ, zero, suc, true, false, Result, Ok, Err, is_ok, refl, ◌∙◌, subst, arith}
 use Rattle.flt_flash.specs.Content.{Content}
 use Rattle.flt_flash.specs.declared.blocks.BlockFault.{BlockFault}
 use Rattle.flt_flash.specs.declared.blocks.BlockFault.TheVariants.{Flash, Full, SequenceSpent, Damaged}
 use Rattle.flt_flash.specs.Blocks.{BlocksState}
-use Rattle.flt_flash.specs.Calls.{Changes}
+use Rattle.std.proofs.lemmas.Grind.{common_steps}
+use Rattle.flt_flash.specs.Calls.{Calls, Changes, Settles}
 use Rattle.flt_nvm.specs.Table.{number_of}
 use Rattle.flt_nvm.specs.Tries.{Tries, Changing}
-use Rattle.flt_nvm.specs.Leaves.{Gives, GivesInAJob, GivesInTwoJobs}
+use Rattle.flt_nvm.specs.Leaves.{FlashTakesThree, Gives, GivesBoth, GivesInAJob, GivesInTwoJobs, GivesNumber}
 
 module _ (block : ℕ) (asked : Content) (size : ℕ) where
   -- one try
@@ -40,6 +41,29 @@ module _ (block : ℕ) (asked : Content) (size : ℕ) where
   gives_in_a_job (suc (suc more)) before after result (inr (between, failed, rest)) =
       gives_again before between after (Err Flash) result (gives_at_once before between (Err Flash) failed.changes) (gives_in_a_job (suc more) between after result rest)
 
+module _ (block : ℕ) (asked : Content) (size : ℕ) (before after : BlocksState) (result : Result (Unit {0}) BlockFault) (tries : Tries 3 (Changing block asked size) before after result) where
+  calls_in_a_job : Calls before after result
+  unfolding Tries
+  calls_in_a_job = grind (arith, common_steps)
+
+  settles_in_a_job : Settles result after
+  unfolding Tries
+  settles_in_a_job = grind (arith, common_steps)
+
+  takes_three : FlashTakesThree before after result
+  unfolding Tries
+  takes_three = grind (arith, common_steps)
+
+  -- all that a job leaves that gives a number a content
+  pub gives_number : GivesNumber block asked size before after result
+  gives_number = record {
+    job = tries;
+    gives = gives_in_a_job block asked size 3 before after result tries;
+    calls = calls_in_a_job;
+    stale = settles_in_a_job;
+    three = takes_three;
+  }
+
 module _ (id : ℕ) (asked : Content) (size first : ℕ) (first_is : first ≡ number_of id 0) where
   -- the job on the first copy failed
   pub first_job_alone : (before after : BlocksState) (result : Result (Unit {0}) BlockFault) → is_ok result ≡ false
@@ -53,3 +77,16 @@ module _ (id : ℕ) (asked : Content) (size first : ℕ) (first_is : first ≡ n
   both_jobs second second_is before between after (Err fault) result answered job next = absurd (cc answered)
   both_jobs second second_is before between after (Ok value) result answered job next =
       inr (between, subst (λ (n : ℕ). GivesInAJob n asked size before between (Ok tt)) first_is job, subst (λ (n : ℕ). GivesInAJob n asked size between after result) second_is next)
+
+  -- what the job on the first copy leaves, where it failed
+  pub first_gives_alone : (before after : BlocksState) (fault : BlockFault) → Gives before after first asked size (Err fault) → GivesBoth before after id asked size (Err fault)
+  first_gives_alone before after fault gives =
+      let one = subst (λ (n : ℕ). Gives before after n asked size (Err fault)) first_is gives in
+      record {
+        first = tt;
+        second = tt;
+        either = inl (one.either, one.others (number_of id 1) (λ same. omega (arith, same)));
+        others = λ other apart also. one.others other apart;
+        full = one.full;
+        spent = λ told. inl (one.spent told);
+      }

@@ -1,10 +1,13 @@
 -- A job that reads is one whatever the value of its answer is.
-use Rattle.std.proofs.Common.{◌≡◌, ℕ, zero, suc, Ok, Err, inl, inr, ap}
+use Rattle.std.proofs.Common.{◌≡◌, ℕ, zero, suc, Result, Ok, Err, inl, inr, ap, arith}
+use Rattle.std.proofs.lemmas.Grind.{common_steps}
 use Rattle.std.specs.Prelude.{IsErrOf}
 use Rattle.flt_flash.specs.Blocks.{BlocksState}
 use Rattle.flt_flash.specs.declared.blocks.BlockFault.{BlockFault}
 use Rattle.flt_flash.specs.declared.blocks.BlockFault.TheVariants.{Flash, Full, SequenceSpent, Damaged}
+use Rattle.flt_flash.specs.Calls.{ReadCosts}
 use Rattle.flt_nvm.specs.Tries.{Tries, Looks, ReadsAlone}
+use Rattle.flt_nvm.specs.Leaves.{FlashTakesThree}
 
 no_fault : {T : Type 0} (value : T) (fault : BlockFault) → IsErrOf (Ok value) fault → ⊥
 no_fault value fault is = absurd (cc is)
@@ -65,3 +68,17 @@ looks_err S T block (suc zero) before after fault tries = look_err block before 
 looks_err S T block (suc (suc more)) before after fault (inl ends) = inl (look_err block before after S T fault ends.0, λ is. ends.1 (same_fault S T fault Flash is))
 looks_err S T block (suc (suc more)) before after fault (inr (between, failed, rest)) =
     inr (between, look_err block before between S T Flash failed, looks_err S T block (suc more) between after fault rest)
+
+module _ {T : Type 0} (block : ℕ) (before after : BlocksState) (result : Result T BlockFault) (tries : Tries 3 (Looks block) before after result) where
+  -- what a job that reads leaves
+  pub reads_in_a_job : ReadsAlone before after result
+  unfolding Tries
+  reads_in_a_job = grind (arith, common_steps)
+
+  pub costs_in_a_job : ReadCosts before after block
+  unfolding Tries
+  costs_in_a_job = grind (arith, common_steps)
+
+  pub read_takes_three : FlashTakesThree before after result
+  unfolding Tries
+  read_takes_three = grind (arith, common_steps)

@@ -3,14 +3,14 @@ use Rattle.std.specs.Prelude.{◌≡◌, ◌≢◌, ◌⊎◌, ℕ, List, Option
 use Rattle.flt_flash.specs.Content.{Content, missing, invalid, bytes}
 use Rattle.flt_flash.specs.State.{HasRisenBy}
 use Rattle.flt_flash.specs.Blocks.{BlocksState, IsFull}
-use Rattle.flt_flash.specs.Calls.{Finds, OthersKept}
+use Rattle.flt_flash.specs.Calls.{Calls, Finds, NeverFull, OthersKept, SameSpent, SameValues, Settles}
 use Rattle.flt_flash.specs.declared.blocks.Found.TheVariants.{Bytes as FoundBytes, Missing as FoundMissing, Invalid as FoundInvalid}
 use Rattle.flt_flash.specs.declared.blocks.BlockFault.{BlockFault}
 use Rattle.flt_flash.specs.declared.blocks.BlockFault.TheVariants.{Flash, Full, SequenceSpent}
 use Rattle.flt_nvm.specs.declared.got.Got.{Got}
 use Rattle.flt_nvm.specs.declared.got.Got.TheVariants.{Bytes, Missing, Invalid}
 use Rattle.flt_nvm.specs.Table.{number_of}
-use Rattle.flt_nvm.specs.Tries.{Tries, Changing}
+use Rattle.flt_nvm.specs.Tries.{Tries, Changing, Mounts}
 
 -- a number holds what it held, or what was asked
 abbrev pub IsEither : BlocksState → BlocksState → ℕ → Content → Type 0
@@ -48,6 +48,32 @@ abbrev pub GivesInTwoJobs : ℕ → Content → ℕ → BlocksState → BlocksSt
 GivesInTwoJobs id asked size before after result =
     (GivesInAJob (number_of id 0) asked size before after result × IsErr result)
     ⊎ ((between : BlocksState) × GivesInAJob (number_of id 0) asked size before between (Ok tt) × GivesInAJob (number_of id 1) asked size between after result)
+
+-- a job that mounts: no block changes, and no sequence number is used
+pub record MountsInAJob (before after : BlocksState) (result : Result (Unit {0}) BlockFault) : Type 0 where
+  pub tries : Tries 3 Mounts before after result
+  pub values : SameValues before after
+  pub calls : Calls before after result
+  pub never_full : NeverFull result
+  pub stale : Settles result after
+  pub spent : SameSpent before after
+  pub three : FlashTakesThree before after result
+
+-- a job that gives a number a content
+pub record GivesNumber (number : ℕ) (asked : Content) (size : ℕ) (before after : BlocksState) (result : Result (Unit {0}) BlockFault) : Type 0 where
+  pub job : GivesInAJob number asked size before after result
+  pub gives : Gives before after number asked size result
+  pub calls : Calls before after result
+  pub stale : Settles result after
+  pub three : FlashTakesThree before after result
+
+-- one job or two that give both copies a content
+pub record GivesCopies (id : ℕ) (asked : Content) (size : ℕ) (before after : BlocksState) (result : Result (Unit {0}) BlockFault) : Type 0 where
+  pub jobs : GivesInTwoJobs id asked size before after result
+  pub gives : GivesBoth before after id asked size result
+  pub calls : Calls before after result
+  pub stale : Settles result after
+  pub three : FlashTakesThree before after result
 
 -- missing or invalid
 abbrev pub HasNoBytes : Content → Type 0

@@ -3,3 +3,4 @@ pub mod Tries
 pub mod Leaves
 pub mod Driver
 pub mod Reads
+pub mod Blocks

@@ -1,13 +1,15 @@
 -- What reads of blocks make of a driver, and when one answers that the flash failed it.
-use Rattle.std.specs.Prelude.{◌⊎◌, ◌+◌, ◌≢◌, ℕ, Result, IsFalse}
+use Rattle.std.specs.Prelude.{◌≡◌, ◌⊎◌, ◌+◌, ◌≢◌, ℕ, List, Result, IsFalse, IfOk, OnErr, IsErrOf}
 use Rattle.flt_flash.specs.Content.{Content, size_of}
 use Rattle.flt_flash.specs.State.{HasRisenBy}
 use Rattle.flt_flash.specs.Blocks.{BlocksState, byte_pages}
-use Rattle.flt_flash.specs.Calls.{CostsAtMost, NoFault}
+use Rattle.flt_flash.specs.Calls.{CostsAtMost, NoFault, ReadCosts}
 use Rattle.flt_flash.specs.declared.blocks.BlockFault.{BlockFault}
+use Rattle.flt_flash.specs.declared.blocks.BlockFault.TheVariants.{Flash}
+use Rattle.flt_nvm.specs.declared.got.Got.{Got}
 use Rattle.flt_nvm.specs.Table.{number_of}
-use Rattle.flt_nvm.specs.Tries.{Tries, Looks}
-use Rattle.flt_nvm.specs.Leaves.{GivesInAJob, HasNoBytes}
+use Rattle.flt_nvm.specs.Tries.{Tries, Looks, ReadsAlone}
+use Rattle.flt_nvm.specs.Leaves.{FlashTakesThree, GivesInAJob, GotOf, GotOfBoth, HasNoBytes}
 
 -- one job that reads a number, whatever it answers
 abbrev pub LooksInAJob : {T : Type 0} → ℕ → BlocksState → BlocksState → Result T BlockFault → Type 0
@@ -41,3 +43,22 @@ IsUnread before after id =
 abbrev pub IsUnmended : BlocksState → BlocksState → ℕ → Content → Type 0
 IsUnmended before after number asked =
     HasRisenBy 6 before.device.faults after.device.faults ⊎ (HasRisenBy 3 before.device.faults after.device.faults × (before.value number ≢ asked))
+
+-- a job that reads a number, as this copy
+pub record ReadsNumber (copy number : ℕ) (before after : BlocksState) (out_before out_after : List ℕ) (result : Result Got BlockFault) : Type 0 where
+  pub job : LooksInAJob number before after result
+  pub got : IfOk result (λ got. GotOf copy (before.value number) got out_before out_after)
+  pub nothing : OnErr result (out_after ≡ out_before)
+  pub reads : ReadsAlone before after result
+  pub costs : ReadCosts before after number
+  pub three : FlashTakesThree before after result
+
+-- one job or two that read both copies
+pub record ReadsCopies (id : ℕ) (before after : BlocksState) (out_before out_after : List ℕ) (result : Result Got BlockFault) : Type 0 where
+  pub jobs : LooksInTwoJobs id before after result
+  pub got : IfOk result (λ got. GotOfBoth before after id got out_before out_after)
+  pub nothing : OnErr result (out_after ≡ out_before)
+  pub reads : ReadsAlone before after result
+  pub costs : ReadsBothCosts before after id
+  pub unread : IsErrOf result Flash → IsUnread before after id
+  pub three : FlashTakesThree before after result

@@ -2,10 +2,12 @@
 //! job at once.
 ghost use Rattle.std.specs.Prelude.{◌≡◌, ◌≤◌, length, Contains, IfOk, OnErr};
 ghost use Rattle.flt_flash.specs.Content.{invalid, bytes as holding};
-ghost use Rattle.flt_flash.specs.Calls.{Calls, Finds, NeverFull, ReadCosts, SameSpent, SameValues, Settles};
-ghost use Rattle.flt_nvm.specs.Tries.{Tries, Mounts, Changing, Looks, ReadsAlone};
-ghost use Rattle.flt_nvm.specs.Leaves.{Gives, GivesInAJob, FlashTakesThree};
+ghost use Rattle.flt_flash.specs.Calls.{Finds};
+ghost use Rattle.flt_nvm.specs.Tries.{Tries, Mounts, Changing, Looks};
+ghost use Rattle.flt_nvm.specs.Leaves.{GivesNumber, MountsInAJob};
+ghost use Rattle.flt_nvm.specs.Reads.{ReadsNumber};
 
+use crate::got::Got;
 use flt_flash::{BlockFault, Blocks, Found};
 
 /// The tries of a job.
@@ -25,13 +27,7 @@ fn try_mount<B: Blocks>(blocks: &mut B, most: u8) -> Result<(), BlockFault>
 /// Mounts the driver.
 #[tactic(auto, unfolding(crate::specs::Tries::Tries))]
 pub fn mount<B: Blocks>(blocks: &mut B) -> Result<(), BlockFault>
-    ensures tries { Tries 3 Mounts (B.state blocks.old) (B.state blocks.new) result }
-    ensures values { SameValues (B.state blocks.old) (B.state blocks.new) }
-    ensures calls { Calls (B.state blocks.old) (B.state blocks.new) result }
-    ensures never_full { NeverFull result }
-    ensures stale { Settles result (B.state blocks.new) }
-    ensures spent { SameSpent (B.state blocks.old) (B.state blocks.new) }
-    ensures three { FlashTakesThree (B.state blocks.old) (B.state blocks.new) result }
+    ensures { MountsInAJob (B.state blocks.old) (B.state blocks.new) result }
 {
     try_mount(blocks, TRIES)
 }
@@ -61,11 +57,7 @@ pub fn write<B: Blocks>(blocks: &mut B, block: u16, bytes: &[u8]) -> Result<(), 
     requires number { Contains (B.state blocks.old).numbers block }
     requires least { 1 ≤ length bytes.now }
     requires most { length bytes.now ≤ 128 }
-    ensures job { GivesInAJob block (holding bytes.now) (length bytes.now) (B.state blocks.old) (B.state blocks.new) result }
-    ensures gives { Gives (B.state blocks.old) (B.state blocks.new) block (holding bytes.now) (length bytes.now) result }
-    ensures calls { Calls (B.state blocks.old) (B.state blocks.new) result }
-    ensures stale { Settles result (B.state blocks.new) }
-    ensures three { FlashTakesThree (B.state blocks.old) (B.state blocks.new) result }
+    ensures { GivesNumber block (holding bytes.now) (length bytes.now) (B.state blocks.old) (B.state blocks.new) result }
 {
     try_write(blocks, block, bytes, TRIES)
 }
@@ -86,11 +78,7 @@ fn try_invalidate<B: Blocks>(blocks: &mut B, block: u16, most: u8) -> Result<(),
 #[tactic(auto, unfolding(crate::specs::Tries::Tries))]
 pub fn invalidate<B: Blocks>(blocks: &mut B, block: u16) -> Result<(), BlockFault>
     requires { Contains (B.state blocks.old).numbers block }
-    ensures job { GivesInAJob block invalid 0 (B.state blocks.old) (B.state blocks.new) result }
-    ensures gives { Gives (B.state blocks.old) (B.state blocks.new) block invalid 0 result }
-    ensures calls { Calls (B.state blocks.old) (B.state blocks.new) result }
-    ensures stale { Settles result (B.state blocks.new) }
-    ensures three { FlashTakesThree (B.state blocks.old) (B.state blocks.new) result }
+    ensures { GivesNumber block invalid 0 (B.state blocks.old) (B.state blocks.new) result }
 {
     try_invalidate(blocks, block, TRIES)
 }
@@ -114,16 +102,21 @@ fn try_read<B: Blocks>(
     }
 }
 
-/// Reads a block of the driver to the start of `out`. What lies past its bytes, and all of `out` after an error, stays.
+/// Reads a block of the driver, as this copy, to the start of `out`. What lies past its bytes, and all of `out` after an error, stays.
 #[tactic(auto, unfolding(crate::specs::Tries::Tries))]
-pub fn read<B: Blocks>(blocks: &mut B, block: u16, out: &mut [u8; 128]) -> Result<Found, BlockFault>
+pub fn read<B: Blocks>(
+    blocks: &mut B,
+    block: u16,
+    copy: u8,
+    out: &mut [u8; 128],
+) -> Result<Got, BlockFault>
     requires { Contains (B.state blocks.old).numbers block }
-    ensures tries { Tries 3 (Looks block) (B.state blocks.old) (B.state blocks.new) result }
-    ensures found { IfOk result (λ found. Finds ((B.state blocks.old).value block) found out.old out.new) }
-    ensures nothing { OnErr result (out.new ≡ out.old) }
-    ensures reads { ReadsAlone (B.state blocks.old) (B.state blocks.new) result }
-    ensures costs { ReadCosts (B.state blocks.old) (B.state blocks.new) block }
-    ensures three { FlashTakesThree (B.state blocks.old) (B.state blocks.new) result }
+    ensures { ReadsNumber copy block (B.state blocks.old) (B.state blocks.new) out.old out.new result }
 {
-    try_read(blocks, block, out, TRIES)
+    match try_read(blocks, block, out, TRIES) {
+        Ok(Found::Bytes(length)) => Ok(Got::Bytes { length, copy }),
+        Ok(Found::Missing) => Ok(Got::Missing),
+        Ok(Found::Invalid) => Ok(Got::Invalid),
+        Err(fault) => Err(fault),
+    }
 }

@@ -2,11 +2,9 @@
 ghost use Rattle.std.specs.Prelude.{IsTrue};
 ghost use Rattle.flt_nvm.specs.Table.{serves};
 
-mod reading;
-
-use crate::got::Got;
+use crate::got::{Got, holds, or_flash};
 use crate::job;
-use crate::table::{BlockCfg, Kind, find_block};
+use crate::table::{BlockCfg, is_redundant};
 use flt_flash::{Arm, BlockFault, Blocks, Found};
 
 /// A driver's blocks by identifier and index.
@@ -18,14 +16,17 @@ pub struct Nvm<B: Blocks + Drop> {
 }
 
 impl<B: Blocks + Drop> Nvm<B> {
-    ghost use Rattle.std.specs.Prelude.{◌≡◌, ◌<◌, ◌≤◌, ◌-◌, ◌↔◌, length, Contains, IsFalse, IsErrOf, IfOk, OnOk, OnErr};
+    ghost use Rattle.std.specs.Prelude.{◌≡◌, ◌<◌, ◌≤◌, ◌-◌, ◌⊎◌, ℕ, length, Some, None, Result, Contains, IsFalse, IsErrOf, IfOk, OnOk, OnErr};
     ghost use Rattle.flt_flash.specs.Content.{invalid, bytes as holding};
     ghost use Rattle.flt_flash.specs.State.{CanArm, HasRisenBy};
-    ghost use Rattle.flt_flash.specs.Calls.{ArmsDriver, Calls, Finds, NeverFull, PowersUpDriver, ReadCosts, SameSpent, SameValues, Settles, found_of};
-    ghost use Rattle.flt_nvm.specs.Table.{number_of, AsKept, HasIndex, HasPlace, FitsBlock, IsRedundant};
-    ghost use Rattle.flt_nvm.specs.Leaves.{FlashTakesThree, Gives, GivesBoth, GivesInAJob, GivesInTwoJobs, GotOf, GotOfBoth};
-    ghost use Rattle.flt_nvm.specs.Tries.{Tries, Mounts, ReadsAlone};
-    ghost use Rattle.flt_nvm.specs.Reads.{LooksInAJob};
+    ghost use Rattle.flt_flash.specs.Calls.{ArmsDriver, Follows, NeverFull, PowersUpDriver, ReadCosts, SameImage, SameSpent, SameValues, found_of};
+    ghost use Rattle.flt_flash.specs.declared.blocks.BlockFault.{BlockFault};
+    ghost use Rattle.flt_flash.specs.declared.blocks.BlockFault.TheVariants.{Flash};
+    ghost use Rattle.flt_nvm.specs.declared.got.Got.{Got};
+    ghost use Rattle.flt_nvm.specs.Table.{number_of, HasIndex, HasPlace, FitsBlock, IsRedundant};
+    ghost use Rattle.flt_nvm.specs.Leaves.{GivesCopies, GotOfSecond, HasNoBytes, MountsInAJob};
+    ghost use Rattle.flt_nvm.specs.Reads.{LooksInAJob, ReadsCopies};
+    ghost use Rattle.flt_nvm.specs.Blocks.{GivesBlock, ReadsBlock, ReadsCopy, Repairs};
     ghost use Rattle.flt_nvm.specs.Driver.{driver_of, table_of};
 
     /// The blocks of this table over a driver that was made with their numbers: `id * 8 + index`, or for a redundant block
@@ -47,89 +48,25 @@ impl<B: Blocks + Drop> Nvm<B> {
         id * 8 + place as u16
     }
 
-    fn is_redundant(&self, id: u16) -> bool
-        ensures { IsTrue result ↔ IsRedundant (table_of self.now) id }
-    {
-        match find_block(&self.table, id) {
-            Some(block) => block.kind == Kind::Redundant,
-            None => false,
-        }
-    }
-
     /// Mounts the driver. No block changes, and no sequence number is used. `Flash` comes only where three mounts failed.
     pub fn start(&mut self) -> Result<(), BlockFault>
-        ensures tries { Tries 3 Mounts (driver_of self.old) (driver_of self.new) result }
-        ensures values { SameValues (driver_of self.old) (driver_of self.new) }
-        ensures calls { Calls (driver_of self.old) (driver_of self.new) result }
-        ensures never_full { NeverFull result }
-        ensures stale { Settles result (driver_of self.new) }
-        ensures spent { SameSpent (driver_of self.old) (driver_of self.new) }
-        ensures three { FlashTakesThree (driver_of self.old) (driver_of self.new) result }
+        ensures mounted { MountsInAJob (driver_of self.old) (driver_of self.new) result }
         ensures table { table_of self.new ≡ table_of self.old }
     {
         job::mount(&mut self.blocks)
-    }
-
-    fn write_number(&mut self, number: u16, bytes: &[u8]) -> Result<(), BlockFault>
-        requires number { Contains (driver_of self.old).numbers number }
-        requires least { 1 ≤ length bytes.now }
-        requires most { length bytes.now ≤ 128 }
-        ensures job { GivesInAJob number (holding bytes.now) (length bytes.now) (driver_of self.old) (driver_of self.new) result }
-        ensures gives { Gives (driver_of self.old) (driver_of self.new) number (holding bytes.now) (length bytes.now) result }
-        ensures calls { Calls (driver_of self.old) (driver_of self.new) result }
-        ensures stale { Settles result (driver_of self.new) }
-        ensures three { FlashTakesThree (driver_of self.old) (driver_of self.new) result }
-        ensures table { table_of self.new ≡ table_of self.old }
-    {
-        job::write(&mut self.blocks, number, bytes)
-    }
-
-    fn invalidate_number(&mut self, number: u16) -> Result<(), BlockFault>
-        requires { Contains (driver_of self.old).numbers number }
-        ensures job { GivesInAJob number invalid 0 (driver_of self.old) (driver_of self.new) result }
-        ensures gives { Gives (driver_of self.old) (driver_of self.new) number invalid 0 result }
-        ensures calls { Calls (driver_of self.old) (driver_of self.new) result }
-        ensures stale { Settles result (driver_of self.new) }
-        ensures three { FlashTakesThree (driver_of self.old) (driver_of self.new) result }
-        ensures table { table_of self.new ≡ table_of self.old }
-    {
-        job::invalidate(&mut self.blocks, number)
-    }
-
-    // Reads one number, as this copy.
-    fn read_number(&mut self, number: u16, copy: u8, out: &mut [u8; 128]) -> Result<Got, BlockFault>
-        requires { Contains (driver_of self.old).numbers number }
-        ensures job { LooksInAJob number (driver_of self.old) (driver_of self.new) result }
-        ensures got { IfOk result (λ got. GotOf copy ((driver_of self.old).value number) got out.old out.new) }
-        ensures nothing { OnErr result (out.new ≡ out.old) }
-        ensures reads { ReadsAlone (driver_of self.old) (driver_of self.new) result }
-        ensures costs { ReadCosts (driver_of self.old) (driver_of self.new) number }
-        ensures three { FlashTakesThree (driver_of self.old) (driver_of self.new) result }
-        ensures table { table_of self.new ≡ table_of self.old }
-    {
-        match job::read(&mut self.blocks, number, out) {
-            Ok(Found::Bytes(length)) => Ok(Got::Bytes { length, copy }),
-            Ok(Found::Missing) => Ok(Got::Missing),
-            Ok(Found::Invalid) => Ok(Got::Invalid),
-            Err(fault) => Err(fault),
-        }
     }
 
     fn write_both(&mut self, id: u16, bytes: &[u8]) -> Result<(), BlockFault>
         requires redundant { IsRedundant (table_of self.old) id }
         requires least { 1 ≤ length bytes.now }
         requires most { length bytes.now ≤ 128 }
-        ensures jobs { GivesInTwoJobs id (holding bytes.now) (length bytes.now) (driver_of self.old) (driver_of self.new) result }
-        ensures gives { GivesBoth (driver_of self.old) (driver_of self.new) id (holding bytes.now) (length bytes.now) result }
-        ensures calls { Calls (driver_of self.old) (driver_of self.new) result }
-        ensures stale { Settles result (driver_of self.new) }
-        ensures three { FlashTakesThree (driver_of self.old) (driver_of self.new) result }
+        ensures gives { GivesCopies id (holding bytes.now) (length bytes.now) (driver_of self.old) (driver_of self.new) result }
         ensures table { table_of self.new ≡ table_of self.old }
     {
         let first = self.number(id, 0);
         let second = self.number(id, 1);
-        match self.write_number(first, bytes) {
-            Ok(()) => self.write_number(second, bytes),
+        match job::write(&mut self.blocks, first, bytes) {
+            Ok(()) => job::write(&mut self.blocks, second, bytes),
             Err(unwritten) => Err(unwritten),
         }
     }
@@ -144,34 +81,25 @@ impl<B: Blocks + Drop> Nvm<B> {
         requires index { HasIndex (table_of self.old) id index }
         requires least { 1 ≤ length bytes.now }
         requires fits { FitsBlock (table_of self.old) id (length bytes.now) }
-        ensures jobs { AsKept (table_of self.old) id (GivesInAJob (number_of id index) (holding bytes.now) (length bytes.now) (driver_of self.old) (driver_of self.new) result) (GivesInTwoJobs id (holding bytes.now) (length bytes.now) (driver_of self.old) (driver_of self.new) result) }
-        ensures gives { AsKept (table_of self.old) id (Gives (driver_of self.old) (driver_of self.new) (number_of id index) (holding bytes.now) (length bytes.now) result) (GivesBoth (driver_of self.old) (driver_of self.new) id (holding bytes.now) (length bytes.now) result) }
-        ensures calls { Calls (driver_of self.old) (driver_of self.new) result }
-        ensures stale { Settles result (driver_of self.new) }
-        ensures three { FlashTakesThree (driver_of self.old) (driver_of self.new) result }
-        ensures table { table_of self.new ≡ table_of self.old }
+        ensures { GivesBlock id index (holding bytes.now) (length bytes.now) self.old self.new result }
     {
-        if self.is_redundant(id) {
+        if is_redundant(&self.table, id) {
             self.write_both(id, bytes)
         } else {
             let number = self.number(id, index);
-            self.write_number(number, bytes)
+            job::write(&mut self.blocks, number, bytes)
         }
     }
 
     fn invalidate_both(&mut self, id: u16) -> Result<(), BlockFault>
         requires { IsRedundant (table_of self.old) id }
-        ensures jobs { GivesInTwoJobs id invalid 0 (driver_of self.old) (driver_of self.new) result }
-        ensures gives { GivesBoth (driver_of self.old) (driver_of self.new) id invalid 0 result }
-        ensures calls { Calls (driver_of self.old) (driver_of self.new) result }
-        ensures stale { Settles result (driver_of self.new) }
-        ensures three { FlashTakesThree (driver_of self.old) (driver_of self.new) result }
+        ensures gives { GivesCopies id invalid 0 (driver_of self.old) (driver_of self.new) result }
         ensures table { table_of self.new ≡ table_of self.old }
     {
         let first = self.number(id, 0);
         let second = self.number(id, 1);
-        match self.invalidate_number(first) {
-            Ok(()) => self.invalidate_number(second),
+        match job::invalidate(&mut self.blocks, first) {
+            Ok(()) => job::invalidate(&mut self.blocks, second),
             Err(unmarked) => Err(unmarked),
         }
     }
@@ -180,18 +108,111 @@ impl<B: Blocks + Drop> Nvm<B> {
     /// of `write`.
     pub fn invalidate(&mut self, id: u16, index: u8) -> Result<(), BlockFault>
         requires { HasIndex (table_of self.old) id index }
-        ensures jobs { AsKept (table_of self.old) id (GivesInAJob (number_of id index) invalid 0 (driver_of self.old) (driver_of self.new) result) (GivesInTwoJobs id invalid 0 (driver_of self.old) (driver_of self.new) result) }
-        ensures gives { AsKept (table_of self.old) id (Gives (driver_of self.old) (driver_of self.new) (number_of id index) invalid 0 result) (GivesBoth (driver_of self.old) (driver_of self.new) id invalid 0 result) }
-        ensures calls { Calls (driver_of self.old) (driver_of self.new) result }
-        ensures stale { Settles result (driver_of self.new) }
-        ensures three { FlashTakesThree (driver_of self.old) (driver_of self.new) result }
-        ensures table { table_of self.new ≡ table_of self.old }
+        ensures { GivesBlock id index invalid 0 self.old self.new result }
     {
-        if self.is_redundant(id) {
+        if is_redundant(&self.table, id) {
             self.invalidate_both(id)
         } else {
             let number = self.number(id, index);
-            self.invalidate_number(number)
+            job::invalidate(&mut self.blocks, number)
+        }
+    }
+
+    /// Reads copy 1 or copy 2 of a redundant block alone, in one job, to the start of `out`. What lies past its bytes, and all of
+    /// `out` after an error, stays; no block changes.
+    pub fn read_copy(&mut self, id: u16, copy: u8, out: &mut [u8; 128]) -> Result<Got, BlockFault>
+        requires redundant { IsRedundant (table_of self.old) id }
+        requires least { 1 ≤ copy }
+        requires most { copy ≤ 2 }
+        ensures { ReadsCopy id copy self.old self.new out.old out.new result }
+    {
+        let number = self.number(id, copy - 1);
+        job::read(&mut self.blocks, number, copy, out)
+    }
+
+    // Reads copy 2; where that has no bytes, the answer is what copy 1 gave, or Flash where it could not be read.
+    fn read_second(
+        &mut self,
+        id: u16,
+        out: &mut [u8; 128],
+        first: Option<Got>,
+    ) -> Result<Got, BlockFault>
+        requires { IsRedundant (table_of self.old) id }
+        ensures got { IfOk result (λ got. GotOfSecond ((driver_of self.old).value (number_of id 1)) first got out.old out.new) }
+        ensures nothing { OnErr result (out.new ≡ out.old) }
+        ensures values { SameValues (driver_of self.old) (driver_of self.new) }
+        ensures follows { Follows (driver_of self.old) (driver_of self.new) }
+        ensures flash { IsErrOf result Flash → HasRisenBy 3 (driver_of self.old).device.faults (driver_of self.new).device.faults
+            ⊎ ((first ≡ None) × HasNoBytes ((driver_of self.old).value (number_of id 1))) }
+        ensures damaged { (sector page : ℕ) → IsErrOf result (BlockFault.Damaged sector page)
+            → ((driver_of self.old).damage ≡ Some (sector, page)) × IsFalse (driver_of self.old).has_mounted }
+        ensures refuses_damage { OnOk result ((driver_of self.old).damage ≡ None) }
+        ensures never_full { NeverFull result }
+        ensures spent { SameSpent (driver_of self.old) (driver_of self.new) }
+        ensures settled { OnOk result (IsFalse (driver_of self.new).is_stale) }
+        ensures stale { IsFalse (driver_of self.old).is_stale → IsFalse (driver_of self.new).is_stale }
+        ensures image { IsFalse (driver_of self.old).is_stale → SameImage (driver_of self.old) (driver_of self.new) }
+        ensures costs { ReadCosts (driver_of self.old) (driver_of self.new) (number_of id 1) }
+        ensures job { (read : Result Got BlockFault) × LooksInAJob (number_of id 1) (driver_of self.old) (driver_of self.new) read }
+        ensures table { table_of self.new ≡ table_of self.old }
+    {
+        match self.read_copy(id, 2, out) {
+            Ok(Got::Bytes { length, copy }) => Ok(Got::Bytes { length, copy }),
+            Ok(Got::Missing) => or_flash(first),
+            Ok(Got::Invalid) => or_flash(first),
+            Err(fault) => Err(fault),
+        }
+    }
+
+    fn read_both(&mut self, id: u16, out: &mut [u8; 128]) -> Result<Got, BlockFault>
+        requires { IsRedundant (table_of self.old) id }
+        ensures reads { ReadsCopies id (driver_of self.old) (driver_of self.new) out.old out.new result }
+        ensures table { table_of self.new ≡ table_of self.old }
+    {
+        match self.read_copy(id, 1, out) {
+            Ok(Got::Bytes { length, copy }) => Ok(Got::Bytes { length, copy }),
+            Ok(Got::Missing) => self.read_second(id, out, Some(Got::Missing)),
+            Ok(Got::Invalid) => self.read_second(id, out, Some(Got::Invalid)),
+            Err(BlockFault::Flash) => self.read_second(id, out, None),
+            Err(fault) => Err(fault),
+        }
+    }
+
+    /// Reads a native block, an index of a dataset or a redundant block to the start of `out`: of a redundant block copy 1, and
+    /// copy 2 where copy 1 is missing, invalid or can't be read. Where neither has bytes the answer is `Flash` if one of the two
+    /// could not be read, else what copy 1 is. What lies past the bytes, and all of `out` after an error, stays; no block changes.
+    pub fn read(&mut self, id: u16, index: u8, out: &mut [u8; 128]) -> Result<Got, BlockFault>
+        requires { HasIndex (table_of self.old) id index }
+        ensures { ReadsBlock id index self.old self.new out.old out.new result }
+    {
+        if is_redundant(&self.table, id) {
+            self.read_both(id, out)
+        } else {
+            let number = self.number(id, index);
+            job::read(&mut self.blocks, number, 1, out)
+        }
+    }
+
+    /// Makes both copies of a redundant block hold `bytes`, which copy `copy`, 1 or 2, holds. That copy is never written: the other
+    /// is read, and written where it does not hold them or can't be read in three tries. After an error the other copy holds what it
+    /// held or `bytes`, and the driver may be stale: `start` comes before `look_up` and `spent` then.
+    pub fn repair(&mut self, id: u16, copy: u8, bytes: &[u8]) -> Result<(), BlockFault>
+        requires redundant { IsRedundant (table_of self.old) id }
+        requires least_copy { 1 ≤ copy }
+        requires most_copy { copy ≤ 2 }
+        requires holds { (driver_of self.old).value (number_of id (copy - 1)) ≡ holding bytes.now }
+        requires least { 1 ≤ length bytes.now }
+        requires fits { FitsBlock (table_of self.old) id (length bytes.now) }
+        ensures { Repairs id copy (holding bytes.now) (length bytes.now) self.old self.new result }
+    {
+        let mut out = [0; 128];
+        match self.read_copy(id, 3 - copy, &mut out) {
+            Ok(got) if holds(got, &out, bytes) => Ok(()),
+            Ok(_) | Err(BlockFault::Flash) => {
+                let number = self.number(id, 2 - copy);
+                job::write(&mut self.blocks, number, bytes)
+            }
+            Err(fault) => Err(fault),
         }
     }
 

@@ -1,6 +1,6 @@
 //! The table of blocks.
-ghost use Rattle.std.specs.Prelude.{◌≡◌};
-ghost use Rattle.flt_nvm.specs.Table.{block_in};
+ghost use Rattle.std.specs.Prelude.{◌↔◌, IsTrue};
+ghost use Rattle.flt_nvm.specs.Table.{IsRedundant};
 
 /// How a block is kept (AUTOSAR NvM: the block management types).
 #[derive(Clone, Copy, Debug, PartialEq, Eq)]
@@ -23,14 +23,14 @@ pub struct BlockCfg {
     pub length: u8,
 }
 
-/// The block of this identifier: the first of the table, where it has several.
-pub fn find_block(table: &[BlockCfg], id: u16) -> Option<BlockCfg>
-    ensures { result ≡ block_in table.now id }
+/// Whether the block of this identifier is a redundant one. Where the table has several, the first counts.
+pub fn is_redundant(table: &[BlockCfg], id: u16) -> bool
+    ensures { IsTrue result ↔ IsRedundant table.now id }
 {
     for block in table {
         if block.id == id {
-            return Some(*block);
+            return block.kind == Kind::Redundant;
         }
     }
-    None
+    false
 }

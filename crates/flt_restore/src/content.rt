@@ -23,9 +23,7 @@ fn first_bytes(out: &[u8; 128], length: usize) -> BlockBytes
     ensures { result.items ≡ take length out.now }
 {
     let mut bytes = ArrayVec::new();
-    for byte in &out[..length] {
-        bytes.push(*byte);
-    }
+    bytes.try_extend_from_slice(&out[..length]).unwrap();
     bytes
 }
 

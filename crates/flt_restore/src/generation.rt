@@ -1,10 +1,10 @@
-//! The generation that a commit names, with the parts that it has.
-ghost use Rattle.flt_flash.specs.Content.{bytes as holding};
-ghost use Rattle.std.specs.Prelude.{◌≡◌, Some, Ok, IfErr, IfOk, IsErrOf, IsTrue, IsFalse};
+//! The generation that a commit names, with its parts.
+ghost use Rattle.std.specs.Prelude.{◌≡◌, ◌≤◌, ◌<◌, length, Ok, IfErr, IfOk, OnOk, IsErrOf, IsTrue, IsFalse};
 ghost use Rattle.flt_nvm.specs.Driver.{driver_of, table_of};
 ghost use Rattle.flt_image.specs.Table.{block_table};
-ghost use Rattle.flt_generation.specs.Layout.{mark_number};
-ghost use Rattle.flt_generation.specs.Holding.{held_by, named};
+ghost use Rattle.flt_generation.specs.Layout.{first_part, end_part, mark_number, parts};
+ghost use Rattle.flt_generation.specs.Form.{IsCommit};
+ghost use Rattle.flt_generation.specs.Holding.{held_by, named, parts_read, with_named};
 ghost use Rattle.flt_restore.specs.Found.{content_of, Reads};
 ghost use Rattle.flt_restore.specs.declared.fault.StartFault.TheVariants.{Flash};
 ghost use Rattle.flt_restore.specs.Unread.{IsPartUnread};
@@ -16,42 +16,73 @@ use crate::content::Held;
 use crate::fault::StartFault;
 use crate::judging::{damaged, judge_mark};
 use crate::lengths::{judge_applications, judge_excess};
-use crate::parts::read_parts;
-use crate::reading::Source;
+use crate::reading::{Source, read_content};
 use flt_config::{Persist, ValidConfig, initial};
 use flt_flash::Blocks;
-use flt_generation::COMMIT_ID;
-use flt_image::{BlockBytes, get_commit};
+use flt_generation::{COMMIT_ID, Commit, END_PART, FIRST_PART};
+use flt_image::{get_block, get_commit, is_used};
 use flt_nvm::Nvm;
 
-// Takes the generation that the bytes of a copy name.
-fn read_named<B: Blocks + Drop>(
+// Takes one part where it is used, beside those that were taken before.
+fn read_part<B: Blocks + Drop>(
     nvm: &mut Nvm<B>,
     config: &ValidConfig,
-    bytes: BlockBytes,
-    copy: u8,
+    commit: &Commit,
+    id: u16,
     out: &mut Persist,
-) -> Result<CommitCopy, StartFault>
+) -> Result<(), StartFault>
     requires table { table_of nvm.old ≡ block_table }
     requires mounted { IsTrue (driver_of nvm.old).has_mounted }
-    ensures told { IfOk result (λ found. named config.now (driver_of nvm.old).value (holding bytes.items) ≡ Ok (generation (Some found) out.new)) }
-    ensures source { IfOk result (λ found. IsReadFrom (holding bytes.items) copy (Some found)) }
-    ensures refused { IfErr result (Tells config.now (driver_of nvm.old) (driver_of nvm.new) (named config.now (driver_of nvm.old).value (holding bytes.items))) }
+    requires form { IsCommit config.now commit.now }
+    requires first { first_part ≤ id }
+    requires end { id < end_part }
+    requires states { length out.old.events.items ≡ length config.now.events.items }
+    ensures told { OnOk result (with_named config.now (driver_of nvm.old).value commit.now id out.old ≡ Ok out.new) }
+    ensures refused { IfErr result (Tells config.now (driver_of nvm.old) (driver_of nvm.new)
+        (with_named config.now (driver_of nvm.old).value commit.now id out.old)) }
+    ensures states { length out.new.events.items ≡ length config.now.events.items }
     ensures unread { IsErrOf result Flash → IsPartUnread config.now (driver_of nvm.old) (driver_of nvm.new) }
     ensures reads { Reads (driver_of nvm.old) (driver_of nvm.new) }
     ensures table { table_of nvm.new ≡ table_of nvm.old }
 {
-    match get_commit(config, &bytes) {
-        None => Err(damaged(COMMIT_ID)),
-        Some(commit) => {
-            read_parts(nvm, config, &commit, out)?;
-            Ok(CommitCopy {
-                commit,
-                copy,
-                bytes,
-            })
+    if !is_used(config, id) {
+        return Ok(());
+    }
+    match read_content(nvm, id, commit.index[(id - FIRST_PART) as usize])? {
+        Held::Missing => Err(damaged(id)),
+        Held::Invalid => Err(damaged(id)),
+        Held::Bytes(bytes) => {
+            if get_block(config, id, &bytes, out) {
+                Ok(())
+            } else {
+                Err(damaged(id))
+            }
         }
     }
+}
+
+// Takes all parts that the configuration uses, in ascending order, each at the index at which the commit names it.
+fn read_parts<B: Blocks + Drop>(
+    nvm: &mut Nvm<B>,
+    config: &ValidConfig,
+    commit: &Commit,
+    out: &mut Persist,
+) -> Result<(), StartFault>
+    requires table { table_of nvm.old ≡ block_table }
+    requires mounted { IsTrue (driver_of nvm.old).has_mounted }
+    requires form { IsCommit config.now commit.now }
+    ensures told { OnOk result (parts_read config.now (driver_of nvm.old).value commit.now parts ≡ Ok out.new) }
+    ensures refused { IfErr result (Tells config.now (driver_of nvm.old) (driver_of nvm.new)
+        (parts_read config.now (driver_of nvm.old).value commit.now parts)) }
+    ensures unread { IsErrOf result Flash → IsPartUnread config.now (driver_of nvm.old) (driver_of nvm.new) }
+    ensures reads { Reads (driver_of nvm.old) (driver_of nvm.new) }
+    ensures table { table_of nvm.new ≡ table_of nvm.old }
+{
+    *out = initial(config);
+    for id in FIRST_PART..END_PART {
+        read_part(nvm, config, commit, id, out)?;
+    }
+    Ok(())
 }
 
 // Takes the generation that a copy of the commit names; where it is missing, the first one.
@@ -77,10 +108,17 @@ fn read_generation<B: Blocks + Drop>(
             Ok(None)
         }
         Held::Invalid => Err(damaged(COMMIT_ID)),
-        Held::Bytes(bytes) => {
-            let found = read_named(nvm, config, bytes, copy, out)?;
-            Ok(Some(found))
-        }
+        Held::Bytes(bytes) => match get_commit(config, &bytes) {
+            None => Err(damaged(COMMIT_ID)),
+            Some(commit) => {
+                read_parts(nvm, config, &commit, out)?;
+                Ok(Some(CommitCopy {
+                    commit,
+                    copy,
+                    bytes,
+                }))
+            }
+        },
     }
 }
 
@@ -98,7 +136,8 @@ pub(crate) fn read_image<B: Blocks + Drop>(
     requires mark { content_of mark.now ≡ (driver_of nvm.old).value mark_number }
     ensures told { IfOk result (λ commit. held_by config.now (driver_of nvm.old).value (content_of source.held) ≡ Ok (generation commit out.new)) }
     ensures source { IfOk result (λ commit. IsReadFrom (content_of source.held) source.copy commit) }
-    ensures refused { IfErr result (Tells config.now (driver_of nvm.old) (driver_of nvm.new) (held_by config.now (driver_of nvm.old).value (content_of source.held))) }
+    ensures refused { IfErr result (Tells config.now (driver_of nvm.old) (driver_of nvm.new)
+        (held_by config.now (driver_of nvm.old).value (content_of source.held))) }
     ensures unread { IsErrOf result Flash → IsPartUnread config.now (driver_of nvm.old) (driver_of nvm.new) }
     ensures reads { Reads (driver_of nvm.old) (driver_of nvm.new) }
     ensures table { table_of nvm.new ≡ table_of nvm.old }

@@ -14,7 +14,6 @@ mod judging;
 mod lengths;
 mod named;
 mod pages;
-mod parts;
 mod reading;
 mod restoring;
 

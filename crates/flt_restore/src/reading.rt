@@ -36,29 +36,6 @@ pub(crate) fn read_content<B: Blocks + Drop>(
     }
 }
 
-/// Reads copy 1 or copy 2 of the commit.
-pub(crate) fn read_commit_copy<B: Blocks + Drop>(
-    nvm: &mut Nvm<B>,
-    copy: u8,
-) -> Result<Held, FlashFailed>
-    requires table { table_of nvm.old ≡ block_table }
-    requires mounted { IsTrue (driver_of nvm.old).has_mounted }
-    requires least { 1 ≤ copy }
-    requires most { copy ≤ 2 }
-    ensures content { IfOk result (λ held. content_of held ≡ (driver_of nvm.old).value (number_of commit_id (copy - 1))) }
-    ensures unread { OnErr result (FailsToRead (number_of commit_id (copy - 1)) (driver_of nvm.old) (driver_of nvm.new)) }
-    ensures flash { OnErr result (HasRisenBy 3 (driver_of nvm.old).device.faults (driver_of nvm.new).device.faults) }
-    ensures settled { OnOk result (IsFalse (driver_of nvm.new).is_stale) }
-    ensures reads { Reads (driver_of nvm.old) (driver_of nvm.new) }
-    ensures table { table_of nvm.new ≡ table_of nvm.old }
-{
-    let mut out = [0; 128];
-    match nvm.read_copy(COMMIT_ID, copy, &mut out) {
-        Ok(got) => Ok(held_in(got, &out)),
-        Err(_) => Err(FlashFailed),
-    }
-}
-
 /// What counts as the commit, and the copy that it is of.
 #[derive(Drop)]
 pub(crate) struct Source {
@@ -66,6 +43,7 @@ pub(crate) struct Source {
     pub copy: u8,
 }
 
+// Reads copy 1 or copy 2 of the commit.
 fn read_source<B: Blocks + Drop>(nvm: &mut Nvm<B>, copy: u8) -> Result<Source, FlashFailed>
     requires table { table_of nvm.old ≡ block_table }
     requires mounted { IsTrue (driver_of nvm.old).has_mounted }
@@ -78,8 +56,14 @@ fn read_source<B: Blocks + Drop>(nvm: &mut Nvm<B>, copy: u8) -> Result<Source, F
     ensures reads { Reads (driver_of nvm.old) (driver_of nvm.new) }
     ensures table { table_of nvm.new ≡ table_of nvm.old }
 {
-    let held = read_commit_copy(nvm, copy)?;
-    Ok(Source { held, copy })
+    let mut out = [0; 128];
+    match nvm.read_copy(COMMIT_ID, copy, &mut out) {
+        Ok(got) => Ok(Source {
+            held: held_in(got, &out),
+            copy,
+        }),
+        Err(_) => Err(FlashFailed),
+    }
 }
 
 /// Reads the copy of the commit that counts: copy 1 where it has bytes, else copy 2 where that has bytes, else copy 1. Where copy 1

@@ -82,11 +82,13 @@ fn write_moved<B: Blocks + Drop>(
     requires sizes { AreSized config.now (bytes_at blocks.now) }
     requires first { first_part ≤ id }
     requires end { id < end_part }
-    ensures written { OnOk result (IsTrue (is_written config.now current.now next.now id) → (driver_of nvm.new).value (number_of id (index_in next.now id)) ≡ holding (bytes_at blocks.now id)) }
+    ensures written { OnOk result (IsTrue (is_written config.now current.now next.now id)
+        → (driver_of nvm.new).value (number_of id (index_in next.now id)) ≡ holding (bytes_at blocks.now id)) }
     ensures only { OnlyNewBlock config.now current.now next.now (bytes_at blocks.now) id (driver_of nvm.old).value (driver_of nvm.new).value }
     ensures within { IsWithinOwn config.now (driver_of nvm.old).value (driver_of nvm.new).value }
     ensures spends { (most : ℕ) → Spends most (driver_of nvm.old) (driver_of nvm.new)
-        (if is_written config.now current.now next.now id then record_pages (length (bytes_at blocks.now id)) else 0) (if is_written config.now current.now next.now id then most else 0) }
+        (if is_written config.now current.now next.now id then record_pages (length (bytes_at blocks.now id)) else 0)
+        (if is_written config.now current.now next.now id then most else 0) }
     ensures fresh { IsFalse (driver_of nvm.old).is_stale → OnOk result (IsFalse (driver_of nvm.new).is_stale) }
     ensures writes { Writes (driver_of nvm.old) (driver_of nvm.new) result }
     ensures table { table_of nvm.new ≡ table_of nvm.old }
@@ -118,7 +120,8 @@ fn write_blocks<B: Blocks + Drop>(
     ensures only { OnlyNewBlocks config.now current.now next.now (bytes_at blocks.now) (driver_of nvm.old).value (driver_of nvm.new).value }
     ensures within { IsWithinOwn config.now (driver_of nvm.old).value (driver_of nvm.new).value }
     ensures spends { (most : ℕ) → IsFalse (driver_of nvm.old).is_stale → Spends most (driver_of nvm.old) (driver_of nvm.new)
-        (written_sum config.now current.now next.now (λ id. record_pages (length (bytes_at blocks.now id))) parts) (written_sum config.now current.now next.now (λ id. most) parts) }
+        (written_sum config.now current.now next.now (λ id. record_pages (length (bytes_at blocks.now id))) parts)
+        (written_sum config.now current.now next.now (λ id. most) parts) }
     ensures fresh { IsFalse (driver_of nvm.old).is_stale → OnOk result (IsFalse (driver_of nvm.new).is_stale) }
     ensures writes { Writes (driver_of nvm.old) (driver_of nvm.new) result }
     ensures table { table_of nvm.new ≡ table_of nvm.old }
@@ -150,7 +153,8 @@ pub(crate) fn write_generation<B: Blocks + Drop>(
     requires fits { Fits config.now state.now }
     ensures done { (g : Generation) → IsStarted config.now (driver_of nvm.old).value current.now g → MayKnow config.now current.now (bytes_at saved.now) g.state
         → IfOk result (λ written. IsStarted config.now (driver_of nvm.new).value (Some written.commit) (next_generation current.now state.now)) }
-    ensures either { (g : Generation) → IsStarted config.now (driver_of nvm.old).value current.now g → MayKnow config.now current.now (bytes_at saved.now) g.state
+    ensures either { (g : Generation) → IsStarted config.now (driver_of nvm.old).value current.now g
+        → MayKnow config.now current.now (bytes_at saved.now) g.state
         → OldOrNew config.now (driver_of nvm.new).value g g (next_generation current.now state.now) }
     ensures spends { (most : ℕ) → IsFalse (driver_of nvm.old).is_stale → Spends most (driver_of nvm.old) (driver_of nvm.new)
         (6 + pages_to_write config.now current.now (bytes_at saved.now) (block_bytes state.now)) ((length (used_ids config.now) + 2) * most) }

@@ -24,7 +24,8 @@ pub(crate) fn write_missing_mark<B: Blocks + Drop>(
     mark: &Mark,
 ) -> Result<(), BlockFault>
     requires { table_of nvm.old ≡ block_table }
-    ensures marked { (c : Config) → mark.now ≡ mark_of c → MarkAllows c ((driver_of nvm.old).value mark_number) missing → OnOk result (HasMark c (driver_of nvm.new).value) }
+    ensures marked { (c : Config) → mark.now ≡ mark_of c → MarkAllows c ((driver_of nvm.old).value mark_number) missing
+        → OnOk result (HasMark c (driver_of nvm.new).value) }
     ensures tried { (c : Config) → mark.now ≡ mark_of c → IsMarkTried c (driver_of nvm.old).value (driver_of nvm.new).value }
     ensures others { OthersKept mark_number (driver_of nvm.old) (driver_of nvm.new) }
     ensures fresh { OnOk result (IsFalse (driver_of nvm.new).is_stale) }

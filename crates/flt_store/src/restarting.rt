@@ -31,9 +31,12 @@ pub(crate) fn restart<B: Blocks + Drop>(
     requires { table_of nvm.old ≡ block_table }
     ensures started { (held spare : Generation) → IsSound config.now (driver_of nvm.old).value held spare → HasMark config.now (driver_of nvm.old).value
         → IfOk result (λ commit. StartsEither config.now (driver_of nvm.old) (driver_of nvm.new) commit held spare) }
-    ensures failed { (held spare new : Generation) → IsSound config.now (driver_of nvm.old).value held spare → OnErr result (OldOrNew config.now (driver_of nvm.new).value held spare new) }
-    ensures unrestarted { (held spare : Generation) → IsSound config.now (driver_of nvm.old).value held spare → IsErrOf result BlockFault.Flash → IsUnrestarted (driver_of nvm.old) (driver_of nvm.new) }
-    ensures writes { (held spare : Generation) → IsSound config.now (driver_of nvm.old).value held spare → Writes (driver_of nvm.old) (driver_of nvm.new) result }
+    ensures failed { (held spare new : Generation) → IsSound config.now (driver_of nvm.old).value held spare
+        → OnErr result (OldOrNew config.now (driver_of nvm.new).value held spare new) }
+    ensures unrestarted { (held spare : Generation) → IsSound config.now (driver_of nvm.old).value held spare → IsErrOf result BlockFault.Flash
+        → IsUnrestarted (driver_of nvm.old) (driver_of nvm.new) }
+    ensures writes { (held spare : Generation) → IsSound config.now (driver_of nvm.old).value held spare
+        → Writes (driver_of nvm.old) (driver_of nvm.new) result }
     ensures kept { AgreeButForCommit (driver_of nvm.old).value (driver_of nvm.new).value }
     ensures form { IfOk result (λ commit. IfSome commit (IsCommit config.now)) }
     ensures first { IfOk result (IsOfFirst config.now (driver_of nvm.old) (driver_of nvm.new)) }
@@ -64,7 +67,8 @@ pub(crate) fn repair_by<B: Blocks + Drop>(
     requires least { 1 ≤ copy }
     requires most { copy ≤ 2 }
     requires held { (driver_of nvm.old).value (number_of commit_id (copy - 1)) ≡ holding bytes.now }
-    ensures started { (g : Generation) → Holds config.now (driver_of nvm.old).value (holding bytes.now) g → IfOk result (λ commit. IsStarted config.now (driver_of nvm.new).value (Some commit) g) }
+    ensures started { (g : Generation) → Holds config.now (driver_of nvm.old).value (holding bytes.now) g
+        → IfOk result (λ commit. IsStarted config.now (driver_of nvm.new).value (Some commit) g) }
     ensures read { IfOk result (λ commit. commit_in config.now bytes.now ≡ Some commit) }
     ensures form { IfOk result (IsCommit config.now) }
     ensures fresh { OnOk result (IsFalse (driver_of nvm.new).is_stale) }
@@ -74,7 +78,8 @@ pub(crate) fn repair_by<B: Blocks + Drop>(
     ensures unmended { (g : Generation) → Holds config.now (driver_of nvm.old).value (holding bytes.now) g
         → IsErrOf result BlockFault.Flash → IsUnmended (driver_of nvm.old) (driver_of nvm.new) (number_of commit_id (2 - copy)) (holding bytes.now) }
     ensures stuck { IsErrOf result BlockFault.SequenceSpent → IsCommitStuck (driver_of nvm.old) (driver_of nvm.new) }
-    ensures writes { (g : Generation) → Holds config.now (driver_of nvm.old).value (holding bytes.now) g → Writes (driver_of nvm.old) (driver_of nvm.new) result }
+    ensures writes { (g : Generation) → Holds config.now (driver_of nvm.old).value (holding bytes.now) g
+        → Writes (driver_of nvm.old) (driver_of nvm.new) result }
     ensures follows { Follows (driver_of nvm.old) (driver_of nvm.new) }
     ensures table { table_of nvm.new ≡ table_of nvm.old }
 {

@@ -54,7 +54,8 @@ fn number_in(commit: &Option<Commit>) -> u32
 }
 
 impl<B: Blocks + Drop> Store<B> {
-    ghost use Rattle.flt_store.specs.Store.{driver_of, commit_of, kept_of, is_settled, numbered, IsReady, IsRunning, IsLast, IsUndisturbed, IsUnhindered, Leaves, Saves, Chooses, WhileRunning};
+    ghost use Rattle.flt_store.specs.Store.{driver_of, commit_of, kept_of, is_settled, numbered, IsReady, IsRunning, IsLast};
+    ghost use Rattle.flt_store.specs.Store.{IsUndisturbed, IsUnhindered, Leaves, Saves, Chooses, WhileRunning};
 
     /// A store over the blocks of an image: the table is `block_table`'s, over a driver that was made with `fee_numbers`. It is
     /// not started.
@@ -74,9 +75,12 @@ impl<B: Blocks + Drop> Store<B> {
     // Finds out which generation stands, and what its blocks have, where a save failed.
     fn settle(&mut self, config: &ValidConfig) -> Result<(), SaveFault>
         ensures settles { WhileRunning config.now self.old (λ held spare. OnOk result (Chooses config.now held spare self.old self.new)) }
-        ensures failed { (state : Persist) → WhileRunning config.now self.old (λ held spare. OnErr result (Leaves config.now held spare state self.old self.new)) }
-        ensures flash { WhileRunning config.now self.old (λ held spare. IsErrOf result SaveFault.Flash → FailsThrice (driver_of self.old) (driver_of self.new)) }
-        ensures unrestarted { WhileRunning config.now self.old (λ held spare. IsErrOf result SaveFault.Flash → IsUnrestarted (driver_of self.old) (driver_of self.new)) }
+        ensures failed { (state : Persist)
+            → WhileRunning config.now self.old (λ held spare. OnErr result (Leaves config.now held spare state self.old self.new)) }
+        ensures flash { WhileRunning config.now self.old (λ held spare. IsErrOf result SaveFault.Flash
+            → FailsThrice (driver_of self.old) (driver_of self.new)) }
+        ensures unrestarted { WhileRunning config.now self.old (λ held spare. IsErrOf result SaveFault.Flash
+            → IsUnrestarted (driver_of self.old) (driver_of self.new)) }
         ensures not_spent { IsErrOf result SaveFault.Spent → ⊥ }
         ensures at_once { IsTrue (is_settled self.old) → IsErr result → ⊥ }
         ensures sequence { WhileRunning config.now self.old (λ held spare. IsErrOf result SaveFault.SequenceSpent → IsStuck (driver_of self.new)) }
@@ -119,7 +123,8 @@ impl<B: Blocks + Drop> Store<B> {
             → OnOk result (KeepsFrom config.now g.state state.now (commit_of self.old) (driver_of self.new).value) }
         ensures first { (g : Generation) → IsReady config.now g self.old → g.number ≡ 0 → OnOk result (StandAtZero config.now (driver_of self.new).value) }
         ensures spends { (g : Generation) (most : ℕ) → Knows config.now (kept_of self.old) g.state → IsFalse (driver_of self.old).is_stale
-            → Spends most (driver_of self.old) (driver_of self.new) (6 + pages_to_write config.now (commit_of self.old) (block_bytes g.state) (block_bytes state.now)) ((length (used_ids config.now) + 2) * most) }
+            → Spends most (driver_of self.old) (driver_of self.new)
+            (6 + pages_to_write config.now (commit_of self.old) (block_bytes g.state) (block_bytes state.now)) ((length (used_ids config.now) + 2) * most) }
         ensures fresh { OnOk result (IsFalse (driver_of self.new).is_stale) }
         ensures follows { Follows (driver_of self.old) (driver_of self.new) }
     {
@@ -149,12 +154,16 @@ impl<B: Blocks + Drop> Store<B> {
     /// less than three times and a sequence number is left.
     pub fn save(&mut self, config: &ValidConfig, state: &Persist) -> Result<u32, SaveFault>
         requires { Fits config.now state.now }
-        ensures saved { WhileRunning config.now self.old (λ held spare. IfOk result (λ number. Saves config.now held spare state.now number self.old self.new)) }
+        ensures saved { WhileRunning config.now self.old (λ held spare. IfOk result
+            (λ number. Saves config.now held spare state.now number self.old self.new)) }
         ensures failed { WhileRunning config.now self.old (λ held spare. OnErr result (Leaves config.now held spare state.now self.old self.new)) }
-        ensures flash { WhileRunning config.now self.old (λ held spare. IsErrOf result SaveFault.Flash → FailsThrice (driver_of self.old) (driver_of self.new)) }
-        ensures unsaved { WhileRunning config.now self.old (λ held spare. IsErrOf result SaveFault.Flash → IsUnsaved config.now (is_settled self.old) (driver_of self.old) (driver_of self.new)) }
+        ensures flash { WhileRunning config.now self.old (λ held spare. IsErrOf result SaveFault.Flash
+            → FailsThrice (driver_of self.old) (driver_of self.new)) }
+        ensures unsaved { WhileRunning config.now self.old (λ held spare. IsErrOf result SaveFault.Flash
+            → IsUnsaved config.now (is_settled self.old) (driver_of self.old) (driver_of self.new)) }
         ensures spent { WhileRunning config.now self.old (λ held spare. IsErrOf result SaveFault.Spent → IsLast config.now held spare self.old self.new) }
-        ensures last { WhileRunning config.now self.old (λ held spare. IsTrue (is_settled self.old) → held.number ≡ last_number → result ≡ Err SaveFault.Spent) }
+        ensures last { WhileRunning config.now self.old (λ held spare. IsTrue (is_settled self.old) → held.number ≡ last_number
+            → result ≡ Err SaveFault.Spent) }
         ensures sequence { WhileRunning config.now self.old (λ held spare. IsErrOf result SaveFault.SequenceSpent → IsStuck (driver_of self.new)) }
         ensures completed { WhileRunning config.now self.old (λ held spare. held.number ≢ last_number → IsUnhindered self.old self.new → IsOk result) }
         ensures applications { SameApplications (driver_of self.old).value (driver_of self.new).value }
@@ -168,11 +177,13 @@ impl<B: Blocks + Drop> Store<B> {
         ensures first { WhileRunning config.now self.old (λ held spare. held.number ≡ 0 → OnOk result (StandAtZero config.now (driver_of self.new).value)) }
 
         // What a save costs that follows no failed one.
-        ensures by_changes { WhileRunning config.now self.old (λ held spare. IsTrue (is_settled self.old) → held.number ≢ 0 → IsFalse (driver_of self.old).is_stale
+        ensures by_changes { WhileRunning config.now self.old (λ held spare. IsTrue (is_settled self.old) → held.number ≢ 0
+            → IsFalse (driver_of self.old).is_stale
             → NoFault (driver_of self.old) (driver_of self.new) → NoErase (driver_of self.old) (driver_of self.new)
             → CostsAtMost (6 + changed_pages config.now (block_bytes held.state) (block_bytes state.now)) (driver_of self.old) (driver_of self.new)) }
         ensures at_most { WhileRunning config.now self.old (λ held spare. IsTrue (is_settled self.old) → IsFalse (driver_of self.old).is_stale
-            → NoFault (driver_of self.old) (driver_of self.new) → CostsAtMost ((length (used_ids config.now) + 2) * (2 * config.now.pages + 4)) (driver_of self.old) (driver_of self.new)) }
+            → NoFault (driver_of self.old) (driver_of self.new)
+            → CostsAtMost ((length (used_ids config.now) + 2) * (2 * config.now.pages + 4)) (driver_of self.old) (driver_of self.new)) }
         ensures fresh { OnOk result (IsFalse (driver_of self.new).is_stale) }
         ensures follows { Follows (driver_of self.old) (driver_of self.new) }
     {

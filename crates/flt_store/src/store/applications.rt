@@ -22,9 +22,7 @@ fn push_all(bytes: &[u8], out: &mut ArrayVec<u8, APPLICATION_LENGTH>)
     requires { length out.old.items + length bytes.now ≤ application_length }
     ensures { out.new.items ≡ out.old.items ++ bytes.now }
 {
-    for byte in bytes {
-        out.push(*byte);
-    }
+    out.try_extend_from_slice(bytes).unwrap();
 }
 
 fn write_application<B: Blocks + Drop>(
@@ -81,7 +79,8 @@ impl<B: Blocks + Drop> Store<B> {
         ensures either { IsEither (driver_of self.old) (driver_of self.new) (application_number block) (holding bytes.now) }
         ensures others { OthersKept (application_number block) (driver_of self.old) (driver_of self.new) }
         ensures running { (c : Config) → block < c.blocks → WhileRunning c self.old (λ held spare. IsRunning c held spare self.new) }
-        ensures flash { (c : Config) → block < c.blocks → WhileRunning c self.old (λ held spare. IsErrOf result PutFault.Flash → FailsThrice (driver_of self.old) (driver_of self.new)) }
+        ensures flash { (c : Config) → block < c.blocks
+            → WhileRunning c self.old (λ held spare. IsErrOf result PutFault.Flash → FailsThrice (driver_of self.old) (driver_of self.new)) }
         ensures sequence { IsErrOf result PutFault.SequenceSpent → IsTrue ((driver_of self.new).is_stuck (application_number block) (length bytes.now)) }
         ensures completed { (c : Config) → block < c.blocks → WhileRunning c self.old (λ held spare. IsUnhindered self.old self.new → IsOk result) }
         ensures settled { is_settled self.new ≡ is_settled self.old }
@@ -102,7 +101,8 @@ impl<B: Blocks + Drop> Store<B> {
         out: &mut ArrayVec<u8, APPLICATION_LENGTH>,
     ) -> Result<bool, FlashFailed>
         requires { block < applications }
-        ensures got { (c : Config) → WhileRunning c self.old (λ held spare. IfOk result (λ found. Gets ((driver_of self.old).value (application_number block)) found out.new.items)) }
+        ensures got { (c : Config) → WhileRunning c self.old (λ held spare. IfOk result
+            (λ found. Gets ((driver_of self.old).value (application_number block)) found out.new.items)) }
         ensures empty { OnErr result (out.new.items ≡ []) }
         ensures flash { (c : Config) → WhileRunning c self.old (λ held spare. OnErr result (FailsThrice (driver_of self.old) (driver_of self.new))) }
         ensures completed { (c : Config) → WhileRunning c self.old (λ held spare. (FailsThrice (driver_of self.old) (driver_of self.new) → ⊥) → IsOk result) }

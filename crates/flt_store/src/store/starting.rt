@@ -54,12 +54,16 @@ fn begin_by<B: Blocks + Drop>(
     requires table { table_of nvm.old ≡ block_table }
     requires mark { mark.now ≡ mark_of config.now }
     requires found { IsFoundIn (driver_beneath nvm.old).value found }
-    ensures started { (g : Generation) → Begins config.now (driver_beneath nvm.old).value found g → IfOk result (λ commit. IsStarted config.now (driver_beneath nvm.new).value commit g) }
-    ensures tried { (held spare g : Generation) → IsSound config.now (driver_beneath nvm.old).value held spare → Begins config.now (driver_beneath nvm.old).value found g
+    ensures started { (g : Generation) → Begins config.now (driver_beneath nvm.old).value found g
+        → IfOk result (λ commit. IsStarted config.now (driver_beneath nvm.new).value commit g) }
+    ensures tried { (held spare g : Generation) → IsSound config.now (driver_beneath nvm.old).value held spare
+        → Begins config.now (driver_beneath nvm.old).value found g
         → OnErr result (OldOrNew config.now (driver_beneath nvm.new).value held spare held) }
-    ensures unbegun { (g : Generation) → Begins config.now (driver_beneath nvm.old).value found g → IsErrOf result BlockFault.Flash → IsUnbegun (driver_beneath nvm.old) (driver_beneath nvm.new) }
+    ensures unbegun { (g : Generation) → Begins config.now (driver_beneath nvm.old).value found g → IsErrOf result BlockFault.Flash
+        → IsUnbegun (driver_beneath nvm.old) (driver_beneath nvm.new) }
     ensures stuck { IsErrOf result BlockFault.SequenceSpent → IsBegunStuck config.now (driver_beneath nvm.old) (driver_beneath nvm.new) }
-    ensures writes { (g : Generation) → Begins config.now (driver_beneath nvm.old).value found g → Writes (driver_beneath nvm.old) (driver_beneath nvm.new) result }
+    ensures writes { (g : Generation) → Begins config.now (driver_beneath nvm.old).value found g
+        → Writes (driver_beneath nvm.old) (driver_beneath nvm.new) result }
     ensures borne { (g : Generation) → Begins config.now (driver_beneath nvm.old).value found g → IsBorne config.now (driver_beneath nvm.new).value }
     ensures fresh { OnOk result (IsFalse (driver_beneath nvm.new).is_stale) }
     ensures applications { SameApplications (driver_beneath nvm.old).value (driver_beneath nvm.new).value }
@@ -89,10 +93,12 @@ impl<B: Blocks + Drop> Store<B> {
         requires settled { IsFalse (driver_of self.old).is_stale }
         ensures started { IfOk result (λ number. Starts config.now number out.new self.old self.new) }
         ensures refused { IfErr result (RefusedFor config.now self.old self.new) }
-        ensures unready { IsErrOf result StartFault.Flash → IsImageUnread config.now (driver_of self.old) (driver_of self.new) ⊎ IsUnbegun (driver_of self.old) (driver_of self.new) }
+        ensures unready { IsErrOf result StartFault.Flash
+            → IsImageUnread config.now (driver_of self.old) (driver_of self.new) ⊎ IsUnbegun (driver_of self.old) (driver_of self.new) }
         ensures unwritten { IfErr result (λ fault. IsOfBlocks fault → SameImage (driver_of self.old) (driver_of self.new)) }
         ensures spent { IsErrOf result StartFault.SequenceSpent → IsOutOfNumbers config.now (driver_of self.old) (driver_of self.new) }
-        ensures left { (held spare : Generation) → IsSound config.now (driver_of self.old).value held spare → OnErr result (OldOrNew config.now (driver_of self.new).value held spare held) }
+        ensures left { (held spare : Generation) → IsSound config.now (driver_of self.old).value held spare
+            → OnErr result (OldOrNew config.now (driver_of self.new).value held spare held) }
         ensures fits { OnOk result (Fits config.now out.new) }
         ensures unsettled { IsFalse (is_settled self.old) → OnErr result (IsFalse (is_settled self.new)) }
         ensures fresh { OnOk result (IsFalse (driver_of self.new).is_stale) }
@@ -133,7 +139,8 @@ impl<B: Blocks + Drop> Store<B> {
 
         // No start-up uses a sequence number and then answers that none is left.
         ensures spent { IsErrOf result StartFault.SequenceSpent → IsOutOfNumbers config.now (driver_of self.old) (driver_of self.new) }
-        ensures left { (held spare : Generation) → IsSound config.now (driver_of self.old).value held spare → OnErr result (OldOrNew config.now (driver_of self.new).value held spare held) }
+        ensures left { (held spare : Generation) → IsSound config.now (driver_of self.old).value held spare
+            → OnErr result (OldOrNew config.now (driver_of self.new).value held spare held) }
         ensures fits { OnOk result (Fits config.now out.new) }
         ensures unsettled { OnErr result (IsFalse (is_settled self.new)) }
         ensures fresh { OnOk result (IsFalse (driver_of self.new).is_stale) }

@@ -1,5 +1,5 @@
-use Rattle.flt_nvm.proofs.Jobs.{gives_in_a_job}
+use Rattle.flt_nvm.proofs.Jobs.{gives_number}
 use Rattle.flt_nvm.proofs.job.write.Goals as goal
 
-pub returns-clause-gives : goal.returns-clause-gives
-returns-clause-gives g c = gives_in_a_job _ _ _ _ _ _ _ c.try_write.ensures
+pub returns : goal.returns
+returns g c = gives_number _ _ _ _ _ _ c.try_write.ensures

@@ -5,5 +5,5 @@ use Rattle.flt_nvm.proofs.nvm.Nvm.write.Goals as goal
 pub write_both-requires-clause-most : goal.write_both-requires-clause-most
 write_both-requires-clause-most g c = size_in_range (driver_of c.args.self.now).numbers (table_of c.args.self.now) c.args.id c.args.self.now.served _ c.requires.fits
 
-pub write_number-requires-clause-most : goal.write_number-requires-clause-most
-write_number-requires-clause-most g c = size_in_range (driver_of c.args.self.now).numbers (table_of c.args.self.now) c.args.id c.args.self.now.served _ c.requires.fits
+pub write-requires-clause-most : goal.write-requires-clause-most
+write-requires-clause-most g c = size_in_range (driver_of c.args.self.now).numbers (table_of c.args.self.now) c.args.id c.args.self.now.served _ c.requires.fits

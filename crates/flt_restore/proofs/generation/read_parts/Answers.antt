@@ -7,7 +7,7 @@ use Rattle.flt_restore.specs.Judging.{Tells}
 use Rattle.flt_restore.proofs.Telling.{handed_on, no_reads, more_reads}
 use Rattle.flt_restore.proofs.Failing.{part_unread_from, was_flash}
 use Rattle.flt_restore.proofs.TakingParts.{part_taken, part_refused}
-use Rattle.flt_restore.proofs.parts.read_parts.Goals as goal
+use Rattle.flt_restore.proofs.generation.read_parts.Goals as goal
 
 abbrev the_ok : Persist → Result Persist Fault
 the_ok p = Ok p

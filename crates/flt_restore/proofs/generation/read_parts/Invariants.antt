@@ -2,7 +2,7 @@ use Rattle.std.proofs.Common.{◌≡◌, ◌-◌, length, Ok}
 use Rattle.flt_nvm.specs.Driver.{driver_of, table_of}
 use Rattle.flt_generation.specs.Holding.{parts_read}
 use Rattle.flt_restore.specs.Found.{Reads}
-use Rattle.flt_restore.proofs.parts.read_parts.Given as goal
+use Rattle.flt_restore.proofs.generation.read_parts.Given as goal
 
 abbrev pub invariant-loop-id : goal.invariant-loop-id
 invariant-loop-id g l = record {
