@@ -20,6 +20,7 @@ pub enum Boot {
 /// A life: how it began, the calls that it made, and the answers to its steps, each in their order.
 #[derive(Drop)]
 pub struct Life {
+    /// What its power-up came to.
     pub boot: Boot,
     /// The calls that were carried out under the lock, each with the number of its lane; empty in a life that was not started.
     pub journal: Vec<Entry<Op>>,

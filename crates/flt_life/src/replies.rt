@@ -2,17 +2,17 @@
 ghost use Rattle.std.specs.Prelude.{◌≡◌, ◌≤◌, ◌<◌, ◌+◌, ◌++◌, ◌∷◌, [], ℕ, List, All, IfOk, length, vec_len};
 ghost use Rattle.std.specs.Vec.{vec_capacity};
 ghost use Rattle.flt_dcm.specs.ReplyKind.{reply_with};
-ghost use Rattle.flt_life.specs.Answers.{IsReplyWithin, IsAnswerWithin, reply_in, with_reply, told_by, told_with, told_size, reply_size, size_of, response_length};
-ghost use Rattle.flt_life.specs.declared.answer.StepAnswer.TheVariants.{Dem};
+ghost use Rattle.flt_life.specs.Answers.{IsReplyWithin, IsAnswerWithin, reply_in, with_reply, told_by, told_with, size_of, response_length};
 
 use crate::answer::{KeptReply, StepAnswer};
-use flt_dcm::{Reply, ReplyKind};
+use flt_dcm::ReplyKind;
 use flt_turn::Answer;
 use std::alloc::{AllocError, Global};
 
 /// The answers to the steps of a lane, in their order.
 #[derive(Drop)]
 pub struct LaneReplies {
+    /// One answer for each step that was made, in their order.
     pub answers: Vec<StepAnswer<KeptReply>>,
     /// The bytes of its responses, one after the other.
     pub responses: Vec<u8>,
@@ -21,7 +21,7 @@ pub struct LaneReplies {
 }
 
 impl LaneReplies {
-    /// No answer, with room for so many, and for so many bytes of responses.
+    /// No answer, with room for so many, and for so many bytes of responses. The error means that there was no memory.
     pub fn with_room(alloc: Global, answers: usize, bytes: usize) -> Result<LaneReplies, AllocError>
         ensures none { IfOk result (λ replies. replies.answers.items ≡ []) }
         ensures no_bytes { IfOk result (λ replies. replies.responses.items ≡ []) }
@@ -37,7 +37,8 @@ impl LaneReplies {
     pub fn keep(&mut self, answer: StepAnswer<ReplyKind>, response: &[u8])
         requires answers { vec_len self.old.answers < vec_capacity self.old.answers }
         requires responses { vec_len self.old.responses + response_length answer response.now ≤ vec_capacity self.old.responses }
-        ensures told { told_by self.new.responses.items self.new.answers.items ≡ told_by self.old.responses.items self.old.answers.items ++ told_with response.now answer ∷ [] }
+        ensures told { told_by self.new.responses.items self.new.answers.items
+            ≡ told_by self.old.responses.items self.old.answers.items ++ told_with response.now answer ∷ [] }
         ensures answers { vec_len self.new.answers ≡ vec_len self.old.answers + 1 }
         ensures room { vec_capacity self.new.answers ≡ vec_capacity self.old.answers }
         ensures responses { vec_len self.new.responses ≡ vec_len self.old.responses + response_length answer response.now }
@@ -45,52 +46,6 @@ impl LaneReplies {
     {
         let answer = kept(answer, response, &mut self.responses);
         self.answers.push_reserved(answer);
-    }
-
-    /// Keeps the answer to one more step, whose reply is whole.
-    pub fn keep_whole(&mut self, answer: StepAnswer<Reply>)
-        requires answers { vec_len self.old.answers < vec_capacity self.old.answers }
-        requires responses { vec_len self.old.responses + told_size answer ≤ vec_capacity self.old.responses }
-        ensures told { told_by self.new.responses.items self.new.answers.items ≡ told_by self.old.responses.items self.old.answers.items ++ answer ∷ [] }
-        ensures answers { vec_len self.new.answers ≡ vec_len self.old.answers + 1 }
-        ensures room { vec_capacity self.new.answers ≡ vec_capacity self.old.answers }
-        ensures responses { vec_len self.new.responses ≡ vec_len self.old.responses + told_size answer }
-        ensures bytes { vec_capacity self.old.responses ≤ vec_capacity self.new.responses }
-    {
-        match answer {
-            StepAnswer::Dem(Answer { place, reply }) => self.keep_reply(place, reply),
-            StepAnswer::Saved(generation) => self.keep(StepAnswer::Saved(generation), &[]),
-            StepAnswer::SaveFailed(fault) => self.keep(StepAnswer::SaveFailed(fault), &[]),
-            StepAnswer::Queue(told) => self.keep(StepAnswer::Queue(told), &[]),
-            StepAnswer::Drained { written, failed } => {
-                self.keep(StepAnswer::Drained { written, failed }, &[])
-            }
-            StepAnswer::Bytes(bytes) => self.keep(StepAnswer::Bytes(bytes), &[]),
-            StepAnswer::NoBlock => self.keep(StepAnswer::NoBlock, &[]),
-            StepAnswer::BlockFlash => self.keep(StepAnswer::BlockFlash, &[]),
-            StepAnswer::Armed => self.keep(StepAnswer::Armed, &[]),
-            StepAnswer::Dark => self.keep(StepAnswer::Dark, &[]),
-        }
-    }
-
-    /// Keeps a reply of the machine at this place.
-    fn keep_reply(&mut self, place: u32, reply: Reply)
-        requires answers { vec_len self.old.answers < vec_capacity self.old.answers }
-        requires responses { vec_len self.old.responses + reply_size reply ≤ vec_capacity self.old.responses }
-        ensures told { told_by self.new.responses.items self.new.answers.items ≡ told_by self.old.responses.items self.old.answers.items ++ Dem (record { place = place; reply = reply }) ∷ [] }
-        ensures answers { vec_len self.new.answers ≡ vec_len self.old.answers + 1 }
-        ensures room { vec_capacity self.new.answers ≡ vec_capacity self.old.answers }
-        ensures responses { vec_len self.new.responses ≡ vec_len self.old.responses + reply_size reply }
-        ensures bytes { vec_capacity self.old.responses ≤ vec_capacity self.new.responses }
-    {
-        let (kind, response) = match &reply {
-            Reply::Taken => (ReplyKind::Taken, &[][..]),
-            Reply::Ignored(cause) => (ReplyKind::Ignored(*cause), &[][..]),
-            Reply::Shown(shown) => (ReplyKind::Shown(*shown), &[][..]),
-            Reply::Response(bytes) => (ReplyKind::Response, bytes.as_slice()),
-            Reply::Silent => (ReplyKind::Silent, &[][..]),
-        };
-        self.keep(StepAnswer::Dem(Answer { place, reply: kind }), response);
     }
 }
 

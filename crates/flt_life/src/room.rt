@@ -19,7 +19,9 @@ use std::alloc::{AllocError, Global};
 /// The steps of a lane of a block, and room for an answer to each.
 #[derive(Drop)]
 pub struct LaneRoom<'a> {
+    /// The steps, in order.
     pub steps: &'a [Step],
+    /// Takes an answer to each of them.
     pub replies: LaneReplies,
 }
 
@@ -107,7 +109,7 @@ fn own_room(alloc: Global, parts: &[Part]) -> Result<LaneReplies, AllocError>
 }
 
 impl<'a> LifeRoom<'a> {
-    /// Takes all memory that the answers of a life with these parts need.
+    /// Takes all memory that the answers of a life with these parts need: at most 65,536 steps. The error means that there was none.
     pub fn for_parts(alloc: Global, parts: &'a [Part]) -> Result<LifeRoom<'a>, AllocError>
         requires few { sum_by steps_in (parts_of parts.now) ≤ 65536 }
         requires numbers { widths (parts_of parts.now) + 1 < 2 ^ 32 }
@@ -137,7 +139,14 @@ pub fn life_of(
 ) -> Life
     requires none { replies.items ≡ [] }
     requires room { vec_len replies + length told.items + 1 ≤ vec_capacity replies }
-    ensures { (parts : List (PartOf Step)) → view_of parts result ≡ record { parts = parts; boot = boot; journal = reverse journal.items; queue = reverse queue.items; own = told_in own; lanes = map told_in told.items } }
+    ensures { (parts : List (PartOf Step)) → view_of parts result ≡ record {
+      parts = parts;
+      boot = boot;
+      journal = reverse journal.items;
+      queue = reverse queue.items;
+      own = told_in own;
+      lanes = map told_in told.items;
+    } }
 {
     let mut replies = replies;
     replies.push_reserved(own);

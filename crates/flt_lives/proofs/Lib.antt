@@ -7,4 +7,5 @@ pub mod Linking
 pub mod Bridge
 pub mod Causing
 pub mod Giving
+pub mod Calls
 pub mod Rooms

@@ -1,9 +1,9 @@
 -- The room that the steps of a life need.
 use Rattle.std.proofs.Common.{◌≡◌, inl, inr, ℕ, suc, ◌+◌, ◌*◌, ◌<◌, ◌≤◌, List, [], ◌∷◌, ◌++◌, length, map, take, drop, get_or, refl, ap, sym, subst, arith, drop-cons, add-one, ◌∙◌}
-use Rattle.std.specs.Prelude.{sum_by, All, IsTrue, Vec, vec_len}
+use Rattle.std.specs.Prelude.{sum_by, All, IsTrue, vec_len}
 use Rattle.std.specs.Vec.{vec_capacity}
-use Rattle.std.proofs.lemmas.List.{get_or-map, length-append, length-map, map_more, map-append, take-append-drop, take-map}
-use Rattle.std.proofs.lemmas.List.Sums.{sum_by-cons, sum_by-le, sum_by-take-le, sum_by_push}
+use Rattle.std.proofs.lemmas.List.{get_or-map, length-append, length-map, map-append, take-append-drop}
+use Rattle.std.proofs.lemmas.List.Sums.{sum_by-cons}
 use Rattle.std.proofs.lemmas.List.Elements.{All-nil, All-cons, All-head, All-tail, All-append, All-weaker}
 use Rattle.flt_config.specs.declared.config.Config.{Config}
 use Rattle.flt_dcm.specs.Unit.{IsRequest}
@@ -18,8 +18,8 @@ use Rattle.flt_script.specs.declared.step.Part.{Part}
 use Rattle.flt_script.specs.declared.step.Part.TheVariants.{One}
 use Rattle.flt_script.specs.declared.step.Step.{Step}
 use Rattle.flt_script.specs.Part.{PartOf, part_of, parts_of}
-use Rattle.flt_life.specs.Actions.{IsPossible, IsPossibleArm, action_of, arm_count, call_count, queue_count, response_size}
-use Rattle.flt_life.specs.Parts.{IsPossibleInLane, IsPossiblePart, arms_in, calls_in, lanes_in, own_actions, own_steps, queued_in, steps_in}
+use Rattle.flt_life.specs.Actions.{IsPossible, IsPossibleArm, action_of, arm_count, call_count, response_size}
+use Rattle.flt_life.specs.Parts.{IsPossibleInLane, IsPossiblePart, arms_in, calls_in, lanes_in, own_actions, own_steps, steps_in}
 use Rattle.flt_script.specs.declared.step.Step.TheVariants as steps
 use Rattle.flt_life.specs.declared.answer.StepAnswer.TheVariants as answers
 use Rattle.flt_life.specs.Played.{dark_answer}
@@ -29,16 +29,9 @@ use Rattle.flt_lives.specs.Alone.{IsAlone, AreAlone, actions_in}
 use Rattle.flt_lives.specs.Dark.{IsLaneSteps}
 use Rattle.flt_lives.specs.declared.account.Account.{Account}
 use Rattle.flt_lives.specs.Living.{HasRoomFor}
+use Rattle.flt_lives.proofs.Calls.{call_most}
 
 -- ---- bounds of one step and of all
-
-pub call_most : (action : Action) → call_count action ≤ 2
-call_most (Call op) = omega arith
-call_most (Queue op) = omega arith
-call_most Save = omega arith
-call_most Drain = omega arith
-call_most (Get block) = omega arith
-call_most (Arm arm) = omega arith
 
 -- the calls of steps by themselves
 pub alone_calls : (parts : List (PartOf Step)) → AreAlone parts → sum_by calls_in parts ≡ sum_by call_count (own_actions parts)
@@ -59,65 +52,6 @@ calls_most (inl step ∷ parts) =
     let one = call_most (action_of step) in
     omega (arith, rest, sum, actions, one)
 calls_most (inr lanes ∷ parts) = let rest = calls_most parts in let sum = sum_by-cons steps_in (inr lanes) parts in omega (arith, rest, sum)
-
--- ---- the calls of a step of either machine are no more than 64
-
-pub step_calls_most : (step : Step) → call_count (action_of step) ≤ 64
-step_calls_most step = let most = call_most (action_of step) in omega (arith, most)
-
-queue_most : (action : Action) → queue_count action ≤ 64
-queue_most (Call op) = omega arith
-queue_most (Queue op) = omega arith
-queue_most Save = omega arith
-queue_most Drain = omega arith
-queue_most (Get block) = omega arith
-queue_most (Arm arm) = omega arith
-
-pub step_queued_most : (step : Step) → queue_count (action_of step) ≤ 64
-step_queued_most step = queue_most (action_of step)
-
--- so those of lanes are no more than 64 for each step
-module _ (count : Step → ℕ) (most : (step : Step) → count step ≤ 64) where
-  pub lane_most : (lane : List Step) → sum_by count lane ≤ length lane * 64
-  lane_most lane = sum_by-le count 64 lane (λ k d within. most (get_or lane k d))
-
-  pub lanes_most : (lanes : List (List Step)) → sum_by (λ lane. sum_by count lane) lanes ≤ sum_by length lanes * 64
-  lanes_most [] = omega arith
-  lanes_most (lane ∷ lanes) =
-      let rest = lanes_most lanes in
-      let sum = sum_by-cons (λ lane. sum_by count lane) lane lanes in
-      let steps = sum_by-cons length lane lanes in
-      let one = lane_most lane in
-      omega (arith, rest, sum, steps, one)
-
--- and those of parts
-pub part_calls_most : (part : PartOf Step) → calls_in part ≤ steps_in part * 64
-part_calls_most (inl step) = step_calls_most step
-part_calls_most (inr lanes) = lanes_most (λ step. call_count (action_of step)) step_calls_most lanes
-
-pub part_queued_most : (part : PartOf Step) → queued_in part ≤ steps_in part * 64
-part_queued_most (inl step) = step_queued_most step
-part_queued_most (inr lanes) = lanes_most (λ step. queue_count (action_of step)) step_queued_most lanes
-
-pub parts_most : (count : PartOf Step → ℕ) → ((part : PartOf Step) → count part ≤ steps_in part * 64) → (parts : List (PartOf Step)) → sum_by count parts ≤ sum_by steps_in parts * 64
-parts_most count most [] = omega arith
-parts_most count most (part ∷ parts) =
-    let rest = parts_most count most parts in
-    let steps = sum_by-cons steps_in part parts in
-    let sum = sum_by-cons count part parts in
-    let one = most part in
-    omega (arith, rest, steps, sum, one)
-
--- the steps of the lanes so far and of the next one are no more than all
-module _ {A : Type 0} (lanes : List (Vec Step A)) (index : ℕ) (lane : Vec Step A) (within : index < length lanes) (is : lane ≡ get_or lanes index lane) where
-  pub lane_within : sum_by length (map (λ (l : Vec Step A). l.items) (take index lanes)) + length lane.items ≤ sum_by length (map (λ (l : Vec Step A). l.items) lanes)
-  lane_within =
-      let front = map (λ (l : Vec Step A). l.items) (take index lanes) in
-      let more = map_more (λ (l : Vec Step A). l.items) lanes index lane within ∙ ap (λ (l : Vec Step A). front ++ l.items ∷ []) (sym is) in
-      let sum = ap (sum_by length) more ∙ sum_by_push length front lane.items in
-      let same = ap (sum_by length) (take-map (λ (l : Vec Step A). l.items) (index + 1) lanes) in
-      let most = sum_by-take-le length (map (λ (l : Vec Step A). l.items) lanes) (index + 1) in
-      omega (arith, sum, same, most)
 
 -- the arms of a part are those of its step
 pub arms_are : (parts : List (PartOf Step)) → sum_by arms_in parts ≡ sum_by arm_count (own_actions parts)

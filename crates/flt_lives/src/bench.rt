@@ -29,11 +29,14 @@ use std::alloc::Global;
 /// The lives of a run, or none for want of memory, and the bench as they left it.
 #[derive(Drop)]
 pub struct Run<B> {
+    /// The lives in the order in which they were lived; the last alone may be refused.
     pub lives: Option<Vec<Life>>,
+    /// The bench behind the last of them.
     pub bench: B,
 }
 
-/// Lives one after the other over a bench, up to the first that is refused, whose steps the engine makes.
+/// Lives one after the other over a bench, up to the first that is refused, whose steps the engine makes. The bench has the pages
+/// of the configuration, and room for a boot of each life; the lives have at most 65,536 steps in all.
 pub fn run_on_bench<B: Bench + Drop, E: Engine<Fee<B>> + Drop>(
     alloc: Global,
     engine: E,
@@ -117,12 +120,14 @@ fn live_on<B: Bench + Drop, E: Engine<Fee<B>> + Drop>(
     requires small { sum_by (λ life. length life.items + widths (parts_of life.items)) lives.now ≤ 1048577 }
     requires possible { All (λ life. All (IsPossiblePart config.now) (parts_of life.items)) lives.now }
     requires arms { (state_of B.state fee).device.bench.armed + sum_by (λ life. sum_by arms_in (parts_of life.items)) lives.now ≤ 64 }
-    ensures linked { IfSome result.lives (λ lived. IsLinked config.now (sectors config.now) (state_of B.state fee).device (device_of (B.state result.bench)) (lives_seen (lists lives.now) lived.items)) }
+    ensures linked { IfSome result.lives (λ lived.
+        IsLinked config.now (sectors config.now) (state_of B.state fee).device (device_of (B.state result.bench)) (lives_seen (lists lives.now) lived.items)) }
     ensures played { IfSome result.lives (λ lived. ArePlayed config.now (lives_seen (lists lives.now) lived.items)) }
     ensures ended { IfSome result.lives (λ lived. AreEnded (length lives.now) (lives_seen (lists lives.now) lived.items)) }
     ensures given { IfSome result.lives (λ lived. AreGiven (arms_given (lives_seen (lists lives.now) lived.items))
         (state_of B.state fee).device.bench.arms (B.state result.bench).bench.arms) }
-    ensures sound { StaysSound config.now (moment_at (sectors config.now) (boot_in (state_of B.state fee).device)) (moment_at (sectors config.now) (boot_in (device_of (B.state result.bench)))) }
+    ensures sound { StaysSound config.now (moment_at (sectors config.now) (boot_in (state_of B.state fee).device))
+        (moment_at (sectors config.now) (boot_in (device_of (B.state result.bench)))) }
 {
     laws::numbers_serve_table();
     let mut store = Store::make(Nvm::make(fee, table));

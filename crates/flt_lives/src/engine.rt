@@ -29,7 +29,9 @@ use std::alloc::{AllocError, Global};
 /// A life, and the engine that made its steps.
 #[derive(Drop)]
 pub struct Lived<E> {
+    /// The engine, ready for the next life.
     pub engine: E,
+    /// The calls and the answers of the life.
     pub life: Life,
 }
 
@@ -66,12 +68,15 @@ pub trait Engine<D: Blocks + Drop>: Sized {
         requires room { IsLifeRoom (parts_of parts.now) room }
         ensures same { IfOk result (λ lived. machine_config lived.engine ≡ config.now) }
         ensures boot { IfOk result (λ lived. lived.life.boot ≡ boots.Started generation buffers.old.state) }
-        ensures leaves { IfOk result (λ lived. Leaves config.now (numbered generation buffers.old.state) (view_of (parts_of parts.now) lived.life) (moment_of (driver_of store.new))) }
+        ensures leaves { IfOk result (λ lived.
+            Leaves config.now (numbered generation buffers.old.state) (view_of (parts_of parts.now) lived.life) (moment_of (driver_of store.new))) }
         ensures caused { IfOk result (λ lived. (boot : Moment) → HasRisenBy 0 boot.faults (driver_of store.old).device.faults
             → AreCaused config.now boot (moment_of (driver_of store.new)) (told_of (view_of (parts_of parts.now) lived.life))) }
         ensures played { IfOk result (λ lived. IsPlayed config.now (view_of (parts_of parts.now) lived.life)) }
-        ensures kept { IfOk result (λ lived. KeepsApplications (moment_of (driver_of store.old)) (moment_of (driver_of store.new)) (view_of (parts_of parts.now) lived.life)) }
-        ensures given { IfOk result (λ lived. WereGiven (all_arms (own_actions (parts_of parts.now))) (driver_of store.old).device.bench.arms (driver_of store.new).device.bench.arms) }
+        ensures kept { IfOk result (λ lived.
+            KeepsApplications (moment_of (driver_of store.old)) (moment_of (driver_of store.new)) (view_of (parts_of parts.now) lived.life)) }
+        ensures given { IfOk result (λ lived.
+            WereGiven (all_arms (own_actions (parts_of parts.now))) (driver_of store.old).device.bench.arms (driver_of store.new).device.bench.arms) }
         ensures untouched { OnErr result (driver_of store.new ≡ driver_of store.old) }
         ensures armed { (driver_of store.new).device.bench.armed ≤ (driver_of store.old).device.bench.armed + sum_by arms_in (parts_of parts.now) }
         ensures alive { IsAlive config.now store.new }

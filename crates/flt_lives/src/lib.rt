@@ -17,7 +17,7 @@ mod living;
 mod plain;
 mod step;
 
-pub use accounting::{call_room, lane_calls, lane_queued, queue_room};
+pub use accounting::CallRoom;
 pub use bench::{Run, run_alone, run_on_bench};
 pub use buffers::Buffers;
 pub use engine::{Engine, Lived};

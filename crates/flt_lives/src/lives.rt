@@ -27,7 +27,8 @@ fn is_refused(life: &Life) -> bool
     }
 }
 
-/// Lives one after the other, up to the first that is refused, whose steps the engine makes.
+/// Lives one after the other, up to the first that is refused, whose steps the engine makes. The error means that there was no memory
+/// for the next life; a sound image is still sound then.
 pub fn run_lives<D: Blocks + Drop, E: Engine<D> + Drop>(
     alloc: Global,
     engine: E,
@@ -43,7 +44,8 @@ pub fn run_lives<D: Blocks + Drop, E: Engine<D> + Drop>(
     requires small { sum_by (λ life. length life.items + widths (parts_of life.items)) lives.now ≤ 1048577 }
     requires possible { All (λ life. All (IsPossiblePart config.now) (parts_of life.items)) lives.now }
     requires arms { (driver_of store.old).device.bench.armed + sum_by (λ life. sum_by arms_in (parts_of life.items)) lives.now ≤ 64 }
-    ensures linked { (medium : Medium) → KeepsOn D.Blocks config.now medium → IfOk result (λ lived. IsLinked config.now medium (driver_of store.old).device (driver_of store.new).device (lives_seen (lists lives.now) lived.items)) }
+    ensures linked { (medium : Medium) → KeepsOn D.Blocks config.now medium → IfOk result (λ lived.
+        IsLinked config.now medium (driver_of store.old).device (driver_of store.new).device (lives_seen (lists lives.now) lived.items)) }
     ensures played { IfOk result (λ lived. ArePlayed config.now (lives_seen (lists lives.now) lived.items)) }
     ensures ended { IfOk result (λ lived. AreEnded (length lives.now) (lives_seen (lists lives.now) lived.items)) }
     ensures given { IfOk result (λ lived. AreGiven (arms_given (lives_seen (lists lives.now) lived.items))

@@ -24,7 +24,14 @@ use std::alloc::{AllocError, Global};
 
 /// A life whose start-up was refused.
 fn refused(alloc: Global, fault: StartFault) -> Life
-    ensures { (parts : List (PartOf Step)) → view_of parts result ≡ record { parts = parts; boot = boots.Refused fault; journal = []; queue = []; own = []; lanes = [] } }
+    ensures { (parts : List (PartOf Step)) → view_of parts result ≡ record {
+      parts = parts;
+      boot = boots.Refused fault;
+      journal = [];
+      queue = [];
+      own = [];
+      lanes = [];
+    } }
 {
     Life {
         boot: Boot::Refused(fault),
@@ -56,7 +63,8 @@ pub fn run_life<D: Blocks + Drop, E: Engine<D> + Drop>(
     ensures same { IfOk result (λ lived. E.machine_config lived.engine ≡ config.now) }
     ensures lived { IfOk result (λ lived. IsLived config.now (driver_of store.old) (driver_of store.new) (view_of (parts_of parts.now) lived.life)) }
     ensures played { IfOk result (λ lived. IsPlayed config.now (view_of (parts_of parts.now) lived.life)) }
-    ensures given { IfOk result (λ lived. WereGiven (arms_by (parts_of parts.now) lived.life.boot) (driver_of store.old).device.bench.arms (driver_of store.new).device.bench.arms) }
+    ensures given { IfOk result (λ lived.
+        WereGiven (arms_by (parts_of parts.now) lived.life.boot) (driver_of store.old).device.bench.arms (driver_of store.new).device.bench.arms) }
     ensures sound { StaysSound config.now (moment_of (driver_of store.old)) (moment_of (driver_of store.new)) }
     ensures adds { OnOk result (AddsLife (driver_of store.old) (driver_of store.new)) }
     ensures armed { OnOk result ((driver_of store.new).device.bench.armed ≤ (driver_of store.old).device.bench.armed + sum_by arms_in (parts_of parts.now)) }

@@ -22,7 +22,7 @@ ghost use Rattle.flt_lives.specs.Going.{GoesOn, WereGiven};
 ghost use Rattle.flt_lives.specs.Living.{IsUnderWay, IsLiving, IsCaused, TakesStep, deeds_told, HasRoomFor};
 
 use crate::account::Account;
-use crate::accounting::call_room;
+use crate::accounting::CallRoom;
 use crate::buffers::Buffers;
 use crate::engine::{Engine, Lived};
 use crate::step::make_step;
@@ -90,7 +90,8 @@ fn take_steps<D: Blocks + Drop>(
     ensures config { config_of unit.new ≡ config_of unit.old }
     ensures alive { IsAlive config.now store.old → IsAlive config.now store.new }
     ensures living { (first : Generation) → IsLiving config.now first [] [] (state_of unit.old) store.old
-        → IsLiving config.now first (reverse account.new.journal.items) (deeds_told (parts_of parts.now) (told_in account.new.replies)) (state_of unit.new) store.new }
+        → IsLiving config.now first (reverse account.new.journal.items) (deeds_told (parts_of parts.now) (told_in account.new.replies))
+        (state_of unit.new) store.new }
     ensures played { (first : Generation) → IsLiving config.now first [] [] (state_of unit.old) store.old
         → IsLife (start_from config.now first.state) (parts_of parts.now) (told_in account.new.replies) [] account.new.journal.items [] }
     ensures caused { (begun : ℕ) → IsCaused config.now begun [] store.old
@@ -119,6 +120,7 @@ fn copy_of(state: &Persist) -> Persist
 /// queue.
 #[derive(Drop)]
 pub struct Plain {
+    /// The status machine, whatever it was told in the lives before.
     pub unit: Unit,
 }
 
@@ -144,7 +146,8 @@ impl<D: Blocks + Drop> Engine<D> for Plain {
             told,
             replies,
         } = room;
-        let journal = Vec::with_capacity(alloc, call_room(parts))?;
+        let calls = CallRoom::for_parts(parts);
+        let journal = Vec::with_capacity(alloc, calls.machine as usize)?;
         let mut account = Account {
             journal,
             replies: own,

@@ -36,7 +36,8 @@ fn call(unit: &mut Unit, op: &Op, buffers: &mut Buffers) -> ReplyKind
     ensures config { config_of unit.new ≡ config_of unit.old }
     ensures under_way { IsUnderWay (config_of unit.old) (state_of unit.new) }
     ensures stands { (life : Life) (past : History) → Stands life past (state_of unit.old) → Stands life (op.now ∷ past) (state_of unit.new) }
-    ensures answer { (life : Life) (past : History) → Stands life past (state_of unit.old) → reply_with result buffers.new.response.items ≡ answer life past op.now }
+    ensures answer { (life : Life) (past : History) → Stands life past (state_of unit.old)
+        → reply_with result buffers.new.response.items ≡ answer life past op.now }
     ensures no_response { ¬ IsRequest op.now → size_of result buffers.new.response.items ≡ 0 }
 {
     unit.apply_into(op, &mut buffers.state, &mut buffers.response)
@@ -80,7 +81,8 @@ fn save<D: Blocks + Drop>(
     ensures alive { IsAlive config.now store.old → IsAlive config.now store.new }
     ensures living { (first : Generation) (told : List Told) → IsLiving config.now first (reverse journal.old.items) told (state_of unit.old) store.old
         → IsLiving config.now first (reverse journal.new.items) (told_with buffers.new.response.items result ∷ told) (state_of unit.new) store.new }
-    ensures caused { (begun : ℕ) (told : List Told) → IsCaused config.now begun told store.old → IsCaused config.now begun (told_with buffers.new.response.items result ∷ told) store.new }
+    ensures caused { (begun : ℕ) (told : List Told) → IsCaused config.now begun told store.old
+        → IsCaused config.now begun (told_with buffers.new.response.items result ∷ told) store.new }
     ensures carried { SaveIsCarriedOut (reverse journal.old.items) (reverse journal.new.items) (told_with buffers.new.response.items result) }
     ensures size { response_length result buffers.new.response.items ≡ 0 }
     ensures calls { vec_len journal.new ≤ vec_len journal.old + 2 }
@@ -124,11 +126,13 @@ pub(crate) fn make_step<D: Blocks + Drop>(
     ensures under_way { IsUnderWay config.now (state_of unit.new) }
     ensures alive { IsAlive config.now store.old → IsAlive config.now store.new }
     ensures living { (first : Generation) (told : List Told) → IsLiving config.now first (reverse journal.old.items) told (state_of unit.old) store.old
-        → IsLiving config.now first (reverse journal.new.items) (with_answer action (told_with buffers.new.response.items result) told) (state_of unit.new) store.new }
+        → IsLiving config.now first (reverse journal.new.items) (with_answer action (told_with buffers.new.response.items result) told)
+        (state_of unit.new) store.new }
     ensures caused { (begun : ℕ) (told : List Told) → IsCaused config.now begun told store.old
         → IsCaused config.now begun (with_answer action (told_with buffers.new.response.items result) told) store.new }
     ensures carried { (first : Generation) → Stands (start_from config.now first.state) (calls_of (reverse journal.old.items)) (state_of unit.old)
-        → IsCarriedOut (start_from config.now first.state) (reverse journal.old.items) action (reverse journal.new.items) (told_with buffers.new.response.items result) }
+        → IsCarriedOut (start_from config.now first.state) (reverse journal.old.items) action (reverse journal.new.items)
+        (told_with buffers.new.response.items result) }
     ensures size { length buffers.new.response.items ≤ 512 → response_length result buffers.new.response.items ≤ response_size action }
     ensures calls { vec_len journal.new ≤ vec_len journal.old + call_count action }
     ensures room { vec_capacity journal.new ≡ vec_capacity journal.old }

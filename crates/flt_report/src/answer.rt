@@ -3,7 +3,8 @@ ghost use Rattle.std.specs.Prelude.{◌≡◌, ◌≤◌, ◌+◌, ◌++◌, ◌
 ghost use Rattle.std.specs.Vec.{vec_capacity};
 ghost use Rattle.flt_life.specs.Answers.{IsReplyWithin, IsAnswerWithin, reply_in, with_reply};
 ghost use Rattle.flt_report.specs.Room.{reply_room, answer_room};
-ghost use Rattle.flt_report.specs.Answer.{flag_text, shown_text, ignored_text, reply_text, save_fault_text, last_text, queue_text, drained_text, answer_text, answer_part};
+ghost use Rattle.flt_report.specs.Answer.{flag_text, shown_text, ignored_text, reply_text, save_fault_text};
+ghost use Rattle.flt_report.specs.Answer.{last_text, queue_text, drained_text, answer_text, answer_part};
 
 use crate::digits::{put_byte, put_bytes, put_number, put_signed, put_text};
 use flt_life::{Answer, KeptReply, StepAnswer};

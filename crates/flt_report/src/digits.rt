@@ -17,7 +17,7 @@ pub(crate) fn put_text(text: &[u8], out: &mut Vec<u8>)
 }
 
 /// Puts the digits of a number.
-#[tactic(auto, using(crate::proofs::Decimals::one_digit, crate::proofs::Decimals::more_digits, crate::proofs::Decimals::count_one, crate::proofs::Decimals::count_more))]
+#[tactic(auto, using(crate::proofs::Decimals::digits))]
 fn put_digits(number: u32, out: &mut Vec<u8>)
     requires { vec_len out.old + length (decimal number) ≤ vec_capacity out.old }
     ensures items { out.new.items ≡ out.old.items ++ decimal number }

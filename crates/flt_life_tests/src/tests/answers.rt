@@ -1,4 +1,4 @@
-use flt_dcm::{Reply, ReplyKind};
+use flt_dcm::ReplyKind;
 use flt_life::*;
 use flt_script::{Part, Step};
 use std::test::Fail;
@@ -13,9 +13,9 @@ fn answers_are_kept(rt: HostRuntime) -> Result<(), Fail> {
     replies.keep(response, &[0x51, 0x01]);
     let silent = StepAnswer::Dem(Answer {
         place: 1,
-        reply: Reply::Silent,
+        reply: ReplyKind::Silent,
     });
-    replies.keep_whole(silent);
+    replies.keep(silent, &[]);
     replies.keep(StepAnswer::Dark, &[0x7F]);
     assert_eq!(rt; replies.answers.len(), 3);
     assert_eq!(rt; replies.responses.as_slice(), [0x51, 0x01].as_slice());

@@ -1,4 +1,4 @@
-use flt_lives::*;
+use flt_lives::CallRoom;
 use flt_script::{Part, Step};
 use std::test::Fail;
 
@@ -8,8 +8,11 @@ fn calls_are_counted(rt: HostRuntime) -> Result<(), Fail> {
     lane.push(Step::Save)?;
     lane.push(Step::Drain)?;
     lane.push(Step::Ask { block: 0 })?;
-    assert_eq!(rt; lane_calls(&lane), 2);
-    assert_eq!(rt; lane_queued(&lane), 65);
+    let of_lane = CallRoom {
+        machine: 2,
+        queue: 65,
+    };
+    assert_eq!(rt; CallRoom::for_lane(&lane), of_lane);
     let mut lanes = Vec::new(rt.alloc());
     lanes.push(lane)?;
     let parts = [
@@ -18,7 +21,10 @@ fn calls_are_counted(rt: HostRuntime) -> Result<(), Fail> {
         Part::One(Step::Cycle { cycle: 3 }),
         Part::One(Step::Ask { block: 0 }),
     ];
-    assert_eq!(rt; call_room(&parts), 5);
-    assert_eq!(rt; queue_room(&parts), 66);
+    let of_parts = CallRoom {
+        machine: 5,
+        queue: 66,
+    };
+    assert_eq!(rt; CallRoom::for_parts(&parts), of_parts);
     Ok(())
 }

@@ -99,7 +99,19 @@ const REFUSED: [(&[u8], &str); 12] = [
     (b"fail 0\n", "script line 1 range\n"),
     (b"event 0 dtc 000001\ndid 0 FFFF\n", "script line 2 did\n"),
     (
-        b"event 0 dtc 000001\nevent 1 dtc 000002\nevent 2 dtc 000003\nevent 3 dtc 000004\nevent 4 dtc 000005\nevent 5 dtc 000006\nevent 6 dtc 000007\nevent 7 dtc 000008\nevent 8 dtc 000009\nevent 9 dtc 00000A\nevent 10 dtc 00000B\nevent 11 dtc 00000C\nevent 12 dtc 00000D\nevent 13 dtc 00000E\nevent 14 dtc 00000F\nevent 15 dtc 000010\nevent 16 dtc 000011\nevent 17 dtc 000012\nevent 18 dtc 000013\nevent 19 dtc 000014\nevent 20 dtc 000015\nevent 21 dtc 000016\nevent 22 dtc 000017\nevent 23 dtc 000018\nevent 24 dtc 000019\nevent 25 dtc 00001A\nevent 26 dtc 00001B\nevent 27 dtc 00001C\nevent 28 dtc 00001D\nevent 29 dtc 00001E\nevent 30 dtc 00001F\nevent 31 dtc 000020\nevent 32 dtc 000021\nevent 33 dtc 000022\nevent 34 dtc 000023\nevent 35 dtc 000024\nevent 36 dtc 000025\nevent 37 dtc 000026\nevent 38 dtc 000027\nevent 39 dtc 000028\nevent 40 dtc 000029\nevent 41 dtc 00002A\nevent 42 dtc 00002B\nevent 43 dtc 00002C\nevent 44 dtc 00002D\nevent 45 dtc 00002E\nevent 46 dtc 00002F\nevent 47 dtc 000030\nevent 48 dtc 000031\nevent 49 dtc 000032\nevent 50 dtc 000033\nevent 51 dtc 000034\nevent 52 dtc 000035\nevent 53 dtc 000036\nevent 54 dtc 000037\nevent 55 dtc 000038\nevent 56 dtc 000039\nevent 57 dtc 00003A\nevent 58 dtc 00003B\nevent 59 dtc 00003C\nevent 60 dtc 00003D\nevent 61 dtc 00003E\nevent 62 dtc 00003F\nevent 63 dtc 000040\nevent 64 dtc 000041\n",
+        b"event 0 dtc 000001\nevent 1 dtc 000002\nevent 2 dtc 000003\nevent 3 dtc 000004\nevent 4 dtc 000005\n\
+          event 5 dtc 000006\nevent 6 dtc 000007\nevent 7 dtc 000008\nevent 8 dtc 000009\nevent 9 dtc 00000A\n\
+          event 10 dtc 00000B\nevent 11 dtc 00000C\nevent 12 dtc 00000D\nevent 13 dtc 00000E\nevent 14 dtc 00000F\n\
+          event 15 dtc 000010\nevent 16 dtc 000011\nevent 17 dtc 000012\nevent 18 dtc 000013\nevent 19 dtc 000014\n\
+          event 20 dtc 000015\nevent 21 dtc 000016\nevent 22 dtc 000017\nevent 23 dtc 000018\nevent 24 dtc 000019\n\
+          event 25 dtc 00001A\nevent 26 dtc 00001B\nevent 27 dtc 00001C\nevent 28 dtc 00001D\nevent 29 dtc 00001E\n\
+          event 30 dtc 00001F\nevent 31 dtc 000020\nevent 32 dtc 000021\nevent 33 dtc 000022\nevent 34 dtc 000023\n\
+          event 35 dtc 000024\nevent 36 dtc 000025\nevent 37 dtc 000026\nevent 38 dtc 000027\nevent 39 dtc 000028\n\
+          event 40 dtc 000029\nevent 41 dtc 00002A\nevent 42 dtc 00002B\nevent 43 dtc 00002C\nevent 44 dtc 00002D\n\
+          event 45 dtc 00002E\nevent 46 dtc 00002F\nevent 47 dtc 000030\nevent 48 dtc 000031\nevent 49 dtc 000032\n\
+          event 50 dtc 000033\nevent 51 dtc 000034\nevent 52 dtc 000035\nevent 53 dtc 000036\nevent 54 dtc 000037\n\
+          event 55 dtc 000038\nevent 56 dtc 000039\nevent 57 dtc 00003A\nevent 58 dtc 00003B\nevent 59 dtc 00003C\n\
+          event 60 dtc 00003D\nevent 61 dtc 00003E\nevent 62 dtc 00003F\nevent 63 dtc 000040\nevent 64 dtc 000041\n",
         "script line 65 many\n",
     ),
     (b"par\n", "script line 1 block\n"),

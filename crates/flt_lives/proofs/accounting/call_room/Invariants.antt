@@ -1,8 +1,0 @@
-use Rattle.std.proofs.Common.{◌≡◌, take}
-use Rattle.std.specs.Prelude.{sum_by}
-use Rattle.flt_script.specs.Part.{parts_of}
-use Rattle.flt_life.specs.Parts.{calls_in}
-use Rattle.flt_lives.proofs.accounting.call_room.Given as goal
-
-abbrev pub invariant-loop-part : goal.invariant-loop-part
-invariant-loop-part l = l.room ≡ sum_by calls_in (parts_of (take l.part-index l.parts))
