@@ -5,6 +5,7 @@ ghost use Rattle.std.specs.Vec.{vec_capacity};
 ghost use Rattle.flt_script.specs.Bytes.{two_digits, spaced, bytes_text};
 
 /// Puts a text.
+#[inline]
 pub(crate) fn put_text(text: &[u8], out: &mut Vec<u8>)
     requires { vec_len out.old + length text.now ≤ vec_capacity out.old }
     ensures items { out.new.items ≡ out.old.items ++ text.now }
@@ -79,6 +80,19 @@ pub(crate) fn put_byte(byte: u8, out: &mut Vec<u8>)
     out.push_reserved(glyph(byte % 16));
 }
 
+/// Writes bytes over a text that has three places for each: a space and two digits.
+fn spell(bytes: &[u8], text: &mut [u8])
+    requires { length text.old ≡ 3 * length bytes.now }
+    ensures { text.new ≡ spaced bytes.now }
+{
+    for index in 0..bytes.len() {
+        let byte = bytes[index];
+        text[3 * index] = b' ';
+        text[3 * index + 1] = glyph(byte / 16);
+        text[3 * index + 2] = glyph(byte % 16);
+    }
+}
+
 /// Puts bytes, each behind a space.
 fn put_spaced(bytes: &[u8], out: &mut Vec<u8>)
     requires { vec_len out.old + 3 * length bytes.now ≤ vec_capacity out.old }
@@ -86,10 +100,11 @@ fn put_spaced(bytes: &[u8], out: &mut Vec<u8>)
     ensures len { vec_len out.new ≡ vec_len out.old + 3 * length bytes.now }
     ensures room { vec_capacity out.old ≤ vec_capacity out.new }
 {
-    for byte in bytes {
-        out.push_reserved(b' ');
-        put_byte(*byte, out);
-    }
+    let from = out.len();
+    let Ok(()) = out.resize(from + 3 * bytes.len(), b' ') else {
+        unreachable!()
+    };
+    spell(bytes, &mut out[from..]);
 }
 
 /// Puts bytes with single spaces between them.
