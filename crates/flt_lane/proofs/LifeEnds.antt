@@ -1,5 +1,5 @@
 -- The end of a life on two locks: what it was made of, and what it leaves.
-use Rattle.std.proofs.Common.{◌≡◌, inl, inr, ℕ, ◌≤◌, ◌<◌, ◌^◌, List, [], ◌∷◌, All, map, reverse, length, sym, ap, subst, arith}
+use Rattle.std.proofs.Common.{◌≡◌, inl, inr, ℕ, ◌≤◌, List, [], ◌∷◌, All, map, reverse, length, sym, ap, subst, arith}
 use Rattle.std.specs.Prelude.{sum_by}
 use Rattle.std.proofs.lemmas.List.{reverse-reverse}
 use Rattle.std.proofs.lemmas.List.Sums.{sum_by-cons}
@@ -24,13 +24,12 @@ use Rattle.flt_life.specs.Chain.{start_from}
 use Rattle.flt_life.specs.Journal.{Journal}
 use Rattle.flt_life.specs.Moment.{Moment, moment_of}
 use Rattle.flt_life.specs.Ordered.{deeds_in}
-use Rattle.flt_life.specs.Parts.{IsPossibleInLane, IsPossiblePart, calls_in, queued_in, steps_in}
+use Rattle.flt_life.specs.Parts.{IsPossibleInLane, IsPossiblePart, steps_in}
 use Rattle.flt_life.specs.Played.{IsLife, IsMade, StepMakes, StepQueues}
 use Rattle.flt_shared.specs.Call.{Seat, reply_after}
 use Rattle.flt_lives.specs.Alive.{IsAlive}
 use Rattle.flt_lives.specs.Living.{IsCaused, IsKept}
 use Rattle.flt_lives.proofs.Causing.{are_caused}
-use Rattle.flt_lives.proofs.Rooms.{part_calls_most, part_queued_most, parts_most}
 use Rattle.flt_lane.specs.Block.{HaveRunParts}
 use Rattle.flt_lane.specs.Lived.{IsWhole}
 use Rattle.flt_lane.specs.Living.{Carries, answers_of, drains_in, drains_of, saves_in, saves_of}
@@ -59,14 +58,6 @@ parts_for c (part ∷ parts) possible few =
     let sum = sum_by-cons steps_in part parts in
     All-cons (IsPartFor c) part parts (part_for c part (All-head (IsPossiblePart c) part parts possible) (omega (arith, sum, few)))
     (parts_for c parts (All-tail (IsPossiblePart c) part parts possible) (omega (arith, sum, few)))
-
--- ---- and their calls have numbers
-
-pub calls_small : (parts : List (PartOf Step)) → sum_by steps_in parts ≤ 65536 → sum_by calls_in parts < 2 ^ 32
-calls_small parts few = let most = parts_most calls_in part_calls_most parts in omega (arith, most, few)
-
-pub queued_small : (parts : List (PartOf Step)) → sum_by steps_in parts ≤ 65536 → sum_by queued_in parts < 2 ^ 32
-queued_small parts few = let most = parts_most queued_in part_queued_most parts in omega (arith, most, few)
 
 -- ---- the life
 

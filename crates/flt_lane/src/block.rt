@@ -25,7 +25,7 @@ use crate::locks::Locks;
 use flt_config::ValidConfig;
 use flt_flash::Blocks;
 use flt_life::{LaneReplies, LaneRoom};
-use flt_lives::{lane_calls, lane_queued};
+use flt_lives::CallRoom;
 use flt_queue::QueueSeat;
 use flt_shared::DemSeat;
 use flt_store::Store;
@@ -55,8 +55,9 @@ fn split_lane<'a>(
     ensures replies { result.replies ≡ room.entry.replies }
 {
     let LaneRoom { steps, replies } = room;
-    let seat = locks.dem.split(main, lane_calls(steps) as u32);
-    let queue_seat = locks.queue.split(jobs, lane_queued(steps) as u32);
+    let calls = CallRoom::for_lane(steps);
+    let seat = locks.dem.split(main, calls.machine);
+    let queue_seat = locks.queue.split(jobs, calls.queue);
     let number = seat.number();
     LaneWork {
         number,

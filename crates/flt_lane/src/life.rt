@@ -25,7 +25,7 @@ use flt_config::{Persist, ValidConfig};
 use flt_dcm::Unit;
 use flt_flash::Blocks;
 use flt_life::{Boot, Life, LifeRoom, life_of};
-use flt_lives::{call_room, queue_room};
+use flt_lives::CallRoom;
 use flt_queue::QueueLock;
 use flt_script::Part;
 use flt_shared::{DemEnd, DemLock};
@@ -98,11 +98,12 @@ pub fn live_on_lock<R: Threads + Wait + Sync, G: SharedGate, B: Blocks + Drop>(
     let start = copy_of(state);
     let mut unit = unit;
     unit.boot(state);
-    let Ok((dem, mut main)) = DemLock::make(alloc, unit, call_room(parts) as u32) else {
+    let calls = CallRoom::for_parts(parts);
+    let Ok((dem, mut main)) = DemLock::make(alloc, unit, calls.machine) else {
         return Err(AllocError);
     };
     let blocks = config.config().blocks;
-    let Ok((queue, mut jobs)) = QueueLock::make(alloc, blocks, queue_room(parts) as u32) else {
+    let Ok((queue, mut jobs)) = QueueLock::make(alloc, blocks, calls.queue) else {
         return Err(AllocError);
     };
     let locks = Locks { dem, queue };

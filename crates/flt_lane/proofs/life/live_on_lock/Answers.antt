@@ -1,4 +1,4 @@
-use Rattle.std.proofs.Common.{◌≡◌, All, map, reverse, arith, sym, ap, subst, ◌∙◌}
+use Rattle.std.proofs.Common.{◌≡◌, All, map, reverse, sym, ap, subst, ◌∙◌}
 use Rattle.flt_script.specs.Part.{parts_of}
 use Rattle.flt_store.specs.Store.{driver_of, numbered}
 use Rattle.flt_life.specs.declared.life.Boot.TheVariants as boots
@@ -11,16 +11,10 @@ use Rattle.flt_shared.specs.Call.{Seat}
 use Rattle.flt_lane.specs.Room.{IsPartFor}
 use Rattle.flt_lane.specs.Runs.{QueueSeat}
 use Rattle.flt_lane.proofs.Endings.{fresh_of}
-use Rattle.flt_lane.proofs.LifeEnds.{IsOver, calls_small, caused_of, holds_of, left_of, over_of, parts_for, queued_small, same_blocks, turned_life}
+use Rattle.flt_lane.proofs.LifeEnds.{IsOver, caused_of, holds_of, left_of, over_of, parts_for, same_blocks, turned_life}
 use Rattle.flt_lane.proofs.WholeLife.{closed}
 use Rattle.flt_lane.proofs.life.live_on_lock.Given as given
 use Rattle.flt_lane.proofs.life.live_on_lock.Goals as goal
-
-pub overflow_cast-call_room : goal.overflow_cast-call_room
-overflow_cast-call_room g c = let small = calls_small (parts_of c.args.parts.now) c.requires.few in omega (arith, small, c.call_room.ensures)
-
-pub overflow_cast-queue_room : goal.overflow_cast-queue_room
-overflow_cast-queue_room g c = let small = queued_small (parts_of c.args.parts.now) c.requires.few in omega (arith, small, c.queue_room.ensures)
 
 pub run_parts-requires-clause-steps : goal.run_parts-requires-clause-steps
 run_parts-requires-clause-steps g c κs within = subst (All (IsPartFor c.args.config.now)) (sym c.in_ok-rooms.ensures.parts) (parts_for c.args.config.now (parts_of c.args.parts.now) c.requires.possible c.requires.few)
