@@ -39,7 +39,7 @@ use std::sync::Wait;
 
 /// Makes the call of a step that calls the status machine on a seat that has one left, and answers by it. The bytes of a response are
 /// written in place of what `response` holds.
-#[inline]
+#[inline(always)]
 fn call_dem<R: Wait>(
     rt: &R,
     dem: &DemLock,
@@ -118,7 +118,7 @@ fn ask_queue<R: Wait>(
 }
 
 /// Makes a step that does not touch the store, on seats that have its calls left, and answers it.
-#[inline]
+#[inline(always)]
 pub(crate) fn make_call<R: Wait>(
     rt: &R,
     dem: &DemLock,
@@ -234,7 +234,7 @@ fn touch_store<R: Wait, B: Blocks + Drop>(
 }
 
 /// Makes a step over the store, on seats that have its calls left, and answers it.
-#[inline]
+#[inline(always)]
 pub(crate) fn do_step<R: Wait, B: Blocks + Drop>(
     rt: &R,
     dem: &DemLock,

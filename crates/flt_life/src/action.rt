@@ -40,7 +40,7 @@ fn copy_of_job(bytes: &ArrayVec<u8, BYTES>) -> ArrayVec<u8, BYTES>
 }
 
 /// What a step does.
-#[inline]
+#[inline(always)]
 pub fn action_of(step: &Step) -> Action
     ensures { result ≡ action_of step.now }
 {

@@ -34,7 +34,7 @@ impl LaneReplies {
     }
 
     /// Keeps the answer to one more step, with the bytes of its response where it has one.
-    #[inline]
+    #[inline(always)]
     pub fn keep(&mut self, answer: StepAnswer<ReplyKind>, response: &[u8])
         requires answers { vec_len self.old.answers < vec_capacity self.old.answers }
         requires responses { vec_len self.old.responses + response_length answer response.now ≤ vec_capacity self.old.responses }
@@ -51,7 +51,7 @@ impl LaneReplies {
 }
 
 /// The reply of this kind as it is kept. The bytes of a response are put behind the others.
-#[inline]
+#[inline(always)]
 fn kept_reply(kind: ReplyKind, response: &[u8], responses: &mut Vec<u8>) -> KeptReply
     requires { vec_len responses.old + size_of kind response.now ≤ vec_capacity responses.old }
     ensures reply { reply_in responses.new.items result ≡ reply_with kind response.now }
@@ -77,7 +77,7 @@ fn kept_reply(kind: ReplyKind, response: &[u8], responses: &mut Vec<u8>) -> Kept
 }
 
 /// The answer as it is kept.
-#[inline]
+#[inline(always)]
 fn kept(
     answer: StepAnswer<ReplyKind>,
     response: &[u8],

@@ -98,7 +98,7 @@ impl DemLock {
 
     /// Makes a call when its turn comes. The answer has the kind of the reply, and the bytes of a response are written in place of what
     /// `response` holds, so that no reply of 512 bytes is moved. Where the answer is no response, `response` holds anything. A snapshot writes nothing here.
-    #[inline]
+    #[inline(always)]
     pub fn call_into<R: Wait>(
         &self,
         rt: &R,

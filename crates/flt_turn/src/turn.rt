@@ -136,7 +136,7 @@ impl<M: Machine> Turn<M> {
 
     /// Makes a call as `call` does, without the machine's buffer: what the operation would write is not written. The answer is small:
     /// it has the kind of the reply alone, and the rest of the reply is in `payload`.
-    #[inline]
+    #[inline(always)]
     pub fn call_into<R: Wait>(
         &self,
         rt: &R,
@@ -168,7 +168,7 @@ impl<M: Machine> Turn<M> {
     }
 
     // Draws a ticket, waits until it is served, and takes the vault out of its slot. The ticket is the call's place.
-    #[inline]
+    #[inline(always)]
     fn take_turn<R: Wait>(&self, rt: &R, token: &mut Token<M>) -> (u32, Vault<M>)
         requires lock { token.old.table_id ≡ self.now }
         requires idle { (token.old.me.0.stage ≡ Idle) × (token.old.me.1 ≡ []) }
@@ -197,7 +197,7 @@ impl<M: Machine> Turn<M> {
     }
 
     // Puts the vault back, with one call more in its journal, and passes the turn on.
-    #[inline]
+    #[inline(always)]
     fn end_turn(&self, token: &mut Token<M>, vault: Vault<M>)
         requires lock { token.old.table_id ≡ self.now }
         requires held { token.old.me.1 ≡ (0, None) ∷ [] }

@@ -47,7 +47,7 @@ impl<M: Machine> Vault<M> {
     }
 
     // The same without the machine's buffer: the rest of the reply is written, and nothing else.
-    #[inline]
+    #[inline(always)]
     pub(crate) fn apply_into(
         &mut self,
         context: &M::Context,
