@@ -56,8 +56,7 @@ pub(crate) fn put_status(dem: &DemState, event: u16, out: &mut ArrayVec<u8, RESP
     requires room { length out.old.items + 4 ≤ RESPONSE }
     ensures { out.new.items ≡ out.old.items ++ with_status (event_seen dem.now event) }
 {
-    put_dtc(dtc_of(dem, event), out);
-    out.push(dem.state(event).status);
+    put_dtc(dtc_of(dem, event), dem.state(event).status, out);
 }
 
 /// Appends the two snapshot record numbers of an event, where it has an entry.
@@ -68,8 +67,9 @@ fn put_records(dem: &DemState, event: u16, has_entry: bool, out: &mut ArrayVec<u
     ensures { out.new.items ≡ out.old.items ++ records_of (event_seen dem.now event) }
 {
     if has_entry {
-        let [_, high, middle, low] = dtc_of(dem, event).to_be_bytes();
-        put_bytes(&[high, middle, low, 0x01, high, middle, low, 0x02], out);
+        let dtc = dtc_of(dem, event);
+        put_dtc(dtc, 0x01, out);
+        put_dtc(dtc, 0x02, out);
     }
 }
 
@@ -81,8 +81,7 @@ fn put_counter(dem: &DemState, event: u16, out: &mut ArrayVec<u8, RESPONSE>)
 {
     let counter = dem.detection_counter(event);
     if 0 < counter && counter < 127 {
-        put_dtc(dtc_of(dem, event), out);
-        out.push(counter.unsigned_abs());
+        put_dtc(dtc_of(dem, event), counter.unsigned_abs(), out);
     }
 }
 

@@ -16,14 +16,14 @@ pub fn put_bytes(bytes: &[u8], out: &mut ArrayVec<u8, RESPONSE>)
     out.try_extend_from_slice(bytes).unwrap();
 }
 
-/// Appends a DTC in three bytes, big-endian, which have room.
-pub fn put_dtc(dtc: u32, out: &mut ArrayVec<u8, RESPONSE>)
+/// Appends a DTC in three bytes, big-endian, and the byte that is told of it, which have room.
+pub fn put_dtc(dtc: u32, told: u8, out: &mut ArrayVec<u8, RESPONSE>)
     requires three { dtc < 2 ^ 24 }
-    requires room { length out.old.items + 3 ≤ RESPONSE }
-    ensures { out.new.items ≡ out.old.items ++ dtc_bytes dtc }
+    requires room { length out.old.items + 4 ≤ RESPONSE }
+    ensures { out.new.items ≡ out.old.items ++ dtc_bytes dtc ++ told ∷ [] }
 {
     let [_, high, middle, low] = dtc.to_be_bytes();
-    put_bytes(&[high, middle, low], out);
+    put_bytes(&[high, middle, low, told], out);
 }
 
 /// Appends a negative response, whose three bytes have room.

@@ -211,8 +211,8 @@ fn puts_append_until_the_response_is_full(rt: HostRuntime) {
         },
         &mut out,
     );
-    put_dtc(0x123456, &mut out);
-    put_bytes(&[0x2F, 0x01], &mut out);
+    put_dtc(0x123456, 0x2F, &mut out);
+    put_bytes(&[0x01], &mut out);
     assert!(&rt; out.as_slice() == [0x7F, 0x19, 0x31, 0x12, 0x34, 0x56, 0x2F, 0x01].as_slice());
     put_bytes(&[0xAA; 504], &mut out);
     assert_eq!(rt; out.len(), 512);
