@@ -195,7 +195,6 @@ pub(crate) fn no_word(mut words: Words<'_>) -> Option<()>
 
 /// The event that the first word names, and the data identifier that the second one spells.
 #[tactic(auto, unfolding(crate::specs::Line::did_with))]
-#[inline(never)]
 pub(crate) fn did_with(mut words: Words<'_>) -> Option<(u64, u16)>
     ensures { option_map (λ did. line.Did did.0 did.1) result ≡ did_with words.entry }
 {
@@ -317,7 +316,6 @@ pub(crate) fn step_with(keyword: Keyword, words: Words<'_>) -> Option<StepLine>
 }
 
 /// What the words behind the word event say.
-#[inline(never)]
 pub(crate) fn event_with(alloc: Global, words: Words<'_>) -> Result<Option<EventLine>, AllocError>
     ensures { IfOk result (λ event. event ≡ event_of words.entry) }
 {
