@@ -4,7 +4,7 @@ use Rattle.std.specs.Prelude.{slice_set}
 use Rattle.flt_config.specs.declared.config.DidUse.{DidUse}
 use Rattle.flt_config.specs.declared.config.EventCfg.{EventCfg}
 use Rattle.flt_script.specs.declared.fault.LineCause.{LineCause}
-use Rattle.flt_script.specs.declared.line.Line.{Line}
+use Rattle.flt_script.specs.Said.{Line}
 use Rattle.flt_script.specs.Behind.{Behind, behind, with_use}
 use Rattle.flt_script.specs.Gives.{◌>>=◌, given_by}
 use Rattle.flt_script.specs.Line.{line_of}

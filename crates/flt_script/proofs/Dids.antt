@@ -4,7 +4,7 @@ use Rattle.std.specs.Prelude.{find, option_map}
 use Rattle.std.proofs.lemmas.Bool.{eqb-true, lt-leb}
 use Rattle.flt_config.specs.declared.config.DidUse.{DidUse}
 use Rattle.flt_did.specs.Rows.{is_did}
-use Rattle.flt_script.specs.declared.line.Line.TheVariants as line
+use Rattle.flt_script.specs.Said as line
 use Rattle.flt_script.specs.Behind.{Behind, added, event_count, has_begun, uses_of, with_use_at}
 use Rattle.flt_script.specs.Next.{with_line}
 use Rattle.flt_script.specs.Refusal.{refusal, did_refusal}

@@ -9,8 +9,8 @@ use Rattle.flt_config.specs.declared.config.Config.{Config}
 use Rattle.flt_config.specs.declared.config.DidUse.{DidUse}
 use Rattle.flt_script.specs.declared.fault.LineCause.{LineCause}
 use Rattle.flt_script.specs.declared.fault.LineCause.TheVariants as cause
-use Rattle.flt_script.specs.declared.line.Line.{Line}
-use Rattle.flt_script.specs.declared.line.Line.TheVariants as line
+use Rattle.flt_script.specs.Said.{Line}
+use Rattle.flt_script.specs.Said as line
 use Rattle.flt_script.specs.declared.places.Places.{Places}
 use Rattle.flt_script.specs.declared.step.Step.{Step}
 use Rattle.flt_script.specs.Behind.{Behind, added, behind, has_begun, has_lane, lane_count, in_last_lane, with_step, step_of}

@@ -5,7 +5,7 @@ use Rattle.std.proofs.lemmas.Bool.{lt-leb, le-ltb}
 use Rattle.flt_script.specs.declared.fault.LineCause.{LineCause}
 use Rattle.flt_script.specs.declared.fault.LineCause.TheVariants.{Block}
 use Rattle.flt_script.specs.declared.line.StepLine.{StepLine}
-use Rattle.flt_script.specs.declared.line.Line.TheVariants as line
+use Rattle.flt_script.specs.Said as line
 use Rattle.flt_script.specs.declared.step.Step.{Step}
 use Rattle.flt_script.specs.Behind.{Behind, added, step_of}
 use Rattle.flt_script.specs.Next.{with_line, with_lane_step, with_step_put}

@@ -5,7 +5,7 @@ use Rattle.std.specs.Fmt.{decimal}
 use Rattle.std.proofs.lemmas.Bool.{ltb-true, leb-true}
 use Rattle.flt_model.specs.declared.call.Report.TheVariants.{Passed, Failed, PrePassed, PreFailed}
 use Rattle.flt_script.specs.declared.keyword.Keyword.TheVariants as keyword
-use Rattle.flt_script.specs.declared.line.Line.TheVariants as line
+use Rattle.flt_script.specs.Said as line
 use Rattle.flt_script.specs.declared.line.StepLine.TheVariants as written
 use Rattle.flt_script.specs.declared.step.Step.TheVariants as step
 use Rattle.flt_script.specs.Laws.{are_bytes, PrintedStepIsReadAgain}

@@ -10,7 +10,7 @@ use Rattle.flt_flash.specs.declared.arm.Pattern.TheVariants.{Nothing, All, Tail,
 use Rattle.flt_script.specs.declared.arm.ArmLine.{ArmLine}
 use Rattle.flt_script.specs.declared.arm.ArmLine.TheVariants as written
 use Rattle.flt_script.specs.declared.keyword.Keyword.TheVariants as keyword
-use Rattle.flt_script.specs.declared.line.Line.TheVariants as line
+use Rattle.flt_script.specs.Said as line
 use Rattle.flt_script.specs.declared.line.StepLine.TheVariants as steps
 use Rattle.flt_script.specs.Behind.{arm_of}
 use Rattle.flt_script.specs.Laws.{EachArmCanBeMade}

@@ -5,7 +5,7 @@ use Rattle.std.proofs.lemmas.Bool.{le-leb, ltb-true}
 use Rattle.std.proofs.lemmas.List.{length-map}
 use Rattle.std.proofs.lemmas.List.Folds.{list_all-append}
 use Rattle.flt_script.specs.declared.keyword.Keyword.TheVariants as keyword
-use Rattle.flt_script.specs.declared.line.Line.TheVariants as line
+use Rattle.flt_script.specs.Said as line
 use Rattle.flt_script.specs.declared.line.StepLine.TheVariants as written
 use Rattle.flt_script.specs.declared.step.Step.TheVariants as step
 use Rattle.flt_script.specs.Bytes.{bytes_of, two_digits, spaced, bytes_text}

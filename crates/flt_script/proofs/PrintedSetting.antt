@@ -5,7 +5,7 @@ use Rattle.std.specs.Fmt.{decimal}
 use Rattle.std.specs.List.{list_all}
 use Rattle.std.proofs.lemmas.Bool.{lt-ltb}
 use Rattle.flt_script.specs.declared.keyword.Keyword.TheVariants as keyword
-use Rattle.flt_script.specs.declared.line.Line.TheVariants as line
+use Rattle.flt_script.specs.Said as line
 use Rattle.flt_script.specs.Laws.{did_text, WrittenSettingsAreRead}
 use Rattle.flt_script.specs.Line.{keyword_of, two_numbers, did_with, line_with, line_of}
 use Rattle.flt_script.specs.Numeral.{numeral, hexadecimal}

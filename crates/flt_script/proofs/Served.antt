@@ -12,8 +12,8 @@ use Rattle.flt_did.specs.Rows.{is_did}
 use Rattle.flt_did.specs.Serves.{HasAll, Serves}
 use Rattle.flt_script.specs.declared.event.EventLine.{EventLine}
 use Rattle.flt_script.specs.declared.fault.ParseFault.{ParseFault}
-use Rattle.flt_script.specs.declared.line.Line.{Line}
-use Rattle.flt_script.specs.declared.line.Line.TheVariants as line
+use Rattle.flt_script.specs.Said.{Line}
+use Rattle.flt_script.specs.Said as line
 use Rattle.flt_script.specs.declared.script.Script.{Script}
 use Rattle.flt_script.specs.Behind.{Behind, added, behind, with_use, with_use_at}
 use Rattle.flt_script.specs.Event.{event_held, debounce_held}

@@ -13,8 +13,8 @@ use Rattle.flt_script.specs.declared.event.DebounceLine.TheVariants.{Counter, Ti
 use Rattle.flt_script.specs.declared.event.EventLine.{EventLine}
 use Rattle.flt_script.specs.declared.fault.LineCause.{LineCause}
 use Rattle.flt_script.specs.declared.fault.LineCause.TheVariants.{Long, Byte, Word, Form, Order, Range, Many, Block, Did}
-use Rattle.flt_script.specs.declared.line.Line.{Line}
-use Rattle.flt_script.specs.declared.line.Line.TheVariants as line
+use Rattle.flt_script.specs.Said.{Line}
+use Rattle.flt_script.specs.Said as line
 use Rattle.flt_script.specs.declared.line.StepLine.{StepLine}
 use Rattle.flt_script.specs.declared.line.StepLine.TheVariants.{Report, Show, Cycle, Tick, Signal, Request, Save, Post, Drain, Get, Ask, Arming}
 use Rattle.flt_script.specs.Behind.{Behind, event_count, has_begun, lane_count, has_lane, is_store_taken, uses_of}

@@ -2,8 +2,8 @@
 use Rattle.std.specs.Prelude.{◌≡◌, ℕ, ◌+◌, List, [], ◌∷◌, length, count_by, Bool, true, false, ◌&&◌, ◌||◌, is_some}
 use Rattle.std.specs.List.{list_any}
 use Rattle.flt_config.specs.declared.config.DidUse.{DidUse}
-use Rattle.flt_script.specs.declared.line.Line.{Line}
-use Rattle.flt_script.specs.declared.line.Line.TheVariants as line
+use Rattle.flt_script.specs.Said.{Line}
+use Rattle.flt_script.specs.Said as line
 use Rattle.flt_script.specs.declared.line.StepLine.TheVariants.{Drain, Arming}
 use Rattle.flt_script.specs.Behind.{behind, event_count, has_begun, lane_count, is_store_used, is_store_taken}
 use Rattle.flt_script.specs.Causes.{is_for_one_lane}

@@ -9,8 +9,8 @@ use Rattle.flt_model.specs.declared.call.Report.TheVariants.{Failed, PrePassed, 
 use Rattle.flt_script.specs.declared.fault.LineCause.TheVariants.{Large}
 use Rattle.flt_script.specs.declared.fault.ScriptFault.{ScriptFault}
 use Rattle.flt_script.specs.declared.line.StepLine.{StepLine}
-use Rattle.flt_script.specs.declared.line.Line.{Line}
-use Rattle.flt_script.specs.declared.line.Line.TheVariants as line
+use Rattle.flt_script.specs.Said.{Line}
+use Rattle.flt_script.specs.Said as line
 use Rattle.flt_script.specs.declared.pair.Key.TheVariants.{Dtc, Count, JumpUp, JumpDown, Time}
 use Rattle.flt_script.specs.declared.step.Step.{Step}
 use Rattle.flt_script.specs.declared.step.Step.TheVariants as step

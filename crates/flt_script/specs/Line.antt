@@ -11,8 +11,8 @@ use Rattle.flt_script.specs.declared.fault.LineCause.{LineCause}
 use Rattle.flt_script.specs.declared.fault.LineCause.TheVariants.{Long, Byte, Word, Form}
 use Rattle.flt_script.specs.declared.keyword.Keyword.{Keyword}
 use Rattle.flt_script.specs.declared.keyword.Keyword.TheVariants as keyword
-use Rattle.flt_script.specs.declared.line.Line.{Line}
-use Rattle.flt_script.specs.declared.line.Line.TheVariants as line
+use Rattle.flt_script.specs.Said.{Line}
+use Rattle.flt_script.specs.Said as line
 use Rattle.flt_script.specs.declared.line.StepLine.TheVariants as step
 use Rattle.flt_script.specs.Bytes.{tester_of, bytes_of}
 use Rattle.flt_script.specs.Event.{only, event_of}
@@ -82,8 +82,8 @@ unfoldable pub number_and_pattern : List (List ℕ) → Option (ℕ × Pattern)
 number_and_pattern (n ∷ p ∷ []) = number n ⇒ λ after. pattern_of p ⇒ λ pattern. Some (after, pattern)
 number_and_pattern _ = None
 
--- The line, where no word is left.
-abbrev pub alone : Line → List (List ℕ) → Option Line
+-- What is said, where no word is left.
+abbrev pub alone : {A : Type 0} → A → List (List ℕ) → Option A
 alone said [] = Some said
 alone said (word ∷ words) = None
 

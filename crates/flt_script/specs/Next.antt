@@ -1,19 +1,43 @@
 -- One more line, as the reader of the script takes it. This serves the proof; the manual is Line, Behind, Refusal and Script.
-use Rattle.std.specs.Prelude.{ℕ, List, Option, Some, None, map, option_map, Result, Ok, Err, if◌then◌else◌}
+use Rattle.std.specs.Prelude.{ℕ, List, Bool, true, false, Option, Some, None, map, option_map, Result, Ok, Err, if◌then◌else◌}
+use Rattle.std.specs.Option.{ok_or}
 use Rattle.flt_config.specs.declared.config.DidUse.{DidUse}
 use Rattle.flt_script.specs.declared.draft.Draft.{Draft}
 use Rattle.flt_script.specs.declared.fault.LineCause.{LineCause}
-use Rattle.flt_script.specs.declared.fault.LineCause.TheVariants.{Block}
+use Rattle.flt_script.specs.declared.fault.LineCause.TheVariants.{Form, Block}
 use Rattle.flt_script.specs.declared.fault.LineFault.{LineFault}
 use Rattle.flt_script.specs.declared.fault.LineFault.TheVariants as line_faults
 use Rattle.flt_script.specs.declared.fault.ScriptFault.{ScriptFault}
-use Rattle.flt_script.specs.declared.line.Line.{Line}
+use Rattle.flt_script.specs.declared.keyword.Keyword.{Keyword}
+use Rattle.flt_script.specs.declared.keyword.Keyword.TheVariants as keyword
+use Rattle.flt_script.specs.Said.{Line}
+use Rattle.flt_script.specs.Said as line
 use Rattle.flt_script.specs.declared.step.Step.{Step}
 use Rattle.flt_script.specs.Behind.{Behind, added, in_last_lane, with_step}
 use Rattle.flt_script.specs.Gives.{◌>>=◌}
-use Rattle.flt_script.specs.Line.{line_of}
+use Rattle.flt_script.specs.Line.{line_with, line_of}
 use Rattle.flt_script.specs.Part.{parts_of}
 use Rattle.flt_script.specs.Refusal.{refusal, unless_refused, is_step_misplaced}
+
+-- The keyword begins a step.
+abbrev pub begins_step : Keyword → Bool
+begins_step keyword.Event = false
+begins_step keyword.Did = false
+begins_step keyword.Config = false
+begins_step keyword.Memory = false
+begins_step keyword.Blocks = false
+begins_step keyword.Flash = false
+begins_step keyword.Power = false
+begins_step keyword.Par = false
+begins_step keyword.Lane = false
+begins_step keyword.End = false
+begins_step _ = true
+
+-- What a line says by the keyword that it begins with and the words behind that, if it begins with one and is not refused.
+abbrev pub said_behind : Result (Option (Keyword × List (List ℕ))) LineCause → Result Line LineCause
+said_behind (Err cause) = Err cause
+said_behind (Ok None) = Ok line.Skipped
+said_behind (Ok (Some first)) = ok_or (line_with first.0 first.1) Form
 
 -- A draft without where it lies in memory.
 abbrev pub state : Draft → Behind
@@ -45,6 +69,10 @@ abbrev pub with_step_put : Step → Behind → Result Behind LineCause
 with_step_put step b =
     if is_step_misplaced b.block step then Err Block
     else Ok (record b { parts = with_step b.block (Some step) b.parts; block = option_map (in_last_lane (Some step)) b.block })
+
+-- What stands after the words behind a keyword, or why they are refused.
+unfoldable pub with_words : List DidUse → ℕ → Behind → Keyword → List (List ℕ) → Result Behind LineCause
+with_words dids number b keyword words = ok_or (line_with keyword words) Form >>= λ said. with_line dids number b said
 
 -- What a line's fault tells, where it is not want of memory.
 abbrev pub cause_of : LineFault → Option LineCause

@@ -6,8 +6,8 @@ use Rattle.flt_script.specs.declared.fault.LineCause.{LineCause}
 use Rattle.flt_script.specs.declared.fault.LineCause.TheVariants.{Order, Range, Many, Block, Did}
 use Rattle.flt_script.specs.declared.event.EventLine.{EventLine}
 use Rattle.flt_script.specs.declared.line.StepLine.{StepLine}
-use Rattle.flt_script.specs.declared.line.Line.{Line}
-use Rattle.flt_script.specs.declared.line.Line.TheVariants as line
+use Rattle.flt_script.specs.Said.{Line}
+use Rattle.flt_script.specs.Said as line
 use Rattle.flt_script.specs.declared.step.Step.{Step}
 use Rattle.flt_script.specs.Behind.{Behind, behind, event_count, has_begun, lane_count, has_lane, has_earlier_store, uses_of, step_of, arms_with, drains_with}
 use Rattle.flt_script.specs.Event.{event_held}

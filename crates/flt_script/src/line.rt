@@ -1,19 +1,19 @@
-ghost use Rattle.std.specs.Prelude.{◌≡◌, ◌≢◌, IfOk, IfSome, IsTrue, option_map};
-ghost use Rattle.flt_script.specs.declared.keyword.Keyword.TheVariants as keywords;
-ghost use Rattle.flt_script.specs.declared.line.Line.TheVariants as lines;
+ghost use Rattle.std.specs.Prelude.{◌≡◌, IfOk, IfSome, IsTrue, option_map};
+ghost use Rattle.flt_script.specs.declared.line.StepLine.{StepLine};
+ghost use Rattle.flt_script.specs.Said.{Line};
+ghost use Rattle.flt_script.specs.Said as line;
 ghost use Rattle.flt_script.specs.Behind.{step_of};
 ghost use Rattle.flt_script.specs.Bytes.{tester_of};
 ghost use Rattle.flt_script.specs.Event.{only, event_of};
-ghost use Rattle.flt_script.specs.Gives.{Gives};
-ghost use Rattle.flt_script.specs.Line.{report_with, two_numbers, three_numbers, number_and_pattern, alone, did_with, request_with, post_with, line_with, line_of, is_comment};
-ghost use Rattle.flt_script.specs.Next.{cause_of};
+ghost use Rattle.flt_script.specs.Line.{two_numbers, three_numbers, number_and_pattern, alone, did_with, request_with, post_with, line_with, line_of, is_comment};
+ghost use Rattle.flt_script.specs.Next.{begins_step, said_behind};
 ghost use Rattle.flt_script.specs.Numeral.{number};
 ghost use Rattle.flt_script.specs.Step.{is_step_in};
 
 use crate::arm::{ArmLine, read_pattern};
 use crate::bytes::read_bytes;
 use crate::event::{EventLine, event_of};
-use crate::fault::{LineCause, LineFault};
+use crate::fault::LineCause;
 use crate::keyword::{Keyword, read_keyword};
 use crate::numeral::{read_hexadecimal, read_number};
 use crate::step::{BLOCK_BYTES, LAST_TESTER, Step};
@@ -62,23 +62,6 @@ pub(crate) enum StepLine {
         block: u64,
     },
     Arming(ArmLine),
-}
-
-/// What a line says, with its numbers as they are written.
-#[derive(Clone, Drop, Debug, PartialEq, Eq)]
-pub(crate) enum Line {
-    Skipped,
-    Config(u64),
-    Memory(u64),
-    Blocks(u64),
-    Flash { sectors: u64, pages: u64 },
-    Event(EventLine),
-    Did { event: u64, id: u16 },
-    Step(StepLine),
-    Power,
-    Par,
-    Lane,
-    End,
 }
 
 /// The most bytes of a line, without what ends it.
@@ -145,7 +128,7 @@ impl StepLine {
 }
 
 /// The number that the one word spells.
-fn only_number(mut words: Words<'_>) -> Option<u64>
+pub(crate) fn only_number(mut words: Words<'_>) -> Option<u64>
     ensures { result ≡ only number words.entry }
 {
     let word = words.next()?;
@@ -155,18 +138,9 @@ fn only_number(mut words: Words<'_>) -> Option<u64>
     read_number(word)
 }
 
-/// A report on the event that the one word names.
-#[tactic(auto, unfolding(crate::specs::Line::report_with))]
-fn report_with(report: Report, words: Words<'_>) -> Option<Line>
-    ensures { result ≡ report_with report words.entry }
-{
-    let event = only_number(words)?;
-    Some(Line::Step(StepLine::Report { event, report }))
-}
-
 /// The numbers that the two words spell.
 #[tactic(auto, unfolding(crate::specs::Line::two_numbers))]
-fn two_numbers(mut words: Words<'_>) -> Option<(u64, u64)>
+pub(crate) fn two_numbers(mut words: Words<'_>) -> Option<(u64, u64)>
     ensures { result ≡ two_numbers words.entry }
 {
     let first = words.next()?;
@@ -208,30 +182,28 @@ fn number_and_pattern(mut words: Words<'_>) -> Option<(u64, Pattern)>
     Some((read_number(after)?, read_pattern(pattern)?))
 }
 
-/// The line, where no word is left.
-fn alone(line: Line, mut words: Words<'_>) -> Option<Line>
-    ensures { result ≡ alone line words.entry }
+/// Nothing, where no word is left.
+pub(crate) fn no_word(mut words: Words<'_>) -> Option<()>
+    ensures line { (said : Line) → alone said words.entry ≡ option_map (λ _. said) result }
+    ensures step { (said : StepLine) → alone said words.entry ≡ option_map (λ _. said) result }
 {
     match words.next() {
-        None => Some(line),
+        None => Some(()),
         Some(_) => None,
     }
 }
 
 /// The event that the first word names, and the data identifier that the second one spells.
 #[tactic(auto, unfolding(crate::specs::Line::did_with))]
-fn did_with(mut words: Words<'_>) -> Option<Line>
-    ensures { result ≡ did_with words.entry }
+pub(crate) fn did_with(mut words: Words<'_>) -> Option<(u64, u16)>
+    ensures { option_map (λ did. line.Did did.0 did.1) result ≡ did_with words.entry }
 {
     let event = words.next()?;
     let id = words.next()?;
     if words.next().is_some() {
         return None;
     }
-    Some(Line::Did {
-        event: read_number(event)?,
-        id: read_hexadecimal(4, id)? as u16,
-    })
+    Some((read_number(event)?, read_hexadecimal(4, id)? as u16))
 }
 
 /// The tester that a letter from A to D names, by its number.
@@ -246,116 +218,109 @@ fn read_tester(word: &[u8]) -> Option<u8>
 
 /// The tester that the first word names, and the bytes of its request, which the other words spell.
 #[tactic(auto, unfolding(crate::specs::Line::request_with))]
-fn request_with(mut words: Words<'_>) -> Option<Line>
-    ensures { result ≡ request_with words.entry }
+#[inline(never)]
+fn request_with(mut words: Words<'_>) -> Option<StepLine>
+    ensures { option_map line.Step result ≡ request_with words.entry }
 {
     let tester = read_tester(words.next()?)?;
     let bytes = read_bytes(words)?;
-    Some(Line::Step(StepLine::Request { tester, bytes }))
+    Some(StepLine::Request { tester, bytes })
 }
 
 /// The application block that the first word names, and the bytes of a job for it, which the other words spell.
 #[tactic(auto, unfolding(crate::specs::Line::post_with))]
-fn post_with(urgent: bool, mut words: Words<'_>) -> Option<Line>
-    ensures { result ≡ post_with urgent words.entry }
+#[inline(never)]
+fn post_with(urgent: bool, mut words: Words<'_>) -> Option<StepLine>
+    ensures { option_map line.Step result ≡ post_with urgent words.entry }
 {
     let block = read_number(words.next()?)?;
     let bytes = read_bytes(words)?;
-    Some(Line::Step(StepLine::Post {
+    Some(StepLine::Post {
         urgent,
         block,
         bytes,
-    }))
+    })
 }
 
-/// What the words behind the word event say.
-fn event_with(alloc: Global, words: Words<'_>) -> Result<Option<Line>, AllocError>
-    ensures { IfOk result (λ line. line ≡ option_map lines.Event (event_of words.entry)) }
+/// What the words behind a keyword that begins a step say.
+#[tactic(auto, unfolding(crate::specs::Line::line_with, crate::specs::Line::report_with))]
+pub(crate) fn step_with(keyword: Keyword, words: Words<'_>) -> Option<StepLine>
+    ensures { IsTrue (begins_step keyword) → option_map line.Step result ≡ line_with keyword words.entry }
 {
-    let words = words.collect::<Vec<&[u8]>>(alloc)?;
-    Ok(event_of(&words).map(Line::Event))
-}
-
-/// What the words behind a keyword other than event say.
-#[tactic(auto, unfolding(crate::specs::Line::line_with))]
-fn other_line_with(keyword: Keyword, words: Words<'_>) -> Option<Line>
-    ensures { keyword ≢ keywords.Event → result ≡ line_with keyword words.entry }
-{
-    match keyword {
-        Keyword::Event => None,
-        Keyword::Pass => report_with(Report::Passed, words),
-        Keyword::Fail => report_with(Report::Failed, words),
-        Keyword::PrePass => report_with(Report::PrePassed, words),
-        Keyword::PreFail => report_with(Report::PreFailed, words),
-        Keyword::Show => {
-            let event = only_number(words)?;
-            Some(Line::Step(StepLine::Show { event }))
-        }
-        Keyword::Cycle => {
-            let cycle = only_number(words)?;
-            Some(Line::Step(StepLine::Cycle { cycle }))
-        }
-        Keyword::Tick => {
-            let ticks = only_number(words)?;
-            Some(Line::Step(StepLine::Tick { ticks }))
-        }
+    let step = match keyword {
+        Keyword::Pass => StepLine::Report {
+            event: only_number(words)?,
+            report: Report::Passed,
+        },
+        Keyword::Fail => StepLine::Report {
+            event: only_number(words)?,
+            report: Report::Failed,
+        },
+        Keyword::PrePass => StepLine::Report {
+            event: only_number(words)?,
+            report: Report::PrePassed,
+        },
+        Keyword::PreFail => StepLine::Report {
+            event: only_number(words)?,
+            report: Report::PreFailed,
+        },
+        Keyword::Show => StepLine::Show {
+            event: only_number(words)?,
+        },
+        Keyword::Cycle => StepLine::Cycle {
+            cycle: only_number(words)?,
+        },
+        Keyword::Tick => StepLine::Tick {
+            ticks: only_number(words)?,
+        },
         Keyword::Signal => {
             let (index, value) = two_numbers(words)?;
-            Some(Line::Step(StepLine::Signal { index, value }))
+            StepLine::Signal { index, value }
         }
-        Keyword::Request => request_with(words),
-        Keyword::Did => did_with(words),
-        Keyword::Config => Some(Line::Config(only_number(words)?)),
-        Keyword::Memory => Some(Line::Memory(only_number(words)?)),
-        Keyword::Blocks => Some(Line::Blocks(only_number(words)?)),
-        Keyword::Flash => {
-            let (sectors, pages) = two_numbers(words)?;
-            Some(Line::Flash { sectors, pages })
+        Keyword::Request => request_with(words)?,
+        Keyword::Save => {
+            no_word(words)?;
+            StepLine::Save
         }
-        Keyword::Save => alone(Line::Step(StepLine::Save), words),
-        Keyword::Post => post_with(false, words),
-        Keyword::Urge => post_with(true, words),
-        Keyword::Drain => alone(Line::Step(StepLine::Drain), words),
-        Keyword::Get => {
-            let block = only_number(words)?;
-            Some(Line::Step(StepLine::Get { block }))
+        Keyword::Post => post_with(false, words)?,
+        Keyword::Urge => post_with(true, words)?,
+        Keyword::Drain => {
+            no_word(words)?;
+            StepLine::Drain
         }
-        Keyword::Ask => {
-            let block = only_number(words)?;
-            Some(Line::Step(StepLine::Ask { block }))
-        }
-        Keyword::Power => alone(Line::Power, words),
-        Keyword::Par => alone(Line::Par, words),
-        Keyword::Lane => alone(Line::Lane, words),
-        Keyword::End => alone(Line::End, words),
+        Keyword::Get => StepLine::Get {
+            block: only_number(words)?,
+        },
+        Keyword::Ask => StepLine::Ask {
+            block: only_number(words)?,
+        },
         Keyword::Cut => {
             let (after, pattern) = number_and_pattern(words)?;
-            Some(Line::Step(StepLine::Arming(ArmLine::Cut { after, pattern })))
+            StepLine::Arming(ArmLine::Cut { after, pattern })
         }
         Keyword::Fault => {
             let (after, pattern) = number_and_pattern(words)?;
-            Some(Line::Step(StepLine::Arming(ArmLine::Fault { after, pattern })))
+            StepLine::Arming(ArmLine::Fault { after, pattern })
         }
         Keyword::Mute => {
             let (sector, page, times) = three_numbers(words)?;
-            Some(Line::Step(StepLine::Arming(ArmLine::Mute {
+            StepLine::Arming(ArmLine::Mute {
                 sector,
                 page,
                 times,
-            })))
+            })
         }
-    }
+        _ => return None,
+    };
+    Some(step)
 }
 
-/// What the words behind a keyword say.
-#[tactic(auto, unfolding(crate::specs::Line::line_with))]
-fn line_with(alloc: Global, keyword: Keyword, words: Words<'_>) -> Result<Option<Line>, AllocError>
-    ensures { IfOk result (λ line. line ≡ line_with keyword words.entry) }
+/// What the words behind the word event say.
+pub(crate) fn event_with(alloc: Global, words: Words<'_>) -> Result<Option<EventLine>, AllocError>
+    ensures { IfOk result (λ event. event ≡ event_of words.entry) }
 {
-    match keyword {
-        Keyword::Event => event_with(alloc, words),
-        _ => Ok(other_line_with(keyword, words)),
-    }
+    let words = words.collect::<Vec<&[u8]>>(alloc)?;
+    Ok(event_of(&words))
 }
 
 fn is_comment(word: &[u8]) -> bool
@@ -367,25 +332,24 @@ fn is_comment(word: &[u8]) -> bool
     }
 }
 
-/// Reads a line by itself.
+/// The keyword that a line begins with and the words behind it, or nothing where it is blank or a comment.
 #[tactic(auto, unfolding(crate::specs::Line::line_of, crate::specs::Line::by_words))]
-pub(crate) fn read_line(alloc: Global, line: TextLine<'_>) -> Result<Line, LineFault>
-    ensures { Gives (λ line. line) cause_of result (line_of line.entry.text.now) }
+pub(crate) fn first_word(line: TextLine<'_>) -> Result<Option<(Keyword, Words<'_>)>, LineCause>
+    ensures { line_of line.entry.text.now ≡ said_behind result }
 {
     if LINE_LENGTH < line.text.len() {
-        return Err(LineFault::Cause(LineCause::Long));
+        return Err(LineCause::Long);
     }
     if !line.is_plain {
-        return Err(LineFault::Cause(LineCause::Byte));
+        return Err(LineCause::Byte);
     }
     let mut words = Words::new(line.text);
     let Some(first) = words.next() else {
-        return Ok(Line::Skipped);
+        return Ok(None);
     };
     if is_comment(first) {
-        return Ok(Line::Skipped);
+        return Ok(None);
     }
     let keyword = read_keyword(first).ok_or(LineCause::Word)?;
-    let line = line_with(alloc, keyword, words)?.ok_or(LineCause::Form)?;
-    Ok(line)
+    Ok(Some((keyword, words)))
 }
