@@ -24,28 +24,13 @@ pub struct StateBlocks {
     ghost size: { length blocks.items ≡ parts },
 }
 
-// The bytes of a block of a state, none where it is not used.
-fn used_bytes(config: &ValidConfig, state: &Persist, id: u16) -> BlockBytes
-    requires fits { Fits config.now state.now }
-    ensures items { IsTrue (is_used config.now id) → result.items ≡ block_bytes state.now id }
-    ensures size { IsTrue (is_used config.now id) → length result.items ≡ part_length (part_of id) }
-    ensures short { length result.items ≤ LONGEST }
-{
-    let mut bytes = BlockBytes::new();
-    if is_used(config, id) {
-        put_block(config, state, id, &mut bytes);
-    }
-    bytes
-}
-
-// The bytes, as they are kept.
-fn kept(bytes: &[u8]) -> KeptBytes
+// Puts these bytes in place of those that stand there.
+fn put_over(bytes: &[u8], kept: &mut KeptBytes)
     requires { length bytes.now ≤ LONGEST }
-    ensures { result.items ≡ bytes.now }
+    ensures { kept.new.items ≡ bytes.now }
 {
-    let mut kept = KeptBytes::new();
+    kept.clear();
     kept.try_extend_from_slice(bytes).unwrap();
-    kept
 }
 
 impl StateBlocks {
@@ -71,9 +56,25 @@ impl StateBlocks {
     {
         let mut blocks = StateBlocks::unknown();
         for id in FIRST_PART..END_PART {
-            blocks.set(id, &used_bytes(config, state, id));
+            blocks.put_used(config, state, id);
         }
         blocks
+    }
+
+    // Gives a block its bytes of a state, where it is used.
+    fn put_used(&mut self, config: &ValidConfig, state: &Persist, id: u16)
+        requires first { first_part ≤ id }
+        requires end { id < end_part }
+        requires fits { Fits config.now state.now }
+        ensures given { IsTrue (is_used config.now id) → bytes_at self.new id ≡ block_bytes state.now id }
+        ensures size { IsTrue (is_used config.now id) → length (bytes_at self.new id) ≡ part_length (part_of id) }
+        ensures others { (other : ℕ) → first_part ≤ other → other ≢ id → bytes_at self.new other ≡ bytes_at self.old other }
+    {
+        if is_used(config, id) {
+            let mut bytes = BlockBytes::new();
+            put_block(config, state, id, &mut bytes);
+            self.set(id, &bytes);
+        }
     }
 
     /// The bytes of a block.
@@ -93,6 +94,6 @@ impl StateBlocks {
         ensures given { bytes_at self.new id ≡ bytes.now }
         ensures others { (other : ℕ) → first_part ≤ other → other ≢ id → bytes_at self.new other ≡ bytes_at self.old other }
     {
-        self.blocks[(id - FIRST_PART) as usize] = kept(bytes);
+        put_over(bytes, &mut self.blocks[(id - FIRST_PART) as usize]);
     }
 }
