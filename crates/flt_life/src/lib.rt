@@ -12,6 +12,7 @@ mod action;
 mod answer;
 pub mod laws;
 mod life;
+mod possible;
 mod replies;
 mod room;
 
@@ -19,5 +20,6 @@ pub use action::{Action, action_of, call_count, queue_count, response_size};
 pub use answer::{KeptReply, StepAnswer};
 pub use flt_turn::{Answer, Entry};
 pub use life::{Boot, Life};
+pub use possible::are_possible;
 pub use replies::LaneReplies;
 pub use room::{LaneRoom, LifeRoom, life_of};

@@ -1,3 +1,4 @@
-// Answers, and room for calls.
+// Answers, possible parts, and room for calls.
 mod answers;
+mod possible;
 mod room;

@@ -36,7 +36,8 @@ pub struct Run<B> {
 }
 
 /// Lives one after the other over a bench, up to the first that is refused, whose steps the engine makes. The bench has the pages
-/// of the configuration, and room for a boot of each life; the lives have at most 65,536 steps in all.
+/// of the configuration, and room for a boot of each life; the lives have at most 65,536 steps in all, and whether their parts are
+/// possible is told by `are_possible` of flt_life.
 pub fn run_on_bench<B: Bench + Drop, E: Engine<Fee<B>> + Drop>(
     alloc: Global,
     engine: E,

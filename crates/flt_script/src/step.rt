@@ -108,14 +108,14 @@ impl Step {
     }
 
     /// Whether it may stand in a lane: it is none of `cut`, `fault` and `mute`.
-    pub(crate) fn is_lane_step(&self) -> bool
+    pub fn is_lane_step(&self) -> bool
         ensures { result ≡ is_lane_step self.now }
     {
         !matches!(*self, Step::Arming(_))
     }
 
     /// Whether it uses the store, as at most one lane of a block may: it is `save`, `drain` or `get`.
-    pub(crate) fn is_store_step(&self) -> bool
+    pub fn is_store_step(&self) -> bool
         ensures { result ≡ is_store_step self.now }
     {
         matches!(*self, Step::Save | Step::Drain | Step::Get { .. })
