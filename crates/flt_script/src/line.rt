@@ -216,7 +216,8 @@ fn read_tester(word: &[u8]) -> Option<u8>
     }
 }
 
-/// The tester that the first word names, and the bytes of its request, which the other words spell.
+/// The tester that the first word names, and the bytes of its request, which the other words spell. It stands apart, so that
+/// other steps do not pay for the room of its bytes.
 #[tactic(auto, unfolding(crate::specs::Line::request_with))]
 #[inline(never)]
 fn request_with(mut words: Words<'_>) -> Option<StepLine>
@@ -227,7 +228,8 @@ fn request_with(mut words: Words<'_>) -> Option<StepLine>
     Some(StepLine::Request { tester, bytes })
 }
 
-/// The application block that the first word names, and the bytes of a job for it, which the other words spell.
+/// The application block that the first word names, and the bytes of a job for it, which the other words spell. It stands
+/// apart as `request_with` does.
 #[tactic(auto, unfolding(crate::specs::Line::post_with))]
 #[inline(never)]
 fn post_with(urgent: bool, mut words: Words<'_>) -> Option<StepLine>
