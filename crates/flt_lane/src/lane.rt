@@ -2,7 +2,7 @@
 ghost use Rattle.std.specs.Prelude.{◌≡◌, ◌≤◌, All, IfNone, IfSome, false, length, map};
 ghost use Rattle.flt_config.specs.Durable.{Fits};
 ghost use Rattle.flt_config.specs.Validity.{IsValid};
-ghost use Rattle.flt_script.specs.Step.{is_store_step, store_lanes};
+ghost use Rattle.flt_script.specs.Step.{store_lanes};
 ghost use Rattle.flt_store.specs.Store.{driver_of};
 ghost use Rattle.flt_lane.specs.Work.{AreSeatsOf, IsReady, HasRun, both};
 ghost use Rattle.flt_lane.specs.Stored.{AreRun, CanStore, HasRunStore, HaveRun, RunsStore, StoresAt, is_store_lane};
@@ -133,18 +133,11 @@ impl<'a, G: Gate, B: Blocks + Drop> Owned<DemLock, QueueLock, G, ValidConfig, La
     }
 }
 
-/// Whether a step touches the store.
-fn is_store_step(step: &Step) -> bool
-    ensures { result ≡ is_store_step step.now }
-{
-    matches!(step, Step::Save | Step::Drain | Step::Get { .. })
-}
-
 /// Whether a lane touches the store.
 fn touches_store(lane: &LaneWork<'_>) -> bool
     ensures { result ≡ is_store_lane lane.now }
 {
-    lane.steps.iter().any(|step| is_store_step(step))
+    lane.steps.iter().any(|step| step.is_store_step())
 }
 
 /// The place of the lane that touches the store, of which there is one at most.
