@@ -133,7 +133,9 @@ fn put_value(frame: &mut Frame, rows: &[Option<Row>], did: DidUse, signals: &Sig
     match find_row(rows, did.id) {
         Some(row) => {
             let bytes = (row.read)(signals).to_be_bytes();
-            frame.try_extend_from_slice(&bytes[8 - row.width as usize..]).unwrap();
+            frame
+                .try_extend_from_slice(&bytes[8 - row.width as usize..])
+                .unwrap();
         }
         None => unreachable!(),
     }
