@@ -77,7 +77,7 @@ pub struct Fee<F: Flash> {
     ghost sized: { length places.items ≡ length numbers },
     ghost mounted: { IsMounted is_stale has_mounted used numbers (F.state flash).image sector sequence end },
     ghost table: { IsFalse is_stale → Tells numbers places.items (sector_at (F.state flash).image sector) end
-    (block_value used numbers (F.state flash).image) } by { Prim.hlevel props },
+        (block_value used numbers (F.state flash).image) } by { Prim.hlevel props },
 }
 
 impl<F: Flash> Fee<F> {
