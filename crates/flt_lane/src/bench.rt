@@ -13,6 +13,7 @@ use flt_dcm::Unit;
 use flt_flash::Bench;
 use flt_lives::{Run, run_on_bench};
 use flt_script::Part;
+use flt_shared::BoxedUnit;
 use std::alloc::Global;
 use std::marker::Sync;
 use std::sync::Wait;
@@ -43,5 +44,8 @@ pub fn run_in_lanes<R: Threads + Wait + Sync, G: SharedGate, B: Bench + Drop>(
         (B.state bench).bench.arms (B.state result.bench).bench.arms) }
     ensures sound { FlashStaysSound config.now (B.state bench) (B.state result.bench) }
 {
-    run_on_bench(alloc, LockEngine { rt, gate, unit }, bench, config, lives)
+    match BoxedUnit::new(alloc, unit) {
+        Ok(unit) => run_on_bench(alloc, LockEngine { rt, gate, unit }, bench, config, lives),
+        Err(_) => Run { lives: None, bench },
+    }
 }

@@ -1,15 +1,15 @@
 //! The engine of lanes under the lock.
 ghost use Rattle.std.specs.Thread.{IsSync};
-ghost use Rattle.flt_dcm.specs.Whole.{config_of};
+ghost use Rattle.flt_shared.specs.Boxed.{config_in};
 
 use crate::gate::SharedGate;
 use crate::life::live_on_lock;
 use flt_config::ValidConfig;
-use flt_dcm::Unit;
 use flt_flash::Blocks;
 use flt_life::LifeRoom;
 use flt_lives::{Buffers, Engine, Lived};
 use flt_script::Part;
+use flt_shared::BoxedUnit;
 use flt_store::Store;
 use std::alloc::{AllocError, Global};
 use std::marker::Sync;
@@ -21,11 +21,11 @@ use std::thread::Threads;
 pub struct LockEngine<'a, R, G> {
     pub rt: &'a R,
     pub gate: &'a G,
-    pub unit: Unit,
+    pub unit: BoxedUnit,
 }
 
 impl<D: Blocks + Drop, R: Threads + Wait + Sync, G: SharedGate> Engine<D> for LockEngine<'_, R, G> {
-    ghost machine_config = { λ engine. config_of engine.unit };
+    ghost machine_config = { λ engine. config_in engine.unit };
 
     ghost can_make = { λ parts. IsSync R.row };
 

@@ -1,7 +1,6 @@
 //! A whole life, from the state that a start-up restored to the unit for the next one.
 ghost use Rattle.std.specs.Prelude.{◌≡◌, ◌<◌, ◌≤◌, ◌+◌, ◌^◌, All, IfOk, OnErr, length, sum_by};
 ghost use Rattle.flt_config.specs.Durable.{Fits};
-ghost use Rattle.flt_dcm.specs.Whole.{config_of};
 ghost use Rattle.flt_flash.specs.State.{HasRisenBy};
 ghost use Rattle.flt_script.specs.Part.{parts_of};
 ghost use Rattle.flt_store.specs.Store.{driver_of, numbered, IsRunning};
@@ -14,6 +13,7 @@ ghost use Rattle.flt_life.specs.Moment.{Moment, moment_of};
 ghost use Rattle.flt_life.specs.Parts.{IsPossiblePart, arms_in, own_actions, steps_in, widths};
 ghost use Rattle.flt_life.specs.Played.{IsPlayed};
 ghost use Rattle.flt_life.specs.Room.{IsLifeRoom};
+ghost use Rattle.flt_shared.specs.Boxed.{config_in};
 ghost use Rattle.flt_lives.specs.Alive.{IsAlive};
 ghost use Rattle.flt_lives.specs.Going.{GoesOn, WereGiven};
 
@@ -22,15 +22,13 @@ use crate::living::run_parts;
 use crate::locks::Locks;
 use crate::room::part_rooms;
 use flt_config::{Persist, ValidConfig};
-use flt_dcm::Unit;
 use flt_flash::Blocks;
 use flt_life::{Boot, Life, LifeRoom, life_of};
 use flt_lives::CallRoom;
-use flt_queue::QueueLock;
+use flt_queue::{QueueEnd, QueueLock};
 use flt_script::Part;
-use flt_shared::{DemEnd, DemLock};
+use flt_shared::{BoxedUnit, DemEnd, DemLock};
 use flt_store::Store;
-use flt_turn::Vault;
 use std::alloc::{AllocError, Global};
 use std::marker::Sync;
 use std::sync::Wait;
@@ -39,7 +37,7 @@ use std::thread::Threads;
 /// A life that came to its end, and the unit that lived it.
 #[derive(Drop)]
 pub struct Lived {
-    pub unit: Unit,
+    pub unit: BoxedUnit,
     pub life: Life,
 }
 
@@ -56,7 +54,7 @@ fn copy_of(state: &Persist) -> Persist
 pub fn live_on_lock<R: Threads + Wait + Sync, G: SharedGate, B: Blocks + Drop>(
     rt: &R,
     gate: &G,
-    unit: Unit,
+    unit: BoxedUnit,
     alloc: Global,
     store: &mut Store<B>,
     config: &ValidConfig,
@@ -65,7 +63,7 @@ pub fn live_on_lock<R: Threads + Wait + Sync, G: SharedGate, B: Blocks + Drop>(
     parts: &[Part],
     room: LifeRoom<'_>,
 ) -> Result<Lived, AllocError>
-    requires same { config_of unit ≡ config.now }
+    requires same { config_in unit ≡ config.now }
     requires fits { Fits config.now state.now }
     requires running { IsRunning config.now (numbered generation state.now) (numbered generation state.now) store.old }
     requires possible { All (IsPossiblePart config.now) (parts_of parts.now) }
@@ -74,7 +72,7 @@ pub fn live_on_lock<R: Threads + Wait + Sync, G: SharedGate, B: Blocks + Drop>(
     requires indices { length parts.now < 2 ^ 32 }
     requires arms { (driver_of store.old).device.bench.armed + sum_by arms_in (parts_of parts.now) ≤ 64 }
     requires room { IsLifeRoom (parts_of parts.now) room }
-    ensures same { IfOk result (λ lived. config_of lived.unit ≡ config.now) }
+    ensures same { IfOk result (λ lived. config_in lived.unit ≡ config.now) }
     ensures boot { IfOk result (λ lived. lived.life.boot ≡ boots.Started generation state.now) }
     ensures leaves { IfOk result (λ lived. Leaves config.now (numbered generation state.now) (view_of (parts_of parts.now) lived.life) (moment_of (driver_of store.new))) }
     ensures caused { IfOk result (λ lived. (boot : Moment) → HasRisenBy 0 boot.faults (driver_of store.old).device.faults
@@ -112,7 +110,7 @@ pub fn live_on_lock<R: Threads + Wait + Sync, G: SharedGate, B: Blocks + Drop>(
     );
     let Locks { dem, queue } = locks;
     let DemEnd { journal, unit } = dem.close(main);
-    let Vault {
+    let QueueEnd {
         journal: queued,
         ..
     } = queue.close(jobs);

@@ -10,22 +10,31 @@ ghost use Rattle.flt_turn.specs.Call.{IsRefusal};
 ghost use Rattle.flt_turn.specs.Journal.{Interleaves, ops_of};
 ghost use Rattle.flt_turn.specs.Seats.{IsSeatOf, main_seat, split_off, split_seat, joined_seat};
 
+use crate::guarded::Guarded;
 use crate::job::{Job, QueueOp, QueueReply};
 use crate::queue::JobQueue;
-use flt_turn::{Answer, HistoryFull, MachineBack, Seat, Turn, Vault};
+use flt_turn::{Answer, Entry, HistoryFull, MachineBack, Seat, Turn, Vault};
 use std::alloc::Global;
 use std::sync::Wait;
 
 /// The right to call a locked queue.
-pub type QueueSeat = Seat<JobQueue>;
+pub type QueueSeat = Seat<Guarded>;
 
 /// What a call was told, or that no call was left to its seat.
 pub type QueueAnswer = Result<Answer<QueueReply>, HistoryFull<QueueOp>>;
 
+/// What a lock leaves when it ends.
+#[derive(Drop)]
+pub struct QueueEnd {
+    /// All calls in their order, each with the number of its seat.
+    pub journal: Vec<Entry<QueueOp>>,
+    pub queue: Box<JobQueue>,
+}
+
 /// The queue for many lanes.
 #[derive(Drop)]
 pub struct QueueLock {
-    pub turn: Turn<JobQueue>,
+    pub turn: Turn<Guarded>,
 }
 
 impl QueueLock {
@@ -43,10 +52,20 @@ impl QueueLock {
         ensures lock { IfOk result (λ made. IsSeatOf made.0.turn made.1) }
         ensures err { IfErr result (λ back. Stands blocks [] back.machine) }
     {
-        let queue = JobQueue::new(blocks);
-        match Turn::make(alloc, queue, room) {
+        let queue = match Box::new(alloc, JobQueue::new(blocks)) {
+            Ok(queue) => queue,
+            Err(failed) => {
+                let machine = failed.value;
+                return Err(MachineBack { machine });
+            }
+        };
+        match Turn::make(alloc, Guarded { queue }, room) {
             Ok((turn, seat)) => Ok((QueueLock { turn }, seat)),
-            Err(back) => Err(back),
+            Err(MachineBack { machine }) => {
+                let Guarded { queue } = machine;
+                let machine = Box::into_inner(queue);
+                Err(MachineBack { machine })
+            }
         }
     }
 
@@ -134,7 +153,7 @@ impl QueueLock {
 
     /// Ends the lock, once each seat that was split from the main seat was joined. The queue comes back with the whole journal,
     /// which has the calls of all seats and no others.
-    pub fn close(self, main: QueueSeat) -> Vault<JobQueue>
+    pub fn close(self, main: QueueSeat) -> QueueEnd
         requires lock { IsSeatOf self.turn main }
         requires main { main.number ≡ 0 }
         requires whole { length main.ended ≡ main.children }
@@ -142,9 +161,11 @@ impl QueueLock {
         ensures olds { All (λ old. IsPrefix old result.journal.items) main.olds }
         ensures calls { Interleaves result.journal.items ((main.number, main.mine) ∷ main.ended) }
         ensures admitted { All (λ entry. IsAdmitted main.start entry.op) result.journal.items }
-        ensures stands { ∥ Stands main.start (reverse (ops_of result.journal.items)) result.machine ∥₁ }
+        ensures stands { ∥ Stands main.start (reverse (ops_of result.journal.items)) result.queue.value ∥₁ }
     {
         let QueueLock { turn } = self;
-        turn.close(main)
+        let Vault { journal, machine } = turn.close(main);
+        let Guarded { queue } = machine;
+        QueueEnd { journal, queue }
     }
 }

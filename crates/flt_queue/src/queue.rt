@@ -1,12 +1,10 @@
 //! The queue itself: two lists of jobs, and a table of the blocks.
 ghost use Rattle.std.specs.Prelude.{◌≡◌, ◌≤◌, ◌<◌, ◌∷◌, [], ℕ, All, length, reverse};
 ghost use Rattle.flt_queue.specs.Queue.{History, IsAdmitted, IsFor, IsJob, answer_q, result_of as result_is};
-ghost use Rattle.flt_queue.specs.Call.{reply_after};
 ghost use Rattle.flt_queue.specs.declared.job.QueueOp.TheVariants as ops;
 
 use crate::job::{BLOCKS, Job, LastResult, QueueOp, QueueReply, WAITING};
 use arrayvec::ArrayVec;
-use flt_turn::{Machine, Step};
 
 /// What is kept of a block.
 #[derive(Clone, Copy, PartialEq, Eq, Debug)]
@@ -161,39 +159,5 @@ impl JobQueue {
         } else {
             QueueReply::Last(state.last)
         }
-    }
-}
-
-impl Machine for JobQueue {
-    ghost use Rattle.flt_queue.specs.Stands.{Stands};
-
-    type Start = u8;
-
-    type Op = QueueOp;
-
-    type Reply = QueueReply;
-
-    type Out = ();
-
-    ghost some_start = { 0 };
-
-    ghost start = { λ queue. queue.blocks };
-
-    ghost admits = { IsAdmitted };
-
-    ghost stands_for = { λ queue blocks ops. Stands blocks (reverse ops) queue };
-
-    ghost answer = { reply_after };
-
-    ghost written = { λ _ _ _ out. out };
-}
-
-impl Step for JobQueue {
-    type Context = ();
-
-    ghost serves = { λ _ _. Unit {0} };
-
-    fn step(&mut self, _context: &(), op: &QueueOp, _out: &mut ()) -> QueueReply {
-        self.apply(op)
     }
 }

@@ -1,3 +1,4 @@
 pub mod Start
 pub mod Call
 pub mod Lock
+pub mod Boxed

@@ -5,9 +5,11 @@
 //! the one word `IsCall`. Read `specs/Call.antt` first.
 #![tactic(auto)]
 
+mod boxed;
 mod guarded;
 mod lock;
 
+pub use boxed::BoxedUnit;
 pub use flt_dcm::{Cause, DemStart, Op, Reply, ReplyKind, Shown};
 pub use guarded::Guarded;
 pub use lock::{DemAnswer, DemEnd, DemLock, DemSeat};

@@ -14,10 +14,11 @@ ghost use Rattle.flt_turn.specs.Call.{IsRefusal, past};
 ghost use Rattle.flt_shared.specs.Call.{IsCall, ShowsStandard, whole};
 ghost use Rattle.flt_shared.specs.Start.{start_of};
 
+use crate::boxed::BoxedUnit;
 use crate::guarded::Guarded;
 use arrayvec::ArrayVec;
 use flt_config::{Config, Persist};
-use flt_dcm::{Op, Reply, ReplyKind, Unit};
+use flt_dcm::{Op, Reply, ReplyKind};
 use flt_did::{DID_ROWS, DidTable};
 use flt_model::{REQUEST, RESPONSE, Report};
 use flt_turn::{Answer, Entry, HistoryFull, MachineBack, Seat, Turn, Vault};
@@ -36,7 +37,7 @@ pub type DemAnswer = Result<Answer<Reply>, HistoryFull<Op>>;
 pub struct DemEnd {
     /// All calls in their order, each with the number of its seat.
     pub journal: Vec<Entry<Op>>,
-    pub unit: Unit,
+    pub unit: BoxedUnit,
 }
 
 /// The status machine for many lanes: its state is under the lock, and its table of data identifiers stands beside it.
@@ -56,7 +57,7 @@ fn copy_of(bytes: &ArrayVec<u8, REQUEST>) -> ArrayVec<u8, REQUEST>
 }
 
 impl DemLock {
-    ghost use Rattle.flt_dcm.specs.Whole.{state_of, table_of};
+    ghost use Rattle.flt_shared.specs.Boxed.{unit_in};
     ghost use Rattle.flt_shared.specs.Lock.{IsSeatOf};
 
     /// A lock over a unit that was started and took no call since, and its main seat, to which all calls are left. The lock takes
@@ -65,32 +66,22 @@ impl DemLock {
     /// `MachineBack` means that there was no memory. The unit comes back as it was.
     pub fn make(
         alloc: Global,
-        unit: Unit,
+        unit: BoxedUnit,
         room: u32,
-    ) -> Result<(DemLock, DemSeat), MachineBack<Unit>>
-        requires { Stands (start_of (state_of unit)) [] (state_of unit) }
-        ensures ok { IfOk result (λ made. made.1 ≡ main_seat made.0.turn (start_of (state_of unit)) room) }
+    ) -> Result<(DemLock, DemSeat), MachineBack<BoxedUnit>>
+        requires { Stands (start_of (unit_in unit)) [] (unit_in unit) }
+        ensures ok { IfOk result (λ made. made.1 ≡ main_seat made.0.turn (start_of (unit_in unit)) room) }
         ensures lock { IfOk result (λ made. IsSeatOf made.0 made.1) }
-        ensures err { IfErr result (λ back. (state_of back.machine ≡ state_of unit) × (table_of back.machine ≡ table_of unit)) }
+        ensures err { IfErr result (λ back. (unit_in back.machine ≡ unit_in unit) × (dids_of back.machine.dids ≡ dids_of unit.dids)) }
     {
-        let Unit { state, dids, .. } = unit;
+        let BoxedUnit { state, dids, .. } = unit;
         let config = Snapshot::of(state.config().config());
-        let state = match Box::new(alloc, state) {
-            Ok(state) => state,
-            Err(failed) => {
-                let state = failed.value;
-                return Err(MachineBack {
-                    machine: Unit { state, dids },
-                });
-            }
-        };
         match Turn::make(alloc, Guarded { state }, room) {
             Ok((turn, seat)) => Ok((DemLock { turn, dids, config }, seat)),
             Err(MachineBack { machine }) => {
                 let Guarded { state } = machine;
-                let state = Box::into_inner(state);
                 Err(MachineBack {
-                    machine: Unit { state, dids },
+                    machine: BoxedUnit { state, dids },
                 })
             }
         }
@@ -265,9 +256,9 @@ impl DemLock {
         ensures olds { All (λ old. IsPrefix old result.journal.items) main.olds }
         ensures calls { Interleaves result.journal.items ((main.number, main.mine) ∷ main.ended) }
         ensures admitted { All (λ entry. IsAdmitted main.start.config entry.op) result.journal.items }
-        ensures start { start_of (state_of result.unit) ≡ main.start }
-        ensures dids { table_of result.unit ≡ dids_of self.dids }
-        ensures stands { ∥ Stands main.start (reverse (ops_of result.journal.items)) (state_of result.unit) ∥₁ }
+        ensures start { start_of (unit_in result.unit) ≡ main.start }
+        ensures dids { dids_of result.unit.dids ≡ dids_of self.dids }
+        ensures stands { ∥ Stands main.start (reverse (ops_of result.journal.items)) (unit_in result.unit) ∥₁ }
     {
         let DemLock {
             turn,
@@ -276,8 +267,7 @@ impl DemLock {
         } = self;
         let Vault { journal, machine } = turn.close(main);
         let Guarded { state } = machine;
-        let state = Box::into_inner(state);
-        let unit = Unit { state, dids };
+        let unit = BoxedUnit { state, dids };
         DemEnd { journal, unit }
     }
 }
