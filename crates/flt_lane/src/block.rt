@@ -181,7 +181,8 @@ pub(crate) fn run_lanes<'a, R: Threads + Wait + Sync, G: SharedGate, B: Blocks +
     requires empty { vec_len works ≡ 0 }
     requires seats { length rooms.items ≤ vec_capacity works }
     requires told { vec_len told.old + length rooms.items ≤ vec_capacity told.old }
-    ensures part { HasRunLanes config.now main.old main.new jobs.old jobs.new (steps_of rooms.entry.items) (map told_in told.old.items) (map told_in told.new.items) store.old store.new }
+    ensures part { HasRunLanes config.now main.old main.new jobs.old jobs.new (steps_of rooms.entry.items)
+        (map told_in told.old.items) (map told_in told.new.items) store.old store.new }
     ensures len { vec_len told.new ≡ vec_len told.old + length rooms.entry.items }
     ensures capacity { vec_capacity told.new ≡ vec_capacity told.old }
     ensures lock { IsSeatOf locks.now.dem main.new }

@@ -87,7 +87,8 @@ pub(crate) fn drain<R: Wait, B: Blocks + Drop>(
     ensures queues { (bytes : List ℕ) → Queues seat.old steps.Drain (told_with bytes result) seat.new }
     ensures size { (bytes : List ℕ) → told_size (told_with bytes result) ≡ 0 }
     ensures lock { turn.IsSeatOf queue.now.turn seat.new }
-    ensures carries { (bytes : List ℕ) (dem : Seat) (earlier : List Deed) → Carries config.now dem dem seat.old seat.new earlier ((steps.Drain, told_with bytes result) ∷ earlier) store.old store.new }
+    ensures carries { (bytes : List ℕ) (dem : Seat) (earlier : List Deed)
+        → Carries config.now dem dem seat.old seat.new earlier ((steps.Drain, told_with bytes result) ∷ earlier) store.old store.new }
     ensures leaves { Leaves store.old store.new }
 {
     let mut written: u16 = 0;

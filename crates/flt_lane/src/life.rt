@@ -48,9 +48,9 @@ fn copy_of(state: &Persist) -> Persist
     state.clone().unwrap()
 }
 
-/// Lives on two locks, of the machine and of the queue, from the state that a start-up restored under this number, over the store that it left: lane 0 makes its steps, and
-/// the lanes of each block at once. The answers go to the room that was taken for them. All memory is taken before the first call;
-/// where it is wanting no step was made, and the store and the flash are as they were.
+/// Lives on two locks, of the machine and of the queue, from the state that a start-up restored under this number, over the store that
+/// it left: lane 0 makes its steps, and the lanes of each block at once. The answers go to the room that was taken for them. All memory
+/// is taken before the first call; where it is wanting no step was made, and the store and the flash are as they were.
 pub fn live_on_lock<R: Threads + Wait + Sync, G: SharedGate, B: Blocks + Drop>(
     rt: &R,
     gate: &G,
@@ -74,11 +74,13 @@ pub fn live_on_lock<R: Threads + Wait + Sync, G: SharedGate, B: Blocks + Drop>(
     requires room { IsLifeRoom (parts_of parts.now) room }
     ensures same { IfOk result (λ lived. config_in lived.unit ≡ config.now) }
     ensures boot { IfOk result (λ lived. lived.life.boot ≡ boots.Started generation state.now) }
-    ensures leaves { IfOk result (λ lived. Leaves config.now (numbered generation state.now) (view_of (parts_of parts.now) lived.life) (moment_of (driver_of store.new))) }
+    ensures leaves { IfOk result (λ lived.
+        Leaves config.now (numbered generation state.now) (view_of (parts_of parts.now) lived.life) (moment_of (driver_of store.new))) }
     ensures caused { IfOk result (λ lived. (boot : Moment) → HasRisenBy 0 boot.faults (driver_of store.old).device.faults
         → AreCaused config.now boot (moment_of (driver_of store.new)) (told_of (view_of (parts_of parts.now) lived.life))) }
     ensures played { IfOk result (λ lived. IsPlayed config.now (view_of (parts_of parts.now) lived.life)) }
-    ensures kept { IfOk result (λ lived. KeepsApplications (moment_of (driver_of store.old)) (moment_of (driver_of store.new)) (view_of (parts_of parts.now) lived.life)) }
+    ensures kept { IfOk result (λ lived.
+        KeepsApplications (moment_of (driver_of store.old)) (moment_of (driver_of store.new)) (view_of (parts_of parts.now) lived.life)) }
     ensures given { IfOk result (λ lived.
         WereGiven (all_arms (own_actions (parts_of parts.now))) (driver_of store.old).device.bench.arms (driver_of store.new).device.bench.arms) }
     ensures untouched { OnErr result (driver_of store.new ≡ driver_of store.old) }

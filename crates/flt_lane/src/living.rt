@@ -182,7 +182,8 @@ pub(crate) fn run_parts<'a, R: Threads + Wait + Sync, G: SharedGate, B: Blocks +
     ensures lock { IsSeatOf locks.now.dem main.new }
     ensures queue { turn.IsSeatOf locks.now.queue.turn jobs.new }
     ensures told_len { vec_len told.new ≡ widths (map part_in parts.entry.items) }
-    ensures carries { Carries config.now main.old main.new jobs.old jobs.new [] (reverse (deeds_in (map part_in parts.entry.items) (told_in own.new) (map told_in told.new.items))) store.old store.new }
+    ensures carries { Carries config.now main.old main.new jobs.old jobs.new []
+        (reverse (deeds_in (map part_in parts.entry.items) (told_in own.new) (map told_in told.new.items))) store.old store.new }
     ensures goes_on { GoesOn (driver_of store.old) (driver_of store.new) }
     ensures given { WereGiven (all_arms (own_actions (map part_in parts.entry.items)))
         (driver_of store.old).device.bench.arms (driver_of store.new).device.bench.arms }

@@ -163,7 +163,8 @@ fn save<R: Wait, B: Blocks + Drop>(
     ensures made { (bytes : List ℕ) → Makes seat.old steps.Save (told_with bytes result) seat.new }
     ensures size { (bytes : List ℕ) → told_size (told_with bytes result) ≡ 0 }
     ensures lock { IsSeatOf dem.now seat.new }
-    ensures carries { (bytes : List ℕ) (jobs : Jobs) (earlier : List Deed) → Carries config.now seat.old seat.new jobs jobs earlier ((steps.Save, told_with bytes result) ∷ earlier) store.old store.new }
+    ensures carries { (bytes : List ℕ) (jobs : Jobs) (earlier : List Deed)
+        → Carries config.now seat.old seat.new jobs jobs earlier ((steps.Save, told_with bytes result) ∷ earlier) store.old store.new }
     ensures leaves { Leaves store.old store.new }
 {
     let mut state = initial(config);
@@ -185,7 +186,8 @@ fn save<R: Wait, B: Blocks + Drop>(
 fn get<B: Blocks + Drop>(store: &mut Store<B>, block: u8) -> StepAnswer<ReplyKind>
     requires block { block < 40 }
     ensures got { (bytes : List ℕ) → IsGot (told_with bytes result) }
-    ensures carries { (bytes : List ℕ) (c : Config) (seat : DemView) (jobs : Jobs) (earlier : List Deed) → Carries c seat seat jobs jobs earlier ((steps.Get block, told_with bytes result) ∷ earlier) store.old store.new }
+    ensures carries { (bytes : List ℕ) (c : Config) (seat : DemView) (jobs : Jobs) (earlier : List Deed)
+        → Carries c seat seat jobs jobs earlier ((steps.Get block, told_with bytes result) ∷ earlier) store.old store.new }
     ensures leaves { Leaves store.old store.new }
 {
     let mut bytes = ArrayVec::new();
@@ -222,7 +224,8 @@ fn touch_store<R: Wait, B: Blocks + Drop>(
     ensures size { (bytes : List ℕ) → told_size (told_with bytes result) ≡ 0 }
     ensures lock { IsSeatOf dem.now seat.new }
     ensures queue { turn.IsSeatOf queue.now.turn jobs.new }
-    ensures carries { (bytes : List ℕ) (earlier : List Deed) → Carries config.now seat.old seat.new jobs.old jobs.new earlier ((step.now, told_with bytes result) ∷ earlier) store.old store.new }
+    ensures carries { (bytes : List ℕ) (earlier : List Deed)
+        → Carries config.now seat.old seat.new jobs.old jobs.new earlier ((step.now, told_with bytes result) ∷ earlier) store.old store.new }
     ensures leaves { Leaves store.old store.new }
 {
     match step {
@@ -261,7 +264,9 @@ pub(crate) fn do_step<R: Wait, B: Blocks + Drop>(
     ensures size { told_size (told_with response.new.items result) ≤ response_size (action_of step.now) }
     ensures lock { IsSeatOf dem.now seat.new }
     ensures queue { turn.IsSeatOf queue.now.turn jobs.new }
-    ensures carries { (earlier : List Deed) → Carries config.now seat.old seat.new jobs.old jobs.new earlier (with_deed step.now (told_with response.new.items result) earlier) store.old store.new }
+    ensures carries { (earlier : List Deed)
+        → Carries config.now seat.old seat.new jobs.old jobs.new earlier
+        (with_deed step.now (told_with response.new.items result) earlier) store.old store.new }
     ensures goes_on { GoesOn (driver_of store.old) (driver_of store.new) }
     ensures given { WereGiven (arms_of (action_of step.now)) (driver_of store.old).device.bench.arms (driver_of store.new).device.bench.arms }
     ensures armed { (driver_of store.new).device.bench.armed ≤ (driver_of store.old).device.bench.armed + arm_count (action_of step.now) }

@@ -167,7 +167,8 @@ fn run_lanes<R: Threads + Wait + Sync>(
             ensures { IsSeatOf turn.entry.now result }
         { run_lane(rt, turn, lane) },
         move || -> Seat<Adder>
-            requires { IsSync R.row × IsSeatOf turn.now main × (main.number ≡ 0) × (main.children + others < 2 ^ 32) × (others * calls ≤ main.left) × (calls ≤ 10000) }
+            requires { IsSync R.row × IsSeatOf turn.now main × (main.number ≡ 0) × (main.children + others < 2 ^ 32)
+                × (others * calls ≤ main.left) × (calls ≤ 10000) }
             ensures { IsSeatOf turn.entry.now result × (result.number ≡ 0) }
         { run_lanes(rt, turn, main, others, calls) },
     );
