@@ -21,7 +21,8 @@ IsWord (Gate block page) = (block < 2 ^ 16) × (page < 2 ^ 16)
 unfoldable pub word_bytes : Word → List ℕ
 word_bytes (Start sequence pages) = 0x53 ∷ 0x01 ∷ to_be_bytes w32 sequence ++ to_be_bytes w16 pages ++ replicate 8 0
 word_bytes (Active sequence) = 0x41 ∷ 0x01 ∷ to_be_bytes w32 sequence ++ replicate 10 0
-word_bytes (Head block length valid page) = 0x48 ∷ (if valid then 1 else 2) ∷ to_be_bytes w16 block ++ to_be_bytes w16 length ++ to_be_bytes w16 page ++ replicate 8 0
+word_bytes (Head block length valid page) = 0x48 ∷ (if valid then 1 else 2) ∷ to_be_bytes w16 block ++ to_be_bytes w16 length ++ to_be_bytes w16 page
+    ++ replicate 8 0
 word_bytes (Gate block page) = 0x47 ∷ 0x01 ∷ to_be_bytes w16 block ++ to_be_bytes w16 page ++ replicate 10 0
 
 -- the word is the one whose bytes these are

@@ -66,9 +66,9 @@ IsReading (ops.Saved generation) = Unit {0}
 IsReading _ = ⊥
 
 -- A tester's request.
-abbrev pub IsRequest : Op → Type 0
-IsRequest (ops.Request tester bytes) = Unit {0}
-IsRequest _ = ⊥
+abbrev pub IsTesterCall : Op → Type 0
+IsTesterCall (ops.Request tester bytes) = Unit {0}
+IsTesterCall _ = ⊥
 
 -- A negative response.
 abbrev pub IsNegative : Reply → Type 0

@@ -16,7 +16,7 @@ ghost use Rattle.flt_dem.specs.View.{view_of};
 ghost use Rattle.flt_dcm.specs.Session.{is_extended_one, has_hold, heard, after, after_asked, ticked};
 ghost use Rattle.flt_dcm.specs.Standard.{SaysStandard};
 ghost use Rattle.flt_dcm.specs.Requests.{TakesClearOf, TakesBytes};
-ghost use Rattle.flt_dcm.specs.Unit.{Stands, Takes, Answers, IsAdmitted, IsReading, IsNegative, IsRequest, OnlyHearsWhereNegative, written, with_heard};
+ghost use Rattle.flt_dcm.specs.Unit.{Stands, Takes, Answers, IsAdmitted, IsReading, IsNegative, IsTesterCall, OnlyHearsWhereNegative, written, with_heard};
 ghost use Rattle.flt_dcm.specs.ReplyKind.{reply_with};
 
 use crate::reply_kind::ReplyKind;
@@ -291,7 +291,7 @@ impl UnitState {
         ensures base { self.new.base ≡ self.old.base }
         ensures stands { Takes op.now self.old self.new }
         ensures answer { Answers op.now self.old (reply_with result response.new.items) }
-        ensures unsent { ¬ IsRequest op.now → response.new ≡ response.old }
+        ensures unsent { ¬ IsTesterCall op.now → response.new ≡ response.old }
         ensures reading { IsReading op.now → self.new ≡ self.old }
         ensures negative { OnlyHearsWhereNegative op.now (reply_with result response.new.items) self.old self.new }
     {
@@ -334,7 +334,7 @@ impl UnitState {
         ensures base { self.new.base ≡ self.old.base }
         ensures stands { Takes op.now self.old self.new }
         ensures answer { Answers op.now self.old (reply_with result response.new.items) }
-        ensures unsent { ¬ IsRequest op.now → response.new ≡ response.old }
+        ensures unsent { ¬ IsTesterCall op.now → response.new ≡ response.old }
         ensures written { (life : Life) (past : History) → Stands life past self.old → out.new ≡ written life past op.now out.old }
         ensures kept { op.now ≢ ops.Snapshot → out.new ≡ out.old }
         ensures reading { IsReading op.now → self.new ≡ self.old }
@@ -362,7 +362,7 @@ impl UnitState {
         ensures base { self.new.base ≡ self.old.base }
         ensures stands { Takes op.now self.old self.new }
         ensures answer { Answers op.now self.old (reply_with result response.new.items) }
-        ensures unsent { ¬ IsRequest op.now → response.new ≡ response.old }
+        ensures unsent { ¬ IsTesterCall op.now → response.new ≡ response.old }
         ensures written { (life : Life) (past : History) → Stands life past self.old → out.new ≡ written life past op.now out.old }
         ensures kept { op.now ≢ ops.Snapshot → out.new ≡ out.old }
         ensures reading { IsReading op.now → self.new ≡ self.old }

@@ -9,7 +9,7 @@ ghost use Rattle.flt_did.specs.Table.{dids_of};
 ghost use Rattle.flt_did.specs.Serves.{Serves};
 ghost use Rattle.flt_dem.specs.Dem.{config_of as dem_config, table_of as dem_table};
 ghost use Rattle.flt_dcm.specs.Standard.{SaysStandard};
-ghost use Rattle.flt_dcm.specs.Unit.{Stands, Takes, Answers, IsAdmitted, IsReading, IsRequest, OnlyHearsWhereNegative, written};
+ghost use Rattle.flt_dcm.specs.Unit.{Stands, Takes, Answers, IsAdmitted, IsReading, IsTesterCall, OnlyHearsWhereNegative, written};
 ghost use Rattle.flt_dcm.specs.ReplyKind.{reply_with};
 
 use crate::reply_kind::ReplyKind;
@@ -80,7 +80,7 @@ impl Unit {
         ensures base { (state_of self.new).base ≡ (state_of self.old).base }
         ensures stands { Takes op.now (state_of self.old) (state_of self.new) }
         ensures answer { Answers op.now (state_of self.old) (reply_with result response.new.items) }
-        ensures unsent { ¬ IsRequest op.now → response.new ≡ response.old }
+        ensures unsent { ¬ IsTesterCall op.now → response.new ≡ response.old }
         ensures written { (life : Life) (past : History) → Stands life past (state_of self.old) → out.new ≡ written life past op.now out.old }
         ensures kept { op.now ≢ ops.Snapshot → out.new ≡ out.old }
         ensures reading { IsReading op.now → state_of self.new ≡ state_of self.old }

@@ -52,7 +52,8 @@ IsIdle life _ = ⊥
 
 -- a manager stands for such a call more
 abbrev pub IdleCallsChangeNothing : Type 0
-IdleCallsChangeNothing = (life : Life) (past : History) (manager : Manager) (op : Op) → IsIdle life op → StandsFor life past manager → StandsFor life (op ∷ past) manager
+IdleCallsChangeNothing = (life : Life) (past : History) (manager : Manager) (op : Op) → IsIdle life op → StandsFor life past manager
+    → StandsFor life (op ∷ past) manager
 
 -- no tester made a request
 abbrev pub HasNoRequest : History → Type 0

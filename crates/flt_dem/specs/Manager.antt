@@ -58,7 +58,7 @@ report_reply None = replies.Taken
 report_reply (Some cause) = replies.Ignored cause
 
 -- the debouncing and the state of an event are as before
-pub record IsUntouched (event : ℕ) (before now : Manager) : Type 0 where
+pub record KeepsEvent (event : ℕ) (before now : Manager) : Type 0 where
   pub debouncing : slice_get now.debounces event ≡ slice_get before.debounces event
   pub state : slice_get now.faults.states event ≡ slice_get before.faults.states event
 
@@ -88,8 +88,8 @@ TakesClear dtc old new =
     StandsFor life past old → StandsFor life (ops.Request tester bytes ∷ past) new
 
 -- a value is what the base and the calls so far make of it
-abbrev pub IsTold : {A : Type 0} → (Life → History → A) → Manager → A → Type 0
-IsTold told manager value = (life : Life) (past : History) → StandsFor life past manager → value ≡ told life past
+abbrev pub IsValueOf : {A : Type 0} → (Life → History → A) → Manager → A → Type 0
+IsValueOf told manager value = (life : Life) (past : History) → StandsFor life past manager → value ≡ told life past
 
 -- the reply is the answer to the call
 abbrev pub Answers : Op → Manager → Reply → Type 0
@@ -102,7 +102,7 @@ AnswersUnder setting op manager reply =
 
 -- the other events without an entry are untouched
 abbrev pub LeavesOthers : ℕ → Manager → Manager → Type 0
-LeavesOthers event old new = (other : ℕ) → other ≢ event → find (is_of_event other) old.faults.memory.entries ≡ None → IsUntouched other old new
+LeavesOthers event old new = (other : ℕ) → other ≢ event → find (is_of_event other) old.faults.memory.entries ≡ None → KeepsEvent other old new
 
 -- the entry of an event that the calls so far make, if they make one
 abbrev pub entry_after : ℕ → Life → History → Option EntryState

@@ -64,7 +64,8 @@ Bears more old new = (life : Life) (marks : Trace) → FaultsStand life marks ol
 -- it bears the clear of an event whatever entries it holds, where it gives up the event's
 abbrev pub BearsClear : ℕ → FaultsView → FaultsView → Type 0
 BearsClear event old new =
-    (held : Memory) (signals : List ℕ) → Bears (λ life marks. Of event Clear signals ∷ marks) (with_memory held old) (with_memory (without_entry event held) new)
+    (held : Memory) (signals : List ℕ) → Bears (λ life marks. Of event Clear signals ∷ marks) (with_memory held old)
+    (with_memory (without_entry event held) new)
 
 -- the states follow what became of an event that was stored
 abbrev pub StatesFollow : Stored → List EventState → List EventState → Type 0

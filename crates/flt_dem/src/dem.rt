@@ -12,8 +12,8 @@ ghost use Rattle.flt_model.specs.declared.call.Reply.TheVariants as replies;
 ghost use Rattle.flt_did.specs.Table.{dids_of};
 ghost use Rattle.flt_did.specs.Serves.{Serves};
 ghost use Rattle.flt_dem.specs.Faults.{KeepsOthers};
-ghost use Rattle.flt_dem.specs.Manager.{StandsFor, IsUntouched, IsOfOtherCycle, is_cycle_started, cause_of, report_reply};
-ghost use Rattle.flt_dem.specs.Manager.{Takes, TakesUnder, TakesClear, IsTold, Answers, AnswersUnder, LeavesOthers, entry_after, noted_after};
+ghost use Rattle.flt_dem.specs.Manager.{StandsFor, KeepsEvent, IsOfOtherCycle, is_cycle_started, cause_of, report_reply};
+ghost use Rattle.flt_dem.specs.Manager.{Takes, TakesUnder, TakesClear, IsValueOf, Answers, AnswersUnder, LeavesOthers, entry_after, noted_after};
 
 use crate::notes::Which;
 use crate::state::DemState;
@@ -62,7 +62,7 @@ impl Dem {
 
     /// Writes the durable state: what is to be saved. That changes nothing.
     pub fn persist(&self, out: &mut Persist)
-        ensures saved { IsTold saved_after (state_of self.now) out.new }
+        ensures saved { IsValueOf saved_after (state_of self.now) out.new }
         ensures stands { Takes ops.Snapshot (state_of self.now) (state_of self.now) }
     {
         self.state.persist(out);
@@ -120,7 +120,7 @@ impl Dem {
         ensures config { config_of self.new ≡ config_of self.old }
         ensures dids { table_of self.new ≡ table_of self.old }
         ensures stands { Takes (ops.Cycle cycle) (state_of self.old) (state_of self.new) }
-        ensures others { (event : ℕ) → IsOfOtherCycle (config_of self.old) cycle event → IsUntouched event (state_of self.old) (state_of self.new) }
+        ensures others { (event : ℕ) → IsOfOtherCycle (config_of self.old) cycle event → KeepsEvent event (state_of self.old) (state_of self.new) }
     {
         self.state.cycle(cycle);
     }
@@ -143,7 +143,7 @@ impl Dem {
         ensures config { config_of self.new ≡ config_of self.old }
         ensures dids { table_of self.new ≡ table_of self.old }
         ensures stands { TakesClear (λ life. (event_of life event).dtc) (state_of self.old) (state_of self.new) }
-        ensures others { (other : ℕ) → other ≢ event → IsUntouched other (state_of self.old) (state_of self.new) }
+        ensures others { (other : ℕ) → other ≢ event → KeepsEvent other (state_of self.old) (state_of self.new) }
     {
         self.state.clear_one(event);
     }
@@ -167,7 +167,7 @@ impl Dem {
     /// The entry of an event, where it has one.
     pub fn entry(&self, event: u16) -> Option<&EntryState>
         ensures value { option_copied result ≡ find (is_of_event event) (state_of self.now).faults.memory.entries }
-        ensures stands { IsTold (entry_after event) (state_of self.now) (option_copied result) }
+        ensures stands { IsValueOf (entry_after event) (state_of self.now) (option_copied result) }
     {
         self.state.entry(event)
     }
@@ -175,7 +175,7 @@ impl Dem {
     /// The noted event that is asked for, where there is one.
     pub fn noted(&self, which: Which) -> Option<u16>
         ensures value { result ≡ noted_by which (state_of self.now).faults.notes }
-        ensures stands { IsTold (noted_after which) (state_of self.now) result }
+        ensures stands { IsValueOf (noted_after which) (state_of self.now) result }
     {
         self.state.noted(which)
     }

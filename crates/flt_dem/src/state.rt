@@ -12,8 +12,8 @@ ghost use Rattle.flt_did.specs.Table.{dids_of};
 ghost use Rattle.flt_did.specs.Serves.{Serves};
 ghost use Rattle.flt_dem.specs.View.{counter_of};
 ghost use Rattle.flt_dem.specs.Faults.{KeepsOthers};
-ghost use Rattle.flt_dem.specs.Manager.{StandsFor, IsUntouched, IsOfOtherCycle, is_cycle_started, cause_of, report_reply};
-ghost use Rattle.flt_dem.specs.Manager.{Takes, TakesUnder, TakesClear, IsTold, Answers, AnswersUnder, LeavesOthers, entry_after, noted_after};
+ghost use Rattle.flt_dem.specs.Manager.{StandsFor, KeepsEvent, IsOfOtherCycle, is_cycle_started, cause_of, report_reply};
+ghost use Rattle.flt_dem.specs.Manager.{Takes, TakesUnder, TakesClear, IsValueOf, Answers, AnswersUnder, LeavesOthers, entry_after, noted_after};
 
 use crate::events::Events;
 use crate::notes::Which;
@@ -71,7 +71,7 @@ impl DemState {
 
     /// Writes the durable state: what is to be saved. That changes nothing.
     pub fn persist(&self, out: &mut Persist)
-        ensures saved { IsTold saved_after self.now out.new }
+        ensures saved { IsValueOf saved_after self.now out.new }
         ensures stands { Takes ops.Snapshot self.now self.now }
     {
         self.events.faults().persist(out);
@@ -144,7 +144,7 @@ impl DemState {
         requires { cycle < 4 }
         ensures config { self.new.faults.config ≡ self.old.faults.config }
         ensures stands { Takes (ops.Cycle cycle) self.old self.new }
-        ensures others { (event : ℕ) → IsOfOtherCycle self.old.faults.config cycle event → IsUntouched event self.old self.new }
+        ensures others { (event : ℕ) → IsOfOtherCycle self.old.faults.config cycle event → KeepsEvent event self.old self.new }
     {
         self.events.end_cycle(cycle);
         self.started[cycle as usize] = true;
@@ -166,7 +166,7 @@ impl DemState {
         requires { event < length self.old.faults.config.events.items }
         ensures config { self.new.faults.config ≡ self.old.faults.config }
         ensures stands { TakesClear (λ life. (event_of life event).dtc) self.old self.new }
-        ensures others { (other : ℕ) → other ≢ event → IsUntouched other self.old self.new }
+        ensures others { (other : ℕ) → other ≢ event → KeepsEvent other self.old self.new }
     {
         self.events.clear_one(event);
     }
@@ -215,7 +215,7 @@ impl DemState {
     /// The entry of an event, where it has one.
     pub fn entry(&self, event: u16) -> Option<&EntryState>
         ensures value { option_copied result ≡ find (is_of_event event) self.now.faults.memory.entries }
-        ensures stands { IsTold (entry_after event) self.now (option_copied result) }
+        ensures stands { IsValueOf (entry_after event) self.now (option_copied result) }
     {
         self.events.faults().entry(event)
     }
@@ -230,7 +230,7 @@ impl DemState {
     /// The noted event that is asked for, where there is one.
     pub fn noted(&self, which: Which) -> Option<u16>
         ensures value { result ≡ noted_by which self.now.faults.notes }
-        ensures stands { IsTold (noted_after which) self.now result }
+        ensures stands { IsValueOf (noted_after which) self.now result }
     {
         self.events.faults().noted(which)
     }

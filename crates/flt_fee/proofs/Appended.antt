@@ -5,7 +5,7 @@ use Rattle.std.specs.List.{list_any}
 use Rattle.std.proofs.lemmas.Bool.{eq-eqb, ne_eqb}
 use Rattle.flt_flash.specs.Image.{sector_at}
 use Rattle.flt_flash.specs.Content.{Content}
-use Rattle.flt_flash.specs.State.{FlashState, HasShape, Runs, HasRisenBy}
+use Rattle.flt_flash.specs.State.{FlashState, HasShape, MakesOperations, HasRisenBy}
 use Rattle.flt_flash.specs.Calls.{Calls, Changes}
 use Rattle.flt_flash.specs.declared.flash.FlashFailed.{FlashFailed}
 use Rattle.flt_flash.specs.declared.blocks.BlockFault.{BlockFault}
@@ -17,19 +17,19 @@ use Rattle.flt_flash.specs.Blocks.{byte_pages}
 use Rattle.flt_sector.specs.Blocks.{current, first_fault, block_value}
 use Rattle.flt_record.specs.LogHolds.{asked_of, given}
 use Rattle.flt_record.proofs.LogOn.{blank_behind}
-use Rattle.flt_fee.specs.Mounted.{Stands}
+use Rattle.flt_fee.specs.Mounted.{StandsAt}
 use Rattle.flt_fee.specs.Fee.{is_last, state_by}
 use Rattle.flt_record.specs.Recorded.{Records}
 use Rattle.flt_fee.proofs.Composed.{follows_by}
 use Rattle.flt_fee.proofs.Standing.{stands_value, stands_sound, left_standing, done_standing, current_stays}
 
 -- the pages behind the log of an image that stands
-pub blank_at_end : (used : ℕ) (numbers : List ℕ) (image : List (List (List ℕ))) (sector sequence end : ℕ) (value : ℕ → Content) → 2 ≤ used → Stands used numbers image sector sequence end value → AreBlank (sector_at image sector) end used
+pub blank_at_end : (used : ℕ) (numbers : List ℕ) (image : List (List (List ℕ))) (sector sequence end : ℕ) (value : ℕ → Content) → 2 ≤ used → StandsAt used numbers image sector sequence end value → AreBlank (sector_at image sector) end used
 blank_at_end used numbers image sector sequence end value begins stands =
     blank_behind used numbers (sector_at image sector) (sector_at image sector) stands.holds.entries end begins stands.holds.is (λ k low lt. refl)
 
 -- a call on a driver that is not stale, which leaves the image without a fault and its current sector where it was
-module _ (used : ℕ) (numbers : List ℕ) (before after : FlashState) (runs : Runs before after) (sound : first_fault used numbers before.image ≡ None) (stays_sound : first_fault used numbers after.image ≡ None)
+module _ (used : ℕ) (numbers : List ℕ) (before after : FlashState) (runs : MakesOperations before after) (sound : first_fault used numbers before.image ≡ None) (stays_sound : first_fault used numbers after.image ≡ None)
     (same : current used after.image ≡ current used before.image) (was_stale has_mounted is_stale : Bool) where
   pub quiet_calls : {T : Type 0} (result : Result T BlockFault) → (IsErrOf result Flash → HasRisenBy 1 before.faults after.faults)
       → ((sector page : ℕ) → IsErrOf result (Damaged sector page) → ⊥) → Calls (state_by used numbers was_stale has_mounted before) (state_by used numbers is_stale has_mounted after) result
@@ -45,7 +45,7 @@ module _ (used : ℕ) (numbers : List ℕ) (before after : FlashState) (runs : R
       no_damage (Err e) = tt
 
 module _ (used : ℕ) (numbers : List ℕ) (before after : FlashState) (shape : HasShape before) (sector sequence page block : ℕ) (held : List ℕ) (valid : Bool)
-    (within : sector < 2) (begins : 2 ≤ used) (stands : Stands used numbers before.image sector sequence page (block_value used numbers before.image))
+    (within : sector < 2) (begins : 2 ≤ used) (stands : StandsAt used numbers before.image sector sequence page (block_value used numbers before.image))
     (proper : IsWord (Head block (length held) valid page)) (among : list_any (λ number. number == block) numbers ≡ true) (room : page + 2 + byte_pages (length held) ≤ used) where
   abbrev value : ℕ → Content
   value = block_value used numbers before.image
@@ -65,12 +65,12 @@ module _ (used : ℕ) (numbers : List ℕ) (before after : FlashState) (shape : 
     pub others : (other : ℕ) → other ≢ block → block_value used numbers after.image other ≡ value other
     pub sound : first_fault used numbers after.image ≡ None
 
-  old : (last : ℕ) × Stands used numbers after.image sector sequence last value → Leaves
+  old : (last : ℕ) × StandsAt used numbers after.image sector sequence last value → Leaves
   old found =
       let is = stands_value used numbers after.image sector sequence found.0 value found.1 in
       record { either = inl (is block); others = λ other apart. is other; sound = stands_sound used numbers after.image sector sequence found.0 value found.1 }
 
-  new : (last : ℕ) × Stands used numbers after.image sector sequence last (given block asked value) → Leaves
+  new : (last : ℕ) × StandsAt used numbers after.image sector sequence last (given block asked value) → Leaves
   new found =
       let is = stands_value used numbers after.image sector sequence found.0 (given block asked value) found.1 in
       record {
@@ -106,7 +106,7 @@ module _ (used : ℕ) (numbers : List ℕ) (before after : FlashState) (shape : 
         (current_stays used numbers before after shape sector sequence page block held valid value within begins stands proper among room is) was_stale has_mounted true (Err Flash) (λ told. is.cause) (λ s p told. cc told)
 
   module _ (was_stale has_mounted : Bool) (is_mounted : has_mounted ≡ true) (is : Records {T = Unit {0}} before after sector page block held valid (Ok tt)) where
-    pub now_stands : Stands used numbers after.image sector sequence (page + (2 + byte_pages (length held))) (given block asked value)
+    pub now_stands : StandsAt used numbers after.image sector sequence (page + (2 + byte_pages (length held))) (given block asked value)
     now_stands = done_standing used numbers before after shape sector sequence page block held valid value within begins stands proper among room is refl
 
     pub done_changes : Changes (state_by used numbers was_stale has_mounted before) (state_by used numbers false has_mounted after) block asked (length held) (Ok tt)

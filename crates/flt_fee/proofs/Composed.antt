@@ -1,7 +1,7 @@
 -- Calls of a driver, one after another, and a call by what it did to the image.
 use Rattle.std.proofs.Common.{◌≡◌, ℕ, Bool, true, false, List, Option, Some, None, Result, Ok, Err, refl, sym, ◌∙◌, ap, arith}
 use Rattle.std.specs.Prelude.{OnOk, IsTrue, IsFalse}
-use Rattle.flt_flash.specs.State.{FlashState, Runs}
+use Rattle.flt_flash.specs.State.{FlashState, MakesOperations}
 use Rattle.flt_flash.specs.Blocks.{BlocksState}
 use Rattle.flt_flash.specs.Calls.{Follows, Calls}
 use Rattle.flt_flash.specs.declared.blocks.BlockFault.{BlockFault}
@@ -9,7 +9,7 @@ use Rattle.flt_flash.proofs.CallsInARow.{more_calls}
 use Rattle.flt_sector.specs.Blocks.{current, first_fault, block_value}
 use Rattle.flt_fee.specs.Fee.{is_last, state_by}
 
-module _ (used : ℕ) (numbers : List ℕ) (before after : FlashState) (runs : Runs before after) (was_stale had_mounted is_stale has_mounted : Bool) where
+module _ (used : ℕ) (numbers : List ℕ) (before after : FlashState) (runs : MakesOperations before after) (was_stale had_mounted is_stale has_mounted : Bool) where
   -- a driver goes on where its image has no new fault, and one with a fault stays as it was
   pub follows_by : (had_mounted ≡ true → has_mounted ≡ true) → (is_last (current used before.image) ≡ true → is_last (current used after.image) ≡ true)
       → (first_fault used numbers before.image ≡ None → first_fault used numbers after.image ≡ None)

@@ -19,14 +19,14 @@ use Rattle.flt_record.specs.LogHolds.{LogHolds, given}
 use Rattle.flt_record.specs.Live.{held_in, current_pages}
 use Rattle.flt_record.specs.Recorded.{OnSector}
 use Rattle.flt_record.specs.declared.place.RecordPlace.{RecordPlace}
-use Rattle.flt_record.specs.RecordPlace.{IsAt, IsPlaceOf, Tells}
+use Rattle.flt_record.specs.RecordPlace.{IsAt, IsPlaceOf, TellsPlaces}
 use Rattle.flt_record.proofs.Telling.{farther_at, still_at}
 use Rattle.flt_record.proofs.Begun.{holds_nothing}
 use Rattle.flt_record.proofs.Copying.{other_stays}
 use Rattle.flt_record.proofs.Counting.{unnumbered}
 use Rattle.flt_record.proofs.LogOn.{end_least, blank_behind}
 use Rattle.flt_record.proofs.Recording.{on_sector, pages_on}
-use Rattle.flt_pages.specs.Next.{IsNext}
+use Rattle.flt_pages.specs.Next.{IsLeastFrom}
 use Rattle.flt_fee.specs.Switch.{below, KeepsGates, CopiesBlock, CopiesBlocks, Replaces}
 use Rattle.flt_fee.proofs.CopyingBlock.{same_kept}
 
@@ -104,7 +104,7 @@ pub record Moves (numbers : List ℕ) (places : List (Option RecordPlace)) (star
   pub moved : (k : ℕ) → k < length numbers → get_or numbers k 0 < from → IsAt (sector_at now.image other) end (value (get_or numbers k 0)) (get_or places k None)
   pub waits : (k : ℕ) → k < length numbers → from ≤ get_or numbers k 0 → IsAt (sector_at start.image sector) used (value (get_or numbers k 0)) (get_or places k None)
 
-pub nothing_moved : (numbers : List ℕ) (places : List (Option RecordPlace)) (start now : FlashState) (sector other used end : ℕ) (value : ℕ → Content) → Tells numbers places (sector_at start.image sector) used value
+pub nothing_moved : (numbers : List ℕ) (places : List (Option RecordPlace)) (start now : FlashState) (sector other used end : ℕ) (value : ℕ → Content) → TellsPlaces numbers places (sector_at start.image sector) used value
     → Moves numbers places start now sector other used end 0 value
 nothing_moved numbers places start now sector other used end value tells = record { moved = λ k within lt. absurd (omega (arith, lt)); waits = λ k within le. tells k within }
 
@@ -116,7 +116,7 @@ module _ (used : ℕ) (numbers : List ℕ) (start : FlashState) (shape : HasShap
   none_of : (block : ℕ) → ((k : ℕ) → k < length numbers → get_or numbers k 0 ≢ block) → held_in used numbers (sector_at start.image sector) block ≡ missing
   none_of block apart_of = ap (content_of (sector_at start.image sector)) (unnumbered used numbers (sector_at start.image sector) block least fine (no_number numbers block apart_of))
 
-  none_between : (from number : ℕ) → IsNext from numbers (Some number) → (block : ℕ) → from ≤ block → block < number → held_in used numbers (sector_at start.image sector) block ≡ missing
+  none_between : (from number : ℕ) → IsLeastFrom from numbers (Some number) → (block : ℕ) → from ≤ block → block < number → held_in used numbers (sector_at start.image sector) block ≡ missing
   none_between from number next block low high = none_of block (λ k within same. (let above = next.found.2 k within (omega (arith, same)) in omega (arith, same, above)))
 
   pub copying : AreBlank (sector_at start.image other) 2 used → Copying used numbers start start sector other 2 0
@@ -146,7 +146,7 @@ module _ (used : ℕ) (numbers : List ℕ) (start : FlashState) (shape : HasShap
     content_now : (number : ℕ) → held_in used numbers (sector_at now.image sector) number ≡ held_in used numbers (sector_at start.image sector) number
     content_now number = ap (λ (pages : List (List ℕ)). held_in used numbers pages number) source_now
 
-    module _ (number : ℕ) (next : IsNext from numbers (Some number)) where
+    module _ (number : ℕ) (next : IsLeastFrom from numbers (Some number)) where
       pub number_room : end + pages_of (held_in used numbers (sector_at now.image sector) number) ≤ 2 + current_pages used numbers (sector_at start.image sector)
       number_room = omega (arith, is.room, ap pages_of (content_now number), sum_next value from number numbers next.found.1 next.found.0, sum_all value (number + 1) numbers)
 
@@ -194,7 +194,7 @@ module _ (used : ℕ) (numbers : List ℕ) (start : FlashState) (shape : HasShap
           (subst (λ (pages : List (List ℕ)). IsAt pages used (held_in used numbers pages (get_or numbers is.index 0)) (get_or places is.index None)) (sym source_now)
           (moves.waits is.index is.within (omega (arith, low, is.number)))))
 
-      pub moves_on : (number : ℕ) → IsNext from numbers (Some number) → (after : FlashState) (last : ℕ)
+      pub moves_on : (number : ℕ) → IsLeastFrom from numbers (Some number) → (after : FlashState) (last : ℕ)
           → CopiesBlock now after other used numbers number end (held_in used numbers (sector_at now.image sector) number) (Ok last) → (then_places : List (Option RecordPlace))
           → Replaces numbers (sector_at after.image other) places then_places number last (held_in used numbers (sector_at now.image sector) number)
           → Moves numbers then_places start after sector other used last (number + 1) value
@@ -225,11 +225,11 @@ module _ (used : ℕ) (numbers : List ℕ) (start : FlashState) (shape : HasShap
             | inr more ↦ absurd (let least_of = next.found.2 k within more in apart_of (omega (arith, least_of, lt)))
           ]
 
-      pub moved_all : IsNext from numbers None → Tells numbers places (sector_at now.image other) end (held_in used numbers (sector_at start.image sector))
+      pub moved_all : IsLeastFrom from numbers None → TellsPlaces numbers places (sector_at now.image other) end (held_in used numbers (sector_at start.image sector))
       moved_all none k within = moves.moved k within (none.none k within)
 
     -- all blocks are copied
-    pub all_done : IsNext from numbers None → CopiesBlocks start now sector other used numbers (Ok end)
+    pub all_done : IsLeastFrom from numbers None → CopiesBlocks start now sector other used numbers (Ok end)
     all_done none = record {
       pages = sector_at now.image other;
       on = is.on;

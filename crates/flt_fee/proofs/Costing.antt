@@ -7,7 +7,7 @@ use Rattle.flt_flash.specs.Blocks.{BlocksState, record_pages, live_pages}
 use Rattle.flt_flash.specs.Calls.{Calls, Costs, CostsAtMost, NeverFull, NoFault, NoErase, switch_cost}
 use Rattle.flt_flash.specs.declared.blocks.BlockFault.{BlockFault}
 use Rattle.flt_flash.specs.declared.blocks.BlockFault.TheVariants.{Flash, Full, SequenceSpent, Damaged}
-use Rattle.flt_fee.specs.Costs.{Spends, MakesRoom, Stores, UnlessFailed, StoreCosts}
+use Rattle.flt_fee.specs.Costs.{SpendsAtMost, MakesRoom, Stores, UnlessFailed, StoreCosts}
 use Rattle.flt_fee.specs.Fee.{state_by}
 
 -- a record that was refused
@@ -20,9 +20,9 @@ stored_refused used end live size sector before after (Damaged s p) same = tt
 
 -- a record that was appended where there was room, or room was made
 pub stored_behind : (used end live size sector : ℕ) (before middle after : FlashState) → MakesRoom used end live size sector before middle → (result : Result (Unit {0}) BlockFault) → NeverFull result
-    → OnOk result (Spends (record_pages size) middle after) → UnlessFailed result (Stores used end live size sector before after)
+    → OnOk result (SpendsAtMost (record_pages size) middle after) → UnlessFailed result (Stores used end live size sector before after)
 stored_behind used end live size sector before middle after room (Ok x) never spends = ⊎_elim
-    (λ stays. inr (inl (stays.0, subst (λ (m : FlashState). Spends (record_pages size) m after) stays.1 spends)))
+    (λ stays. inr (inl (stays.0, subst (λ (m : FlashState). SpendsAtMost (record_pages size) m after) stays.1 spends)))
     (λ switched. inr (inr (record {
       past = switched.past;
       room = switched.room;
@@ -85,7 +85,7 @@ put_costs used still_used numbers still_numbers before after shape least end liv
 -- a read by what it spends
 pub read_costs : {T : Type 0} (used still_used : ℕ) (numbers still_numbers : List ℕ) (before after : FlashState) (limit : ℕ) (was_stale had_mounted is_stale has_mounted : Bool) (result : Result T BlockFault)
     → (was_stale ≡ false → had_mounted ≡ true) → NeverFull result → Calls (state_by used numbers was_stale had_mounted before) (state_by still_used still_numbers is_stale has_mounted after) result
-    → (was_stale ≡ false → OnOk result (Spends limit before after)) → was_stale ≡ false
+    → (was_stale ≡ false → OnOk result (SpendsAtMost limit before after)) → was_stale ≡ false
     → NoFault (state_by used numbers was_stale had_mounted before) (state_by still_used still_numbers is_stale has_mounted after)
     → CostsAtMost limit (state_by used numbers was_stale had_mounted before) (state_by still_used still_numbers is_stale has_mounted after)
 read_costs used still_used numbers still_numbers before after limit was_stale had_mounted is_stale has_mounted (Ok x) mounted never calls spends fresh none = omega (arith, (spends fresh).operations)

@@ -3,20 +3,20 @@ use Rattle.std.proofs.Common.{◌≡◌, ⊎_elim, inl, ◌≤◌, ℕ, Bool, tr
 use Rattle.std.specs.Prelude.{OnOk, IsErrOf}
 use Rattle.flt_flash.specs.Image.{sector_at}
 use Rattle.flt_flash.specs.Content.{missing}
-use Rattle.flt_flash.specs.State.{FlashState, Runs, HasRisenBy}
+use Rattle.flt_flash.specs.State.{FlashState, MakesOperations, HasRisenBy}
 use Rattle.flt_flash.specs.Calls.{Calls, SameSpent, SameValues}
 use Rattle.flt_flash.specs.declared.blocks.BlockFault.{BlockFault}
 use Rattle.flt_flash.specs.declared.blocks.BlockFault.TheVariants.{Flash, Damaged}
 use Rattle.flt_sector.specs.Blocks.{current, first_fault, fault_by, value_by, block_value}
 use Rattle.flt_record.proofs.Begun.{holds_nothing}
 use Rattle.flt_fee.specs.Fee.{is_last, state_by}
-use Rattle.flt_fee.specs.Mounted.{Stands, IsMounted}
+use Rattle.flt_fee.specs.Mounted.{StandsAt, IsMounted}
 use Rattle.flt_fee.proofs.Composed.{follows_by}
 use Rattle.flt_fee.specs.SetUp.{IsFresh, HoldsNothing}
 use Rattle.flt_fee.proofs.Standing.{stands_value, stands_sound, stands_mounted}
 
 module _ (used : ℕ) (numbers : List ℕ) (least : 2 ≤ used) where
-  fresh_stands : (image : List (List (List ℕ))) → IsFresh used image → Stands used numbers image 0 1 2 (λ block. missing)
+  fresh_stands : (image : List (List (List ℕ))) → IsFresh used image → StandsAt used numbers image 0 1 2 (λ block. missing)
   fresh_stands image is = record { current = is.current; holds = holds_nothing used numbers (sector_at image 0) least is.blank }
 
   pub fresh_mounted : (image : List (List (List ℕ))) → IsFresh used image → IsMounted false true used numbers image 0 1 2
@@ -39,7 +39,7 @@ module _ (used : ℕ) (numbers : List ℕ) (least : 2 ≤ used) where
     pub nothing_spent : (was_stale had_mounted is_stale has_mounted : Bool) → SameSpent (state_by used numbers was_stale had_mounted before) (state_by used numbers is_stale has_mounted after)
     nothing_spent was_stale had_mounted is_stale has_mounted = never_last after.image left ∙ sym (never_last before.image (inl none))
 
-    pub formatting_calls : {T : Type 0} (runs : Runs before after) (was_stale had_mounted is_stale has_mounted : Bool) (result : Result T BlockFault) → (had_mounted ≡ true → has_mounted ≡ true)
+    pub formatting_calls : {T : Type 0} (runs : MakesOperations before after) (was_stale had_mounted is_stale has_mounted : Bool) (result : Result T BlockFault) → (had_mounted ≡ true → has_mounted ≡ true)
         → (IsErrOf result Flash → HasRisenBy 1 before.faults after.faults) → ((sector page : ℕ) → IsErrOf result (Damaged sector page) → ⊥)
         → Calls (state_by used numbers was_stale had_mounted before) (state_by used numbers is_stale has_mounted after) result
     formatting_calls {T} runs was_stale had_mounted is_stale has_mounted result once cause undamaged = record {

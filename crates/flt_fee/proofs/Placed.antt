@@ -14,39 +14,39 @@ use Rattle.flt_sector.specs.Blocks.{current, block_value, value_by}
 use Rattle.flt_record.specs.declared.place.RecordPlace.{RecordPlace}
 use Rattle.flt_record.specs.LogHolds.{asked_of, given}
 use Rattle.flt_record.specs.Live.{held_in}
-use Rattle.flt_record.specs.RecordPlace.{IsAt, IsPlaceOf, Tells, bytes_at, pages_found, record_at}
+use Rattle.flt_record.specs.RecordPlace.{IsAt, IsPlaceOf, TellsPlaces, bytes_at, pages_found, record_at}
 use Rattle.flt_record.specs.Recorded.{Records}
 use Rattle.flt_record.proofs.LogOn.{end_least}
 use Rattle.flt_record.proofs.PageBytes.{bytes_size}
 use Rattle.flt_record.proofs.Recording.{pages_on}
 use Rattle.flt_record.proofs.Telling.{farther_at, tells_more, told_place, live_told}
 use Rattle.flt_fee.specs.Fee.{state_by}
-use Rattle.flt_fee.specs.Mounted.{Stands, IsMounted}
+use Rattle.flt_fee.specs.Mounted.{StandsAt, IsMounted}
 use Rattle.flt_fee.proofs.Refusing.{end_within, live_end}
 use Rattle.flt_fee.proofs.Standing.{stands_value}
 
 -- a table that tells what the current sector holds tells the blocks of the image
-pub tells_image : (used : ℕ) (numbers : List ℕ) (image : List (List (List ℕ))) (sector sequence end : ℕ) (value : ℕ → Content) → Stands used numbers image sector sequence end value
-    → (places : List (Option RecordPlace)) → Tells numbers places (sector_at image sector) end value → Tells numbers places (sector_at image sector) end (block_value used numbers image)
+pub tells_image : (used : ℕ) (numbers : List ℕ) (image : List (List (List ℕ))) (sector sequence end : ℕ) (value : ℕ → Content) → StandsAt used numbers image sector sequence end value
+    → (places : List (Option RecordPlace)) → TellsPlaces numbers places (sector_at image sector) end value → TellsPlaces numbers places (sector_at image sector) end (block_value used numbers image)
 tells_image used numbers image sector sequence end value stands places tells k within =
     subst (λ (c : Content). IsAt (sector_at image sector) end c (get_or places k None)) (sym (stands_value used numbers image sector sequence end value stands (get_or numbers k 0))) (tells k within)
 
 -- and the other way round, and up to a later page
 pub tells_sector : (used : ℕ) (numbers : List ℕ) (image : List (List (List ℕ))) (sector sequence end bound : ℕ) → current used image ≡ Ok (Some record { sector = sector; sequence = sequence }) → end ≤ bound
-    → (places : List (Option RecordPlace)) → Tells numbers places (sector_at image sector) end (block_value used numbers image) → Tells numbers places (sector_at image sector) bound (held_in used numbers (sector_at image sector))
+    → (places : List (Option RecordPlace)) → TellsPlaces numbers places (sector_at image sector) end (block_value used numbers image) → TellsPlaces numbers places (sector_at image sector) bound (held_in used numbers (sector_at image sector))
 tells_sector used numbers image sector sequence end bound is below places tells k within =
     farther_at (sector_at image sector) end bound below (held_in used numbers (sector_at image sector) (get_or numbers k 0)) (get_or places k None)
     (subst (λ (c : Content). IsAt (sector_at image sector) end c (get_or places k None)) (ap (value_by used numbers image (get_or numbers k 0)) is) (tells k within))
 
 pub tells_current : (used : ℕ) (numbers : List ℕ) (image : List (List (List ℕ))) (sector sequence end : ℕ) → current used image ≡ Ok (Some record { sector = sector; sequence = sequence })
-    → (places : List (Option RecordPlace)) → Tells numbers places (sector_at image sector) end (held_in used numbers (sector_at image sector)) → Tells numbers places (sector_at image sector) end (block_value used numbers image)
+    → (places : List (Option RecordPlace)) → TellsPlaces numbers places (sector_at image sector) end (held_in used numbers (sector_at image sector)) → TellsPlaces numbers places (sector_at image sector) end (block_value used numbers image)
 tells_current used numbers image sector sequence end is places tells k within =
     subst (λ (c : Content). IsAt (sector_at image sector) end c (get_or places k None)) (sym (ap (value_by used numbers image (get_or numbers k 0)) is)) (tells k within)
 
 -- a driver that is not stale
 module _ (is_stale has_mounted : Bool) (settled : is_stale ≡ false) (used : ℕ) (numbers : List ℕ) (flash : FlashState) (shape : HasShape flash) (sector sequence end : ℕ) (least : 4 ≤ used) (most : used ≤ flash.pages)
     (in_sector : sector < 2) (distinct : AllPairs (λ a b. a ≢ b) numbers) (is : IsMounted is_stale has_mounted used numbers flash.image sector sequence end)
-    (places : List (Option RecordPlace)) (sized : length places ≡ length numbers) (tells : Tells numbers places (sector_at flash.image sector) end (block_value used numbers flash.image)) where
+    (places : List (Option RecordPlace)) (sized : length places ≡ length numbers) (tells : TellsPlaces numbers places (sector_at flash.image sector) end (block_value used numbers flash.image)) where
   within : end ≤ used
   within = end_within is_stale has_mounted settled used numbers flash sector sequence end least distinct is
 
@@ -61,22 +61,22 @@ module _ (is_stale has_mounted : Bool) (settled : is_stale ≡ false) (used : �
       (told_place numbers places (sector_at flash.image sector) end (block_value used numbers flash.image) block found tells here)
 
   -- the table that a switch begins with
-  pub tells_old : Tells numbers places (sector_at flash.image sector) used (held_in used numbers (sector_at flash.image sector))
+  pub tells_old : TellsPlaces numbers places (sector_at flash.image sector) used (held_in used numbers (sector_at flash.image sector))
   tells_old = tells_sector used numbers flash.image sector sequence end used (is.current settled) within places tells
 
 -- a record was appended, and its place was noted
 module _ (used : ℕ) (numbers : List ℕ) (before after : FlashState) (shape : HasShape before) (sector sequence end block : ℕ) (held : List ℕ) (valid : Bool) (in_sector : sector < 2) (begins : 2 ≤ used)
-    (stands : Stands used numbers before.image sector sequence end (block_value used numbers before.image)) (proper : IsWord (Head block (length held) valid end))
+    (stands : StandsAt used numbers before.image sector sequence end (block_value used numbers before.image)) (proper : IsWord (Head block (length held) valid end))
     (is : Records {T = Unit {0}} before after sector end block held valid (Ok tt))
-    (now : Stands used numbers after.image sector sequence (end + (2 + byte_pages (length held))) (given block (asked_of valid held) (block_value used numbers before.image)))
-    (places then_places : List (Option RecordPlace)) (tells : Tells numbers places (sector_at before.image sector) end (block_value used numbers before.image))
+    (now : StandsAt used numbers after.image sector sequence (end + (2 + byte_pages (length held))) (given block (asked_of valid held) (block_value used numbers before.image)))
+    (places then_places : List (Option RecordPlace)) (tells : TellsPlaces numbers places (sector_at before.image sector) end (block_value used numbers before.image))
     (place : RecordPlace) (here : place ≡ record { page = end; length = length held; valid = valid })
     (noted : (k : ℕ) → k < length numbers → get_or then_places k None ≡ (if true && (block == get_or numbers k 0) then Some place else get_or places k None)) where
-  pub tells_appended : (last : ℕ) → end + (2 + byte_pages (length held)) ≡ last → Tells numbers then_places (sector_at after.image sector) last (block_value used numbers after.image)
+  pub tells_appended : (last : ℕ) → end + (2 + byte_pages (length held)) ≡ last → TellsPlaces numbers then_places (sector_at after.image sector) last (block_value used numbers after.image)
   tells_appended last ends =
-      subst (λ n. Tells numbers then_places (sector_at after.image sector) n (block_value used numbers after.image)) ends
+      subst (λ n. TellsPlaces numbers then_places (sector_at after.image sector) n (block_value used numbers after.image)) ends
       (tells_image used numbers after.image sector sequence (end + (2 + byte_pages (length held))) (given block (asked_of valid held) (block_value used numbers before.image)) now then_places
-      (subst (λ (p : List (List ℕ)). Tells numbers then_places p (end + (2 + byte_pages (length held))) (given block (asked_of valid held) (block_value used numbers before.image)))
+      (subst (λ (p : List (List ℕ)). TellsPlaces numbers then_places p (end + (2 + byte_pages (length held))) (given block (asked_of valid held) (block_value used numbers before.image)))
       (sym (pages_on before after sector is.pages shape in_sector is.on))
       (tells_more (sector_at before.image sector) is.pages end block held valid begun proper.3 is.done numbers places then_places (block_value used numbers before.image) tells place here noted)))
     where

@@ -9,7 +9,7 @@ use Rattle.flt_sector.specs.Log.{LogFrom, log}
 use Rattle.flt_sector.specs.Gates.{gate_by, started_by, activated_by, both_gates, gates_of}
 use Rattle.flt_sector.specs.Blocks.{current, current_by, first_fault, fault_by, place_in, block_value, value_by, content_of, last_complete}
 use Rattle.flt_record.specs.Record.{KeptApart}
-use Rattle.flt_fee.specs.Mounted.{Stands, IsMounted}
+use Rattle.flt_fee.specs.Mounted.{StandsAt, IsMounted}
 use Rattle.flt_record.specs.Recorded.{Records}
 use Rattle.flt_record.proofs.Recording.{pages_on}
 use Rattle.flt_record.proofs.Appending.{left_record, whole_record}
@@ -24,7 +24,7 @@ use Rattle.flt_code.specs.declared.words.Word.TheVariants.{Head}
 use Rattle.std.proofs.lemmas.List.Folds.{list_any_at}
 use Rattle.std.specs.Prelude.{OnOk}
 
-module _ (used : ℕ) (numbers : List ℕ) (image : List (List (List ℕ))) (sector sequence end : ℕ) (value : ℕ → Content) (stands : Stands used numbers image sector sequence end value) where
+module _ (used : ℕ) (numbers : List ℕ) (image : List (List (List ℕ))) (sector sequence end : ℕ) (value : ℕ → Content) (stands : StandsAt used numbers image sector sequence end value) where
   pub stands_value : (block : ℕ) → block_value used numbers image block ≡ value block
   stands_value block =
       ap (value_by used numbers image block) stands.current
@@ -53,7 +53,7 @@ same_current used image sector pages from to within behind apart = λ i. current
 
 -- a driver that is not stale stands
 pub mounted_stands : (is_stale has_mounted : Bool) → is_stale ≡ false → (used : ℕ) (numbers : List ℕ) (image : List (List (List ℕ))) (sector sequence end : ℕ) → IsMounted is_stale has_mounted used numbers image sector sequence end
-    → Stands used numbers image sector sequence end (block_value used numbers image)
+    → StandsAt used numbers image sector sequence end (block_value used numbers image)
 mounted_stands is_stale has_mounted fresh used numbers image sector sequence end is = record {
   current = is.current fresh;
   holds = record {
@@ -63,7 +63,7 @@ mounted_stands is_stale has_mounted fresh used numbers image sector sequence end
   };
 }
 
-pub stands_mounted : (has_mounted : Bool) → has_mounted ≡ true → (used : ℕ) (numbers : List ℕ) (image : List (List (List ℕ))) (sector sequence end : ℕ) (value : ℕ → Content) → Stands used numbers image sector sequence end value
+pub stands_mounted : (has_mounted : Bool) → has_mounted ≡ true → (used : ℕ) (numbers : List ℕ) (image : List (List (List ℕ))) (sector sequence end : ℕ) (value : ℕ → Content) → StandsAt used numbers image sector sequence end value
     → IsMounted false has_mounted used numbers image sector sequence end
 stands_mounted has_mounted is_mounted used numbers image sector sequence end value stands = record {
   mounted = λ fresh. is_mounted;
@@ -89,7 +89,7 @@ is_among numbers block found = list_any_at (λ number. number == block) numbers 
 
 -- a record that was appended behind the log of an image that stands
 module _ (used : ℕ) (numbers : List ℕ) (before after : FlashState) (shape : HasShape before) (sector sequence page block : ℕ) (held : List ℕ) (valid : Bool) (value : ℕ → Content)
-    (within : sector < 2) (begins : 2 ≤ used) (stands : Stands used numbers before.image sector sequence page value)
+    (within : sector < 2) (begins : 2 ≤ used) (stands : StandsAt used numbers before.image sector sequence page value)
     (proper : IsWord (Head block (length held) valid page)) (among : list_any (λ number. number == block) numbers ≡ true) (room : page + 2 + byte_pages (length held) ≤ used) where
   module _ {result : Result (Unit {0}) FlashFailed} (is : Records before after sector page block held valid result) where
     same_pages : sector_at after.image sector ≡ is.pages
@@ -106,14 +106,14 @@ module _ (used : ℕ) (numbers : List ℕ) (before after : FlashState) (shape : 
         ap (current used) is.on.image ∙ same_current used before.image sector is.pages page apart.0 (omega (arith, shape.sectors))
         (end_least used numbers (sector_at before.image sector) is.pages stands.holds.entries page begins stands.holds.is (λ k low lt. apart.1.before k lt)) apart.1
 
-    stands_by : (last : ℕ) (values : ℕ → Content) → LogHolds used numbers is.pages last values → Stands used numbers after.image sector sequence last values
+    stands_by : (last : ℕ) (values : ℕ → Content) → LogHolds used numbers is.pages last values → StandsAt used numbers after.image sector sequence last values
     stands_by last values holds = record { current = current_stays ∙ stands.current; holds = subst (λ (p : List (List ℕ)). LogHolds used numbers p last values) (sym same_pages) holds }
 
-    pub left_standing : ((last : ℕ) × Stands used numbers after.image sector sequence last value) ⊎ ((last : ℕ) × Stands used numbers after.image sector sequence last (given block (asked_of valid held) value))
+    pub left_standing : ((last : ℕ) × StandsAt used numbers after.image sector sequence last value) ⊎ ((last : ℕ) × StandsAt used numbers after.image sector sequence last (given block (asked_of valid held) value))
     left_standing = ⊎_elim (λ old. inl (old.0, stands_by old.0 value old.1)) (λ new. inr (new.0, stands_by new.0 (given block (asked_of valid held) value) new.1))
         (left_record used numbers (sector_at before.image sector) is.pages page value begins stands.holds block held valid proper (proper.0, proper.2) among room is.left)
 
-    pub done_standing : (result ≡ Ok tt) → Stands used numbers after.image sector sequence (page + (2 + byte_pages (length held))) (given block (asked_of valid held) value)
+    pub done_standing : (result ≡ Ok tt) → StandsAt used numbers after.image sector sequence (page + (2 + byte_pages (length held))) (given block (asked_of valid held) value)
     done_standing ok = stands_by (page + (2 + byte_pages (length held))) (given block (asked_of valid held) value)
         (whole_record used numbers (sector_at before.image sector) is.pages page value begins stands.holds block held valid proper (proper.0, proper.2) among room
         (subst (λ (r : Result (Unit {0}) FlashFailed). OnOk r (IsWhole (sector_at before.image sector) is.pages page block held valid)) ok is.done))

@@ -19,13 +19,13 @@ use Rattle.flt_record.specs.LogHolds.{LogHolds}
 use Rattle.flt_record.specs.Live.{held_in}
 use Rattle.flt_record.specs.Recorded.{OnSector}
 use Rattle.flt_record.specs.declared.place.RecordPlace.{RecordPlace}
-use Rattle.flt_record.specs.RecordPlace.{Tells}
+use Rattle.flt_record.specs.RecordPlace.{TellsPlaces}
 use Rattle.flt_record.proofs.Telling.{still_tells}
 use Rattle.flt_record.proofs.Appending.{held_same}
 use Rattle.flt_record.proofs.Recording.{pages_on}
 use Rattle.flt_record.proofs.TornGates.{chosen, the_sector, first_alone, second_alone}
-use Rattle.flt_fee.specs.Mounted.{Stands}
-use Rattle.flt_fee.specs.Switch.{KeepsGates, Keeps}
+use Rattle.flt_fee.specs.Mounted.{StandsAt}
+use Rattle.flt_fee.specs.Switch.{KeepsGates, GivesValues}
 use Rattle.flt_fee.proofs.Beginning.{made_active, not_active, start_alone, begin_left, is_begun}
 
 abbrev the_sequence : Result (Option Current) (ℕ × ℕ) → ℕ
@@ -136,7 +136,7 @@ module _ (used : ℕ) (numbers : List ℕ) (before : FlashState) (shape : HasSha
 
   -- whatever stands in the other sector, while it is not valid or as valid as it was
   pub keeps_old : (after : List (List (List ℕ))) (pages : List (List ℕ)) → after ≡ set before.image (1 - sector) pages
-      → (gates_of used pages ≡ gates_of used (sector_at before.image (1 - sector))) ⊎ (gates_of used pages ≡ Ok None) → Keeps used numbers after (held_in used numbers (sector_at before.image sector))
+      → (gates_of used pages ≡ gates_of used (sector_at before.image (1 - sector))) ⊎ (gates_of used pages ≡ Ok None) → GivesValues used numbers after (held_in used numbers (sector_at before.image sector))
   keeps_old after pages is gates =
       let same = ap (λ (image : List (List (List ℕ))). sector_at image sector) is ∙ get_or-set_other before.image other sector pages [] apart in
       record {
@@ -150,7 +150,7 @@ module _ (used : ℕ) (numbers : List ℕ) (before : FlashState) (shape : HasSha
       }
 
   pub switch_unbegun : (after : FlashState) → TornErase before.image (1 - sector) after.image ⊎ TornCode (erased before.image (1 - sector)) (1 - sector) 0 start after.image
-      → Keeps used numbers after.image (held_in used numbers (sector_at before.image sector))
+      → GivesValues used numbers after.image (held_in used numbers (sector_at before.image sector))
   switch_unbegun after torn =
       let fine_there = other_fine used before.image shape.sectors sequence [] sector in_sector now in
       let left = begin_left used (sequence + 1) (omega arith) fits next before shape (1 - sector) in_other most after fine_there.0 fine_there.1 torn in
@@ -191,7 +191,7 @@ module _ (used : ℕ) (numbers : List ℕ) (before : FlashState) (shape : HasSha
       room : 1 < length pages
       room = omega (arith, gates.size, ap length middle_pages, (is_begun used (sequence + 1) (omega arith) fits next before shape (1 - sector) in_other most middle begun).size, shape.pages (1 - sector) in_other)
 
-      pub keeps_inactive : Keeps used numbers full.image (held_in used numbers (sector_at before.image sector))
+      pub keeps_inactive : GivesValues used numbers full.image (held_in used numbers (sector_at before.image sector))
       keeps_inactive = keeps_old full.image pages full_image (inr (start_alone used (sequence + 1) fits next pages room stands blank))
 
       full_pages : sector_at full.image (1 - sector) ≡ pages
@@ -205,7 +205,7 @@ module _ (used : ℕ) (numbers : List ℕ) (before : FlashState) (shape : HasSha
 
       -- the active gate stands
       pub goes_over : (end : ℕ) → LogHolds used numbers pages end (held_in used numbers (sector_at before.image sector)) → (after : FlashState) → after.image ≡ programmed full.image (1 - sector) 1 active
-          → Stands used numbers after.image (1 - sector) (sequence + 1) end (held_in used numbers (sector_at before.image sector))
+          → StandsAt used numbers after.image (1 - sector) (sequence + 1) end (held_in used numbers (sector_at before.image sector))
       goes_over end holds after is =
           let image = is ∙ laid active in
           let there = ap (λ (i : List (List (List ℕ))). sector_at i (1 - sector)) image ∙ get_or-set_same before.image (1 - sector) (set pages 1 active) [] (omega (arith, shape.sectors, in_other)) in
@@ -217,18 +217,18 @@ module _ (used : ℕ) (numbers : List ℕ) (before : FlashState) (shape : HasSha
           }
 
       -- and the table of the copies tells what it holds
-      pub table_over : (end : ℕ) (places : List (Option RecordPlace)) → Tells numbers places (sector_at full.image (1 - sector)) end (held_in used numbers (sector_at middle.image sector)) → (after : FlashState)
-          → after.image ≡ programmed full.image (1 - sector) 1 active → Tells numbers places (sector_at after.image (1 - sector)) end (held_in used numbers (sector_at before.image sector))
+      pub table_over : (end : ℕ) (places : List (Option RecordPlace)) → TellsPlaces numbers places (sector_at full.image (1 - sector)) end (held_in used numbers (sector_at middle.image sector)) → (after : FlashState)
+          → after.image ≡ programmed full.image (1 - sector) 1 active → TellsPlaces numbers places (sector_at after.image (1 - sector)) end (held_in used numbers (sector_at before.image sector))
       table_over end places tells after is =
           let image = is ∙ laid active in
           let there = ap (λ (i : List (List (List ℕ))). sector_at i (1 - sector)) image ∙ get_or-set_same before.image (1 - sector) (set pages 1 active) [] (omega (arith, shape.sectors, in_other)) in
-          subst (λ (p : List (List ℕ)). Tells numbers places p end (held_in used numbers (sector_at before.image sector))) (sym there)
+          subst (λ (p : List (List ℕ)). TellsPlaces numbers places p end (held_in used numbers (sector_at before.image sector))) (sym there)
           (still_tells pages (set pages 1 active) end (length-set pages 1 active) (λ k low lt. get_or-set_other pages 1 k active [] (omega arith)) numbers places value
-          (subst (λ (p : List (List ℕ)). Tells numbers places p end (held_in used numbers (sector_at before.image sector))) full_pages
-          (subst (λ (p : List (List ℕ)). Tells numbers places (sector_at full.image (1 - sector)) end (held_in used numbers p)) source_stays tells)))
+          (subst (λ (p : List (List ℕ)). TellsPlaces numbers places p end (held_in used numbers (sector_at before.image sector))) full_pages
+          (subst (λ (p : List (List ℕ)). TellsPlaces numbers places (sector_at full.image (1 - sector)) end (held_in used numbers p)) source_stays tells)))
 
       pub activation_left : (end : ℕ) → LogHolds used numbers pages end (held_in used numbers (sector_at before.image sector)) → (after : FlashState) (result : Result (Unit {0}) FlashFailed)
-          → Appends full after (1 - sector) 1 active result → Keeps used numbers after.image (held_in used numbers (sector_at before.image sector))
+          → Appends full after (1 - sector) 1 active result → GivesValues used numbers after.image (held_in used numbers (sector_at before.image sector))
       activation_left end holds after (Ok x) is = record { sector = 1 - sector; sequence = sequence + 1; end = end; stands = goes_over end holds after is.done }
       activation_left end holds after (Err e) is = ⊎_elim
           (λ whole. record { sector = 1 - sector; sequence = sequence + 1; end = end; stands = goes_over end holds after (is.torn.only ∙ ap (programmed full.image (1 - sector) 1) whole) })

@@ -7,7 +7,7 @@ use Rattle.flt_flash.specs.declared.blocks.BlockFault.{BlockFault}
 use Rattle.flt_flash.specs.declared.blocks.BlockFault.TheVariants.{Flash, Full, SequenceSpent, Damaged}
 
 -- this many operations at most, and no erase
-pub record Spends (limit : ℕ) (before after : FlashState) : Type 0 where
+pub record SpendsAtMost (limit : ℕ) (before after : FlashState) : Type 0 where
   pub operations : after.operations ≤ before.operations + limit
   pub wear : after.wear ≡ before.wear
 
@@ -30,7 +30,8 @@ MakesRoom used end live size sector before after =
 -- a record is stored: behind the log, or behind that of the other sector; or it is refused, which costs nothing
 abbrev pub Stores : ℕ → ℕ → ℕ → ℕ → ℕ → FlashState → FlashState → Type 0
 Stores used end live size sector before after =
-    (after ≡ before) ⊎ ((end + record_pages size ≤ used) × Spends (record_pages size) before after) ⊎ IsSwitched (3 + 2 * live + record_pages size) used end live size sector before after
+    (after ≡ before) ⊎ ((end + record_pages size ≤ used) × SpendsAtMost (record_pages size) before after)
+    ⊎ IsSwitched (3 + 2 * live + record_pages size) used end live size sector before after
 
 -- a fact of each answer but a fault of the flash or of a mount
 abbrev pub UnlessFailed : {T : Type 0} → Result T BlockFault → Type 0 → Type 0

@@ -21,7 +21,13 @@ is_past used numbers image size (Err place) = false
 
 -- the device that a flash is
 abbrev pub device_of : FlashState → DeviceState
-device_of flash = record { faults = flash.faults; image = flash.image; operations = Some (as_counted flash.operations); erases = Some (erases_of flash.wear); bench = flash.bench }
+device_of flash = record {
+  faults = flash.faults;
+  image = flash.image;
+  operations = Some (as_counted flash.operations);
+  erases = Some (erases_of flash.wear);
+  bench = flash.bench;
+}
 
 -- the driver as the layers above see it, by what it keeps and by its flash
 abbrev pub state_by : ℕ → List ℕ → Bool → Bool → FlashState → BlocksState

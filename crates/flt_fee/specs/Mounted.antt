@@ -7,7 +7,7 @@ use Rattle.flt_sector.specs.Log.{log}
 use Rattle.flt_record.specs.LogHolds.{LogHolds}
 
 -- the image has no fault, this is its current sector with its number, its log ends here and gives each block this value
-pub record Stands (used : ℕ) (numbers : List ℕ) (image : List (List (List ℕ))) (sector sequence end : ℕ) (value : ℕ → Content) : Type 0 where
+pub record StandsAt (used : ℕ) (numbers : List ℕ) (image : List (List (List ℕ))) (sector sequence end : ℕ) (value : ℕ → Content) : Type 0 where
   pub current : current used image ≡ Ok (Some record { sector = sector; sequence = sequence })
   pub holds : LogHolds used numbers (sector_at image sector) end value
 

@@ -11,7 +11,7 @@ use Rattle.flt_record.specs.declared.place.RecordPlace.{RecordPlace}
 use Rattle.flt_record.specs.RecordPlace.{IsAt}
 use Rattle.flt_record.specs.Record.{KeptApart}
 use Rattle.flt_record.specs.Recorded.{OnSector}
-use Rattle.flt_fee.specs.Mounted.{Stands}
+use Rattle.flt_fee.specs.Mounted.{StandsAt}
 
 -- the blocks of numbers below one hold what they hold, and the others nothing yet
 abbrev pub below : ℕ → (ℕ → Content) → ℕ → Content
@@ -22,13 +22,15 @@ abbrev pub KeepsGates : List (List ℕ) → List (List ℕ) → Type 0
 KeepsGates pages after = KeptApart pages after 2 (length pages)
 
 -- the current record of a block is copied behind the log of the other sector; the answer is where that log ends then
-pub record CopiesBlock (before after : FlashState) (other used : ℕ) (numbers : List ℕ) (number end : ℕ) (content : Content) (result : Result ℕ FlashFailed) : Type 0 where
+pub record CopiesBlock (before after : FlashState) (other used : ℕ) (numbers : List ℕ) (number end : ℕ) (content : Content)
+    (result : Result ℕ FlashFailed) : Type 0 where
   pub pages : List (List ℕ)
   pub on : OnSector before after other pages
   pub gates : KeepsGates (sector_at before.image other) pages
   pub stays : (k : ℕ) → k < end → slice_index_or pages k [] ≡ slice_index_or (sector_at before.image other) k []
   pub place : IfOk result (λ last. last ≡ end + pages_of content)
-  pub done : IfOk result (λ last. (value : ℕ → Content) → value number ≡ missing → LogHolds used numbers (sector_at before.image other) end value → LogHolds used numbers pages last (given number content value))
+  pub done : IfOk result (λ last. (value : ℕ → Content) → value number ≡ missing → LogHolds used numbers (sector_at before.image other) end value
+      → LogHolds used numbers pages last (given number content value))
   pub cause : OnErr result (HasRisenBy 1 before.faults after.faults)
 
 -- the current records of all blocks are copied behind the gates of the other sector; the answer is where its log ends then
@@ -41,11 +43,11 @@ pub record CopiesBlocks (before after : FlashState) (sector other used : ℕ) (n
   pub cause : OnErr result (HasRisenBy 1 before.faults after.faults)
 
 -- the image has no fault and gives each block this value, whichever of its sectors is the current one
-pub record Keeps (used : ℕ) (numbers : List ℕ) (image : List (List (List ℕ))) (value : ℕ → Content) : Type 0 where
+pub record GivesValues (used : ℕ) (numbers : List ℕ) (image : List (List (List ℕ))) (value : ℕ → Content) : Type 0 where
   pub sector : ℕ
   pub sequence : ℕ
   pub end : ℕ
-  pub stands : Stands used numbers image sector sequence end value
+  pub stands : StandsAt used numbers image sector sequence end value
 
 -- the table after a record was copied: the place of its block is that of the copy, in the log that ends here, and no other place moved
 pub record Replaces (numbers : List ℕ) (pages : List (List ℕ)) (before after : List (Option RecordPlace)) (number end : ℕ) (content : Content) : Type 0 where

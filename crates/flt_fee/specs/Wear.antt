@@ -7,7 +7,8 @@ use Rattle.flt_sector.specs.Blocks.{Current, current}
 
 -- the current sector was erased as often as the other one, or once more; where no sector is valid both were as often
 abbrev pub IsEven : Result (Option Current) (ℕ × ℕ) → List ℕ → Type 0
-IsEven (Ok (Some at)) wear = (slice_index_or wear (1 - at.sector) 0 ≤ slice_index_or wear at.sector 0) × (slice_index_or wear at.sector 0 ≤ slice_index_or wear (1 - at.sector) 0 + 1)
+IsEven (Ok (Some at)) wear = (slice_index_or wear (1 - at.sector) 0 ≤ slice_index_or wear at.sector 0)
+    × (slice_index_or wear at.sector 0 ≤ slice_index_or wear (1 - at.sector) 0 + 1)
 IsEven (Ok None) wear = slice_index_or wear 0 0 ≡ slice_index_or wear 1 0
 IsEven (Err place) wear = ⊥
 

@@ -6,13 +6,13 @@ ghost use Rattle.std.proofs.Props.{props};
 ghost use Rattle.flt_flash.specs.Content.{invalid, bytes as holding, size_of};
 ghost use Rattle.flt_flash.specs.Image.{sector_at};
 ghost use Rattle.flt_flash.specs.Blocks.{byte_pages, record_pages, live_pages, IsFull};
-ghost use Rattle.flt_flash.specs.Calls.{Calls, Changes, Costs, Finds, NoFault, NeverFull, ReadCosts, SameImage, SameSpent, SameValues, Settles};
+ghost use Rattle.flt_flash.specs.Calls.{Calls, Changes, Costs, ReadsContent, NoFault, NeverFull, ReadCosts, SameImage, SameSpent, SameValues, Settles};
 ghost use Rattle.flt_flash.specs.declared.blocks.BlockFault.TheVariants.{Full, SequenceSpent};
 ghost use Rattle.flt_code.specs.Word.{is_length};
 ghost use Rattle.flt_sector.specs.Blocks.{current, block_value};
 ghost use Rattle.flt_record.specs.LogHolds.{asked_of};
-ghost use Rattle.flt_record.specs.RecordPlace.{IsPlaceWithin, IsAt, Tells, bytes_at};
-ghost use Rattle.flt_fee.specs.Costs.{Spends, Erases, MakesRoom, StoreCosts, Stores, UnlessFailed};
+ghost use Rattle.flt_record.specs.RecordPlace.{IsPlaceWithin, IsAt, TellsPlaces, bytes_at};
+ghost use Rattle.flt_fee.specs.Costs.{SpendsAtMost, Erases, MakesRoom, StoreCosts, Stores, UnlessFailed};
 ghost use Rattle.flt_fee.specs.Mounted.{IsMounted};
 ghost use Rattle.flt_fee.specs.Place.{current_of};
 ghost use Rattle.flt_fee.specs.Refusal.{refusal, AnswersBy, KeepsStuck};
@@ -76,7 +76,7 @@ pub struct Fee<F: Flash> {
     ghost distinct: { AllPairs (λ a b. a ≢ b) numbers },
     ghost sized: { length places.items ≡ length numbers },
     ghost mounted: { IsMounted is_stale has_mounted used numbers (F.state flash).image sector sequence end },
-    ghost table: { IsFalse is_stale → Tells numbers places.items (sector_at (F.state flash).image sector) end
+    ghost table: { IsFalse is_stale → TellsPlaces numbers places.items (sector_at (F.state flash).image sector) end
         (block_value used numbers (F.state flash).image) } by { Prim.hlevel props },
 }
 
@@ -94,7 +94,7 @@ impl<F: Flash> Fee<F> {
         ensures calls { Calls (state_of F.state self.old) (state_of F.state self.new) result }
         ensures never_full { NeverFull result }
         ensures stale { Settles result (state_of F.state self.new) }
-        ensures spends { OnOk result (Spends (record_pages (length bytes.now)) (F.state self.old.flash) (F.state self.new.flash)) }
+        ensures spends { OnOk result (SpendsAtMost (record_pages (length bytes.now)) (F.state self.old.flash) (F.state self.new.flash)) }
         ensures even { StaysEven self.old.used (F.state self.old.flash) (F.state self.new.flash) }
     {
         let page = self.end;
@@ -336,7 +336,7 @@ impl<F: Flash> Fee<F> {
     fn find(&mut self, block: u16, out: &mut [u8; 128]) -> Result<Found, BlockFault>
         requires settled { IsFalse (state_of F.state self.old).is_stale }
         requires number { Contains (state_of F.state self.old).numbers block }
-        ensures found { IfOk result (λ found. Finds ((state_of F.state self.old).value block) found out.old out.new) }
+        ensures found { IfOk result (λ found. ReadsContent ((state_of F.state self.old).value block) found out.old out.new) }
         ensures nothing { OnErr result (out.new ≡ out.old) }
         ensures values { SameValues (state_of F.state self.old) (state_of F.state self.new) }
         ensures spent { SameSpent (state_of F.state self.old) (state_of F.state self.new) }
@@ -344,7 +344,7 @@ impl<F: Flash> Fee<F> {
         ensures never_full { NeverFull result }
         ensures stale { IsFalse (state_of F.state self.new).is_stale }
         ensures image { SameImage (state_of F.state self.old) (state_of F.state self.new) }
-        ensures spends { OnOk result (Spends (byte_pages (size_of ((state_of F.state self.old).value block))) (F.state self.old.flash)
+        ensures spends { OnOk result (SpendsAtMost (byte_pages (size_of ((state_of F.state self.old).value block))) (F.state self.old.flash)
             (F.state self.new.flash)) }
         ensures even { StaysEven self.old.used (F.state self.old.flash) (F.state self.new.flash) }
     {
@@ -358,7 +358,7 @@ impl<F: Flash> Fee<F> {
     fn take(&mut self, place: RecordPlace, out: &mut [u8; 128]) -> Result<Found, BlockFault>
         requires settled { IsFalse (state_of F.state self.old).is_stale }
         requires within { IsPlaceWithin self.old.used place }
-        ensures found { IfOk result (λ found. Finds (asked_of place.valid
+        ensures found { IfOk result (λ found. ReadsContent (asked_of place.valid
             (bytes_at (sector_at (F.state self.old.flash).image self.old.sector) place)) found out.old out.new) }
         ensures nothing { OnErr result (out.new ≡ out.old) }
         ensures values { SameValues (state_of F.state self.old) (state_of F.state self.new) }
@@ -367,7 +367,7 @@ impl<F: Flash> Fee<F> {
         ensures never_full { NeverFull result }
         ensures stale { IsFalse (state_of F.state self.new).is_stale }
         ensures image { SameImage (state_of F.state self.old) (state_of F.state self.new) }
-        ensures spends { OnOk result (Spends (byte_pages (size_of (asked_of place.valid
+        ensures spends { OnOk result (SpendsAtMost (byte_pages (size_of (asked_of place.valid
             (bytes_at (sector_at (F.state self.old.flash).image self.old.sector) place)))) (F.state self.old.flash) (F.state self.new.flash)) }
         ensures even { StaysEven self.old.used (F.state self.old.flash) (F.state self.new.flash) }
     {
@@ -473,7 +473,7 @@ impl<F: Bench> Blocks for Fee<F> {
 
     fn read(&mut self, block: u16, out: &mut [u8; 128]) -> Result<Found, BlockFault>
         requires { Contains (state_of F.state self.old).numbers block }
-        ensures found { IfOk result (λ found. Finds ((state_of F.state self.old).value block) found out.old out.new) }
+        ensures found { IfOk result (λ found. ReadsContent ((state_of F.state self.old).value block) found out.old out.new) }
         ensures nothing { OnErr result (out.new ≡ out.old) }
         ensures values { SameValues (state_of F.state self.old) (state_of F.state self.new) }
         ensures spent { SameSpent (state_of F.state self.old) (state_of F.state self.new) }

@@ -1,6 +1,6 @@
 // A flash of which no sector is valid.
 ghost use Rattle.std.specs.Prelude.{◌≡◌, ◌≤◌, Ok, None, OnOk, OnErr, slice_index, slice_set};
-ghost use Rattle.flt_flash.specs.State.{Runs, HasRisenBy, counted};
+ghost use Rattle.flt_flash.specs.State.{MakesOperations, HasRisenBy, counted};
 ghost use Rattle.flt_sector.specs.Blocks.{current};
 ghost use Rattle.flt_fee.specs.SetUp.{IsFresh, HoldsNothing};
 
@@ -15,7 +15,7 @@ pub(crate) fn set_up_flash<F: Flash>(flash: &mut F, used: u16) -> Result<(), Fla
     ensures fresh { OnOk result (IsFresh used (F.state flash.new).image) }
     ensures wear { OnOk result ((F.state flash.new).wear ≡ slice_set (F.state flash.old).wear 0 (counted (slice_index (F.state flash.old).wear 0))) }
     ensures left { HoldsNothing used (F.state flash.new).image }
-    ensures runs { Runs (F.state flash.old) (F.state flash.new) }
+    ensures runs { MakesOperations (F.state flash.old) (F.state flash.new) }
     ensures cause { OnErr result (HasRisenBy 1 (F.state flash.old).faults (F.state flash.new).faults) }
 {
     begin(flash, 0, used, 1)?;

@@ -2,16 +2,16 @@
 ghost use Rattle.std.specs.Prelude.{Option, ◌≡◌, ◌+◌, ◌-◌, ◌*◌, ◌^◌, ◌<◌, ◌≤◌, ◌≢◌, Ok, Some, None, Contains, IfOk, OnOk, OnErr, length};
 ghost use Rattle.std.specs.List.{AllPairs};
 ghost use Rattle.flt_flash.specs.Image.{sector_at};
-ghost use Rattle.flt_flash.specs.State.{Runs, HasRisenBy};
+ghost use Rattle.flt_flash.specs.State.{MakesOperations, HasRisenBy};
 ghost use Rattle.flt_flash.specs.Blocks.{pages_of};
 ghost use Rattle.flt_sector.specs.Log.{log};
 ghost use Rattle.flt_sector.specs.Blocks.{current};
 ghost use Rattle.flt_record.specs.Blank.{AreBlank};
 ghost use Rattle.flt_record.specs.Live.{held_in, current_pages};
-ghost use Rattle.flt_record.specs.RecordPlace.{IsAt, IsPlaceOf, Tells};
+ghost use Rattle.flt_record.specs.RecordPlace.{IsAt, IsPlaceOf, TellsPlaces};
 ghost use Rattle.flt_fee.specs.Costs.{Erases};
-ghost use Rattle.flt_fee.specs.Mounted.{Stands};
-ghost use Rattle.flt_fee.specs.Switch.{CopiesBlock, CopiesBlocks, Keeps, Replaces};
+ghost use Rattle.flt_fee.specs.Mounted.{StandsAt};
+ghost use Rattle.flt_fee.specs.Switch.{CopiesBlock, CopiesBlocks, GivesValues, Replaces};
 
 use flt_flash::{Flash, FlashFailed};
 use flt_pages::{Numbers, activate, begin};
@@ -79,10 +79,10 @@ fn copy_blocks<F: Flash>(
     requires blank { AreBlank (sector_at (F.state flash.old).image other) 2 used }
     requires size { length places.old ≡ length numbers.now }
     requires distinct { AllPairs (λ a b. a ≢ b) numbers.now }
-    requires table { Tells numbers.now places.old (sector_at (F.state flash.old).image sector) used
+    requires table { TellsPlaces numbers.now places.old (sector_at (F.state flash.old).image sector) used
         (held_in used numbers.now (sector_at (F.state flash.old).image sector)) }
     ensures size { length places.new ≡ length numbers.now }
-    ensures table { IfOk result (λ end. Tells numbers.now places.new (sector_at (F.state flash.new).image other) end
+    ensures table { IfOk result (λ end. TellsPlaces numbers.now places.new (sector_at (F.state flash.new).image other) end
         (held_in used numbers.now (sector_at (F.state flash.old).image sector))) }
     ensures operations { IfOk result (λ end. (F.state flash.new).operations + 4 ≤ (F.state flash.old).operations + 2 * end) }
     ensures copies { CopiesBlocks (F.state flash.old) (F.state flash.new) sector other used numbers.now result }
@@ -115,18 +115,18 @@ pub(crate) fn switch_sectors<F: Flash>(
     requires room { 2 + current_pages used numbers.now (sector_at (F.state flash.old).image sector) ≤ used }
     requires size { length places.old ≡ length numbers.now }
     requires distinct { AllPairs (λ a b. a ≢ b) numbers.now }
-    requires table { Tells numbers.now places.old (sector_at (F.state flash.old).image sector) used
+    requires table { TellsPlaces numbers.now places.old (sector_at (F.state flash.old).image sector) used
         (held_in used numbers.now (sector_at (F.state flash.old).image sector)) }
     ensures size { length places.new ≡ length numbers.now }
-    ensures table { IfOk result (λ end. Tells numbers.now places.new (sector_at (F.state flash.new).image (1 - sector)) end
+    ensures table { IfOk result (λ end. TellsPlaces numbers.now places.new (sector_at (F.state flash.new).image (1 - sector)) end
         (held_in used numbers.now (sector_at (F.state flash.old).image sector))) }
     ensures room { IfOk result (λ end. end ≤ 2 + current_pages used numbers.now (sector_at (F.state flash.old).image sector)) }
-    ensures switched { IfOk result (λ end. Stands used numbers.now (F.state flash.new).image (1 - sector) (sequence + 1) end
+    ensures switched { IfOk result (λ end. StandsAt used numbers.now (F.state flash.new).image (1 - sector) (sequence + 1) end
         (held_in used numbers.now (sector_at (F.state flash.old).image sector))) }
-    ensures left { Keeps used numbers.now (F.state flash.new).image (held_in used numbers.now (sector_at (F.state flash.old).image sector)) }
+    ensures left { GivesValues used numbers.now (F.state flash.new).image (held_in used numbers.now (sector_at (F.state flash.old).image sector)) }
     ensures erases { OnOk result (Erases (3 + 2 * current_pages used numbers.now (sector_at (F.state flash.old).image sector)) (1 - sector) (F.state flash.old)
         (F.state flash.new)) }
-    ensures runs { Runs (F.state flash.old) (F.state flash.new) }
+    ensures runs { MakesOperations (F.state flash.old) (F.state flash.new) }
     ensures cause { OnErr result (HasRisenBy 1 (F.state flash.old).faults (F.state flash.new).faults) }
 {
     let other = 1 - sector;

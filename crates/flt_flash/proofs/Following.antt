@@ -1,7 +1,7 @@
 -- One operation after another.
 use Rattle.std.proofs.Common.{◌≡◌, Result, refl, ◌∙◌, arith}
 use Rattle.flt_flash.specs.declared.flash.FlashFailed.{FlashFailed}
-use Rattle.flt_flash.specs.State.{BenchState, KeepsBench, FlashState, Operates, Runs, OnlyReads}
+use Rattle.flt_flash.specs.State.{BenchState, KeepsBench, FlashState, Operates, MakesOperations, OnlyReads}
 
 pub bench_kept : (bench : BenchState) → KeepsBench bench bench
 bench_kept bench = record { boots = refl; boots_left = refl; arms = refl; armed = omega arith }
@@ -14,7 +14,7 @@ bench_on one two = record {
   armed = omega (arith, one.armed, two.armed);
 }
 
-pub no_run : (state : FlashState) → Runs state state
+pub no_run : (state : FlashState) → MakesOperations state state
 no_run state = record {
   pages = refl;
   counts = omega arith;
@@ -26,7 +26,7 @@ no_run state = record {
   bench = bench_kept state.bench;
 }
 
-pub one_run : {T : Type 0} {result : Result T FlashFailed} {before after : FlashState} → Operates before after result → Runs before after
+pub one_run : {T : Type 0} {result : Result T FlashFailed} {before after : FlashState} → Operates before after result → MakesOperations before after
 one_run does = record {
   pages = does.pages;
   counts = does.counts;
@@ -38,7 +38,7 @@ one_run does = record {
   bench = does.bench;
 }
 
-pub runs_on : {first second third : FlashState} → Runs first second → Runs second third → Runs first third
+pub runs_on : {first second third : FlashState} → MakesOperations first second → MakesOperations second third → MakesOperations first third
 runs_on {first} {second} {third} one two = record {
   pages = two.pages ∙ one.pages;
   counts = omega (arith, one.counts, two.counts);

@@ -90,7 +90,8 @@ erase_tail page = if nat_le 2 page then 0 else 32
 -- a sector whose erase is torn by a pattern
 pub record IsErasedBy (pattern : Pattern) (before torn : List (List ℕ)) : Type 0 where
   pub size : length torn ≡ length before
-  pub pages : (page : ℕ) → page < length before → IsTornPageBy pattern (erase_tail page) (slice_index_or before page []) blank_page (slice_index_or torn page [])
+  pub pages : (page : ℕ) → page < length before → IsTornPageBy pattern (erase_tail page) (slice_index_or before page []) blank_page
+      (slice_index_or torn page [])
 
 -- a sector of which the program of one page is torn by a pattern, whose tail is bytes 16 to 31
 pub record IsProgrammedBy (pattern : Pattern) (before : List (List ℕ)) (page : ℕ) (bytes : List ℕ) (after : List (List ℕ)) : Type 0 where

@@ -16,7 +16,7 @@ abbrev pub boot_at : List Boot → ℕ → Boot
 boot_at boots number = slice_index_or boots number no_boot
 
 -- a saved boot has room for two sectors of this many pages
-pub record HasRoom (pages : ℕ) (saved : SavedBoot) : Type 0 where
+pub record HasSectorRoom (pages : ℕ) (saved : SavedBoot) : Type 0 where
   pub first : pages ≤ vec_capacity saved.first
   pub second : pages ≤ vec_capacity saved.second
 
@@ -27,7 +27,7 @@ pub record HoldsPages (pages : ℕ) (saved : SavedBoot) : Type 0 where
 
 -- each saved boot has room for two sectors of this many pages
 abbrev pub HaveRoom : ℕ → List SavedBoot → Type 0
-HaveRoom pages saved = (k : ℕ) (d : SavedBoot) → k < length saved → HasRoom pages (slice_index_or saved k d)
+HaveRoom pages saved = (k : ℕ) (d : SavedBoot) → k < length saved → HasSectorRoom pages (slice_index_or saved k d)
 
 -- each saved boot holds two sectors of this many pages
 abbrev pub HoldPages : ℕ → List SavedBoot → Type 0

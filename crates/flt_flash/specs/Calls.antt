@@ -38,7 +38,8 @@ pub record Follows (before after : BlocksState) : Type 0 where
   pub room : after.room ≡ before.room
   pub once_mounted : IsTrue before.has_mounted → IsTrue after.has_mounted
   pub stays_spent : IsTrue before.is_spent → IsTrue after.is_spent
-  pub damage_stays : (place : ℕ × ℕ) → before.damage ≡ Some place → (after.damage ≡ Some place) × (after.device.image ≡ before.device.image) × SameValues before after
+  pub damage_stays : (place : ℕ × ℕ) → before.damage ≡ Some place → (after.damage ≡ Some place) × (after.device.image ≡ before.device.image)
+      × SameValues before after
   pub no_new_damage : before.damage ≡ None → after.damage ≡ None
   pub counts : HasRisenBy 0 before.device.faults after.device.faults
   pub operations : NeverFalls before.device.operations after.device.operations
@@ -76,16 +77,16 @@ pub record Changes (before after : BlocksState) (block : ℕ) (asked : Content) 
   pub damaged : (sector page : ℕ) → IsErrOf result (Damaged sector page) → SameValues before after
 
 -- what a read finds of a content, with its bytes at the start of out
-abbrev pub Finds : Content → Found → List ℕ → List ℕ → Type 0
-Finds missing Missing before after = after ≡ before
-Finds missing Invalid before after = ⊥
-Finds missing (Bytes n) before after = ⊥
-Finds invalid Invalid before after = after ≡ before
-Finds invalid Missing before after = ⊥
-Finds invalid (Bytes n) before after = ⊥
-Finds (bytes held) (Bytes n) before after = (n ≡ length held) × (after ≡ held ++ drop n before)
-Finds (bytes held) Missing before after = ⊥
-Finds (bytes held) Invalid before after = ⊥
+abbrev pub ReadsContent : Content → Found → List ℕ → List ℕ → Type 0
+ReadsContent missing Missing before after = after ≡ before
+ReadsContent missing Invalid before after = ⊥
+ReadsContent missing (Bytes n) before after = ⊥
+ReadsContent invalid Invalid before after = after ≡ before
+ReadsContent invalid Missing before after = ⊥
+ReadsContent invalid (Bytes n) before after = ⊥
+ReadsContent (bytes held) (Bytes n) before after = (n ≡ length held) × (after ≡ held ++ drop n before)
+ReadsContent (bytes held) Missing before after = ⊥
+ReadsContent (bytes held) Invalid before after = ⊥
 
 -- what a read finds of a content, without its bytes
 abbrev pub found_of : Content → Found

@@ -7,7 +7,15 @@ use Rattle.flt_flash.specs.declared.memory.FlashMem.{FlashMem}
 
 -- the shape of the image is kept by the fields of the flash
 pub shape_of : (flash : FlashMem) → HasShape (state_of flash)
-shape_of flash = record { most = flash.most; sectors = refl; pages = sizes; bytes = bytes; wear = refl; operations = omega (arith, flash.most_operations); erases = erases }
+shape_of flash = record {
+  most = flash.most;
+  sectors = refl;
+  pages = sizes;
+  bytes = bytes;
+  wear = refl;
+  operations = omega (arith, flash.most_operations);
+  erases = erases;
+}
   where
     sizes : (sector : ℕ) → sector < 2 → length (sector_at (state_of flash).image sector) ≡ flash.pages
     sizes zero lt = flash.first_size

@@ -88,7 +88,8 @@ CanArm (Mute sector page times) = Unit {0}
 pub record AddsArm (arm : Arm) (faults : ℕ) (before after : BenchState) : Type 0 where
   pub boots : after.boots ≡ before.boots
   pub boots_left : after.boots_left ≡ before.boots_left
-  pub arms : IfSome after.arms (λ made. IsSomeAnd before.arms (λ earlier. made ≡ earlier ++ record { arm = arm; boots = length before.boots; faults = faults } ∷ []))
+  pub arms : IfSome after.arms (λ made. IsSomeAnd before.arms (λ earlier.
+      made ≡ earlier ++ record { arm = arm; boots = length before.boots; faults = faults } ∷ []))
   pub armed : after.armed ≤ before.armed + 1
 
 -- the power comes back, at this count of faults and this image
@@ -121,7 +122,7 @@ first_state pages first second boots = record {
 }
 
 -- any number of operations of one call or several
-pub record Runs (before after : FlashState) : Type 0 where
+pub record MakesOperations (before after : FlashState) : Type 0 where
   pub pages : after.pages ≡ before.pages
   pub counts : HasRisenBy 0 before.faults after.faults
   pub operations : HasRisenBy 0 before.operations after.operations
@@ -133,6 +134,6 @@ pub record Runs (before after : FlashState) : Type 0 where
 
 -- reads alone, which change no bit
 pub record OnlyReads (before after : FlashState) : Type 0 where
-  pub runs : Runs before after
+  pub runs : MakesOperations before after
   pub image : after.image ≡ before.image
   pub wear : after.wear ≡ before.wear

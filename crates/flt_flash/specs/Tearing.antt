@@ -19,4 +19,5 @@ pub record IsTornSector (before after torn : List (List ℕ)) : Type 0 where
 -- each bit of an image is as before or as after
 pub record IsTorn (before after torn : List (List (List ℕ))) : Type 0 where
   pub size : length torn ≡ length before
-  pub sectors : (sector : ℕ) → sector < length before → IsTornSector (slice_index_or before sector []) (slice_index_or after sector []) (slice_index_or torn sector [])
+  pub sectors : (sector : ℕ) → sector < length before → IsTornSector (slice_index_or before sector []) (slice_index_or after sector [])
+      (slice_index_or torn sector [])

@@ -3,7 +3,7 @@ ghost use Rattle.std.specs.Prelude.{◌≡◌, ◌<◌, ◌≤◌, length, Conta
 ghost use Rattle.flt_flash.specs.Content.{invalid, bytes as holding, IsShort};
 ghost use Rattle.flt_flash.specs.State.{CanArm};
 ghost use Rattle.flt_flash.specs.Blocks.{BlocksState};
-ghost use Rattle.flt_flash.specs.Calls.{Follows, Calls, NeverFull, Changes, Costs, ReadCosts, SameImage, SameSpent, SameValues, Settles, Finds, found_of, ArmsDriver, PowersUpDriver};
+ghost use Rattle.flt_flash.specs.Calls.{Follows, Calls, NeverFull, Changes, Costs, ReadCosts, SameImage, SameSpent, SameValues, Settles, ReadsContent, found_of, ArmsDriver, PowersUpDriver};
 
 use crate::Arm;
 
@@ -70,7 +70,7 @@ pub trait Blocks {
     /// Reads a block to the start of `out`. What lies past its bytes, and all of `out` after an error, stays.
     fn read(&mut self, block: u16, out: &mut [u8; 128]) -> Result<Found, BlockFault>
         requires { Contains (state self.old).numbers block }
-        ensures found { IfOk result (λ found. Finds ((state self.old).value block) found out.old out.new) }
+        ensures found { IfOk result (λ found. ReadsContent ((state self.old).value block) found out.old out.new) }
         ensures nothing { OnErr result (out.new ≡ out.old) }
         ensures values { SameValues (state self.old) (state self.new) }
         ensures calls { Calls (state self.old) (state self.new) result }

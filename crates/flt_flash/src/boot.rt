@@ -13,11 +13,11 @@ pub(crate) struct SavedBoot {
 }
 
 impl SavedBoot {
-    ghost use Rattle.flt_flash.specs.Boots.{boot_of, HasRoom};
+    ghost use Rattle.flt_flash.specs.Boots.{boot_of, HasSectorRoom};
 
     /// Room for an image of two sectors of this many pages, and no page as yet. The error is want of memory.
     pub(crate) fn reserved(alloc: Global, pages: usize) -> Result<SavedBoot, AllocError>
-        ensures { IfOk result (HasRoom pages) }
+        ensures { IfOk result (HasSectorRoom pages) }
     {
         Ok(SavedBoot {
             faults: 0,

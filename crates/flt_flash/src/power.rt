@@ -60,7 +60,8 @@ impl Power {
         ensures off { self.new.is_off ≡ self.old.is_off }
         ensures faults { self.new.faults ≡ (if result then counted self.old.faults else self.old.faults) }
         ensures operations { self.new.operations ≡ counted self.old.operations }
-        ensures standing { self.new.standing.items ≡ (if self.old.is_off then self.old.standing.items else standing_after_read sector page self.old.standing.items) }
+        ensures standing { self.new.standing.items ≡ (if self.old.is_off then self.old.standing.items
+            else standing_after_read sector page self.old.standing.items) }
         ensures fewer { array_vec_len self.new.standing ≤ array_vec_len self.old.standing }
     {
         self.operations = self.operations.saturating_add(1);

@@ -8,7 +8,7 @@ use Rattle.std.proofs.lemmas.Slice.Eq.{bytes_eq-Decides}
 use Rattle.flt_config.specs.declared.config.Config.{Config}
 use Rattle.flt_generation.specs.declared.commit.Commit.{Commit}
 use Rattle.flt_generation.specs.Layout.{is_used, index_in}
-use Rattle.flt_generation.specs.Form.{commit_bytes, IsCommit, IsIndex}
+use Rattle.flt_generation.specs.Form.{commit_bytes, IsCommit, IsBlockIndex}
 use Rattle.flt_generation.specs.Reading.{commit_from, commit_in, is_index, is_commit}
 use Rattle.flt_generation.proofs.Choices.{chosen, not_chosen, some_chosen, all_at, all_from}
 
@@ -29,10 +29,10 @@ unfolding commit_from commit_bytes
 generation_below commit = long_below commit.generation
 
 -- an index, and its test
-index_is : (c : Config) (id index : ℕ) → is_index c id index ≡ true → IsIndex c id index
+index_is : (c : Config) (id index : ℕ) → is_index c id index ≡ true → IsBlockIndex c id index
 index_is c id index is = by (is_used c id) refl
   where
-    by : (used : Bool) → is_used c id ≡ used → IsIndex c id index
+    by : (used : Bool) → is_used c id ≡ used → IsBlockIndex c id index
     by true used = record {
       used = λ _. leb-true index 1 (sym (chosen (is_used c id) (nat_le index 1) (index == 255) used) ∙ is);
       unused = λ not. absurd (cc);
@@ -42,7 +42,7 @@ index_is c id index is = by (is_used c id) refl
       unused = λ _. eqb-true index 255 (sym (not_chosen (is_used c id) (nat_le index 1) (index == 255) unused) ∙ is);
     }
 
-is_index_of : (c : Config) (id index : ℕ) → IsIndex c id index → is_index c id index ≡ true
+is_index_of : (c : Config) (id index : ℕ) → IsBlockIndex c id index → is_index c id index ≡ true
 is_index_of c id index is = by (is_used c id) refl
   where
     by : (used : Bool) → is_used c id ≡ used → is_index c id index ≡ true
@@ -59,7 +59,7 @@ tested_commit c commit most is =
       least = leb-true 1 commit.generation second.0;
       most = omega (arith, most);
       size = eqb-true (length commit.index) 21 second.1;
-      indices = λ id low high. subst (λ (n : ℕ). IsIndex c n (index_in commit n)) (omega (arith, low))
+      indices = λ id low high. subst (λ (n : ℕ). IsBlockIndex c n (index_in commit n)) (omega (arith, low))
           (index_is c (3 + (id - 3)) (index_in commit (3 + (id - 3))) (all_at (λ n. is_index c n (index_in commit n)) 3 21 first.1 (id - 3) (omega (arith, low, high))));
     }
 

@@ -34,7 +34,7 @@ unfoldable pub mark_bytes : Mark → List ℕ
 mark_bytes mark = 1 ∷ be16 mark.id ++ be16 mark.events ++ mark.entries ∷ 0 ∷ 0 ∷ []
 
 -- an index of 0 or 1 for a used block, and FF for another
-pub record IsIndex (c : Config) (id index : ℕ) : Type 0 where
+pub record IsBlockIndex (c : Config) (id index : ℕ) : Type 0 where
   pub used : IsTrue (is_used c id) → index ≤ 1
   pub unused : IsFalse (is_used c id) → index ≡ 0xFF
 
@@ -43,7 +43,7 @@ pub record IsCommit (c : Config) (commit : Commit) : Type 0 where
   pub least : 1 ≤ commit.generation
   pub most : commit.generation < 2 ^ 32
   pub size : length commit.index ≡ parts
-  pub indices : (id : ℕ) → first_part ≤ id → id < end_part → IsIndex c id (index_in commit id)
+  pub indices : (id : ℕ) → first_part ≤ id → id < end_part → IsBlockIndex c id (index_in commit id)
 
 -- version 1, the number of the generation, the index of each block
 unfoldable pub commit_bytes : Commit → List ℕ

@@ -38,7 +38,14 @@ CommitsAreRead =
 -- a state differs from another in one part alone; a new summary has entries that are still to be taken
 abbrev pub KeepsRest : Part → Persist → Persist → Type 0
 KeepsRest Summary p q =
-    (q ≡ record p { overflow = q.overflow; entries = q.entries; first_failed = q.first_failed; first_confirmed = q.first_confirmed; recent_failed = q.recent_failed; recent_confirmed = q.recent_confirmed })
+    (q ≡ record p {
+      overflow = q.overflow;
+      entries = q.entries;
+      first_failed = q.first_failed;
+      first_confirmed = q.first_confirmed;
+      recent_failed = q.recent_failed;
+      recent_confirmed = q.recent_confirmed;
+    })
     × (q.entries.items ≡ replicate (length q.entries.items) untaken_entry)
 KeepsRest (States first) p q =
     (q ≡ record p { events = q.events }) × (length q.events.items ≡ length p.events.items)

@@ -21,14 +21,14 @@ use Rattle.flt_generation.proofs.Fitting.{test_of_state, entry_by_test, test_of_
 use Rattle.flt_generation.proofs.States.{first_states_more, no_states, with_states_more, state_set, length-with_states}
 use Rattle.flt_generation.proofs.Sizes.{set_here, none_here, refused_by_bytes, refused_by_fit, accepted, taken_holds}
 use Rattle.flt_generation.proofs.Parts.{state_passes}
-use Rattle.flt_image.specs.Taking.{Takes, block_states, no_state, summed_up, IsSummaryOf}
+use Rattle.flt_image.specs.Taking.{TakesIn, block_states, no_state, summed_up, IsSummaryOf}
 
 -- an answer, by what is taken
-pub refuses : {o : Option Persist} (before : Persist) → o ≡ None → Takes o false before before
-refuses before none = subst (λ (o : Option Persist). Takes o false before before) (sym none) (refl, refl)
+pub refuses : {o : Option Persist} (before : Persist) → o ≡ None → TakesIn o false before before
+refuses before none = subst (λ (o : Option Persist). TakesIn o false before before) (sym none) (refl, refl)
 
-pub takes : {o : Option Persist} (before after state : Persist) → o ≡ Some state → after ≡ state → Takes o true before after
-takes before after state some same = subst (λ (o : Option Persist). Takes o true before after) (sym some) (refl, same)
+pub takes : {o : Option Persist} (before after state : Persist) → o ≡ Some state → after ≡ state → TakesIn o true before after
+takes before after state some same = subst (λ (o : Option Persist). TakesIn o true before after) (sym some) (refl, same)
 
 -- ---- the states of sixteen events
 -- the same states give the same bytes, wherever they stand
@@ -166,7 +166,7 @@ module _ (c : Config) (place : ℕ) (held : List ℕ) (into : Persist) where
       ∙ ap (λ (es : List EntryState). Some (record into { entries = record { items = es } })) (set_past into.entries.items place (entry_from held) past)
 
   -- by whether the bytes are those of no entry
-  pub none_answered : (result : Bool) → length into.entries.items ≤ place → result ≡ bytes_eq held no_entry_bytes → Takes (taken c (Entry place) held into) result into into
+  pub none_answered : (result : Bool) → length into.entries.items ≤ place → result ≡ bytes_eq held no_entry_bytes → TakesIn (taken c (Entry place) held into) result into into
   none_answered true past said = takes into into into (none_taken past (sym said)) refl
   none_answered false past said = refuses into (none_differs past (sym said))
 
@@ -274,10 +274,10 @@ kept_count Summary held p = refl
 kept_count (States first) held p = length-with_states held first p.events.items 16
 kept_count (Entry place) held p = refl
 
-pub states_kept : (c : Config) (part : Part) (held : List ℕ) (p q : Persist) (result : Bool) → Takes (taken c part held p) result p q → length q.events.items ≡ length p.events.items
+pub states_kept : (c : Config) (part : Part) (held : List ℕ) (p q : Persist) (result : Bool) → TakesIn (taken c part held p) result p q → length q.events.items ≡ length p.events.items
 states_kept c part held p q result leaves = by (taken c part held p) refl leaves
   where
-    by : (o : Option Persist) → taken c part held p ≡ o → Takes o result p q → length q.events.items ≡ length p.events.items
+    by : (o : Option Persist) → taken c part held p ≡ o → TakesIn o result p q → length q.events.items ≡ length p.events.items
     by None is leaves = ap (λ (s : Persist). length s.events.items) leaves.1
     by (Some state) is leaves =
         ap (λ (s : Persist). length s.events.items) (leaves.1 ∙ sym (taken_holds c part held (with_part part held p) state is).0) ∙ kept_count part held p

@@ -8,9 +8,9 @@ use Rattle.flt_config.specs.Durable.{start_state, IsNoted}
 use Rattle.flt_generation.specs.Reading.{state_from}
 
 -- true and the state with the part, where there is one; false and the state as it was, where there is none
-abbrev pub Takes : Option Persist → Bool → Persist → Persist → Type 0
-Takes None result before after = IsFalse result × (after ≡ before)
-Takes (Some state) result before after = IsTrue result × (after ≡ state)
+abbrev pub TakesIn : Option Persist → Bool → Persist → Persist → Type 0
+TakesIn None result before after = IsFalse result × (after ≡ before)
+TakesIn (Some state) result before after = IsTrue result × (after ≡ state)
 
 -- a state that holds nothing: what a summary is read into
 abbrev pub no_state : Persist

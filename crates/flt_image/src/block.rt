@@ -4,7 +4,7 @@ ghost use Rattle.flt_config.specs.Durable.{Fits};
 ghost use Rattle.flt_generation.specs.Form.{block_bytes, part_length};
 ghost use Rattle.flt_generation.specs.Layout.{is_used, part_of};
 ghost use Rattle.flt_generation.specs.Reading.{taken};
-ghost use Rattle.flt_image.specs.Taking.{Takes};
+ghost use Rattle.flt_image.specs.Taking.{TakesIn};
 
 use crate::entry::{put_place, take_entry};
 use crate::layout::part_of;
@@ -49,7 +49,7 @@ fn part_length(part: Part) -> usize
 pub fn get_block(config: &ValidConfig, id: u16, bytes: &[u8], into: &mut Persist) -> bool
     requires used { IsTrue (is_used config.now id) }
     requires states { length into.old.events.items ≡ length config.now.events.items }
-    ensures taken { Takes (taken config.now (part_of id) bytes.now into.old) result into.old into.new }
+    ensures taken { TakesIn (taken config.now (part_of id) bytes.now into.old) result into.old into.new }
     ensures states { length into.new.events.items ≡ length into.old.events.items }
 {
     let part = part_of(id);

@@ -4,7 +4,7 @@ ghost use Rattle.flt_generation.specs.declared.part.Part.TheVariants.{Entry};
 ghost use Rattle.flt_generation.specs.Fit.{is_alone};
 ghost use Rattle.flt_generation.specs.Form.{entry_length, padded, entry_bytes, no_entry_bytes, place_bytes};
 ghost use Rattle.flt_generation.specs.Reading.{frame_at, entry_from, taken};
-ghost use Rattle.flt_image.specs.Taking.{Takes};
+ghost use Rattle.flt_image.specs.Taking.{TakesIn};
 
 use crate::pushing::{BlockBytes, push_all, push_zeros, word_at};
 use arrayvec::ArrayVec;
@@ -113,7 +113,7 @@ fn set_entry(entries: &mut ArrayVec<EntryState, ENTRIES>, place: u16, entry: Ent
 /// Takes the entry at a place from its bytes; a place past the entries has none. Where they are none that fit, nothing changes.
 pub(crate) fn take_entry(config: &ValidConfig, place: u16, bytes: &[u8], into: &mut Persist) -> bool
     requires { length bytes.now ≡ entry_length }
-    ensures { Takes (taken config.now (Entry place) bytes.now into.old) result into.old into.new }
+    ensures { TakesIn (taken config.now (Entry place) bytes.now into.old) result into.old into.new }
 {
     let at = place as usize;
     if at >= into.entries.len() {

@@ -5,7 +5,7 @@ ghost use Rattle.flt_generation.specs.declared.part.Part.TheVariants.{States};
 ghost use Rattle.flt_generation.specs.Layout.{states_per_block};
 ghost use Rattle.flt_generation.specs.Form.{states_length, state_bytes, states_bytes};
 ghost use Rattle.flt_generation.specs.Reading.{state_from, with_states, taken};
-ghost use Rattle.flt_image.specs.Taking.{Takes, HaveShortCounts, block_states};
+ghost use Rattle.flt_image.specs.Taking.{TakesIn, HaveShortCounts, block_states};
 
 use crate::pushing::{BlockBytes, push_all, word_at};
 use arrayvec::ArrayVec;
@@ -120,7 +120,7 @@ pub(crate) fn take_states(
     requires size { length bytes.now ≡ states_length }
     requires first { first < length config.now.events.items }
     requires states { length into.old.events.items ≡ length config.now.events.items }
-    ensures { Takes (taken config.now (States first) bytes.now into.old) result into.old into.new }
+    ensures { TakesIn (taken config.now (States first) bytes.now into.old) result into.old into.new }
 {
     let events = &config.config().events;
     let count = (events.len() - first as usize).min(STATES_PER_BLOCK);

@@ -3,7 +3,7 @@ ghost use Rattle.std.specs.Prelude.{◌≡◌, ◌↔◌, ◌+◌, ◌<◌, ◌�
 ghost use Rattle.flt_generation.specs.declared.part.Part.TheVariants.{Summary};
 ghost use Rattle.flt_generation.specs.Form.{summary_length, note_word, note_bytes, summary_bytes};
 ghost use Rattle.flt_generation.specs.Reading.{note_at, untaken_entry, with_summary, taken};
-ghost use Rattle.flt_image.specs.Taking.{no_state, summed_up, IsSummaryOf, Takes};
+ghost use Rattle.flt_image.specs.Taking.{no_state, summed_up, IsSummaryOf, TakesIn};
 
 use crate::pushing::word_at;
 use arrayvec::ArrayVec;
@@ -119,7 +119,7 @@ fn set_summary(read: Persist, into: &mut Persist)
 /// Takes the summary from its bytes. Where they are none that fits, nothing changes.
 pub(crate) fn take_summary(config: &ValidConfig, bytes: &[u8], into: &mut Persist) -> bool
     requires { length bytes.now ≡ summary_length }
-    ensures { Takes (taken config.now Summary bytes.now into.old) result into.old into.new }
+    ensures { TakesIn (taken config.now Summary bytes.now into.old) result into.old into.new }
 {
     let read = summary_from(bytes);
     if !is_summary_of(config, &read) {

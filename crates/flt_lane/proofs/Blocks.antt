@@ -8,9 +8,9 @@ use Rattle.flt_turn.specs.declared.vault.Entry.{Entry}
 use Rattle.flt_turn.specs.Journal.{entry, calls_of}
 use Rattle.flt_turn.specs.Seats.{Seated}
 use Rattle.flt_turn.proofs.Journals.{calls_of-append}
-use Rattle.flt_life.specs.Mixing.{Call, ops_asked, Mixes, Block, asked_of, IsTold, BlockTold, Rise, calls_in_block}
+use Rattle.flt_life.specs.Mixing.{Call, ops_asked, Mixes, Block, asked_of, IsToldInPlace, BlockTold, Rise, calls_in_block}
 use Rattle.flt_lane.specs.Chain.{Chain}
-use Rattle.flt_lane.specs.Lived.{IsEnded, IsMain, IsWhole, Trails, HasLived}
+use Rattle.flt_lane.specs.Lived.{IsEnded, IsMain, CouldClose, Trails, HasLived}
 use Rattle.flt_lane.proofs.Journals.{none_of, IsFull, full_front, more_calls, no_call_behind, no_call_before, low_front, high_rest, cut_at, low_prefix, low_calls, behind_front}
 use Rattle.flt_lane.proofs.Chains.{chain_fact}
 use Rattle.flt_life.proofs.Mixings.{calls_longer, one_follows}
@@ -75,7 +75,7 @@ module _ {S O R : Type 0} (admits : S → O → Type 0) (answer : S → List O �
     pub mine_is : after.mine ≡ ops_asked lane.1
     pub own : length after.mine ≤ length (calls_of after.number after.seen)
     pub fresh : IsFresh main lane
-    pub told : All (IsTold answer main.start after.seen lane.0) lane.1
+    pub told : All (IsToldInPlace answer main.start after.seen lane.0) lane.1
 
   pub lane_fact : (main : Seated S O) (lane : ℕ × List (Call O R)) (after : Seated S O) → HasRunFrom main lane after → IsLane main lane after
   lane_fact main lane after r = let f = chain_fact admits answer r.before lane.1 after r.chain in record {
@@ -84,7 +84,7 @@ module _ {S O R : Type 0} (admits : S → O → Type 0) (answer : S → List O �
     own = f.own (omega (arith, ap length r.mine_is));
     fresh = λ old known. subst (λ n. (lane.1 ≡ []) ⊎ (calls_of n old ≡ [])) r.number_is (f.fresh r.mine_is old
         (⊎_elim (λ p. inl (subst (IsPrefix old) (sym r.seen_is) p)) (λ c. inr (subst (λ l. Contains l old) (sym r.olds_are) c)) known));
-    told = subst (λ n. All (IsTold answer main.start after.seen n) lane.1) r.number_is (subst (λ s. All (IsTold answer s after.seen r.before.number) lane.1) r.start_is f.told);
+    told = subst (λ n. All (IsToldInPlace answer main.start after.seen n) lane.1) r.number_is (subst (λ s. All (IsToldInPlace answer s after.seen r.before.number) lane.1) r.start_is f.told);
   }
 
   -- ---- the lanes of a block
@@ -121,10 +121,10 @@ module _ {S O R : Type 0} (admits : S → O → Type 0) (answer : S → List O �
   lanes_told : (main : Seated S O) (journal : List (Entry O)) (lanes : Block O R) (afters : List (Seated S O)) → AreLanes main lanes afters
       → All (λ (s : Seated S O). IsPrefix s.seen journal) afters → BlockTold answer main.start journal lanes
   unfolding AreLanes
-  lanes_told main journal [] [] are known = All-nil (λ (lane : ℕ × List (Call O R)). All (IsTold answer main.start journal lane.0) lane.1)
+  lanes_told main journal [] [] are known = All-nil (λ (lane : ℕ × List (Call O R)). All (IsToldInPlace answer main.start journal lane.0) lane.1)
   lanes_told main journal [] (a ∷ afters) are known = absurd are
   lanes_told main journal (lane ∷ lanes) [] are known = absurd are
-  lanes_told main journal (lane ∷ lanes) (a ∷ afters) are known = All-cons (λ (lane : ℕ × List (Call O R)). All (IsTold answer main.start journal lane.0) lane.1) lane lanes
+  lanes_told main journal (lane ∷ lanes) (a ∷ afters) are known = All-cons (λ (lane : ℕ × List (Call O R)). All (IsToldInPlace answer main.start journal lane.0) lane.1) lane lanes
       (calls_longer answer main.start a.seen journal lane.0 lane.1 (All-head (λ (s : Seated S O). IsPrefix s.seen journal) a afters known) are.0.told)
       (lanes_told main journal lanes afters are.1 (All-tail (λ (s : Seated S O). IsPrefix s.seen journal) a afters known))
 
@@ -197,7 +197,7 @@ module _ {S O R : Type 0} (admits : S → O → Type 0) (answer : S → List O �
       all_lanes : (P : ℕ × List O → Type 0) → P (main.number, main.mine) → All P main.ended → All P new → All P ((main.number, main.mine) ∷ (main.ended ++ new))
       all_lanes P first ended more = All-cons P (main.number, main.mine) (main.ended ++ new) first (All-append P main.ended new ended more)
 
-      all_mixes : (journal : List (Entry O)) → IsWhole after journal → Mixes journal ((main.number, main.mine) ∷ (main.ended ++ new))
+      all_mixes : (journal : List (Entry O)) → CouldClose after journal → Mixes journal ((main.number, main.mine) ∷ (main.ended ++ new))
       all_mixes journal whole = subst (Mixes journal) (λ i. (joined.number_is i, joined.mine_is i) ∷ ended_are i) whole.mixes
 
       each_ended : (journal : List (Entry O)) → Mixes journal ((main.number, main.mine) ∷ (main.ended ++ new)) → All (λ lane. calls_of lane.0 journal ≡ lane.1) main.ended
@@ -295,7 +295,7 @@ module _ {S O R : Type 0} (admits : S → O → Type 0) (answer : S → List O �
       rise_past journal told n false high =
           rise_from (length main.seen) (length (low_front main.children journal)) (calls_in_block n lanes) (past_front journal n (leb-false n main.children high) told) (rising n)
 
-      trails : (journal : List (Entry O)) → IsWhole after journal → Trails answer main (lanes ∷ []) journal
+      trails : (journal : List (Entry O)) → CouldClose after journal → Trails answer main (lanes ∷ []) journal
       trails journal whole =
           let mixes = all_mixes journal whole in
           let pre : IsPrefix main.seen journal = subst (λ l. IsPrefix l journal) joined.seen_is whole.seen in

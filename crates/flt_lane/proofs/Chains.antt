@@ -9,7 +9,7 @@ use Rattle.flt_turn.specs.Call.{IsCall}
 use Rattle.flt_turn.specs.Journal.{entry, calls_of}
 use Rattle.flt_turn.specs.Seats.{Seated}
 use Rattle.flt_turn.proofs.Journals.{calls_of_own, prefix_refl, prefix_longer}
-use Rattle.flt_life.specs.Mixing.{Call, ops_asked, IsTold, Rise}
+use Rattle.flt_life.specs.Mixing.{Call, ops_asked, IsToldInPlace, Rise}
 use Rattle.flt_lane.specs.Chain.{Chain}
 use Rattle.flt_life.proofs.Mixings.{at_end, told_longer}
 use Rattle.flt_lane.proofs.Journals.{no_call_before, prefix_trans}
@@ -26,11 +26,11 @@ module _ {S O R : Type 0} (admits : S → O → Type 0) (answer : S → List O �
     pub own : length before.mine ≤ length (calls_of before.number before.seen) → length after.mine ≤ length (calls_of after.number after.seen)
     pub longer : IsPrefix before.seen after.seen
     pub fresh : before.mine ≡ [] → (old : List (Entry O)) → (IsPrefix old before.seen ⊎ Contains before.olds old) → (calls ≡ []) ⊎ (calls_of before.number old ≡ [])
-    pub told : All (IsTold answer before.start after.seen before.number) calls
+    pub told : All (IsToldInPlace answer before.start after.seen before.number) calls
     pub rising : Rise (length before.seen) calls
 
   -- what one call leaves
-  pub call_told : (before after : Seated S O) (call : Call O R) → IsCall admits answer before after call.op call.told → IsTold answer before.start after.seen before.number call
+  pub call_told : (before after : Seated S O) (call : Call O R) → IsCall admits answer before after call.op call.told → IsToldInPlace answer before.start after.seen before.number call
   call_told before after call is = let ext = is.place in record {
     stands = ap (λ j. slice_get j call.told.place) ext.seen ∙ at_end (before.seen ++ ext.between) (entry before.number call.op) call.told.place ext.place_is;
     reply = is.reply;
@@ -73,7 +73,7 @@ module _ {S O R : Type 0} (admits : S → O → Type 0) (answer : S → List O �
     own = λ enough. subst (λ (s : Seated S O). length s.mine ≤ length (calls_of s.number s.seen)) (sym same) enough;
     longer = subst (λ (s : Seated S O). IsPrefix before.seen s.seen) (sym same) (prefix_refl before.seen);
     fresh = λ none old where_known. inl refl;
-    told = All-nil (IsTold answer before.start after.seen before.number);
+    told = All-nil (IsToldInPlace answer before.start after.seen before.number);
     rising = tt;
   }
   chain_fact before (call ∷ calls) after chain =
@@ -92,9 +92,9 @@ module _ {S O R : Type 0} (admits : S → O → Type 0) (answer : S → List O �
         own = λ enough. rest.own (omega (arith, ap length own_mid));
         longer = prefix_trans before.seen mid.seen after.seen (call_longer before mid call is) rest.longer;
         fresh = λ none old where_known. inr (old_before before mid call is none old where_known);
-        told = All-cons (IsTold answer before.start after.seen before.number) call calls
+        told = All-cons (IsToldInPlace answer before.start after.seen before.number) call calls
             (told_longer answer before.start mid.seen after.seen before.number call rest.longer (call_told before mid call is))
-            (subst (λ n. All (IsTold answer before.start after.seen n) calls) ext.rest.0 (subst (λ s. All (IsTold answer s after.seen mid.number) calls) ext.rest.1 rest.told));
+            (subst (λ n. All (IsToldInPlace answer before.start after.seen n) calls) ext.rest.0 (subst (λ s. All (IsToldInPlace answer s after.seen mid.number) calls) ext.rest.1 rest.told));
         rising = call_rises before mid call calls is rest.rising;
       }
 

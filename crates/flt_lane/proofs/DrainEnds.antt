@@ -12,7 +12,7 @@ use Rattle.flt_life.specs.declared.answer.StepAnswer.TheVariants as answers
 use Rattle.flt_lane.specs.Draining.{DrainsOn, FindsNone, HasDrained}
 use Rattle.flt_lane.specs.Living.{Carries, drains_by, last_take}
 use Rattle.flt_lane.specs.Runs.{QueueSeat}
-use Rattle.flt_lane.specs.Stored.{Leaves}
+use Rattle.flt_lane.specs.Stored.{LeavesStore}
 use Rattle.flt_lane.proofs.Carrying.{carries_drained}
 use Rattle.flt_lane.proofs.Drains.{drains_further}
 use Rattle.flt_lane.proofs.Leaving.{leaves_further}
@@ -40,5 +40,5 @@ module _ {B : Type 0} {b : Ghosts B} (c : Config) (dem : Seat) (earlier : List D
       drains_further c before mid after (2 * count) 1 count 0 failed 0 (2 * count + 1) count failed store middle now refl (omega arith) (omega arith) drained.drains none.drains in
       carries_drained c dem before after earlier written failed (2 * count + 1) count store now both (calls_short written failed count drained.all few) (sym drained.all)
 
-pub short_leaves : {B : Type 0} {b : Ghosts B} (c : Config) (before mid after : QueueSeat) (written failed count : ℕ) (store middle now : Store B b) → HasDrained c before mid written failed count store middle → FindsNone c mid after middle now → Leaves store now
+pub short_leaves : {B : Type 0} {b : Ghosts B} (c : Config) (before mid after : QueueSeat) (written failed count : ℕ) (store middle now : Store B b) → HasDrained c before mid written failed count store middle → FindsNone c mid after middle now → LeavesStore store now
 short_leaves c before mid after written failed count store middle now drained none = leaves_further store middle now drained.drains.leaves none.drains.leaves

@@ -17,8 +17,8 @@ use Rattle.flt_life.specs.Applications.{AreGot, HoldApplications, jobs_told}
 use Rattle.flt_life.specs.Journal.{Journal}
 use Rattle.flt_life.specs.Ordered.{Deed}
 use Rattle.flt_shared.specs.Call.{Seat}
-use Rattle.flt_lives.specs.Living.{IsKept}
-use Rattle.flt_lane.specs.Lived.{IsWhole}
+use Rattle.flt_lives.specs.Living.{IsKeptSince}
+use Rattle.flt_lane.specs.Lived.{CouldClose}
 use Rattle.flt_lane.specs.Living.{AreHeld, HoldsOn, IsKnownTo, IsLivingOn, answers_of, drains_in, drains_of, saves_in, saves_of}
 use Rattle.flt_lane.specs.Runs.{QueueSeat}
 use Rattle.flt_lane.proofs.Applying.{drains-append, held_further, may_whole, newest_of, queue_calls}
@@ -31,20 +31,20 @@ pub fresh_of : {S O : Type 0} (main : Seated S O) (lock : _) (start : S) (room :
 fresh_of {S} {O} main lock start room is = subst (λ (m : Seated S O). m ≡ main_seat m.lock m.start m.left) (sym is) refl
 
 -- what was known is a beginning of the journal that the closed lock left
-pub known_whole : {S O : Type 0} (main : Seated S O) (journal known : List (Entry O)) → IsWhole main journal → IsKnownTo main known → IsPrefix known journal
+pub known_whole : {S O : Type 0} (main : Seated S O) (journal known : List (Entry O)) → CouldClose main journal → IsKnownTo main known → IsPrefix known journal
 known_whole main journal known whole =
     ⊎_elim (λ pre. prefix_trans known main.seen journal pre whole.seen) (λ old. prefix_trans known old.0 journal old.2 (All-contains (λ o. IsPrefix o journal) main.olds old.0 whole.olds old.1))
 
 -- ---- the generations
 
 -- what is kept by what the main seat knows is kept by the whole journal: behind it stands no call of a save
-pub kept_at_end : (c : Config) (first : Generation) (main : Seat) (deeds : List Deed) (h s : Generation) (journal known : Journal) → IsWhole main journal → IsKnownTo main known → saves_in journal ≤ saves_of deeds → saves_of deeds ≤ saves_in known
-    → (saves_in known ≤ saves_of deeds → IsKept c first (reverse known) (answers_of deeds) h s) → IsKept c first (reverse journal) (answers_of deeds) h s
+pub kept_at_end : (c : Config) (first : Generation) (main : Seat) (deeds : List Deed) (h s : Generation) (journal known : Journal) → CouldClose main journal → IsKnownTo main known → saves_in journal ≤ saves_of deeds → saves_of deeds ≤ saves_in known
+    → (saves_in known ≤ saves_of deeds → IsKeptSince c first (reverse known) (answers_of deeds) h s) → IsKeptSince c first (reverse journal) (answers_of deeds) h s
 kept_at_end c first main deeds h s journal known whole is_known most least kept =
     let pre = known_whole main journal known whole is_known in
     let rest = pre.0 in
     let sum = ap saves_in (sym pre.1) ∙ saves-append known rest in
-    subst (λ j. IsKept c first (reverse j) (answers_of deeds) h s) pre.1
+    subst (λ j. IsKeptSince c first (reverse j) (answers_of deeds) h s) pre.1
     (kept_further c first (answers_of deeds) h s known rest (step_calls rest (omega (arith, sum, most, least))) (kept (omega (arith, sum, most))))
 
 -- the store before the first step
@@ -81,7 +81,7 @@ all_of first past jobs deeds values held = record {
   got = held.got;
 }
 
-pub held_at_end : (first : ℕ → Content) (main : QueueSeat) (deeds : List Deed) (values : ℕ → Content) (journal : List (Entry QueueOp)) → IsWhole main journal → drains_in journal ≤ drains_of deeds → HoldsOn first main deeds values
+pub held_at_end : (first : ℕ → Content) (main : QueueSeat) (deeds : List Deed) (values : ℕ → Content) (journal : List (Entry QueueOp)) → CouldClose main journal → drains_in journal ≤ drains_of deeds → HoldsOn first main deeds values
     → HoldsAll first (map (λ (e : Entry QueueOp). e.op) (reverse journal)) deeds values
 held_at_end first main deeds values journal whole most holds =
     let pre = known_whole main journal holds.known whole holds.is_known in

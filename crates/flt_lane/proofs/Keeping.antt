@@ -18,7 +18,7 @@ use Rattle.flt_life.specs.Journal.{Journal, entry, calls_of, snapshot_of, Acknow
 use Rattle.flt_life.specs.Saving.{AreRising, IsLeft, IsUnacknowledged, failures, last_number}
 use Rattle.flt_life.specs.Actions.{IsStepCall}
 use Rattle.flt_life.specs.Chain.{start_from}
-use Rattle.flt_lives.specs.Living.{IsKept}
+use Rattle.flt_lives.specs.Living.{IsKeptSince}
 
 -- ---- a call of a step acknowledges nothing and takes nothing
 
@@ -106,8 +106,8 @@ left_beside : (start : Life) (journal : Journal) (told more : List Told) (last g
 left_beside start journal told more last g same =
     ⊎_elim (λ is. inl is) (λ (left : IsUnacknowledged start journal told last g). inr record { past = left.past; most = (let most = left.most in omega (arith, most, same)); taken = left.taken })
 
-module _ (c : Config) (first : Generation) (journal : Journal) (told : List Told) (h s : Generation) (kept : IsKept c first journal told h s) where
-  pub kept_entry : (lane : ℕ) (op : Op) → IsStepCall op → IsKept c first (entry lane op ∷ journal) told h s
+module _ (c : Config) (first : Generation) (journal : Journal) (told : List Told) (h s : Generation) (kept : IsKeptSince c first journal told h s) where
+  pub kept_entry : (lane : ℕ) (op : Op) → IsStepCall op → IsKeptSince c first (entry lane op ∷ journal) told h s
   kept_entry lane op is = record {
     last = kept.last;
     acknowledged = acknowledged_call (start_from c first.state) lane journal op kept.last _ is kept.acknowledged;
@@ -118,7 +118,7 @@ module _ (c : Config) (first : Generation) (journal : Journal) (told : List Told
   }
 
   kept_beside : (answer : Told) → failures (answer ∷ told) ≡ failures told → last_number first.number (answer ∷ told) ≡ last_number first.number told → AreRising first.number (answer ∷ told)
-      → IsKept c first journal (answer ∷ told) h s
+      → IsKeptSince c first journal (answer ∷ told) h s
   kept_beside answer same number rising = record {
     last = kept.last;
     acknowledged = kept.acknowledged;
@@ -129,7 +129,7 @@ module _ (c : Config) (first : Generation) (journal : Journal) (told : List Told
   }
 
   -- an answer of a drain or a read
-  pub kept_other : (answer : Told) → IsNoSave answer → IsKept c first journal (answer ∷ told) h s
+  pub kept_other : (answer : Told) → IsNoSave answer → IsKeptSince c first journal (answer ∷ told) h s
   kept_other (answers.Drained written failed) is = kept_beside (answers.Drained written failed) refl refl kept.rising
   kept_other (answers.Bytes found) is = kept_beside (answers.Bytes found) refl refl kept.rising
   kept_other answers.NoBlock is = kept_beside answers.NoBlock refl refl kept.rising
@@ -148,7 +148,7 @@ module _ (c : Config) (first : Generation) (journal : Journal) (told : List Told
     pub kept_failed : (lane : ℕ) (fault : SaveFault) (now_held now_spare : Generation)
         → IsOneOf now_held h s (numbered (chosen.number + 1) (saved_after (start_from c first.state) (calls_of journal)))
         → IsOneOf now_spare h s (numbered (chosen.number + 1) (saved_after (start_from c first.state) (calls_of journal)))
-        → IsKept c first (entry lane ops.Snapshot ∷ journal) (answers.SaveFailed fault ∷ told) now_held now_spare
+        → IsKeptSince c first (entry lane ops.Snapshot ∷ journal) (answers.SaveFailed fault ∷ told) now_held now_spare
     kept_failed lane fault now_held now_spare held_is spare_is =
         let by_held = left_failed (start_from c first.state) journal told kept.last lane fault h kept.held_is in
         let by_spare = left_failed (start_from c first.state) journal told kept.last lane fault s kept.spare_is in
@@ -164,7 +164,7 @@ module _ (c : Config) (first : Generation) (journal : Journal) (told : List Told
 
     -- the snapshot of the state was the last one of the lane, also where calls of other lanes stand behind it
     pub kept_saved : (lane number : ℕ) (later : Journal) → number ≡ chosen.number + 1 → snapshot_of (start_from c first.state) lane later ≡ Some (saved_after (start_from c first.state) (calls_of journal))
-        → IsKept c first (entry lane (ops.Saved number) ∷ later) (answers.Saved number ∷ told)
+        → IsKeptSince c first (entry lane (ops.Saved number) ∷ later) (answers.Saved number ∷ told)
         (numbered number (saved_after (start_from c first.state) (calls_of journal))) (numbered number (saved_after (start_from c first.state) (calls_of journal)))
     kept_saved lane number later next taken =
         let least = at_least (start_from c first.state) journal told kept.last chosen chosen_left in
@@ -180,14 +180,14 @@ module _ (c : Config) (first : Generation) (journal : Journal) (told : List Told
         }
 
 -- calls of steps behind a journal
-pub kept_further : (c : Config) (first : Generation) (told : List Told) (h s : Generation) (journal entries : Journal) → All (λ (e : Entry Op). IsStepCall e.op) entries → IsKept c first (reverse journal) told h s
-    → IsKept c first (reverse (journal ++ entries)) told h s
-kept_further c first told h s journal [] are kept = subst (λ j. IsKept c first (reverse j) told h s) (sym (append-nil journal)) kept
+pub kept_further : (c : Config) (first : Generation) (told : List Told) (h s : Generation) (journal entries : Journal) → All (λ (e : Entry Op). IsStepCall e.op) entries → IsKeptSince c first (reverse journal) told h s
+    → IsKeptSince c first (reverse (journal ++ entries)) told h s
+kept_further c first told h s journal [] are kept = subst (λ j. IsKeptSince c first (reverse j) told h s) (sym (append-nil journal)) kept
 kept_further c first told h s journal (e ∷ entries) are kept =
     let one = kept_entry c first (reverse journal) told h s kept e.lane e.op (All-head (λ (e : Entry Op). IsStepCall e.op) e entries are) in
-    subst (λ j. IsKept c first (reverse j) told h s) (append_assoc journal (e ∷ []) entries)
-    (kept_further c first told h s (journal ++ e ∷ []) entries (All-tail (λ (e : Entry Op). IsStepCall e.op) e entries are) (subst (λ j. IsKept c first j told h s) (sym (pushed journal e)) one))
+    subst (λ j. IsKeptSince c first (reverse j) told h s) (append_assoc journal (e ∷ []) entries)
+    (kept_further c first told h s (journal ++ e ∷ []) entries (All-tail (λ (e : Entry Op). IsStepCall e.op) e entries are) (subst (λ j. IsKeptSince c first j told h s) (sym (pushed journal e)) one))
 
 -- no step
-pub kept_first : (c : Config) (first : Generation) → IsKept c first [] [] first first
+pub kept_first : (c : Config) (first : Generation) → IsKeptSince c first [] [] first first
 kept_first c first = record { last = first; acknowledged = refl; number = refl; held_is = inl refl; spare_is = inl refl; rising = tt }

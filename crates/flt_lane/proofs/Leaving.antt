@@ -6,21 +6,21 @@ use Rattle.flt_store.specs.declared.store.Store.{Store}
 use Rattle.flt_store.specs.Store.{driver_of}
 use Rattle.flt_lives.proofs.Giving.{none_given, none_since, given_further}
 use Rattle.flt_lives.proofs.Riding.{goes_by_calls, goes_nowhere, goes_further}
-use Rattle.flt_lane.specs.Stored.{Leaves}
+use Rattle.flt_lane.specs.Stored.{LeavesStore}
 
 module _ {B : Type 0} {b : Ghosts B} where
-  pub leaves_nothing : (store : Store B b) → Leaves store store
+  pub leaves_nothing : (store : Store B b) → LeavesStore store store
   leaves_nothing store = record { goes_on = goes_nowhere (driver_of store); given = none_given (driver_of store).device.bench.arms; armed = omega arith }
 
   -- calls of the driver
-  pub leaves_by_calls : (store now : Store B b) → Follows (driver_of store) (driver_of now) → Leaves store now
+  pub leaves_by_calls : (store now : Store B b) → Follows (driver_of store) (driver_of now) → LeavesStore store now
   leaves_by_calls store now follows = record {
     goes_on = goes_by_calls (driver_of store) (driver_of now) follows;
     given = none_since (driver_of store).device.bench.arms (driver_of now).device.bench.arms follows.bench.arms;
     armed = follows.bench.armed;
   }
 
-  pub leaves_further : (store middle now : Store B b) → Leaves store middle → Leaves middle now → Leaves store now
+  pub leaves_further : (store middle now : Store B b) → LeavesStore store middle → LeavesStore middle now → LeavesStore store now
   leaves_further store middle now one two = record {
     goes_on = goes_further (driver_of store) (driver_of middle) (driver_of now) one.goes_on two.goes_on;
     given = given_further [] [] (driver_of store).device.bench.arms (driver_of middle).device.bench.arms (driver_of now).device.bench.arms one.given two.given;

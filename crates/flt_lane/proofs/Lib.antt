@@ -19,6 +19,7 @@ pub mod Applying
 pub mod Drains
 pub mod Takes
 pub mod Carrying
+pub mod OffStore
 pub mod DrainEnds
 pub mod LaneDeeds
 pub mod Storing

@@ -28,10 +28,10 @@ use Rattle.flt_life.specs.Parts.{IsPossibleInLane, IsPossiblePart, steps_in}
 use Rattle.flt_life.specs.Played.{IsLife, IsMade, StepMakes, StepQueues}
 use Rattle.flt_shared.specs.Call.{Seat, reply_after}
 use Rattle.flt_lives.specs.Alive.{IsAlive}
-use Rattle.flt_lives.specs.Living.{IsCaused, IsKept}
+use Rattle.flt_lives.specs.Living.{IsCaused, IsKeptSince}
 use Rattle.flt_lives.proofs.Causing.{are_caused}
 use Rattle.flt_lane.specs.Block.{HaveRunParts}
-use Rattle.flt_lane.specs.Lived.{IsWhole}
+use Rattle.flt_lane.specs.Lived.{CouldClose}
 use Rattle.flt_lane.specs.Living.{Carries, answers_of, drains_in, drains_of, saves_in, saves_of}
 use Rattle.flt_lane.specs.Room.{IsLaneFor, IsPartFor}
 use Rattle.flt_lane.specs.Runs.{QueueSeat}
@@ -79,7 +79,7 @@ ended_by start parts own lanes journal queue life = record {
 
 life_by : (start : Life) (main after : Seat) (jobs jobs_after : QueueSeat) (parts : List (PartOf Step)) (own : List Told) (lanes : List (List Told)) (journal : Journal) (queue : List (Entry QueueOp))
     → main ≡ main_seat main.lock main.start main.left → jobs ≡ main_seat jobs.lock jobs.start jobs.left → main.start ≡ start → jobs.start ≡ start.config.blocks
-    → HaveRunParts main after jobs jobs_after parts own lanes → IsWhole after journal → IsWhole jobs_after queue → IsLife start parts own lanes journal queue
+    → HaveRunParts main after jobs jobs_after parts own lanes → CouldClose after journal → CouldClose jobs_after queue → IsLife start parts own lanes journal queue
 life_by start main after jobs jobs_after parts own lanes journal queue fresh jobs_fresh begins blocks ran whole jobs_whole = record {
   dem = subst (λ (s : Life). IsMade StepMakes reply_after s parts own lanes journal) begins (made_of reply_after StepMakes main after parts own lanes journal fresh ran.dem whole);
   jobs = subst (λ n. IsMade StepQueues queued.reply_after n parts own lanes queue) blocks (made_of queued.reply_after StepQueues jobs jobs_after parts own lanes queue jobs_fresh ran.queue jobs_whole);
@@ -96,15 +96,15 @@ turned_life start parts own lanes journal queue life =
 module _ {B : Type 0} {b : Ghosts B} where
   pub record IsOver (c : Config) (state : Persist) (main after : Seat) (jobs jobs_after : QueueSeat) (parts : List (PartOf Step)) (own : List Told) (lanes : List (List Told)) (journal : Journal) (queue : List (Entry QueueOp)) (store now : Store B b) : Type 0 where
     pub begins : main.start ≡ start_from c state
-    pub whole : IsWhole after journal
-    pub jobs_whole : IsWhole jobs_after queue
+    pub whole : CouldClose after journal
+    pub jobs_whole : CouldClose jobs_after queue
     pub ended : HasEnded (start_from c state) parts own lanes journal queue
     pub carries : Carries c main after jobs jobs_after [] (reverse (deeds_in parts own lanes)) store now
 
   -- the parts that were carried out are those of the life
   pub over_of : (c : Config) (state : Persist) (main after : Seat) (jobs jobs_after : QueueSeat) (given parts : List (PartOf Step)) (own : List Told) (lanes : List (List Told)) (journal : Journal) (queue : List (Entry QueueOp)) (store now : Store B b)
       → main ≡ main_seat main.lock main.start main.left → jobs ≡ main_seat jobs.lock jobs.start jobs.left → main.start ≡ start_from c state → jobs.start ≡ c.blocks → given ≡ parts
-      → HaveRunParts main after jobs jobs_after given own lanes → IsWhole after journal → IsWhole jobs_after queue → Carries c main after jobs jobs_after [] (reverse (deeds_in given own lanes)) store now
+      → HaveRunParts main after jobs jobs_after given own lanes → CouldClose after journal → CouldClose jobs_after queue → Carries c main after jobs jobs_after [] (reverse (deeds_in given own lanes)) store now
       → IsOver c state main after jobs jobs_after parts own lanes journal queue store now
   over_of c state main after jobs jobs_after given parts own lanes journal queue store now fresh jobs_fresh begins blocks same ran whole jobs_whole carries =
       let start = start_from c state in
@@ -122,7 +122,7 @@ module _ {B : Type 0} {b : Ghosts B} where
     pub held : Generation
     pub spare : Generation
     pub running : IsRunning c held spare now
-    pub kept : IsKept c first (reverse journal) told held spare
+    pub kept : IsKeptSince c first (reverse journal) told held spare
 
   module _ (c : Config) (number : ℕ) (state : Persist) (main after : Seat) (jobs jobs_after : QueueSeat) (parts : List (PartOf Step)) (own : List Told) (lanes : List (List Told)) (journal : Journal) (queue : List (Entry QueueOp)) (store now : Store B b)
       (over : IsOver c state main after jobs jobs_after parts own lanes journal queue store now) (running : IsRunning c (numbered number state) (numbered number state) store) where

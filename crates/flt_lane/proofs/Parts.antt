@@ -11,8 +11,8 @@ use Rattle.flt_turn.specs.Seats.{Seated, Extends}
 use Rattle.flt_turn.proofs.Journals.{calls_of-append, calls_of_other, prefix_longer}
 use Rattle.flt_life.specs.Mixing.{Call, ops_asked}
 use Rattle.flt_lane.specs.Chain.{Chain}
-use Rattle.flt_life.specs.Mixing.{Mixes, Block, HasInOrder, asked_of, IsTold, BlockTold}
-use Rattle.flt_lane.specs.Lived.{IsEnded, IsMain, IsWhole, Trails, HasLived}
+use Rattle.flt_life.specs.Mixing.{Mixes, Block, HasInOrder, asked_of, IsToldInPlace, BlockTold}
+use Rattle.flt_lane.specs.Lived.{IsEnded, IsMain, CouldClose, Trails, HasLived}
 use Rattle.flt_lane.proofs.Journals.{more_calls, none_left, no_call_before, one_call, no_call_of_others}
 use Rattle.flt_lane.proofs.Chains.{call_own, call_told}
 use Rattle.flt_life.proofs.Mixings.{calls_longer, blocks_longer, follow_more, follows_one, one_follows}
@@ -84,13 +84,13 @@ module _ {S O R : Type 0} (admits : S → O → Type 0) (answer : S → List O �
   abbrev LivesAlone : Seated S O → List (Call O R) → Seated S O → Type 0
   LivesAlone main calls after = HasLived answer main after 0 (((0, calls) ∷ []) ∷ [])
 
-  alone_told : (start : S) (journal : List (Entry O)) (calls : List (Call O R)) → All (IsTold answer start journal 0) calls → All (BlockTold answer start journal) (((0, calls) ∷ []) ∷ [])
+  alone_told : (start : S) (journal : List (Entry O)) (calls : List (Call O R)) → All (IsToldInPlace answer start journal 0) calls → All (BlockTold answer start journal) (((0, calls) ∷ []) ∷ [])
   alone_told start journal calls told = All-cons (BlockTold answer start journal) ((0, calls) ∷ []) []
-      (All-cons (λ (lane : ℕ × List (Call O R)). All (IsTold answer start journal lane.0) lane.1) (0, calls) [] told (All-nil (λ (lane : ℕ × List (Call O R)). All (IsTold answer start journal lane.0) lane.1)))
+      (All-cons (λ (lane : ℕ × List (Call O R)). All (IsToldInPlace answer start journal lane.0) lane.1) (0, calls) [] told (All-nil (λ (lane : ℕ × List (Call O R)). All (IsToldInPlace answer start journal lane.0) lane.1)))
       (All-nil (BlockTold answer start journal))
 
-  told_alone : (start : S) (journal : List (Entry O)) (calls : List (Call O R)) → All (BlockTold answer start journal) (((0, calls) ∷ []) ∷ []) → All (IsTold answer start journal 0) calls
-  told_alone start journal calls told = All-head (λ (lane : ℕ × List (Call O R)). All (IsTold answer start journal lane.0) lane.1) (0, calls) []
+  told_alone : (start : S) (journal : List (Entry O)) (calls : List (Call O R)) → All (BlockTold answer start journal) (((0, calls) ∷ []) ∷ []) → All (IsToldInPlace answer start journal 0) calls
+  told_alone start journal calls told = All-head (λ (lane : ℕ × List (Call O R)). All (IsToldInPlace answer start journal lane.0) lane.1) (0, calls) []
       (All-head (BlockTold answer start journal) ((0, calls) ∷ []) [] told)
 
   no_call : (main : Seated S O) → IsMain main → LivesAlone main [] main
@@ -105,7 +105,7 @@ module _ {S O R : Type 0} (admits : S → O → Type 0) (answer : S → List O �
       split = sym (append-nil journal);
       whole = whole;
       follows = one_follows ((0, []) ∷ []) [] (nothing_mixes 0);
-      told = alone_told main.start journal [] (All-nil (IsTold answer main.start journal 0));
+      told = alone_told main.start journal [] (All-nil (IsToldInPlace answer main.start journal 0));
       rising = rise_alone (length journal) [] (rise_none (length journal) [] refl);
     };
   }
@@ -126,9 +126,9 @@ module _ {S O R : Type 0} (admits : S → O → Type 0) (answer : S → List O �
           whole = trail.whole;
           follows = one_follows ((0, xs ++ ys) ∷ []) (trail.rest ++ last.rest)
               (alone_more 0 xs ys trail.rest last.rest (follows_one ((0, xs) ∷ []) trail.rest trail.follows) (follows_one ((0, ys) ∷ []) last.rest last.follows));
-          told = alone_told main.start journal (xs ++ ys) (All-append (IsTold answer main.start journal 0) xs ys
+          told = alone_told main.start journal (xs ++ ys) (All-append (IsToldInPlace answer main.start journal 0) xs ys
               (calls_longer answer main.start last.before journal 0 xs (last.rest, sym last.split) (told_alone main.start last.before xs trail.told))
-              (subst (λ s. All (IsTold answer s journal 0) ys) lived.start_is (told_alone mid.start journal ys last.told)));
+              (subst (λ s. All (IsToldInPlace answer s journal 0) ys) lived.start_is (told_alone mid.start journal ys last.told)));
           rising = rise_alone (length trail.before) (xs ++ ys) (rise_append (length trail.before) (length last.before) xs ys (before_most trail.before trail.rest last.before trail.split)
               (places_within answer main.start last.before 0 xs (told_alone main.start last.before xs trail.told))
               (alone_rise (length trail.before) xs (trail.rising 0)) (alone_rise (length last.before) ys (last.rising 0)));
@@ -194,11 +194,11 @@ module _ {S O R : Type 0} (admits : S → O → Type 0) (answer : S → List O �
           let more = more_calls (get_or after.ended k d).0 e.known after.seen (All-contains (λ old. IsPrefix old after.seen) after.olds e.known olds_seen e.among) in
           omega (arith, e.all, more))
 
-      nothing_after : (journal : List (Entry O)) (whole : IsWhole after journal) → whole.seen.0 ≡ []
+      nothing_after : (journal : List (Entry O)) (whole : CouldClose after journal) → whole.seen.0 ≡ []
       nothing_after journal whole = none_left after.seen whole.seen.0 ((after.number, after.mine) ∷ after.ended)
           (subst (λ j. Mixes j ((after.number, after.mine) ∷ after.ended)) (sym whole.seen.1) whole.mixes) enough
 
-      seen_is : (journal : List (Entry O)) → IsWhole after journal → after.seen ≡ journal
+      seen_is : (journal : List (Entry O)) → CouldClose after journal → after.seen ≡ journal
       seen_is journal whole = sym (append-nil after.seen) ∙ ap (λ l. after.seen ++ l) (sym (nothing_after journal whole)) ∙ whole.seen.1
 
       before_mixes : Mixes (front ++ first ∷ []) ((main.number, main.mine ++ op ∷ []) ∷ main.ended) → Mixes front ((main.number, main.mine) ∷ main.ended)
@@ -214,12 +214,12 @@ module _ {S O R : Type 0} (admits : S → O → Type 0) (answer : S → List O �
         others = λ n apart. no_call_of_others n 0 op (λ same. apart (zero, omega arith, same));
       }
 
-      trails : (journal : List (Entry O)) → IsWhole after journal → Trails answer main (((0, call ∷ []) ∷ []) ∷ []) journal
+      trails : (journal : List (Entry O)) → CouldClose after journal → Trails answer main (((0, call ∷ []) ∷ []) ∷ []) journal
       trails journal whole =
           let same = seen_is journal whole in
           let journal_is : journal ≡ front ++ first ∷ [] = sym same ∙ front_is in
-          let told : IsTold answer main.start journal 0 call = subst (λ n. IsTold answer main.start journal n call) is.number_is
-          (subst (λ j. IsTold answer main.start j main.number call) same (call_told admits answer main after call makes)) in
+          let told : IsToldInPlace answer main.start journal 0 call = subst (λ n. IsToldInPlace answer main.start journal n call) is.number_is
+          (subst (λ j. IsToldInPlace answer main.start j main.number call) same (call_told admits answer main after call makes)) in
           record {
             before = front;
             rest = first ∷ [];
@@ -230,7 +230,7 @@ module _ {S O R : Type 0} (admits : S → O → Type 0) (answer : S → List O �
               mixes = before_mixes (subst (λ j. Mixes j ((main.number, main.mine ++ op ∷ []) ∷ main.ended)) journal_is (subst (Mixes journal) lanes_are whole.mixes));
             };
             follows = one_follows ((0, call ∷ []) ∷ []) (first ∷ []) block_mixes;
-            told = alone_told main.start journal (call ∷ []) (All-cons (IsTold answer main.start journal 0) call [] told (All-nil (IsTold answer main.start journal 0)));
+            told = alone_told main.start journal (call ∷ []) (All-cons (IsToldInPlace answer main.start journal 0) call [] told (All-nil (IsToldInPlace answer main.start journal 0)));
             rising = rise_alone (length front) (call ∷ []) (rise_one (length front) call (omega (arith, ext.place_is)));
           }
 

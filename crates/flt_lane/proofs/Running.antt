@@ -25,7 +25,7 @@ use Rattle.flt_life.proofs.Sizes.{sizes-cons}
 use Rattle.flt_lane.specs.declared.lane.LaneWork.{LaneWork}
 use Rattle.flt_lane.specs.declared.locks.Locks.{Locks}
 use Rattle.flt_lane.specs.Runs.{QueueSeat, Makes, Queues, calls_by, queued_by}
-use Rattle.flt_lane.specs.Work.{AreSeatsOf, IsReady, HasRun}
+use Rattle.flt_lane.specs.Work.{AreSeatsOf, IsPrepared, HasRun}
 use Rattle.flt_lane.proofs.Chains.{chain_fact}
 use Rattle.flt_lane.proofs.PartWays.{PartBy, part_first, part_more, part_runs, part_start, part_number}
 
@@ -85,7 +85,7 @@ pub record IsPartway {F : _} {g : _} (locks : Locks F g) (before now : LaneWork)
   pub room : HasRoomForSteps now.replies (drop index before.steps.now)
   pub seats : AreSeatsOf locks now
 
-pub begins : {F : _} {g : _} (locks : Locks F g) (lane : LaneWork) → IsReady locks lane → IsPartway locks lane lane 0
+pub begins : {F : _} {g : _} (locks : Locks F g) (lane : LaneWork) → IsPrepared locks lane → IsPartway locks lane lane 0
 begins locks lane ready = record {
   told = [];
   dem = part_first MayBeAsked reply_after StepMakes calls_by lane.seat;
@@ -119,7 +119,7 @@ seats_stay locks now after step told seats makes queues dem job_seat = record {
       ∙ ap (λ s. s.config.blocks) (sym (chain_fact MayBeAsked reply_after now.seat makes.calls after.seat makes.chain).start_is);
 }
 
-module _ {F : _} {g : _} (locks : Locks F g) (before now : LaneWork) (index : ℕ) (step : Step) (ready : IsReady locks before) (on : IsPartway locks before now index) (within : index < length before.steps.now)
+module _ {F : _} {g : _} (locks : Locks F g) (before now : LaneWork) (index : ℕ) (step : Step) (ready : IsPrepared locks before) (on : IsPartway locks before now index) (within : index < length before.steps.now)
     (is : step ≡ get_or before.steps.now index step) where
   -- there are the calls for the next step
   pub calls_left : calls_by step ≤ now.seat.left

@@ -15,7 +15,7 @@ use Rattle.flt_turn.specs.declared.vault.Entry.{Entry}
 use Rattle.flt_turn.specs.Call.{past}
 use Rattle.flt_store.specs.declared.fault.SaveFault.{SaveFault}
 use Rattle.flt_store.specs.declared.store.Store.{Store}
-use Rattle.flt_store.specs.Store.{IsRunning, Leaves, Saves, numbered}
+use Rattle.flt_store.specs.Store.{IsRunning, MayHaveSaved, Saves, numbered}
 use Rattle.flt_life.specs.Actions.{IsStepCall}
 use Rattle.flt_life.specs.Chain.{start_from}
 use Rattle.flt_life.specs.Journal.{Journal, entry, calls_of, snapshot_of}
@@ -23,7 +23,7 @@ use Rattle.flt_life.specs.Ordered.{Deed}
 use Rattle.flt_life.specs.declared.answer.StepAnswer.TheVariants as answers
 use Rattle.flt_script.specs.declared.step.Step.TheVariants as steps
 use Rattle.flt_shared.specs.Call.{Seat, IsCall}
-use Rattle.flt_lives.specs.Living.{IsKept}
+use Rattle.flt_lives.specs.Living.{IsKeptSince}
 use Rattle.flt_lane.specs.Living.{IsLivingOn, answers_of, save_call, saves_in, saves_of}
 use Rattle.flt_lane.proofs.Knowing.{Since, since, knows_all}
 use Rattle.flt_lane.proofs.Keeping.{kept_failed, kept_further, kept_saved, pushed, snapshot_further}
@@ -87,13 +87,13 @@ module _ {B : Type 0} {b : Ghosts B} (c : Config) (main mid : Seat) (taken : Ans
   state_is = is ∙ (λ i. saved_after (start i) (calls_since living.known main mid ops.Snapshot taken.place at i))
 
   -- the generations as they were kept before the snapshot, where no other save was made
-  ahead : saves_in mid.seen ≤ saves_of earlier + 1 → IsKept c first (reverse front) (answers_of earlier) living.held living.spare
+  ahead : saves_in mid.seen ≤ saves_of earlier + 1 → IsKeptSince c first (reverse front) (answers_of earlier) living.held living.spare
   ahead few =
       let all = many living.known at.more mid.seen (entry main.number ops.Snapshot) at.seen in
       let least = living.least in
       kept_further c first (answers_of earlier) living.held living.spare living.known at.more (step_calls at.more (omega (arith, all, few, least))) (living.kept (omega (arith, all, few)))
 
-  pub living_failed : (fault : SaveFault) → ((held spare : Generation) → IsRunning c held spare store → Leaves c held spare state store now) → IsLivingOn c first mid ((steps.Save, answers.SaveFailed fault) ∷ earlier) now
+  pub living_failed : (fault : SaveFault) → ((held spare : Generation) → IsRunning c held spare store → MayHaveSaved c held spare state store now) → IsLivingOn c first mid ((steps.Save, answers.SaveFailed fault) ∷ earlier) now
   living_failed fault leaves =
       let left = leaves living.held living.spare living.running in
       let held_is = rw state_is at left.held_is in
@@ -108,7 +108,7 @@ module _ {B : Type 0} {b : Ghosts B} (c : Config) (main mid : Seat) (taken : Ans
         is_known = knows_all mid;
         least = omega (arith, all, least);
         kept = λ few.
-            subst (λ j. IsKept c first j (answers.SaveFailed fault ∷ answers_of earlier) left.now_held left.now_spare) (sym (newest front mid.seen (entry main.number ops.Snapshot) at.seen))
+            subst (λ j. IsKeptSince c first j (answers.SaveFailed fault ∷ answers_of earlier) left.now_held left.now_spare) (sym (newest front mid.seen (entry main.number ops.Snapshot) at.seen))
             (kept_failed c first (reverse front) (answers_of earlier) living.held living.spare (ahead (omega (arith, few))) left.chosen left.is main.number fault left.now_held left.now_spare held_is spare_is);
       }
 
@@ -136,8 +136,8 @@ module _ {B : Type 0} {b : Ghosts B} (c : Config) (main mid : Seat) (taken : Ans
             let last : snapshot_of life main.number (reverse (mid.seen ++ behind.more)) ≡ Some (saved_after life (calls_of (reverse front))) =
             snapshot_further life main.number mid.seen behind.more between ∙ ap (snapshot_of life main.number) (newest front mid.seen (entry main.number ops.Snapshot) at.seen) ∙ own_snapshot in
             let kept = kept_saved c first (reverse front) (answers_of earlier) living.held living.spare before saved.chosen saved.is main.number number (reverse (mid.seen ++ behind.more)) saved.next last in
-            subst (λ j. IsKept c first j (answers.Saved number ∷ answers_of earlier) (numbered number state) (numbered number state)) (sym (newest (mid.seen ++ behind.more) after.seen (entry main.number (ops.Saved number)) last_seen))
-            (subst (λ p. IsKept c first (entry main.number (ops.Saved number) ∷ reverse (mid.seen ++ behind.more)) (answers.Saved number ∷ answers_of earlier) (numbered number p) (numbered number p)) (sym state_is) kept);
+            subst (λ j. IsKeptSince c first j (answers.Saved number ∷ answers_of earlier) (numbered number state) (numbered number state)) (sym (newest (mid.seen ++ behind.more) after.seen (entry main.number (ops.Saved number)) last_seen))
+            (subst (λ p. IsKeptSince c first (entry main.number (ops.Saved number) ∷ reverse (mid.seen ++ behind.more)) (answers.Saved number ∷ answers_of earlier) (numbered number p) (numbered number p)) (sym state_is) kept);
       }
     where
       own_snapshot : snapshot_of (start_from c first.state) main.number (entry main.number ops.Snapshot ∷ reverse front) ≡ Some (saved_after (start_from c first.state) (calls_of (reverse front)))

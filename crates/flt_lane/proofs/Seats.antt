@@ -19,7 +19,7 @@ use Rattle.flt_lane.specs.declared.lane.LaneWork.{LaneWork}
 use Rattle.flt_lane.specs.declared.locks.Locks.{Locks}
 use Rattle.flt_lane.specs.Room.{IsLaneFor, all_calls, all_queued}
 use Rattle.flt_lane.specs.Runs.{QueueSeat}
-use Rattle.flt_lane.specs.Work.{IsReady}
+use Rattle.flt_lane.specs.Work.{IsPrepared}
 use Rattle.flt_lane.specs.Block.{IsSplitSeat, IsSplit, AreSplit, IsSplitOff, AreJoined}
 use Rattle.flt_lane.proofs.Blocks.{all_right}
 
@@ -254,12 +254,12 @@ module _ {F : _} {g : _} (locks : Locks F g) (main now : Seat) (jobs jobs_now : 
             (split_more locks main jobs (main.children + 1) (now.children + 1) (jobs.children + 1) (jobs_now.children + 1) (steps_of done) works steps work (omega (arith, many, is.off.children_is)) (omega (arith, many, is.job_off.children_is)) is.split one));
       }
 
-pub all_ready : {F : _} {g : _} (locks : Locks F g) (main : Seat) (jobs : QueueSeat) (number job_number : ℕ) (lanes : List (List Step)) (works : List LaneWork) → AreSplit locks main jobs number job_number lanes works → All (IsReady locks) works
+pub all_ready : {F : _} {g : _} (locks : Locks F g) (main : Seat) (jobs : QueueSeat) (number job_number : ℕ) (lanes : List (List Step)) (works : List LaneWork) → AreSplit locks main jobs number job_number lanes works → All (IsPrepared locks) works
 unfolding AreSplit
-all_ready locks main jobs number job_number [] [] are = All-nil (IsReady locks)
+all_ready locks main jobs number job_number [] [] are = All-nil (IsPrepared locks)
 all_ready locks main jobs number job_number [] (w ∷ works) are = absurd are
 all_ready locks main jobs number job_number (l ∷ lanes) [] are = absurd are
-all_ready locks main jobs number job_number (l ∷ lanes) (w ∷ works) are = All-cons (IsReady locks) w works are.0.ready (all_ready locks main jobs (number + 1) (job_number + 1) lanes works are.1)
+all_ready locks main jobs number job_number (l ∷ lanes) (w ∷ works) are = All-cons (IsPrepared locks) w works are.0.ready (all_ready locks main jobs (number + 1) (job_number + 1) lanes works are.1)
 
 -- the lanes have their steps, and begin where the main seat began
 pub all_steps_are : {F : _} {g : _} (locks : Locks F g) (main : Seat) (jobs : QueueSeat) (number job_number : ℕ) (lanes : List (List Step)) (works : List LaneWork) → AreSplit locks main jobs number job_number lanes works

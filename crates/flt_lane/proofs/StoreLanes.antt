@@ -24,7 +24,7 @@ use Rattle.flt_lane.specs.Lived.{IsMain}
 use Rattle.flt_lane.specs.Living.{Carries}
 use Rattle.flt_lane.specs.Room.{all_calls, all_queued}
 use Rattle.flt_lane.specs.Runs.{QueueSeat}
-use Rattle.flt_lane.specs.Stored.{AreRun, HasRunStore, HaveRun, Leaves, RunsStore, StoresAt, is_store_lane}
+use Rattle.flt_lane.specs.Stored.{AreRun, HasRunStore, HaveRun, LeavesStore, RunsStore, StoresAt, is_store_lane}
 use Rattle.flt_lane.specs.Work.{HasRun}
 use Rattle.flt_lane.proofs.Carrying.{KnowsToo, carries_beside, carries_between, knows_joined, knows_still}
 use Rattle.flt_lane.proofs.Chains.{chain_fact}
@@ -158,8 +158,8 @@ module _ {B : Type 0} {b : Ghosts B} (c : Config) (main off after : Seat) (jobs 
   carries_block (inr one) = carries_one one.0 one.1 one.2
 
 module _ {B : Type 0} {b : Ghosts B} (c : Config) (works ran : List LaneWork) (store now : Store B b) where
-  pub leaves_block : AreRun c works ran store now → Leaves store now
-  leaves_block (inl none) = subst (Leaves store) (sym none.2) (leaves_nothing store)
+  pub leaves_block : AreRun c works ran store now → LeavesStore store now
+  leaves_block (inl none) = subst (LeavesStore store) (sym none.2) (leaves_nothing store)
   leaves_block (inr one) = ((one.2).one (default_of works one.0 (one.1).within)).leaves
 
 -- ---- all of it

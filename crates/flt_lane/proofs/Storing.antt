@@ -21,7 +21,7 @@ use Rattle.flt_lane.specs.declared.lane.LaneWork.{LaneWork}
 use Rattle.flt_lane.specs.declared.locks.Locks.{Locks}
 use Rattle.flt_lane.specs.Living.{Carries}
 use Rattle.flt_lane.specs.Runs.{calls_by}
-use Rattle.flt_lane.specs.Stored.{HasRunStore, Leaves}
+use Rattle.flt_lane.specs.Stored.{HasRunStore, LeavesStore}
 use Rattle.flt_lane.specs.Work.{HasRun}
 use Rattle.flt_lane.proofs.Carrying.{carries_beside, carries_further}
 use Rattle.flt_lane.proofs.Leaving.{leaves_nothing, leaves_further}
@@ -34,7 +34,7 @@ use Rattle.flt_lane.proofs.Running.{IsPartway}
 module _ {B : Type 0} {b : Ghosts B} where
   pub leaves_step : (step : Step) (store now : Store B b) → IsTrue (is_lane_step step) → GoesOn (driver_of store) (driver_of now)
       → WereGiven (arms_of (action_of step)) (driver_of store).device.bench.arms (driver_of now).device.bench.arms
-      → (driver_of now).device.bench.armed ≤ (driver_of store).device.bench.armed + arm_count (action_of step) → Leaves store now
+      → (driver_of now).device.bench.armed ≤ (driver_of store).device.bench.armed + arm_count (action_of step) → LeavesStore store now
   leaves_step (steps.Report event report) store now is goes given armed = record { goes_on = goes; given = given; armed = omega (arith, armed) }
   leaves_step (steps.Show event) store now is goes given armed = record { goes_on = goes; given = given; armed = omega (arith, armed) }
   leaves_step (steps.Cycle cycle) store now is goes given armed = record { goes_on = goes; given = given; armed = omega (arith, armed) }
@@ -68,7 +68,7 @@ no_arm (steps.Arming arm) is = absurd (false≢true is)
 pub record IsStoring {F : _} {g : _} {B : Type 0} {b : Ghosts B} (c : Config) (locks : Locks F g) (before now : LaneWork) (index : ℕ) (store current : Store B b) : Type 0 where
   pub part : IsPartway locks before now index
   pub carries : (earlier : List Deed) → Carries c before.seat now.seat before.queue_seat now.queue_seat earlier (reverse (lane_deeds (take index before.steps.now) part.told) ++ earlier) store current
-  pub leaves : Leaves store current
+  pub leaves : LeavesStore store current
 
 module _ {F : _} {g : _} {B : Type 0} {b : Ghosts B} (c : Config) (locks : Locks F g) where
   pub storing_begins : (lane : LaneWork) (store : Store B b) → IsPartway locks lane lane 0 → IsStoring c locks lane lane 0 store store
@@ -83,7 +83,7 @@ module _ {F : _} {g : _} {B : Type 0} {b : Ghosts B} (c : Config) (locks : Locks
 
   pub storing_more : (before now after : LaneWork) (index : ℕ) (step : Step) (told : Told) (store current later : Store B b) → index < length before.steps.now → step ≡ get_or before.steps.now index step
       → (on : IsStoring c locks before now index store current) → (more : IsPartway locks before after (index + 1)) → told_in after.replies ≡ told_in now.replies ++ told ∷ []
-      → ((earlier : List Deed) → Carries c now.seat after.seat now.queue_seat after.queue_seat earlier (with_deed step told earlier) current later) → Leaves current later → IsStoring c locks before after (index + 1) store later
+      → ((earlier : List Deed) → Carries c now.seat after.seat now.queue_seat after.queue_seat earlier (with_deed step told earlier) current later) → LeavesStore current later → IsStoring c locks before after (index + 1) store later
   storing_more before now after index step told store current later within is on more answers carries leaves =
       let all = before.steps.now in
       let first = take index all in

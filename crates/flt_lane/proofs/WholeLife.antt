@@ -9,7 +9,7 @@ use Rattle.flt_turn.specs.Seats.{Seated, main_seat}
 use Rattle.flt_life.specs.Answers.{Told}
 use Rattle.flt_life.specs.Played.{IsMade}
 use Rattle.flt_life.specs.Mixing.{Call, Mixes, HasInOrder, calls_in_lane}
-use Rattle.flt_lane.specs.Lived.{IsEnded, IsMain, IsWhole}
+use Rattle.flt_lane.specs.Lived.{IsEnded, IsMain, CouldClose}
 use Rattle.flt_script.specs.Part.{PartOf}
 use Rattle.flt_life.specs.Making.{PartsMake}
 use Rattle.flt_life.proofs.Rising.{rise_lower}
@@ -30,16 +30,16 @@ module _ {S O : Type 0} where
   fresh_is_main main fresh = subst IsMain (sym fresh) (new_is_main main)
 
   -- the lock was closed, and left this journal
-  pub closed : (after : Seated S O) (journal : List (Entry O)) → IsPrefix after.seen journal → All (λ old. IsPrefix old journal) after.olds → Interleaves journal ((after.number, after.mine) ∷ after.ended) → IsWhole after journal
+  pub closed : (after : Seated S O) (journal : List (Entry O)) → IsPrefix after.seen journal → All (λ old. IsPrefix old journal) after.olds → Interleaves journal ((after.number, after.mine) ∷ after.ended) → CouldClose after journal
   closed after journal seen olds mixes = record { seen = seen; olds = olds; mixes = record { each = mixes.each; others = mixes.others } }
 
-  empty_before : (main : Seated S O) (before : List (Entry O)) → main ≡ main_seat main.lock main.start main.left → IsWhole main before → before ≡ []
+  empty_before : (main : Seated S O) (before : List (Entry O)) → main ≡ main_seat main.lock main.start main.left → CouldClose main before → before ≡ []
   empty_before main before fresh whole = nothing_yet before (subst (λ (s : Seated S O). Mixes before ((s.number, s.mine) ∷ s.ended)) fresh whole.mixes)
 
 module _ {S O R : Type 0} (answer : S → List O → O → R) (MadeBy : Step → Told → List (Call O R) → Type 0) where
   -- the journal that a lock left has the calls of the parts
   pub made_of : (main after : Seated S O) (parts : List (PartOf Step)) (own : List Told) (lanes : List (List Told)) (journal : List (Entry O)) → main ≡ main_seat main.lock main.start main.left
-      → HasRunParts answer MadeBy main after parts own lanes → IsWhole after journal → IsMade MadeBy answer main.start parts own lanes journal
+      → HasRunParts answer MadeBy main after parts own lanes → CouldClose after journal → IsMade MadeBy answer main.start parts own lanes journal
   made_of main after parts own lanes journal fresh ran whole =
       let trail = ran.lived.trails journal whole in
       let journal_is : journal ≡ trail.rest = trail.split ∙ ap (λ l. l ++ trail.rest) (empty_before main trail.before fresh trail.whole) in

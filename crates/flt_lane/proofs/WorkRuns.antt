@@ -16,7 +16,7 @@ use Rattle.flt_lane.specs.declared.locks.Locks.{Locks}
 use Rattle.flt_lane.specs.Block.{IsSplitSeat, AreSplit, IsSplitOff, AreJoined, HasRunBlock, RunsLanes}
 use Rattle.flt_lane.specs.Lived.{IsMain}
 use Rattle.flt_lane.specs.Room.{all_calls, all_queued}
-use Rattle.flt_lane.specs.Runs.{QueueSeat, Runs, RunsQueue, calls_by, queued_by}
+use Rattle.flt_lane.specs.Runs.{QueueSeat, RunsSteps, RunsQueue, calls_by, queued_by}
 use Rattle.flt_lane.specs.Work.{HasRun}
 use Rattle.flt_lane.proofs.BlockRuns.{Lane, AreRunLanes, afters, ran_block, steps_all, tolds}
 
@@ -66,7 +66,7 @@ lanes_run locks main jobs number job_number (l ∷ lanes) (w ∷ works) (a ∷ a
     let split = are.0 in
     let told : first.told ≡ told_in a.replies = sym (first.answers ∙ ap (λ l. l ++ first.told) split.no_answers) in
     record {
-      dem = (record { split = subst (λ s. IsSplitSeat main number (calls_of s) w.seat) (sym split.steps_are) split.dem; runs = subst (λ l. Runs w.seat w.steps.now l a.seat) told first.dem }, more.dem);
+      dem = (record { split = subst (λ s. IsSplitSeat main number (calls_of s) w.seat) (sym split.steps_are) split.dem; runs = subst (λ l. RunsSteps w.seat w.steps.now l a.seat) told first.dem }, more.dem);
       queue = (record { split = subst (λ s. IsSplitSeat jobs job_number (queued_of s) w.queue_seat) (sym split.steps_are) split.queue; runs = subst (λ l. RunsQueue w.queue_seat w.steps.now l a.queue_seat) told first.queue }, more.queue);
       steps = λ i. split.steps_are i ∷ more.steps i;
       queue_steps = λ i. split.steps_are i ∷ more.queue_steps i;

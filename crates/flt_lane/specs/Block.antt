@@ -15,7 +15,7 @@ use Rattle.flt_lane.specs.declared.lane.LaneWork.{LaneWork}
 use Rattle.flt_lane.specs.declared.locks.Locks.{Locks}
 use Rattle.flt_lane.specs.Lived.{HasLived}
 use Rattle.flt_lane.specs.Runs.{Makes, Queues, QueueSeat}
-use Rattle.flt_lane.specs.Work.{IsReady}
+use Rattle.flt_lane.specs.Work.{IsPrepared}
 
 -- ---- on one lock
 
@@ -75,8 +75,9 @@ module _ {S O R : Type 0} (answer : S → List O → O → R) (MadeBy : Step →
 -- ---- on both locks
 
 -- A lane that was made ready: its seats have exactly the calls of its steps.
-pub record IsSplit {F : _} {g : _} (locks : Locks F g) (main : Seat) (jobs : QueueSeat) (number job_number : ℕ) (steps : List Step) (work : LaneWork) : Type 0 where
-  pub ready : IsReady locks work
+pub record IsSplit {F : _} {g : _} (locks : Locks F g) (main : Seat) (jobs : QueueSeat) (number job_number : ℕ) (steps : List Step)
+    (work : LaneWork) : Type 0 where
+  pub ready : IsPrepared locks work
   pub steps_are : work.steps.now ≡ steps
   pub no_answers : told_in work.replies ≡ []
   pub dem : IsSplitSeat main number (calls_of steps) work.seat
@@ -104,13 +105,15 @@ pub record HasStepped (main after : Seat) (jobs jobs_after : QueueSeat) (step : 
   pub queue : Queues jobs step answer jobs_after
 
 -- A part was carried out, and its answers were put behind those of lane 0 and of the lanes before.
-pub record Gains (main after : Seat) (jobs jobs_after : QueueSeat) (part : PartOf Step) (mine : List Told) (others : List (List Told)) (own own_after : List Told) (lanes lanes_after : List (List Told)) : Type 0 where
+pub record Gains (main after : Seat) (jobs jobs_after : QueueSeat) (part : PartOf Step) (mine : List Told) (others : List (List Told))
+    (own own_after : List Told) (lanes lanes_after : List (List Told)) : Type 0 where
   pub own_are : own_after ≡ own ++ mine
   pub lanes_are : lanes_after ≡ lanes ++ others
   pub dem : HasRunPart reply_after StepMakes main after part mine others
   pub queue : HasRunPart queued.reply_after StepQueues jobs jobs_after part mine others
 
 -- All parts were carried out, and were answered so.
-pub record HaveRunParts (main after : Seat) (jobs jobs_after : QueueSeat) (parts : List (PartOf Step)) (own : List Told) (lanes : List (List Told)) : Type 0 where
+pub record HaveRunParts (main after : Seat) (jobs jobs_after : QueueSeat) (parts : List (PartOf Step)) (own : List Told)
+    (lanes : List (List Told)) : Type 0 where
   pub dem : HasRunParts reply_after StepMakes main after parts own lanes
   pub queue : HasRunParts queued.reply_after StepQueues jobs jobs_after parts own lanes

@@ -11,24 +11,27 @@ use Rattle.flt_shared.specs.Call.{Seat}
 use Rattle.flt_lane.specs.Block.{Gains, HasStepped, RunsLanes}
 use Rattle.flt_lane.specs.Living.{Carries}
 use Rattle.flt_lane.specs.Runs.{QueueSeat}
-use Rattle.flt_lane.specs.Stored.{Leaves}
+use Rattle.flt_lane.specs.Stored.{LeavesStore}
 
 module _ {B : Type 0} {b : Ghosts B} where
   -- The lanes were run, and their deeds were done in order.
-  pub record HasRunLanes (c : Config) (main after : Seat) (jobs jobs_after : QueueSeat) (lanes : List (List Step)) (told told_after : List (List Told)) (store now : Store B b) : Type 0 where
+  pub record HasRunLanes (c : Config) (main after : Seat) (jobs jobs_after : QueueSeat) (lanes : List (List Step)) (told told_after : List (List Told))
+      (store now : Store B b) : Type 0 where
     pub run : RunsLanes main after jobs jobs_after lanes told told_after
     pub carries : (earlier : List Deed) → Carries c main after jobs jobs_after earlier (reverse (block_deeds lanes run.others) ++ earlier) store now
-    pub leaves : Leaves store now
+    pub leaves : LeavesStore store now
 
   -- A part was carried out, and so its deeds.
-  pub record GainsPart (c : Config) (main after : Seat) (jobs jobs_after : QueueSeat) (part : PartOf Step) (own own_after : List Told) (lanes lanes_after : List (List Told)) (store now : Store B b) : Type 0 where
+  pub record GainsPart (c : Config) (main after : Seat) (jobs jobs_after : QueueSeat) (part : PartOf Step) (own own_after : List Told)
+      (lanes lanes_after : List (List Told)) (store now : Store B b) : Type 0 where
     pub mine : List Told
     pub others : List (List Told)
     pub gains : Gains main after jobs jobs_after part mine others own own_after lanes lanes_after
     pub carries : (earlier : List Deed) → Carries c main after jobs jobs_after earlier (reverse (deeds_in (part ∷ []) mine others) ++ earlier) store now
 
   -- Lane 0 made a step, and its deed, where it is one.
-  pub record StepsOne (c : Config) (main after : Seat) (jobs jobs_after : QueueSeat) (step : Step) (own own_after : List Told) (store now : Store B b) : Type 0 where
+  pub record StepsOne (c : Config) (main after : Seat) (jobs jobs_after : QueueSeat) (step : Step) (own own_after : List Told)
+      (store now : Store B b) : Type 0 where
     pub answer : Told
     pub stepped : HasStepped main after jobs jobs_after step answer own own_after
     pub carries : (earlier : List Deed) → Carries c main after jobs jobs_after earlier (with_deed step answer earlier) store now

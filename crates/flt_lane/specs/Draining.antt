@@ -23,7 +23,7 @@ use Rattle.flt_lives.specs.Living.{IsCaused}
 use Rattle.flt_lane.specs.Chain.{Chain}
 use Rattle.flt_lane.specs.Living.{HoldsBy}
 use Rattle.flt_lane.specs.Runs.{QueueSeat}
-use Rattle.flt_lane.specs.Stored.{Leaves}
+use Rattle.flt_lane.specs.Stored.{LeavesStore}
 
 -- Calls of the queue, between what their seat knew before and after.
 abbrev pub MakesJobs : QueueSeat → List QueueCall → QueueSeat → Type 0
@@ -46,8 +46,9 @@ module _ {B : Type 0} {b : Ghosts B} where
     pub running : (held spare : Generation) → IsRunning c held spare store → IsRunning c held spare now
     pub holds : (first : ℕ → Content) (earlier done : ℕ) (deeds : List Deed) → HoldsBy first before earlier done deeds (driver_of store).value
         → HoldsBy first after (earlier + calls) (done + jobs) deeds (driver_of now).value
-    pub caused : (begun : ℕ) (told : List Told) (some more less : ℕ) → IsCaused c begun (answers.Drained some less ∷ told) store → IsCaused c begun (answers.Drained more (less + failed) ∷ told) now
-    pub leaves : Leaves store now
+    pub caused : (begun : ℕ) (told : List Told) (some more less : ℕ) → IsCaused c begun (answers.Drained some less ∷ told) store
+        → IsCaused c begun (answers.Drained more (less + failed) ∷ told) now
+    pub leaves : LeavesStore store now
 
   -- A job was taken, written or not, and noted.
   pub record TakesJob (c : Config) (before after : QueueSeat) (written : Bool) (store now : Store B b) : Type 0 where
@@ -63,9 +64,9 @@ module _ {B : Type 0} {b : Ghosts B} where
     pub drains : DrainsOn c before after 1 0 0 store now
 
   -- The next job was looked for: what was found, where there was one, and whether it was written.
-  abbrev pub Looks : Config → QueueSeat → QueueSeat → Option Bool → Store B b → Store B b → Type 0
-  Looks c before after None store now = FindsNone c before after store now
-  Looks c before after (Some written) store now = TakesJob c before after written store now
+  abbrev pub LooksForJob : Config → QueueSeat → QueueSeat → Option Bool → Store B b → Store B b → Type 0
+  LooksForJob c before after None store now = FindsNone c before after store now
+  LooksForJob c before after (Some written) store now = TakesJob c before after written store now
 
   -- So many jobs were taken.
   pub record HasDrained (c : Config) (before after : QueueSeat) (written failed count : ℕ) (store now : Store B b) : Type 0 where

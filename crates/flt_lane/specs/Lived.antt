@@ -22,7 +22,7 @@ pub record IsMain {S O : Type 0} (main : Seated S O) : Type 0 where
   pub joined : length main.ended ≡ main.children
 
 -- The lock could be closed now, and leave this journal.
-pub record IsWhole {S O : Type 0} (main : Seated S O) (journal : List (Entry O)) : Type 0 where
+pub record CouldClose {S O : Type 0} (main : Seated S O) (journal : List (Entry O)) : Type 0 where
   pub seen : IsPrefix main.seen journal
   pub olds : All (λ old. IsPrefix old journal) main.olds
   pub mixes : Mixes journal ((main.number, main.mine) ∷ main.ended)
@@ -33,7 +33,7 @@ pub record Trails {S O R : Type 0} (answer : S → List O → O → R) (main : S
   pub before : List (Entry O)
   pub rest : List (Entry O)
   pub split : journal ≡ before ++ rest
-  pub whole : IsWhole main before
+  pub whole : CouldClose main before
   pub follows : HasInOrder blocks rest
   pub told : All (BlockTold answer main.start journal) blocks
   pub rising : (number : ℕ) → Rise (length before) (calls_in_lane number blocks)
@@ -44,4 +44,4 @@ pub record HasLived {S O R : Type 0} (answer : S → List O → O → R) (main a
   pub start_is : after.start ≡ main.start
   pub lock_is : after.lock ≡ main.lock
   pub children_is : after.children ≡ main.children + seats
-  pub trails : (journal : List (Entry O)) → IsWhole after journal → Trails answer main blocks journal
+  pub trails : (journal : List (Entry O)) → CouldClose after journal → Trails answer main blocks journal

@@ -23,7 +23,7 @@ use Rattle.flt_life.specs.Ordered.{Deed}
 use Rattle.flt_life.specs.declared.answer.StepAnswer.TheVariants.{Saved, SaveFailed, Drained}
 use Rattle.flt_shared.specs.Call.{Seat}
 use Rattle.flt_lives.specs.Alive.{IsAlive}
-use Rattle.flt_lives.specs.Living.{IsKept, IsCaused}
+use Rattle.flt_lives.specs.Living.{IsKeptSince, IsCaused}
 use Rattle.flt_lane.specs.Runs.{QueueSeat}
 
 -- The answers of deeds.
@@ -109,11 +109,12 @@ module _ {B : Type 0} {b : Ghosts B} where
     pub known : Journal
     pub is_known : IsKnownTo seat known
     pub least : saves_of deeds ≤ saves_in known
-    pub kept : saves_in known ≤ saves_of deeds → IsKept c first (reverse known) (answers_of deeds) held spare
+    pub kept : saves_in known ≤ saves_of deeds → IsKeptSince c first (reverse known) (answers_of deeds) held spare
 
   -- What steps carry on.
   pub record Carries (c : Config) (before after : Seat) (jobs jobs_after : QueueSeat) (earlier deeds : List Deed) (store now : Store B b) : Type 0 where
     pub alive : IsAlive c store → IsAlive c now
     pub living : (first : Generation) → before.start ≡ start_from c first.state → IsLivingOn c first before earlier store → IsLivingOn c first after deeds now
     pub caused : (begun : ℕ) → IsCaused c begun (answers_of earlier) store → IsCaused c begun (answers_of deeds) now
-    pub holds : IsAlive c store → (first : ℕ → Content) → HoldsOn first jobs earlier (driver_of store).value → HoldsOn first jobs_after deeds (driver_of now).value
+    pub holds : IsAlive c store → (first : ℕ → Content) → HoldsOn first jobs earlier (driver_of store).value
+        → HoldsOn first jobs_after deeds (driver_of now).value

@@ -9,18 +9,26 @@ use Rattle.flt_script.specs.Step.{store_lanes}
 use Rattle.flt_life.specs.Actions.{IsPossible, action_of}
 use Rattle.flt_life.specs.Parts.{IsPossibleInLane, calls_of, queued_of}
 use Rattle.flt_life.specs.Room.{IsLaneRoom, steps_of}
+use Rattle.flt_lane.specs.declared.room.BlockRoom.{BlockRoom}
 use Rattle.flt_lane.specs.declared.room.PartRoom.{PartRoom}
 use Rattle.flt_lane.specs.declared.room.PartRoom.TheVariants.{One, Lanes}
+
+-- The lanes are ready, with room for the seats of each.
+pub record IsBlockRoom (block : BlockRoom) : Type 0 where
+  pub ready : All IsLaneRoom block.lanes.items
+  pub empty : block.works.items ≡ []
+  pub none : vec_len block.works ≡ 0
+  pub room : length block.lanes.items ≤ vec_capacity block.works
 
 -- A part whose lanes are ready, with room for the seats of each.
 abbrev pub IsPartRoom : PartRoom → Type 0
 IsPartRoom (One step) = Unit {0}
-IsPartRoom (Lanes rooms works) = All IsLaneRoom rooms.items × (works.items ≡ []) × (vec_len works ≡ 0) × (length rooms.items ≤ vec_capacity works)
+IsPartRoom (Lanes block) = IsBlockRoom block.value
 
 -- The part that it is.
 abbrev pub part_in : PartRoom → PartOf Step
 part_in (One step) = inl step.now
-part_in (Lanes rooms works) = inr (steps_of rooms.items)
+part_in (Lanes block) = inr (steps_of block.value.lanes.items)
 
 -- How many calls lanes make at most of the status machine, and of the queue.
 abbrev pub all_calls : List (List Step) → ℕ

@@ -43,8 +43,8 @@ QueueSeat = queued.Seat
 abbrev pub Makes : Seat → Step → Told → Seat → Type 0
 Makes = MakesBy MayBeAsked reply_after StepMakes calls_by
 
-abbrev pub Runs : Seat → List Step → List Told → Seat → Type 0
-Runs = RunsBy MayBeAsked reply_after StepMakes calls_by
+abbrev pub RunsSteps : Seat → List Step → List Told → Seat → Type 0
+RunsSteps = RunsBy MayBeAsked reply_after StepMakes calls_by
 
 -- The same on the lock of the queue.
 abbrev pub Queues : QueueSeat → Step → Told → QueueSeat → Type 0

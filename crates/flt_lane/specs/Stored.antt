@@ -37,7 +37,7 @@ module _ {B : Type 0} {b : Ghosts B} where
     pub arms : (driver_of store).device.bench.armed ≤ 64
 
   -- What steps leave of the store and its bench that make no arm.
-  pub record Leaves (store now : Store B b) : Type 0 where
+  pub record LeavesStore (store now : Store B b) : Type 0 where
     pub goes_on : GoesOn (driver_of store) (driver_of now)
     pub given : WereGiven [] (driver_of store).device.bench.arms (driver_of now).device.bench.arms
     pub armed : (driver_of now).device.bench.armed ≤ (driver_of store).device.bench.armed
@@ -45,8 +45,9 @@ module _ {B : Type 0} {b : Ghosts B} where
   -- A lane made its steps over the store.
   pub record HasRunStore (c : Config) (before after : LaneWork) (store now : Store B b) : Type 0 where
     pub ran : HasRun before after
-    pub carries : (earlier : List Deed) → Carries c before.seat after.seat before.queue_seat after.queue_seat earlier (reverse (lane_deeds before.steps.now ran.told) ++ earlier) store now
-    pub leaves : Leaves store now
+    pub carries : (earlier : List Deed) → Carries c before.seat after.seat before.queue_seat after.queue_seat earlier
+        (reverse (lane_deeds before.steps.now ran.told) ++ earlier) store now
+    pub leaves : LeavesStore store now
 
   -- The lanes of a block made their steps, the one at this place over the store.
   pub record RunsStore (c : Config) (place : ℕ) (lanes afters : List LaneWork) (store now : Store B b) : Type 0 where

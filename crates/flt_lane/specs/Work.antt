@@ -9,7 +9,7 @@ use Rattle.flt_shared.specs.declared.lock.DemLock.{DemLock}
 use Rattle.flt_shared.specs.Lock.{IsSeatOf}
 use Rattle.flt_lane.specs.declared.lane.LaneWork.{LaneWork}
 use Rattle.flt_lane.specs.declared.locks.Locks.{Locks}
-use Rattle.flt_lane.specs.Runs.{Runs, RunsQueue}
+use Rattle.flt_lane.specs.Runs.{RunsSteps, RunsQueue}
 
 -- The two locks together.
 abbrev pub both : {F : _} {g : _} → DemLock F g → QueueLock → Locks F g
@@ -22,7 +22,7 @@ pub record AreSeatsOf {F : _} {g : _} (locks : Locks F g) (work : LaneWork) : Ty
   pub blocks : work.queue_seat.start ≡ work.seat.start.config.blocks
 
 -- It has its seat's number, and its seats have the calls of its steps, which a lane can make; and there is room for their answers.
-pub record IsReady {F : _} {g : _} (locks : Locks F g) (work : LaneWork) : Type 0 where
+pub record IsPrepared {F : _} {g : _} (locks : Locks F g) (work : LaneWork) : Type 0 where
   pub seats : AreSeatsOf locks work
   pub number : work.number ≡ work.seat.number
   pub steps : All (IsPossibleInLane work.seat.start.config) work.steps.now
@@ -34,7 +34,7 @@ pub record IsReady {F : _} {g : _} (locks : Locks F g) (work : LaneWork) : Type 
 -- It made its steps, and has one answer more for each.
 pub record HasRun (before after : LaneWork) : Type 0 where
   pub told : List Told
-  pub dem : Runs before.seat before.steps.now told after.seat
+  pub dem : RunsSteps before.seat before.steps.now told after.seat
   pub queue : RunsQueue before.queue_seat before.steps.now told after.queue_seat
   pub answers : told_in after.replies ≡ told_in before.replies ++ told
   pub number : (after.number ≡ before.number) × (after.number ≡ after.seat.number)

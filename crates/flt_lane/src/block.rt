@@ -17,7 +17,7 @@ ghost use Rattle.flt_lane.specs.BlockRun.{HasRunLanes};
 ghost use Rattle.flt_lane.specs.Lived.{IsMain};
 ghost use Rattle.flt_lane.specs.Room.{IsLaneFor, all_calls, all_queued};
 ghost use Rattle.flt_lane.specs.Stored.{AreRun};
-ghost use Rattle.flt_lane.specs.Work.{AreSeatsOf, IsReady};
+ghost use Rattle.flt_lane.specs.Work.{AreSeatsOf, IsPrepared};
 
 use crate::gate::SharedGate;
 use crate::lane::LaneWork;
@@ -138,7 +138,7 @@ fn run_works<R: Threads + Wait + Sync, G: SharedGate, B: Blocks + Drop>(
     works: &mut Vec<LaneWork<'_>>,
     gate: &G,
 )
-    requires ready { All (IsReady locks.now) works.old.items }
+    requires ready { All (IsPrepared locks.now) works.old.items }
     requires one_stores { store_lanes (map (λ (lane : LaneWork). lane.steps.now) works.old.items) ≤ 1 }
     requires same { All (λ lane. lane.seat.start.config ≡ config.now) works.old.items }
     requires valid { IsValid config.now }

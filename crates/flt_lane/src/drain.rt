@@ -12,10 +12,10 @@ ghost use Rattle.flt_turn.specs.declared.answer.Answer.{Answer};
 ghost use Rattle.flt_script.specs.declared.step.Step.TheVariants as steps;
 ghost use Rattle.flt_shared.specs.Call.{Seat};
 ghost use Rattle.flt_turn.specs.Seats as turn;
-ghost use Rattle.flt_lane.specs.Draining.{Looks, WritesJob};
+ghost use Rattle.flt_lane.specs.Draining.{LooksForJob, WritesJob};
 ghost use Rattle.flt_lane.specs.Living.{Carries};
 ghost use Rattle.flt_lane.specs.Runs.{Queues};
-ghost use Rattle.flt_lane.specs.Stored.{Leaves};
+ghost use Rattle.flt_lane.specs.Stored.{LeavesStore};
 
 use flt_config::ValidConfig;
 use flt_flash::Blocks;
@@ -60,7 +60,7 @@ fn take_job<R: Wait, B: Blocks + Drop>(
     requires blocks { seat.old.start ≡ config.now.blocks }
     requires valid { IsValid config.now }
     requires left { 2 ≤ seat.old.left }
-    ensures looks { Looks config.now seat.old seat.new result store.old store.new }
+    ensures looks { LooksForJob config.now seat.old seat.new result store.old store.new }
     ensures lock { turn.IsSeatOf queue.now.turn seat.new }
 {
     let Ok(taken) = queue.take(rt, seat) else {
@@ -89,7 +89,7 @@ pub(crate) fn drain<R: Wait, B: Blocks + Drop>(
     ensures lock { turn.IsSeatOf queue.now.turn seat.new }
     ensures carries { (bytes : List ℕ) (dem : Seat) (earlier : List Deed)
         → Carries config.now dem dem seat.old seat.new earlier ((steps.Drain, told_with bytes result) ∷ earlier) store.old store.new }
-    ensures leaves { Leaves store.old store.new }
+    ensures leaves { LeavesStore store.old store.new }
 {
     let mut written: u16 = 0;
     let mut failed: u16 = 0;

@@ -6,7 +6,7 @@ ghost use Rattle.flt_config.specs.Validity.{IsValid};
 ghost use Rattle.flt_script.specs.Step.{store_lanes};
 ghost use Rattle.flt_store.specs.Store.{driver_of};
 ghost use Rattle.flt_lane.specs.Stored.{AreRun};
-ghost use Rattle.flt_lane.specs.Work.{AreSeatsOf, IsReady};
+ghost use Rattle.flt_lane.specs.Work.{AreSeatsOf, IsPrepared};
 ghost use Rattle.flt_lane.specs.declared.lane.LaneWork.{LaneWork};
 
 use crate::lane::{LaneWork, run_block};
@@ -40,7 +40,7 @@ pub trait SharedGate: Gate {
         lanes: &mut [LaneWork<'_>],
     )
         requires sync { IsSync R.row }
-        requires ready { All (IsReady locks.now) lanes.old }
+        requires ready { All (IsPrepared locks.now) lanes.old }
         requires one_stores { store_lanes (map (λ (lane : LaneWork). lane.steps.now) lanes.old) ≤ 1 }
         requires same { All (λ lane. lane.seat.start.config ≡ config.now) lanes.old }
         requires valid { IsValid config.now }

@@ -4,7 +4,7 @@ ghost use Rattle.flt_config.specs.Durable.{Fits};
 ghost use Rattle.flt_config.specs.Validity.{IsValid};
 ghost use Rattle.flt_script.specs.Step.{store_lanes};
 ghost use Rattle.flt_store.specs.Store.{driver_of};
-ghost use Rattle.flt_lane.specs.Work.{AreSeatsOf, IsReady, HasRun, both};
+ghost use Rattle.flt_lane.specs.Work.{AreSeatsOf, IsPrepared, HasRun, both};
 ghost use Rattle.flt_lane.specs.Stored.{AreRun, CanStore, HasRunStore, HaveRun, RunsStore, StoresAt, is_store_lane};
 ghost use Rattle.flt_lane.specs.declared.lane.LaneWork.{LaneWork};
 
@@ -43,7 +43,7 @@ fn run_lane<R: Wait, G: Gate>(
     gate: &G,
     lane: &mut LaneWork<'_>,
 )
-    requires ready { IsReady (both dem.now queue.now) lane.old }
+    requires ready { IsPrepared (both dem.now queue.now) lane.old }
     requires no_store { is_store_lane lane.old ≡ false }
     ensures ran { HasRun lane.old lane.new }
     ensures seats { AreSeatsOf (both dem.now queue.now) lane.new }
@@ -76,7 +76,7 @@ fn run_store_lane<R: Wait, G: Gate, B: Blocks + Drop>(
     config: &ValidConfig,
     lane: &mut LaneWork<'_>,
 )
-    requires ready { IsReady (both dem.now queue.now) lane.old }
+    requires ready { IsPrepared (both dem.now queue.now) lane.old }
     requires same { lane.old.seat.start.config ≡ config.now }
     requires valid { IsValid config.now }
     requires fits { Fits config.now lane.old.seat.start.base }
@@ -105,7 +105,7 @@ fn run_store_lane<R: Wait, G: Gate, B: Blocks + Drop>(
 }
 
 impl<G: Gate> Work<DemLock, QueueLock, G> for LaneWork<'_> {
-    ghost ready = { λ dem queue lane. IsReady (both dem queue) lane × (is_store_lane lane ≡ false) };
+    ghost ready = { λ dem queue lane. IsPrepared (both dem queue) lane × (is_store_lane lane ≡ false) };
 
     ghost done = { λ dem queue before after. HasRun before after × AreSeatsOf (both dem queue) after };
 
@@ -116,7 +116,7 @@ impl<G: Gate> Work<DemLock, QueueLock, G> for LaneWork<'_> {
 
 impl<'a, G: Gate, B: Blocks + Drop> Owned<DemLock, QueueLock, G, ValidConfig, LaneWork<'a>>
     for Store<B> {
-    ghost able = { λ dem queue config store lane. IsReady (both dem queue) lane × CanStore config lane store };
+    ghost able = { λ dem queue config store lane. IsPrepared (both dem queue) lane × CanStore config lane store };
 
     ghost made = { λ dem queue config store now before after. HasRunStore config before after store now × AreSeatsOf (both dem queue) after };
 
@@ -162,7 +162,7 @@ fn run_others<R: Threads + Wait + Sync, G: Gate + Sync>(
     gate: &G,
     lanes: &mut [LaneWork<'_>],
 )
-    requires ready { All (IsReady (both dem.now queue.now)) lanes.old }
+    requires ready { All (IsPrepared (both dem.now queue.now)) lanes.old }
     requires no_store { All (λ lane. is_store_lane lane ≡ false) lanes.old }
     ensures ran { HaveRun lanes.old lanes.new }
     ensures seats { All (AreSeatsOf (both dem.now queue.now)) lanes.new }
@@ -181,7 +181,7 @@ fn run_first<R: Threads + Wait + Sync, G: Gate + Sync, B: Blocks + Drop>(
     lanes: &mut [LaneWork<'_>],
 )
     requires first { StoresAt 0 lanes.old }
-    requires ready { All (IsReady (both dem.now queue.now)) lanes.old }
+    requires ready { All (IsPrepared (both dem.now queue.now)) lanes.old }
     requires same { All (λ lane. lane.seat.start.config ≡ config.now) lanes.old }
     requires valid { IsValid config.now }
     requires fits { All (λ lane. Fits config.now lane.seat.start.base) lanes.old }
@@ -202,7 +202,7 @@ pub fn run_block<R: Threads + Wait + Sync, G: Gate + Sync, B: Blocks + Drop>(
     lanes: &mut [LaneWork<'_>],
     gate: &G,
 )
-    requires ready { All (IsReady locks.now) lanes.old }
+    requires ready { All (IsPrepared locks.now) lanes.old }
     requires one_stores { store_lanes (map (λ (lane : LaneWork). lane.steps.now) lanes.old) ≤ 1 }
     requires same { All (λ lane. lane.seat.start.config ≡ config.now) lanes.old }
     requires valid { IsValid config.now }

@@ -23,8 +23,8 @@ ghost use Rattle.flt_lane.specs.Runs.{calls_by, queued_by};
 use crate::block::run_lanes;
 use crate::gate::{Gate, SharedGate};
 use crate::locks::Locks;
-use crate::room::PartRoom;
-use crate::step::do_step;
+use crate::room::{BlockRoom, PartRoom};
+use crate::step::{do_step, make_call};
 use arrayvec::ArrayVec;
 use flt_config::ValidConfig;
 use flt_flash::Blocks;
@@ -74,18 +74,27 @@ fn run_one<R: Wait, G: Gate, B: Blocks + Drop>(
 {
     let index = own.answers.len() as u32;
     gate.before(rt, 0, index);
-    let answer = do_step(
-        rt,
-        &locks.dem,
-        &locks.queue,
-        store,
-        config,
-        main,
-        jobs,
-        step,
-        response,
-    );
-    own.keep(answer, response.as_slice());
+    match step {
+        Step::Save | Step::Drain | Step::Get { .. } | Step::Arming(_) => {
+            let answer = do_step(
+                rt,
+                &locks.dem,
+                &locks.queue,
+                store,
+                config,
+                main,
+                jobs,
+                step,
+                response,
+            );
+            own.keep(answer, response.as_slice());
+        }
+        // As `do_step` does, but apart from it: so the answer to a call goes to its place at once.
+        _ => {
+            let answer = make_call(rt, &locks.dem, &locks.queue, main, jobs, step, response);
+            own.keep(answer, response.as_slice());
+        }
+    }
     gate.after(rt, 0, index);
 }
 
@@ -140,9 +149,10 @@ fn run_part<'a, R: Threads + Wait + Sync, G: SharedGate, B: Blocks + Drop>(
                 rt, locks, store, config, main, jobs, step, own, gate, response,
             );
         }
-        PartRoom::Lanes(rooms, works) => {
+        PartRoom::Lanes(room) => {
+            let BlockRoom { lanes, works } = Box::into_inner(room);
             run_lanes(
-                rt, locks, store, config, main, jobs, rooms, works, told, gate,
+                rt, locks, store, config, main, jobs, lanes, works, told, gate,
             );
         }
     }

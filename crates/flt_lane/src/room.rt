@@ -12,12 +12,18 @@ use flt_script::{Part, Step};
 use std::alloc::{AllocError, Global};
 use std::vec::IntoIter;
 
-/// A part of a life, with the memory that it needs.
+/// The lanes of a block, and room for as many seats.
+#[derive(Drop)]
+pub(crate) struct BlockRoom<'a> {
+    pub(crate) lanes: Vec<LaneRoom<'a>>,
+    pub(crate) works: Vec<LaneWork<'a>>,
+}
+
+/// A part of a life, with the memory that it needs. A block's lies in a box, so that a step's part is small.
 #[derive(Drop)]
 pub(crate) enum PartRoom<'a> {
     One(&'a Step),
-    /// The lanes of a block, and room for as many seats.
-    Lanes(Vec<LaneRoom<'a>>, Vec<LaneWork<'a>>),
+    Lanes(Box<BlockRoom<'a>>),
 }
 
 /// Takes the next lanes, so many.
@@ -57,9 +63,10 @@ fn part_room<'a>(
     match part {
         Part::One(step) => Ok(PartRoom::One(step)),
         Part::Lanes(block) => {
-            let rooms = next_lanes(alloc, block.len(), lanes)?;
+            let lanes = next_lanes(alloc, block.len(), lanes)?;
             let works = Vec::with_capacity(alloc, block.len())?;
-            Ok(PartRoom::Lanes(rooms, works))
+            let room = Box::new(alloc, BlockRoom { lanes, works })?;
+            Ok(PartRoom::Lanes(room))
         }
     }
 }

@@ -23,7 +23,7 @@ ghost use Rattle.flt_turn.specs.Seats as turn;
 ghost use Rattle.flt_lives.specs.Going.{GoesOn, WereGiven};
 ghost use Rattle.flt_lane.specs.Living.{Carries};
 ghost use Rattle.flt_lane.specs.Runs.{Makes, Queues, QueueSeat as Jobs, calls_by, queued_by};
-ghost use Rattle.flt_lane.specs.Stored.{Leaves};
+ghost use Rattle.flt_lane.specs.Stored.{LeavesStore};
 
 use crate::drain::drain;
 use arrayvec::ArrayVec;
@@ -98,6 +98,7 @@ fn call_queue<R: Wait>(rt: &R, queue: &QueueLock, seat: &mut QueueSeat, step: &S
 }
 
 /// Posts a job, or asks a block for its last result, and answers by the queue.
+#[inline(always)]
 fn ask_queue<R: Wait>(
     rt: &R,
     queue: &QueueLock,
@@ -165,7 +166,7 @@ fn save<R: Wait, B: Blocks + Drop>(
     ensures lock { IsSeatOf dem.now seat.new }
     ensures carries { (bytes : List ℕ) (jobs : Jobs) (earlier : List Deed)
         → Carries config.now seat.old seat.new jobs jobs earlier ((steps.Save, told_with bytes result) ∷ earlier) store.old store.new }
-    ensures leaves { Leaves store.old store.new }
+    ensures leaves { LeavesStore store.old store.new }
 {
     let mut state = initial(config);
     let Ok(_taken) = dem.snapshot(rt, seat, &mut state) else {
@@ -188,7 +189,7 @@ fn get<B: Blocks + Drop>(store: &mut Store<B>, block: u8) -> StepAnswer<ReplyKin
     ensures got { (bytes : List ℕ) → IsGot (told_with bytes result) }
     ensures carries { (bytes : List ℕ) (c : Config) (seat : DemView) (jobs : Jobs) (earlier : List Deed)
         → Carries c seat seat jobs jobs earlier ((steps.Get block, told_with bytes result) ∷ earlier) store.old store.new }
-    ensures leaves { Leaves store.old store.new }
+    ensures leaves { LeavesStore store.old store.new }
 {
     let mut bytes = ArrayVec::new();
     match store.get_block(block, &mut bytes) {
@@ -226,7 +227,7 @@ fn touch_store<R: Wait, B: Blocks + Drop>(
     ensures queue { turn.IsSeatOf queue.now.turn jobs.new }
     ensures carries { (bytes : List ℕ) (earlier : List Deed)
         → Carries config.now seat.old seat.new jobs.old jobs.new earlier ((step.now, told_with bytes result) ∷ earlier) store.old store.new }
-    ensures leaves { Leaves store.old store.new }
+    ensures leaves { LeavesStore store.old store.new }
 {
     match step {
         Step::Save => save(rt, dem, store, config, seat),
@@ -237,7 +238,6 @@ fn touch_store<R: Wait, B: Blocks + Drop>(
 }
 
 /// Makes a step over the store, on seats that have its calls left, and answers it.
-#[inline(always)]
 pub(crate) fn do_step<R: Wait, B: Blocks + Drop>(
     rt: &R,
     dem: &DemLock,

@@ -5,7 +5,7 @@ use Rattle.std.proofs.lemmas.List.{append-nil, append_assoc}
 use mathlib.Core.List.{IsPrefix}
 use Rattle.flt_turn.specs.declared.vault.Entry.{Entry}
 use Rattle.flt_turn.specs.Journal.{ops_of}
-use Rattle.flt_life.specs.Mixing.{Call, Mixes, Block, HasInOrder, asked_of, IsTold, BlockTold}
+use Rattle.flt_life.specs.Mixing.{Call, Mixes, Block, HasInOrder, asked_of, IsToldInPlace, BlockTold}
 
 module _ {X : Type 0} where
   pub get_longer : (xs ys : List X) (k : ℕ) (x : X) → slice_get xs k ≡ Some x → slice_get (xs ++ ys) k ≡ Some x
@@ -26,13 +26,13 @@ module _ {X : Type 0} where
 
 -- what is told in a journal is told in a longer one
 module _ {S O R : Type 0} (answer : S → List O → O → R) (start : S) where
-  pub told_longer : (journal longer : List (Entry O)) (lane : ℕ) (call : Call O R) → IsPrefix journal longer → IsTold answer start journal lane call → IsTold answer start longer lane call
-  told_longer journal longer lane call pre is = subst (λ j. IsTold answer start j lane call) pre.1 record {
+  pub told_longer : (journal longer : List (Entry O)) (lane : ℕ) (call : Call O R) → IsPrefix journal longer → IsToldInPlace answer start journal lane call → IsToldInPlace answer start longer lane call
+  told_longer journal longer lane call pre is = subst (λ j. IsToldInPlace answer start j lane call) pre.1 record {
     stands = get_longer journal pre.0 call.told.place _ is.stands;
     reply = is.reply ∙ ap (λ l. answer start (ops_of l) call.op) (sym (take_longer journal pre.0 call.told.place _ is.stands));
   }
 
-  pub calls_longer : (journal longer : List (Entry O)) (lane : ℕ) (calls : List (Call O R)) → IsPrefix journal longer → All (IsTold answer start journal lane) calls → All (IsTold answer start longer lane) calls
+  pub calls_longer : (journal longer : List (Entry O)) (lane : ℕ) (calls : List (Call O R)) → IsPrefix journal longer → All (IsToldInPlace answer start journal lane) calls → All (IsToldInPlace answer start longer lane) calls
   calls_longer journal longer lane calls pre all k d within = told_longer journal longer lane (get_or calls k d) pre (all k d within)
 
   pub block_longer : (journal longer : List (Entry O)) (lanes : Block O R) → IsPrefix journal longer → BlockTold answer start journal lanes → BlockTold answer start longer lanes

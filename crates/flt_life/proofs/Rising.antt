@@ -4,7 +4,7 @@ use Rattle.std.specs.Prelude.{slice_get}
 use Rattle.std.proofs.lemmas.List.{append-nil, append_assoc}
 use Rattle.std.proofs.lemmas.List.Elements.{All-nil, All-append, All-head, All-tail}
 use Rattle.flt_turn.specs.declared.vault.Entry.{Entry}
-use Rattle.flt_life.specs.Mixing.{Call, Block, IsTold, BlockTold, Rise, calls_in_block, calls_in_lane}
+use Rattle.flt_life.specs.Mixing.{Call, Block, IsToldInPlace, BlockTold, Rise, calls_in_block, calls_in_lane}
 
 module _ {O R : Type 0} where
   -- ---- calls
@@ -83,24 +83,24 @@ get_within (y ∷ xs) zero x is = omega arith
 get_within (y ∷ xs) (suc k) x is = let more = get_within xs k x is in omega (arith, more)
 
 module _ {S O R : Type 0} (answer : S → List O → O → R) (start : S) (journal : List (Entry O)) where
-  one_told : (number : ℕ) (lane : ℕ × List (Call O R)) (b : Bool) → eqb lane.0 number ≡ b → All (IsTold answer start journal lane.0) lane.1 → All (IsTold answer start journal number) (cond b lane.1 [])
-  one_told number lane true same told = subst (λ n. All (IsTold answer start journal n) lane.1) (eqb-true lane.0 number same) told
-  one_told number lane false apart told = All-nil (IsTold answer start journal number)
+  one_told : (number : ℕ) (lane : ℕ × List (Call O R)) (b : Bool) → eqb lane.0 number ≡ b → All (IsToldInPlace answer start journal lane.0) lane.1 → All (IsToldInPlace answer start journal number) (cond b lane.1 [])
+  one_told number lane true same told = subst (λ n. All (IsToldInPlace answer start journal n) lane.1) (eqb-true lane.0 number same) told
+  one_told number lane false apart told = All-nil (IsToldInPlace answer start journal number)
 
-  pub told_in_block : (number : ℕ) (lanes : Block O R) → BlockTold answer start journal lanes → All (IsTold answer start journal number) (calls_in_block number lanes)
-  told_in_block number [] told = All-nil (IsTold answer start journal number)
-  told_in_block number (lane ∷ lanes) told = All-append (IsTold answer start journal number) (cond (eqb lane.0 number) lane.1 []) (calls_in_block number lanes)
-      (one_told number lane (eqb lane.0 number) refl (All-head (λ (l : ℕ × List (Call O R)). All (IsTold answer start journal l.0) l.1) lane lanes told))
-      (told_in_block number lanes (All-tail (λ (l : ℕ × List (Call O R)). All (IsTold answer start journal l.0) l.1) lane lanes told))
+  pub told_in_block : (number : ℕ) (lanes : Block O R) → BlockTold answer start journal lanes → All (IsToldInPlace answer start journal number) (calls_in_block number lanes)
+  told_in_block number [] told = All-nil (IsToldInPlace answer start journal number)
+  told_in_block number (lane ∷ lanes) told = All-append (IsToldInPlace answer start journal number) (cond (eqb lane.0 number) lane.1 []) (calls_in_block number lanes)
+      (one_told number lane (eqb lane.0 number) refl (All-head (λ (l : ℕ × List (Call O R)). All (IsToldInPlace answer start journal l.0) l.1) lane lanes told))
+      (told_in_block number lanes (All-tail (λ (l : ℕ × List (Call O R)). All (IsToldInPlace answer start journal l.0) l.1) lane lanes told))
 
-  told_in_lane : (number : ℕ) (blocks : List (Block O R)) → All (BlockTold answer start journal) blocks → All (IsTold answer start journal number) (calls_in_lane number blocks)
-  told_in_lane number [] told = All-nil (IsTold answer start journal number)
-  told_in_lane number (lanes ∷ blocks) told = All-append (IsTold answer start journal number) (calls_in_block number lanes) (calls_in_lane number blocks)
+  told_in_lane : (number : ℕ) (blocks : List (Block O R)) → All (BlockTold answer start journal) blocks → All (IsToldInPlace answer start journal number) (calls_in_lane number blocks)
+  told_in_lane number [] told = All-nil (IsToldInPlace answer start journal number)
+  told_in_lane number (lanes ∷ blocks) told = All-append (IsToldInPlace answer start journal number) (calls_in_block number lanes) (calls_in_lane number blocks)
       (told_in_block number lanes (All-head (BlockTold answer start journal) lanes blocks told))
       (told_in_lane number blocks (All-tail (BlockTold answer start journal) lanes blocks told))
 
   -- they stand in it
-  pub places_within : (number : ℕ) (calls : List (Call O R)) → All (IsTold answer start journal number) calls → All (λ call. call.told.place < length journal) calls
+  pub places_within : (number : ℕ) (calls : List (Call O R)) → All (IsToldInPlace answer start journal number) calls → All (λ call. call.told.place < length journal) calls
   places_within number calls told k d within = get_within journal (get_or calls k d).told.place _ (told k d within).stands
 
   -- blocks whose calls stand behind it

@@ -37,7 +37,8 @@ Choose false first second = second
 abbrev pub MayHold : ℕ → Content → History → Content → Type 0
 MayHold block first [] held = held ≡ first
 MayHold block first (ops.Take ∷ past) held = (IsTrue (is_of block (job_behind past)) × IsBytesOf (job_behind past) held) ⊎ MayHold block first past held
-MayHold block first (ops.Done done written ∷ past) held = Choose (written && (done == block)) (IsBytesOf (last_taken block past) held) (MayHold block first past held)
+MayHold block first (ops.Done done written ∷ past) held = Choose (written && (done == block)) (IsBytesOf (last_taken block past) held)
+    (MayHold block first past held)
 MayHold block first (_ ∷ past) held = MayHold block first past held
 
 -- each application block holds what it may
@@ -66,8 +67,10 @@ jobs_told (_ ∷ earlier) = jobs_told earlier
 
 -- a read answers by the drains that stand before it
 abbrev pub GetsBy : (ℕ → Content) → History → List Deed → Step → Told → Type 0
-GetsBy first queue earlier (Get block) (Bytes bytes) = MayHold block (first (application_number block)) (up_to_done (jobs_told (map (λ d. d.1) earlier)) queue) (holding bytes.items)
-GetsBy first queue earlier (Get block) NoBlock = MayHold block (first (application_number block)) (up_to_done (jobs_told (map (λ d. d.1) earlier)) queue) missing
+GetsBy first queue earlier (Get block) (Bytes bytes) =
+    MayHold block (first (application_number block)) (up_to_done (jobs_told (map (λ d. d.1) earlier)) queue) (holding bytes.items)
+GetsBy first queue earlier (Get block) NoBlock = MayHold block (first (application_number block))
+    (up_to_done (jobs_told (map (λ d. d.1) earlier)) queue) missing
 GetsBy first queue earlier _ _ = Unit {0}
 
 -- so does each read among these deeds

@@ -97,13 +97,16 @@ abbrev pub IsRefused : Config → Moment → Moment → ℕ → StartFault → T
 IsRefused c boot next ended faults.Flash = ⊥
 IsRefused c boot next ended (faults.Damaged (Page sector page)) = (boot.damage ≡ Some (sector, page)) × Unchanged boot next
 IsRefused c boot next ended (faults.Damaged (Block id)) = (boot.damage ≡ None) × IsFound c boot ended (Err (damaged (Block id))) × Unchanged boot next
-IsRefused c boot next ended (faults.OtherConfig found wanted) = (boot.damage ≡ None) × IsFound c boot ended (Err (other found)) × (wanted ≡ mark_of c) × Unchanged boot next
+IsRefused c boot next ended (faults.OtherConfig found wanted) = (boot.damage ≡ None) × IsFound c boot ended (Err (other found)) × (wanted ≡ mark_of c)
+    × Unchanged boot next
 IsRefused c boot next ended faults.SequenceSpent = ((g : Generation) × Finds c boot ended g) × KeepsSound c boot next × IsTrue next.is_spent
 
 -- what holds by how the life began
 abbrev pub IsLifeBegunBy : Config → Moment → Moment → ℕ → LifeView → Boot → Type 0
-IsLifeBegunBy c boot next ended life (Started number state) = Finds c boot ended (numbered number state) × IsFalse boot.is_spent × Leaves c (numbered number state) life next × AreCaused c boot next (told_of life) × KeepsApplications boot next life
-IsLifeBegunBy c boot next ended life Dark = HasRisenBy 3 boot.faults ended × (life.journal ≡ []) × KeepsSound c boot next × SameApplications boot.value next.value
+IsLifeBegunBy c boot next ended life (Started number state) = Finds c boot ended (numbered number state) × IsFalse boot.is_spent
+    × Leaves c (numbered number state) life next × AreCaused c boot next (told_of life) × KeepsApplications boot next life
+IsLifeBegunBy c boot next ended life Dark = HasRisenBy 3 boot.faults ended × (life.journal ≡ []) × KeepsSound c boot next
+    × SameApplications boot.value next.value
 IsLifeBegunBy c boot next ended life (Refused fault) = IsRefused c boot next ended fault × (life.journal ≡ []) × SameApplications boot.value next.value
 
 -- what holds of a life between two power-ups; the count of faults came to `ended` by the end of its start

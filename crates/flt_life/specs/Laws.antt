@@ -31,6 +31,7 @@ IsUndamaged (Refused faults.SequenceSpent) = Unit {0}
 
 -- where the first image is sound, each image is, also at the end, and no life is refused as damaged or of another configuration
 abbrev pub SoundRunsStaySound : Type 0
-SoundRunsStaySound = (c : Config) → IsGiven c → (medium : Medium) (arms : Option (List ArmMade)) (earlier : ℕ) (next : PowerUp) (boots : List PowerUp) (lives : List LifeView)
+SoundRunsStaySound = (c : Config) → IsGiven c → (medium : Medium) (arms : Option (List ArmMade)) (earlier : ℕ) (next : PowerUp) (boots : List PowerUp)
+    (lives : List LifeView)
     → AreLinked c medium arms earlier next boots lives → IsSoundIn c (moment_at medium (first_boot next boots))
     → IsSoundIn c (moment_at medium next) × All (λ boot. IsSoundIn c (moment_at medium boot)) boots × All (λ life. IsUndamaged life.boot) lives

@@ -60,7 +60,8 @@ is_refused (Refused fault) = true
 -- no life but the last is refused, and where that one is not, there are as many as asked; and never more
 abbrev pub AreEnded : ℕ → List LifeView → Type 0
 AreEnded many [] = many ≡ 0
-AreEnded many (life ∷ earlier) = All (λ l. IsFalse (is_refused l.boot)) earlier × (length earlier < many) × (IsTrue (is_refused life.boot) ⊎ (many ≡ length earlier + 1))
+AreEnded many (life ∷ earlier) = All (λ l. IsFalse (is_refused l.boot)) earlier × (length earlier < many)
+    × (IsTrue (is_refused life.boot) ⊎ (many ≡ length earlier + 1))
 
 -- the lives of a run, which are the first ones of this script, the newest first
 abbrev pub lives_seen : List (List (PartOf Step)) → List Life → List LifeView
@@ -93,4 +94,5 @@ pub record IsLinked (c : Config) (medium : Medium) (before now : DeviceState) (l
 
 -- a sound image stays sound
 abbrev pub StaysSound : Config → Moment → Moment → Type 0
-StaysSound c before after = (held spare : Generation) → IsSoundAt c before held spare → (now_held : Generation) × (now_spare : Generation) × IsSoundAt c after now_held now_spare
+StaysSound c before after = (held spare : Generation) → IsSoundAt c before held spare → (now_held : Generation) × (now_spare : Generation)
+    × IsSoundAt c after now_held now_spare

@@ -34,4 +34,5 @@ module _ {T A O R : Type 0} (MadeBy : T → A → List (Call O R) → Type 0) wh
   PartsMake number [] own lanes blocks = (own ≡ []) × (lanes ≡ []) × (blocks ≡ [])
   PartsMake number (part ∷ parts) own lanes blocks =
       (mine : List A) × (later : List A) × (others : List (List A)) × (more : List (List A)) × (made : Block O R) × (rest : List (Block O R))
-      × (own ≡ mine ++ later) × (lanes ≡ others ++ more) × (blocks ≡ made ∷ rest) × PartMakes number part mine others made × PartsMake (number + width part) parts later more rest
+      × (own ≡ mine ++ later) × (lanes ≡ others ++ more) × (blocks ≡ made ∷ rest) × PartMakes number part mine others made
+      × PartsMake (number + width part) parts later more rest

@@ -31,16 +31,17 @@ asked_of lanes = map (λ lane. (lane.0, ops_asked lane.1)) lanes
 -- The journal has the calls of these blocks: those of each block stand together, behind those of the blocks before it.
 unfoldable pub HasInOrder : {O R : Type 0} → List (Block O R) → List (Entry O) → Type 0
 HasInOrder [] journal = journal ≡ []
-HasInOrder {O} {R} (lanes ∷ blocks) journal = (block : List (Entry O)) × (rest : List (Entry O)) × (journal ≡ block ++ rest) × Mixes block (asked_of lanes) × HasInOrder blocks rest
+HasInOrder {O} {R} (lanes ∷ blocks) journal = (block : List (Entry O)) × (rest : List (Entry O)) × (journal ≡ block ++ rest)
+    × Mixes block (asked_of lanes) × HasInOrder blocks rest
 
 -- A call of this lane stands at the place that it was told, and is answered after the calls before that place.
-pub record IsTold {S O R : Type 0} (answer : S → List O → O → R) (start : S) (journal : List (Entry O)) (lane : ℕ) (call : Call O R) : Type 0 where
+pub record IsToldInPlace {S O R : Type 0} (answer : S → List O → O → R) (start : S) (journal : List (Entry O)) (lane : ℕ) (call : Call O R) : Type 0 where
   pub stands : slice_get journal call.told.place ≡ Some (entry lane call.op)
   pub reply : call.told.reply ≡ answer start (ops_before call.told.place journal) call.op
 
 -- So is each call of each lane of a block.
 abbrev pub BlockTold : {S O R : Type 0} → (S → List O → O → R) → S → List (Entry O) → Block O R → Type 0
-BlockTold answer start journal lanes = All (λ lane. All (IsTold answer start journal lane.0) lane.1) lanes
+BlockTold answer start journal lanes = All (λ lane. All (IsToldInPlace answer start journal lane.0) lane.1) lanes
 
 -- The places that these calls are told rise, from this one on.
 unfoldable pub Rise : {O R : Type 0} → ℕ → List (Call O R) → Type 0

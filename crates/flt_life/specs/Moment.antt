@@ -28,7 +28,12 @@ pub record Medium : Type 0 where
 
 -- the moment of a power-up on a medium
 abbrev pub moment_at : Medium → Boot → Moment
-moment_at medium boot = record { value = medium.value boot.image; damage = medium.damage boot.image; is_spent = medium.is_spent boot.image; faults = boot.faults }
+moment_at medium boot = record {
+  value = medium.value boot.image;
+  damage = medium.damage boot.image;
+  is_spent = medium.is_spent boot.image;
+  faults = boot.faults;
+}
 
 -- the boot that a power-up now would add
 abbrev pub boot_in : DeviceState → Boot

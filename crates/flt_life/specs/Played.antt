@@ -73,7 +73,8 @@ StepQueues step told calls = ActionQueues (action_of step) told calls
 -- the journal of a machine has the calls of the parts, those of each part together and behind those of the parts before it, those of
 -- each lane in its order, and no others; and each call, of lane 0 and of the lanes of the blocks, whose numbers go on from 1, is
 -- answered at its place, and the places that a lane is told rise in the order of its calls
-pub record IsMade {S O R : Type 0} (MadeBy : Step → Told → List (Call O R) → Type 0) (answer : S → List O → O → R) (start : S) (parts : List (PartOf Step)) (own : List Told) (lanes : List (List Told)) (journal : List (Entry O)) : Type 0 where
+pub record IsMade {S O R : Type 0} (MadeBy : Step → Told → List (Call O R) → Type 0) (answer : S → List O → O → R) (start : S)
+    (parts : List (PartOf Step)) (own : List Told) (lanes : List (List Told)) (journal : List (Entry O)) : Type 0 where
   pub blocks : List (Block O R)
   pub made : PartsMake MadeBy 1 parts own lanes blocks
   pub follows : HasInOrder blocks journal
@@ -81,7 +82,8 @@ pub record IsMade {S O R : Type 0} (MadeBy : Step → Told → List (Call O R) �
   pub rising : (number : ℕ) → Rise 0 (calls_in_lane number blocks)
 
 -- so it is with the status machine and with the queue
-pub record IsLife (start : Life) (parts : List (PartOf Step)) (own : List Told) (lanes : List (List Told)) (journal : Journal) (queue : List (Entry QueueOp)) : Type 0 where
+pub record IsLife (start : Life) (parts : List (PartOf Step)) (own : List Told) (lanes : List (List Told)) (journal : Journal)
+    (queue : List (Entry QueueOp)) : Type 0 where
   pub dem : IsMade StepMakes reply_after start parts own lanes journal
   pub jobs : IsMade StepQueues queued.reply_after start.config.blocks parts own lanes queue
 
@@ -96,7 +98,8 @@ dark_answers steps = map (λ step. dark_answer (action_of step)) steps
 -- the calls and the answers of a life, the oldest first, are those of its parts, by how it began
 abbrev pub IsPlayedBy : Config → List (PartOf Step) → Journal → List (Entry QueueOp) → List Told → List (List Told) → Boot → Type 0
 IsPlayedBy c parts journal queue own lanes (Started number state) = IsLife (start_from c state) parts own lanes journal queue
-IsPlayedBy c parts journal queue own lanes Dark = (journal ≡ []) × (queue ≡ []) × (own ≡ map dark_answer (own_actions parts)) × (lanes ≡ map dark_answers (lanes_in parts))
+IsPlayedBy c parts journal queue own lanes Dark = (journal ≡ []) × (queue ≡ []) × (own ≡ map dark_answer (own_actions parts))
+    × (lanes ≡ map dark_answers (lanes_in parts))
 IsPlayedBy c parts journal queue own lanes (Refused fault) = (journal ≡ []) × (queue ≡ []) × (own ≡ []) × (lanes ≡ [])
 
 abbrev pub IsPlayed : Config → LifeView → Type 0

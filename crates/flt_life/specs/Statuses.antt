@@ -45,5 +45,6 @@ pub record StatusHasCause (c : Config) (boot next : Moment) (ended status : ℕ)
   pub completed : boot.damage ≡ None → (g : Generation) → held c boot.value ≡ Ok g → IsFalse next.is_spent → ¬ HasRisenBy 3 boot.faults ended → status ≡ 0
 
 -- the status of a life has its cause
-abbrev pub StatusesHaveCauses : Type 0
-StatusesHaveCauses = (c : Config) (boot next : Moment) (ended : ℕ) (life : LifeView) → IsLifeBetween c boot next ended life → StatusHasCause c boot next ended (status_by life.boot)
+abbrev pub EachStatusHasCause : Type 0
+EachStatusHasCause = (c : Config) (boot next : Moment) (ended : ℕ) (life : LifeView) → IsLifeBetween c boot next ended life
+    → StatusHasCause c boot next ended (status_by life.boot)

@@ -1,6 +1,6 @@
 //! What the chain of lives comes to.
 ghost use Rattle.flt_life.specs.Laws.{SoundRunsStaySound};
-ghost use Rattle.flt_life.specs.Statuses.{StatusesHaveCauses};
+ghost use Rattle.flt_life.specs.Statuses.{EachStatusHasCause};
 
 /// Where the first image of a run is sound, each image is, also at the end, and no life is refused as damaged or of another
 /// configuration.
@@ -10,5 +10,5 @@ pub fn sound_runs_stay_sound()
 
 /// The status of a run, which follows from how its last life began, has its cause.
 pub fn statuses_have_causes()
-    ensures { StatusesHaveCauses }
+    ensures { EachStatusHasCause }
 {}

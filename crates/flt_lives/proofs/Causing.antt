@@ -15,7 +15,7 @@ use Rattle.flt_store.specs.declared.fault.SaveFault.{SaveFault}
 use Rattle.flt_store.specs.declared.fault.SaveFault.TheVariants.{Flash, Spent, SequenceSpent}
 use Rattle.flt_store.specs.declared.store.Store.{Store}
 use Rattle.flt_store.specs.Cause.{FailsThrice}
-use Rattle.flt_store.specs.Store.{driver_of, numbered, IsRunning, Saves, Leaves, IsLast}
+use Rattle.flt_store.specs.Store.{driver_of, numbered, IsRunning, Saves, MayHaveSaved, IsLast}
 use Rattle.flt_life.specs.Answers.{Told}
 use Rattle.flt_life.specs.declared.answer.StepAnswer.TheVariants as answers
 use Rattle.flt_life.specs.Moment.{Moment, moment_of}
@@ -62,7 +62,7 @@ module _ {B : Type 0} {b : Ghosts B} (c : Config) (begun : ℕ) (told : List Tol
         sequence = λ was. follows.stays_spent (caused.sequence was);
       }
 
-  pub caused_failed : (state : Persist) (fault : SaveFault) → Follows (driver_of before) (driver_of after) → Leaves c caused.held_now caused.spare_now state before after
+  pub caused_failed : (state : Persist) (fault : SaveFault) → Follows (driver_of before) (driver_of after) → MayHaveSaved c caused.held_now caused.spare_now state before after
       → (fault ≡ Flash → FailsThrice (driver_of before) (driver_of after)) → (fault ≡ Spent → IsLast c caused.held_now caused.spare_now before after)
       → (fault ≡ SequenceSpent → IsTrue (driver_of after).is_spent) → IsCaused c begun (answers.SaveFailed fault ∷ told) after
   caused_failed state Flash follows left flash last sequence =

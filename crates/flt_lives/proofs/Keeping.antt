@@ -15,7 +15,7 @@ use Rattle.flt_life.specs.Journal.{Journal, entry, calls_of, AcknowledgesBy, Tak
 use Rattle.flt_life.specs.Saving.{IsLeft, IsUnacknowledged, failures}
 use Rattle.flt_life.specs.Actions.{IsStepCall}
 use Rattle.flt_life.specs.Chain.{start_from}
-use Rattle.flt_lives.specs.Living.{IsKept}
+use Rattle.flt_lives.specs.Living.{IsKeptSince}
 
 -- ---- a call of a step acknowledges nothing and takes nothing
 
@@ -69,8 +69,8 @@ pub one_of : (P : Generation → Type 0) (g h s new : Generation) → IsOneOf g 
 one_of P g h s new is by_held by_spare by_new =
     ⊎_elim (λ e. subst P (sym e) by_held) (λ more. ⊎_elim (λ e. subst P (sym e) by_spare) (λ e. subst P (sym e) by_new) more) is
 
-module _ (c : Config) (first : Generation) (journal : Journal) (told : List Told) (h s : Generation) (kept : IsKept c first journal told h s) where
-  pub kept_call : (op : Op) → IsStepCall op → IsKept c first (entry 0 op ∷ journal) told h s
+module _ (c : Config) (first : Generation) (journal : Journal) (told : List Told) (h s : Generation) (kept : IsKeptSince c first journal told h s) where
+  pub kept_call : (op : Op) → IsStepCall op → IsKeptSince c first (entry 0 op ∷ journal) told h s
   kept_call op is = record {
     last = kept.last;
     acknowledged = acknowledged_call (start_from c first.state) journal op kept.last _ is kept.acknowledged;
@@ -87,7 +87,7 @@ module _ (c : Config) (first : Generation) (journal : Journal) (told : List Told
     pub kept_failed : (fault : SaveFault) (now_held now_spare : Generation)
         → IsOneOf now_held h s (numbered (chosen.number + 1) (saved_after (start_from c first.state) (calls_of journal)))
         → IsOneOf now_spare h s (numbered (chosen.number + 1) (saved_after (start_from c first.state) (calls_of journal)))
-        → IsKept c first (entry 0 ops.Snapshot ∷ journal) (answers.SaveFailed fault ∷ told) now_held now_spare
+        → IsKeptSince c first (entry 0 ops.Snapshot ∷ journal) (answers.SaveFailed fault ∷ told) now_held now_spare
     kept_failed fault now_held now_spare held_is spare_is =
         let by_held = left_failed (start_from c first.state) journal told kept.last fault h kept.held_is in
         let by_spare = left_failed (start_from c first.state) journal told kept.last fault s kept.spare_is in
@@ -102,7 +102,7 @@ module _ (c : Config) (first : Generation) (journal : Journal) (told : List Told
         }
 
     pub kept_saved : (number : ℕ) → number ≡ chosen.number + 1
-        → IsKept c first (entry 0 (ops.Saved number) ∷ entry 0 ops.Snapshot ∷ journal) (answers.Saved number ∷ told)
+        → IsKeptSince c first (entry 0 (ops.Saved number) ∷ entry 0 ops.Snapshot ∷ journal) (answers.Saved number ∷ told)
         (numbered number (saved_after (start_from c first.state) (calls_of journal))) (numbered number (saved_after (start_from c first.state) (calls_of journal)))
     kept_saved number next =
         let least = at_least (start_from c first.state) journal told kept.last chosen chosen_left in
@@ -118,5 +118,5 @@ module _ (c : Config) (first : Generation) (journal : Journal) (told : List Told
         }
 
 -- no step
-pub kept_first : (c : Config) (first : Generation) → IsKept c first [] [] first first
+pub kept_first : (c : Config) (first : Generation) → IsKeptSince c first [] [] first first
 kept_first c first = record { last = first; acknowledged = refl; number = refl; held_is = inl refl; spare_is = inl refl; rising = tt }

@@ -20,7 +20,7 @@ use Rattle.flt_life.specs.Actions.{action_of}
 use Rattle.flt_life.specs.Answers.{Told}
 use Rattle.flt_life.specs.Journal.{Journal}
 use Rattle.flt_life.specs.Making.{PartsMake}
-use Rattle.flt_life.specs.Mixing.{Call, Block, Mixes, HasInOrder, asked_of, ops_asked, IsTold, BlockTold, Rise}
+use Rattle.flt_life.specs.Mixing.{Call, Block, Mixes, HasInOrder, asked_of, ops_asked, IsToldInPlace, BlockTold, Rise}
 use Rattle.flt_life.specs.Parts.{widths}
 use Rattle.flt_config.specs.declared.config.Config.{Config}
 use Rattle.flt_config.specs.declared.persist.Persist.{Persist}
@@ -62,17 +62,17 @@ module _ {S O R : Type 0} (answer : S → List O → O → R) (start : S) where
   asked_at journal [] = refl
   asked_at journal (op ∷ ops) = ap (λ l. op ∷ l) (asked_at (journal ++ entry 0 op ∷ []) ops)
 
-  told_at : (journal : List (Entry O)) (ops : List O) → All (IsTold answer start (journal ++ map (λ op. entry 0 op) ops) 0) (calls_at journal ops)
+  told_at : (journal : List (Entry O)) (ops : List O) → All (IsToldInPlace answer start (journal ++ map (λ op. entry 0 op) ops) 0) (calls_at journal ops)
   told_at journal [] = All-nil _
   told_at journal (op ∷ ops) =
       let rest = map (λ o. entry 0 o) ops in
       let whole = journal ++ entry 0 op ∷ rest in
-      All-cons (IsTold answer start whole 0) _ (calls_at (journal ++ entry 0 op ∷ []) ops)
+      All-cons (IsToldInPlace answer start whole 0) _ (calls_at (journal ++ entry 0 op ∷ []) ops)
       record {
         stands = get_at journal (entry 0 op) rest;
         reply = ap (λ l. answer start (ops_of l) op) (sym (take_at journal (entry 0 op ∷ rest)));
       }
-      (subst (λ j. All (IsTold answer start j 0) (calls_at (journal ++ entry 0 op ∷ []) ops)) (append_assoc journal (entry 0 op ∷ []) rest) (told_at (journal ++ entry 0 op ∷ []) ops))
+      (subst (λ j. All (IsToldInPlace answer start j 0) (calls_at (journal ++ entry 0 op ∷ []) ops)) (append_assoc journal (entry 0 op ∷ []) rest) (told_at (journal ++ entry 0 op ∷ []) ops))
 
   rise_at : (journal : List (Entry O)) (ops : List O) → Rise (length journal) (calls_at journal ops)
   unfolding Rise
@@ -118,8 +118,8 @@ module _ {S O R : Type 0} (answer : S → List O → O → R) (start : S) where
           told = All-append (BlockTold answer start whole) is.blocks (block ∷ [])
               (blocks_longer answer start journal whole is.blocks (more, refl) is.told)
               (All-cons (BlockTold answer start whole) block []
-              (All-cons (λ (lane : ℕ × List (Call O R)). All (IsTold answer start whole lane.0) lane.1) (0, calls) [] (told_at journal ops)
-              (All-nil (λ (lane : ℕ × List (Call O R)). All (IsTold answer start whole lane.0) lane.1)))
+              (All-cons (λ (lane : ℕ × List (Call O R)). All (IsToldInPlace answer start whole lane.0) lane.1) (0, calls) [] (told_at journal ops)
+              (All-nil (λ (lane : ℕ × List (Call O R)). All (IsToldInPlace answer start whole lane.0) lane.1)))
               (All-nil (BlockTold answer start whole)));
           rising = λ number. rise_more answer start journal 0 is.blocks (block ∷ []) (omega arith) is.told number (is.rising number) (rise_alone (length journal) calls (rise_at journal ops) number);
         }

@@ -6,7 +6,7 @@ use Rattle.std.proofs.lemmas.List.{get_or-map, length-append, length-map, map-ap
 use Rattle.std.proofs.lemmas.List.Sums.{sum_by-cons}
 use Rattle.std.proofs.lemmas.List.Elements.{All-nil, All-cons, All-head, All-tail, All-append, All-weaker}
 use Rattle.flt_config.specs.declared.config.Config.{Config}
-use Rattle.flt_dcm.specs.Unit.{IsRequest}
+use Rattle.flt_dcm.specs.Unit.{IsTesterCall}
 use Rattle.flt_dcm.specs.declared.reply_kind.ReplyKind.{ReplyKind}
 use Rattle.flt_dcm.specs.declared.reply_kind.ReplyKind.TheVariants as kinds
 use Rattle.flt_model.specs.declared.call.Op.{Op}
@@ -123,7 +123,7 @@ size_most (kinds.Shown shown) response few = omega arith
 size_most kinds.Response response few = few
 size_most kinds.Silent response few = omega arith
 
-pub size_of_call : (op : Op) (kind : ReplyKind) (response : List ℕ) → (¬ IsRequest op → size_of kind response ≡ 0) → length response ≤ 512 → size_of kind response ≤ response_size (Call op)
+pub size_of_call : (op : Op) (kind : ReplyKind) (response : List ℕ) → (¬ IsTesterCall op → size_of kind response ≡ 0) → length response ≤ 512 → size_of kind response ≤ response_size (Call op)
 size_of_call (ops.Request tester bytes) kind response none few = size_most kind response few
 size_of_call (ops.Signal index value) kind response none few = let is = none (λ no. no) in omega (arith, is)
 size_of_call (ops.Report event report) kind response none few = let is = none (λ no. no) in omega (arith, is)

@@ -48,4 +48,5 @@ pub record IsLinkedBy (c : Config) (medium : Medium) (before now : BlocksState) 
   pub many : length now.device.bench.boots ≡ length before.device.bench.boots + length boots
   pub as_many : length counts ≡ length boots
   pub linked : AreLinkedBy c medium (boot_of now) boots lives counts
-  pub arms : IfSome now.device.bench.arms (λ made. IsSomeAnd before.device.bench.arms (λ earlier. MadeInRun (length before.device.bench.boots) counts earlier made))
+  pub arms : IfSome now.device.bench.arms (λ made. IsSomeAnd before.device.bench.arms
+      (λ earlier. MadeInRun (length before.device.bench.boots) counts earlier made))

@@ -63,7 +63,7 @@ pub record IsLived (c : Config) (before after : BlocksState) (life : LifeView) :
   pub arms : ArmsSince (length before.device.bench.boots + 1) ended before.device.bench.arms after.device.bench.arms
 
 -- both generations of the image are the one that was acknowledged last, or one of a save since then
-pub record IsKept (c : Config) (first : Generation) (journal : Journal) (told : List Told) (held spare : Generation) : Type 0 where
+pub record IsKeptSince (c : Config) (first : Generation) (journal : Journal) (told : List Told) (held spare : Generation) : Type 0 where
   pub last : Generation
   pub acknowledged : Acknowledges (start_from c first.state) first journal last
   pub number : last_number first.number told ≡ last.number
@@ -77,7 +77,7 @@ module _ {B : Type 0} {b : Ghosts B} where
     pub held : Generation
     pub spare : Generation
     pub running : IsRunning c held spare store
-    pub kept : IsKept c first journal told held spare
+    pub kept : IsKeptSince c first journal told held spare
 
   -- each step that failed has its cause so far, since this count of faults
   pub record IsCaused (c : Config) (begun : ℕ) (told : List Told) (store : Store B b) : Type 0 where

@@ -8,7 +8,7 @@ ghost use Rattle.flt_model.specs.Durable.{saved_after};
 ghost use Rattle.flt_model.specs.declared.call.Op.TheVariants as ops;
 ghost use Rattle.flt_generation.specs.Holding.{Generation, SameApplications};
 ghost use Rattle.flt_dcm.specs.ReplyKind.{reply_with};
-ghost use Rattle.flt_dcm.specs.Unit.{Stands, IsAdmitted, IsRequest};
+ghost use Rattle.flt_dcm.specs.Unit.{Stands, IsAdmitted, IsTesterCall};
 ghost use Rattle.flt_dcm.specs.Whole.{config_of, state_of};
 ghost use Rattle.flt_store.specs.Store.{driver_of};
 ghost use Rattle.flt_life.specs.Actions.{IsPossible, IsStepCall, arm_count, arms_of, call_count, response_size};
@@ -38,7 +38,7 @@ fn call(unit: &mut Unit, op: &Op, buffers: &mut Buffers) -> ReplyKind
     ensures stands { (life : Life) (past : History) → Stands life past (state_of unit.old) → Stands life (op.now ∷ past) (state_of unit.new) }
     ensures answer { (life : Life) (past : History) → Stands life past (state_of unit.old)
         → reply_with result buffers.new.response.items ≡ answer life past op.now }
-    ensures no_response { ¬ IsRequest op.now → size_of result buffers.new.response.items ≡ 0 }
+    ensures no_response { ¬ IsTesterCall op.now → size_of result buffers.new.response.items ≡ 0 }
 {
     unit.apply_into(op, &mut buffers.state, &mut buffers.response)
 }

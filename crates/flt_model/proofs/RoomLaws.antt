@@ -12,7 +12,7 @@ use Rattle.flt_model.specs.Trace.{trace, with_clear, in_order, event_part, with_
 use Rattle.flt_model.specs.declared.call.Op.{Op}
 use Rattle.flt_model.specs.declared.call.Qualified.{Qualified}
 use Rattle.flt_model.specs.declared.call.Qualified.TheVariants as results
-use Rattle.flt_model.specs.Laws.{Distinct, HasRoom, FittingBaseHasRoom, EntriesKeepRoom}
+use Rattle.flt_model.specs.Laws.{Distinct, IsWithinMemory, FittingBaseHasRoom, EntriesKeepRoom}
 use Rattle.flt_config.specs.declared.persist.EntryState.{EntryState}
 use Rattle.std.proofs.lemmas.List.{get_or-map, length-map}
 use Rattle.flt_model.proofs.EntryLaws.{holders_have_entries, among_filtered, among_added}
@@ -62,7 +62,7 @@ pushed_length event events = omega (arith, length-append events (event ∷ []))
 
 module _ (life : Life) where
   kept_for : (signals : List ℕ) (event worst : ℕ) (test : Bool) (marks : Trace) → is_among event (holders life marks) ≡ false → is_among worst (holders life marks) ≡ true →
-      HasRoom life marks → HasRoom life (added_for life signals event worst test marks)
+      IsWithinMemory life marks → IsWithinMemory life (added_for life signals event worst test marks)
   kept_for signals event worst true marks absent present r =
       let left = filter (is_other worst) (holders life marks) in
       record {
@@ -73,7 +73,7 @@ module _ (life : Life) where
   kept_for signals event worst false marks absent present r = record { distinct = r.distinct; room = r.room }
 
   kept_in_full : (signals : List ℕ) (event : ℕ) (found : Option ℕ) (marks : Trace) → is_among event (holders life marks) ≡ false →
-      worst (rank_of life marks) (holders life marks) ≡ found → HasRoom life marks → HasRoom life (added_in_full life signals event found marks)
+      worst (rank_of life marks) (holders life marks) ≡ found → IsWithinMemory life marks → IsWithinMemory life (added_in_full life signals event found marks)
   kept_in_full signals event None marks absent is r = record { distinct = r.distinct; room = r.room }
   kept_in_full signals event (Some other) marks absent is r =
       let at = worst_is_at (rank_of life marks) (holders life marks) other is in
@@ -81,37 +81,37 @@ module _ (life : Life) where
       kept_for signals event other (gives_way (rank_of life marks other) (event_of life event).priority) marks absent present r
 
   kept_added : (signals : List ℕ) (event : ℕ) (test : Bool) (marks : Trace) → is_among event (holders life marks) ≡ false →
-      nat_lt (length (holders life marks)) life.config.memory ≡ test → HasRoom life marks → HasRoom life (added life signals event test marks)
+      nat_lt (length (holders life marks)) life.config.memory ≡ test → IsWithinMemory life marks → IsWithinMemory life (added life signals event test marks)
   kept_added signals event true marks absent is r =
       let less = ltb-true (length (holders life marks)) life.config.memory is in
       record { distinct = distinct_pushed event (holders life marks) r.distinct absent; room = omega (arith, pushed_length event (holders life marks), less) }
   kept_added signals event false marks absent is r = kept_in_full signals event (worst (rank_of life marks) (holders life marks)) marks absent refl r
 
-  kept_stored : (signals : List ℕ) (event : ℕ) (held : Bool) (marks : Trace) → is_among event (holders life marks) ≡ held → HasRoom life marks → HasRoom life (stored life signals event held marks)
+  kept_stored : (signals : List ℕ) (event : ℕ) (held : Bool) (marks : Trace) → is_among event (holders life marks) ≡ held → IsWithinMemory life marks → IsWithinMemory life (stored life signals event held marks)
   kept_stored signals event true marks is r = r
   kept_stored signals event false marks is r = kept_added signals event (nat_lt (length (holders life marks)) life.config.memory) marks is refl r
 
-  kept_where : (signals : List ℕ) (event : ℕ) (entering : Bool) (marks : Trace) → HasRoom life marks → HasRoom life (stored_where life signals event entering marks)
+  kept_where : (signals : List ℕ) (event : ℕ) (entering : Bool) (marks : Trace) → IsWithinMemory life marks → IsWithinMemory life (stored_where life signals event entering marks)
   kept_where signals event true marks r = kept_stored signals event (has_entry life event marks) marks (holders_have_entries life marks event) r
   kept_where signals event false marks r = r
 
-  kept_failed : (signals : List ℕ) (event : ℕ) (marks : Trace) → HasRoom life marks → HasRoom life (with_failed life signals event marks)
+  kept_failed : (signals : List ℕ) (event : ℕ) (marks : Trace) → IsWithinMemory life marks → IsWithinMemory life (with_failed life signals event marks)
   kept_failed signals event marks r =
       kept_where signals event (enters (base_of life event) (marks_of event marks)) (Of event Failed signals ∷ marks) (record { distinct = r.distinct; room = r.room })
 
   removed_room : (event : ℕ) (events : List ℕ) → length events ≤ life.config.memory → length (filter (is_other event) events) ≤ life.config.memory
   removed_room event events h = omega (arith, shorter event events)
 
-  kept_aged : (signals : List ℕ) (event : ℕ) (test : Bool) (marks : Trace) → HasRoom life marks → HasRoom life (aged_where signals event test marks)
+  kept_aged : (signals : List ℕ) (event : ℕ) (test : Bool) (marks : Trace) → IsWithinMemory life marks → IsWithinMemory life (aged_where signals event test marks)
   kept_aged signals event true marks r = record { distinct = distinct_filtered event (holders life marks) r.distinct; room = removed_room event (holders life marks) r.room }
   kept_aged signals event false marks r = r
 
-  kept_result : (signals : List ℕ) (event : ℕ) (result : Option Qualified) (marks : Trace) → HasRoom life marks → HasRoom life (with_result life signals event result marks)
+  kept_result : (signals : List ℕ) (event : ℕ) (result : Option Qualified) (marks : Trace) → IsWithinMemory life marks → IsWithinMemory life (with_result life signals event result marks)
   kept_result signals event None marks r = r
   kept_result signals event (Some results.Failed) marks r = kept_failed signals event marks r
   kept_result signals event (Some results.Passed) marks r = record { distinct = r.distinct; room = r.room }
 
-  kept_marks : (event : ℕ) (past : History) (happening : Option Happening) (marks : Trace) → HasRoom life marks → HasRoom life (with_marks life event past happening marks)
+  kept_marks : (event : ℕ) (past : History) (happening : Option Happening) (marks : Trace) → IsWithinMemory life marks → IsWithinMemory life (with_marks life event past happening marks)
   kept_marks event past None marks r = r
   kept_marks event past (Some (Reported report)) marks r = kept_result (signals past) event (result_of life event past (Reported report)) marks r
   kept_marks event past (Some (Ticked ticks)) marks r = kept_result (signals past) event (result_of life event past (Ticked ticks)) marks r
@@ -119,11 +119,11 @@ module _ (life : Life) where
       kept_aged (signals past) event (ages (base_of life event) (event_of life event) (marks_of event marks)) (Of event Cycle (signals past) ∷ marks) (record { distinct = r.distinct; room = r.room })
   kept_marks event past (Some Cleared) marks r = record { distinct = distinct_filtered event (holders life marks) r.distinct; room = removed_room event (holders life marks) r.room }
 
-  kept_in_order : (past : History) (op : Op) (n : ℕ) (marks : Trace) → HasRoom life marks → HasRoom life (in_order (event_part life past op) n marks)
+  kept_in_order : (past : History) (op : Op) (n : ℕ) (marks : Trace) → IsWithinMemory life marks → IsWithinMemory life (in_order (event_part life past op) n marks)
   kept_in_order past op zero marks r = r
   kept_in_order past op (suc event) marks r = kept_marks event past (happening_of life event past op) (in_order (event_part life past op) event marks) (kept_in_order past op event marks r)
 
-  kept_clear : (dtc : Option ℕ) (marks : Trace) → HasRoom life marks → HasRoom life (with_clear dtc marks)
+  kept_clear : (dtc : Option ℕ) (marks : Trace) → IsWithinMemory life marks → IsWithinMemory life (with_clear dtc marks)
   kept_clear None marks r = r
   kept_clear (Some dtc) marks r =
       elim (cases_Bool (nat_eq dtc all_dtcs)) [ inl e ↦ rw e (record { distinct = r.distinct; room = r.room }) | inr e ↦ rw e r ]

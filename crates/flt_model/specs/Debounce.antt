@@ -200,7 +200,8 @@ scaled scale part whole = part * scale / whole
 -- From -128 (passed) to 127 (failed).
 abbrev pub detection_counter : Debounce → DebState → ℤ
 detection_counter (Counter fail_at pass_at up down jump_up jump_down) (Count value) =
-    if int_lt (pos 0) value then pos (scaled 127 (unsigned_abs value) (unsigned_abs fail_at)) else neg_ℤ (pos (scaled 128 (unsigned_abs value) (unsigned_abs pass_at)))
+    if int_lt (pos 0) value then pos (scaled 127 (unsigned_abs value) (unsigned_abs fail_at))
+    else neg_ℤ (pos (scaled 128 (unsigned_abs value) (unsigned_abs pass_at)))
 detection_counter (Time fail pass) (Failing ticks) = pos (scaled 127 ticks fail)
 detection_counter (Time fail pass) (Passing ticks) = neg_ℤ (pos (scaled 128 ticks pass))
 detection_counter rules AtFailed = pos 127

@@ -44,7 +44,8 @@ CounterJumpsDown =
 -- Only counters on their way to failed are listed: none at 127, at 0 or below.
 abbrev pub CountersOnTheirWay : Type 0
 CountersOnTheirWay =
-    Replays (fresh (configured 16 (map (λ dtc. record (event dtc) { debounce = kinds.Counter (pos 10) (negsuc 9) (pos 3) (pos 2) None None }) (1 ∷ 2 ∷ 3 ∷ 4 ∷ []))))
+    Replays (fresh (configured 16 (map (λ dtc. record (event dtc) { debounce = kinds.Counter (pos 10) (negsuc 9) (pos 3) (pos 2) None None })
+    (1 ∷ 2 ∷ 3 ∷ 4 ∷ []))))
     (Cycle 0 ⇒ Taken
     ∷ fail 0 ⇒ Taken
     ∷ prefail 1 ⇒ Taken

@@ -1,6 +1,7 @@
 -- How a worked example is written: what a controller answers to a list of calls.
 use Rattle.std.specs.Prelude.{◌≡◌, ℕ, ℤ, pos, negsuc, neg_ℤ, map, Bool, false, List, [], ◌∷◌, None}
 use Rattle.flt_config.specs.declared.config.Config.{Config}
+use Rattle.flt_config.specs.declared.config.DidUse.{DidUse}
 use Rattle.flt_config.specs.declared.config.EventCfg.{EventCfg}
 use Rattle.flt_config.specs.declared.config.Debounce.TheVariants as kinds
 use Rattle.flt_model.specs.Life.{Life, History}
@@ -26,6 +27,14 @@ event dtc = record {
   debounce = kinds.Counter (pos 1) (negsuc 0) (pos 1) (pos 1) None None;
   dids = record { items = [] };
 }
+
+-- An event whose frames have these data identifiers.
+abbrev pub recording : ℕ → List DidUse → EventCfg
+recording dtc dids = record (event dtc) { dids = record { items = dids } }
+
+-- A data identifier of a width.
+abbrev pub did : ℕ → ℕ → DidUse
+did id width = record { id = id; width = width }
 
 -- A configuration of these events.
 abbrev pub configured : ℕ → List EventCfg → Config

@@ -31,17 +31,17 @@ Distinct [] = Unit {0}
 Distinct (event ∷ events) = (is_among event events ≡ false) × Distinct events
 
 -- The entries are of distinct events, and at most as many as the memory has room for.
-pub record HasRoom (life : Life) (marks : Trace) : Type 0 where
+pub record IsWithinMemory (life : Life) (marks : Trace) : Type 0 where
   pub distinct : Distinct (holders life marks)
   pub room : length (holders life marks) ≤ life.config.memory
 
 -- The entries of a base that fits are so.
 abbrev pub FittingBaseHasRoom : Type 0
-FittingBaseHasRoom = (life : Life) → Fits life.config life.base → HasRoom life []
+FittingBaseHasRoom = (life : Life) → Fits life.config life.base → IsWithinMemory life []
 
 -- The calls keep the entries so.
 abbrev pub EntriesKeepRoom : Type 0
-EntriesKeepRoom = (life : Life) (past : History) → HasRoom life [] → HasRoom life (trace life past)
+EntriesKeepRoom = (life : Life) (past : History) → IsWithinMemory life [] → IsWithinMemory life (trace life past)
 
 -- From a state that fits the configuration, every list of calls leaves one that fits it.
 abbrev pub SavedStatesFit : Type 0

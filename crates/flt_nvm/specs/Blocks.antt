@@ -12,7 +12,7 @@ use Rattle.flt_nvm.specs.declared.nvm.Nvm.{Nvm}
 use Rattle.flt_nvm.specs.Table.{number_of, AsKept}
 use Rattle.flt_nvm.specs.Tries.{ReadsAlone}
 use Rattle.flt_nvm.specs.Leaves.{FlashTakesThree, Gives, GivesBoth, GivesInAJob, GivesInTwoJobs, GotOf, GotOfBoth}
-use Rattle.flt_nvm.specs.Reads.{IsUnmended, IsUnread, LooksInAJob, LooksInTwoJobs, MendsInTwoJobs, ReadsBothCosts}
+use Rattle.flt_nvm.specs.Reads.{IsUnmended, IsUnreadable, LooksInAJob, LooksInTwoJobs, MendsInTwoJobs, ReadsBothCosts}
 use Rattle.flt_nvm.specs.Driver.{driver_of, table_of}
 
 module _ {B : Type 0} {b : Ghosts B} where
@@ -39,7 +39,7 @@ module _ {B : Type 0} {b : Ghosts B} where
         (ReadsBothCosts (driver_of before) (driver_of after) id)
     -- of a redundant block Flash comes only where neither copy gave its bytes
     pub unread : IsErrOf result Flash → AsKept (table_of before) id (HasRisenBy 3 (driver_of before).device.faults (driver_of after).device.faults)
-        (IsUnread (driver_of before) (driver_of after) id)
+        (IsUnreadable (driver_of before) (driver_of after) id)
     pub three : FlashTakesThree (driver_of before) (driver_of after) result
     pub table : table_of after ≡ table_of before
 

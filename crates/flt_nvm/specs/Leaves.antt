@@ -3,7 +3,7 @@ use Rattle.std.specs.Prelude.{◌≡◌, ◌≢◌, ◌⊎◌, ℕ, List, Option
 use Rattle.flt_flash.specs.Content.{Content, missing, invalid, bytes}
 use Rattle.flt_flash.specs.State.{HasRisenBy}
 use Rattle.flt_flash.specs.Blocks.{BlocksState, IsFull}
-use Rattle.flt_flash.specs.Calls.{Calls, Finds, NeverFull, OthersKept, SameSpent, SameValues, Settles}
+use Rattle.flt_flash.specs.Calls.{Calls, ReadsContent, NeverFull, OthersKept, SameSpent, SameValues, Settles}
 use Rattle.flt_flash.specs.declared.blocks.Found.TheVariants.{Bytes as FoundBytes, Missing as FoundMissing, Invalid as FoundInvalid}
 use Rattle.flt_flash.specs.declared.blocks.BlockFault.{BlockFault}
 use Rattle.flt_flash.specs.declared.blocks.BlockFault.TheVariants.{Flash, Full, SequenceSpent}
@@ -89,9 +89,9 @@ GaveBytes Invalid = ⊥
 
 -- what a read of this copy alone answers, with the bytes at the start of out and the rest of out as it was
 abbrev pub GotOf : ℕ → Content → Got → List ℕ → List ℕ → Type 0
-GotOf copy content (Bytes length from) before after = (from ≡ copy) × Finds content (FoundBytes length) before after
-GotOf copy content Missing before after = Finds content FoundMissing before after
-GotOf copy content Invalid before after = Finds content FoundInvalid before after
+GotOf copy content (Bytes length from) before after = (from ≡ copy) × ReadsContent content (FoundBytes length) before after
+GotOf copy content Missing before after = ReadsContent content FoundMissing before after
+GotOf copy content Invalid before after = ReadsContent content FoundInvalid before after
 
 -- the first copy's bytes; the second's, where the first has none or could not be read in three tries; or, where neither has
 -- bytes, what the first is
@@ -100,8 +100,10 @@ GotOfBoth before after id (Bytes length from) out_before out_after =
     GotOf 1 (before.value (number_of id 0)) (Bytes length from) out_before out_after
     ⊎ (GotOf 2 (before.value (number_of id 1)) (Bytes length from) out_before out_after
     × (HasNoBytes (before.value (number_of id 0)) ⊎ HasRisenBy 3 before.device.faults after.device.faults))
-GotOfBoth before after id Missing out_before out_after = GotOf 1 (before.value (number_of id 0)) Missing out_before out_after × HasNoBytes (before.value (number_of id 1))
-GotOfBoth before after id Invalid out_before out_after = GotOf 1 (before.value (number_of id 0)) Invalid out_before out_after × HasNoBytes (before.value (number_of id 1))
+GotOfBoth before after id Missing out_before out_after = GotOf 1 (before.value (number_of id 0)) Missing out_before out_after
+    × HasNoBytes (before.value (number_of id 1))
+GotOfBoth before after id Invalid out_before out_after = GotOf 1 (before.value (number_of id 0)) Invalid out_before out_after
+    × HasNoBytes (before.value (number_of id 1))
 
 -- the second copy's bytes, or, where it has none, what the first gave
 abbrev pub GotOfSecond : Content → Option Got → Got → List ℕ → List ℕ → Type 0

@@ -19,13 +19,15 @@ LooksInAJob number before after result = Tries 3 (Looks number) before after res
 abbrev pub LooksInTwoJobs : {T : Type 0} → ℕ → BlocksState → BlocksState → Result T BlockFault → Type 0
 LooksInTwoJobs {T} id before after result =
     LooksInAJob (number_of id 0) before after result
-    ⊎ ((between : BlocksState) × (first : Result T BlockFault) × LooksInAJob (number_of id 0) before between first × (second : Result T BlockFault) × LooksInAJob (number_of id 1) between after second)
+    ⊎ ((between : BlocksState) × (first : Result T BlockFault) × LooksInAJob (number_of id 0) before between first
+    × (second : Result T BlockFault) × LooksInAJob (number_of id 1) between after second)
 
 -- a job that reads a number, and one at most that gives it a content
 abbrev pub MendsInTwoJobs : Type 0 → ℕ → Content → ℕ → BlocksState → BlocksState → Result (Unit {0}) BlockFault → Type 0
 MendsInTwoJobs Read number asked size before after result =
     ((found : Result Read BlockFault) × LooksInAJob number before after found)
-    ⊎ ((between : BlocksState) × (found : Result Read BlockFault) × LooksInAJob number before between found × GivesInAJob number asked size between after result)
+    ⊎ ((between : BlocksState) × (found : Result Read BlockFault) × LooksInAJob number before between found
+    × GivesInAJob number asked size between after result)
 
 -- what a read of both copies costs at most on a driver that is not stale, where no operation failed: the pages of their bytes
 abbrev pub ReadsBothCosts : BlocksState → BlocksState → ℕ → Type 0
@@ -34,8 +36,8 @@ ReadsBothCosts before after id =
     → CostsAtMost (byte_pages (size_of (before.value (number_of id 0))) + byte_pages (size_of (before.value (number_of id 1)))) before after
 
 -- neither copy could be read, or one could not and the other has no bytes
-abbrev pub IsUnread : BlocksState → BlocksState → ℕ → Type 0
-IsUnread before after id =
+abbrev pub IsUnreadable : BlocksState → BlocksState → ℕ → Type 0
+IsUnreadable before after id =
     HasRisenBy 6 before.device.faults after.device.faults
     ⊎ (HasRisenBy 3 before.device.faults after.device.faults × (HasNoBytes (before.value (number_of id 0)) ⊎ HasNoBytes (before.value (number_of id 1))))
 
@@ -60,5 +62,5 @@ pub record ReadsCopies (id : ℕ) (before after : BlocksState) (out_before out_a
   pub nothing : OnErr result (out_after ≡ out_before)
   pub reads : ReadsAlone before after result
   pub costs : ReadsBothCosts before after id
-  pub unread : IsErrOf result Flash → IsUnread before after id
+  pub unread : IsErrOf result Flash → IsUnreadable before after id
   pub three : FlashTakesThree before after result

@@ -2,7 +2,7 @@
 //! job at once.
 ghost use Rattle.std.specs.Prelude.{◌≡◌, ◌≤◌, length, Contains, IfOk, OnErr};
 ghost use Rattle.flt_flash.specs.Content.{invalid, bytes as holding};
-ghost use Rattle.flt_flash.specs.Calls.{Finds};
+ghost use Rattle.flt_flash.specs.Calls.{ReadsContent};
 ghost use Rattle.flt_nvm.specs.Tries.{Tries, Mounts, Changing, Looks};
 ghost use Rattle.flt_nvm.specs.Leaves.{GivesNumber, MountsInAJob};
 ghost use Rattle.flt_nvm.specs.Reads.{ReadsNumber};
@@ -93,7 +93,7 @@ fn try_read<B: Blocks>(
     requires number { Contains (B.state blocks.old).numbers block }
     requires tries { 1 ≤ most }
     ensures tries { Tries most (Looks block) (B.state blocks.old) (B.state blocks.new) result }
-    ensures found { IfOk result (λ found. Finds ((B.state blocks.old).value block) found out.old out.new) }
+    ensures found { IfOk result (λ found. ReadsContent ((B.state blocks.old).value block) found out.old out.new) }
     ensures nothing { OnErr result (out.new ≡ out.old) }
 {
     match blocks.read(block, out) {

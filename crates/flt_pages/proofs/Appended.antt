@@ -10,7 +10,7 @@ use Rattle.flt_flash.proofs.TornParts.{torn_sector_of, torn_page_of}
 use Rattle.flt_flash.proofs.Following.{one_run, runs_on}
 use Rattle.flt_code.specs.Seal.{IsCodeWordOf}
 use Rattle.flt_code.proofs.Unspoiled.{programmed_or_none, programmed_unspoiled}
-use Rattle.flt_pages.specs.Append.{TornCode, Appends, TornPiece, AppendsPiece, TornErase, Begins}
+use Rattle.flt_pages.specs.Append.{TornCode, Appends, TornPiece, AppendsPiece, TornErase, BeginsSector}
 
 -- what a torn program of a code word leaves
 pub torn_code : (before after : List (List (List ℕ))) (sector page : ℕ) (bytes asked : List ℕ) → sector < length before → page < length (sector_at before sector)
@@ -83,7 +83,7 @@ erased_page image sector page within in_sector =
 
 pub failed_to_begin : (before after : FlashState) (sector : ℕ) (asked : List ℕ) (failed : FlashFailed) (result : Result (Unit {0}) FlashFailed) → IsErr result → HasShape before → sector < 2
     → IsTorn before.image (erased before.image sector) after.image → after.wear ≡ set before.wear sector (counted (slice_index before.wear sector))
-    → Operates {T = Unit {0}} before after (Err failed) → Begins before after sector asked result
+    → Operates {T = Unit {0}} before after (Err failed) → BeginsSector before after sector asked result
 failed_to_begin before after sector asked failed (Ok x) fails shape in_image torn wear does = absurd (cc fails)
 failed_to_begin before after sector asked failed (Err e) fails shape in_image torn wear does = record {
   done = tt;
@@ -96,7 +96,7 @@ failed_to_begin before after sector asked failed (Err e) fails shape in_image to
 
 pub begun_on : (before middle after : FlashState) (sector : ℕ) (asked : List ℕ) (result : Result (Unit {0}) FlashFailed)
     → middle.image ≡ erased before.image sector → middle.wear ≡ set before.wear sector (counted (slice_index before.wear sector))
-    → Operates {T = Unit {0}} before middle (Ok tt) → Appends middle after sector 0 asked result → Begins before after sector asked result
+    → Operates {T = Unit {0}} before middle (Ok tt) → Appends middle after sector 0 asked result → BeginsSector before after sector asked result
 begun_on before middle after sector asked (Ok x) is wear does appends = record {
   done = subst (λ (image : List (List (List ℕ))). after.image ≡ programmed image sector 0 asked) is appends.done;
   torn = tt;

@@ -14,7 +14,7 @@ use Rattle.std.proofs.lemmas.List.Folds.{list_any_at, list_any_none}
 use Rattle.std.proofs.lemmas.List.Sorted.{IsNonDecreasingBy-from_default}
 use Rattle.flt_pages.specs.declared.numbers.Row.{Row}
 use Rattle.flt_pages.specs.Numbers.{IsRowOf, IsIndex}
-use Rattle.flt_pages.specs.Next.{IsNext}
+use Rattle.flt_pages.specs.Next.{IsLeastFrom}
 
 -- a row for places outside a list
 nowhere : Row
@@ -62,7 +62,7 @@ module _ (numbers : List ℕ) (rows : List Row) (index : IsIndex numbers rows) w
 
   -- where the rows from a number on begin, the row that stands there names the least of them
   pub next_row : (from at : ℕ) (row : Row) → (IsPartitionedBy (λ row. nat_lt row.number from) rows → IsPartitionPoint (λ row. nat_lt row.number from ≡ true) (λ row. nat_lt row.number from ≡ false) rows at)
-      → at < length rows → row ≡ get_or rows at row → IsNext from numbers (Some row.number)
+      → at < length rows → row ≡ get_or rows at row → IsLeastFrom from numbers (Some row.number)
   next_row from at row parted within is =
       let sides = parted (partitioned from) in
       let here = row_at at row within is in
@@ -87,7 +87,7 @@ module _ (numbers : List ℕ) (rows : List Row) (index : IsIndex numbers rows) w
 
   -- where no row is from a number on, no number is
   pub no_next_row : (from at : ℕ) → (IsPartitionedBy (λ row. nat_lt row.number from) rows → IsPartitionPoint (λ row. nat_lt row.number from ≡ true) (λ row. nat_lt row.number from ≡ false) rows at)
-      → length rows ≤ at → IsNext from numbers None
+      → length rows ≤ at → IsLeastFrom from numbers None
   no_next_row from at parted past =
       let sides = parted (partitioned from) in
       record {

@@ -2,7 +2,7 @@
 use Rattle.std.specs.Prelude.{◌≡◌, ◌≤◌, ◌+◌, ◌⊎◌, ◌++◌, ℕ, List, None, false, Result, OnOk, OnErr, length, drop, replicate, slice_index, slice_set}
 use Rattle.flt_flash.specs.Image.{sector_at, programmed, erased, blank_page}
 use Rattle.flt_flash.specs.Tearing.{IsTornPage, IsTornSector}
-use Rattle.flt_flash.specs.State.{FlashState, Operates, Runs, HasRisenBy, counted}
+use Rattle.flt_flash.specs.State.{FlashState, Operates, MakesOperations, HasRisenBy, counted}
 use Rattle.flt_flash.specs.declared.flash.FlashFailed.{FlashFailed}
 use Rattle.flt_code.specs.Seal.{unsealed}
 use Rattle.flt_code.specs.Spoiled.{is_spoiled}
@@ -46,10 +46,10 @@ pub record TornErase (before : List (List (List ℕ))) (sector : ℕ) (after : L
   pub only : after ≡ slice_set before sector torn
 
 -- a sector is erased and its start gate programmed: after Ok all else of it is blank, and else the erase or the program is torn
-pub record Begins {T : Type 0} (before after : FlashState) (sector : ℕ) (asked : List ℕ) (result : Result T FlashFailed) : Type 0 where
+pub record BeginsSector {T : Type 0} (before after : FlashState) (sector : ℕ) (asked : List ℕ) (result : Result T FlashFailed) : Type 0 where
   pub done : OnOk result (after.image ≡ programmed (erased before.image sector) sector 0 asked)
   pub torn : OnErr result (TornErase before.image sector after.image ⊎ TornCode (erased before.image sector) sector 0 asked after.image)
   pub wear : after.wear ≡ slice_set before.wear sector (counted (slice_index before.wear sector))
-  pub runs : Runs before after
+  pub runs : MakesOperations before after
   pub operations : after.operations ≤ before.operations + 2
   pub cause : OnErr result (HasRisenBy 1 before.faults after.faults)

@@ -4,7 +4,7 @@ ghost use Rattle.flt_flash.specs.Image.{page_at, blank_page};
 ghost use Rattle.flt_code.specs.declared.words.Word.TheVariants.{Start, Active, Head, Gate};
 ghost use Rattle.flt_code.specs.Seal.{sealed};
 ghost use Rattle.flt_code.specs.Word.{word_bytes, is_length};
-ghost use Rattle.flt_pages.specs.Append.{Appends, AppendsPiece, Begins, filled};
+ghost use Rattle.flt_pages.specs.Append.{Appends, AppendsPiece, BeginsSector, filled};
 
 use flt_code::{Word, put_word, seal};
 use flt_flash::{BLANK_PAGE, Flash, FlashFailed};
@@ -101,7 +101,7 @@ pub fn begin<F: Flash>(
     requires sector { sector < 2 }
     requires least { 2 ≤ used }
     requires most { used ≤ (F.state flash.old).pages }
-    ensures begins { Begins (F.state flash.old) (F.state flash.new) sector (sealed (word_bytes (Start sequence used))) result }
+    ensures begins { BeginsSector (F.state flash.old) (F.state flash.new) sector (sealed (word_bytes (Start sequence used))) result }
 {
     flash.erase(sector)?;
     let word = Word::Start {

@@ -88,7 +88,8 @@ fn is_gate(block: u16, head: u16, word: Option<Word>) -> bool
 
 /// Whether the record is complete, by the page in the place of its gate; `None` where another word stands there.
 pub(crate) fn is_complete(block: u16, head: u16, bytes: &[u8; 32]) -> Option<bool>
-    ensures { (length gate : ℕ) (valid : Bool) → item_by_gate block length valid head gate (unsealed bytes.now) ≡ item_completed block length valid gate result }
+    ensures { (length gate : ℕ) (valid : Bool) → item_by_gate block length valid head gate (unsealed bytes.now)
+        ≡ item_completed block length valid gate result }
 {
     match unseal(bytes) {
         None => Some(false),

@@ -33,7 +33,7 @@ impl Model for Numbers {
 }
 
 impl Numbers {
-    ghost use Rattle.flt_pages.specs.Next.{IsNext};
+    ghost use Rattle.flt_pages.specs.Next.{IsLeastFrom};
 
     /// These numbers, with their index. The error is want of memory.
     pub fn make(alloc: Global, given: Vec<u16>) -> Result<Numbers, AllocError>
@@ -77,7 +77,7 @@ impl Numbers {
 
     /// The least of the numbers from `from` on.
     pub fn next_from(&self, from: u32) -> Option<u16>
-        ensures { IsNext from self.now result }
+        ensures { IsLeastFrom from self.now result }
     {
         let at = self
             .rows

@@ -65,7 +65,8 @@ unfoldable mutual
   -- The accepted posts that are not taken, in their order.
   pub waiting : History → List Posted
   waiting [] = []
-  waiting (ops.Post urgent job ∷ past) = if (if pending job.block past then false else nat_lt (length (waiting past)) 32) then waiting past ++ posted urgent job ∷ [] else waiting past
+  waiting (ops.Post urgent job ∷ past) =
+      if (if pending job.block past then false else nat_lt (length (waiting past)) 32) then waiting past ++ posted urgent job ∷ [] else waiting past
   waiting (ops.Take ∷ past) = without_earliest (some_urgent (waiting past)) (waiting past)
   waiting (ops.Done block written ∷ past) = waiting past
   waiting (ops.Ask block ∷ past) = waiting past
@@ -73,7 +74,9 @@ unfoldable mutual
   -- A job of the block was accepted, and no result of it counted since.
   pub pending : ℕ → History → Bool
   pending block [] = false
-  pending block (ops.Post urgent job ∷ past) = if job.block == block then (if (if pending job.block past then false else nat_lt (length (waiting past)) 32) then true else pending block past) else pending block past
+  pending block (ops.Post urgent job ∷ past) = if job.block == block
+      then (if (if pending job.block past then false else nat_lt (length (waiting past)) 32) then true else pending block past)
+      else pending block past
   pending block (ops.Take ∷ past) = pending block past
   pending block (ops.Done done written ∷ past) = if done == block then (if taken block past then false else pending block past) else pending block past
   pending block (ops.Ask asked ∷ past) = pending block past
@@ -96,7 +99,8 @@ abbrev pub last_of : ℕ → History → LastResult
 last_of block [] = Never
 last_of block (ops.Post urgent job ∷ past) = last_of block past
 last_of block (ops.Take ∷ past) = last_of block past
-last_of block (ops.Done done written ∷ past) = if done == block then (if taken block past then result_of written else last_of block past) else last_of block past
+last_of block (ops.Done done written ∷ past) = if done == block then (if taken block past then result_of written else last_of block past)
+    else last_of block past
 last_of block (ops.Ask asked ∷ past) = last_of block past
 
 -- ---- what is answered to a call

@@ -11,7 +11,7 @@ use Rattle.flt_record.specs.Blank.{AreBlank}
 use Rattle.flt_flash.specs.Blocks.{byte_pages}
 use Rattle.flt_sector.specs.Log.{Entry}
 use Rattle.flt_sector.specs.Blocks.{content_of, last_complete}
-use Rattle.flt_record.specs.Record.{KeptApart, IsTornHead, IsOpen, IsWhole, RecordLeft}
+use Rattle.flt_record.specs.Record.{KeptApart, IsTornAtHead, IsOpen, IsWhole, RecordLeft}
 use Rattle.flt_record.specs.LogHolds.{LogHolds, asked_of, given}
 use Rattle.flt_sector.specs.declared.log.Item.TheVariants.{Torn, Kept}
 use Rattle.flt_record.proofs.BlankPages.{blank_from_test}
@@ -30,7 +30,7 @@ module _ (used : ℕ) (numbers : List ℕ) (pages after : List (List ℕ)) (end 
       same_content pages after end apart.size (λ j low lt. apart.before j lt) block holds.entries (all_below used numbers pages after holds.entries end begins holds.is (λ j low lt. apart.before j lt))
       ∙ holds.gives block
 
-  pub torn_head : IsTornHead pages after end → end < used → (last : ℕ) × LogHolds used numbers after last value
+  pub torn_head : IsTornAtHead pages after end → end < used → (last : ℕ) × LogHolds used numbers after last value
   torn_head is below = by_test (is_blank (get_or after end [])) refl
     where
       by_test : (test : Bool) → test ≡ is_blank (get_or after end []) → (last : ℕ) × LogHolds used numbers after last value

@@ -8,7 +8,7 @@ use Rattle.flt_code.specs.declared.words.Word.TheVariants.{Head, Gate}
 use Rattle.flt_code.proofs.WordCode.{unsealed_blank}
 use Rattle.flt_record.specs.Blank.{AreBlank}
 use Rattle.flt_flash.specs.Blocks.{byte_pages}
-use Rattle.flt_record.specs.Record.{KeptApart, IsTornHead, IsOpen, IsWhole}
+use Rattle.flt_record.specs.Record.{KeptApart, IsTornAtHead, IsOpen, IsWhole}
 use Rattle.flt_record.proofs.Values.{same_range}
 
 pub set_apart : (pages : List (List ℕ)) (page : ℕ) (bytes : List ℕ) → KeptApart pages (set pages page bytes) page (page + 1)
@@ -30,7 +30,7 @@ pub wider : (first second : List (List ℕ)) (from to low high : ℕ) → low �
 wider first second from to low high le_low le_high one = record { size = one.size; before = λ k lt. one.before k (omega arith); behind = λ k le. one.behind k (omega arith) }
 
 module _ (pages : List (List ℕ)) (page block : ℕ) (held : List ℕ) (valid : Bool) (room : page + 2 + byte_pages (length held) ≤ length pages) where
-  pub head_torn : (torn : List ℕ) → unsealed torn ≡ None → IsTornHead pages (set pages page torn) page
+  pub head_torn : (torn : List ℕ) → unsealed torn ≡ None → IsTornAtHead pages (set pages page torn) page
   head_torn torn none = record { apart = set_apart pages page torn; torn = ap unsealed (get_or-set_same pages page torn [] (omega arith)) ∙ none }
 
   pub head_stands : AreBlank pages page (page + 2 + byte_pages (length held)) → IsOpen pages (set pages page (sealed (word_bytes (Head block (length held) valid page)))) page block (length held) valid

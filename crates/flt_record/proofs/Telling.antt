@@ -11,7 +11,7 @@ use Rattle.flt_flash.specs.Blocks.{byte_pages, pages_of}
 use Rattle.flt_code.specs.Word.{is_length}
 use Rattle.flt_record.specs.declared.place.RecordPlace.{RecordPlace}
 use Rattle.flt_record.specs.LogHolds.{asked_of, given}
-use Rattle.flt_record.specs.RecordPlace.{record_at, IsPlaceWithin, IsInLog, IsAt, IsPlaceOf, Tells, content_at, pages_found}
+use Rattle.flt_record.specs.RecordPlace.{record_at, IsPlaceWithin, IsInLog, IsAt, IsPlaceOf, TellsPlaces, content_at, pages_found}
 use Rattle.flt_record.specs.Record.{IsWhole}
 use Rattle.flt_record.proofs.Finding.{found_pages, length_most}
 use Rattle.flt_record.proofs.Values.{same_bytes}
@@ -36,7 +36,7 @@ module _ (pages after : List (List ℕ)) (end : ℕ) (size : length after ≡ le
   pub still_at : (content : Content) (found : Option RecordPlace) → IsAt pages end content found → IsAt after end content found
   still_at content found is = record { holds = is.holds ∙ sym (same_held found is.inside); inside = is.inside }
 
-  pub still_tells : (numbers : List ℕ) (places : List (Option RecordPlace)) (value : ℕ → Content) → Tells numbers places pages end value → Tells numbers places after end value
+  pub still_tells : (numbers : List ℕ) (places : List (Option RecordPlace)) (value : ℕ → Content) → TellsPlaces numbers places pages end value → TellsPlaces numbers places after end value
   still_tells numbers places value tells k within = still_at (value (get_or numbers k 0)) (get_or places k None) (tells k within)
 
 -- a record that stands at the end of the log
@@ -49,26 +49,26 @@ module _ (pages after : List (List ℕ)) (end block : ℕ) (held : List ℕ) (va
       farther_at after end (end + (2 + byte_pages (length held))) (omega arith) content found (still_at pages after end whole.apart.size (λ j low lt. whole.apart.before j lt) content found is)
 
   -- the table with the record noted
-  module _ (numbers : List ℕ) (places now : List (Option RecordPlace)) (value : ℕ → Content) (tells : Tells numbers places pages end value) (place : RecordPlace) (here : place ≡ record { page = end; length = length held; valid = valid })
+  module _ (numbers : List ℕ) (places now : List (Option RecordPlace)) (value : ℕ → Content) (tells : TellsPlaces numbers places pages end value) (place : RecordPlace) (here : place ≡ record { page = end; length = length held; valid = valid })
       (noted : (k : ℕ) → k < length numbers → get_or now k None ≡ (if true && (block == get_or numbers k 0) then Some place else get_or places k None)) where
     by_test : (content : Content) (found : Option RecordPlace) (test : Bool) → IsAt after (end + (2 + byte_pages (length held))) content found
         → IsAt after (end + (2 + byte_pages (length held))) (if test then asked_of valid held else content) (if test then Some place else found)
     by_test content found true old = subst (λ (p : RecordPlace). IsAt after (end + (2 + byte_pages (length held))) (asked_of valid held) (Some p)) (sym here) new_at
     by_test content found false old = old
 
-    pub tells_more : Tells numbers now after (end + (2 + byte_pages (length held))) (given block (asked_of valid held) value)
+    pub tells_more : TellsPlaces numbers now after (end + (2 + byte_pages (length held))) (given block (asked_of valid held) value)
     tells_more k within =
         subst (λ (found : Option RecordPlace). IsAt after (end + (2 + byte_pages (length held))) (given block (asked_of valid held) value (get_or numbers k 0)) found) (sym (noted k within))
         (by_test (value (get_or numbers k 0)) (get_or places k None) (block == get_or numbers k 0) (old_at (value (get_or numbers k 0)) (get_or places k None) (tells k within)))
 
 -- an empty table, of blocks without a record
 pub tells_nothing : (numbers : List ℕ) (places : List (Option RecordPlace)) (pages : List (List ℕ)) (end : ℕ) (value : ℕ → Content) → ((block : ℕ) → value block ≡ missing)
-    → ((k : ℕ) → k < length numbers → get_or places k None ≡ None) → Tells numbers places pages end value
+    → ((k : ℕ) → k < length numbers → get_or places k None ≡ None) → TellsPlaces numbers places pages end value
 tells_nothing numbers places pages end value nothing none k within =
     subst (λ (found : Option RecordPlace). IsAt pages end (value (get_or numbers k 0)) found) (sym (none k within)) (record { holds = nothing (get_or numbers k 0); inside = tt })
 
 -- the place of a block
-pub told_place : (numbers : List ℕ) (places : List (Option RecordPlace)) (pages : List (List ℕ)) (end : ℕ) (value : ℕ → Content) (block : ℕ) (found : Option RecordPlace) → Tells numbers places pages end value
+pub told_place : (numbers : List ℕ) (places : List (Option RecordPlace)) (pages : List (List ℕ)) (end : ℕ) (value : ℕ → Content) (block : ℕ) (found : Option RecordPlace) → TellsPlaces numbers places pages end value
     → IsPlaceOf numbers places block found → IsAt pages end (value block) found
 told_place numbers places pages end value block found tells is =
     subst (λ (place : Option RecordPlace). IsAt pages end (value block) place) is.place (subst (λ n. IsAt pages end (value n) (get_or places is.index None)) is.number (tells is.index is.within))
@@ -83,7 +83,7 @@ module _ (pages : List (List ℕ)) (sizes : ArePages pages) (end : ℕ) (most : 
   found_is content None is = sym (ap pages_of is.holds)
   found_is content (Some place) is = sym (ap pages_of is.holds ∙ found_pages end pages sizes most 0 (Some place) is.inside.within)
 
-  pub live_told : (numbers : List ℕ) (places : List (Option RecordPlace)) → length places ≡ length numbers → Tells numbers places pages end value → sum_by pages_found places ≡ sum_by (λ n. pages_of (value n)) numbers
+  pub live_told : (numbers : List ℕ) (places : List (Option RecordPlace)) → length places ≡ length numbers → TellsPlaces numbers places pages end value → sum_by pages_found places ≡ sum_by (λ n. pages_of (value n)) numbers
   live_told [] [] size tells = refl
   live_told [] (place ∷ places) size tells = absurd (omega (arith, size))
   live_told (number ∷ numbers) [] size tells = absurd (omega (arith, size))
@@ -93,7 +93,7 @@ module _ (pages : List (List ℕ)) (sizes : ArePages pages) (end : ℕ) (most : 
       omega (arith, sum_by-cons pages_found place places, sum_by-cons (λ n. pages_of (value n)) number numbers, here, rest)
 
   -- no record is longer than a record may be
-  pub lengths_told : (numbers : List ℕ) (places : List (Option RecordPlace)) → length places ≡ length numbers → Tells numbers places pages end value → All (λ (found : Option RecordPlace). ForSome found (λ place. place.length ≤ 128)) places
+  pub lengths_told : (numbers : List ℕ) (places : List (Option RecordPlace)) → length places ≡ length numbers → TellsPlaces numbers places pages end value → All (λ (found : Option RecordPlace). ForSome found (λ place. place.length ≤ 128)) places
   lengths_told numbers places size tells = All-from_get_or (λ (found : Option RecordPlace). ForSome found (λ place. place.length ≤ 128)) places None
       (λ k within place same.
       let is : IsAt pages end (value (get_or numbers k 0)) (Some place) = subst (λ (found : Option RecordPlace). IsAt pages end (value (get_or numbers k 0)) found) same (tells k (omega (arith, within, size))) in

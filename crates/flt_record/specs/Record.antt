@@ -13,7 +13,7 @@ pub record KeptApart (pages after : List (List ℕ)) (from to : ℕ) : Type 0 wh
   pub behind : (k : ℕ) → to ≤ k → slice_index_or after k [] ≡ slice_index_or pages k []
 
 -- the head is torn, and no code word
-pub record IsTornHead (pages after : List (List ℕ)) (page : ℕ) : Type 0 where
+pub record IsTornAtHead (pages after : List (List ℕ)) (page : ℕ) : Type 0 where
   pub apart : KeptApart pages after page (page + 1)
   pub torn : unsealed (slice_index_or after page []) ≡ None
 
@@ -32,4 +32,5 @@ pub record IsWhole (pages after : List (List ℕ)) (page block : ℕ) (bytes : L
 
 -- whatever a record that is being appended may leave
 abbrev pub RecordLeft : List (List ℕ) → List (List ℕ) → ℕ → ℕ → List ℕ → Bool → Type 0
-RecordLeft pages after page block bytes valid = IsTornHead pages after page ⊎ IsOpen pages after page block (length bytes) valid ⊎ IsWhole pages after page block bytes valid
+RecordLeft pages after page block bytes valid = IsTornAtHead pages after page ⊎ IsOpen pages after page block (length bytes) valid
+    ⊎ IsWhole pages after page block bytes valid

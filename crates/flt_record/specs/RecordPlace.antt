@@ -47,8 +47,8 @@ pub record IsAt (pages : List (List ℕ)) (end : ℕ) (content : Content) (found
   pub inside : IfSome found (λ place. IsInLog end place)
 
 -- the place of each number, in the order of the numbers, tells what its block holds
-abbrev pub Tells : List ℕ → List (Option RecordPlace) → List (List ℕ) → ℕ → (ℕ → Content) → Type 0
-Tells numbers places pages end value = (k : ℕ) → k < length numbers → IsAt pages end (value (slice_index_or numbers k 0)) (slice_index_or places k None)
+abbrev pub TellsPlaces : List ℕ → List (Option RecordPlace) → List (List ℕ) → ℕ → (ℕ → Content) → Type 0
+TellsPlaces numbers places pages end value = (k : ℕ) → k < length numbers → IsAt pages end (value (slice_index_or numbers k 0)) (slice_index_or places k None)
 
 -- the place of a block in the table
 pub record IsPlaceOf (numbers : List ℕ) (places : List (Option RecordPlace)) (block : ℕ) (found : Option RecordPlace) : Type 0 where

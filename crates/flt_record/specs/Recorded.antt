@@ -2,7 +2,7 @@
 use Rattle.std.specs.Prelude.{◌≡◌, ◌+◌, ℕ, Bool, List, length, take, slice_set, slice_range, Result, OnOk, OnErr}
 use Rattle.std.specs.List.{flat_map}
 use Rattle.flt_flash.specs.Image.{sector_at}
-use Rattle.flt_flash.specs.State.{FlashState, Runs, HasRisenBy}
+use Rattle.flt_flash.specs.State.{FlashState, MakesOperations, HasRisenBy}
 use Rattle.flt_flash.specs.declared.flash.FlashFailed.{FlashFailed}
 use Rattle.flt_flash.specs.Blocks.{byte_pages}
 use Rattle.flt_record.specs.Record.{KeptApart, IsWhole, RecordLeft}
@@ -11,7 +11,7 @@ use Rattle.flt_record.specs.Record.{KeptApart, IsWhole, RecordLeft}
 pub record OnSector (before after : FlashState) (sector : ℕ) (pages : List (List ℕ)) : Type 0 where
   pub image : after.image ≡ slice_set before.image sector pages
   pub wear : after.wear ≡ before.wear
-  pub runs : Runs before after
+  pub runs : MakesOperations before after
 
 -- the pages of plain bytes behind a head
 pub record Fills {T : Type 0} (before after : FlashState) (sector first : ℕ) (bytes : List ℕ) (result : Result T FlashFailed) : Type 0 where
@@ -22,7 +22,8 @@ pub record Fills {T : Type 0} (before after : FlashState) (sector first : ℕ) (
   pub cause : OnErr result (HasRisenBy 1 before.faults after.faults)
 
 -- a record at this page: whole after Ok, and else whole, without its gate, or a torn head
-pub record Records {T : Type 0} (before after : FlashState) (sector page block : ℕ) (bytes : List ℕ) (valid : Bool) (result : Result T FlashFailed) : Type 0 where
+pub record Records {T : Type 0} (before after : FlashState) (sector page block : ℕ) (bytes : List ℕ) (valid : Bool)
+    (result : Result T FlashFailed) : Type 0 where
   pub pages : List (List ℕ)
   pub on : OnSector before after sector pages
   pub done : OnOk result (IsWhole (sector_at before.image sector) pages page block bytes valid)

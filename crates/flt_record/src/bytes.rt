@@ -89,7 +89,8 @@ pub fn copy_record<F: Flash>(
     requires within { IsPlaceWithin (F.state flash.old).pages place }
     requires room { page + record_pages place.length ≤ (F.state flash.old).pages }
     requires blank { AreBlank (sector_at (F.state flash.old).image other) page (page + record_pages place.length) }
-    ensures records { Records (F.state flash.old) (F.state flash.new) other page block (bytes_at (sector_at (F.state flash.old).image sector) place) place.valid result }
+    ensures records { Records (F.state flash.old) (F.state flash.new) other page block
+        (bytes_at (sector_at (F.state flash.old).image sector) place) place.valid result }
     ensures operations { OnOk result ((F.state flash.new).operations ≤ (F.state flash.old).operations + (2 + 2 * byte_pages place.length)) }
 {
     append_head(flash, other, page, block, place.length, place.valid)?;

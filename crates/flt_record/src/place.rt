@@ -43,7 +43,8 @@ pub fn note(
     requires size { length places.old ≡ length numbers.now }
     requires distinct { AllPairs (λ a b. a ≢ b) numbers.now }
     ensures size { length places.new ≡ length places.old }
-    ensures noted { (k : ℕ) → k < length numbers.now → slice_index_or places.new k None ≡ (if complete && (block == slice_index_or numbers.now k 0) then Some place else slice_index_or places.old k None) }
+    ensures noted { (k : ℕ) → k < length numbers.now → slice_index_or places.new k None
+        ≡ (if complete && (block == slice_index_or numbers.now k 0) then Some place else slice_index_or places.old k None) }
 {
     if !complete {
         return;

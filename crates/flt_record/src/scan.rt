@@ -6,7 +6,7 @@ ghost use Rattle.flt_flash.specs.State.{OnlyReads, HasRisenBy};
 ghost use Rattle.flt_sector.specs.Log.{log};
 ghost use Rattle.flt_pages.specs.Told.{TellsOrFails};
 ghost use Rattle.flt_record.specs.Live.{held_in};
-ghost use Rattle.flt_record.specs.RecordPlace.{Tells};
+ghost use Rattle.flt_record.specs.RecordPlace.{TellsPlaces};
 ghost use Rattle.flt_record.specs.Scan.{told_end};
 
 use crate::place::{RecordPlace, forget, note};
@@ -30,8 +30,10 @@ pub fn find_places<F: Flash>(
     requires most { used ≤ (F.state flash.old).pages }
     requires size { length places.old ≡ length numbers.now }
     requires distinct { AllPairs (λ a b. a ≢ b) numbers.now }
-    ensures end { TellsOrFails result (told_end sector (log used numbers.now (sector_at (F.state flash.old).image sector)).end (log used numbers.now (sector_at (F.state flash.old).image sector)).fault) }
-    ensures places { IfOk result (λ end. Tells numbers.now places.new (sector_at (F.state flash.old).image sector) end (held_in used numbers.now (sector_at (F.state flash.old).image sector))) }
+    ensures end { TellsOrFails result (told_end sector (log used numbers.now (sector_at (F.state flash.old).image sector)).end
+        (log used numbers.now (sector_at (F.state flash.old).image sector)).fault) }
+    ensures places { IfOk result (λ end. TellsPlaces numbers.now places.new (sector_at (F.state flash.old).image sector) end
+        (held_in used numbers.now (sector_at (F.state flash.old).image sector))) }
     ensures size { length places.new ≡ length numbers.now }
     ensures reads { OnlyReads (F.state flash.old) (F.state flash.new) }
     ensures cause { IsErrOf result PageFault.Flash → HasRisenBy 1 (F.state flash.old).faults (F.state flash.new).faults }

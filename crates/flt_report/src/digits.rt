@@ -17,6 +17,20 @@ pub(crate) fn put_text(text: &[u8], out: &mut Vec<u8>)
     };
 }
 
+/// Puts the two digits of a number from 10 to 99.
+#[tactic(auto, using(crate::proofs::Decimals::two_digits, crate::proofs::Decimals::count_two))]
+fn put_two_digits(number: u32, out: &mut Vec<u8>)
+    requires least { 10 ≤ number }
+    requires most { number < 100 }
+    requires room { vec_len out.old + 2 ≤ vec_capacity out.old }
+    ensures items { out.new.items ≡ out.old.items ++ decimal number }
+    ensures len { vec_len out.new ≡ vec_len out.old + length (decimal number) }
+    ensures room { vec_capacity out.old ≤ vec_capacity out.new }
+{
+    out.push_reserved(b'0' + (number / 10) as u8);
+    out.push_reserved(b'0' + (number % 10) as u8);
+}
+
 /// Puts the digits of a number.
 #[tactic(auto, using(crate::proofs::Decimals::digits))]
 fn put_digits(number: u32, out: &mut Vec<u8>)
@@ -27,6 +41,8 @@ fn put_digits(number: u32, out: &mut Vec<u8>)
 {
     if number < 10 {
         out.push_reserved(b'0' + number as u8);
+    } else if number < 100 {
+        put_two_digits(number, out);
     } else {
         put_digits(number / 10, out);
         out.push_reserved(b'0' + (number % 10) as u8);

@@ -6,7 +6,7 @@ ghost use Rattle.flt_script.specs.Bytes.{letter_of};
 ghost use Rattle.flt_script.specs.Step.{step_text};
 ghost use Rattle.flt_life.specs.Answers.{IsAnswerWithin, reply_in, with_reply};
 ghost use Rattle.flt_report.specs.Answer.{step_line};
-ghost use Rattle.flt_report.specs.Line.{AppendsFront};
+ghost use Rattle.flt_report.specs.Line.{GrowsByFront};
 
 use crate::answer::put_answer;
 use crate::digits::{put_bytes, put_number, put_text};
@@ -145,7 +145,7 @@ pub fn put_step(
 ) -> Result<(), AllocError>
     requires { IsAnswerWithin (length responses.now) answer.now }
     ensures ok { OnOk result (out.new.items ≡ out.old.items ++ step_line step.now (with_reply (reply_in responses.now) answer.now)) }
-    ensures err { OnErr result (AppendsFront out.old.items out.new.items (step_line step.now (with_reply (reply_in responses.now) answer.now))) }
+    ensures err { OnErr result (GrowsByFront out.old.items out.new.items (step_line step.now (with_reply (reply_in responses.now) answer.now))) }
 {
     put_words(step, out)?;
     put_answer(answer, responses, out)

@@ -59,5 +59,6 @@ IsOfCopy first second content copy = (raw : List ℕ) → content ≡ bytes raw 
 -- this content is that of the copy of the commit that counts; or that of the second, which has bytes, where the flash failed three times
 abbrev pub IsSource : BlocksState → BlocksState → Content → ℕ → Type 0
 IsSource before after content copy =
-    ((content ≡ either_copy (before.value first_commit) (before.value second_commit)) × IsOfCopy (before.value first_commit) (before.value second_commit) content copy)
+    ((content ≡ either_copy (before.value first_commit) (before.value second_commit))
+    × IsOfCopy (before.value first_commit) (before.value second_commit) content copy)
     ⊎ ((content ≡ before.value second_commit) × HasBytes content × (copy ≡ 2) × HasRisenBy 3 before.device.faults after.device.faults)

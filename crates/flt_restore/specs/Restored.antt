@@ -45,7 +45,8 @@ IsCommitOf value content (Some found) = (content ≡ bytes found.bytes.items) ×
 -- its commit, which has bytes; the commit is that of the copy that decides
 abbrev pub IsRestored : Config → BlocksState → BlocksState → Option CommitCopy → Persist → Type 0
 IsRestored c before after commit state =
-    ((held c before.value ≡ Ok (generation commit state)) × IsCommitOf before.value (either_copy (before.value first_commit) (before.value second_commit)) commit)
+    ((held c before.value ≡ Ok (generation commit state))
+    × IsCommitOf before.value (either_copy (before.value first_commit) (before.value second_commit)) commit)
     ⊎ ((spare c before.value ≡ Ok (generation commit state)) × IsCommitOf before.value (only_bytes (before.value second_commit)) commit
     × HasBytes (before.value second_commit) × HasRisenBy 3 before.device.faults after.device.faults)
 

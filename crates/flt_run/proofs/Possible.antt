@@ -3,7 +3,7 @@ use Rattle.std.proofs.Common.{◌≡◌, ℕ, ◌+◌, ◌≤◌, leb, ltb, arit
 use Rattle.std.specs.Prelude.{Vec, All, sum_by, ◌&&◌}
 use Rattle.std.specs.List.{list_all}
 use Rattle.std.proofs.lemmas.Bool.{and_parts, leb-true, ltb-true}
-use Rattle.std.proofs.lemmas.List.Elements.{All-nil, All-cons, All-head, All-tail}
+use Rattle.std.proofs.lemmas.List.Elements.{All-nil, All-cons}
 use Rattle.std.proofs.lemmas.List.Sums.{sum_by-cons}
 use Rattle.flt_config.specs.declared.config.Config.{Config}
 use Rattle.flt_flash.specs.State.{CanArm}
@@ -18,75 +18,70 @@ use Rattle.flt_script.specs.declared.step.Step.{Step}
 use Rattle.flt_script.specs.declared.step.Step.TheVariants as steps
 use Rattle.flt_life.specs.Actions.{IsPossible, action_of, arm_count}
 use Rattle.flt_life.specs.Parts.{IsPossiblePart, IsPossibleInLane, arms_in, widths}
-use Rattle.flt_run.specs.Jobs.{IsShort, IsShortPart}
 
 possible_arm : (arm : Arm) → is_arm_in arm ≡ true → CanArm arm
 possible_arm (Cut after pattern) is = let least = leb-true 1 after (and_parts (leb 1 after) (leb after 65535) is).0 in omega (arith, least)
 possible_arm (Fault after pattern) is = let least = leb-true 1 after (and_parts (leb 1 after) (leb after 65535) is).0 in omega (arith, least)
 possible_arm (Mute sector page times) is = tt
 
-possible_step : (config : Config) (step : Step) → is_step_in config step ≡ true → IsShort step → IsPossible config (action_of step)
-unfolding IsShort
-possible_step config (steps.Report event report) is short = (tt, ltb-true event (length config.events.items) is)
-possible_step config (steps.Show event) is short = (tt, ltb-true event (length config.events.items) is)
-possible_step config (steps.Cycle cycle) is short = let most = leb-true cycle 3 is in (tt, omega (arith, most))
-possible_step config (steps.Tick ticks) is short = (tt, tt)
-possible_step config (steps.Signal index value) is short = let most = leb-true index 7 (and_parts (leb index 7) (leb value 65535) is).0 in (tt, omega (arith, most))
-possible_step config (steps.Request tester bytes) is short =
+possible_step : (config : Config) (step : Step) → is_step_in config step ≡ true → IsPossible config (action_of step)
+possible_step config (steps.Report event report) is = (tt, ltb-true event (length config.events.items) is)
+possible_step config (steps.Show event) is = (tt, ltb-true event (length config.events.items) is)
+possible_step config (steps.Cycle cycle) is = let most = leb-true cycle 3 is in (tt, omega (arith, most))
+possible_step config (steps.Tick ticks) is = (tt, tt)
+possible_step config (steps.Signal index value) is = let most = leb-true index 7 (and_parts (leb index 7) (leb value 65535) is).0 in (tt, omega (arith, most))
+possible_step config (steps.Request tester bytes) is =
     let parts = and_parts (leb tester 3) (ltb 0 (length bytes.items)) is in
     let most = leb-true tester 3 parts.0 in
     (tt, (omega (arith, most), ltb-true 0 (length bytes.items) parts.1))
-possible_step config steps.Save is short = tt
-possible_step config (steps.Post urgent block bytes) is short =
-    let parts = and_parts (ltb block config.blocks) (ltb 0 (length bytes.items)) is in
-    (tt, (ltb-true block config.blocks parts.0, ltb-true 0 (length bytes.items) parts.1, short))
-possible_step config steps.Drain is short = tt
-possible_step config (steps.Get block) is short = ltb-true block config.blocks is
-possible_step config (steps.Ask block) is short = (tt, ltb-true block config.blocks is)
-possible_step config (steps.Arming arm) is short = possible_arm arm is
+possible_step config steps.Save is = tt
+possible_step config (steps.Post urgent block bytes) is =
+    let all = and_parts (ltb block config.blocks && ltb 0 (length bytes.items)) (leb (length bytes.items) 32) is in
+    let parts = and_parts (ltb block config.blocks) (ltb 0 (length bytes.items)) all.0 in
+    (tt, (ltb-true block config.blocks parts.0, ltb-true 0 (length bytes.items) parts.1, leb-true (length bytes.items) 32 all.1))
+possible_step config steps.Drain is = tt
+possible_step config (steps.Get block) is = ltb-true block config.blocks is
+possible_step config (steps.Ask block) is = (tt, ltb-true block config.blocks is)
+possible_step config (steps.Arming arm) is = possible_arm arm is
 
-possible_lane : (config : Config) (lane : List Step) → is_lane_in config lane ≡ true → All IsShort lane → All (IsPossibleInLane config) lane
-possible_lane config [] all short = All-nil (IsPossibleInLane config)
-possible_lane config (step ∷ rest) all short =
+possible_lane : (config : Config) (lane : List Step) → is_lane_in config lane ≡ true → All (IsPossibleInLane config) lane
+possible_lane config [] all = All-nil (IsPossibleInLane config)
+possible_lane config (step ∷ rest) all =
     let both = and_parts (is_step_in config step && is_lane_step step) (is_lane_in config rest) all in
     let this = and_parts (is_step_in config step) (is_lane_step step) both.0 in
-    All-cons (IsPossibleInLane config) step rest (this.1, possible_step config step this.0 (All-head IsShort step rest short))
-    (possible_lane config rest both.1 (All-tail IsShort step rest short))
+    All-cons (IsPossibleInLane config) step rest (this.1, possible_step config step this.0) (possible_lane config rest both.1)
 
 possible_lanes : {A : Type 0} (config : Config) (lanes : List (Vec Step A)) → list_all (is_lane_in config) (map (λ (lane : Vec Step A). lane.items) lanes) ≡ true
-    → All (λ (lane : Vec Step A). All IsShort lane.items) lanes → All (λ (lane : List Step). All (IsPossibleInLane config) lane) (map (λ (lane : Vec Step A). lane.items) lanes)
-possible_lanes config [] all short = All-nil _
-possible_lanes {A = A} config (lane ∷ rest) all short =
+    → All (λ (lane : List Step). All (IsPossibleInLane config) lane) (map (λ (lane : Vec Step A). lane.items) lanes)
+possible_lanes config [] all = All-nil _
+possible_lanes {A = A} config (lane ∷ rest) all =
     let steps = map (λ (lane : Vec Step A). lane.items) rest in
     let both = and_parts (is_lane_in config lane.items) (list_all (is_lane_in config) steps) all in
     All-cons (λ (lane : List Step). All (IsPossibleInLane config) lane) lane.items steps
-    (possible_lane config lane.items both.0 (All-head (λ (lane : Vec Step A). All IsShort lane.items) lane rest short))
-    (possible_lanes config rest both.1 (All-tail (λ (lane : Vec Step A). All IsShort lane.items) lane rest short))
+    (possible_lane config lane.items both.0) (possible_lanes config rest both.1)
 
-possible_part : (config : Config) (part : Part) → is_part_in config (part_of part) ≡ true → IsShortPart part → IsPossiblePart config (part_of part)
-unfolding IsShortPart
-possible_part config (One step) is short = possible_step config step is short
-possible_part config (Lanes lanes) is short =
+possible_part : (config : Config) (part : Part) → is_part_in config (part_of part) ≡ true → IsPossiblePart config (part_of part)
+possible_part config (One step) is = possible_step config step is
+possible_part config (Lanes lanes) is =
     let steps = map (λ lane. lane.items) lanes.items in
     let all = and_parts (leb 1 (length steps) && leb (length steps) 8 && list_all (is_lane_in config) steps) (leb (store_lanes steps) 1) is in
     let each = and_parts (leb 1 (length steps) && leb (length steps) 8) (list_all (is_lane_in config) steps) all.0 in
-    (possible_lanes config lanes.items each.1 short, leb-true (store_lanes steps) 1 all.1)
+    (possible_lanes config lanes.items each.1, leb-true (store_lanes steps) 1 all.1)
 
-possible_parts : (config : Config) (parts : List Part) → are_parts_in config (parts_of parts) ≡ true → All IsShortPart parts → All (IsPossiblePart config) (parts_of parts)
-possible_parts config [] all short = All-nil (IsPossiblePart config)
-possible_parts config (part ∷ rest) all short =
+possible_parts : (config : Config) (parts : List Part) → are_parts_in config (parts_of parts) ≡ true → All (IsPossiblePart config) (parts_of parts)
+possible_parts config [] all = All-nil (IsPossiblePart config)
+possible_parts config (part ∷ rest) all =
     let both = and_parts (is_part_in config (part_of part)) (are_parts_in config (parts_of rest)) all in
-    All-cons (IsPossiblePart config) (part_of part) (parts_of rest) (possible_part config part both.0 (All-head IsShortPart part rest short))
-    (possible_parts config rest both.1 (All-tail IsShortPart part rest short))
+    All-cons (IsPossiblePart config) (part_of part) (parts_of rest) (possible_part config part both.0)
+    (possible_parts config rest both.1)
 
 pub possible_lives : {A : Type 0} (config : Config) (lives : List (Vec Part A)) → list_all (λ (life : Vec Part A). are_parts_in config (parts_of life.items)) lives ≡ true
-    → All (λ (life : Vec Part A). All IsShortPart life.items) lives → All (λ (life : Vec Part A). All (IsPossiblePart config) (parts_of life.items)) lives
-possible_lives config [] all short = All-nil _
-possible_lives {A = A} config (life ∷ rest) all short =
+    → All (λ (life : Vec Part A). All (IsPossiblePart config) (parts_of life.items)) lives
+possible_lives config [] all = All-nil _
+possible_lives {A = A} config (life ∷ rest) all =
     let both = and_parts (are_parts_in config (parts_of life.items)) (list_all (λ (life : Vec Part A). are_parts_in config (parts_of life.items)) rest) all in
     All-cons (λ (life : Vec Part A). All (IsPossiblePart config) (parts_of life.items)) life rest
-    (possible_parts config life.items both.0 (All-head (λ (life : Vec Part A). All IsShortPart life.items) life rest short))
-    (possible_lives config rest both.1 (All-tail (λ (life : Vec Part A). All IsShortPart life.items) life rest short))
+    (possible_parts config life.items both.0) (possible_lives config rest both.1)
 
 -- ---- arms
 

@@ -14,7 +14,7 @@ use Rattle.flt_fee.specs.Fee.{device_of}
 use Rattle.flt_script.specs.declared.step.Step.{Step}
 use Rattle.flt_script.specs.Part.{PartOf}
 use Rattle.flt_script.specs.Load.{load_script}
-use Rattle.flt_script.specs.Script.{Content}
+use Rattle.flt_script.specs.Script.{ScriptContent}
 use Rattle.flt_life.specs.declared.life.Boot.{Boot}
 use Rattle.flt_life.specs.declared.life.Boot.TheVariants as began
 use Rattle.flt_life.specs.declared.life.Life.{Life}
@@ -29,7 +29,7 @@ use Rattle.flt_run.specs.declared.command.Command.{Command}
 use Rattle.flt_run.specs.declared.ending.Ending.{Ending}
 use Rattle.flt_run.specs.declared.ending.Ending.TheVariants.{Usage, Unreadable, Refused, Accepted, Ran, Loaded}
 use Rattle.flt_run.specs.declared.made.Made.{Made}
-use Rattle.flt_run.specs.Ending.{Inside, Outside, IsLivedBy, IsScriptOf, IsSoundFor, IsSoundThroughout, IsTold, IsUntouched, HasCause, StaysSoundThroughout, lives_of, status_of}
+use Rattle.flt_run.specs.Ending.{Inside, Outside, IsLivedBy, IsScriptOf, IsSoundFor, IsSoundThroughout, IsTold, IsUntouched, EndingHasCause, StaysSoundThroughout, lives_of, status_of}
 use Rattle.flt_run.proofs.Lived.{all_of_seen, some_lives, turned}
 
 -- the first boot of a run stands first of its boots
@@ -90,7 +90,7 @@ by_boots c given before after script lives status (boot ∷ boots) is linked som
       not_six = λ sound. other_than_six (status_of_lives (lives_seen script lives)) status (undamaged_last (lives_seen script lives) (law sound).2) came;
     }
 
-made_throughout : (script : Content) (before after : FlashState) (made : Made) (status : ℕ) → IsLivedBy script before after made → CameTo (status_of_lives (lives_seen (lists made.script.items) made.lives.items)) status
+made_throughout : (script : ScriptContent) (before after : FlashState) (made : Made) (status : ℕ) → IsLivedBy script before after made → CameTo (status_of_lives (lives_seen (lists made.script.items) made.lives.items)) status
     → IsSoundThroughout script.config before after status made.lives.items
 made_throughout script before after made status lived came =
     let linked = lived.lived.linked in
@@ -102,7 +102,7 @@ module _ (dids : List DidUse) (inside : Inside) (command : Option Command) where
   no_life : (due status : ℕ) (lives : List Life) → due ≢ 6 → CameTo due status → IsUntouched inside → lives ≡ [] → StaysSoundThroughout dids inside command status lives
   no_life due status lives other came same none = inr (inl (record { untouched = same; none = none; not_six = other_than_six due status other came }))
 
-  pub throughout : (status : ℕ) (lives : List Life) (ending : Ending) → HasCause dids inside command ending → CameTo (status_of ending) status → lives ≡ lives_of ending
+  pub throughout : (status : ℕ) (lives : List Life) (ending : Ending) → EndingHasCause dids inside command ending → CameTo (status_of ending) status → lives ≡ lives_of ending
       → StaysSoundThroughout dids inside command status lives
   throughout status lives Usage cause came none = no_life 1 status lives (λ e. omega (arith, e)) came cause.2 none
   throughout status lives Unreadable cause came none = no_life 3 status lives (λ e. omega (arith, e)) came cause.2 none
@@ -110,11 +110,11 @@ module _ (dids : List DidUse) (inside : Inside) (command : Option Command) where
   throughout status lives (Accepted script) cause came none = no_life 0 status lives (λ e. omega (arith, e)) came cause.3 none
   throughout status lives (Ran made) cause came is =
       let run = cause.0 in
-      let script : Content = cause.2.0 in
+      let script : ScriptContent = cause.2.0 in
       let of : IsScriptOf dids inside command script = subst (λ c. IsScriptOf dids inside c script) (sym run) cause.2.1 in
       inr (inr (script, of, subst (IsSoundThroughout script.config inside.flash inside.flash_after status) (sym is) (made_throughout script inside.flash inside.flash_after made status cause.2.2 came)))
   throughout status lives (Loaded made) cause came is =
       let load = cause.2 in
-      let script : Content = load_script cause.0 cause.1 in
+      let script : ScriptContent = load_script cause.0 cause.1 in
       let of : IsScriptOf dids inside command script = subst (λ c. IsScriptOf dids inside c script) (sym load) refl in
       inr (inr (script, of, subst (IsSoundThroughout script.config inside.flash inside.flash_after status) (sym is) (made_throughout script inside.flash inside.flash_after made status cause.4 came)))

@@ -13,7 +13,6 @@ ghost use Rattle.flt_lives.specs.Alone.{AreAlone};
 ghost use Rattle.flt_lives.specs.Sectors.{FlashStaysSound};
 ghost use Rattle.flt_run.specs.Ending.{IsLivedBy};
 
-use crate::jobs::look_at_lives;
 use crate::made::Made;
 use flt_config::ValidConfig;
 use flt_dcm::Unit;
@@ -86,7 +85,6 @@ pub(crate) fn live_alone<B: Bench + Drop>(
     ensures sound { FlashStaysSound script.config (B.state bench) (B.state result.bench) }
 {
     look_at_config(&script.config);
-    look_at_lives(&script.lives);
     let run = run_alone(alloc, unit, bench, &script.config, &script.lives);
     made_of(script, run)
 }
@@ -109,7 +107,6 @@ pub(crate) fn live_in_lanes<R: Threads + Wait + Sync, G: SharedGate, B: Bench + 
     ensures sound { FlashStaysSound script.config (B.state bench) (B.state result.bench) }
 {
     look_at_config(&script.config);
-    look_at_lives(&script.lives);
     let run = run_in_lanes(rt, gate, alloc, unit, bench, &script.config, &script.lives);
     made_of(script, run)
 }

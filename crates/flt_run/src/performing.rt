@@ -7,7 +7,7 @@ ghost use Rattle.flt_script.specs.Load.{load_config, load_script};
 ghost use Rattle.flt_lives.specs.Sectors.{FlashStaysSound};
 ghost use Rattle.flt_run.specs.declared.command.Command.TheVariants.{Check, Run};
 ghost use Rattle.flt_run.specs.declared.ending.Ending.TheVariants.{Usage};
-ghost use Rattle.flt_run.specs.Ending.{HasCause, IsLeftSound, IsLivedBy};
+ghost use Rattle.flt_run.specs.Ending.{EndingHasCause, IsLeftSound, IsLivedBy};
 
 use crate::command::Command;
 use crate::ending::Ending;
@@ -42,7 +42,7 @@ fn usage<B: Drop>(bench: B) -> Performed<B>
 
 /// Reads the script, and makes none of its steps.
 fn check<S: Source>(alloc: Global, source: &mut S, dids: &DidTable<DID_ROWS>) -> Option<Ending>
-    ensures { (flash : FlashState) → IfSome result (HasCause (dids_of dids.now) (record {
+    ensures { (flash : FlashState) → IfSome result (EndingHasCause (dids_of dids.now) (record {
       left = S.left source.old;
       left_after = S.left source.new;
       read_faults = S.faults source.old;
@@ -95,7 +95,7 @@ pub(crate) fn perform_plain<S: Source, B: Bench + Drop>(
     requires pages { (B.state bench).pages ≡ 1024 }
     requires boots { 256 ≤ (B.state bench).bench.boots_left }
     requires unarmed { (B.state bench).bench.armed ≡ 0 }
-    ensures comes { IfSome result.ending (HasCause (dids_of dids) (record {
+    ensures comes { IfSome result.ending (EndingHasCause (dids_of dids) (record {
       left = S.left source.old;
       left_after = S.left source.new;
       read_faults = S.faults source.old;
@@ -172,7 +172,7 @@ fn run_script<R: Threads + Wait + Sync, G: SharedGate, S: Source, B: Bench + Dro
     requires pages { (B.state bench).pages ≡ 1024 }
     requires boots { 256 ≤ (B.state bench).bench.boots_left }
     requires unarmed { (B.state bench).bench.armed ≡ 0 }
-    ensures comes { IfSome result.ending (HasCause (dids_of dids) (record {
+    ensures comes { IfSome result.ending (EndingHasCause (dids_of dids) (record {
       left = S.left source.old;
       left_after = S.left source.new;
       read_faults = S.faults source.old;
@@ -227,7 +227,7 @@ pub(crate) fn perform<R: Threads + Wait + Sync, G: SharedGate, S: Source, B: Ben
     requires pages { (B.state bench).pages ≡ 1024 }
     requires boots { 256 ≤ (B.state bench).bench.boots_left }
     requires unarmed { (B.state bench).bench.armed ≡ 0 }
-    ensures comes { IfSome result.ending (HasCause (dids_of dids) (record {
+    ensures comes { IfSome result.ending (EndingHasCause (dids_of dids) (record {
       left = S.left source.old;
       left_after = S.left source.new;
       read_faults = S.faults source.old;

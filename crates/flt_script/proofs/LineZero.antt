@@ -34,7 +34,7 @@ use Rattle.flt_script.specs.Event.{event_held}
 use Rattle.flt_script.specs.Gives.{◌>>=◌}
 use Rattle.flt_script.specs.Laws.{LineZeroIsLarge}
 use Rattle.flt_script.specs.Refusal.{event_refusal, refusal, line_behind}
-use Rattle.flt_script.specs.Script.{Content, script_of, lines_behind, line_of_fault, at_line, at_place, ended}
+use Rattle.flt_script.specs.Script.{ScriptContent, script_of, lines_behind, line_of_fault, at_line, at_place, ended}
 use Rattle.flt_script.specs.Text.{lines_of}
 use Rattle.flt_script.proofs.Accepted.{length_used, of_accepted_lines}
 use Rattle.flt_script.proofs.FirstCause.{first_cause_is_told}
@@ -271,7 +271,7 @@ told_at_line dids past [] fault e = absurd cc
 told_at_line dids past (text ∷ texts) fault e =
     line_step dids past text texts fault (line_behind dids past text) refl (λ l. told_at_line dids (l ∷ past) texts fault) e
 
-told_at_place : (b : Behind) (fault : ScriptFault) (content : Config → Content) (checked : Result Config CfgFault) → check_of b.config ≡ checked → IsSound b
+told_at_place : (b : Behind) (fault : ScriptFault) (content : Config → ScriptContent) (checked : Result Config CfgFault) → check_of b.config ≡ checked → IsSound b
     → (at_place b.places checked >>= λ config. Ok (content config)) ≡ Err fault → IsOfLine fault
 told_at_place b fault content (Ok config) is sound e = absurd cc
 told_at_place b fault content (Err f) is sound e =

@@ -1,10 +1,10 @@
 -- Bytes are one script or have one fault.
 use Rattle.std.proofs.Common.{◌≡◌, ◌⊎◌, Result, Ok, Err, refl, inl, inr}
 use Rattle.flt_script.specs.declared.fault.ScriptFault.{ScriptFault}
-use Rattle.flt_script.specs.Script.{Content, script_of}
+use Rattle.flt_script.specs.Script.{ScriptContent, script_of}
 use Rattle.flt_script.specs.Laws.{EachHasOneOutcome}
 
-either_of : (given : Result Content ScriptFault) → ((content : Content) × (given ≡ Ok content)) ⊎ ((fault : ScriptFault) × (given ≡ Err fault))
+either_of : (given : Result ScriptContent ScriptFault) → ((content : ScriptContent) × (given ≡ Ok content)) ⊎ ((fault : ScriptFault) × (given ≡ Err fault))
 either_of (Ok content) = inl (content, refl)
 either_of (Err fault) = inr (fault, refl)
 

@@ -101,14 +101,14 @@ printed_step_is_read_again config (step.Request tester bytes) few among held =
     )
 printed_step_is_read_again config step.Save few among held = (written.Save, save_is_read, refl)
 printed_step_is_read_again config (step.Post urgent block bytes) few among held =
-    let parts = both_true (ltb block config.blocks) (ltb 0 (length bytes.items)) among in
+    let within = both_true (ltb block config.blocks && ltb 0 (length bytes.items)) (leb (length bytes.items) 32) among in
+    let parts = both_true (ltb block config.blocks) (ltb 0 (length bytes.items)) within.0 in
     let some = ltb-true 0 (length bytes.items) parts.1 in
-    let all = both_true (ltb block 256 && leb (length bytes.items) 32) (are_bytes bytes.items) held in
-    let sizes = both_true (ltb block 256) (leb (length bytes.items) 32) all.0 in
-    let most = leb-true (length bytes.items) 32 sizes.1 in (
+    let most = leb-true (length bytes.items) 32 within.1 in
+    let sizes = both_true (ltb block 256) (are_bytes bytes.items) held in (
       written.Post urgent block bytes,
-      post_is_read urgent block bytes.items (few_blocks block sizes.0) some most all.1,
-      rw (parts.0, parts.1) refl,
+      post_is_read urgent block bytes.items (few_blocks block sizes.0) some most sizes.1,
+      rw (parts.0, parts.1, within.1) refl,
     )
 printed_step_is_read_again config step.Drain few among held = (written.Drain, drain_is_read, refl)
 printed_step_is_read_again config (step.Get block) few among held =

@@ -17,9 +17,9 @@ use Rattle.flt_script.specs.Said as line
 use Rattle.flt_script.specs.declared.script.Script.{Script}
 use Rattle.flt_script.specs.Behind.{Behind, added, behind, with_use, with_use_at}
 use Rattle.flt_script.specs.Event.{event_held, debounce_held}
-use Rattle.flt_script.specs.Gives.{◌⇒◌, Gives}
+use Rattle.flt_script.specs.Gives.{◌⇒◌, IsAsDefined}
 use Rattle.flt_script.specs.Numeral.{up_to}
-use Rattle.flt_script.specs.Script.{Content, ended, content, fault_of}
+use Rattle.flt_script.specs.Script.{ScriptContent, ended, content, fault_of}
 use Rattle.flt_script.proofs.Checked.{same_config}
 use Rattle.flt_script.proofs.Dids.{found_again}
 
@@ -112,7 +112,7 @@ serves dids (line.Lane ∷ past) = serves dids past
 serves dids (line.End ∷ past) = serves dids past
 
 -- What is accepted is what the lines configure.
-ended_config : (last : ℕ) (b : Behind) (under_way : Bool) (checked : Result Config CfgFault) (given : Content) → is_some b.block ≡ under_way → check_of b.config ≡ checked
+ended_config : (last : ℕ) (b : Behind) (under_way : Bool) (checked : Result Config CfgFault) (given : ScriptContent) → is_some b.block ≡ under_way → check_of b.config ≡ checked
     → ended last b ≡ Ok given → given.config ≡ b.config
 unfolding ended
 ended_config last b true checked given under_way e is = let known = rw under_way at is in absurd cc
@@ -123,7 +123,7 @@ ended_config last b false (Ok config) given under_way e is =
 ended_config last b false (Err fault) given under_way e is = let known = rw (under_way, e) at is in absurd cc
 
 pub served : (dids : List DidUse) (last : ℕ) (b : Behind) (lines : List Line) (result : Result Script ParseFault) → b ≡ behind dids lines
-    → Gives content fault_of result (ended last b) → IfOk result (λ script. Serves dids script.config.events.items)
+    → IsAsDefined content fault_of result (ended last b) → IfOk result (λ script. Serves dids script.config.events.items)
 served dids last b lines (Err fault) stands given = tt
 served dids last b lines (Ok script) stands given =
     rw (ended_config last b (is_some b.block) (check_of b.config) (content script) refl refl given, stands) (serves dids lines)

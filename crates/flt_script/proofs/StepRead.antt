@@ -72,7 +72,7 @@ module _ (config : Config) where
       true (λ t. kept t step.Save) refl refl refl
   is_read (Post urgent block bytes) =
       by_one config (Post urgent block bytes) (step.Post urgent block bytes) record { within = refl; arms = refl; drains = refl; no_lane = refl; one_lane = refl }
-      (ltb block config.blocks && ltb 0 (length bytes.items)) (λ t. kept t (step.Post urgent block bytes)) refl refl refl
+      (ltb block config.blocks && ltb 0 (length bytes.items) && leb (length bytes.items) 32) (λ t. kept t (step.Post urgent block bytes)) refl refl refl
   is_read Drain =
       by_one config Drain step.Drain record { within = refl; arms = refl; drains = refl; no_lane = refl; one_lane = refl }
       true (λ t. kept t step.Drain) refl refl refl

@@ -109,7 +109,8 @@ step_of config (Signal index value) = up_to 7 index ⇒ λ index. up_to 65535 va
 step_of config (Request tester bytes) = if nat_le tester 3 && nat_lt 0 (length bytes.items) then Some (step.Request tester bytes) else None
 step_of config Save = Some step.Save
 step_of config (Post urgent block bytes) =
-    if nat_lt block config.blocks && nat_lt 0 (length bytes.items) then Some (step.Post urgent block bytes) else None
+    if nat_lt block config.blocks && nat_lt 0 (length bytes.items) && nat_le (length bytes.items) 32
+    then Some (step.Post urgent block bytes) else None
 step_of config Drain = Some step.Drain
 step_of config (Get block) = option_map step.Get (below config.blocks block)
 step_of config (Ask block) = option_map step.Ask (below config.blocks block)

@@ -23,11 +23,11 @@ use Rattle.flt_script.specs.Line.{line_of}
 use Rattle.flt_script.specs.Load.{load_number, load_lanes}
 use Rattle.flt_script.specs.Pair.{any_twice}
 use Rattle.flt_script.specs.Refusal.{line_behind}
-use Rattle.flt_script.specs.Script.{Content, lines_behind, script_of}
+use Rattle.flt_script.specs.Script.{ScriptContent, lines_behind, script_of}
 use Rattle.flt_script.specs.Step.{is_step_in, with_number, with_two_numbers, step_text}
 
 -- These bytes are this script.
-abbrev pub IsScript : List DidUse → List ℕ → Content → Type 0
+abbrev pub IsScript : List DidUse → List ℕ → ScriptContent → Type 0
 IsScript dids bytes content = script_of dids bytes ≡ Ok content
 
 -- These bytes are no script, and this is their first fault.
@@ -36,10 +36,10 @@ IsFaulty dids bytes fault = script_of dids bytes ≡ Err fault
 
 -- The bytes are one script or have one fault, and never both.
 pub record HasOneOutcome (dids : List DidUse) (bytes : List ℕ) : Type 0 where
-  pub some : ((content : Content) × IsScript dids bytes content) ⊎ ((fault : ScriptFault) × IsFaulty dids bytes fault)
-  pub one_script : (content other : Content) → IsScript dids bytes content → IsScript dids bytes other → content ≡ other
+  pub some : ((content : ScriptContent) × IsScript dids bytes content) ⊎ ((fault : ScriptFault) × IsFaulty dids bytes fault)
+  pub one_script : (content other : ScriptContent) → IsScript dids bytes content → IsScript dids bytes other → content ≡ other
   pub one_fault : (fault other : ScriptFault) → IsFaulty dids bytes fault → IsFaulty dids bytes other → fault ≡ other
-  pub never_both : (content : Content) (fault : ScriptFault) → IsScript dids bytes content → IsFaulty dids bytes fault → ⊥
+  pub never_both : (content : ScriptContent) (fault : ScriptFault) → IsScript dids bytes content → IsFaulty dids bytes fault → ⊥
 
 -- All bytes have one outcome.
 abbrev pub EachHasOneOutcome : Type 0
@@ -53,11 +53,11 @@ IsReadAs text config step = (written : StepLine) × (line_of text ≡ Ok (line.S
 abbrev pub are_bytes : List ℕ → Bool
 are_bytes bytes = list_all (λ byte. nat_lt byte 256) bytes
 
--- A step is one that its type holds: a request has at most 16 bytes and a job at most 32, and the number of an application
--- block is below 256.
+-- A step is one that its type holds: a request has at most 16 bytes, each is below 256, and so is the number of an application
+-- block.
 abbrev pub is_held : Step → Bool
 is_held (step.Request tester bytes) = nat_le (length bytes.items) 16 && are_bytes bytes.items
-is_held (step.Post urgent block bytes) = nat_lt block 256 && nat_le (length bytes.items) 32 && are_bytes bytes.items
+is_held (step.Post urgent block bytes) = nat_lt block 256 && are_bytes bytes.items
 is_held (step.Get block) = nat_lt block 256
 is_held (step.Ask block) = nat_lt block 256
 is_held _ = true

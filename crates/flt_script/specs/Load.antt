@@ -10,7 +10,7 @@ use Rattle.flt_model.specs.declared.call.Report.TheVariants.{Passed, Failed, Pre
 use Rattle.flt_script.specs.declared.step.Step.{Step}
 use Rattle.flt_script.specs.declared.step.Step.TheVariants as step
 use Rattle.flt_script.specs.Part.{PartOf}
-use Rattle.flt_script.specs.Script.{Content}
+use Rattle.flt_script.specs.Script.{ScriptContent}
 
 -- The event of this number, with its DTC and the defaults of an event line.
 abbrev pub load_event : ℕ → EventCfg
@@ -76,5 +76,5 @@ abbrev pub shown_life : List (PartOf Step)
 shown_life = plain_parts (map step.Show (range_with_len 0 16))
 
 -- The script of a load of so many reports, in lanes or without.
-abbrev pub load_script : ℕ → Bool → Content
+abbrev pub load_script : ℕ → Bool → ScriptContent
 load_script count lanes = record { config = load_config; lives = load_life count lanes ∷ shown_life ∷ [] }

@@ -22,7 +22,7 @@ pub(crate) struct OpenBlock {
 
 impl OpenBlock {
     ghost use Rattle.std.specs.Prelude.{[], ◌∷◌, ◌++◌, OnOk};
-    ghost use Rattle.flt_script.specs.Gives.{Gives};
+    ghost use Rattle.flt_script.specs.Gives.{IsAsDefined};
     ghost use Rattle.flt_script.specs.Next.{cause_of, with_lane_step};
 
     /// No lane.
@@ -38,7 +38,8 @@ impl OpenBlock {
 
     /// Adds a step to the last lane.
     pub(crate) fn add_step(&mut self, step: Step) -> Result<(), LineFault>
-        ensures { Gives (λ _. map (λ lane. lane.items) self.new.lanes.items) cause_of result (with_lane_step step (map (λ lane. lane.items) self.old.lanes.items)) }
+        ensures { IsAsDefined (λ _. map (λ lane. lane.items) self.new.lanes.items) cause_of result
+            (with_lane_step step (map (λ lane. lane.items) self.old.lanes.items)) }
     {
         let is_store_step = step.is_store_step();
         add_lane_step(&mut self.lanes, self.used_earlier, step)?;

@@ -110,11 +110,13 @@ impl StepLine {
                 urgent,
                 block,
                 bytes,
-            } if block < blocks && !bytes.is_empty() => Some(Step::Post {
-                urgent,
-                block: block as u8,
-                bytes,
-            }),
+            } if block < blocks && !bytes.is_empty() && bytes.len() <= BLOCK_BYTES => {
+                Some(Step::Post {
+                    urgent,
+                    block: block as u8,
+                    bytes,
+                })
+            }
             StepLine::Drain => Some(Step::Drain),
             StepLine::Get { block } if block < blocks => Some(Step::Get { block: block as u8 }),
             StepLine::Ask { block } if block < blocks => Some(Step::Ask { block: block as u8 }),

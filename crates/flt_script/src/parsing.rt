@@ -1,7 +1,7 @@
 ghost use Rattle.std.specs.Prelude.{◌≤◌, IfOk, OnOk, length};
 ghost use Rattle.flt_did.specs.Serves.{Serves};
 ghost use Rattle.flt_did.specs.Table.{dids_of};
-ghost use Rattle.flt_script.specs.Gives.{Gives};
+ghost use Rattle.flt_script.specs.Gives.{IsAsDefined};
 ghost use Rattle.flt_script.specs.Script.{script_of, content, fault_of};
 
 use crate::draft::Draft;
@@ -22,7 +22,7 @@ const SCRIPT_LENGTH: usize = 1_048_576;
 /// After either nothing is kept of them. The bytes are not copied, and the time is linear in their number.
 #[tactic(auto, unfolding(crate::specs::Script::script_of))]
 pub fn parse(alloc: Global, bytes: &[u8], dids: &DidTable<DID_ROWS>) -> Result<Script, ParseFault>
-    ensures exact { Gives content fault_of result (script_of (dids_of dids.now) bytes.now) }
+    ensures exact { IsAsDefined content fault_of result (script_of (dids_of dids.now) bytes.now) }
     ensures short { OnOk result (length bytes.now ≤ 1048576) }
     ensures served { IfOk result (λ script. Serves (dids_of dids.now) script.config.events.items) }
 {

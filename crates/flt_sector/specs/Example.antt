@@ -46,5 +46,5 @@ abbrev pub ◌⇒◌ : List (List (List ℕ)) → Option (ℕ × ℕ) → Faulty
 image ⇒ place = record { image = image; place = place }
 
 -- The faults are told so.
-abbrev pub Tells : ℕ → List ℕ → List Faulty → Type 0
-Tells used numbers rows = map (λ row. first_fault used numbers row.image) rows ≡ map (λ row. row.place) rows
+abbrev pub TellsFaults : ℕ → List ℕ → List Faulty → Type 0
+TellsFaults used numbers rows = map (λ row. first_fault used numbers row.image) rows ≡ map (λ row. row.place) rows

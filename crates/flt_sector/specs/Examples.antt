@@ -5,7 +5,7 @@ use Rattle.flt_flash.specs.Content.{missing, invalid, bytes}
 use Rattle.flt_code.specs.declared.words.Word.TheVariants.{Start, Active, Head, Gate}
 use Rattle.flt_sector.specs.Log.{log}
 use Rattle.flt_sector.specs.Blocks.{first_fault, block_value}
-use Rattle.flt_sector.specs.Example.{says, piece, torn, spoiled, sector_of, valid_sector, image_of, ◌⇒◌, Tells}
+use Rattle.flt_sector.specs.Example.{says, piece, torn, spoiled, sector_of, valid_sector, image_of, ◌⇒◌, TellsFaults}
 
 -- ---- every kind of item
 
@@ -55,7 +55,7 @@ active sequence = says (Active sequence)
 -- All four gates are wrong, and are mended one after the other; then both sectors have one number. A sector with one gate is not valid, and no fault.
 abbrev pub GatesInOrder : Type 0
 GatesInOrder =
-    Tells 8 blocks
+    TellsFaults 8 blocks
     (image_of (gated spoiled spoiled) (gated spoiled spoiled) ⇒ Some (0, 0)
     ∷ image_of (gated (active 5) spoiled) (gated spoiled spoiled) ⇒ Some (0, 0)
     ∷ image_of (gated (says (Start 5 9)) spoiled) (gated spoiled spoiled) ⇒ Some (0, 0)
@@ -81,7 +81,7 @@ with_log log = image_of (valid_sector 8 5 (says (Gate 8 2) ∷ [])) (valid_secto
 -- a gate; pages that are written behind the end. A log may fill the sector.
 abbrev pub LogFaults : Type 0
 LogFaults =
-    Tells 8 blocks
+    TellsFaults 8 blocks
     (with_log (says (Head 8 0 false 3) ∷ []) ⇒ Some (1, 2)
     ∷ with_log (says (Head 12 0 false 2) ∷ []) ⇒ Some (1, 2)
     ∷ with_log (torn ∷ says (Head 8 128 true 3) ∷ []) ⇒ Some (1, 3)

@@ -79,7 +79,8 @@ pub fn clear(state: &mut EventState)
 
 /// The event's entry gave way to another's: the event is no longer confirmed, and lights no indicator.
 pub fn displaced(state: &mut EventState)
-    ensures { (rules : EventCfg) (base : EventState) (past : Past) → IsDecidedBy rules base past state.old → IsDecidedBy rules base (Displaced ∷ past) state.new }
+    ensures { (rules : EventCfg) (base : EventState) (past : Past) → IsDecidedBy rules base past state.old
+        → IsDecidedBy rules base (Displaced ∷ past) state.new }
 {
     let status = unpack(state.status);
     state.lit = false;
@@ -159,7 +160,8 @@ pub fn failed(rules: &EventCfg, state: &mut EventState) -> FailedMark
 /// The answer tells whether the event aged: whether the clean count came to `age`, or to `heal + age`
 /// where the event was lit. Then it is no longer confirmed, and its entry is to be removed.
 pub fn cycle(rules: &EventCfg, state: &mut EventState) -> bool
-    ensures marked { (base : EventState) (past : Past) → IsDecidedBy rules.now base past state.old → IsDecidedBy rules.now base (with_cycle_end rules.now base past) state.new }
+    ensures marked { (base : EventState) (past : Past) → IsDecidedBy rules.now base past state.old
+        → IsDecidedBy rules.now base (with_cycle_end rules.now base past) state.new }
     ensures aged { (base : EventState) (past : Past) → IsDecidedBy rules.now base past state.old → result ≡ ages base rules.now past }
 {
     let before = unpack(state.status);

@@ -3,7 +3,7 @@ use Rattle.std.proofs.Common.{◌≡◌, ◌⊎◌, inl, inr, ⊎_elim, ℕ, ◌
 use Rattle.flt_flash.specs.Content.{Content, missing, invalid, bytes}
 use Rattle.flt_flash.specs.State.{HasRisenBy}
 use Rattle.flt_flash.specs.Blocks.{BlocksState}
-use Rattle.flt_flash.specs.Calls.{Finds, SameValues, OthersKept}
+use Rattle.flt_flash.specs.Calls.{ReadsContent, SameValues, OthersKept}
 use Rattle.flt_flash.specs.declared.blocks.Found.TheVariants.{Bytes as FoundBytes}
 use Rattle.flt_config.specs.declared.config.Config.{Config}
 use Rattle.flt_nvm.specs.declared.got.Got.TheVariants.{Bytes, Missing, Invalid}
@@ -42,7 +42,7 @@ copy_read before after n copy out_before out_after =
     (λ first. inl (got_bytes 1 (before.value first_commit) n copy out_before out_after first))
     (λ second. (let got = got_bytes 2 (before.value second_commit) n copy out_before out_after second.0 in inr (got.0, got.1, second.1)))
 
-pub found_short : (content : Content) (n : ℕ) (before after : List ℕ) → Finds content (FoundBytes n) before after → n ≤ length after
+pub found_short : (content : Content) (n : ℕ) (before after : List ℕ) → ReadsContent content (FoundBytes n) before after → n ≤ length after
 found_short missing n before after found = absurd found
 found_short invalid n before after found = absurd found
 found_short (bytes held) n before after found =

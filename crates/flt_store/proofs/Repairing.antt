@@ -5,7 +5,7 @@ use Rattle.std.specs.Prelude.{◌≢◌, ◌-◌}
 use Rattle.std.proofs.lemmas.Bool.{cases_eq}
 use Rattle.flt_flash.specs.Content.{Content, missing, invalid, bytes}
 use Rattle.flt_flash.specs.Blocks.{pages_of, record_pages}
-use Rattle.flt_flash.specs.Calls.{Finds}
+use Rattle.flt_flash.specs.Calls.{ReadsContent}
 use Rattle.flt_flash.specs.declared.blocks.Found.TheVariants.{Bytes}
 use Rattle.flt_config.specs.declared.config.Config.{Config}
 use Rattle.flt_nvm.specs.Leaves.{HasNoBytes}
@@ -21,7 +21,7 @@ use Rattle.flt_store.proofs.Causes.{own_first, own_second}
 use Rattle.flt_store.proofs.Started.{holds_kept, commit_names_kept, mark_kept, applications_kept}
 
 -- what a read of bytes says of the content
-pub content_read : (content : Content) (n : ℕ) (before after : List ℕ) → Finds content (Bytes n) before after → content ≡ bytes (take n after)
+pub content_read : (content : Content) (n : ℕ) (before after : List ℕ) → ReadsContent content (Bytes n) before after → content ≡ bytes (take n after)
 content_read missing n before after found = absurd found
 content_read invalid n before after found = absurd found
 content_read (bytes held) n before after found =

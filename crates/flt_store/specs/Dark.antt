@@ -6,7 +6,7 @@ use Rattle.flt_flash.specs.Calls.{Follows, SameImage, SameValues}
 use Rattle.flt_flash.specs.declared.blocks.BlockFault.TheVariants.{Flash}
 use Rattle.flt_nvm.specs.Tries.{Tries, Mounts}
 use Rattle.flt_nvm.specs.Leaves.{GivesInAJob}
-use Rattle.flt_nvm.specs.Reads.{IsUnmended, IsUnread}
+use Rattle.flt_nvm.specs.Reads.{IsUnmended, IsUnreadable}
 use Rattle.flt_config.specs.declared.config.Config.{Config}
 use Rattle.flt_generation.specs.Layout.{commit_id, mark_number, number_of}
 use Rattle.flt_generation.specs.Holding.{Generation, IsSound}
@@ -51,7 +51,7 @@ IsDark c before after = Tries 3 Mounts before after (Err Flash) ⊎ IsImageUnrea
 
 -- of the commit neither copy could be read, or one could not and the other has no bytes; or its other copy could not be mended
 abbrev pub IsUnrestarted : BlocksState → BlocksState → Type 0
-IsUnrestarted before after = IsUnread before after commit_id ⊎ IsCommitUnmended before after
+IsUnrestarted before after = IsUnreadable before after commit_id ⊎ IsCommitUnmended before after
 
 -- a save before failed, and which generation stands could not be found out; or, from where both copies of the commit name one
 -- generation, the flash failed three times

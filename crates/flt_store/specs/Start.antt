@@ -62,7 +62,9 @@ module _ {B : Type 0} {b : Ghosts B} where
   -- in use where a generation was judged
   abbrev pub RefusedFor : Config → Store B b → Store B b → StartFault → Type 0
   RefusedFor c before after Flash = FailsThrice (driver_of before) (driver_of after)
-  RefusedFor c before after (Damaged (Page sector page)) = ((driver_of before).damage ≡ Some (sector, page)) × IsFalse (driver_of before).has_mounted × SameValues (driver_of before) (driver_of after)
+  RefusedFor c before after (Damaged (Page sector page)) = ((driver_of before).damage ≡ Some (sector, page)) × IsFalse (driver_of before).has_mounted
+      × SameValues (driver_of before) (driver_of after)
   RefusedFor c before after (Damaged (Block id)) = Judges c before after (Err (damaged (Block id))) × SameValues (driver_of before) (driver_of after)
-  RefusedFor c before after (OtherConfig found wanted) = Judges c before after (Err (other found)) × (wanted ≡ mark_of c) × SameValues (driver_of before) (driver_of after)
+  RefusedFor c before after (OtherConfig found wanted) = Judges c before after (Err (other found)) × (wanted ≡ mark_of c)
+      × SameValues (driver_of before) (driver_of after)
   RefusedFor c before after SequenceSpent = ((g : Generation) × Judges c before after (Ok g)) × IsTrue (driver_of after).is_spent

@@ -102,7 +102,7 @@ module _ {B : Type 0} {b : Ghosts B} where
     pub running : IsRunning c (numbered number state) (numbered number state) after
 
   -- a save that failed: each generation is one of the old two or the new one, and the spare one's number did not fall
-  pub record Leaves (c : Config) (held spare : Generation) (state : Persist) (before after : Store B b) : Type 0 where
+  pub record MayHaveSaved (c : Config) (held spare : Generation) (state : Persist) (before after : Store B b) : Type 0 where
     pub chosen : Generation
     pub is : IsChosen held spare chosen before after
     pub now_held : Generation

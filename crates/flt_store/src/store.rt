@@ -55,7 +55,7 @@ fn number_in(commit: &Option<Commit>) -> u32
 
 impl<B: Blocks + Drop> Store<B> {
     ghost use Rattle.flt_store.specs.Store.{driver_of, commit_of, kept_of, is_settled, numbered, IsReady, IsRunning, IsLast};
-    ghost use Rattle.flt_store.specs.Store.{IsUndisturbed, IsUnhindered, Leaves, Saves, Chooses, WhileRunning};
+    ghost use Rattle.flt_store.specs.Store.{IsUndisturbed, IsUnhindered, MayHaveSaved, Saves, Chooses, WhileRunning};
 
     /// A store over the blocks of an image: the table is `block_table`'s, over a driver that was made with `fee_numbers`. It is
     /// not started.
@@ -76,7 +76,7 @@ impl<B: Blocks + Drop> Store<B> {
     fn settle(&mut self, config: &ValidConfig) -> Result<(), SaveFault>
         ensures settles { WhileRunning config.now self.old (λ held spare. OnOk result (Chooses config.now held spare self.old self.new)) }
         ensures failed { (state : Persist)
-            → WhileRunning config.now self.old (λ held spare. OnErr result (Leaves config.now held spare state self.old self.new)) }
+            → WhileRunning config.now self.old (λ held spare. OnErr result (MayHaveSaved config.now held spare state self.old self.new)) }
         ensures flash { WhileRunning config.now self.old (λ held spare. IsErrOf result SaveFault.Flash
             → FailsThrice (driver_of self.old) (driver_of self.new)) }
         ensures unrestarted { WhileRunning config.now self.old (λ held spare. IsErrOf result SaveFault.Flash
@@ -156,7 +156,7 @@ impl<B: Blocks + Drop> Store<B> {
         requires { Fits config.now state.now }
         ensures saved { WhileRunning config.now self.old (λ held spare. IfOk result
             (λ number. Saves config.now held spare state.now number self.old self.new)) }
-        ensures failed { WhileRunning config.now self.old (λ held spare. OnErr result (Leaves config.now held spare state.now self.old self.new)) }
+        ensures failed { WhileRunning config.now self.old (λ held spare. OnErr result (MayHaveSaved config.now held spare state.now self.old self.new)) }
         ensures flash { WhileRunning config.now self.old (λ held spare. IsErrOf result SaveFault.Flash
             → FailsThrice (driver_of self.old) (driver_of self.new)) }
         ensures unsaved { WhileRunning config.now self.old (λ held spare. IsErrOf result SaveFault.Flash

@@ -6,7 +6,7 @@
 #![tactic(auto)]
 
 ghost use Rattle.std.specs.Prelude.{◌≡◌, ◌+◌, ◌<◌, ◌≤◌, length, replicate, IfOk, IsTrue, IsFalse};
-ghost use Rattle.flt_flash.specs.Calls.{Finds, found_of};
+ghost use Rattle.flt_flash.specs.Calls.{ReadsContent, found_of};
 ghost use Rattle.flt_stub.specs.Cells.{AllShort};
 
 use arrayvec::ArrayVec;
@@ -60,7 +60,7 @@ impl Cell {
     }
 
     fn read(&self, out: &mut [u8; 128]) -> Found
-        ensures { Finds (content_of self.now) result out.old out.new }
+        ensures { ReadsContent (content_of self.now) result out.old out.new }
     {
         match self {
             Cell::Missing => Found::Missing,

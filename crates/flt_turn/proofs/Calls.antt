@@ -7,7 +7,7 @@ use Rattle.atomic_table.specs.Table.{Me}
 use Rattle.flt_turn.specs.declared.machine.Machine.{Ghosts}
 use Rattle.flt_turn.specs.declared.view.View.{View}
 use Rattle.flt_turn.specs.Journal.{entry, ops_of, calls_of}
-use Rattle.flt_turn.specs.Plays.{IsFound, IsTurn}
+use Rattle.flt_turn.specs.Plays.{IsTakenOut, IsTurn}
 use Rattle.flt_turn.specs.Seats.{Seated, seated, Extends, ops_before}
 use Rattle.flt_turn.specs.Vaults.{VaultOf, journal_of, start_of, room_of}
 use Rattle.flt_turn.specs.Views.{drawn, turned, done}
@@ -18,7 +18,7 @@ module _ {M S O R B : Type 0} {m : Ghosts M S O R B} where
   abbrev pub at_turn : ℕ → VaultOf m → View S O → View S O
   at_turn ticket found v = turned ticket (journal_of found) (drawn ticket v)
 
-  pub has_turn : (ticket : ℕ) (v u : View S O) (found given : VaultOf m) (op : O) → u ≡ at_turn ticket found v → IsFound ticket (drawn ticket v) found
+  pub has_turn : (ticket : ℕ) (v u : View S O) (found given : VaultOf m) (op : O) → u ≡ at_turn ticket found v → IsTakenOut ticket (drawn ticket v) found
       → journal_of given ≡ journal_of found ++ entry v.number op ∷ [] → start_of given ≡ start_of found → room_of given ≡ room_of found → m.admits v.start op → IsTurn u given
   has_turn ticket v u found given op is f longer start_is room_is allowed = subst (λ x. IsTurn x given) (sym is) record {
     ticket = ticket;
@@ -40,7 +40,7 @@ module _ {M S O R B : Type 0} {m : Ghosts M S O R B} where
     pub admitted : All (λ e. m.admits shown.start e.op) after.0.seen
 
   pub called : (shown : Seated S O) (lock lock' : TableId) (v u : View S O) (after : Me (Option (VaultOf m)) (View S O)) (found given : VaultOf m) (op : O) (ticket number : ℕ) → seated lock v ≡ shown → v.number ≡ number → 0 < v.left
-      → u ≡ at_turn ticket found v → IsFound ticket (drawn ticket v) found → journal_of given ≡ journal_of found ++ entry number op ∷ [] → m.admits shown.start op
+      → u ≡ at_turn ticket found v → IsTakenOut ticket (drawn ticket v) found → journal_of given ≡ journal_of found ++ entry number op ∷ [] → m.admits shown.start op
       → (journal_of given ≡ u.seen ++ entry u.number op ∷ [] → after ≡ (done (journal_of given) op u, [])) → lock' ≡ lock → Called shown lock' v after found given op ticket
   called shown lock lock' v u after found given op ticket number shows number_is some_left turn f longer allowed ends same =
       subst (λ x. Called x lock' v after found given op ticket) shows (subst (λ x. Called (seated lock v) x v after found given op ticket) (sym same) record {

@@ -11,7 +11,7 @@ use Rattle.flt_turn.specs.declared.view.Stage.{Stage}
 use Rattle.flt_turn.specs.declared.view.Stage.TheVariants.{Idle, Waiting, Serving, Spent}
 use Rattle.flt_turn.specs.declared.view.View.{View}
 use Rattle.flt_turn.specs.Journal.{calls_of, Interleaves}
-use Rattle.flt_turn.specs.Order.{Knows, IsHome, Orderly}
+use Rattle.flt_turn.specs.Order.{KnowsHistory, IsHome, Orderly}
 use Rattle.flt_turn.specs.Seats.{Seated, seated}
 use Rattle.flt_turn.specs.Sums.{total, one_if}
 use Rattle.flt_turn.specs.Vaults.{VaultOf, journal_of, start_of}
@@ -81,7 +81,7 @@ module _ {M S O R B : Type 0} {m : Ghosts M S O R B} (start : S) (room : ℕ) wh
     pub admitted : All (λ e. m.admits main.start e.op) (journal_of vault)
 
   module _ (s : State (Option (VaultOf m)) (View S O)) (h : Orderly start room s) (id : ℕ) (v : View S O) (at : get_elem? s.views id ≡ some v) (idle : v.stage ≡ Idle) (main : v.number ≡ 0) (whole : length v.ended ≡ v.children) where
-    known : Knows start room h.tally.history h.tally.children h.tally.joined v
+    known : KnowsHistory start room h.tally.history h.tally.children h.tally.joined v
     known = h.known.each id v at (ap is_spent idle)
 
     here : present v ≡ 1

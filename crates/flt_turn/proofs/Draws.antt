@@ -10,7 +10,7 @@ use Rattle.atomic_table.proofs.Lists.{at_set}
 use Rattle.flt_turn.specs.declared.machine.Machine.{Ghosts}
 use Rattle.flt_turn.specs.declared.view.Stage.TheVariants.{Idle}
 use Rattle.flt_turn.specs.declared.view.View.{View}
-use Rattle.flt_turn.specs.Order.{holders, Knows, Orderly}
+use Rattle.flt_turn.specs.Order.{holders, KnowsHistory, Orderly}
 use Rattle.flt_turn.specs.Sums.{total, one_if}
 use Rattle.flt_turn.specs.Vaults.{VaultOf}
 use Rattle.flt_turn.specs.Views.{waits_at, serves_at, is_spent, waits, serves, left_of, drawn}
@@ -67,7 +67,7 @@ module _ {M S O R B : Type 0} {m : Ghosts M S O R B} (start : S) (room : ℕ) wh
             length_is = h.known.length_is;
             admitted = h.known.admitted;
             each = λ j u there seated. ⊎_elim
-                (λ (t : (j ≡ id) × (w ≡ u)). subst (Knows start room h.tally.history h.tally.children h.tally.joined) t.1 (
+                (λ (t : (j ≡ id) × (w ≡ u)). subst (KnowsHistory start room h.tally.history h.tally.children h.tally.joined) t.1 (
                 let known = h.known.each id v at unspent in
                 record { start_is = known.start_is; room_is = known.room_is; seen = known.seen; olds = known.olds; mine = known.mine; own = known.own; main = known.main; turn = λ ticket serving. absurd (cc) }))
                 (λ (t : (j ≢ id) × (get_elem? s.views j ≡ some u)). h.known.each j u t.1 seated)

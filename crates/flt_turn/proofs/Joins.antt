@@ -11,7 +11,7 @@ use Rattle.flt_turn.specs.declared.machine.Machine.{Ghosts}
 use Rattle.flt_turn.specs.declared.view.Stage.TheVariants.{Idle}
 use Rattle.flt_turn.specs.declared.view.View.{View}
 use Rattle.flt_turn.specs.Journal.{calls_of}
-use Rattle.flt_turn.specs.Order.{holders, bearers, Knows, Orderly}
+use Rattle.flt_turn.specs.Order.{holders, bearers, KnowsHistory, Orderly}
 use Rattle.flt_turn.specs.Plays.{counts}
 use Rattle.flt_turn.specs.Sums.{total, one_if}
 use Rattle.flt_turn.specs.Vaults.{VaultOf}
@@ -47,10 +47,10 @@ module _ {M S O R B : Type 0} {m : Ghosts M S O R B} (start : S) (room : ℕ) wh
     unspent' : is_spent w.stage ≡ false
     unspent' = ap is_spent idle'
 
-    known : Knows start room h.tally.history h.tally.children h.tally.joined v
+    known : KnowsHistory start room h.tally.history h.tally.children h.tally.joined v
     known = h.known.each id v at unspent
 
-    known' : Knows start room h.tally.history h.tally.children h.tally.joined w
+    known' : KnowsHistory start room h.tally.history h.tally.children h.tally.joined w
     known' = h.known.each other w was_there unspent'
 
     falls : (f : View S O → ℕ) → f both ≡ f v → total f views + f w ≡ total f s.views + f gone
@@ -74,7 +74,7 @@ module _ {M S O R B : Type 0} {m : Ghosts M S O R B} (start : S) (room : ℕ) wh
         let more = total-append (λ (seat : ℕ × List O). one_if (eqb seat.0 n)) h.tally.joined ((w.number, w.mine) ∷ []) in
         omega (arith, a, his, more)
 
-    both_known : Knows start room h.tally.history h.tally.children joined both
+    both_known : KnowsHistory start room h.tally.history h.tally.children joined both
     both_known = let k = known in let of_main = k.main main in record {
       start_is = k.start_is;
       room_is = k.room_is;
@@ -86,7 +86,7 @@ module _ {M S O R B : Type 0} {m : Ghosts M S O R B} (start : S) (room : ℕ) wh
       turn = k.turn;
     }
 
-    others_known : (j : ℕ) (u : View S O) → j ≢ id → get_elem? s.views j ≡ some u → is_spent u.stage ≡ false → Knows start room h.tally.history h.tally.children joined u
+    others_known : (j : ℕ) (u : View S O) → j ≢ id → get_elem? s.views j ≡ some u → is_spent u.stage ≡ false → KnowsHistory start room h.tally.history h.tally.children joined u
     others_known j u away at_j seated = let k = h.known.each j u at_j seated in record {
       start_is = k.start_is;
       room_is = k.room_is;
@@ -121,7 +121,7 @@ module _ {M S O R B : Type 0} {m : Ghosts M S O R B} (start : S) (room : ℕ) wh
         each = λ j u at_j seated. ⊎_elim
             (λ (t : (j ≡ other) × (gone ≡ u)). absurd (was_spent (ap (λ (x : View S O). is_spent x.stage) t.1 ∙ seated)))
             (λ (t : (j ≢ other) × (get_elem? (set s.views id both) j ≡ some u)). ⊎_elim
-            (λ (t' : (j ≡ id) × (both ≡ u)). subst (Knows start room h.tally.history h.tally.children joined) t'.1 both_known)
+            (λ (t' : (j ≡ id) × (both ≡ u)). subst (KnowsHistory start room h.tally.history h.tally.children joined) t'.1 both_known)
             (λ (t' : (j ≢ id) × (get_elem? s.views j ≡ some u)). others_known j u t'.0 t'.1 seated)
             (at_set s.views id j both u t.1))
             (at_set (set s.views id both) other j gone u at_j);

@@ -13,8 +13,8 @@ use Rattle.flt_turn.specs.declared.vault.Entry.{Entry}
 use Rattle.flt_turn.specs.declared.view.Stage.TheVariants.{Waiting}
 use Rattle.flt_turn.specs.declared.view.View.{View}
 use Rattle.flt_turn.specs.Journal.{calls_of}
-use Rattle.flt_turn.specs.Order.{holders, Knows, IsHome, Orderly}
-use Rattle.flt_turn.specs.Plays.{IsFound, looks}
+use Rattle.flt_turn.specs.Order.{holders, KnowsHistory, IsHome, Orderly}
+use Rattle.flt_turn.specs.Plays.{IsTakenOut, looks}
 use Rattle.flt_turn.specs.Sums.{total, one_if}
 use Rattle.flt_turn.specs.Vaults.{VaultOf, journal_of}
 use Rattle.flt_turn.specs.Views.{waits_at, serves_at, ticket_of, is_spent, waits, serves, left_of, turned}
@@ -23,7 +23,7 @@ use Rattle.flt_turn.proofs.Totals.{total-set, total-same, one_le}
 
 module _ {M S O R B : Type 0} {m : Ghosts M S O R B} (start : S) (room : ℕ) where
   abbrev Found : ℕ → View S O → VaultOf m → Type 0
-  Found = IsFound
+  Found = IsTakenOut
 
   -- a look that changes nothing
   unchanged : (s : State (Option (VaultOf m)) (View S O)) (id : ℕ) (v : View S O) (held : List (ℕ × Option (VaultOf m))) → Orderly start room s → get_elem? s.views id ≡ some v
@@ -35,7 +35,7 @@ module _ {M S O R B : Type 0} {m : Ghosts M S O R B} (start : S) (room : ℕ) wh
     unspent : is_spent v.stage ≡ false
     unspent = ap is_spent waiting
 
-    known : Knows start room h.tally.history h.tally.children h.tally.joined v
+    known : KnowsHistory start room h.tally.history h.tally.children h.tally.joined v
     known = h.known.each id v at unspent
 
     one : (t : ℕ) → t ≡ ticket → one_if (eqb ticket t) ≡ 1
@@ -98,7 +98,7 @@ module _ {M S O R B : Type 0} {m : Ghosts M S O R B} (start : S) (room : ℕ) wh
     serves_other : (t : ℕ) → t ≢ h.tally.served → total (serves t) (set s.views id w) ≡ total (serves t) s.views
     serves_other t apart = let no : one_if (eqb ticket t) ≡ 0 = ap one_if (ne_eqb ticket t (λ same. apart (sym (now ∙ same)))) in omega (arith, serves_more t, no)
 
-    now_known : Knows start room h.tally.history h.tally.children h.tally.joined w
+    now_known : KnowsHistory start room h.tally.history h.tally.children h.tally.joined w
     now_known = let k = known in let is = at_home.journal_is in record {
       start_is = k.start_is;
       room_is = k.room_is;
@@ -131,7 +131,7 @@ module _ {M S O R B : Type 0} {m : Ghosts M S O R B} (start : S) (room : ℕ) wh
         length_is = h.known.length_is;
         admitted = h.known.admitted;
         each = λ j u there seated. ⊎_elim
-            (λ (t : (j ≡ id) × (w ≡ u)). subst (Knows start room h.tally.history h.tally.children h.tally.joined) t.1 now_known)
+            (λ (t : (j ≡ id) × (w ≡ u)). subst (KnowsHistory start room h.tally.history h.tally.children h.tally.joined) t.1 now_known)
             (λ (t : (j ≢ id) × (get_elem? s.views j ≡ some u)). h.known.each j u t.1 seated)
             (at_set s.views id j w u there);
       };

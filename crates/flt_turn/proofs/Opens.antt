@@ -5,7 +5,7 @@ use lib.ListN.{get_elem?}
 use Rattle.atomic_table.specs.Table.{opening}
 use Rattle.flt_turn.specs.declared.machine.Machine.{Ghosts}
 use Rattle.flt_turn.specs.declared.view.View.{View}
-use Rattle.flt_turn.specs.Order.{Knows, Orderly}
+use Rattle.flt_turn.specs.Order.{KnowsHistory, Orderly}
 use Rattle.flt_turn.specs.Sums.{one_if}
 use Rattle.flt_turn.specs.Vaults.{VaultOf, journal_of, start_of, room_of}
 use Rattle.flt_turn.specs.Views.{is_spent, main_view}
@@ -53,8 +53,8 @@ module _ {M S O R B : Type 0} {m : Ghosts M S O R B} where
     };
   }
     where
-      only : (j : ℕ) (v : View S O) → get_elem? (main_view start room ∷ []) j ≡ some v → is_spent v.stage ≡ false → Knows start room [] 0 [] v
-      only zero v at seated = subst (Knows start room [] 0 []) (some-injective _ _ at) record {
+      only : (j : ℕ) (v : View S O) → get_elem? (main_view start room ∷ []) j ≡ some v → is_spent v.stage ≡ false → KnowsHistory start room [] 0 [] v
+      only zero v at seated = subst (KnowsHistory start room [] 0 []) (some-injective _ _ at) record {
         start_is = refl;
         room_is = refl;
         seen = prefix_refl [];

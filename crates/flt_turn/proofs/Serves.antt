@@ -13,7 +13,7 @@ use Rattle.flt_turn.specs.declared.machine.Machine.{Ghosts}
 use Rattle.flt_turn.specs.declared.view.Stage.TheVariants.{Serving}
 use Rattle.flt_turn.specs.declared.view.View.{View}
 use Rattle.flt_turn.specs.Journal.{entry, calls_of}
-use Rattle.flt_turn.specs.Order.{holders, Knows, Orderly}
+use Rattle.flt_turn.specs.Order.{holders, KnowsHistory, Orderly}
 use Rattle.flt_turn.specs.Plays.{IsTurn, serves_next}
 use Rattle.flt_turn.specs.Sums.{total, one_if}
 use Rattle.flt_turn.specs.Vaults.{VaultOf, journal_of, start_of, room_of}
@@ -29,7 +29,7 @@ module _ {M S O R B : Type 0} {m : Ghosts M S O R B} (start : S) (room : ℕ) wh
     unspent : is_spent v.stage ≡ false
     unspent = ap is_spent serving
 
-    known : Knows start room h.tally.history h.tally.children h.tally.joined v
+    known : KnowsHistory start room h.tally.history h.tally.children h.tally.joined v
     known = h.known.each id v at unspent
 
     grown : journal_of vault ≡ h.tally.history ++ entry v.number op ∷ []
@@ -81,7 +81,7 @@ module _ {M S O R B : Type 0} {m : Ghosts M S O R B} (start : S) (room : ℕ) wh
         let both = two_le (serves ticket) s.views id j v u apart at there in
         omega (arith, both, theirs', serves_here, one_holder)
 
-    now_known : Knows start room (journal_of vault) h.tally.children h.tally.joined w
+    now_known : KnowsHistory start room (journal_of vault) h.tally.children h.tally.joined w
     now_known = let k = known in record {
       start_is = k.start_is;
       room_is = k.room_is;
@@ -96,7 +96,7 @@ module _ {M S O R B : Type 0} {m : Ghosts M S O R B} (start : S) (room : ℕ) wh
         own_journal : calls_of v.number (journal_of vault) ≡ v.mine ++ op ∷ []
         own_journal = ap (calls_of v.number) grown ∙ (calls_of_own v.number op h.tally.history ∙ ap (λ l. l ++ op ∷ []) known.mine)
 
-    others_know : (j : ℕ) (u : View S O) → j ≢ id → get_elem? s.views j ≡ some u → is_spent u.stage ≡ false → Knows start room (journal_of vault) h.tally.children h.tally.joined u
+    others_know : (j : ℕ) (u : View S O) → j ≢ id → get_elem? s.views j ≡ some u → is_spent u.stage ≡ false → KnowsHistory start room (journal_of vault) h.tally.children h.tally.joined u
     others_know j u apart there seated = let k = h.known.each j u there seated in record {
       start_is = k.start_is;
       room_is = k.room_is;
@@ -150,7 +150,7 @@ module _ {M S O R B : Type 0} {m : Ghosts M S O R B} (start : S) (room : ℕ) wh
             length_is = ap length grown ∙ (long ∙ ap (λ n. n + 1) h.known.length_is);
             admitted = subst (All (λ e. m.admits start e.op)) (sym grown) (All-append (λ e. m.admits start e.op) h.tally.history (entry v.number op ∷ []) h.known.admitted (subst (λ x. All (λ e. m.admits x e.op) (entry v.number op ∷ [])) known.start_is alone));
             each = λ j u there seated. ⊎_elim
-                (λ (t : (j ≡ id) × (w ≡ u)). subst (Knows start room (journal_of vault) h.tally.children h.tally.joined) t.1 now_known)
+                (λ (t : (j ≡ id) × (w ≡ u)). subst (KnowsHistory start room (journal_of vault) h.tally.children h.tally.joined) t.1 now_known)
                 (λ (t : (j ≢ id) × (get_elem? s.views j ≡ some u)). others_know j u t.0 t.1 seated)
                 (at_set s.views id j w u there);
           };

@@ -10,7 +10,7 @@ use Rattle.flt_turn.specs.declared.machine.Machine.{Ghosts}
 use Rattle.flt_turn.specs.declared.view.Stage.TheVariants.{Idle}
 use Rattle.flt_turn.specs.declared.view.View.{View}
 use Rattle.flt_turn.specs.Journal.{calls_of}
-use Rattle.flt_turn.specs.Order.{holders, bearers, Knows, Orderly}
+use Rattle.flt_turn.specs.Order.{holders, bearers, KnowsHistory, Orderly}
 use Rattle.flt_turn.specs.Sums.{total, one_if}
 use Rattle.flt_turn.specs.Views.{is_spent, waits, serves, sits, left_of, present, calls_made, parent, child}
 use Rattle.flt_turn.proofs.Apart.{others_number}
@@ -43,7 +43,7 @@ module _ {M S O R B : Type 0} {m : Ghosts M S O R B} (start : S) (room : ℕ) wh
       let one : one_if (eqb (v.children + 1) (h.tally.children + 1)) ≡ 1 = ap one_if (eq-eqb (v.children + 1) (h.tally.children + 1) number_is) in
       omega (arith, bearers_more (h.tally.children + 1), one, fresh.0) in
       let no_calls : calls_of (v.children + 1) h.tally.history ≡ [] = ap (λ n. calls_of n h.tally.history) number_is ∙ fresh.1 in
-      let w_known : Knows start room h.tally.history (h.tally.children + 1) h.tally.joined w = record {
+      let w_known : KnowsHistory start room h.tally.history (h.tally.children + 1) h.tally.joined w = record {
         start_is = known.start_is;
         room_is = known.room_is;
         seen = known.seen;
@@ -53,7 +53,7 @@ module _ {M S O R B : Type 0} {m : Ghosts M S O R B} (start : S) (room : ℕ) wh
         main = λ _. (number_is, of_main.1);
         turn = known.turn;
       } in
-      let c_known : Knows start room h.tally.history (h.tally.children + 1) h.tally.joined c = record {
+      let c_known : KnowsHistory start room h.tally.history (h.tally.children + 1) h.tally.joined c = record {
         start_is = known.start_is;
         room_is = known.room_is;
         seen = known.seen;
@@ -85,7 +85,7 @@ module _ {M S O R B : Type 0} {m : Ghosts M S O R B} (start : S) (room : ℕ) wh
           admitted = h.known.admitted;
           each = λ j u there seated. ⊎_elim
               (λ (was : get_elem? (set s.views id w) j ≡ some u). ⊎_elim
-              (λ (t : (j ≡ id) × (w ≡ u)). subst (Knows start room h.tally.history (h.tally.children + 1) h.tally.joined) t.1 w_known)
+              (λ (t : (j ≡ id) × (w ≡ u)). subst (KnowsHistory start room h.tally.history (h.tally.children + 1) h.tally.joined) t.1 w_known)
               (λ (t : (j ≢ id) × (get_elem? s.views j ≡ some u)). let k = h.known.each j u t.1 seated in record {
                 start_is = k.start_is;
                 room_is = k.room_is;
@@ -97,7 +97,7 @@ module _ {M S O R B : Type 0} {m : Ghosts M S O R B} (start : S) (room : ℕ) wh
                 turn = k.turn;
               })
               (at_set s.views id j w u was))
-              (λ (new : c ≡ u). subst (Knows start room h.tally.history (h.tally.children + 1) h.tally.joined) new c_known)
+              (λ (new : c ≡ u). subst (KnowsHistory start room h.tally.history (h.tally.children + 1) h.tally.joined) new c_known)
               (at_snoc (set s.views id w) c u j there);
         };
         named = record {

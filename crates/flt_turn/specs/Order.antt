@@ -31,7 +31,7 @@ module _ {S O : Type 0} where
   bearers number views joined = total (sits number) views + total (λ seat. one_if (seat.0 == number)) joined
 
   -- what a seat that was not joined knows of the history
-  pub record Knows (start : S) (room : ℕ) (history : List (Entry O)) (children : ℕ) (joined : List (ℕ × List O)) (v : View S O) : Type 0 where
+  pub record KnowsHistory (start : S) (room : ℕ) (history : List (Entry O)) (children : ℕ) (joined : List (ℕ × List O)) (v : View S O) : Type 0 where
     pub start_is : v.start ≡ start
     pub room_is : v.room ≡ room
     pub seen : IsPrefix v.seen history
@@ -52,7 +52,7 @@ module _ {S O : Type 0} where
   pub record HistoryIsKnown (admits : S → O → Type 0) (start : S) (room : ℕ) (t : Tally O) (views : List (View S O)) : Type 0 where
     pub length_is : length t.history ≡ t.served
     pub admitted : All (λ e. admits start e.op) t.history
-    pub each : (j : ℕ) (v : View S O) → get_elem? views j ≡ some v → is_spent v.stage ≡ false → Knows start room t.history t.children t.joined v
+    pub each : (j : ℕ) (v : View S O) → get_elem? views j ≡ some v → is_spent v.stage ≡ false → KnowsHistory start room t.history t.children t.joined v
 
   -- the numbers from 0 to the last child are each of one seat, and each call is of one of these
   pub record NumbersAreGiven (t : Tally O) (views : List (View S O)) : Type 0 where
@@ -60,7 +60,8 @@ module _ {S O : Type 0} where
     pub no_other : (number : ℕ) → t.children < number → (bearers number views t.joined ≡ 0) × (calls_of number t.history ≡ [])
     pub ended : All (λ seat. calls_of seat.0 t.history ≡ seat.1) t.joined
 
-  -- the seats together are main and all that were split from it, their calls are what was served, and each place of the journal is served, or with a ticket, or left to some seat
+  -- the seats together are main and all that were split from it, their calls are what was served, and each place of the journal is
+  -- served, or with a ticket, or left to some seat
   pub record SumsAgree (room : ℕ) (t : Tally O) (views : List (View S O)) : Type 0 where
     pub seats : total present views + length t.joined ≡ t.children + 1
     pub lengths : total calls_made views + total (λ seat. length seat.1) t.joined ≡ t.served

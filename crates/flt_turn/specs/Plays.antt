@@ -20,7 +20,7 @@ module _ {W S O : Type 0} where
 
 module _ {M S O R B : Type 0} {m : Ghosts M S O R B} where
   -- the vault that a seat takes out at the turn of this ticket
-  pub record IsFound (ticket : ℕ) (v : View S O) (vault : VaultOf m) : Type 0 where
+  pub record IsTakenOut (ticket : ℕ) (v : View S O) (vault : VaultOf m) : Type 0 where
     pub start_is : start_of vault ≡ v.start
     pub roomy : (length (journal_of vault) < v.room) × (v.room ≤ room_of vault)
     pub small : v.room < 2 ^ 32
@@ -45,9 +45,11 @@ module _ {M S O R B : Type 0} {m : Ghosts M S O R B} where
   abbrev pub looks : Step (Option (VaultOf m)) → Me (Option (VaultOf m)) (View S O) → ℕ → Me (Option (VaultOf m)) (View S O) → Type 0
   looks st before found after = (ticket : ℕ) → before.0.stage ≡ Waiting ticket
       → (found ≢ ticket → after ≡ before)
-      × (found ≡ ticket → (vault : VaultOf m) × (after ≡ (turned ticket (journal_of vault) before.0, (0, Some vault) ∷ before.1)) × IsFound ticket before.0 vault)
+      × (found ≡ ticket → (vault : VaultOf m) × (after ≡ (turned ticket (journal_of vault) before.0, (0, Some vault) ∷ before.1))
+      × IsTakenOut ticket before.0 vault)
 
   -- the seat gives the vault back, with one call more in its journal
   abbrev pub serves_next : Step (Option (VaultOf m)) → Me (Option (VaultOf m)) (View S O) → ℕ → Me (Option (VaultOf m)) (View S O) → Type 0
-  serves_next st before found after = (vault : VaultOf m) (op : O) → before.1 ≡ (0, Some vault) ∷ [] → journal_of vault ≡ before.0.seen ++ entry before.0.number op ∷ []
+  serves_next st before found after = (vault : VaultOf m) (op : O) → before.1 ≡ (0, Some vault) ∷ []
+      → journal_of vault ≡ before.0.seen ++ entry before.0.number op ∷ []
       → after ≡ (done (journal_of vault) op before.0, [])

@@ -29,7 +29,17 @@ IsSeatOf lock seat = seat.lock ≡ lock
 
 -- what a seat of this lock shows of its view
 abbrev pub seated : {S O : Type 0} → TableId → View S O → Seated S O
-seated lock v = record { lock = lock; number = v.number; start = v.start; left = v.left; children = v.children; seen = v.seen; mine = v.mine; olds = v.olds; ended = v.ended }
+seated lock v = record {
+  lock = lock;
+  number = v.number;
+  start = v.start;
+  left = v.left;
+  children = v.children;
+  seen = v.seen;
+  mine = v.mine;
+  olds = v.olds;
+  ended = v.ended;
+}
 
 -- between two calls a seat holds no slot, and the counts that it keeps are those of its view
 pub record FitsView {H S O : Type 0} (v : View S O) (held : List H) (number left children waiting : ℕ) : Type 0 where
@@ -57,7 +67,8 @@ pub record Extends {S O : Type 0} (before after : Seated S O) (op : O) (place : 
   pub mine : after.mine ≡ before.mine ++ op ∷ []
   pub left : after.left + 1 ≡ before.left
   pub lock : after.lock ≡ before.lock
-  pub rest : (after.number ≡ before.number) × (after.start ≡ before.start) × (after.children ≡ before.children) × (after.olds ≡ before.olds) × (after.ended ≡ before.ended)
+  pub rest : (after.number ≡ before.number) × (after.start ≡ before.start) × (after.children ≡ before.children) × (after.olds ≡ before.olds)
+      × (after.ended ≡ before.ended)
 
 -- a main seat that has made no call
 abbrev pub main_seat : {S O : Type 0} → TableId → S → ℕ → Seated S O
@@ -69,8 +80,22 @@ split_off calls main = record main { left = main.left - calls; children = main.c
 
 -- and that seat
 abbrev pub split_seat : {S O : Type 0} → ℕ → Seated S O → Seated S O
-split_seat calls main = record { lock = main.lock; number = main.children + 1; start = main.start; left = calls; children = 0; seen = main.seen; mine = []; olds = main.olds; ended = [] }
+split_seat calls main = record {
+  lock = main.lock;
+  number = main.children + 1;
+  start = main.start;
+  left = calls;
+  children = 0;
+  seen = main.seen;
+  mine = [];
+  olds = main.olds;
+  ended = [];
+}
 
 -- the main seat, when it has taken in another
 abbrev pub joined_seat : {S O : Type 0} → Seated S O → Seated S O → Seated S O
-joined_seat main other = record main { left = main.left + other.left; olds = main.olds ++ other.seen ∷ []; ended = main.ended ++ (other.number, other.mine) ∷ [] }
+joined_seat main other = record main {
+  left = main.left + other.left;
+  olds = main.olds ++ other.seen ∷ [];
+  ended = main.ended ++ (other.number, other.mine) ∷ [];
+}

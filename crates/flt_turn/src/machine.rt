@@ -46,9 +46,11 @@ pub trait Step: Machine {
         requires serves { serves context.now (Self.start self.old) }
         requires admitted { Self.admits (Self.start self.old) op.now }
         ensures start { Self.start self.new ≡ Self.start self.old }
-        ensures stands { (ops : List Self.Op) → Self.stands_for self.old (Self.start self.old) ops → Self.stands_for self.new (Self.start self.old) (ops ++ op.now ∷ []) }
+        ensures stands { (ops : List Self.Op) → Self.stands_for self.old (Self.start self.old) ops
+            → Self.stands_for self.new (Self.start self.old) (ops ++ op.now ∷ []) }
         ensures answer { (ops : List Self.Op) → Self.stands_for self.old (Self.start self.old) ops → result ≡ Self.answer (Self.start self.old) ops op.now }
-        ensures written { (ops : List Self.Op) → Self.stands_for self.old (Self.start self.old) ops → out.new ≡ Self.written (Self.start self.old) ops op.now out.old };
+        ensures written { (ops : List Self.Op) → Self.stands_for self.old (Self.start self.old) ops
+            → out.new ≡ Self.written (Self.start self.old) ops op.now out.old };
 }
 
 /// A machine that makes its steps without its buffer too, for callers that want nothing written. What such a step returns is small,
@@ -73,6 +75,8 @@ pub trait StepInto: Step {
         requires serves { Self.serves context.now (Self.start self.old) }
         requires admitted { Self.admits (Self.start self.old) op.now }
         ensures start { Self.start self.new ≡ Self.start self.old }
-        ensures stands { (ops : List Self.Op) → Self.stands_for self.old (Self.start self.old) ops → Self.stands_for self.new (Self.start self.old) (ops ++ op.now ∷ []) }
-        ensures answer { (ops : List Self.Op) → Self.stands_for self.old (Self.start self.old) ops → reply_with result payload.new ≡ Self.answer (Self.start self.old) ops op.now };
+        ensures stands { (ops : List Self.Op) → Self.stands_for self.old (Self.start self.old) ops
+            → Self.stands_for self.new (Self.start self.old) (ops ++ op.now ∷ []) }
+        ensures answer { (ops : List Self.Op) → Self.stands_for self.old (Self.start self.old) ops
+            → reply_with result payload.new ≡ Self.answer (Self.start self.old) ops op.now };
 }

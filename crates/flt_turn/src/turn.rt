@@ -5,7 +5,7 @@ ghost use mathlib.Core.Logic.{◌↔◌};
 ghost use Rattle.flt_turn.specs.declared.view.Stage.TheVariants.{Idle};
 ghost use Rattle.flt_turn.specs.Call.{IsCall, IsRefusal, whole};
 ghost use Rattle.flt_turn.specs.Journal.{entry, ops_of, Interleaves};
-ghost use Rattle.flt_turn.specs.Plays.{IsFound, IsTurn};
+ghost use Rattle.flt_turn.specs.Plays.{IsTakenOut, IsTurn};
 ghost use Rattle.flt_turn.specs.Seats.{IsSeatOf, main_seat, Extends, ops_before, split_off, split_seat, joined_seat};
 ghost use Rattle.flt_turn.specs.Views.{drawn, turned, done, parent, child};
 
@@ -175,7 +175,7 @@ impl<M: Machine> Turn<M> {
         requires left { 0 < token.old.me.0.left }
         ensures lock { (token.new.table_id ≡ token.old.table_id) × (token.new.id ≡ token.old.id) }
         ensures turn { token.new.me ≡ (turned result.0 result.1.journal.items (drawn result.0 token.old.me.0), (0, None) ∷ []) }
-        ensures found { IsFound result.0 (drawn result.0 token.old.me.0) result.1 }
+        ensures found { IsTakenOut result.0 (drawn result.0 token.old.me.0) result.1 }
     {
         let shared = &self.table.shared;
         let ticket = shared.fetch_add::<Draw>(token, NEXT, 1);
@@ -203,7 +203,8 @@ impl<M: Machine> Turn<M> {
         requires held { token.old.me.1 ≡ (0, None) ∷ [] }
         requires turn { IsTurn token.old.me.0 vault }
         ensures lock { (token.new.table_id ≡ token.old.table_id) × (token.new.id ≡ token.old.id) }
-        ensures done { (op : M.Op) → vault.journal.items ≡ token.old.me.0.seen ++ entry token.old.me.0.number op ∷ [] → token.new.me ≡ (done vault.journal.items op token.old.me.0, []) }
+        ensures done { (op : M.Op) → vault.journal.items ≡ token.old.me.0.seen ++ entry token.old.me.0.number op ∷ []
+            → token.new.me ≡ (done vault.journal.items op token.old.me.0, []) }
     {
         let shared = &self.table.shared;
         let empty = shared.exchange(token, 0, Some(vault));

@@ -34,8 +34,8 @@ abbrev pub switched : List (List (List ℕ))
 switched = image_of (valid_sector 64 1 (records 2 (first_blocks ++ first_copies))) (valid_sector 64 2 (records 2 (second_blocks ++ second_copies)))
 
 -- What an image holds before the first save, after each step of two saves, and after a switch of the sectors.
-abbrev pub Saves : Type 0
-Saves =
+abbrev pub TwoSaves : Type 0
+TwoSaves =
     AreJudged small
     (judged (image_of erased erased) (Ok (first_generation small)) (Ok (first_generation small))
     ∷ judged (image_of (sector_of 64 (torn ∷ torn ∷ torn ∷ [])) erased) (Ok (first_generation small)) (Ok (first_generation small))

@@ -26,7 +26,7 @@ fn drive<B: Blocks>(rt: &impl Abort, driver: &mut B) -> Result<(), Fail>
     Ok(())
 }
 
-// Writes one byte to block 8, so many times.
+/// Writes one byte to block 8, so many times.
 pub fn fill<B: Blocks>(driver: &mut B, times: u8) -> Result<(), BlockFault>
     requires { Contains (B.state driver.old).numbers 8 }
     ensures { (B.state driver.new).numbers ≡ (B.state driver.old).numbers }

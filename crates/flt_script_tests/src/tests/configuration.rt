@@ -16,8 +16,10 @@ fn nothing_written(rt: HostRuntime) -> Result<(), Fail> {
 
 #[test]
 fn whole_configuration(rt: HostRuntime) -> Result<(), Fail> {
-    let text =
-        "config 7\nmemory 2\nblocks 3\nflash 2 100\nevent 0 time 10 5 age 9 dtc 00000A lamp 1 prio 5 cycle 1 confirm 2 heal 4\nevent 1 dtc 00000B count 10 20 3 2 jumpup 9 jumpdown -19\nevent 2 dtc 00000C\ndid 1 0107\ndid 1 0101\n";
+    let text = "config 7\nmemory 2\nblocks 3\nflash 2 100\n\
+         event 0 time 10 5 age 9 dtc 00000A lamp 1 prio 5 cycle 1 confirm 2 heal 4\n\
+         event 1 dtc 00000B count 10 20 3 2 jumpup 9 jumpdown -19\n\
+         event 2 dtc 00000C\ndid 1 0107\ndid 1 0101\n";
     let script = parse(rt.alloc(), text.as_bytes(), &table())?;
     let config = script.config.config();
     assert_eq!(rt; config.id, 7);

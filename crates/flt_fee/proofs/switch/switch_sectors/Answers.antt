@@ -2,7 +2,7 @@ use Rattle.std.proofs.Common.{◌+◌, ◌≤◌, ◌∙◌, ℕ, List, sym, sub
 use Rattle.flt_flash.proofs.Following.{runs_on, one_run}
 use Rattle.flt_record.specs.LogHolds.{LogHolds}
 use Rattle.flt_record.specs.Live.{held_in, current_pages}
-use Rattle.flt_record.specs.RecordPlace.{Tells}
+use Rattle.flt_record.specs.RecordPlace.{TellsPlaces}
 use Rattle.flt_fee.proofs.Switching.{switch_unbegun, begun_blank, source_stays, keeps_inactive, active_blank, goes_over, table_over, activation_left}
 use Rattle.flt_fee.proofs.switch.switch_sectors.Goals as goal
 
@@ -70,7 +70,7 @@ pub copy_blocks-requires-clause-table : goal.copy_blocks-requires-clause-table
 copy_blocks-requires-clause-table g c =
     let source = source_stays c.args.used c.args.numbers.now (g.F.Flash.state c.args.flash.now) (g.met.F.Flash.shape c.args.flash.now) c.args.sector c.args.sequence c.requires.sector c.requires.least (omega arith) c.requires.most
     c.requires.current c.requires.sound c.requires.next (g.F.Flash.state c.begin.new.flash) (g.met.F.Flash.shape c.begin.new.flash) c.in_ok-begin.ensures.begins.done in
-    subst (λ (p : List (List ℕ)). Tells c.args.numbers.now c.args.places.now p c.args.used (held_in c.args.used c.args.numbers.now p)) (sym source) c.requires.table
+    subst (λ (p : List (List ℕ)). TellsPlaces c.args.numbers.now c.args.places.now p c.args.used (held_in c.args.used c.args.numbers.now p)) (sym source) c.requires.table
 
 pub returns-clause-table : goal.returns-clause-table
 returns-clause-table g c =

@@ -1,7 +1,8 @@
 use Rattle.std.proofs.Common.{map, subst, sym}
 use Rattle.flt_life.specs.Room.{steps_of, told_in}
-use Rattle.flt_lane.specs.BlockRun.{GainsPart}
+use Rattle.flt_lane.specs.BlockRun.{GainsPart, HasRunLanes}
 use Rattle.flt_lane.specs.Room.{part_in}
+use Rattle.flt_lane.specs.declared.room.BlockRoom.{BlockRoom}
 use Rattle.flt_lane.proofs.Lives.{gains_one, gains_block}
 use Rattle.flt_lane.proofs.living.run_part.Goals as goal
 
@@ -20,4 +21,6 @@ returns-in-Lanes-clause-gains g c =
     let told = map told_in c.args.told.now.items in
     let told_after = map told_in c.run_lanes.new.told.items in
     subst (λ p. GainsPart c.args.config.now c.args.main.now c.run_lanes.new.main c.args.jobs.now c.run_lanes.new.jobs (part_in p) own own told told_after c.args.store.now c.run_lanes.new.store) (sym c.in-Lanes.is)
-    (gains_block c.args.config.now c.args.main.now c.run_lanes.new.main c.args.jobs.now c.run_lanes.new.jobs c.args.store.now c.run_lanes.new.store (steps_of c.in-Lanes.rooms.items) own told told_after c.run_lanes.ensures.part)
+    (gains_block c.args.config.now c.args.main.now c.run_lanes.new.main c.args.jobs.now c.run_lanes.new.jobs c.args.store.now c.run_lanes.new.store (steps_of c.in-Lanes.room.value.lanes.items) own told told_after
+    (subst (λ (block : BlockRoom). HasRunLanes c.args.config.now c.args.main.now c.run_lanes.new.main c.args.jobs.now c.run_lanes.new.jobs (steps_of block.lanes.items) told told_after c.args.store.now c.run_lanes.new.store)
+    c.into_inner-lanes.ensures c.run_lanes.ensures.part))

@@ -1,21 +1,18 @@
 use Rattle.std.proofs.Common.{List, arith, refl, subst, sym}
 use Rattle.flt_flash.specs.declared.arm.Arm.{Arm}
 use Rattle.flt_life.specs.Answers.{told_with}
-use Rattle.flt_life.specs.Ordered.{deed_if, with_deed}
+use Rattle.flt_life.specs.Ordered.{with_deed}
 use Rattle.flt_life.specs.declared.answer.StepAnswer.TheVariants.{Armed}
-use Rattle.flt_queue.specs.Call as queued
-use Rattle.flt_queue.specs.Queue as queue
 use Rattle.flt_script.specs.declared.step.Step.{Step}
 use Rattle.flt_script.specs.declared.step.Step.TheVariants as steps
-use Rattle.flt_shared.specs.Call.{MayBeAsked, reply_after}
 use Rattle.flt_store.specs.Store.{driver_of}
 use Rattle.flt_lives.specs.Going.{WereGiven}
 use Rattle.flt_lives.proofs.Giving.{none_given}
 use Rattle.flt_lives.proofs.Riding.{goes_nowhere}
 use Rattle.flt_lane.specs.Living.{Carries}
 use Rattle.flt_lane.specs.Runs.{Makes, Queues}
-use Rattle.flt_lane.proofs.Carrying.{carries_arm, carries_beside}
-use Rattle.flt_lane.proofs.Knowing.{known_along}
+use Rattle.flt_lane.proofs.OffStore.{carries_call}
+use Rattle.flt_lane.proofs.Carrying.{carries_arm}
 use Rattle.flt_lane.proofs.Stepping.{no_arms, no_store_step, none_made, none_queued}
 use Rattle.flt_lane.proofs.step.do_step.Goals as goal
 
@@ -35,18 +32,15 @@ returns-in_default g c =
     let made = c.make_call.ensures.made in
     let queues = c.make_call.ensures.queues in
     let arms = (driver_of c.args.store.now).device.bench.arms in
-    let store = no_store_step c.args.step.now c.in_default.not-Save c.in_default.not-Drain c.in_default.not-Get in
     record {
       made = made;
       queues = queues;
       size = c.make_call.ensures.size;
       lock = c.make_call.ensures.lock;
       queue = c.make_call.ensures.queue;
-      carries = λ earlier.
-          subst (λ b. Carries c.args.config.now c.args.seat.now c.make_call.new.seat c.args.jobs.now c.make_call.new.jobs earlier (deed_if b c.args.step.now (told_with c.make_call.new.response.items c.make_call.result) earlier) c.args.store.now c.args.store.now) (sym store)
-          (carries_beside c.args.config.now c.args.seat.now c.make_call.new.seat c.args.jobs.now c.make_call.new.jobs earlier c.args.store.now
-          (λ known is. known_along MayBeAsked reply_after c.args.seat.now made.calls c.make_call.new.seat known made.chain is)
-          (λ known is. known_along queue.IsAdmitted queued.reply_after c.args.jobs.now queues.calls c.make_call.new.jobs known queues.chain is));
+      carries = carries_call c.args.config.now c.args.seat.now c.make_call.new.seat c.args.jobs.now c.make_call.new.jobs c.args.step.now
+          (told_with c.make_call.new.response.items c.make_call.result) c.args.store.now
+          (no_store_step c.args.step.now c.in_default.not-Save c.in_default.not-Drain c.in_default.not-Get) made queues;
       goes_on = goes_nowhere (driver_of c.args.store.now);
       given = subst (λ (l : List Arm). WereGiven l arms arms) (sym (no_arms c.args.step.now c.in_default.not-Arming)) (none_given arms);
       armed = omega arith;

@@ -1,7 +1,7 @@
 use Rattle.std.proofs.Common.{◌<◌, ℕ, List, ◌∙◌, ap, subst, arith, length}
 use Rattle.flt_code.specs.Seal.{sealed}
 use Rattle.flt_flash.specs.Image.{page_at, sector_at}
-use Rattle.flt_pages.specs.Append.{Begins}
+use Rattle.flt_pages.specs.Append.{BeginsSector}
 use Rattle.flt_pages.proofs.Appended.{appended, failed_to_begin, begun_on, erased_page}
 use Rattle.flt_pages.proofs.append.begin.Goals as goal
 
@@ -25,4 +25,4 @@ returns g c =
     let done = appended middle after c.args.sector 0 c.put_word.result c.seal.result c.program.result (g.met.F.Flash.shape c.erase.new.self)
     c.requires.sector (omega (arith, c.in_ok-erase.ensures.operation.pages)) blank c.seal.ensures.code_word c.program.ensures.programmed c.program.ensures.torn c.program.ensures.wear c.program.ensures.operation in
     let begins = begun_on before middle after c.args.sector c.seal.result c.program.result c.in_ok-erase.ensures.erased c.in_ok-erase.ensures.wear c.in_ok-erase.ensures.operation done in
-    record { begins = subst (λ (p : List ℕ). Begins before after c.args.sector p c.program.result) page begins }
+    record { begins = subst (λ (p : List ℕ). BeginsSector before after c.args.sector p c.program.result) page begins }

@@ -2,7 +2,6 @@ use Rattle.std.proofs.Common.{arith, sym, subst}
 use Rattle.std.specs.Prelude.{All}
 use Rattle.flt_script.specs.Part.{parts_of}
 use Rattle.flt_life.specs.Parts.{IsPossiblePart}
-use Rattle.flt_run.specs.Jobs.{IsShortPart}
 use Rattle.flt_run.proofs.Possible.{possible_lives, all_arms_same, all_widths_same}
 use Rattle.flt_run.proofs.Lived.{if_some, lived_by, none_by_flash}
 use Rattle.flt_run.proofs.engine.live_alone.Goals as goal
@@ -11,18 +10,19 @@ pub run_alone-run-requires-clause-small : goal.run_alone-run-requires-clause-sma
 run_alone-run-requires-clause-small g c =
     let same = all_widths_same c.args.script.lives.items in
     let few = c.args.script.few_parts in
-    rw c.deref-2.ensures.value (omega (arith, same, few))
+    rw c.deref.ensures.value (omega (arith, same, few))
 
 pub run_alone-run-requires-clause-possible : goal.run_alone-run-requires-clause-possible
 run_alone-run-requires-clause-possible g c =
-    subst (All (λ life. All (IsPossiblePart c.args.script.config) (parts_of life.items))) (sym c.deref-2.ensures.value) (possible_lives c.args.script.config c.args.script.lives.items c.args.script.in_range (subst (All (λ life. All IsShortPart life.items)) c.deref.ensures.value c.look_at_lives.ensures))
+    subst (All (λ life. All (IsPossiblePart c.args.script.config) (parts_of life.items))) (sym c.deref.ensures.value)
+    (possible_lives c.args.script.config c.args.script.lives.items c.args.script.in_range)
 
 pub run_alone-run-requires-clause-arms : goal.run_alone-run-requires-clause-arms
 run_alone-run-requires-clause-arms g c =
     let same = all_arms_same c.args.script.lives.items in
     let few = c.args.script.few_arms in
     let none = c.requires.unarmed in
-    rw c.deref-2.ensures.value (omega (arith, same, few, none))
+    rw c.deref.ensures.value (omega (arith, same, few, none))
 
 pub made_of-requires : goal.made_of-requires
 made_of-requires g c =
@@ -32,7 +32,7 @@ pub returns-clause-lived : goal.returns-clause-lived
 returns-clause-lived g c =
     let before = g.B.Flash.state c.args.bench in
     let ran = if_some c.made_of.result.made
-    (λ made is. lived_by c.args.script c.deref-2.result.now c.deref-2.ensures.value before (g.B.Flash.state c.run_alone-run.result.bench) c.run_alone-run.result.lives made c.look_at_config.ensures is.0 is.1
+    (λ made is. lived_by c.args.script c.deref.result.now c.deref.ensures.value before (g.B.Flash.state c.run_alone-run.result.bench) c.run_alone-run.result.lives made c.look_at_config.ensures is.0 is.1
     c.run_alone-run.ensures.linked c.run_alone-run.ensures.played c.run_alone-run.ensures.ended c.run_alone-run.ensures.given)
     c.made_of.ensures.made in
     rw c.made_of.ensures.bench ran

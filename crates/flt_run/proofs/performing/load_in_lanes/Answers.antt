@@ -1,14 +1,14 @@
 use Rattle.std.proofs.Common.{sym, subst}
 use Rattle.flt_did.specs.Serves.{Serves}
 use Rattle.flt_did.specs.Table.{dids_of}
-use Rattle.flt_script.specs.Script.{Content}
+use Rattle.flt_script.specs.Script.{ScriptContent}
 use Rattle.flt_lives.specs.Sectors.{FlashStaysSound}
 use Rattle.flt_run.proofs.Loaded.{served_load}
 use Rattle.flt_run.proofs.performing.load_in_lanes.Goals as goal
 
 pub unit_of-unit-requires : goal.unit_of-unit-requires
-unit_of-unit-requires g c = subst (λ (script : Content). Serves (dids_of c.args.dids) script.config.events.items) (sym c.in-Ok.ensures) (served_load (dids_of c.args.dids))
+unit_of-unit-requires g c = subst (λ (script : ScriptContent). Serves (dids_of c.args.dids) script.config.events.items) (sym c.in-Ok.ensures) (served_load (dids_of c.args.dids))
 
 pub returns-in-Ok-clause-sound : goal.returns-in-Ok-clause-sound
 returns-in-Ok-clause-sound g c =
-    subst (λ (script : Content). FlashStaysSound script.config (g.B.Flash.state c.args.bench) (g.B.Flash.state c.live_in_lanes.result.bench)) c.in-Ok.ensures c.live_in_lanes.ensures.sound
+    subst (λ (script : ScriptContent). FlashStaysSound script.config (g.B.Flash.state c.args.bench) (g.B.Flash.state c.live_in_lanes.result.bench)) c.in-Ok.ensures c.live_in_lanes.ensures.sound

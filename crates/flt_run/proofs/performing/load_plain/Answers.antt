@@ -1,17 +1,17 @@
 use Rattle.std.proofs.Common.{ap, sym, subst}
 use Rattle.flt_did.specs.Serves.{Serves}
 use Rattle.flt_did.specs.Table.{dids_of}
-use Rattle.flt_script.specs.Script.{Content}
+use Rattle.flt_script.specs.Script.{ScriptContent}
 use Rattle.flt_lives.specs.Sectors.{FlashStaysSound}
 use Rattle.flt_run.proofs.Loaded.{served_load, alone_lives}
 use Rattle.flt_run.proofs.performing.load_plain.Goals as goal
 
 pub unit_of-unit-requires : goal.unit_of-unit-requires
-unit_of-unit-requires g c = subst (λ (script : Content). Serves (dids_of c.args.dids) script.config.events.items) (sym c.in-Ok.ensures) (served_load (dids_of c.args.dids))
+unit_of-unit-requires g c = subst (λ (script : ScriptContent). Serves (dids_of c.args.dids) script.config.events.items) (sym c.in-Ok.ensures) (served_load (dids_of c.args.dids))
 
 pub live_alone-requires-clause-alone : goal.live_alone-requires-clause-alone
-live_alone-requires-clause-alone g c = alone_lives c.args.count c.in-Ok.script.lives.items (ap (λ (script : Content). script.lives) c.in-Ok.ensures)
+live_alone-requires-clause-alone g c = alone_lives c.args.count c.in-Ok.script.lives.items (ap (λ (script : ScriptContent). script.lives) c.in-Ok.ensures)
 
 pub returns-in-Ok-clause-sound : goal.returns-in-Ok-clause-sound
 returns-in-Ok-clause-sound g c =
-    subst (λ (script : Content). FlashStaysSound script.config (g.B.Flash.state c.args.bench) (g.B.Flash.state c.live_alone.result.bench)) c.in-Ok.ensures c.live_alone.ensures.sound
+    subst (λ (script : ScriptContent). FlashStaysSound script.config (g.B.Flash.state c.args.bench) (g.B.Flash.state c.live_alone.result.bench)) c.in-Ok.ensures c.live_alone.ensures.sound

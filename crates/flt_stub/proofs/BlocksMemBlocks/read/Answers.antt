@@ -1,6 +1,6 @@
 use Rattle.std.proofs.Common.{length, Vec, Global, ap, subst, arith}
 use Rattle.flt_flash.specs.Content.{Content}
-use Rattle.flt_flash.specs.Calls.{Finds}
+use Rattle.flt_flash.specs.Calls.{ReadsContent}
 use Rattle.flt_stub.specs.declared.Cell.{Cell}
 use Rattle.flt_stub.proofs.Numbers.{has_cell}
 use Rattle.flt_stub.proofs.Cells.{found}
@@ -13,5 +13,5 @@ pub returns-clause-found : goal.returns-clause-found
 returns-clause-found c =
     let same = ap (λ (cells : Vec Cell Global). cells.items) c.settle.ensures.cells in
     let within = has_cell (length c.args.self.now.cells.items) c.args.block c.requires in
-    subst (λ (content : Content). Finds content c.read.result c.args.out.now c.read.new.out)
+    subst (λ (content : Content). ReadsContent content c.read.result c.args.out.now c.read.new.out)
     (found c.args.self.now.cells.items c.settle.new.self.cells.items same c.args.block within c.index.result.now c.index.ensures) c.read.ensures

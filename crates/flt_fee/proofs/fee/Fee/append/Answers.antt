@@ -7,12 +7,12 @@ use Rattle.flt_code.specs.declared.words.Word.TheVariants.{Head}
 use Rattle.flt_flash.specs.Blocks.{byte_pages}
 use Rattle.flt_sector.specs.Blocks.{block_value}
 use Rattle.flt_record.specs.LogHolds.{asked_of, given}
-use Rattle.flt_fee.specs.Mounted.{Stands}
+use Rattle.flt_fee.specs.Mounted.{StandsAt}
 use Rattle.flt_fee.proofs.Standing.{mounted_stands, stale_mounted, stands_mounted, is_among, current_stays}
 use Rattle.flt_fee.proofs.Appended.{blank_at_end, left_sound, failed_changes, failed_calls, done_calls, done_changes, now_stands}
 use Rattle.flt_record.specs.declared.place.RecordPlace.{RecordPlace}
 use Rattle.flt_flash.specs.Image.{sector_at}
-use Rattle.flt_record.specs.RecordPlace.{Tells}
+use Rattle.flt_record.specs.RecordPlace.{TellsPlaces}
 use Rattle.flt_fee.proofs.Placed.{tells_appended}
 use Rattle.flt_fee.proofs.Wearing.{even_same}
 use Rattle.flt_fee.proofs.fee.Fee.append.Goals as goal
@@ -66,10 +66,10 @@ invariant_of-self-in-Ok g c =
       sectors = self.sectors;
       distinct = self.distinct;
       sized = ap length same ∙ c.note.ensures.size ∙ ap length c.deref_mut.ensures.value ∙ self.sized;
-      table = λ fresh. subst (λ (places : List (Option RecordPlace)). Tells self.numbers places (sector_at after self.sector) (self.end + 2 + c.byte_pages.result) (block_value self.used self.numbers after)) (sym same) (tells_appended self.used self.numbers (g.F.Flash.state self.flash) (g.F.Flash.state c.append_record.new.flash) (g.met.F.Flash.shape self.flash) self.sector self.sequence self.end c.args.block c.args.bytes.now c.args.valid
+      table = λ fresh. subst (λ (places : List (Option RecordPlace)). TellsPlaces self.numbers places (sector_at after self.sector) (self.end + 2 + c.byte_pages.result) (block_value self.used self.numbers after)) (sym same) (tells_appended self.used self.numbers (g.F.Flash.state self.flash) (g.F.Flash.state c.append_record.new.flash) (g.met.F.Flash.shape self.flash) self.sector self.sequence self.end c.args.block c.args.bytes.now c.args.valid
           self.sectors (omega (arith, self.least)) stands proper c.in-Ok.ensures.records now self.places.items c.note.new.places (self.table c.requires.settled) place refl noted (self.end + 2 + c.byte_pages.result) last);
       mounted = stands_mounted self.has_mounted (self.mounted.mounted c.requires.settled) self.used self.numbers after self.sector self.sequence (self.end + 2 + c.byte_pages.result) value
-          (subst (λ n. Stands self.used self.numbers after self.sector self.sequence n value) last now);
+          (subst (λ n. StandsAt self.used self.numbers after self.sector self.sequence n value) last now);
     }
 
 pub returns-in-Ok-clause-changes : goal.returns-in-Ok-clause-changes

@@ -6,7 +6,7 @@ use Rattle.flt_fee.proofs.Formatting.{fresh_mounted, nothing_held, nothing_wrong
 use Rattle.flt_flash.specs.Image.{sector_at}
 use Rattle.flt_sector.specs.Blocks.{block_value}
 use Rattle.flt_record.specs.declared.place.RecordPlace.{RecordPlace}
-use Rattle.flt_record.specs.RecordPlace.{Tells}
+use Rattle.flt_record.specs.RecordPlace.{TellsPlaces}
 use Rattle.flt_record.proofs.Telling.{tells_nothing}
 use Rattle.flt_fee.proofs.fee.Fee.format.Goals as goal
 
@@ -35,7 +35,7 @@ invariant_of-self-in-Ok g c =
       sectors = omega arith;
       distinct = self.distinct;
       sized = ap length same ∙ c.forget.ensures.size ∙ ap length c.deref_mut.ensures.value ∙ self.sized;
-      table = λ fresh. subst (λ (places : List (Option RecordPlace)). Tells self.numbers places (sector_at after 0) 2 (block_value self.used self.numbers after)) (sym same) (tells_nothing self.numbers c.forget.new.places (sector_at (g.F.Flash.state c.set_up_flash.new.flash).image 0) 2 (block_value self.used self.numbers (g.F.Flash.state c.set_up_flash.new.flash).image)
+      table = λ fresh. subst (λ (places : List (Option RecordPlace)). TellsPlaces self.numbers places (sector_at after 0) 2 (block_value self.used self.numbers after)) (sym same) (tells_nothing self.numbers c.forget.new.places (sector_at (g.F.Flash.state c.set_up_flash.new.flash).image 0) 2 (block_value self.used self.numbers (g.F.Flash.state c.set_up_flash.new.flash).image)
           (nothing_held self.used self.numbers (omega (arith, self.least)) (g.F.Flash.state c.set_up_flash.new.flash).image c.in-Ok.ensures.left)
           (λ k within. c.forget.ensures.none k (omega (arith, within, ap length c.deref_mut.ensures.value, self.sized))));
       mounted = fresh_mounted self.used self.numbers (omega (arith, self.least)) (g.F.Flash.state c.set_up_flash.new.flash).image c.in-Ok.ensures.fresh;

@@ -5,7 +5,7 @@ use Rattle.flt_fee.specs.Place.{current_of}
 use Rattle.flt_fee.proofs.Mounting.{resumed}
 use Rattle.flt_sector.specs.Blocks.{block_value}
 use Rattle.flt_record.specs.declared.place.RecordPlace.{RecordPlace}
-use Rattle.flt_record.specs.RecordPlace.{Tells}
+use Rattle.flt_record.specs.RecordPlace.{TellsPlaces}
 use Rattle.flt_fee.proofs.Placed.{tells_current}
 use Rattle.flt_fee.proofs.fee.Fee.resume.Goals as goal
 
@@ -21,7 +21,7 @@ invariant_of-self-in-Ok g c =
       sectors = c.requires.sector;
       distinct = self.distinct;
       sized = ap length same ∙ c.in-Ok.ensures.size;
-      table = λ fresh. subst (λ (places : List (Option RecordPlace)). Tells self.numbers places (sector_at after c.args.at.sector) c.in-Ok.end (block_value self.used self.numbers after)) (sym same) (subst (λ (image : List (List (List ℕ))). Tells self.numbers c.find_places.new.places (sector_at image c.args.at.sector) c.in-Ok.end (block_value self.used self.numbers image)) (sym c.in-Ok.ensures.reads.image)
+      table = λ fresh. subst (λ (places : List (Option RecordPlace)). TellsPlaces self.numbers places (sector_at after c.args.at.sector) c.in-Ok.end (block_value self.used self.numbers after)) (sym same) (subst (λ (image : List (List (List ℕ))). TellsPlaces self.numbers c.find_places.new.places (sector_at image c.args.at.sector) c.in-Ok.end (block_value self.used self.numbers image)) (sym c.in-Ok.ensures.reads.image)
           (tells_current self.used self.numbers before.image c.args.at.sector c.args.at.sequence c.in-Ok.end c.requires.found c.find_places.new.places
           c.in-Ok.ensures.places));
       mounted = resumed self.used self.numbers before (g.F.Flash.state c.find_places.new.flash) c.in-Ok.ensures.reads (current_of c.args.at) c.requires.found c.in-Ok.end c.in-Ok.ensures.end;

@@ -4,7 +4,7 @@ use Rattle.flt_flash.specs.Image.{sector_at}
 use Rattle.flt_record.specs.declared.place.RecordPlace.{RecordPlace}
 use Rattle.flt_sector.specs.Blocks.{block_value}
 use Rattle.flt_record.specs.Live.{held_in}
-use Rattle.flt_record.specs.RecordPlace.{Tells}
+use Rattle.flt_record.specs.RecordPlace.{TellsPlaces}
 use Rattle.flt_fee.proofs.Standing.{stale_mounted, stands_sound}
 use Rattle.flt_fee.proofs.Placed.{tells_old, tells_image}
 use Rattle.flt_fee.proofs.Wearing.{even_switched}
@@ -14,7 +14,7 @@ pub switch_sectors-requires-clause-table : goal.switch_sectors-requires-clause-t
 switch_sectors-requires-clause-table g c =
     let self = c.args.self.now in
     let pages = sector_at (g.F.Flash.state self.flash).image self.sector in
-    subst (λ (places : List (Option RecordPlace)). Tells self.numbers places pages self.used (held_in self.used self.numbers pages)) (sym c.deref_mut.ensures.value)
+    subst (λ (places : List (Option RecordPlace)). TellsPlaces self.numbers places pages self.used (held_in self.used self.numbers pages)) (sym c.deref_mut.ensures.value)
     (tells_old self.is_stale self.has_mounted c.requires.settled self.used self.numbers (g.F.Flash.state self.flash) (g.met.F.Flash.shape self.flash) self.sector self.sequence self.end self.least self.within self.sectors self.distinct self.mounted self.places.items self.sized (self.table c.requires.settled))
 
 pub invariant_of-self-in-Ok-clause-table : goal.invariant_of-self-in-Ok-clause-table
@@ -23,7 +23,7 @@ invariant_of-self-in-Ok-clause-table g c =
     let pages = sector_at (g.F.Flash.state self.flash).image self.sector in
     let after = (g.F.Flash.state c.switch_sectors.new.flash).image in
     let same = with_items_is self.places c.switch_sectors.new.places (omega (arith, c.in-Ok.ensures.size, self.sized, self.places.ok.0)) in
-    λ fresh. subst (λ (places : List (Option RecordPlace)). Tells self.numbers places (sector_at after (1 - self.sector)) c.in-Ok.end (block_value self.used self.numbers after)) (sym same) (tells_image self.used self.numbers after (1 - self.sector) (self.sequence + 1) c.in-Ok.end (held_in self.used self.numbers pages)
+    λ fresh. subst (λ (places : List (Option RecordPlace)). TellsPlaces self.numbers places (sector_at after (1 - self.sector)) c.in-Ok.end (block_value self.used self.numbers after)) (sym same) (tells_image self.used self.numbers after (1 - self.sector) (self.sequence + 1) c.in-Ok.end (held_in self.used self.numbers pages)
     c.in-Ok.ensures.switched c.switch_sectors.new.places c.in-Ok.ensures.table)
 
 pub invariant_of-self-in-Ok-clause-sized : goal.invariant_of-self-in-Ok-clause-sized

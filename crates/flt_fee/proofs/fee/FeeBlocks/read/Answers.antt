@@ -4,7 +4,7 @@ use Rattle.flt_flash.specs.Blocks.{byte_pages}
 use Rattle.flt_flash.specs.Content.{size_of}
 use Rattle.flt_sector.specs.Blocks.{block_value}
 use Rattle.flt_fee.specs.declared.fee.Fee.{Fee}
-use Rattle.flt_fee.specs.Costs.{Spends}
+use Rattle.flt_fee.specs.Costs.{SpendsAtMost}
 use Rattle.flt_fee.specs.Fee.{state_by}
 use Rattle.flt_fee.proofs.Composed.{calls_after}
 use Rattle.flt_fee.proofs.Costing.{read_costs}
@@ -29,7 +29,7 @@ returns-in-Ok-clause-costs g c =
     old.is_stale old.has_mounted new.is_stale new.has_mounted c.find.result old.mounted.mounted c.find.ensures.never_full
     (calls_after (state_by old.used old.numbers old.is_stale old.has_mounted (g.F.Flash.state old.flash)) (state_by middle.used middle.numbers middle.is_stale middle.has_mounted (g.F.Flash.state middle.flash))
     (state_by new.used new.numbers new.is_stale new.has_mounted (g.F.Flash.state new.flash)) c.find.result c.in-Ok.ensures.calls.follows c.find.ensures.calls)
-    (λ fresh. subst (λ (fee : Fee g.row.F.Denot g.F.Flash). OnOk c.find.result (Spends (byte_pages (size_of (block_value fee.used fee.numbers (g.F.Flash.state fee.flash).image c.args.block))) (g.F.Flash.state fee.flash) (g.F.Flash.state new.flash)))
+    (λ fresh. subst (λ (fee : Fee g.row.F.Denot g.F.Flash). OnOk c.find.result (SpendsAtMost (byte_pages (size_of (block_value fee.used fee.numbers (g.F.Flash.state fee.flash).image c.args.block))) (g.F.Flash.state fee.flash) (g.F.Flash.state new.flash)))
     (c.in-Ok.ensures.nothing fresh).1 c.find.ensures.spends)
 
 pub returns-in-Err-clause-even : goal.returns-in-Err-clause-even
