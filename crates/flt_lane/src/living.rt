@@ -75,7 +75,12 @@ fn run_one<R: Wait, G: Gate, B: Blocks + Drop>(
     let index = own.answers.len() as u32;
     gate.before(rt, 0, index);
     match step {
-        Step::Save | Step::Drain | Step::Get { .. } | Step::Arming(_) => {
+        Step::Save
+        | Step::Drain
+        | Step::Get { .. }
+        | Step::Arming(_)
+        | Step::Post { .. }
+        | Step::Ask { .. } => {
             let answer = do_step(
                 rt,
                 &locks.dem,
@@ -89,7 +94,7 @@ fn run_one<R: Wait, G: Gate, B: Blocks + Drop>(
             );
             own.keep(answer, response.as_slice());
         }
-        // As `do_step` does, but apart from it: so the answer to a call goes to its place at once.
+        // Calls of the status machine stand apart: so the answer to one goes to its place at once.
         _ => {
             let answer = make_call(rt, &locks.dem, &locks.queue, main, jobs, step, response);
             own.keep(answer, response.as_slice());
