@@ -78,6 +78,7 @@ const SIGNAL_VALUE: u64 = 65_535;
 
 impl StepLine {
     /// The step under this configuration, or nothing where a number is out of its range.
+    #[inline(always)]
     pub(crate) fn step_in(self, config: &Config) -> Option<Step>
         ensures value { result ≡ step_of config.now self }
         ensures in_range { IfSome result (λ step. IsTrue (is_step_in config.now step)) }
@@ -248,6 +249,7 @@ fn post_with(urgent: bool, mut words: Words<'_>) -> Option<StepLine>
 
 /// What the words behind a keyword that begins a step say.
 #[tactic(auto, unfolding(crate::specs::Line::line_with, crate::specs::Line::report_with))]
+#[inline(always)]
 pub(crate) fn step_with(keyword: Keyword, words: Words<'_>) -> Option<StepLine>
     ensures { IsTrue (begins_step keyword) → option_map line.Step result ≡ line_with keyword words.entry }
 {
