@@ -22,7 +22,7 @@ use Rattle.flt_queue.specs.Queue as queue
 use Rattle.flt_queue.specs.declared.job.QueueOp.{QueueOp}
 use Rattle.flt_queue.specs.declared.job.QueueReply.{QueueReply}
 use Rattle.flt_queue.specs.declared.job.QueueReply.TheVariants as replies
-use Rattle.flt_script.specs.Step.{is_store_step}
+use Rattle.flt_script.specs.Step.{is_lane_step, is_store_step}
 use Rattle.flt_script.specs.declared.step.Step.{Step}
 use Rattle.flt_script.specs.declared.step.Step.TheVariants as steps
 use Rattle.flt_store.specs.declared.fault.SaveFault.{SaveFault}
@@ -39,7 +39,7 @@ use Rattle.flt_life.specs.declared.action.Action.TheVariants as action
 use Rattle.flt_life.specs.declared.answer.StepAnswer.TheVariants as answers
 use Rattle.flt_lane.specs.Chain.{Chain}
 use Rattle.flt_lane.specs.Draining.{FindsNone, HasDrained}
-use Rattle.flt_lane.specs.Runs.{Makes, Queues, QueueSeat}
+use Rattle.flt_lane.specs.Runs.{Makes, Queues, QueueSeat, calls_by}
 use Rattle.flt_lane.proofs.Chains.{chain_fact, chain_more, chain_of_one}
 
 -- ---- calls of the status machine
@@ -178,6 +178,45 @@ no_queue c steps.Drain told is none post ask = absurd (true≢false none)
 no_queue c (steps.Get block) told is none post ask = absurd (true≢false none)
 no_queue c (steps.Ask block) told is none post ask = absurd (ask block refl)
 no_queue c (steps.Arming arm) told is none post ask = absurd (false≢true is.0)
+
+-- ---- the kinds of steps
+
+-- a step that makes one call of the status machine
+pub record IsCallStep (step : Step) : Type 0 where
+  pub lane : is_lane_step step ≡ true
+  pub no_store : is_store_step step ≡ false
+  pub one : (op : Op) × (action_of step ≡ action.Call op)
+  pub calls : calls_by step ≡ 1
+  pub no_queue : (told : Told) → StepQueues step told []
+  pub no_arms : arms_of (action_of step) ≡ []
+
+-- it is one that is none of these
+pub call_step : (step : Step) → (step ≡ steps.Save → ⊥) → (step ≡ steps.Drain → ⊥) → ((block : ℕ) → step ≡ steps.Get block → ⊥) → ((arm : Arm) → step ≡ steps.Arming arm → ⊥)
+    → ((urgent : Bool) (block : ℕ) (bytes : _) → step ≡ steps.Post urgent block bytes → ⊥) → ((block : ℕ) → step ≡ steps.Ask block → ⊥) → IsCallStep step
+call_step (steps.Report event report) save drain get arming post ask = record { lane = refl; no_store = refl; one = (_, refl); calls = refl; no_queue = λ told. refl; no_arms = refl }
+call_step (steps.Show event) save drain get arming post ask = record { lane = refl; no_store = refl; one = (_, refl); calls = refl; no_queue = λ told. refl; no_arms = refl }
+call_step (steps.Cycle cycle) save drain get arming post ask = record { lane = refl; no_store = refl; one = (_, refl); calls = refl; no_queue = λ told. refl; no_arms = refl }
+call_step (steps.Tick ticks) save drain get arming post ask = record { lane = refl; no_store = refl; one = (_, refl); calls = refl; no_queue = λ told. refl; no_arms = refl }
+call_step (steps.Signal index value) save drain get arming post ask = record { lane = refl; no_store = refl; one = (_, refl); calls = refl; no_queue = λ told. refl; no_arms = refl }
+call_step (steps.Request tester bytes) save drain get arming post ask = record { lane = refl; no_store = refl; one = (_, refl); calls = refl; no_queue = λ told. refl; no_arms = refl }
+call_step steps.Save save drain get arming post ask = absurd (save refl)
+call_step (steps.Post urgent block bytes) save drain get arming post ask = absurd (post urgent block bytes refl)
+call_step steps.Drain save drain get arming post ask = absurd (drain refl)
+call_step (steps.Get block) save drain get arming post ask = absurd (get block refl)
+call_step (steps.Ask block) save drain get arming post ask = absurd (ask block refl)
+call_step (steps.Arming arm) save drain get arming post ask = absurd (arming arm refl)
+
+-- a step that makes one call of the queue
+pub record IsQueueStep (step : Step) : Type 0 where
+  pub no_store : is_store_step step ≡ false
+  pub no_calls : (told : Told) → StepMakes step told []
+  pub no_arms : arms_of (action_of step) ≡ []
+
+pub post_step : (urgent : Bool) (block : ℕ) (bytes : _) → IsQueueStep (steps.Post urgent block bytes)
+post_step urgent block bytes = record { no_store = refl; no_calls = λ told. refl; no_arms = refl }
+
+pub ask_step : (block : ℕ) → IsQueueStep (steps.Ask block)
+ask_step block = record { no_store = refl; no_calls = λ told. refl; no_arms = refl }
 
 -- a step that is no save, drain or read touches no store
 pub no_store_step : (step : Step) → (step ≡ steps.Save → ⊥) → (step ≡ steps.Drain → ⊥) → ((block : ℕ) → step ≡ steps.Get block → ⊥) → is_store_step step ≡ false

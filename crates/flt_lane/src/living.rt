@@ -24,7 +24,7 @@ use crate::block::run_lanes;
 use crate::gate::{Gate, SharedGate};
 use crate::locks::Locks;
 use crate::room::{BlockRoom, PartRoom};
-use crate::step::{do_step, make_call};
+use crate::step::{ask_queue, call_dem, do_step};
 use arrayvec::ArrayVec;
 use flt_config::ValidConfig;
 use flt_flash::Blocks;
@@ -74,13 +74,9 @@ fn run_one<R: Wait, G: Gate, B: Blocks + Drop>(
 {
     let index = own.answers.len() as u32;
     gate.before(rt, 0, index);
+    // each kind of step keeps its answer by itself, so that it goes to its place at once
     match step {
-        Step::Save
-        | Step::Drain
-        | Step::Get { .. }
-        | Step::Arming(_)
-        | Step::Post { .. }
-        | Step::Ask { .. } => {
+        Step::Save | Step::Drain | Step::Get { .. } | Step::Arming(_) => {
             let answer = do_step(
                 rt,
                 &locks.dem,
@@ -94,9 +90,12 @@ fn run_one<R: Wait, G: Gate, B: Blocks + Drop>(
             );
             own.keep(answer, response.as_slice());
         }
-        // Calls of the status machine stand apart: so the answer to one goes to its place at once.
+        Step::Post { .. } | Step::Ask { .. } => {
+            let answer = ask_queue(rt, &locks.queue, jobs, step);
+            own.keep(answer, &[]);
+        }
         _ => {
-            let answer = make_call(rt, &locks.dem, &locks.queue, main, jobs, step, response);
+            let answer = call_dem(rt, &locks.dem, main, step, response);
             own.keep(answer, response.as_slice());
         }
     }

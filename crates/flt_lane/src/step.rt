@@ -40,7 +40,7 @@ use std::sync::Wait;
 /// Makes the call of a step that calls the status machine on a seat that has one left, and answers by it. The bytes of a response are
 /// written in place of what `response` holds.
 #[inline(always)]
-fn call_dem<R: Wait>(
+pub(crate) fn call_dem<R: Wait>(
     rt: &R,
     dem: &DemLock,
     seat: &mut DemSeat,
@@ -99,7 +99,7 @@ fn call_queue<R: Wait>(rt: &R, queue: &QueueLock, seat: &mut QueueSeat, step: &S
 
 /// Posts a job, or asks a block for its last result, and answers by the queue.
 #[inline(always)]
-fn ask_queue<R: Wait>(
+pub(crate) fn ask_queue<R: Wait>(
     rt: &R,
     queue: &QueueLock,
     seat: &mut QueueSeat,

@@ -1,5 +1,6 @@
-use Rattle.std.proofs.Common.{List, ◌++◌, ◌∷◌, [], ap, subst, sym, ◌∙◌}
+use Rattle.std.proofs.Common.{⊎_elim, List, ◌++◌, ◌∷◌, [], ap, arith, subst, sym, ◌∙◌}
 use Rattle.flt_flash.specs.declared.arm.Arm.{Arm}
+use Rattle.flt_life.specs.Actions.{IsPossible, action_of}
 use Rattle.flt_life.specs.Answers.{told_with}
 use Rattle.flt_life.specs.Room.{told_in}
 use Rattle.flt_store.specs.Store.{driver_of}
@@ -7,26 +8,56 @@ use Rattle.flt_lives.specs.Going.{WereGiven}
 use Rattle.flt_lives.proofs.Giving.{none_given}
 use Rattle.flt_lives.proofs.Riding.{goes_nowhere}
 use Rattle.flt_lane.proofs.OffStore.{carries_call}
-use Rattle.flt_lane.proofs.Stepping.{no_arms, no_store_step}
+use Rattle.flt_lane.proofs.Stepping.{IsCallStep, IsQueueStep, ask_step, call_step, none_made, none_queued, post_step}
 use Rattle.flt_lane.proofs.living.run_one.Goals as goal
-use Rattle.flt_lane.proofs.living.run_one.Goals.{in_default, in-Save}
+use Rattle.flt_lane.proofs.living.run_one.Goals.{After-call_dem-arg-in_default-1, in_default, in-Post, in-Save}
+
+makes_call : (g : _) (c : After-call_dem-arg-in_default-1 g) → IsCallStep c.args.step.now
+makes_call g c = call_step c.args.step.now c.in_default.not-Save c.in_default.not-Drain c.in_default.not-Get c.in_default.not-Arming c.in_default.not-Post c.in_default.not-Ask
+
+pub call_dem-answer-requires-clause-step : goal.call_dem-answer-requires-clause-step
+call_dem-answer-requires-clause-step g c =
+    ((makes_call g c).lane, subst (λ config. IsPossible config (action_of c.args.step.now)) (sym c.requires.same) c.requires.step)
+
+pub call_dem-answer-requires-clause-one : goal.call_dem-answer-requires-clause-one
+call_dem-answer-requires-clause-one g c = (makes_call g c).one
+
+pub call_dem-answer-requires-clause-left : goal.call_dem-answer-requires-clause-left
+call_dem-answer-requires-clause-left g c =
+    let one = (makes_call g c).calls in
+    let left = c.requires.calls in
+    omega (arith, one, left)
 
 pub returns-clause-stepped : goal.returns-clause-stepped
 returns-clause-stepped g c =
+    let step = c.args.step.now in
     elim c.match-step.branch [
       | in_default w ↦
-          let made = w.make_call-answer.ensures.made in
-          let queues = w.make_call-answer.ensures.queues in
-          let told = told_with w.make_call-answer.new.response.items w.make_call-answer.result in
+          let told = told_with w.call_dem-answer.new.response.items w.call_dem-answer.result in
+          let is = call_step step w.in_default.not-Save w.in_default.not-Drain w.in_default.not-Get w.in_default.not-Arming w.in_default.not-Post w.in_default.not-Ask in
+          let made = w.call_dem-answer.ensures.made in
+          let queues = none_queued c.args.jobs.now step told (is.no_queue told) in
           rw (w.store-is, w.main-is, w.jobs-is, w.own-is) record {
             answer = told;
             stepped = record {
-              own_are = w.keep.ensures.told ∙ ap (λ bytes. told_in c.args.own.now ++ told_with bytes w.make_call-answer.result ∷ []) w.as_slice.ensures.value;
+              own_are = w.keep.ensures.told ∙ ap (λ bytes. told_in c.args.own.now ++ told_with bytes w.call_dem-answer.result ∷ []) w.as_slice.ensures.value;
               dem = made;
               queue = queues;
             };
-            carries = carries_call c.args.config.now c.args.main.now w.make_call-answer.new.seat c.args.jobs.now w.make_call-answer.new.jobs c.args.step.now told
-                c.args.store.now (no_store_step c.args.step.now w.in_default.not-Save w.in_default.not-Drain w.in_default.not-Get) made queues;
+            carries = carries_call c.args.config.now c.args.main.now w.call_dem-answer.new.seat c.args.jobs.now c.args.jobs.now step told c.args.store.now is.no_store
+                made queues;
+          }
+      | in-Post w ↦
+          let told = told_with [] w.ask_queue-answer.result in
+          let is =
+          ⊎_elim (λ post. subst IsQueueStep (sym post.3) (post_step post.0 post.1 post.2)) (λ ask. subst IsQueueStep (sym ask.1) (ask_step ask.0)) w.in-Post.is in
+          let made = none_made c.args.main.now step told (is.no_calls told) in
+          let queues = w.ask_queue-answer.ensures.queues [] in
+          rw (w.store-is, w.main-is, w.jobs-is, w.own-is) record {
+            answer = told;
+            stepped = record { own_are = w.keep-in-Post.ensures.told; dem = made; queue = queues };
+            carries = carries_call c.args.config.now c.args.main.now c.args.main.now c.args.jobs.now w.ask_queue-answer.new.seat step told c.args.store.now is.no_store
+                made queues;
           }
       | in-Save w ↦
           rw (w.store-is, w.main-is, w.jobs-is, w.own-is) record {
@@ -45,6 +76,7 @@ pub returns-clause-goes_on : goal.returns-clause-goes_on
 returns-clause-goes_on g c =
     elim c.match-step.branch [
       | in_default w ↦ rw w.store-is (goes_nowhere (driver_of c.args.store.now))
+      | in-Post w ↦ rw w.store-is (goes_nowhere (driver_of c.args.store.now))
       | in-Save w ↦ rw w.store-is w.do_step-answer.ensures.goes_on
     ]
 
@@ -53,6 +85,8 @@ returns-clause-given g c =
     let arms = (driver_of c.args.store.now).device.bench.arms in
     elim c.match-step.branch [
       | in_default w ↦
-          rw w.store-is (subst (λ (l : List Arm). WereGiven l arms arms) (sym (no_arms c.args.step.now w.in_default.not-Arming)) (none_given arms))
+          rw w.store-is (subst (λ (l : List Arm). WereGiven l arms arms) (sym (call_step c.args.step.now w.in_default.not-Save w.in_default.not-Drain w.in_default.not-Get w.in_default.not-Arming w.in_default.not-Post w.in_default.not-Ask).no_arms) (none_given arms))
+      | in-Post w ↦
+          rw w.store-is (subst (λ (l : List Arm). WereGiven l arms arms) (sym (⊎_elim (λ post. subst IsQueueStep (sym post.3) (post_step post.0 post.1 post.2)) (λ ask. subst IsQueueStep (sym ask.1) (ask_step ask.0)) w.in-Post.is).no_arms) (none_given arms))
       | in-Save w ↦ rw w.store-is w.do_step-answer.ensures.given
     ]
