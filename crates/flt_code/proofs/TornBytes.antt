@@ -13,7 +13,7 @@ use Rattle.flt_flash.specs.Image.{blank_page}
 use Rattle.flt_flash.specs.Tearing.{IsTornByte}
 use Rattle.flt_code.specs.Seal.{sealed}
 
--- a number all of whose ones another number has is no greater
+-- A number all of whose ones another number has is no greater.
 pub le_from_bits : (a b : ℕ) → ((bit : ℕ) → bit_at a bit ≤ bit_at b bit) → a ≤ b
 le_from_bits a b ones =
     let same : bit_and a b ≡ a = same_from_bits (bit_and a b) a (λ bit. bit_at_and a b bit ∙ smaller (ones bit)) in
@@ -22,7 +22,7 @@ le_from_bits a b ones =
     smaller : {m n : ℕ} → m ≤ n → min m n ≡ m
     smaller le = omega arith
 
--- a byte torn between blank and another byte has all the ones of that byte
+-- A byte torn between blank and another byte has all the ones of that byte.
 pub le_torn : (byte torn : ℕ) → byte < 256 → ((bit : ℕ) → (bit_at torn bit ≡ bit_at 255 bit) ⊎ (bit_at torn bit ≡ bit_at byte bit)) → byte ≤ torn
 le_torn byte torn fits bits = le_from_bits byte torn (λ bit. ⊎_elim (λ blank. of_blank bit blank) (λ same. omega (arith, same)) (bits bit))
   where
@@ -44,7 +44,7 @@ pub swap : {A B : Type 0} → A ⊎ B → B ⊎ A
 swap (inl a) = inr a
 swap (inr b) = inl b
 
--- a number with no bit from the eighth on is a byte
+-- A number with no bit from the eighth on is a byte.
 pub byte_from_bits : (n : ℕ) → ((bit : ℕ) → 8 ≤ bit → bit_at n bit ≡ 0) → n < 256
 byte_from_bits n above =
     let same : bit_and n 255 ≡ n = same_from_bits (bit_and n 255) n (λ bit. bit_at_and n 255 bit ∙ elim (cases_lt bit 8) [
@@ -56,7 +56,7 @@ byte_from_bits n above =
 pub torn_byte_fits : (byte torn : ℕ) → byte < 256 → IsTornByte 255 byte torn → torn < 256
 torn_byte_fits byte torn fits bits = byte_from_bits torn (λ bit high. ⊎_elim (λ blank. blank ∙ bit_at_above 255 8 bit (omega arith) high) (λ same. same ∙ bit_at_above byte 8 bit fits high) (bits bit))
 
--- what a page that is unsealed was sealed from
+-- What a page that is unsealed was sealed from.
 pub sealed_from_unsealed : (page : List ℕ) (test : Bool) → test ≡ ((length page == 32) && bytes_eq page (sealed (take 16 page))) → test ≡ true → (length page ≡ 32) × (page ≡ sealed (take 16 page))
 sealed_from_unsealed page test is holds =
     let both = and_both (length page == 32) (bytes_eq page (sealed (take 16 page))) (sym is ∙ holds) in

@@ -15,12 +15,12 @@ unsealed_by page bytes again same size front by eq =
     ∙ ap (λ (l : List ℕ). if bytes_eq page l then Some bytes else None) (sym by)
     ∙ ap (λ b. if b then Some bytes else None) (sym eq)
 
--- a code word is read as its bytes
+-- A code word is read as its bytes.
 pub unsealed_code : (bytes page : List ℕ) → IsCodeWordOf bytes page → unsealed page ≡ Some bytes
 unsealed_code bytes page word =
     unsealed_by page bytes page true (ap length word.is ∙ length-sealed bytes word.size)
     (sym (ap (take 16) word.is ∙ take-sealed bytes word.size)) word.is (sym ((bytes_eq-Decides page page).1 refl))
 
--- where nothing is read there is no code word
+-- Where nothing is read there is no code word.
 pub no_code : (page : List ℕ) → unsealed page ≡ None → (bytes : List ℕ) → IsCodeWordOf bytes page → ⊥
 no_code page none bytes word = let read : unsealed page ≡ Some bytes = unsealed_code bytes page word in cc (none, read)

@@ -51,7 +51,7 @@ module _ (page : List ℕ) where
       by_test true is = sym is
       by_test false is = absurd (apart (unspoiled_at (sym is) k lt))
 
--- two bytes that have each bit in one of them
+-- Two bytes that have each bit in one of them.
 or_from_bits : (a b : ℕ) → a < 256 → b < 256 → ((bit : ℕ) → bit < 8 → 1 ≤ bit_at a bit + bit_at b bit) → bit_or a b ≡ 255
 or_from_bits a b low_fits high_fits one = same_from_bits (bit_or a b) 255 (λ bit. elim (cases_lt bit 8) [
   | inl low ↦ (
@@ -73,7 +73,7 @@ unspoiled_word bytes page word = unspoiled_from page (λ k lt.
     let high : get_or page (16 + k) 0 ≡ 255 - get_or bytes k 0 = ap (λ (l : List ℕ). get_or l (16 + k) 0) word.is ∙ sealed_high bytes word.size k lt in
     rw (low, high) (or_complement (get_or bytes k 0) (word.range k)))
 
--- a page that is no code word, or of which this holds where it is one
+-- A page that is no code word, or of which this holds where it is one.
 pub none_or : {A : Type 0} (page : List ℕ) → ((k : ℕ) → k < 32 → get_or page k 0 < 256) → ((found : List ℕ) → IsCodeWordOf found page → A) → A ⊎ (unsealed page ≡ None)
 unfolding unsealed
 none_or {A} page fits holds = by_test ((length page == 32) && bytes_eq page (sealed (take 16 page))) refl
@@ -90,7 +90,7 @@ none_or {A} page fits holds = by_test ((length page == 32) && bytes_eq page (sea
         let found = sealed_from_unsealed page true is refl in
         inl (holds (take 16 page) record { size = length-take-le 16 page (omega (arith, found.0)); range = range found.0; is = found.1 })
 
--- the erase of a page that is not spoiled
+-- The erase of a page that is not spoiled.
 module _ (page torn : List ℕ) (unspoiled : is_spoiled page ≡ false) (tears : IsTornPage page blank_page torn) where
   fits : (k : ℕ) → k < 32 → get_or page k 0 < 256
   fits k lt = elim (cases_lt k 16) [
@@ -100,7 +100,7 @@ module _ (page torn : List ℕ) (unspoiled : is_spoiled page ≡ false) (tears :
         rw place (omega (arith, unspoiled_at page unspoiled (k - 16) (omega arith), le_or_r (get_or page (k - 16) 0) (get_or page (16 + (k - 16)) 0))))
   ]
 
-  -- past the page both are 0
+  -- Past the page both are 0.
   byte_torn : (k : ℕ) → k < 32 → (get_or torn k 0 ≡ get_or page k 0) ⊎ IsTornByte 255 (get_or page k 0) (get_or torn k 0)
   byte_torn k lt = elim (cases_lt k (length page)) [
     | inl within ↦ inr (λ bit. swap (rw (blank_at k lt) at (tears.bytes k within bit)))
@@ -147,7 +147,7 @@ module _ (page torn : List ℕ) (unspoiled : is_spoiled page ≡ false) (tears :
   pub erased_or_none : (torn ≡ page) ⊎ (unsealed torn ≡ None)
   erased_or_none = none_or torn torn_fits erased_same
 
--- the program of a code word
+-- The program of a code word.
 module _ (asked page torn : List ℕ) (word : IsCodeWordOf asked page) (tears : IsTornPage blank_page page torn) where
   turned : IsTornPage page blank_page torn
   turned =

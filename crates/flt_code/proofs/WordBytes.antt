@@ -29,7 +29,7 @@ word_of-word_bytes word proper =
     ap (λ c. checked c (word_bytes word)) (candidate-word_bytes word proper)
     ∙ kept (bytes_eq (word_bytes word) (word_bytes word)) word ((bytes_eq-Decides (word_bytes word) (word_bytes word)).1 refl)
 
--- what is read by way of the candidate
+-- What is read by way of the candidate.
 module _ (bytes : List ℕ) where
   pub read_candidate : (word : Word) (written : List ℕ) (same : Bool) → candidate bytes ≡ Some word → written ≡ word_bytes word → same ≡ bytes_eq written bytes → word_of bytes ≡ (if same then Some word else None)
   unfolding word_of

@@ -12,7 +12,7 @@ pub unsealed_blank : unsealed blank_page ≡ None
 unfolding unsealed sealed blank_page
 unsealed_blank = refl
 
--- every number of the list is a byte
+-- Every number of the list is a byte.
 record AreAll (bytes : List ℕ) : Type 0 where
   pub all : AreBytes bytes
 
@@ -75,6 +75,6 @@ size (Gate block page) = refl
 pub word_code : (word : Word) → IsCodeWordOf (word_bytes word) (sealed (word_bytes word))
 word_code word = record { size = size word; range = (range word).all; is = refl }
 
--- what the page of a word says
+-- What the page of a word says.
 pub word_page : (word : Word) → unsealed (sealed (word_bytes word)) ≡ Some (word_bytes word)
 word_page word = unsealed_code (word_bytes word) (sealed (word_bytes word)) (word_code word)

@@ -5,19 +5,19 @@ use Rattle.std.specs.Str.{bytes_eq}
 use Rattle.flt_code.specs.declared.words.Word.{Word}
 use Rattle.flt_code.specs.declared.words.Word.TheVariants.{Start, Active, Head, Gate}
 
--- a head of 1 to 128 bytes, or of none where it makes its block invalid
+-- A head of 1 to 128 bytes, or of none where it makes its block invalid.
 abbrev pub is_length : Bool → ℕ → Bool
 is_length true length = nat_le 1 length && nat_le length 128
 is_length false length = length == 0
 
--- the numbers are within their fields, and a head has a length of its kind
+-- The numbers are within their fields, and a head has a length of its kind.
 abbrev pub IsWord : Word → Type 0
 IsWord (Start sequence pages) = (sequence < 2 ^ 32) × (pages < 2 ^ 16)
 IsWord (Active sequence) = sequence < 2 ^ 32
 IsWord (Head block length valid page) = (block < 2 ^ 16) × (length < 2 ^ 16) × (page < 2 ^ 16) × (is_length valid length ≡ true)
 IsWord (Gate block page) = (block < 2 ^ 16) × (page < 2 ^ 16)
 
--- the bytes of a word: its tag, its numbers as big-endian bytes, and zeros
+-- The bytes of a word: its tag, its numbers as big-endian bytes, and zeros.
 unfoldable pub word_bytes : Word → List ℕ
 word_bytes (Start sequence pages) = 0x53 ∷ 0x01 ∷ to_be_bytes w32 sequence ++ to_be_bytes w16 pages ++ replicate 8 0
 word_bytes (Active sequence) = 0x41 ∷ 0x01 ∷ to_be_bytes w32 sequence ++ replicate 10 0
@@ -25,12 +25,12 @@ word_bytes (Head block length valid page) = 0x48 ∷ (if valid then 1 else 2) �
     ++ replicate 8 0
 word_bytes (Gate block page) = 0x47 ∷ 0x01 ∷ to_be_bytes w16 block ++ to_be_bytes w16 page ++ replicate 10 0
 
--- the word is the one whose bytes these are
+-- The word is the one whose bytes these are.
 pub record IsWordOf (word : Word) (bytes : List ℕ) : Type 0 where
   pub proper : IsWord word
   pub is : bytes ≡ word_bytes word
 
--- the word that a tag and the fields behind it would give
+-- The word that a tag and the fields behind it would give.
 unfoldable pub candidate : List ℕ → Option Word
 candidate bytes =
     let tag = slice_index bytes 0 in
@@ -45,11 +45,11 @@ candidate bytes =
     else if tag == 0x47 then Some (Gate first second)
     else None
 
--- a word whose bytes these are
+-- A word whose bytes these are.
 abbrev pub checked : Option Word → List ℕ → Option Word
 checked None bytes = None
 checked (Some word) bytes = if bytes_eq (word_bytes word) bytes then Some word else None
 
--- the word of 16 bytes
+-- The word of 16 bytes.
 unfoldable pub word_of : List ℕ → Option Word
 word_of bytes = checked (candidate bytes) bytes

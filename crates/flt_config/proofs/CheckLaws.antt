@@ -29,7 +29,7 @@ distinct_behind-step events n d h =
     let long : length (take n events) ≡ n = omega (arith, length-take n events) in
     rw (drop-cons events n d h) (rw (take_more events n d h) (rw long (rw add-one refl)))
 
--- an event whose DTC stands before it
+-- An event whose DTC stands before it.
 pub distinct_behind-twice : (events : List EventCfg) (n first : ℕ) (event : EventCfg) → n < length events → event ≡ get_or events n event
     → position (has_dtc event.dtc) (take n events) ≡ Some first → distinct_behind (take n events) (drop n events) ≡ Err (DtcTwice first n)
 distinct_behind-twice events n first event h is found =
@@ -37,7 +37,7 @@ distinct_behind-twice events n first event h is found =
     distinct_behind-step events n event h
     ∙ ap (λ p. and_then (fault_of_twice p n) (distinct_behind (take (n + 1) events) (drop (n + 1) events))) same
 
--- an event of another DTC than those before it
+-- An event of another DTC than those before it.
 pub distinct_behind-once : (events : List EventCfg) (n : ℕ) (event : EventCfg) → n < length events → event ≡ get_or events n event
     → position (has_dtc event.dtc) (take n events) ≡ None
     → distinct_behind (take n events) (drop n events) ≡ distinct_behind (take (n + 1) events) (drop (n + 1) events)
@@ -52,7 +52,7 @@ distinct_behind-end events n h = rw (drop_all n events h) refl
 
 -- ---- what the result for DTCs says
 
--- the events before and this one are still distinct
+-- The events before and this one are still distinct.
 distinct_pushed : (before : List EventCfg) (event : EventCfg) → AllPairs HasOtherDtc before → position (has_dtc event.dtc) before ≡ None
     → AllPairs HasOtherDtc (before ++ event ∷ [])
 distinct_pushed before event distinct none =
@@ -72,7 +72,7 @@ distinct_ok before (event ∷ events) distinct ok =
           (distinct_ok (before ++ event ∷ []) events (distinct_pushed before event distinct is) e)
     ] refl ok
 
--- the event at the seam has the DTC of the first
+-- The event at the seam has the DTC of the first.
 first_twice : (before events : List EventCfg) (event : EventCfg) (first : ℕ) → AllPairs HasOtherDtc before → position (has_dtc event.dtc) before ≡ Some first
     → IsFirstTwice (before ++ event ∷ events) first (length before)
 first_twice before events event first distinct found =
@@ -112,7 +112,7 @@ distinct_err before (event ∷ events) fault distinct e =
 
 -- ---- what the whole result says
 
--- where nothing is refused, no part refuses
+-- Where nothing is refused, no part refuses.
 pub record NoneRefuses (config : Config) : Type 0 where
   pub ranges : ranges_result (settings config) ≡ Ok tt
   pub distinct : distinct_result config.events.items ≡ Ok tt
@@ -135,7 +135,7 @@ pub check_of-ok : (config : Config) → NoneRefuses config → check_of config �
 unfolding check_of
 check_of-ok config r = rw r.ranges (rw r.distinct (rw r.room refl))
 
--- the first part that refuses tells the fault
+-- The first part that refuses tells the fault.
 record RefusedBy (ranges distinct room : Result (Unit {0}) CfgFault) (fault : CfgFault) : Type 0 where
   pub by : (ranges ≡ Err fault) ⊎ (((ranges ≡ Ok tt) × (distinct ≡ Err fault)) ⊎ ((ranges ≡ Ok tt) × (distinct ≡ Ok tt) × (room ≡ Err fault)))
 
@@ -146,7 +146,7 @@ refused_by config (Ok a) (Ok b) (Err other) fault e = record { by = inr (inr (re
 refused_by config (Ok a) (Err other) room fault e = record { by = inr (inl (refl, cc)) }
 refused_by config (Err other) distinct room fault e = record { by = inl cc }
 
--- a fault of the ranges is one of the ranges
+-- A fault of the ranges is one of the ranges.
 range_first : (found : Option Setting) (fault : CfgFault) (config : Config) → fault_of_range found ≡ Err fault → ranges_result (settings config) ≡ Err fault → IsFirstFault config fault
 range_first None fault config e is = absurd (cc)
 range_first (Some s) (Range event field value) config e is = is
@@ -204,7 +204,7 @@ room_ok : (config : Config) (short : Bool) → nat_lt config.pages (needed_pages
 room_ok config true is h = let less = ltb-true config.pages (needed_pages config) is in absurd (omega arith)
 room_ok config false is h = refl
 
--- no pair of distinct events is told
+-- No pair of distinct events is told.
 not_twice : (events : List EventCfg) (fault : CfgFault) → AllPairs HasOtherDtc events → IsTwiceFault events fault → ⊥
 not_twice [] (DtcTwice first second) distinct twice = let within = twice.within in absurd (omega arith)
 not_twice (event ∷ events) (DtcTwice first second) distinct twice = distinct first second event twice.order twice.within (twice.same event)

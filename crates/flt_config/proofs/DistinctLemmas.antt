@@ -5,7 +5,7 @@ use Rattle.std.proofs.lemmas.List.{get_or-take, get_or_default, take_more}
 use Rattle.std.proofs.lemmas.List.Quantifiers.{position-Some, all_pairs_push}
 use Rattle.std.proofs.lemmas.List.Sums.{fails_before_first}
 
--- where nothing passes, each element fails
+-- Where nothing passes, each element fails.
 pub position-None : {X : Type 0} (p : X → Bool) (xs : List X) (k : ℕ) (d : X) → position p xs ≡ None → k < length xs
     → p (get_or xs k d) ≡ false
 position-None p xs k d none h =
@@ -13,14 +13,14 @@ position-None p xs k d none h =
     fails_before_first p xs k d (omega arith)
 
 module _ {X : Type 0} (key : X → ℕ) (xs : List X) (second : ℕ) (x : X) (h : second < length xs) (is : x ≡ get_or xs second x) where
-  -- the key of x is that at second
+  -- The key of x is that at second.
   key_at : (d : X) → key (get_or xs second d) ≡ key x
   key_at d = ap key (get_or_default xs second d x h ∙ sym is)
 
   key_before : (k : ℕ) (d : X) → k < second → key (get_or (take second xs) k d) ≡ key (get_or xs k d)
   key_before k d below = ap key (get_or-take second xs k d below)
 
-  -- the key of x stands at first, and at no place before
+  -- The key of x stands at first, and at no place before.
   pub record StandsFirst (first : ℕ) : Type 0 where
     pub order : first < second
     pub same : (d : X) → key (get_or xs first d) ≡ key (get_or xs second d)
@@ -51,7 +51,7 @@ module _ {X : Type 0} (key : X → ℕ) (xs : List X) (second : ℕ) (x : X) (h 
       let equal = eq-eqb _ _ (same ∙ key_at x) in
       cc))
 
--- two places of one key
+-- Two places of one key.
 pub not_distinct : {X : Type 0} (key : X → ℕ) (xs : List X) (first second : ℕ) (d : X) → first < second → second < length xs
     → key (get_or xs first d) ≡ key (get_or xs second d) → AllPairs (λ a b. key a ≢ key b) xs → ⊥
 not_distinct key xs first second d order within same distinct = distinct first second d order within same

@@ -61,7 +61,7 @@ jump_in_range number field pass_at fail_at (Some jump) ok =
     let high : jump ≤ℤ (fail_at -ℤ pos 1) = at.1 in
     (omega (arith, ints), omega (arith, ints))
 
--- the thresholds and the steps, and the jumps
+-- The thresholds and the steps, and the jumps.
 counter_in_range : (number : ℕ) (fail_at pass_at up down : ℤ) (jump_up jump_down : Option ℤ)
     → ranges_result (threshold_settings number fail_at pass_at up down) ≡ Ok tt
     → ranges_result (jump_settings number JumpUp pass_at fail_at jump_up) ≡ Ok tt
@@ -130,7 +130,7 @@ events_in_range e (event ∷ events) ok =
     All-cons IsEventInRange event events (event_in_range e event (ranges_ok-append_left _ _ ok))
     (events_in_range (e + 1) events (ranges_ok-append_right _ _ ok))
 
--- what `check` keeps of a configuration
+-- What `check` keeps of a configuration.
 pub valid : (c : Config) → ranges_result (settings c) ≡ Ok tt → AllPairs HasOtherDtc c.events.items → needed_pages c ≤ c.pages → IsValid c
 unfolding global_settings
 valid c ok distinct room =

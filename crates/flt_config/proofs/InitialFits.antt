@@ -6,7 +6,7 @@ use Rattle.flt_config.specs.declared.config.Config.{Config}
 use Rattle.flt_config.specs.declared.config.EventCfg.{EventCfg}
 use Rattle.flt_config.specs.Durable.{Fits, AreStatesOf, IsStateOf, initial_state, start_state}
 
--- so does the start state of an event
+-- So does the start state of an event.
 start_fits : (event : EventCfg) → IsStateOf event start_state
 start_fits event = record {
   status = omega arith;

@@ -30,7 +30,7 @@ events_settings-drop events n d h =
     ap (events_settings n) (drop-cons events n d h)
     ∙ ap (λ m. event_settings n (get_or events n d) ++ events_settings (n + 1) (drop m events)) more
 
--- the same where the settings have signed numbers that were passed on
+-- The same where the settings have signed numbers that were passed on.
 pub ruleset signed_faults = (first_faults, to_z-of_z)
 
 pub events_settings-end : (events : List EventCfg) (n : ℕ) → length events ≤ n
@@ -38,14 +38,14 @@ pub events_settings-end : (events : List EventCfg) (n : ℕ) → length events �
 unfolding events_settings ranges_result
 events_settings-end events n h = rw (drop_all n events h) refl
 
--- where the event at n has no fault, the faults go on behind it
+-- Where the event at n has no fault, the faults go on behind it.
 pub events_settings-ok : (events : List EventCfg) (n : ℕ) (d : EventCfg) → n < length events
     → ranges_result (event_settings n (get_or events n d)) ≡ Ok tt
     → ranges_result (events_settings n (drop n events)) ≡ ranges_result (events_settings (n + 1) (drop (n + 1) events))
 events_settings-ok events n d h ok =
     ap ranges_result (events_settings-drop events n d h) ∙ ranges_result-append_ok _ _ ok
 
--- where it has one, that is the first
+-- Where it has one, that is the first.
 pub events_settings-err : (events : List EventCfg) (n : ℕ) (d : EventCfg) (f : CfgFault) → n < length events
     → ranges_result (event_settings n (get_or events n d)) ≡ Err f
     → ranges_result (events_settings n (drop n events)) ≡ Err f

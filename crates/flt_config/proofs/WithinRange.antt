@@ -18,7 +18,7 @@ use Rattle.flt_config.proofs.RangesLemmas.{ranges_result-append_ok, ranges_resul
 joined_ok : (xs ys : List Setting) → ranges_result xs ≡ Ok tt → ranges_result ys ≡ Ok tt → ranges_result (xs ++ ys) ≡ Ok tt
 joined_ok xs ys left right = ranges_result-append_ok xs ys left ∙ right
 
--- a number in its range, before others in theirs
+-- A number in its range, before others in theirs.
 signed_ok : (event : Option ℕ) (field : Field) (value least greatest : ℤ) (rest : List Setting) → IsSignedFromTo least greatest value
     → ranges_result rest ≡ Ok tt → ranges_result (signed_setting event field value least greatest ∷ rest) ≡ Ok tt
 unfolding ranges_result

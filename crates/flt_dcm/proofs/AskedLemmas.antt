@@ -37,7 +37,7 @@ module _ {A : Type 0} (look : Result Asked Negative → Option A) (none : (negat
   of_setting [] = none _
   of_setting (sub ∷ rest) = by_sub (nat_le 128 sub) (nat_eq 1 (sub % 128)) (nat_eq 2 (sub % 128)) rest
 
-  -- the tests of a request, in both sessions
+  -- The tests of a request, in both sessions.
   by_service : (service : ℕ) (rest : List ℕ) (clears known setting : Bool) → (setting ≡ true → look (asked_with_sub service rest) ≡ None) →
       look (cond clears (asked_clear rest) (cond (not known) (refused service service_not_supported) (cond (setting && true) (refused service service_not_supported_in_session) (asked_with_sub service rest))))
       ≡ look (cond clears (asked_clear rest) (cond (not known) (refused service service_not_supported) (cond (setting && false) (refused service service_not_supported_in_session) (asked_with_sub service rest))))
@@ -59,7 +59,7 @@ session_same extended bytes = same_in_both session_asked (λ negative. refl) (λ
 pub clear_same : (extended : Bool) (bytes : List ℕ) → clear_asked (asked false bytes) ≡ clear_asked (asked extended bytes)
 clear_same extended bytes = same_in_both clear_asked (λ negative. refl) (λ on silent. refl) extended bytes
 
--- a request that is no clear clears nothing
+-- A request that is no clear clears nothing.
 pub no_clear : (request : Request) → ((dtc : ℕ) → request ≡ requests.Clear dtc → ⊥) → dtc_of_clear request ≡ None
 no_clear (requests.Clear dtc) other = absurd (other dtc refl)
 no_clear (requests.Session extended) other = refl
@@ -76,7 +76,7 @@ no_clear requests.Counters other = refl
 
 -- ---- a positive response is no negative one
 
--- how bytes begin, where there are any
+-- How bytes begin, where there are any.
 abbrev begins : Option (List ℕ) → ℕ
 begins None = 0
 begins (Some bytes) = unwrap_or (slice_get bytes 0) 0

@@ -21,7 +21,7 @@ use Rattle.flt_dcm.specs.Unknown.{ClearsNone}
 use Rattle.flt_dcm.proofs.ListLemmas.{first_found, unknown_dtc}
 
 module _ (manager : Manager) (dtc : ℕ) where
-  -- the test of an event's DTC, as it is seen
+  -- The test of an event's DTC, as it is seen.
   seen_test : (event : ℕ) → is_of_dtc dtc (event_seen manager event) ≡ has_dtc dtc (get_or manager.faults.config.events.items event no_event)
   seen_test event = ap (has_dtc dtc) (unwrap_or-slice_get manager.faults.config.events.items event no_event)
 
@@ -72,7 +72,7 @@ module _ (life : Life) (past : History) (manager : Manager) (s : StandsFor life 
   clears_nothing (requests.Noted sub) none = tt
   clears_nothing requests.Counters none = tt
 
-  -- a request that clears no event changes nothing of the manager
+  -- A request that clears no event changes nothing of the manager.
   pub stands_uncleared : (tester : ℕ) (sent : RequestBytes) (clears : Option ℕ) → cleared_dtc (ops.Request tester sent) ≡ clears → ClearsNothing life clears →
       StandsFor life (ops.Request tester sent ∷ past) manager
   stands_uncleared tester sent clears is nothing =

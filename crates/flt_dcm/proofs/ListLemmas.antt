@@ -18,14 +18,14 @@ use Rattle.flt_dcm.specs.Listing.{listed, head_of}
 use Rattle.flt_dcm.specs.declared.listing.Listing.{Listing}
 use Rattle.flt_dcm.specs.declared.listing.Listing.TheVariants.{ByMask, Supported, Counters}
 
--- the events below a number
+-- The events below a number.
 abbrev pub seen_to : Manager → ℕ → List EventView
 seen_to manager n = map (event_seen manager) (below n)
 
 seen_more : (manager : Manager) (n : ℕ) → seen_to manager (suc n) ≡ seen_to manager n ++ event_seen manager n ∷ []
 seen_more manager n = map-append (event_seen manager) (below n) (n ∷ [])
 
--- one event more
+-- One event more.
 pub listed_more : (f : EventView → List ℕ) (manager : Manager) (n : ℕ) →
     flat_map f (seen_to manager (suc n)) ≡ flat_map f (seen_to manager n) ++ f (event_seen manager n)
 listed_more f manager n =
@@ -37,7 +37,7 @@ length_more : (f : EventView → List ℕ) (manager : Manager) (n : ℕ) →
     length (flat_map f (seen_to manager (suc n))) ≡ length (flat_map f (seen_to manager n)) + length (f (event_seen manager n))
 length_more f manager n = ap length (listed_more f manager n) ∙ length-append (flat_map f (seen_to manager n)) (f (event_seen manager n))
 
--- what is put of the events up to one is no more than what is put of all
+-- What is put of the events up to one is no more than what is put of all.
 pub part_fits : (f : EventView → List ℕ) (manager : Manager) (k n : ℕ) → k < n →
     length (flat_map f (seen_to manager k)) + length (f (event_seen manager k)) ≤ length (flat_map f (seen_to manager n))
 part_fits f manager k zero h = absurd (omega (arith, h))
@@ -66,7 +66,7 @@ if_prefailed : (test : Bool) (event : EventView) → length (cond test (with_cou
 if_prefailed true event = omega arith
 if_prefailed false event = omega arith
 
--- the sum over the numbers below one
+-- The sum over the numbers below one.
 abbrev total : (ℕ → ℕ) → ℕ → ℕ
 total f zero = 0
 total f (suc n) = total f n + f n
@@ -78,7 +78,7 @@ total_le f g h (suc n) each =
     let before = total_le f g h n each in
     omega (arith, own, before)
 
--- eight at one place
+-- Eight at one place.
 abbrev own_at : ℕ → ℕ → ℕ
 own_at place k = cond (nat_eq place k) 8 0
 
@@ -105,7 +105,7 @@ at_one place (suc n) =
     eight true = omega arith
     eight false = omega arith
 
--- eight for each event with an entry
+-- Eight for each event with an entry.
 abbrev records_at : List EntryState → ℕ → ℕ
 records_at entries event = cond (is_some (find (is_of_event event) entries)) 8 0
 
@@ -149,7 +149,7 @@ all_records_fit manager n room =
     let at_most = entries_at_most manager.faults.memory.entries n in
     omega (arith, sum, at_most, room)
 
--- the records of one event more fit behind those before it
+-- The records of one event more fit behind those before it.
 pub records_fit : (manager : Manager) (k n : ℕ) (out : List ℕ) → out ≡ (0x59 ∷ 0x03 ∷ []) ++ flat_map records_of (seen_to manager k) → k < n →
     length manager.faults.memory.entries ≤ ENTRIES → length out + length (records_of (event_seen manager k)) ≤ RESPONSE
 records_fit manager k n out is h room =
@@ -164,7 +164,7 @@ whole_list_fits (ByMask mask) manager n few = let at_most = four_each (listed (B
 whole_list_fits Supported manager n few = let at_most = four_each (listed Supported) manager n (λ event. omega arith) in omega (arith, at_most, few)
 whole_list_fits Counters manager n few = let at_most = four_each (listed Counters) manager n (λ event. if_prefailed (is_prefailed event) event) in omega (arith, at_most, few)
 
--- one event more fits behind those before it
+-- One event more fits behind those before it.
 pub list_fits : (listing : Listing) (manager : Manager) (k n : ℕ) (out : List ℕ) → out ≡ head_of listing ++ flat_map (listed listing) (seen_to manager k) → k < n → n ≤ EVENTS →
     length out + length (listed listing (event_seen manager k)) ≤ RESPONSE
 list_fits listing manager k n out is h few =
@@ -210,7 +210,7 @@ filtered_more p manager n = ap (λ xs. length (filter p xs)) (seen_more manager 
 length_seen : (manager : Manager) (n : ℕ) → length (seen_to manager n) ≡ n
 length_seen manager n = length-map (below n) (event_seen manager) ∙ length_below n
 
--- the status of a noted event
+-- The status of a noted event.
 pub noted_seen : (manager : Manager) (n event : ℕ) → event < n → noted_bytes (seen_to manager n) (Some event) ≡ with_status (event_seen manager event)
 noted_seen manager n event h =
     let size = length_below n in

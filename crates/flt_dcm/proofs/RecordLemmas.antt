@@ -21,7 +21,7 @@ where_length : (test : Bool) (bytes : List ℕ) (most : ℕ) → length bytes �
 where_length true bytes most h = h
 where_length false bytes most h = omega arith
 
--- how many bytes a snapshot record has at most: its number, how many identifiers it has, and each with its value
+-- How many bytes a snapshot record has at most: its number, how many identifiers it has, and each with its value.
 abbrev pub snapshot_size : ℕ
 snapshot_size = 2 + 2 * DIDS + FRAME
 
@@ -31,7 +31,7 @@ snapshot_fits number which dids frame few narrow =
     let values = values_length dids frame in
     where_length (selects number which) (snapshot dids which frame) snapshot_size (omega (arith, values, few, narrow))
 
--- what is left of the data identifiers fits, so the next one does
+-- What is left of the data identifiers fits, so the next one does.
 pub value_fits : (old out : List ℕ) (dids : List DidUse) (index : ℕ) (d : DidUse) (rest frame : List ℕ) → out ++ values_of (drop index dids) rest ≡ old ++ values_of dids frame →
     index < length dids → length old + length (values_of dids frame) ≤ RESPONSE → length out + (2 + length (take (get_or dids index d).width rest)) ≤ RESPONSE
 value_fits old out dids index d rest frame is within room =

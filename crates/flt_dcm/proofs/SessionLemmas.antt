@@ -159,7 +159,7 @@ module _ (past : History) (tester : ℕ) (bytes : RequestBytes) where
 -- ---- ticks
 
 module _ (past : History) (tester ticks : ℕ) where
-  -- a session of which the silent time is known
+  -- A session of which the silent time is known.
   ticked_extended : (holds : Bool) (silent : ℕ) (late early : Bool) → nat_le session_timeout (silence tester past + ticks) ≡ late → nat_lt (silent + ticks) session_timeout ≡ early →
       early ≡ not late → SessionStands tester past (Extended holds silent) →
       SessionStands tester (ops.Tick ticks ∷ past) (cond early (Extended holds (silent + ticks)) Default)
@@ -224,7 +224,7 @@ sessions_ticked past ticks sessions s tester h =
 
 -- ---- the other calls
 
--- a call of no tester, in which no time goes by
+-- A call of no tester, in which no time goes by.
 abbrev pub IsOther : Op → Type 0
 IsOther (ops.Tick ticks) = ⊥
 IsOther (ops.Request tester bytes) = ⊥

@@ -15,7 +15,7 @@ use Rattle.flt_dcm.specs.Standard.{StandardBits, has_test, has_cleared}
 
 -- ---- what a base does not matter to, behind a clear
 
--- a row that a clear decides
+-- A row that a clear decides.
 decided_alike : (row : Row) (value base other : Bool) → ((past : Past) → row past Clear ≡ Some value) → (past : Past) → has_cleared past ≡ true →
     decided row base past ≡ decided row other past
 decided_alike row value base other clears [] cleared = absurd cc
@@ -97,7 +97,7 @@ untested_now (Refused ∷ past) = untested_now past
 
 -- ---- the six together
 
--- the bits of a byte whose state is as that of an event never tested
+-- The bits of a byte whose state is as that of an event never tested.
 alike_bits : (base : EventState) (event : EventCfg) (past : Past) →
     test_failed base past ≡ test_failed start_state past → failed_this_cycle base past ≡ failed_this_cycle start_state past →
     pending base past ≡ pending start_state past → not_completed_since_clear base past ≡ not_completed_since_clear start_state past →

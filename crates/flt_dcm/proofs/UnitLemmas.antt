@@ -17,12 +17,12 @@ use Rattle.flt_dcm.proofs.StandardLemmas.{bits_behind_a_clear, bits_from_the_sta
 
 -- ---- a call that is read
 
--- the first byte is the service
+-- The first byte is the service.
 pub first_is_service : (bytes : List ℕ) (d : ℕ) → 0 < length bytes → get_or bytes 0 d ≡ service_of bytes
 first_is_service [] d some = absurd (omega (arith, some))
 first_is_service (service ∷ rest) d some = refl
 
--- the tester of a request
+-- The tester of a request.
 abbrev pub tester_of : Op → ℕ
 tester_of (ops.Request tester bytes) = tester
 tester_of _ = 0

@@ -16,17 +16,17 @@ has_test marks = has_failed marks || has_passed marks
 
 -- The bits of a status byte, by the marks since the last clear.
 pub record StandardBits (status : ℕ) (marks : Past) : Type 0 where
-  -- testFailed: the most recent test failed
+  -- testFailed: the most recent test failed.
   pub test_failed : is_bit_set status 0 ≡ last_failed marks
-  -- testFailedThisOperationCycle: a test failed in this operation cycle
+  -- testFailedThisOperationCycle: a test failed in this operation cycle.
   pub failed_this_cycle : is_bit_set status 1 ≡ has_failed (this_cycle marks)
-  -- pendingDTC: a test failed, and no cycle that ended since had a passed test and no failed one
+  -- pendingDTC: a test failed, and no cycle that ended since had a passed test and no failed one.
   pub pending : is_bit_set status 2 ≡ (has_failed marks && not (passed_cycle_since_failure marks))
-  -- testNotCompletedSinceLastClear: no test was completed
+  -- testNotCompletedSinceLastClear: no test was completed.
   pub not_completed_since_clear : is_bit_set status 4 ≡ not (has_test marks)
-  -- testFailedSinceLastClear: a test failed
+  -- testFailedSinceLastClear: a test failed.
   pub failed_since_clear : is_bit_set status 5 ≡ has_failed marks
-  -- testNotCompletedThisOperationCycle: no test was completed in this operation cycle
+  -- testNotCompletedThisOperationCycle: no test was completed in this operation cycle.
   pub not_completed_this_cycle : is_bit_set status 6 ≡ not (has_test (this_cycle marks))
 
 -- The event was cleared.

@@ -5,7 +5,7 @@ use Rattle.flt_model.specs.Debounce.{IsOfKind}
 use Rattle.flt_model.specs.declared.call.DebState.{DebState}
 use Rattle.flt_model.specs.declared.call.DebState.TheVariants.{Count, Idle, Failing, Passing, AtFailed, AtPassed}
 
--- the count of a counter's state
+-- The count of a counter's state.
 pub record IsCount (state : DebState) : Type 0 where
   pub value : ℤ
   pub is : state ≡ Count value

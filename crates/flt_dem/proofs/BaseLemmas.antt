@@ -30,7 +30,7 @@ base_states life fits =
 
 -- ---- the entries
 
--- entries that are functions of their events
+-- Entries that are functions of their events.
 same_entries : (f : ℕ → EntryState) (held : List EntryState) → ((k : ℕ) (d : EntryState) → k < length held → f (get_or held k d).event ≡ get_or held k d) →
     held ≡ map f (map (λ entry. entry.event) held)
 same_entries f [] same = refl
@@ -38,7 +38,7 @@ same_entries f (entry ∷ held) same =
     ap (λ e. e ∷ held) (sym (same 0 entry (omega arith)))
     ∙ ap (λ rest. f entry.event ∷ rest) (same_entries f held (λ k d h. same (suc k) d (omega arith)))
 
--- an entry among entries of distinct events is found by its event
+-- An entry among entries of distinct events is found by its event.
 find_at : (held : List EntryState) (k : ℕ) (d : EntryState) → k < length held → AllPairs IsOfOtherEvent held → find (is_of_event (get_or held k d).event) held ≡ Some (get_or held k d)
 find_at [] k d h distinct = absurd (omega arith)
 find_at (entry ∷ held) zero d h distinct = rw (eq-eqb entry.event entry.event refl) refl
@@ -47,7 +47,7 @@ find_at (entry ∷ held) (suc k) d h distinct =
     rw (ne_eqb entry.event (get_or held k d).event other)
     (find_at held k d (omega arith) (λ i j e below short. distinct (suc i) (suc j) e (omega arith) (omega arith)))
 
--- it holds what it held
+-- It holds what it held.
 entry_again : (life : Life) (entry : EntryState) → find (is_of_event entry.event) life.base.entries.items ≡ Some entry → entry.occurrence ≤ 255 → entry_of life entry.event [] ≡ entry
 entry_again life entry found small =
     let stopped : min 255 entry.occurrence ≡ entry.occurrence = omega arith in

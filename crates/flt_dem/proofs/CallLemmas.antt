@@ -15,7 +15,7 @@ use Rattle.flt_dem.specs.Debounces.{DebouncesStand, and_then}
 use Rattle.flt_dem.specs.Calls.{StandsAfter, StandsPartly, TakesPart, items_partly, marks_partly}
 use Rattle.flt_dem.proofs.OrderLemmas.{in_order-none, in_order-one}
 
--- the same happenings, said in another way
+-- The same happenings, said in another way.
 pub debounces_same : (life : Life) (items others : ℕ → Happenings) (debounces : List DebState) → ((event : ℕ) → event < count life → items event ≡ others event) →
     DebouncesStand life items debounces → DebouncesStand life others debounces
 debounces_same life items others debounces same s = record {
@@ -23,7 +23,7 @@ debounces_same life items others debounces same s = record {
   each = λ event h. s.each event h ∙ ap (λ own. Some (debounced (event_of life event).debounce own)) (same event h);
 }
 
--- what an event is after one more happening of an event
+-- What an event is after one more happening of an event.
 pub and_then-own : (event : ℕ) (happening : Option Happening) (items : ℕ → Happenings) → and_then event happening items event ≡ with_happening happening (items event)
 and_then-own event happening items = ap (λ b. cond b (with_happening happening (items event)) (items event)) (eq-eqb event event refl)
 
@@ -52,7 +52,7 @@ module _ (life : Life) (past : History) (op : Op) where
       ∙ ap (λ b. cond b (happenings life event (op ∷ past)) (happenings life event past)) (sym (below_other event done (λ d. ne (sym d)))))
       (cases_eq done event)
 
-  -- before the first event
+  -- Before the first event.
   pub partly_first : (events : EventsView) → StandsAfter life past events → StandsPartly life past op 0 events
   partly_first events s = record {
     debounces_stand = debounces_same life (λ event. happenings life event past) (items_partly life past op 0) events.debounces
@@ -60,7 +60,7 @@ module _ (life : Life) (past : History) (op : Op) where
     faults_stand = s.faults_stand;
   }
 
-  -- one more event takes its part
+  -- One more event takes its part.
   pub partly_next : (done : ℕ) (old new : EventsView) → TakesPart life past op done old new →
       StandsPartly life past op done old → StandsPartly life past op (done + 1) new
   partly_next done old new takes s =
@@ -71,7 +71,7 @@ module _ (life : Life) (past : History) (op : Op) where
         faults_stand = taken.faults_stand;
       })
 
-  -- once each has, the call is taken
+  -- Once each has, the call is taken.
   pub partly_last : (events : EventsView) → ((marks : Trace) → with_clear (cleared_dtc op) marks ≡ marks) → StandsPartly life past op (count life) events → StandsAfter life (op ∷ past) events
   partly_last events clears s = record {
     debounces_stand = debounces_same life (items_partly life past op (count life)) (λ event. happenings life event (op ∷ past)) events.debounces
@@ -82,7 +82,7 @@ module _ (life : Life) (past : History) (op : Op) where
   no_part : (event : ℕ) (marks : Trace) → happening_of life event past op ≡ None → event_part life past op event marks ≡ marks
   no_part event marks none = ap (λ h. with_marks life event past h marks) none
 
-  -- a call that reaches one event is its part
+  -- A call that reaches one event is its part.
   pub stands_one : (event : ℕ) (old new : EventsView) → event < count life → ((marks : Trace) → with_clear (cleared_dtc op) marks ≡ marks) →
       ((other : ℕ) → other ≢ event → happening_of life other past op ≡ None) → TakesPart life past op event old new →
       StandsAfter life past old → StandsAfter life (op ∷ past) new
@@ -102,7 +102,7 @@ module _ (life : Life) (past : History) (op : Op) where
         faults_stand = subst (λ m. FaultsStand life m new.faults) (sym (clears (in_order (event_part life past op) (count life) (trace life past)) ∙ whole)) taken.faults_stand;
       }
 
-  -- a call that reaches no event leaves them
+  -- A call that reaches no event leaves them.
   pub stands_none : (events : EventsView) → ((marks : Trace) → with_clear (cleared_dtc op) marks ≡ marks) →
       ((event : ℕ) → event < count life → happening_of life event past op ≡ None) →
       StandsAfter life past events → StandsAfter life (op ∷ past) events
@@ -115,7 +115,7 @@ module _ (life : Life) (past : History) (op : Op) where
         faults_stand = subst (λ m. FaultsStand life m events.faults) (sym (clears (in_order (event_part life past op) (count life) (trace life past)) ∙ whole)) s.faults_stand;
       }
 
-  -- once each event is cleared, all are
+  -- Once each event is cleared, all are.
   pub partly_cleared : (events : EventsView) (last : FaultsView) → cleared_dtc op ≡ Some all_dtcs → StandsPartly life past op (count life) events →
       FaultsStand life (AllCleared ∷ marks_partly life past op (count life)) last → StandsAfter life (op ∷ past) (record events { faults = last })
   partly_cleared events last clears s stands = record {

@@ -29,7 +29,7 @@ module _ (life : Life) (event : ℕ) (signals : List ℕ) (marks : Trace) where
   cleared_entry : (other : ℕ) → entry_of life other (Of event Clear signals ∷ marks) ≡ entry_of life other marks
   cleared_entry other = elim (cases_Bool (nat_eq event other)) [ inl e ↦ rw e refl | inr e ↦ rw e refl ]
 
-  -- an event that is cleared gives up its entry
+  -- An event that is cleared gives up its entry.
   cleared_entries : entries life (Of event Clear signals ∷ marks) ≡ filter (λ entry. not (is_of_event event entry)) (entries life marks)
   cleared_entries =
       map_same _ _ (filter (is_other event) (holders life marks)) (λ other among. cleared_entry other ∙ sym (displaced_entry life event other signals marks))
@@ -41,12 +41,12 @@ module _ (life : Life) (event : ℕ) (signals : List ℕ) (marks : Trace) where
     overflow = stood.overflow;
   }
 
--- entries whose events are both below and not below a number are none
+-- Entries whose events are both below and not below a number are none.
 pub none_left : (n : ℕ) (held : List EntryState) → All (λ entry. n ≤ entry.event) held → All (λ entry. entry.event < n) held → held ≡ []
 none_left n [] above below = refl
 none_left n (entry ∷ held) above below = let h = above 0 entry (omega arith) in let l = below 0 entry (omega arith) in absurd (omega arith)
 
--- without the entry of one event more
+-- Without the entry of one event more.
 pub left_more : (done : ℕ) (held last : List EntryState) → last ≡ filter (λ entry. not (is_of_event done entry)) held → All (λ entry. done ≤ entry.event) held →
     All (λ entry. done + 1 ≤ entry.event) last
 left_more done held last is left =
@@ -68,7 +68,7 @@ pub record ClearedBelow (done : ℕ) (before now : EventsView) : Type 0 where
 
 -- ---- DTCs
 
--- another event of the configuration has another DTC, and so has none past its end
+-- Another event of the configuration has another DTC, and so has none past its end.
 pub dtc_apart : (config : Config) (event other : ℕ) → IsValid config → event < length config.events.items → other ≢ event →
     (unwrap_or (slice_get config.events.items event) no_event).dtc ≢ (unwrap_or (slice_get config.events.items other) no_event).dtc
 dtc_apart config event other valid within ne =
@@ -81,24 +81,24 @@ dtc_apart config event other valid within ne =
     (λ outside same. let past = get_or_past events other no_event outside in omega (arith, least, same, ap (λ e. e.dtc) past))
     (cases_lt other (length events)))
 
--- the DTC of an event is not the group of all
+-- The DTC of an event is not the group of all.
 pub dtc_is_one : (config : Config) (event : ℕ) → IsValid config → event < length config.events.items → (unwrap_or (slice_get config.events.items event) no_event).dtc ≢ all_dtcs
 dtc_is_one config event valid within =
     let most = (valid.events event no_event within).dtc.1 in
     rw (unwrap_or-slice_get config.events.items event no_event) (λ same. omega (arith, most, same))
 
--- a clear of an event's DTC reaches it
+-- A clear of an event's DTC reaches it.
 pub reaches_own : (life : Life) (event : ℕ) → reaches life event (event_of life event).dtc ≡ true
 reaches_own life event = or_right (nat_eq (event_of life event).dtc all_dtcs) _ (eq-eqb (event_of life event).dtc (event_of life event).dtc refl)
 
--- and no other event
+-- And no other event.
 pub reaches_others : (life : Life) (event other : ℕ) → IsValid life.config → event < count life → other ≢ event → reaches life other (event_of life event).dtc ≡ false
 reaches_others life event other valid within ne =
     let dtc = (event_of life event).dtc in
     ap (λ b. b || nat_eq dtc (event_of life other).dtc) (ne_eqb dtc all_dtcs (dtc_is_one life.config event valid within))
     ∙ ne_eqb dtc (event_of life other).dtc (dtc_apart life.config event other valid within ne)
 
--- it is no clear of all
+-- It is no clear of all.
 pub clears_one : (life : Life) (event : ℕ) (clears : Option ℕ) (marks : Trace) → IsValid life.config → event < count life → clears ≡ Some (event_of life event).dtc →
     with_clear clears marks ≡ marks
 clears_one life event clears marks valid within is =

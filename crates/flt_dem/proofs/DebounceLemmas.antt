@@ -17,17 +17,17 @@ use Rattle.flt_dem.specs.Events.{IsOfConfig}
 use Rattle.flt_dem.proofs.ReadLemmas.{refill-set}
 use Rattle.flt_model.proofs.Common.{slice_get-set_same, slice_get-set_other}
 
--- what a callee is lent where a slice of debounce states is indexed
+-- What a callee is lent where a slice of debounce states is indexed.
 abbrev pub blank : DebState
 blank = Count (pos 0)
 
--- the debouncing of an event is read
+-- The debouncing of an event is read.
 pub read_debounce : (life : Life) (items : ℕ → Happenings) (event : ℕ) (debounces : List DebState) → event < count life → DebouncesStand life items debounces →
     get_or debounces event blank ≡ debounced (event_of life event).debounce (items event)
 read_debounce life items event debounces within s =
     get_or_from_slice_get debounces event (debounced (event_of life event).debounce (items event)) blank (s.each event within)
 
--- one more happening of one event
+-- One more happening of one event.
 pub debounced_more : (life : Life) (event : ℕ) (happening : Happening) (items : ℕ → Happenings) (debounces : List DebState) (new : DebState) → event < count life →
     new ≡ debounced (event_of life event).debounce (happening ∷ items event) → DebouncesStand life items debounces →
     DebouncesStand life (and_then event (Some happening) items) (slice_set debounces event new)
@@ -42,7 +42,7 @@ debounced_more life event happening items debounces new within is s = record {
       (cases_eq event other);
 }
 
--- a state of the event's kind in place of its own
+-- A state of the event's kind in place of its own.
 pub kind_kept : (events : List EventCfg) (debounces : List DebState) (event : ℕ) (rules : EventCfg) (new : DebState) → event < length debounces →
     slice_get events event ≡ Some rules → IsOfKind rules.debounce new → AreOfKind events debounces → AreOfKind events (slice_set debounces event new)
 kind_kept events debounces event rules new within is kind kinds other other_rules state found at =
@@ -58,7 +58,7 @@ kind_kept events debounces event rules new within is kind kinds other other_rule
 
 -- ---- one event's debouncing that is lent
 
--- it is what its happenings made of it
+-- It is what its happenings made of it.
 pub was_debounced : (life : Life) (items : ℕ → Happenings) (event : ℕ) (rules : EventCfg) (debounces lent : List DebState) → lent ≡ debounces → rules ≡ event_of life event →
     event < count life → DebouncesStand life items debounces → get_or lent event blank ≡ debounced rules.debounce (items event)
 was_debounced life items event rules debounces lent is found within s =
@@ -66,14 +66,14 @@ was_debounced life items event rules debounces lent is found within s =
 
 module _ (config : Config) (debounces lent : List DebState) (event : ℕ) (rules : EventCfg) (found : slice_get config.events.items event ≡ Some rules) (is : lent ≡ debounces)
     (within : event < length config.events.items) (of_config : IsOfConfig config debounces) where
-  -- it is of the event's kind
+  -- It is of the event's kind.
   pub kind_read : IsOfKind rules.debounce (get_or lent event blank)
   kind_read =
       let inside : event < length debounces = omega (arith, of_config.one_each) in
       of_config.kinds event rules (get_or lent event blank) found
       (slice_get-get_or debounces event blank inside ∙ ap Some (ap (λ xs. get_or xs event blank) (sym is)))
 
-  -- and where another of this kind comes back, each is
+  -- And where another of this kind comes back, each is.
   pub kept_of_config : (now : Config) (new : DebState) → now ≡ config → IsOfKind rules.debounce new →
       IsOfConfig now (refill (length debounces) debounces (slice_set lent event new))
   kept_of_config now new same kind =

@@ -22,14 +22,14 @@ module _ (life : Life) (event : ℕ) (signals : List ℕ) (marks : Trace) where
   aged_entry : (other : ℕ) → entry_of life other (Of event Aged signals ∷ marks) ≡ entry_of life other marks
   aged_entry other = elim (cases_Bool (nat_eq event other)) [ inl e ↦ rw e refl | inr e ↦ rw e refl ]
 
-  -- an event that ages gives up its entry
+  -- An event that ages gives up its entry.
   aged_entries : entries life (Of event Aged signals ∷ marks) ≡ filter (λ entry. not (is_of_event event entry)) (entries life marks)
   aged_entries =
       map_same _ _ (filter (is_other event) (holders life marks)) (λ other among. aged_entry other ∙ sym (displaced_entry life event other signals marks))
       ∙ displaced_entries life event signals marks
 
 module _ (life : Life) (event : ℕ) (signals : List ℕ) (marks : Trace) where
-  -- an event that does not age keeps its entry
+  -- An event that does not age keeps its entry.
   pub memory_cycled : (memory : Memory) → ages (base_of life event) (event_of life event) (marks_of event marks) ≡ false →
       MemoryStands life marks memory → MemoryStands life (with_cycle life signals event marks) memory
   memory_cycled memory stays held =

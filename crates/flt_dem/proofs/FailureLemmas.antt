@@ -30,7 +30,7 @@ outcome_below config states event bytes old new (outcomes.Displaced other) n m s
     let here = within stored.place blank_entry stored.gives_way.within in
     omega (arith, here, stored.named blank_entry)
 
--- where an event has no entry, none of its own gives way
+-- Where an event has no entry, none of its own gives way.
 found_at : (event : ℕ) (held : List EntryState) (place : ℕ) (d : EntryState) → place < length held → find (is_of_event event) held ≡ None → event ≢ (get_or held place d).event
 found_at event [] place d within none same = omega arith
 found_at event (entry ∷ held) zero d within none same = let own = eq-eqb entry.event event (sym same) in absurd (cc (rw own at none))
@@ -48,7 +48,7 @@ not_displaced config states event other bytes old new outcomes.Refused stored no
 not_displaced config states event other bytes old new (outcomes.Displaced which) stored none = λ same.
     found_at other old.entries stored.place blank_entry stored.gives_way.within none (same ∙ stored.named blank_entry)
 
--- a failure that does not enter leaves the entries
+-- A failure that does not enter leaves the entries.
 pub failed_again : (life : Life) (event : ℕ) (signals : List ℕ) (marks : Trace) → enters (base_of life event) (marks_of event marks) ≡ false →
     with_failed life signals event marks ≡ (Of event Failed signals ∷ marks)
 failed_again life event signals marks again = ap (λ b. stored_where life signals event b (Of event Failed signals ∷ marks)) again

@@ -17,7 +17,7 @@ use Rattle.flt_memory.proofs.EntriesLemmas.{event_kept}
 use Rattle.std.proofs.lemmas.List.Quantifiers.{position-Some}
 use Rattle.flt_config.specs.Durable.{is_of_event}
 
--- each entry is of an event below a number
+-- Each entry is of an event below a number.
 abbrev pub AreBelow : ℕ → List EntryState → Type 0
 AreBelow n entries = All (λ entry. entry.event < n) entries
 
@@ -73,7 +73,7 @@ not_not : (b : Bool) → not (not b) ≡ b
 not_not true = refl
 not_not false = refl
 
--- without the entry of one event
+-- Without the entry of one event.
 pub removed_of_config : (config : Config) (states last : List EventState) (event : ℕ) (old new : Memory) → length last ≡ length states →
     new.entries ≡ filter (λ entry. not (is_of_event event entry)) old.entries → AreOfConfig config states old → AreOfConfig config last new
 removed_of_config config states last event old new same is kept = record {
@@ -82,7 +82,7 @@ removed_of_config config states last event old new same is kept = record {
   room = omega (arith, ap length is, length-filter_both (λ (entry : EntryState). not (is_of_event event entry)) (is_of_event event) (λ entry. sym (not_not (is_of_event event entry))) old.entries, kept.room);
 }
 
--- with an event stored
+-- With an event stored.
 pub stored_of_config : (config : Config) (states middle last : List EventState) (event : ℕ) (bytes : List ℕ) (old new : Memory) (outcome : Stored) → length last ≡ length states →
     event < length config.events.items → StoresAs config middle event bytes old new outcome → AreOfConfig config states old → AreOfConfig config last new
 stored_of_config config states middle last event bytes old new outcome same configured stored kept = record {

@@ -52,7 +52,7 @@ set_signals (suc (suc (suc (suc (suc (suc (suc (suc index)))))))) value past h =
 
 -- ---- at rest
 
--- the debouncing of each event, at rest
+-- The debouncing of each event, at rest.
 abbrev pub rest_states : Config → List DebState
 rest_states config = map (λ event. debounced event.debounce []) config.events.items
 
@@ -100,13 +100,13 @@ off_where false e = absurd (cc)
 
 -- ---- a report
 
--- the cycle of an event is one of the four
+-- The cycle of an event is one of the four.
 pub cycle_below : (config : Config) (event : ℕ) → IsValid config → event < length config.events.items → (unwrap_or (slice_get config.events.items event) no_event).cycle < 4
 cycle_below config event valid within =
     let below = (valid.events event no_event within).cycle in
     rw (unwrap_or-slice_get config.events.items event no_event) (omega (arith, below))
 
--- whether the cycle of an event was started is read where the event's cycle stands
+-- Whether the cycle of an event was started is read where the event's cycle stands.
 pub cycle_read : (manager : Manager) (event : ℕ) (rules : EventCfg) (d : Bool) → event < length manager.faults.config.events.items →
     rules ≡ get_or manager.faults.config.events.items event rules → rules.cycle < length manager.started →
     is_cycle_started manager event ≡ get_or manager.started rules.cycle d
@@ -117,7 +117,7 @@ cycle_read manager event rules d within is below =
     ∙ unwrap_or-slice_get manager.started rules.cycle false
     ∙ get_or_default manager.started rules.cycle false d below
 
--- and is what the calls so far say
+-- And is what the calls so far say.
 pub cycle_stands : (life : Life) (past : History) (manager : Manager) (event : ℕ) → IsValid manager.faults.config → event < length manager.faults.config.events.items →
     StandsFor life past manager → is_cycle_started manager event ≡ is_started (event_of life event).cycle past
 cycle_stands life past manager event valid within s =
@@ -130,7 +130,7 @@ cause_answers true started = refl
 cause_answers false true = refl
 cause_answers false false = refl
 
--- why a report is ignored decides what is answered
+-- Why a report is ignored decides what is answered.
 pub cause_is_answer : (life : Life) (past : History) (manager : Manager) (event : ℕ) (report : Report) (setting : Bool) (cause : Option Cause) →
     IsValid manager.faults.config → event < length manager.faults.config.events.items → setting ≡ not (is_setting_off past) → StandsFor life past manager →
     cause ≡ cause_of setting (is_cycle_started manager event) → report_reply cause ≡ answer life past (ops.Report event report)
@@ -140,13 +140,13 @@ cause_is_answer life past manager event report setting cause valid within settin
     ∙ ap (λ b. report_reply (cause_of (not (is_setting_off past)) b)) (cycle_stands life past manager event valid within s)
     ∙ cause_answers (is_setting_off past) (is_started (event_of life event).cycle past)
 
--- a report counts where neither the setting nor its cycle is in the way
+-- A report counts where neither the setting nor its cycle is in the way.
 pub counts_where : (life : Life) (past : History) (event : ℕ) (on started : Bool) → on ≡ not (is_setting_off past) → started ≡ is_started (event_of life event).cycle past →
     counts_report life event past ≡ (on && started)
 counts_where life past event on started on_is started_is =
     sym (ap (λ b. b && started) on_is ∙ ap (λ b. not (is_setting_off past) && b) started_is)
 
--- a report that does not count changes nothing
+-- A report that does not count changes nothing.
 pub stands_ignored : (life : Life) (past : History) (manager : Manager) (event : ℕ) (report : Report) → counts_report life event past ≡ false →
     StandsFor life past manager → StandsFor life (ops.Report event report ∷ past) manager
 stands_ignored life past manager event report ignored s = record {

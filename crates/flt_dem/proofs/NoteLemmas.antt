@@ -31,12 +31,12 @@ module _ (life : Life) (signals : List ℕ) (event : ℕ) (trace : Trace) where
   notes_where true = notes_stored (has_entry life event trace)
   notes_where false = refl
 
--- storing leaves the notes of the failure
+-- Storing leaves the notes of the failure.
 pub notes_failed : (life : Life) (signals : List ℕ) (event : ℕ) (trace : Trace) →
     notes_of life (with_failed life signals event trace) ≡ notes_of life (Of event Failed signals ∷ trace)
 notes_failed life signals event trace = notes_where life signals event (Of event Failed signals ∷ trace) (enters (base_of life event) (marks_of event trace))
 
--- the notes after a failure are those that its marks make
+-- The notes after a failure are those that its marks make.
 pub notes_after : (life : Life) (signals : List ℕ) (event : ℕ) (marks : Trace) (old new : Notes) (entered confirmed : Bool) →
     old ≡ notes_of life marks → entered ≡ is_entering_failure life event marks → confirmed ≡ is_confirming_failure life event marks →
     new.first_failed ≡ first_after entered event old.first_failed → new.first_confirmed ≡ first_after confirmed event old.first_confirmed →

@@ -23,7 +23,7 @@ use Rattle.flt_dem.specs.Calls.{StandsWith}
 use Rattle.flt_dem.specs.Manager.{IsOfOtherCycle}
 use Rattle.flt_dem.proofs.CallLemmas.{debounces_same, and_then-own, and_then-other}
 
--- the happening that a call is for an event decides its part
+-- The happening that a call is for an event decides its part.
 part_of : (life : Life) (past : History) (op : Op) (event : ℕ) (happening : Option Happening) (items : ℕ → Happenings) (marks : Trace) (events : EventsView) →
     happening_of life event past op ≡ happening → DebouncesStand life (and_then event happening items) events.debounces → FaultsStand life (with_marks life event past happening marks) events.faults →
     StandsWith life (and_then event (happening_of life event past op) items) (event_part life past op event marks) events
@@ -33,7 +33,7 @@ part_of life past op event happening items marks events is d f = record {
 }
 
 module _ (life : Life) (past : History) (event : ℕ) (items : ℕ → Happenings) (marks : Trace) (events : EventsView) (own : items event ≡ happenings life event past) where
-  -- what the happening qualifies, with the signals of the moment
+  -- What the happening qualifies, with the signals of the moment.
   result_is : (happening : Happening) (signals : List ℕ) (outcome : Option Qualified) → signals ≡ signals_after past → outcome ≡ qualified (event_of life event).debounce (items event) happening →
       FaultsStand life (with_result life signals event outcome marks) events.faults →
       FaultsStand life (with_result life (signals_after past) event (qualified (event_of life event).debounce (happenings life event past) happening) marks) events.faults
@@ -77,12 +77,12 @@ module _ (life : Life) (past : History) (event : ℕ) (items : ℕ → Happening
       (λ apart. sym (and_then-other event other None items apart)) (cases_eq event other)) s.debounces_stand)
       s.faults_stand
 
--- a report of one event is none of another's
+-- A report of one event is none of another's.
 pub other_report : (life : Life) (past : History) (event other : ℕ) (report : Report) → other ≢ event → happening_of life other past (ops.Report event report) ≡ None
 other_report life past event other report ne =
     ap (λ b. reported_where (own_report life other past b) (Reported report)) (ne_eqb event other (λ d. ne (sym d)))
 
--- a report that does not count is ignored
+-- A report that does not count is ignored.
 pub ignored_report : (life : Life) (past : History) (event other : ℕ) (report : Report) → counts_report life event past ≡ false → happening_of life other past (ops.Report event report) ≡ None
 ignored_report life past event other report ignored =
     ⊎_elim
@@ -92,7 +92,7 @@ ignored_report life past event other report ignored =
     (λ ne. other_report life past event other report (λ d. ne (sym d)))
     (cases_eq event other)
 
--- an event of another cycle is another event
+-- An event of another cycle is another event.
 pub other_of_cycle : (config : Config) (cycle event other : ℕ) (rules : EventCfg) → event < length config.events.items → rules ≡ get_or config.events.items event rules →
     rules.cycle ≡ cycle → IsOfOtherCycle config cycle other → other ≢ event
 other_of_cycle config cycle event other rules within read own apart same =
@@ -100,7 +100,7 @@ other_of_cycle config cycle event other rules within read own apart same =
     let here = subst (λ x. IsOfOtherCycle config cycle x) same apart in
     (rw found at here) own
 
--- a clear of a DTC that reaches the event
+-- A clear of a DTC that reaches the event.
 pub part_of_clear : (life : Life) (past : History) (event tester dtc : ℕ) (bytes : ArrayVec ℕ) (items : ℕ → Happenings) (marks : Trace) (events : EventsView) →
     cleared_dtc (ops.Request tester bytes) ≡ Some dtc → reaches life event dtc ≡ true → DebouncesStand life (and_then event (Some Cleared) items) events.debounces →
     FaultsStand life (Of event Clear (signals_after past) ∷ marks) events.faults →
@@ -110,7 +110,7 @@ part_of_clear life past event tester dtc bytes items marks events clears reached
     ap (λ c. happening_of_clear life event c) clears ∙ ap (λ b. cleared_where b) reached in
     part_of life past (ops.Request tester bytes) event (Some Cleared) items marks events is d f
 
--- a clear of a DTC that does not
+-- A clear of a DTC that does not.
 pub other_clear : (life : Life) (past : History) (event tester dtc : ℕ) (bytes : ArrayVec ℕ) → cleared_dtc (ops.Request tester bytes) ≡ Some dtc → reaches life event dtc ≡ false →
     happening_of life event past (ops.Request tester bytes) ≡ None
 other_clear life past event tester dtc bytes clears other = ap (λ c. happening_of_clear life event c) clears ∙ ap (λ b. cleared_where b) other

@@ -17,7 +17,7 @@ use Rattle.flt_model.specs.Answer.{entry_where}
 use Rattle.flt_model.proofs.EntryLaws.{holders_have_entries}
 use Rattle.flt_dem.specs.Standing.{StatesStand}
 
--- a list by its places
+-- A list by its places.
 by_places : (f : ℕ → EventState) (states : List EventState) (n : ℕ) → n ≤ length states → ((k : ℕ) → k < n → slice_get states k ≡ Some (f k)) → take n states ≡ map f (below n)
 by_places f states zero h is = refl
 by_places f states (suc n) h is =
@@ -26,13 +26,13 @@ by_places f states (suc n) h is =
     ∙ ap (λ front. front ++ f n ∷ []) (by_places f states n (omega arith) (λ k below. is k (omega arith)))
     ∙ sym (map-append f (below n) (n ∷ []))
 
--- the states are those of the events in order of number
+-- The states are those of the events in order of number.
 pub states_saved : (life : Life) (marks : Trace) (states : List EventState) → StatesStand life marks states → states ≡ map (state_at life marks) (below (count life))
 states_saved life marks states s =
     sym (take_all (count life) states (omega (arith, s.one_each)))
     ∙ by_places (state_at life marks) states (count life) (omega (arith, s.one_each)) (λ k below. s.each k below)
 
--- the entry of an event is found where it is among the holders
+-- The entry of an event is found where it is among the holders.
 found_entry : (life : Life) (marks : Trace) (event : ℕ) (events : List ℕ) →
     find (is_of_event event) (map (λ other. entry_of life other marks) events) ≡ entry_where life event marks (is_among event events)
 found_entry life marks event [] = refl

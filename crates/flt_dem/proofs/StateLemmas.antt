@@ -16,11 +16,11 @@ use Rattle.flt_model.specs.Durable.{state_at}
 use Rattle.flt_dem.specs.Standing.{StatesStand}
 use Rattle.flt_model.proofs.Common.{slice_get-set_same, slice_get-set_other}
 
--- another event's mark leaves a state
+-- Another event's mark leaves a state.
 pub other_state : (life : Life) (event other : ℕ) (mark : Mark) (signals : List ℕ) (marks : Trace) → event ≢ other → state_at life (Of event mark signals ∷ marks) other ≡ state_at life marks other
 other_state life event other mark signals marks ne = rw (ne_eqb event other ne) refl
 
--- marks that change one event's state
+-- Marks that change one event's state.
 pub state_changed : (life : Life) (event : ℕ) (before now : Trace) (states : List EventState) (new : EventState) → event < count life →
     new ≡ state_at life now event → ((other : ℕ) → event ≢ other → state_at life now other ≡ state_at life before other) → StatesStand life before states →
     StatesStand life now (slice_set states event new)
@@ -33,7 +33,7 @@ state_changed life event before now states new within is others s = record {
       (cases_eq event other);
 }
 
--- one mark of one event
+-- One mark of one event.
 pub state_marked : (life : Life) (event : ℕ) (mark : Mark) (signals : List ℕ) (marks : Trace) (states : List EventState) (new : EventState) → event < count life →
     new ≡ durable (base_of life event) (event_of life event) (mark ∷ marks_of event marks) → StatesStand life marks states →
     StatesStand life (Of event mark signals ∷ marks) (slice_set states event new)
@@ -42,7 +42,7 @@ state_marked life event mark signals marks states new within is s =
     (is ∙ ap (λ b. durable (base_of life event) (event_of life event) (own b mark (marks_of event marks))) (sym (eq-eqb event event refl)))
     (λ other ne. other_state life event other mark signals marks ne) s
 
--- the end of a cycle of one event, where it may age
+-- The end of a cycle of one event, where it may age.
 cycled_own : (life : Life) (event : ℕ) (signals : List ℕ) (marks : Trace) (aged : Bool) →
     state_at life (aged_where signals event aged (Of event Cycle signals ∷ marks)) event
     ≡ durable (base_of life event) (event_of life event) (cond aged (Aged ∷ Cycle ∷ marks_of event marks) (Cycle ∷ marks_of event marks))
@@ -63,7 +63,7 @@ state_cycled life event signals marks states new within is s =
     (is ∙ sym (cycled_own life event signals marks aged))
     (λ other ne. cycled_other life event other signals marks aged ne) s
 
--- being added, or refused, leaves the states
+-- Being added, or refused, leaves the states.
 added_state : (life : Life) (event other : ℕ) (signals : List ℕ) (marks : Trace) → state_at life (Of event Added signals ∷ marks) other ≡ state_at life marks other
 added_state life event other signals marks = elim (cases_Bool (nat_eq event other)) [ inl e ↦ rw e refl | inr e ↦ rw e refl ]
 
@@ -76,14 +76,14 @@ states_added life event signals marks states s = record { one_each = s.one_each;
 pub states_refused : (life : Life) (event : ℕ) (signals : List ℕ) (marks : Trace) (states : List EventState) → StatesStand life marks states → StatesStand life (Of event Refused signals ∷ marks) states
 states_refused life event signals marks states s = record { one_each = s.one_each; each = λ other h. s.each other h ∙ ap Some (sym (refused_state life event other signals marks)) }
 
--- what a callee is lent where a slice of states is indexed
+-- What a callee is lent where a slice of states is indexed.
 abbrev pub blank : EventState
 blank = record { status = 0; failed = 0; clean = 0; lit = false }
 
 pub read_state : (life : Life) (event : ℕ) (marks : Trace) (states : List EventState) → event < count life → StatesStand life marks states → get_or states event blank ≡ state_at life marks event
 read_state life event marks states within s = get_or_from_slice_get states event (state_at life marks event) blank (s.each event within)
 
--- the state of an event that is lent is what its marks made of it
+-- The state of an event that is lent is what its marks made of it.
 pub was_state : (life : Life) (event : ℕ) (rules : EventCfg) (marks : Trace) (states lent : List EventState) → lent ≡ states → rules ≡ event_of life event → event < count life →
     StatesStand life marks states → get_or lent event blank ≡ durable (base_of life event) rules (marks_of event marks)
 was_state life event rules marks states lent is found within s =

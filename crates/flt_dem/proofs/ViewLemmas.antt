@@ -16,11 +16,11 @@ use Rattle.flt_dem.specs.Manager.{Manager, StandsFor}
 use Rattle.flt_dem.specs.View.{rules_of, counter_of, event_seen, noted_at, view_of}
 use Rattle.flt_dem.proofs.SavedLemmas.{entry_found}
 
--- what is read of a list at a place within it, whatever stands past its end
+-- What is read of a list at a place within it, whatever stands past its end.
 pub read_within : {A : Type 0} (xs : List A) (place : ℕ) (d e : A) → place < length xs → get_or xs place d ≡ unwrap_or (slice_get xs place) e
 read_within xs place d e within = get_or_default xs place d e within ∙ sym (unwrap_or-slice_get xs place e)
 
--- two readings that agree below a number
+-- Two readings that agree below a number.
 map_below : (f g : ℕ → EventView) (n : ℕ) → ((k : ℕ) → k < n → f k ≡ g k) → map f (below n) ≡ map g (below n)
 map_below f g zero same = refl
 map_below f g (suc n) same =

@@ -16,16 +16,16 @@ use Rattle.flt_dem.specs.Standing.{FaultsStand}
 use Rattle.flt_dem.specs.Debounces.{DebouncesStand, and_then}
 use Rattle.flt_dem.specs.Events.{EventsView, holding}
 
--- events with these happenings, and these marks of all
+-- Events with these happenings, and these marks of all.
 pub record StandsWith (life : Life) (items : ℕ → Happenings) (marks : Trace) (events : EventsView) : Type 0 where
   pub debounces_stand : DebouncesStand life items events.debounces
   pub faults_stand : FaultsStand life marks events.faults
 
--- what the calls so far make of them
+-- What the calls so far make of them.
 abbrev pub StandsAfter : Life → History → EventsView → Type 0
 StandsAfter life past events = StandsWith life (λ event. happenings life event past) (trace life past) events
 
--- the events below a number have taken their parts of a call, and the others have not
+-- The events below a number have taken their parts of a call, and the others have not.
 module _ (life : Life) (past : History) (op : Op) (done : ℕ) where
   abbrev pub items_partly : ℕ → Happenings
   items_partly event = if nat_lt event done then happenings life event (op ∷ past) else happenings life event past
@@ -36,7 +36,7 @@ module _ (life : Life) (past : History) (op : Op) (done : ℕ) where
   abbrev pub StandsPartly : EventsView → Type 0
   StandsPartly events = StandsWith life items_partly marks_partly events
 
--- one event takes its part of a call, whatever the events before it made of theirs
+-- One event takes its part of a call, whatever the events before it made of theirs.
 abbrev pub TakesPart : Life → History → Op → ℕ → EventsView → EventsView → Type 0
 TakesPart life past op event old new =
     (items : ℕ → Happenings) (marks : Trace) → items event ≡ happenings life event past → StandsWith life items marks old →
@@ -44,13 +44,13 @@ TakesPart life past op event old new =
 
 -- ---- What each kind of call makes of the events, in words for contracts.
 
--- a report that counts is taken at these signals
+-- A report that counts is taken at these signals.
 abbrev pub TakeReport : ℕ → Report → List ℕ → EventsView → EventsView → Type 0
 TakeReport event report values old new =
     (life : Life) (past : History) → counts_report life event past ≡ true → values ≡ signals past →
     StandsAfter life past old → StandsAfter life (ops.Report event report ∷ past) new
 
--- ticks go by at these signals, with the setting on: for one event, and for all
+-- Ticks go by at these signals, with the setting on: for one event, and for all.
 module _ (ticks : ℕ) (values : List ℕ) where
   abbrev pub TakesPartOfTicks : ℕ → EventsView → EventsView → Type 0
   TakesPartOfTicks event old new =
@@ -61,24 +61,24 @@ module _ (ticks : ℕ) (values : List ℕ) where
       (life : Life) (past : History) → is_setting_off past ≡ false → values ≡ signals past →
       StandsAfter life past old → StandsAfter life (ops.Tick ticks ∷ past) new
 
--- an operation cycle ends: for one event, and for all
+-- An operation cycle ends: for one event, and for all.
 abbrev pub TakesPartOfCycle : ℕ → ℕ → EventsView → EventsView → Type 0
 TakesPartOfCycle cycle event old new = (life : Life) (past : History) → TakesPart life past (ops.Cycle cycle) event old new
 
 abbrev pub TakeCycle : ℕ → EventsView → EventsView → Type 0
 TakeCycle cycle old new = (life : Life) (past : History) → StandsAfter life past old → StandsAfter life (ops.Cycle cycle ∷ past) new
 
--- a tester's request clears a DTC that reaches the event: its part
+-- A tester's request clears a DTC that reaches the event: its part.
 abbrev pub TakesPartOfClear : ℕ → EventsView → EventsView → Type 0
 TakesPartOfClear event old new =
     (life : Life) (past : History) (tester dtc : ℕ) (bytes : RequestBytes) → cleared_dtc (ops.Request tester bytes) ≡ Some dtc →
     reaches life event dtc ≡ true → TakesPart life past (ops.Request tester bytes) event old new
 
--- it takes that part whatever entries are held, and gives up its own
+-- It takes that part whatever entries are held, and gives up its own.
 abbrev pub TakesPartOfAnyClear : ℕ → EventsView → EventsView → Type 0
 TakesPartOfAnyClear event old new = (held : Memory) → TakesPartOfClear event (holding held old) (holding (without_entry event held) new)
 
--- a tester's request clears all
+-- A tester's request clears all.
 abbrev pub TakeClearOfAll : EventsView → EventsView → Type 0
 TakeClearOfAll old new =
     (life : Life) (past : History) (tester : ℕ) (bytes : RequestBytes) → cleared_dtc (ops.Request tester bytes) ≡ Some all_dtcs →

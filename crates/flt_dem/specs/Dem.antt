@@ -6,14 +6,14 @@ use Rattle.flt_did.specs.Table.{dids_of}
 use Rattle.flt_dem.specs.declared.dem.Dem.{Dem}
 use Rattle.flt_dem.specs.Manager.{Manager}
 
--- the manager without its table
+-- The manager without its table.
 abbrev pub state_of : {F : _} {g : _} → Dem F g → Manager
 state_of dem = dem.state
 
--- its configuration
+-- Its configuration.
 abbrev pub config_of : {F : _} {g : _} → Dem F g → Config
 config_of dem = dem.state.faults.config
 
--- the data identifiers of its table
+-- The data identifiers of its table.
 abbrev pub table_of : {F : _} {g : _} → Dem F g → List DidUse
 table_of dem = dids_of dem.dids

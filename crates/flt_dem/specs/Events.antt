@@ -9,21 +9,21 @@ use Rattle.flt_memory.specs.Memory.{Memory}
 use Rattle.flt_dem.specs.Faults.{FaultsView, with_memory}
 use Rattle.flt_dem.specs.Debounces.{AreOfKind}
 
--- the durable part, and one debouncing for each event by its number
+-- The durable part, and one debouncing for each event by its number.
 pub record EventsView : Type 0 where
   pub faults : FaultsView
   pub debounces : List DebState
 
--- one debouncing for each event, of its kind
+-- One debouncing for each event, of its kind.
 pub record IsOfConfig (config : Config) (debounces : List DebState) : Type 0 where
   pub one_each : length debounces ≡ length config.events.items
   pub kinds : AreOfKind config.events.items debounces
 
--- the events with these entries in place of theirs
+-- The events with these entries in place of theirs.
 abbrev pub holding : Memory → EventsView → EventsView
 holding memory events = record events { faults = with_memory memory events.faults }
 
--- the fault detection counter of an event
+-- The fault detection counter of an event.
 abbrev pub counter_at : EventsView → ℕ → ℤ
 counter_at events event =
     detection_counter (unwrap_or (slice_get events.faults.config.events.items event) no_event).debounce (unwrap_or (slice_get events.debounces event) Idle)

@@ -20,7 +20,7 @@ use Rattle.flt_model.specs.Answer.{view}
 use Rattle.flt_dem.specs.Manager.{Manager, StandsFor}
 use Rattle.flt_dem.specs.View.{view_of}
 
--- an event is stored behind its failure
+-- An event is stored behind its failure.
 pub record Storing (life : Life) (event : ℕ) (signals : List ℕ) (before : Trace) (states : List EventState) (old new : Memory) (outcome : Stored) : Type 0 where
   pub configured : event < count life
   pub entered : enters (base_of life event) (marks_of event before) ≡ true
@@ -30,19 +30,19 @@ pub record Storing (life : Life) (event : ℕ) (signals : List ℕ) (before : Tr
   pub within : All (λ entry. entry.event < count life) old.entries
   pub stored : StoresAs life.config states event (frame life event signals) old new outcome
 
--- the entries after storing are those that the marks decide
+-- The entries after storing are those that the marks decide.
 abbrev pub StoringFollowsMarks : Type 0
 StoringFollowsMarks = (life : Life) (event : ℕ) (signals : List ℕ) (before : Trace) (states : List EventState) (old new : Memory) (outcome : Stored) →
     Storing life event signals before states old new outcome →
     (with_failed life signals event before ≡ with_outcome event signals outcome (Of event Failed signals ∷ before))
     × MemoryStands life (with_failed life signals event before) new
 
--- a clear of no event, or of a DTC that none has
+-- A clear of no event, or of a DTC that none has.
 abbrev pub ClearsNothing : Life → Option ℕ → Type 0
 ClearsNothing life None = Unit {0}
 ClearsNothing life (Some dtc) = (dtc ≢ all_dtcs) × ((event : ℕ) → event < count life → dtc ≢ (event_of life event).dtc)
 
--- a call in which the event manager takes no part: a show, a snapshot, a save, and a request that clears no event
+-- A call in which the event manager takes no part: a show, a snapshot, a save, and a request that clears no event.
 abbrev pub IsIdle : Life → Op → Type 0
 IsIdle life (ops.Request tester bytes) = ClearsNothing life (cleared_dtc (ops.Request tester bytes))
 IsIdle life (ops.Show event) = Unit {0}
@@ -50,21 +50,21 @@ IsIdle life ops.Snapshot = Unit {0}
 IsIdle life (ops.Saved generation) = Unit {0}
 IsIdle life _ = ⊥
 
--- a manager stands for such a call more
+-- A manager stands for such a call more.
 abbrev pub IdleCallsChangeNothing : Type 0
 IdleCallsChangeNothing = (life : Life) (past : History) (manager : Manager) (op : Op) → IsIdle life op → StandsFor life past manager
     → StandsFor life (op ∷ past) manager
 
--- no tester made a request
+-- No tester made a request.
 abbrev pub HasNoRequest : History → Type 0
 HasNoRequest [] = Unit {0}
 HasNoRequest (ops.Request tester bytes ∷ past) = ⊥
 HasNoRequest (_ ∷ past) = HasNoRequest past
 
--- then the setting is on
+-- Then the setting is on.
 abbrev pub SettingIsOnWithoutRequests : Type 0
 SettingIsOnWithoutRequests = (past : History) → HasNoRequest past → is_setting_off past ≡ false
 
--- what a tester may read is what the calls so far make of it
+-- What a tester may read is what the calls so far make of it.
 abbrev pub ViewIsTold : Type 0
 ViewIsTold = (life : Life) (past : History) (manager : Manager) → StandsFor life past manager → view_of manager ≡ view life past (trace life past)

@@ -24,90 +24,90 @@ use Rattle.flt_dem.specs.Standing.{notes_of}
 use Rattle.flt_dem.specs.Events.{EventsView}
 use Rattle.flt_dem.specs.Calls.{StandsAfter}
 
--- the durable part, the debouncing of each event, which cycles are started, and the signals
+-- The durable part, the debouncing of each event, which cycles are started, and the signals.
 pub record Manager : Type 0 where
   pub faults : FaultsView
   pub debounces : List DebState
   pub started : List Bool
   pub signals : List ℕ
 
--- what it has of the events
+-- What it has of the events.
 abbrev pub events_of : Manager → EventsView
 events_of manager = record { faults = manager.faults; debounces = manager.debounces }
 
--- a manager that is what the base and the calls since power-up make of it
+-- A manager that is what the base and the calls since power-up make of it.
 pub record StandsFor (life : Life) (past : History) (manager : Manager) : Type 0 where
   pub events : StandsAfter life past (events_of manager)
   pub started : (cycle : ℕ) → cycle < 4 → slice_get manager.started cycle ≡ Some (is_started cycle past)
   pub signals : manager.signals ≡ signals past
 
--- whether the cycle of the event was started
+-- Whether the cycle of the event was started.
 abbrev pub is_cycle_started : Manager → ℕ → Bool
 is_cycle_started manager event =
     unwrap_or (slice_get manager.started (unwrap_or (slice_get manager.faults.config.events.items event) no_event).cycle) false
 
--- why a report is ignored: the setting comes first
+-- Why a report is ignored: the setting comes first.
 abbrev pub cause_of : Bool → Bool → Option Cause
 cause_of false started = Some SettingOff
 cause_of true false = Some NotStarted
 cause_of true true = None
 
--- the answer to a report, by why it is ignored
+-- The answer to a report, by why it is ignored.
 abbrev pub report_reply : Option Cause → Reply
 report_reply None = replies.Taken
 report_reply (Some cause) = replies.Ignored cause
 
--- the debouncing and the state of an event are as before
+-- The debouncing and the state of an event are as before.
 pub record KeepsEvent (event : ℕ) (before now : Manager) : Type 0 where
   pub debouncing : slice_get now.debounces event ≡ slice_get before.debounces event
   pub state : slice_get now.faults.states event ≡ slice_get before.faults.states event
 
--- the event is not of this operation cycle
+-- The event is not of this operation cycle.
 abbrev pub IsOfOtherCycle : Config → ℕ → ℕ → Type 0
 IsOfOtherCycle config cycle event = IfSome (slice_get config.events.items event) (λ rules. rules.cycle ≢ cycle)
 
--- what a list has of the events of other cycles is as before
+-- What a list has of the events of other cycles is as before.
 abbrev pub KeepsOtherCycles : {A : Type 0} → Config → ℕ → List A → List A → Type 0
 KeepsOtherCycles config cycle old new = (event : ℕ) → IsOfOtherCycle config cycle event → slice_get new event ≡ slice_get old event
 
 -- ---- What a call makes of a manager, in words for contracts.
 
--- it stands before the call, and stands with the call more after
+-- It stands before the call, and stands with the call more after.
 abbrev pub Takes : Op → Manager → Manager → Type 0
 Takes op old new = (life : Life) (past : History) → StandsFor life past old → StandsFor life (op ∷ past) new
 
--- it does where the first tells whether the setting is on
+-- It does where the first tells whether the setting is on.
 abbrev pub TakesUnder : Bool → Op → Manager → Manager → Type 0
 TakesUnder setting op old new =
     (life : Life) (past : History) → setting ≡ not (is_setting_off past) → StandsFor life past old → StandsFor life (op ∷ past) new
 
--- it takes each request of a tester that clears this DTC
+-- It takes each request of a tester that clears this DTC.
 abbrev pub TakesClear : (Life → ℕ) → Manager → Manager → Type 0
 TakesClear dtc old new =
     (life : Life) (past : History) (tester : ℕ) (bytes : RequestBytes) → cleared_dtc (ops.Request tester bytes) ≡ Some (dtc life) →
     StandsFor life past old → StandsFor life (ops.Request tester bytes ∷ past) new
 
--- a value is what the base and the calls so far make of it
+-- A value is what the base and the calls so far make of it.
 abbrev pub IsValueOf : {A : Type 0} → (Life → History → A) → Manager → A → Type 0
 IsValueOf told manager value = (life : Life) (past : History) → StandsFor life past manager → value ≡ told life past
 
--- the reply is the answer to the call
+-- The reply is the answer to the call.
 abbrev pub Answers : Op → Manager → Reply → Type 0
 Answers op manager reply = (life : Life) (past : History) → StandsFor life past manager → reply ≡ answer life past op
 
--- it is where the first tells whether the setting is on
+-- It is where the first tells whether the setting is on.
 abbrev pub AnswersUnder : Bool → Op → Manager → Reply → Type 0
 AnswersUnder setting op manager reply =
     (life : Life) (past : History) → setting ≡ not (is_setting_off past) → StandsFor life past manager → reply ≡ answer life past op
 
--- the other events without an entry are untouched
+-- The other events without an entry are untouched.
 abbrev pub LeavesOthers : ℕ → Manager → Manager → Type 0
 LeavesOthers event old new = (other : ℕ) → other ≢ event → find (is_of_event other) old.faults.memory.entries ≡ None → KeepsEvent other old new
 
--- the entry of an event that the calls so far make, if they make one
+-- The entry of an event that the calls so far make, if they make one.
 abbrev pub entry_after : ℕ → Life → History → Option EntryState
 entry_after event life past = entry_where life event (trace life past) (has_entry life event (trace life past))
 
--- the event that they note
+-- The event that they note.
 abbrev pub noted_after : Which → Life → History → Option ℕ
 noted_after which life past = noted_by which (notes_of life (trace life past))

@@ -6,14 +6,14 @@ use Rattle.flt_dem.specs.declared.notes.Notes.{Notes}
 use Rattle.flt_dem.specs.declared.notes.Which.{Which}
 use Rattle.flt_dem.specs.declared.notes.Which.TheVariants.{FirstFailed, FirstConfirmed, RecentFailed, RecentConfirmed}
 
--- each of the four by its name
+-- Each of the four by its name.
 abbrev pub noted_by : Which → Notes → Option ℕ
 noted_by FirstFailed notes = notes.first_failed
 noted_by FirstConfirmed notes = notes.first_confirmed
 noted_by RecentFailed notes = notes.recent_failed
 noted_by RecentConfirmed notes = notes.recent_confirmed
 
--- the notes of a durable state
+-- The notes of a durable state.
 abbrev pub notes_in : Persist → Notes
 notes_in base = record {
   first_failed = base.first_failed;
@@ -22,7 +22,7 @@ notes_in base = record {
   recent_confirmed = base.recent_confirmed;
 }
 
--- the notes without those of an event
+-- The notes without those of an event.
 abbrev pub notes_without : ℕ → Notes → Notes
 notes_without event notes = record {
   first_failed = without event notes.first_failed;

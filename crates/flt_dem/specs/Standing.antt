@@ -14,17 +14,17 @@ use Rattle.flt_memory.specs.declared.memory.Stored.TheVariants as outcomes
 use Rattle.flt_dem.specs.declared.notes.Notes.{Notes}
 use Rattle.flt_dem.specs.Faults.{FaultsView, with_memory, without_entry}
 
--- each event's state is what the marks make of it
+-- Each event's state is what the marks make of it.
 pub record StatesStand (life : Life) (marks : Trace) (states : List EventState) : Type 0 where
   pub one_each : length states ≡ count life
   pub each : (event : ℕ) → event < count life → slice_get states event ≡ Some (state_at life marks event)
 
--- the entries are what the marks make of them
+-- The entries are what the marks make of them.
 pub record MemoryStands (life : Life) (marks : Trace) (memory : Memory) : Type 0 where
   pub entries : memory.entries ≡ entries life marks
   pub overflow : memory.overflow ≡ overflow life marks
 
--- the events that the marks note
+-- The events that the marks note.
 abbrev pub notes_of : Life → Trace → Notes
 notes_of life marks = record {
   first_failed = first (is_entering_failure life) life.base.first_failed marks;
@@ -33,45 +33,45 @@ notes_of life marks = record {
   recent_confirmed = recent (is_confirming_failure life) life.base.recent_confirmed marks;
 }
 
--- all of it is what the marks make of it, under the life's configuration
+-- All of it is what the marks make of it, under the life's configuration.
 pub record FaultsStand (life : Life) (marks : Trace) (faults : FaultsView) : Type 0 where
   pub config : life.config ≡ faults.config
   pub states_stand : StatesStand life marks faults.states
   pub memory_stands : MemoryStands life marks faults.memory
   pub notes : faults.notes ≡ notes_of life marks
 
--- the marks of what became of an event that was stored
+-- The marks of what became of an event that was stored.
 abbrev pub with_outcome : ℕ → List ℕ → Stored → Trace → Trace
 with_outcome event signals outcomes.Updated trace = trace
 with_outcome event signals outcomes.Added trace = Of event Added signals ∷ trace
 with_outcome event signals (outcomes.Displaced other) trace = Of event Added signals ∷ Of other Displaced signals ∷ trace
 with_outcome event signals outcomes.Refused trace = Of event Refused signals ∷ trace
 
--- the event that gave way, if one did, is below a number
+-- The event that gave way, if one did, is below a number.
 abbrev pub IsDisplacedBelow : ℕ → Stored → Type 0
 IsDisplacedBelow count (outcomes.Displaced other) = other < count
 IsDisplacedBelow count _ = Unit {0}
 
--- the event that gave way, if one did, is another one
+-- The event that gave way, if one did, is another one.
 abbrev pub IsNotDisplaced : ℕ → Stored → Type 0
 IsNotDisplaced event (outcomes.Displaced other) = event ≢ other
 IsNotDisplaced event _ = Unit {0}
 
--- the durable part stands before, and stands with more marks after
+-- The durable part stands before, and stands with more marks after.
 abbrev pub Bears : (Life → Trace → Trace) → FaultsView → FaultsView → Type 0
 Bears more old new = (life : Life) (marks : Trace) → FaultsStand life marks old → FaultsStand life (more life marks) new
 
--- it bears the clear of an event whatever entries it holds, where it gives up the event's
+-- It bears the clear of an event whatever entries it holds, where it gives up the event's.
 abbrev pub BearsClear : ℕ → FaultsView → FaultsView → Type 0
 BearsClear event old new =
     (held : Memory) (signals : List ℕ) → Bears (λ life marks. Of event Clear signals ∷ marks) (with_memory held old)
     (with_memory (without_entry event held) new)
 
--- the states follow what became of an event that was stored
+-- The states follow what became of an event that was stored.
 abbrev pub StatesFollow : Stored → List EventState → List EventState → Type 0
 StatesFollow outcome old new =
     (life : Life) (event : ℕ) (signals : List ℕ) (marks : Trace) → StatesStand life marks old → StatesStand life (with_outcome event signals outcome marks) new
 
--- how often an event occurred that has an entry, and 0 without an entry
+-- How often an event occurred that has an entry, and 0 without an entry.
 abbrev pub occurrence_of : ℕ → Life → Trace → ℕ
 occurrence_of event life marks = unwrap_or (option_map (λ entry. entry.occurrence) (entry_where life event marks (has_entry life event marks))) 0

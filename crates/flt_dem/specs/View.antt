@@ -10,15 +10,15 @@ use Rattle.flt_model.specs.declared.call.DebState.TheVariants.{Idle}
 use Rattle.flt_dem.specs.declared.notes.Notes.{Notes}
 use Rattle.flt_dem.specs.Manager.{Manager}
 
--- the configuration of an event
+-- The configuration of an event.
 abbrev pub rules_of : Manager → ℕ → EventCfg
 rules_of manager event = unwrap_or (slice_get manager.faults.config.events.items event) no_event
 
--- the fault detection counter of an event
+-- The fault detection counter of an event.
 abbrev pub counter_of : Manager → ℕ → ℤ
 counter_of manager event = detection_counter (rules_of manager event).debounce (unwrap_or (slice_get manager.debounces event) Idle)
 
--- an event with its state, entry and fault detection counter
+-- An event with its state, entry and fault detection counter.
 abbrev pub event_seen : Manager → ℕ → EventView
 event_seen manager event = record {
   dtc = (rules_of manager event).dtc;
@@ -28,7 +28,7 @@ event_seen manager event = record {
   counter = counter_of manager event;
 }
 
--- the noted event that a sub-function reads
+-- The noted event that a sub-function reads.
 abbrev pub noted_at : Notes → ℕ → Option ℕ
 noted_at notes sub =
     if sub == 0x0B then notes.first_failed
@@ -36,7 +36,7 @@ noted_at notes sub =
     else if sub == 0x0D then notes.recent_failed
     else notes.recent_confirmed
 
--- all events in order of number, and which of them are noted
+-- All events in order of number, and which of them are noted.
 abbrev pub view_of : Manager → View
 view_of manager = record {
   events = map (event_seen manager) (below (length manager.faults.config.events.items));

@@ -12,7 +12,7 @@ pub rows_dids-push : {F : _} {g : _} (rows : List (Option (Row F g))) (r : Row F
     → rows_dids (rows ++ Some r ∷ []) ≡ rows_dids rows ++ row_did r ∷ []
 rows_dids-push rows r = filter_map-append _ rows (Some r ∷ [])
 
--- a data identifier that is there with a width
+-- A data identifier that is there with a width.
 pub found_width : (dids : List DidUse) (did : DidUse) → option_map (λ d. d.width) (find (is_did did.id) dids) ≡ Some did.width → find (is_did did.id) dids ≡ Some did
 found_width [] did e = absurd (cc)
 found_width (first ∷ dids) did e =

@@ -4,10 +4,10 @@ use Rattle.flt_config.specs.declared.config.DidUse.{DidUse}
 use Rattle.flt_config.specs.declared.config.EventCfg.{EventCfg}
 use Rattle.flt_did.specs.Rows.{is_did}
 
--- each use is among the data identifiers, with its width
+-- Each use is among the data identifiers, with its width.
 abbrev pub HasAll : List DidUse → List DidUse → Type 0
 HasAll dids uses = All (λ did. find (is_did did.id) dids ≡ Some did) uses
 
--- so is each use of each event
+-- So is each use of each event.
 abbrev pub Serves : List DidUse → List EventCfg → Type 0
 Serves dids events = All (λ event. HasAll dids event.dids.items) events

@@ -23,12 +23,12 @@ use Rattle.flt_record.specs.Recorded.{Records}
 use Rattle.flt_fee.proofs.Composed.{follows_by}
 use Rattle.flt_fee.proofs.Standing.{stands_value, stands_sound, left_standing, done_standing, current_stays}
 
--- the pages behind the log of an image that stands
+-- The pages behind the log of an image that stands.
 pub blank_at_end : (used : ℕ) (numbers : List ℕ) (image : List (List (List ℕ))) (sector sequence end : ℕ) (value : ℕ → Content) → 2 ≤ used → StandsAt used numbers image sector sequence end value → AreBlank (sector_at image sector) end used
 blank_at_end used numbers image sector sequence end value begins stands =
     blank_behind used numbers (sector_at image sector) (sector_at image sector) stands.holds.entries end begins stands.holds.is (λ k low lt. refl)
 
--- a call on a driver that is not stale, which leaves the image without a fault and its current sector where it was
+-- A call on a driver that is not stale, which leaves the image without a fault and its current sector where it was.
 module _ (used : ℕ) (numbers : List ℕ) (before after : FlashState) (runs : MakesOperations before after) (sound : first_fault used numbers before.image ≡ None) (stays_sound : first_fault used numbers after.image ≡ None)
     (same : current used after.image ≡ current used before.image) (was_stale has_mounted is_stale : Bool) where
   pub quiet_calls : {T : Type 0} (result : Result T BlockFault) → (IsErrOf result Flash → HasRisenBy 1 before.faults after.faults)
@@ -59,7 +59,7 @@ module _ (used : ℕ) (numbers : List ℕ) (before after : FlashState) (shape : 
   given_other : (other : ℕ) → other ≢ block → given block asked value other ≡ value other
   given_other other apart = ap (λ b. if b then asked else value other) (ne_eqb block other (λ e. apart (sym e)))
 
-  -- what a failed append leaves, whichever it is
+  -- What a failed append leaves, whichever it is.
   record Leaves : Type 0 where
     pub either : (block_value used numbers after.image block ≡ value block) ⊎ (block_value used numbers after.image block ≡ asked)
     pub others : (other : ℕ) → other ≢ block → block_value used numbers after.image other ≡ value other
@@ -82,7 +82,7 @@ module _ (used : ℕ) (numbers : List ℕ) (before after : FlashState) (shape : 
   leaves : {result : Result (Unit {0}) FlashFailed} → Records before after sector page block held valid result → Leaves
   leaves {result} is = ⊎_elim old new (left_standing used numbers before after shape sector sequence page block held valid value within begins stands proper among room {result = result} is)
 
-  -- no call brings a fault into the image
+  -- No call brings a fault into the image.
   pub left_sound : {result : Result (Unit {0}) FlashFailed} → Records before after sector page block held valid result → first_fault used numbers after.image ≡ None
   left_sound {result} is = (leaves {result = result} is).sound
 

@@ -15,7 +15,7 @@ use Rattle.flt_record.specs.Blank.{AreBlank}
 use Rattle.flt_record.proofs.TornGates.{torn_gates}
 use Rattle.flt_record.proofs.Begun.{unspoiled_blank, not_valid, valid}
 
--- the pages of a sector, of which the start gate of a number stands
+-- The pages of a sector, of which the start gate of a number stands.
 module _ (used sequence : ℕ) (fits : used < 2 ^ 16) (counts : sequence < 2 ^ 32) (pages : List (List ℕ)) (room : 1 < length pages) (stands : get_or pages 0 [] ≡ sealed (word_bytes (Start sequence used))) where
   first_page : (page : List ℕ) → get_or (set pages 1 page) 0 [] ≡ sealed (word_bytes (Start sequence used))
   first_page page = get_or-set_other pages 1 0 page [] (omega arith) ∙ stands
@@ -23,11 +23,11 @@ module _ (used sequence : ℕ) (fits : used < 2 ^ 16) (counts : sequence < 2 ^ 3
   second_page : (page : List ℕ) → get_or (set pages 1 page) 1 [] ≡ page
   second_page page = get_or-set_same pages 1 page [] room
 
-  -- the active gate makes the sector valid
+  -- The active gate makes the sector valid.
   pub made_active : gates_of used (set pages 1 (sealed (word_bytes (Active sequence)))) ≡ Ok (Some sequence)
   made_active = valid used sequence fits counts (set pages 1 (sealed (word_bytes (Active sequence)))) (first_page (sealed (word_bytes (Active sequence)))) (second_page (sealed (word_bytes (Active sequence))))
 
-  -- and without it the sector is not valid
+  -- And without it the sector is not valid.
   pub not_active : (page : List ℕ) → is_spoiled page ≡ false → unsealed page ≡ None → gates_of used (set pages 1 page) ≡ Ok None
   not_active page fresh gone =
       not_valid used sequence fits counts (set pages 1 page)
@@ -50,7 +50,7 @@ module _ (used sequence : ℕ) (least : 2 ≤ used) (fits : used < 2 ^ 16) (coun
   enough : used ≤ length (sector_at before.image sector)
   enough = omega (arith, shape.pages sector in_sector)
 
-  -- the image with the first page of an erased sector
+  -- The image with the first page of an erased sector.
   begun_at : (page : List ℕ) → programmed (erased before.image sector) sector 0 page ≡ set before.image sector (set (replicate (length (sector_at before.image sector)) blank_page) 0 page)
   begun_at page =
       ap (λ (pages : List (List ℕ)). set (set before.image sector blanks) sector (set pages 0 page)) (get_or-set_same before.image sector blanks [] (omega (arith, shape.sectors)))
@@ -62,7 +62,7 @@ module _ (used sequence : ℕ) (least : 2 ≤ used) (fits : used < 2 ^ 16) (coun
   later_page : (page : List ℕ) (k : ℕ) → 0 < k → k < used → get_or (set (replicate (length (sector_at before.image sector)) blank_page) 0 page) k [] ≡ blank_page
   later_page page k low high = get_or-set_other blanks 0 k page [] (omega arith) ∙ get_or-replicate (length (sector_at before.image sector)) k blank_page [] (omega (arith, enough))
 
-  -- what a begin that failed leaves: the sector is as valid as it was, or not valid
+  -- What a begin that failed leaves: the sector is as valid as it was, or not valid.
   pub record BeginLeft (after : FlashState) : Type 0 where
     pub pages : List (List ℕ)
     pub image : after.image ≡ set before.image sector pages
@@ -82,7 +82,7 @@ module _ (used sequence : ℕ) (least : 2 ≤ used) (fits : used < 2 ^ 16) (coun
         (ap unsealed (later_page code.torn 1 (omega arith) (omega arith)) ∙ unsealed_blank));
   }
 
-  -- the start gate stands, and all behind it is blank
+  -- The start gate stands, and all behind it is blank.
   pub record IsBegun (middle : FlashState) (pages : List (List ℕ)) : Type 0 where
     pub image : middle.image ≡ set before.image sector pages
     pub size : length pages ≡ length (sector_at before.image sector)

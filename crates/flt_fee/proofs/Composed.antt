@@ -10,7 +10,7 @@ use Rattle.flt_sector.specs.Blocks.{current, first_fault, block_value}
 use Rattle.flt_fee.specs.Fee.{is_last, state_by}
 
 module _ (used : ℕ) (numbers : List ℕ) (before after : FlashState) (runs : MakesOperations before after) (was_stale had_mounted is_stale has_mounted : Bool) where
-  -- a driver goes on where its image has no new fault, and one with a fault stays as it was
+  -- A driver goes on where its image has no new fault, and one with a fault stays as it was.
   pub follows_by : (had_mounted ≡ true → has_mounted ≡ true) → (is_last (current used before.image) ≡ true → is_last (current used after.image) ≡ true)
       → (first_fault used numbers before.image ≡ None → first_fault used numbers after.image ≡ None)
       → ((place : ℕ × ℕ) → first_fault used numbers before.image ≡ Some place → after.image ≡ before.image)
@@ -32,7 +32,7 @@ unmounted_before : (before after : Bool) → (IsTrue before → IsTrue after) �
 unmounted_before true after keeps unset = absurd (cc (keeps refl, unset))
 unmounted_before false after keeps unset = refl
 
--- the image had the fault before too
+-- The image had the fault before too.
 damage_before : (before after : Option (ℕ × ℕ)) (place : ℕ × ℕ) → ((p : ℕ × ℕ) → before ≡ Some p → after ≡ Some p) → (before ≡ None → after ≡ None) → after ≡ Some place → before ≡ Some place
 damage_before None after place stays none found = absurd (cc (none refl, found))
 damage_before (Some p) after place stays none found = sym (stays p refl) ∙ found
@@ -41,7 +41,7 @@ no_damage_before : (before after : Option (ℕ × ℕ)) → ((p : ℕ × ℕ) �
 no_damage_before None after stays none = refl
 no_damage_before (Some p) after stays none = absurd (cc (stays p refl, none))
 
--- the last of several calls tells how they ended
+-- The last of several calls tells how they ended.
 pub calls_after : {T : Type 0} (first second third : BlocksState) (result : Result T BlockFault) → Follows first second → Calls second third result → Calls first third result
 calls_after {T} first second third result one two = record {
   follows = more_calls first second third one two.follows;

@@ -50,7 +50,7 @@ module _ (used : ℕ) (numbers : List ℕ) (before : FlashState) (shape : HasSha
   abbrev content : Content
   content = held_in used numbers (sector_at before.image sector) number
 
-  -- a block without a record
+  -- A block without a record.
   module _ (is : IsAt (sector_at before.image sector) used (held_in used numbers (sector_at before.image sector) number) None) where
     nothing : held_in used numbers (sector_at before.image sector) number ≡ missing
     nothing = is.holds
@@ -71,7 +71,7 @@ module _ (used : ℕ) (numbers : List ℕ) (before : FlashState) (shape : HasSha
         by_test value unset block false is = refl
         by_test value unset block true is = (let one : number ≡ block = eqb-true number block (sym is) in ap value (sym one) ∙ unset ∙ sym nothing)
 
-    -- its place stays empty
+    -- Its place stays empty.
     pub place_empty : (places : List (Option RecordPlace)) → ((found : Option RecordPlace) → IsPlaceOf numbers places number found → IsAt (sector_at before.image sector) used (held_in used numbers (sector_at before.image sector) number) found)
         → Replaces numbers (sector_at before.image other) places places number end (held_in used numbers (sector_at before.image sector) number)
     place_empty places at = record {
@@ -88,7 +88,7 @@ module _ (used : ℕ) (numbers : List ℕ) (before : FlashState) (shape : HasSha
         by_place None at = record { holds = nothing; inside = tt }
         by_place (Some place) at = absurd (by_valid place.valid (bytes_at (sector_at before.image sector) place) (sym nothing ∙ at.holds))
 
-  -- a block with a record
+  -- A block with a record.
   module _ (place : RecordPlace) (is : IsAt (sector_at before.image sector) used (held_in used numbers (sector_at before.image sector) number) (Some place)) where
     pub within : IsPlaceWithin used place
     within = is.inside.within
@@ -141,7 +141,7 @@ module _ (used : ℕ) (numbers : List ℕ) (before : FlashState) (shape : HasSha
               cause = tt;
             }
 
-        -- its place is that of the copy
+        -- Its place is that of the copy.
         pub place_moved : (places now : List (Option RecordPlace))
             → ((k : ℕ) → k < length numbers → get_or now k None ≡ (if true && (number == get_or numbers k 0) then Some (record { page = end; length = place.length; valid = place.valid }) else get_or places k None))
             → Replaces numbers (sector_at after.image other) places now number last (held_in used numbers (sector_at before.image sector) number)

@@ -30,7 +30,7 @@ use Rattle.flt_pages.specs.Next.{IsLeastFrom}
 use Rattle.flt_fee.specs.Switch.{below, KeepsGates, CopiesBlock, CopiesBlocks, Replaces}
 use Rattle.flt_fee.proofs.CopyingBlock.{same_kept}
 
--- sums of the pages of what is copied
+-- Sums of the pages of what is copied.
 sum_grows : (f g : ℕ → ℕ) → ((x : ℕ) → f x ≤ g x) → (n pages : ℕ) → f n + pages ≤ g n → (xs : List ℕ) (k : ℕ) → k < length xs → get_or xs k n ≡ n → sum_by f xs + pages ≤ sum_by g xs
 sum_grows f g less n pages more [] k within here = absurd (omega arith)
 sum_grows f g less n pages more (x ∷ xs) zero within here =
@@ -43,7 +43,7 @@ sum_grows f g less n pages more (x ∷ xs) zero within here =
 sum_grows f g less n pages more (x ∷ xs) (suc k) within here =
     omega (arith, sum_by-cons f x xs, sum_by-cons g x xs, less x, sum_grows f g less n pages more xs k (omega arith) here)
 
--- what is copied so far
+-- What is copied so far.
 module _ (value : ℕ → Content) where
   below_in : (from block : ℕ) → block < from → below from value block ≡ value block
   below_in from block lt = ap (λ b. if b then value block else missing) (lt-ltb block from lt)
@@ -72,7 +72,7 @@ module _ (value : ℕ → Content) where
   sum_next from number numbers le (k, within, here) = sum_grows (λ n. pages_of (below from value n)) (λ n. pages_of (below (number + 1) value n)) (below_less from (number + 1) (omega arith)) number (pages_of (value number))
       (omega (arith, ap pages_of (below_out from number le), ap pages_of (below_in (number + 1) number (omega arith)))) numbers k within here
 
-  -- the blocks between one number and the next are none
+  -- The blocks between one number and the next are none.
   pub given_next : (from number : ℕ) → from ≤ number → ((block : ℕ) → from ≤ block → block < number → value block ≡ missing) → (block : ℕ) → given number (value number) (below from value) block ≡ below (number + 1) value block
   given_next from number le none block = by_test (number == block) refl
     where
@@ -86,20 +86,20 @@ module _ (value : ℕ → Content) where
         ]
       ]
 
--- the blocks that are none of the numbers
+-- The blocks that are none of the numbers.
 pub no_number : (numbers : List ℕ) (block : ℕ) → ((k : ℕ) → k < length numbers → get_or numbers k 0 ≢ block) → list_any (λ number. number == block) numbers ≡ false
 no_number numbers block apart = false_from_ne_true _ (λ is.
     let found = Any-from_list_any (λ number. number == block) numbers is in
     apart found.0 found.2 (get_or_default numbers found.0 0 found.1 found.2 ∙ found.3 ∙ eqb-true found.1 block found.4))
 
--- the numbers below one are done, and the log of the other sector ends here
+-- The numbers below one are done, and the log of the other sector ends here.
 pub record Copying (used : ℕ) (numbers : List ℕ) (start now : FlashState) (sector other end from : ℕ) : Type 0 where
   pub on : OnSector start now other (sector_at now.image other)
   pub gates : KeepsGates (sector_at start.image other) (sector_at now.image other)
   pub holds : LogHolds used numbers (sector_at now.image other) end (below from (held_in used numbers (sector_at start.image sector)))
   pub room : end ≤ 2 + sum_by (λ n. pages_of (below from (held_in used numbers (sector_at start.image sector)) n)) numbers
 
--- the places of the numbers below one are in the log of the other sector, which ends here, and the others are where they were
+-- The places of the numbers below one are in the log of the other sector, which ends here, and the others are where they were.
 pub record Moves (numbers : List ℕ) (places : List (Option RecordPlace)) (start now : FlashState) (sector other used end from : ℕ) (value : ℕ → Content) : Type 0 where
   pub moved : (k : ℕ) → k < length numbers → get_or numbers k 0 < from → IsAt (sector_at now.image other) end (value (get_or numbers k 0)) (get_or places k None)
   pub waits : (k : ℕ) → k < length numbers → from ≤ get_or numbers k 0 → IsAt (sector_at start.image sector) used (value (get_or numbers k 0)) (get_or places k None)
@@ -129,7 +129,7 @@ module _ (used : ℕ) (numbers : List ℕ) (start : FlashState) (shape : HasShap
         room = omega arith;
       }
 
-  -- one block more
+  -- One block more.
   module _ (now : FlashState) (shape_now : HasShape now) (end from : ℕ) (is : Copying used numbers start now sector other end from) where
     pub source_now : sector_at now.image sector ≡ sector_at start.image sector
     source_now = other_stays start now sector other (sector_at now.image other) apart is.on
@@ -183,9 +183,9 @@ module _ (used : ℕ) (numbers : List ℕ) (start : FlashState) (shape : HasShap
             room = omega (arith, does.place, is.room, ap pages_of (content_now number), sum_next value from number numbers next.found.1 next.found.0);
           }
 
-    -- the table, while the blocks are copied
+    -- The table, while the blocks are copied.
     module _ (places : List (Option RecordPlace)) (moves : Moves numbers places start now sector other used end from value) where
-      -- the place of the block that comes next is in the log that is copied
+      -- The place of the block that comes next is in the log that is copied.
       pub place_waits : (number : ℕ) → from ≤ number → (found : Option RecordPlace) → IsPlaceOf numbers places number found
           → IsAt (sector_at now.image sector) used (held_in used numbers (sector_at now.image sector) number) found
       place_waits number low found is =
@@ -228,7 +228,7 @@ module _ (used : ℕ) (numbers : List ℕ) (start : FlashState) (shape : HasShap
       pub moved_all : IsLeastFrom from numbers None → TellsPlaces numbers places (sector_at now.image other) end (held_in used numbers (sector_at start.image sector))
       moved_all none k within = moves.moved k within (none.none k within)
 
-    -- all blocks are copied
+    -- All blocks are copied.
     pub all_done : IsLeastFrom from numbers None → CopiesBlocks start now sector other used numbers (Ok end)
     all_done none = record {
       pages = sector_at now.image other;

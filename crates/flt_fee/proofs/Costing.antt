@@ -10,7 +10,7 @@ use Rattle.flt_flash.specs.declared.blocks.BlockFault.TheVariants.{Flash, Full, 
 use Rattle.flt_fee.specs.Costs.{SpendsAtMost, MakesRoom, Stores, UnlessFailed, StoreCosts}
 use Rattle.flt_fee.specs.Fee.{state_by}
 
--- a record that was refused
+-- A record that was refused.
 pub stored_refused : (used end live size sector : ℕ) (before after : FlashState) (fault : BlockFault) → UnlessFailed {T = Unit {0}} (Err fault) (OnErr {T = Unit {0}} (Err fault) (after ≡ before))
     → UnlessFailed {T = Unit {0}} (Err fault) (Stores used end live size sector before after)
 stored_refused used end live size sector before after Flash same = tt
@@ -18,7 +18,7 @@ stored_refused used end live size sector before after (Full l n) same = inl same
 stored_refused used end live size sector before after SequenceSpent same = inl same
 stored_refused used end live size sector before after (Damaged s p) same = tt
 
--- a record that was appended where there was room, or room was made
+-- A record that was appended where there was room, or room was made.
 pub stored_behind : (used end live size sector : ℕ) (before middle after : FlashState) → MakesRoom used end live size sector before middle → (result : Result (Unit {0}) BlockFault) → NeverFull result
     → OnOk result (SpendsAtMost (record_pages size) middle after) → UnlessFailed result (Stores used end live size sector before after)
 stored_behind used end live size sector before middle after room (Ok x) never spends = ⊎_elim
@@ -33,7 +33,7 @@ stored_behind used end live size sector before middle after room (Err (Full l n)
 stored_behind used end live size sector before middle after room (Err SequenceSpent) never spends = absurd (never.spent refl)
 stored_behind used end live size sector before middle after room (Err (Damaged s p)) never spends = tt
 
--- an erase is one more
+-- An erase is one more.
 erase_counts : (wear : List ℕ) → length wear ≡ 2 → (sector : ℕ) → sector < 2 → erases_of wear + 2 ^ 32 ≤ 2 ^ 64 - 1 → erases_of (set wear (1 - sector) (counted (get_or wear (1 - sector) 0))) ≡ erases_of wear + 1
 erase_counts wear two zero within small =
     let first : get_or (set wear 1 (counted (get_or wear 1 0))) 0 0 ≡ get_or wear 0 0 = get_or-set_other wear 1 0 (counted (get_or wear 1 0)) 0 (omega arith) in
@@ -45,7 +45,7 @@ erase_counts wear two (suc zero) within small =
     (λ i. as_counted (first i) + as_counted (second i)) ∙ omega (arith, small)
 erase_counts wear two (suc (suc sector)) within small = absurd (omega arith)
 
--- a fact of each answer that no fault and no mount gave
+-- A fact of each answer that no fault and no mount gave.
 module _ {T : Type 0} (before after : BlocksState) where
   pub unless : (result : Result T BlockFault) (fact : Type 0) → Calls before after result → before.has_mounted ≡ true → NoFault before after → UnlessFailed result fact → fact
   unless (Ok x) fact calls mounted none is = is
@@ -69,7 +69,7 @@ module _ (used still_used : ℕ) (numbers still_numbers : List ℕ) (before afte
       (λ switched. absurd (let stays : erases_of after.wear ≡ erases_of before.wear = cc none.1 in
       omega (arith, stays, ap erases_of switched.erases.wear, erase_counts before.wear shape.wear sector in_sector none.0))) stored) stores
 
--- a put by what it stores
+-- A put by what it stores.
 pub put_costs : (used still_used : ℕ) (numbers still_numbers : List ℕ) (before after : FlashState) (shape : HasShape before) → 4 ≤ used → (end live size sector : ℕ) → sector < 2 → (was_stale had_mounted is_stale has_mounted : Bool) (result : Result (Unit {0}) BlockFault)
     → (was_stale ≡ false → had_mounted ≡ true) → Calls (state_by used numbers was_stale had_mounted before) (state_by still_used still_numbers is_stale has_mounted after) result
     → (was_stale ≡ false → UnlessFailed result (Stores used end live size sector before after))
@@ -82,7 +82,7 @@ put_costs used still_used numbers still_numbers before after shape least end liv
     stored : was_stale ≡ false → NoFault (state_by used numbers was_stale had_mounted before) (state_by still_used still_numbers is_stale has_mounted after) → Stores used end live size sector before after
     stored fresh none = unless (state_by used numbers was_stale had_mounted before) (state_by still_used still_numbers is_stale has_mounted after) result (Stores used end live size sector before after) calls (mounted fresh) none (stores fresh)
 
--- a read by what it spends
+-- A read by what it spends.
 pub read_costs : {T : Type 0} (used still_used : ℕ) (numbers still_numbers : List ℕ) (before after : FlashState) (limit : ℕ) (was_stale had_mounted is_stale has_mounted : Bool) (result : Result T BlockFault)
     → (was_stale ≡ false → had_mounted ≡ true) → NeverFull result → Calls (state_by used numbers was_stale had_mounted before) (state_by still_used still_numbers is_stale has_mounted after) result
     → (was_stale ≡ false → OnOk result (SpendsAtMost limit before after)) → was_stale ≡ false
@@ -105,7 +105,7 @@ erase_most wear two (suc zero) within =
     omega (arith, first, second)
 erase_most wear two (suc (suc sector)) within = absurd (omega arith)
 
--- a store of a driver that is not stale
+-- A store of a driver that is not stale.
 module _ (used still_used : ℕ) (numbers still_numbers : List ℕ) (before after : FlashState) (shape : HasShape before) (end size sector : ℕ) (in_sector : sector < 2)
     (was_stale had_mounted is_stale has_mounted : Bool) (stores : Stores used end (live_pages (state_by used numbers was_stale had_mounted before)) size sector before after)
     (past : Bool) (is : past ≡ not (nat_le (end + record_pages size) used)) where

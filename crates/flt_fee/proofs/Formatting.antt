@@ -35,7 +35,7 @@ module _ (used : ℕ) (numbers : List ℕ) (least : 2 ≤ used) where
     pub nothing_changes : (was_stale had_mounted is_stale has_mounted : Bool) → SameValues (state_by used numbers was_stale had_mounted before) (state_by used numbers is_stale has_mounted after)
     nothing_changes was_stale had_mounted is_stale has_mounted block = nothing_held after.image left block ∙ sym (nothing_held before.image (inl none) block)
 
-    -- the last sequence number is in use neither before nor after
+    -- The last sequence number is in use neither before nor after.
     pub nothing_spent : (was_stale had_mounted is_stale has_mounted : Bool) → SameSpent (state_by used numbers was_stale had_mounted before) (state_by used numbers is_stale has_mounted after)
     nothing_spent was_stale had_mounted is_stale has_mounted = never_last after.image left ∙ sym (never_last before.image (inl none))
 

@@ -30,7 +30,7 @@ module _ (used : ℕ) (numbers : List ℕ) (before after : FlashState) (reads : 
   pub same_values : (was_stale had_mounted is_stale has_mounted : Bool) → SameValues (state_by used numbers was_stale had_mounted before) (state_by used numbers is_stale has_mounted after)
   same_values was_stale had_mounted is_stale has_mounted block = ap (λ (image : List (List (List ℕ))). block_value used numbers image block) reads.image
 
-  -- where the current sector is known, the first fault is that of its log
+  -- Where the current sector is known, the first fault is that of its log.
   pub fault_there : (at : Current) → current used before.image ≡ Ok (Some at) → first_fault used numbers before.image ≡ place_in at.sector (log used numbers (sector_at before.image at.sector)).fault
   fault_there at is = ap (fault_by used numbers before.image) is
 
@@ -53,7 +53,7 @@ module _ (used : ℕ) (numbers : List ℕ) (before after : FlashState) (reads : 
     refuses_damage = refuses;
   }
 
-  -- the log was found to end here
+  -- The log was found to end here.
   module _ (at : Current) (here : current used before.image ≡ Ok (Some at)) where
     abbrev whole : LogFrom
     whole = log used numbers (sector_at before.image at.sector)
@@ -77,12 +77,12 @@ module _ (used : ℕ) (numbers : List ℕ) (before after : FlashState) (reads : 
         let found = damage_told at.sector whole.end sector page whole.fault tells in
         fault_there at here ∙ ap (place_in at.sector) found.0 ∙ (λ i. Some (found.1 i, page))
 
--- a driver whose image has a fault has not mounted
+-- A driver whose image has a fault has not mounted.
 pub unmounted : (has_mounted : Bool) (damage : Option (ℕ × ℕ)) (place : ℕ × ℕ) → (has_mounted ≡ true → damage ≡ None) → damage ≡ Some place → IsFalse has_mounted
 unmounted true damage place sound is = absurd (cc (sound refl, is))
 unmounted false damage place sound is = refl
 
--- a look of a driver that is not stale, and of one that a look left stale
+-- A look of a driver that is not stale, and of one that a look left stale.
 module _ (used : ℕ) (numbers : List ℕ) (before after : FlashState) (reads : OnlyReads before after) (sound : first_fault used numbers before.image ≡ None) where
   pub looking_calls : {T : Type 0} (was_stale has_mounted is_stale : Bool) (result : Result T BlockFault) → (IsErrOf result Flash → HasRisenBy 1 before.faults after.faults)
       → ((sector page : ℕ) → IsErrOf result (Damaged sector page) → ⊥) → Calls (state_by used numbers was_stale has_mounted before) (state_by used numbers is_stale has_mounted after) result
@@ -94,7 +94,7 @@ pub look_mounted : (is_stale has_mounted : Bool) (used : ℕ) (numbers : List �
 look_mounted is_stale has_mounted used numbers before after sector sequence end reads is =
     subst (λ (image : List (List (List ℕ))). IsMounted is_stale has_mounted used numbers image sector sequence end) (sym reads.image) is
 
--- the records that are stuck, after a look
+-- The records that are stuck, after a look.
 pub stuck_on : (used : ℕ) (numbers : List ℕ) (before middle : FlashState) → middle.image ≡ before.image → (was_stale had_mounted is_stale has_mounted : Bool) (third : BlocksState) (result : Result (Unit {0}) BlockFault)
     → KeepsStuck (state_by used numbers is_stale has_mounted middle) third result → KeepsStuck (state_by used numbers was_stale had_mounted before) third result
 stuck_on used numbers before middle same was_stale had_mounted is_stale has_mounted third (Ok x) stuck = λ block size.

@@ -25,13 +25,13 @@ use Rattle.flt_fee.specs.Mounted.{StandsAt, IsMounted}
 use Rattle.flt_fee.proofs.Refusing.{end_within, live_end}
 use Rattle.flt_fee.proofs.Standing.{stands_value}
 
--- a table that tells what the current sector holds tells the blocks of the image
+-- A table that tells what the current sector holds tells the blocks of the image.
 pub tells_image : (used : ℕ) (numbers : List ℕ) (image : List (List (List ℕ))) (sector sequence end : ℕ) (value : ℕ → Content) → StandsAt used numbers image sector sequence end value
     → (places : List (Option RecordPlace)) → TellsPlaces numbers places (sector_at image sector) end value → TellsPlaces numbers places (sector_at image sector) end (block_value used numbers image)
 tells_image used numbers image sector sequence end value stands places tells k within =
     subst (λ (c : Content). IsAt (sector_at image sector) end c (get_or places k None)) (sym (stands_value used numbers image sector sequence end value stands (get_or numbers k 0))) (tells k within)
 
--- and the other way round, and up to a later page
+-- And the other way round, and up to a later page.
 pub tells_sector : (used : ℕ) (numbers : List ℕ) (image : List (List (List ℕ))) (sector sequence end bound : ℕ) → current used image ≡ Ok (Some record { sector = sector; sequence = sequence }) → end ≤ bound
     → (places : List (Option RecordPlace)) → TellsPlaces numbers places (sector_at image sector) end (block_value used numbers image) → TellsPlaces numbers places (sector_at image sector) bound (held_in used numbers (sector_at image sector))
 tells_sector used numbers image sector sequence end bound is below places tells k within =
@@ -43,7 +43,7 @@ pub tells_current : (used : ℕ) (numbers : List ℕ) (image : List (List (List 
 tells_current used numbers image sector sequence end is places tells k within =
     subst (λ (c : Content). IsAt (sector_at image sector) end c (get_or places k None)) (sym (ap (value_by used numbers image (get_or numbers k 0)) is)) (tells k within)
 
--- a driver that is not stale
+-- A driver that is not stale.
 module _ (is_stale has_mounted : Bool) (settled : is_stale ≡ false) (used : ℕ) (numbers : List ℕ) (flash : FlashState) (shape : HasShape flash) (sector sequence end : ℕ) (least : 4 ≤ used) (most : used ≤ flash.pages)
     (in_sector : sector < 2) (distinct : AllPairs (λ a b. a ≢ b) numbers) (is : IsMounted is_stale has_mounted used numbers flash.image sector sequence end)
     (places : List (Option RecordPlace)) (sized : length places ≡ length numbers) (tells : TellsPlaces numbers places (sector_at flash.image sector) end (block_value used numbers flash.image)) where
@@ -60,11 +60,11 @@ module _ (is_stale has_mounted : Bool) (settled : is_stale ≡ false) (used : �
   placed block found here = farther_at (sector_at flash.image sector) end used within (block_value used numbers flash.image block) found
       (told_place numbers places (sector_at flash.image sector) end (block_value used numbers flash.image) block found tells here)
 
-  -- the table that a switch begins with
+  -- The table that a switch begins with.
   pub tells_old : TellsPlaces numbers places (sector_at flash.image sector) used (held_in used numbers (sector_at flash.image sector))
   tells_old = tells_sector used numbers flash.image sector sequence end used (is.current settled) within places tells
 
--- a record was appended, and its place was noted
+-- A record was appended, and its place was noted.
 module _ (used : ℕ) (numbers : List ℕ) (before after : FlashState) (shape : HasShape before) (sector sequence end block : ℕ) (held : List ℕ) (valid : Bool) (in_sector : sector < 2) (begins : 2 ≤ used)
     (stands : StandsAt used numbers before.image sector sequence end (block_value used numbers before.image)) (proper : IsWord (Head block (length held) valid end))
     (is : Records {T = Unit {0}} before after sector end block held valid (Ok tt))
@@ -83,7 +83,7 @@ module _ (used : ℕ) (numbers : List ℕ) (before after : FlashState) (shape : 
       begun : 2 ≤ end
       begun = end_least used numbers (sector_at before.image sector) (sector_at before.image sector) stands.holds.entries end begins stands.holds.is (λ k low lt. refl)
 
--- what is found of a valid record at its place is as many bytes as its head says
+-- What is found of a valid record at its place is as many bytes as its head says.
 pub valid_found : (pages : List (List ℕ)) (end : ℕ) (content : Content) (place : RecordPlace) → ArePages pages → end ≤ length pages → place.valid ≡ true → IsAt pages end content (Some place) → Bytes place.length ≡ found_of content
 valid_found pages end content place sizes most valid at =
     let size : length (bytes_at pages place) ≡ place.length = bytes_size pages sizes (record_at 0 place) (omega (arith, at.inside.within.below)) in

@@ -11,7 +11,7 @@ use Rattle.flt_fee.specs.Refusal.{refusal, refusal_by, AnswersBy}
 pub values_on : (first second third : BlocksState) → SameValues first second → SameValues second third → SameValues first third
 values_on first second third one two block = two block ∙ one block
 
--- a call that left every block as it was, and answered a fault
+-- A call that left every block as it was, and answered a fault.
 pub kept_changes : (before after : BlocksState) (block : ℕ) (asked : Content) (size : ℕ) (fault : BlockFault) → SameValues before after
     → ((live needed : ℕ) → IsErrOf {T = Unit {0}} (Err fault) (Full live needed) → IsFull after size live needed) → (IsErrOf {T = Unit {0}} (Err fault) SequenceSpent → IsTrue (after.is_stuck block size))
     → Changes before after block asked size (Err fault)
@@ -24,7 +24,7 @@ kept_changes before after block asked size fault same full spent = record {
   damaged = λ sector page told. same;
 }
 
--- a change after calls that left every block as it was
+-- A change after calls that left every block as it was.
 pub changes_on : (first second third : BlocksState) (block : ℕ) (asked : Content) (size : ℕ) (result : Result (Unit {0}) BlockFault) → SameValues first second → NeverFull result
     → Changes second third block asked size result → Changes first third block asked size result
 changes_on first second third block asked size result same never does = record {
@@ -36,13 +36,13 @@ changes_on first second third block asked size result same never does = record {
   damaged = λ sector page told other. does.damaged sector page told other ∙ same other;
 }
 
--- a mount keeps what is refused
+-- A mount keeps what is refused.
 pub same_refusal : (first second : BlocksState) (block size : ℕ) → second.numbers ≡ first.numbers → second.room ≡ first.room → SameValues first second → second.is_stuck block size ≡ first.is_stuck block size
     → refusal second block size ≡ refusal first block size
 same_refusal first second block size numbers room same stuck =
     λ i. refusal_by (room i) (sum_by (λ number. pages_of (same number i)) (numbers i)) (record_pages size) (stuck i)
 
--- the answer of a call that is not refused, and that of a mount
+-- The answer of a call that is not refused, and that of a mount.
 pub not_refused : (refused : Option BlockFault) (result : Result (Unit {0}) BlockFault) → refused ≡ None → NeverFull result → AnswersBy refused result
 not_refused refused (Ok x) none never = none
 not_refused refused (Err Flash) none never = tt

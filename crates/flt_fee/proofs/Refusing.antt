@@ -39,7 +39,7 @@ module _ (was_stale has_mounted : Bool) (settled : was_stale ≡ false) (used : 
   last_is = ap is_last (is.current settled)
 
   module _ (block size : ℕ) where
-    -- there is room for it
+    -- There is room for it.
     with_room : live_pages (state_by used numbers was_stale has_mounted before) + record_pages size ≤ used - 2 → (stuck : Bool) → state.is_stuck block size ≡ stuck
         → refusal (state_by used numbers was_stale has_mounted before) block size ≡ (if stuck then Some SequenceSpent else None)
     with_room fits stuck told =
@@ -68,7 +68,7 @@ module _ (was_stale has_mounted : Bool) (settled : was_stale ≡ false) (used : 
         → refusal (state_by used numbers was_stale has_mounted before) block size ≡ Some SequenceSpent
     can_not_switch fits past last = with_room fits true (stuck_here past last)
 
-    -- after a look
+    -- After a look.
     module _ (after : FlashState) (same : after.image ≡ before.image) (is_stale still_mounted : Bool) where
       same_live : live_pages (state_by used numbers is_stale still_mounted after) ≡ live_pages (state_by used numbers was_stale has_mounted before)
       same_live = ap (λ (image : List (List (List ℕ))). sum_by (λ n. pages_of (value_by used numbers image n (current used image))) numbers) same

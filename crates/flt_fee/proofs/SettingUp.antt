@@ -38,7 +38,7 @@ module _ (used : ℕ) (least : 4 ≤ used) (fits : used < 2 ^ 16) (before : Flas
   both : (gates_of used (sector_at before.image 0) ≡ Ok None) × (gates_of used (sector_at before.image 1) ≡ Ok None)
   both = none_valid (gates_of used (sector_at before.image 0)) (gates_of used (sector_at before.image 1)) none
 
-  -- the image with other pages in the first sector
+  -- The image with other pages in the first sector.
   current_is : (pages : List (List ℕ)) (number : Option ℕ) → gates_of used pages ≡ Ok number → current used (set before.image 0 pages) ≡ greater_of number None
   current_is pages number is =
       (λ i. current_by (gates_of used (get_or-set_same before.image 0 pages [] (omega (arith, shape.sectors)) i)) (gates_of used (get_or-set_other before.image 0 1 pages [] (omega arith) i)))
@@ -49,7 +49,7 @@ module _ (used : ℕ) (least : 4 ≤ used) (fits : used < 2 ^ 16) (before : Flas
       let left = begin_left used 1 (omega arith) fits (omega arith) before shape 0 (omega arith) most after None both.0 torn in
       ap (current used) left.image ∙ current_is left.pages None (⊎_elim (λ same. same ∙ both.0) (λ gone. gone) left.gates)
 
-  -- the start gate stands
+  -- The start gate stands.
   module _ (middle : FlashState) (begun : middle.image ≡ programmed (erased before.image 0) 0 0 start) where
     abbrev pages : List (List ℕ)
     pages = set (replicate (length (sector_at before.image 0)) blank_page) 0 start

@@ -34,7 +34,7 @@ module _ (used : ℕ) (numbers : List ℕ) (image : List (List (List ℕ))) (sec
   pub stands_sound : first_fault used numbers image ≡ None
   stands_sound = ap (fault_by used numbers image) stands.current ∙ ap (λ (l : LogFrom). place_in sector l.fault) stands.holds.is
 
--- the gates stand in the first two pages
+-- The gates stand in the first two pages.
 pub same_gates : (used : ℕ) (pages after : List (List ℕ)) → get_or after 0 [] ≡ get_or pages 0 [] → get_or after 1 [] ≡ get_or pages 1 [] → gates_of used after ≡ gates_of used pages
 same_gates used pages after start active = λ i. both_gates (gate_by (started_by used) 0 (start i)) (gate_by activated_by 1 (active i))
 
@@ -51,7 +51,7 @@ same_current used image sector pages from to within behind apart = λ i. current
     gates : (s : ℕ) → gates_of used (get_or (set image sector pages) s []) ≡ gates_of used (get_or image s [])
     gates s = same_gates used (get_or image s []) (get_or (set image sector pages) s []) (page s 0 (omega arith)) (page s 1 (omega arith))
 
--- a driver that is not stale stands
+-- A driver that is not stale stands.
 pub mounted_stands : (is_stale has_mounted : Bool) → is_stale ≡ false → (used : ℕ) (numbers : List ℕ) (image : List (List (List ℕ))) (sector sequence end : ℕ) → IsMounted is_stale has_mounted used numbers image sector sequence end
     → StandsAt used numbers image sector sequence end (block_value used numbers image)
 mounted_stands is_stale has_mounted fresh used numbers image sector sequence end is = record {
@@ -73,7 +73,7 @@ stands_mounted has_mounted is_mounted used numbers image sector sequence end val
   ends = λ fresh. ap (λ (l : LogFrom). l.end) stands.holds.is;
 }
 
--- a stale driver, of which only this is known
+-- A stale driver, of which only this is known.
 pub stale_mounted : (has_mounted : Bool) (used : ℕ) (numbers : List ℕ) (image : List (List (List ℕ))) (sector sequence end : ℕ) → (has_mounted ≡ true → first_fault used numbers image ≡ None)
     → IsMounted true has_mounted used numbers image sector sequence end
 stale_mounted has_mounted used numbers image sector sequence end undamaged = record {
@@ -87,7 +87,7 @@ stale_mounted has_mounted used numbers image sector sequence end undamaged = rec
 pub is_among : (numbers : List ℕ) (block : ℕ) → Contains numbers block → list_any (λ number. number == block) numbers ≡ true
 is_among numbers block found = list_any_at (λ number. number == block) numbers found.0 block found.1 (eq-eqb (get_or numbers found.0 block) block found.2)
 
--- a record that was appended behind the log of an image that stands
+-- A record that was appended behind the log of an image that stands.
 module _ (used : ℕ) (numbers : List ℕ) (before after : FlashState) (shape : HasShape before) (sector sequence page block : ℕ) (held : List ℕ) (valid : Bool) (value : ℕ → Content)
     (within : sector < 2) (begins : 2 ≤ used) (stands : StandsAt used numbers before.image sector sequence page value)
     (proper : IsWord (Head block (length held) valid page)) (among : list_any (λ number. number == block) numbers ≡ true) (room : page + 2 + byte_pages (length held) ≤ used) where

@@ -33,13 +33,13 @@ the_sequence (Ok (Some at)) = at.sequence
 the_sequence (Ok None) = 0
 the_sequence (Err place) = 0
 
--- the gates of both sectors are without a fault where the image has a current one
+-- The gates of both sectors are without a fault where the image has a current one.
 both_fine : (first second : Result (Option ℕ) ℕ) (at : Current) → current_by first second ≡ Ok (Some at) → ((one : Option ℕ) × (first ≡ Ok one)) × ((two : Option ℕ) × (second ≡ Ok two))
 both_fine (Ok one) (Ok two) at is = ((one, refl), (two, refl))
 both_fine (Ok one) (Err page) at is = absurd (cc is)
 both_fine (Err page) second at is = absurd (cc is)
 
--- the current sector's own gates name its number
+-- The current sector's own gates name its number.
 first_number : (first second : Result (Option ℕ) ℕ) (sequence : ℕ) → current_by first second ≡ Ok (Some record { sector = 0; sequence = sequence }) → first ≡ Ok (Some sequence)
 first_number (Err page) second sequence is = absurd (cc is)
 first_number (Ok one) (Err page) sequence is = absurd (cc is)
@@ -66,14 +66,14 @@ second_number (Ok (Some n)) (Ok (Some m)) sequence is = by_tests (n == m) (nat_l
     by_tests false true told = ap (λ k. Ok (Some k)) (ap the_sequence told)
     by_tests false false told = absurd (cc (ap the_sector told))
 
--- of two numbers the greater one, beside the one before it
+-- Of two numbers the greater one, beside the one before it.
 second_greater : (n : ℕ) → current_by (Ok (Some n)) (Ok (Some (n + 1))) ≡ Ok (Some record { sector = 1; sequence = n + 1 })
 second_greater n = λ i. chosen n (n + 1) (ne_eqb n (n + 1) (λ e. omega (arith, e)) i) (lt-ltb n (n + 1) (omega arith) i)
 
 first_greater : (n : ℕ) → current_by (Ok (Some (n + 1))) (Ok (Some n)) ≡ Ok (Some record { sector = 0; sequence = n + 1 })
 first_greater n = λ i. chosen (n + 1) n (ne_eqb (n + 1) n (λ e. omega (arith, e)) i) (le-ltb (n + 1) n (omega arith) i)
 
--- the image with other pages in the sector that is not the current one
+-- The image with other pages in the sector that is not the current one.
 module _ (used : ℕ) (image : List (List (List ℕ))) (two : length image ≡ 2) (sequence : ℕ) (pages : List (List ℕ)) where
   first_is : current used (set image 1 pages) ≡ current_by (gates_of used (sector_at image 0)) (gates_of used pages)
   first_is = λ i. current_by (gates_of used (get_or-set_other image 1 0 pages [] (omega arith) i)) (gates_of used (get_or-set_same image 1 pages [] (omega (arith, two)) i))
@@ -81,7 +81,7 @@ module _ (used : ℕ) (image : List (List (List ℕ))) (two : length image ≡ 2
   second_is : current used (set image 0 pages) ≡ current_by (gates_of used pages) (gates_of used (sector_at image 1))
   second_is = λ i. current_by (gates_of used (get_or-set_same image 0 pages [] (omega (arith, two)) i)) (gates_of used (get_or-set_other image 0 1 pages [] (omega arith) i))
 
-  -- the current sector stays so where the other is as valid as it was, or not valid
+  -- The current sector stays so where the other is as valid as it was, or not valid.
   pub current_stays : (sector : ℕ) → sector < 2 → current used image ≡ Ok (Some record { sector = sector; sequence = sequence })
       → (gates_of used pages ≡ gates_of used (sector_at image (1 - sector))) ⊎ (gates_of used pages ≡ Ok None) → current used (set image (1 - sector) pages) ≡ Ok (Some record { sector = sector; sequence = sequence })
   current_stays zero within is (inl same) = first_is ∙ ap (current_by (gates_of used (sector_at image 0))) same ∙ is
@@ -92,7 +92,7 @@ module _ (used : ℕ) (image : List (List (List ℕ))) (two : length image ≡ 2
       second_is ∙ ap (λ (g : Result (Option ℕ) ℕ). current_by g (gates_of used (sector_at image 1))) gone ∙ second_alone (gates_of used (sector_at image 0)) (gates_of used (sector_at image 1)) sequence is
   current_stays (suc (suc sector)) within is gates = absurd (omega arith)
 
-  -- and with the next number in the other sector that one is the current one
+  -- And with the next number in the other sector that one is the current one.
   pub current_goes : (sector : ℕ) → sector < 2 → current used image ≡ Ok (Some record { sector = sector; sequence = sequence }) → gates_of used pages ≡ Ok (Some (sequence + 1))
       → current used (set image (1 - sector) pages) ≡ Ok (Some record { sector = 1 - sector; sequence = sequence + 1 })
   current_goes zero within is next =
@@ -106,7 +106,7 @@ module _ (used : ℕ) (image : List (List (List ℕ))) (two : length image ≡ 2
   other_fine (suc zero) within is = (both_fine (gates_of used (sector_at image 0)) (gates_of used (sector_at image 1)) (record { sector = 1; sequence = sequence }) is).0
   other_fine (suc (suc sector)) within is = absurd (omega arith)
 
--- a switch
+-- A switch.
 module _ (used : ℕ) (numbers : List ℕ) (before : FlashState) (shape : HasShape before) (sector sequence : ℕ) (in_sector : sector < 2) (least : 4 ≤ used) (fits : used < 2 ^ 16) (most : used ≤ before.pages)
     (now : current used before.image ≡ Ok (Some record { sector = sector; sequence = sequence })) (fine : (log used numbers (sector_at before.image sector)).fault ≡ None) (next : sequence + 1 < 2 ^ 32) where
   abbrev other : ℕ
@@ -134,7 +134,7 @@ module _ (used : ℕ) (numbers : List ℕ) (before : FlashState) (shape : HasSha
     gives = λ block. refl;
   }
 
-  -- whatever stands in the other sector, while it is not valid or as valid as it was
+  -- Whatever stands in the other sector, while it is not valid or as valid as it was.
   pub keeps_old : (after : List (List (List ℕ))) (pages : List (List ℕ)) → after ≡ set before.image (1 - sector) pages
       → (gates_of used pages ≡ gates_of used (sector_at before.image (1 - sector))) ⊎ (gates_of used pages ≡ Ok None) → GivesValues used numbers after (held_in used numbers (sector_at before.image sector))
   keeps_old after pages is gates =
@@ -156,7 +156,7 @@ module _ (used : ℕ) (numbers : List ℕ) (before : FlashState) (shape : HasSha
       let left = begin_left used (sequence + 1) (omega arith) fits next before shape (1 - sector) in_other most after fine_there.0 fine_there.1 torn in
       keeps_old after.image left.pages left.image left.gates
 
-  -- the other sector is begun
+  -- The other sector is begun.
   module _ (middle : FlashState) (shape_middle : HasShape middle) (begun : middle.image ≡ programmed (erased before.image (1 - sector)) (1 - sector) 0 start) where
     abbrev first_pages : List (List ℕ)
     first_pages = set (replicate (length (sector_at before.image (1 - sector))) blank_page) 0 start
@@ -175,7 +175,7 @@ module _ (used : ℕ) (numbers : List ℕ) (before : FlashState) (shape : HasSha
         ap (λ (p : List (List ℕ)). get_or p k []) middle_pages
         ∙ (is_begun used (sequence + 1) (omega arith) fits next before shape (1 - sector) in_other most middle begun).blank k (omega arith) high
 
-    -- the records are copied, or some of them
+    -- The records are copied, or some of them.
     module _ (full : FlashState) (pages : List (List ℕ)) (on : OnSector middle full (1 - sector) pages) (gates : KeepsGates (sector_at middle.image (1 - sector)) pages) where
       full_image : full.image ≡ set before.image (1 - sector) pages
       full_image = on.image ∙ ap (λ (image : List (List (List ℕ))). set image (1 - sector) pages) middle_image ∙ set-set before.image (1 - sector) first_pages pages
@@ -203,7 +203,7 @@ module _ (used : ℕ) (numbers : List ℕ) (before : FlashState) (shape : HasSha
       laid : (page : List ℕ) → programmed full.image (1 - sector) 1 page ≡ set before.image (1 - sector) (set pages 1 page)
       laid page = (λ i. set (full_image i) (1 - sector) (set (full_pages i) 1 page)) ∙ set-set before.image (1 - sector) pages (set pages 1 page)
 
-      -- the active gate stands
+      -- The active gate stands.
       pub goes_over : (end : ℕ) → LogHolds used numbers pages end (held_in used numbers (sector_at before.image sector)) → (after : FlashState) → after.image ≡ programmed full.image (1 - sector) 1 active
           → StandsAt used numbers after.image (1 - sector) (sequence + 1) end (held_in used numbers (sector_at before.image sector))
       goes_over end holds after is =
@@ -216,7 +216,7 @@ module _ (used : ℕ) (numbers : List ℕ) (before : FlashState) (shape : HasSha
                 (held_same used numbers pages (set pages 1 active) end value (omega arith) (length-set pages 1 active) (λ k low. get_or-set_other pages 1 k active [] (omega arith)) holds);
           }
 
-      -- and the table of the copies tells what it holds
+      -- And the table of the copies tells what it holds.
       pub table_over : (end : ℕ) (places : List (Option RecordPlace)) → TellsPlaces numbers places (sector_at full.image (1 - sector)) end (held_in used numbers (sector_at middle.image sector)) → (after : FlashState)
           → after.image ≡ programmed full.image (1 - sector) 1 active → TellsPlaces numbers places (sector_at after.image (1 - sector)) end (held_in used numbers (sector_at before.image sector))
       table_over end places tells after is =

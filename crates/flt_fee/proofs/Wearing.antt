@@ -8,18 +8,18 @@ use Rattle.flt_flash.specs.declared.blocks.BlockFault.TheVariants.{Flash, Full, 
 use Rattle.flt_sector.specs.Blocks.{Current, current}
 use Rattle.flt_fee.specs.Wear.{IsEven, StaysEven, UnlessFlash}
 
--- the same current sector, and no erase
+-- The same current sector, and no erase.
 pub even_same : (used : ℕ) (before after : FlashState) → current used after.image ≡ current used before.image → after.wear ≡ before.wear → StaysEven used before after
 even_same used before after same wear even = subst (λ (w : List ℕ). IsEven (current used after.image) w) (sym wear) (subst (λ (at : Result (Option Current) (ℕ × ℕ)). IsEven at before.wear) (sym same) even)
 
 pub even_read : (used : ℕ) (before after : FlashState) → OnlyReads before after → StaysEven used before after
 even_read used before after reads = even_same used before after (λ i. current used (reads.image i)) reads.wear
 
--- one call after another
+-- One call after another.
 pub even_on : (used : ℕ) (first second third : FlashState) → StaysEven used first second → StaysEven used second third → StaysEven used first third
 even_on used first second third one two even = two (one even)
 
--- the sectors were switched
+-- The sectors were switched.
 switched_wear : (wear : List ℕ) → length wear ≡ 2 → ((k : ℕ) → k < 2 → get_or wear k 0 ≤ 2 ^ 64 - 1) → (sector sequence next : ℕ) → sector < 2 → IsEven (Ok (Some record { sector = sector; sequence = sequence })) wear
     → IsEven (Ok (Some record { sector = 1 - sector; sequence = next })) (set wear (1 - sector) (counted (get_or wear (1 - sector) 0)))
 switched_wear wear two most zero sequence next within even =
@@ -39,7 +39,7 @@ even_switched used before after shape sector sequence next within was now wear e
     (subst (λ (at : Result (Option Current) (ℕ × ℕ)). IsEven at (set before.wear (1 - sector) (counted (get_or before.wear (1 - sector) 0)))) (sym now)
     (switched_wear before.wear shape.wear shape.erases sector sequence next within (subst (λ (at : Result (Option Current) (ℕ × ℕ)). IsEven at before.wear) was even)))
 
--- the first sector was begun
+-- The first sector was begun.
 begun_wear : (wear : List ℕ) → length wear ≡ 2 → ((k : ℕ) → k < 2 → get_or wear k 0 ≤ 2 ^ 64 - 1) → get_or wear 0 0 ≡ get_or wear 1 0 → IsEven (Ok (Some record { sector = 0; sequence = 1 })) (set wear 0 (counted (get_or wear 0 0)))
 begun_wear wear two most even =
     let first : get_or (set wear 0 (counted (get_or wear 0 0))) 0 0 ≡ counted (get_or wear 0 0) = get_or-set_same wear 0 (counted (get_or wear 0 0)) 0 (omega (arith, two)) in
@@ -53,7 +53,7 @@ even_begun used before after shape was now wear even =
     (subst (λ (at : Result (Option Current) (ℕ × ℕ)). IsEven at (set before.wear 0 (counted (get_or before.wear 0 0)))) (sym now)
     (begun_wear before.wear shape.wear shape.erases (subst (λ (at : Result (Option Current) (ℕ × ℕ)). IsEven at before.wear) was even)))
 
--- a fact of every answer, and of those that no fault of the flash gave
+-- A fact of every answer, and of those that no fault of the flash gave.
 pub unless_any : {T : Type 0} (result : Result T BlockFault) (fact : Type 0) → fact → UnlessFlash result fact
 unless_any (Ok x) fact is = is
 unless_any (Err Flash) fact is = tt
@@ -75,6 +75,6 @@ unless_fault before after (Err (Full l n)) fact calls is none = is
 unless_fault before after (Err SequenceSpent) fact calls is none = is
 unless_fault before after (Err (Damaged s p)) fact calls is none = is
 
--- the used pages are told by the room
+-- The used pages are told by the room.
 pub used_same : (one two : ℕ) → 4 ≤ one → 4 ≤ two → ◌≡◌ {A = Option ℕ} (Some (one - 2)) (Some (two - 2)) → one ≡ two
 used_same one two first second same = (let e : one - 2 ≡ two - 2 = cc same in omega (arith, e, first, second))

@@ -6,34 +6,34 @@ use Rattle.flt_flash.specs.Calls.{CostsAtMost}
 use Rattle.flt_flash.specs.declared.blocks.BlockFault.{BlockFault}
 use Rattle.flt_flash.specs.declared.blocks.BlockFault.TheVariants.{Flash, Full, SequenceSpent, Damaged}
 
--- this many operations at most, and no erase
+-- This many operations at most, and no erase.
 pub record SpendsAtMost (limit : ℕ) (before after : FlashState) : Type 0 where
   pub operations : after.operations ≤ before.operations + limit
   pub wear : after.wear ≡ before.wear
 
--- this many operations at most, with one erase, of this sector
+-- This many operations at most, with one erase, of this sector.
 pub record Erases (limit sector : ℕ) (before after : FlashState) : Type 0 where
   pub operations : after.operations ≤ before.operations + limit
   pub wear : after.wear ≡ slice_set before.wear sector (counted (slice_index before.wear sector))
 
--- the sectors were switched, since the record does not fit behind the log and has room beside the current ones
+-- The sectors were switched, since the record does not fit behind the log and has room beside the current ones.
 pub record IsSwitched (limit used end live size sector : ℕ) (before after : FlashState) : Type 0 where
   pub past : used < end + record_pages size
   pub room : 2 + live + record_pages size ≤ used
   pub erases : Erases limit (1 - sector) before after
 
--- room is made: there was some, or the sectors were switched
+-- Room is made: there was some, or the sectors were switched.
 abbrev pub MakesRoom : ℕ → ℕ → ℕ → ℕ → ℕ → FlashState → FlashState → Type 0
 MakesRoom used end live size sector before after =
     ((end + record_pages size ≤ used) × (after ≡ before)) ⊎ IsSwitched (3 + 2 * live) used end live size sector before after
 
--- a record is stored: behind the log, or behind that of the other sector; or it is refused, which costs nothing
+-- A record is stored: behind the log, or behind that of the other sector; or it is refused, which costs nothing.
 abbrev pub Stores : ℕ → ℕ → ℕ → ℕ → ℕ → FlashState → FlashState → Type 0
 Stores used end live size sector before after =
     (after ≡ before) ⊎ ((end + record_pages size ≤ used) × SpendsAtMost (record_pages size) before after)
     ⊎ IsSwitched (3 + 2 * live + record_pages size) used end live size sector before after
 
--- a fact of each answer but a fault of the flash or of a mount
+-- A fact of each answer but a fault of the flash or of a mount.
 abbrev pub UnlessFailed : {T : Type 0} → Result T BlockFault → Type 0 → Type 0
 UnlessFailed (Ok value) fact = fact
 UnlessFailed (Err Flash) fact = Unit {0}
@@ -41,11 +41,11 @@ UnlessFailed (Err (Full live needed)) fact = fact
 UnlessFailed (Err SequenceSpent) fact = fact
 UnlessFailed (Err (Damaged sector page)) fact = Unit {0}
 
--- the erases of the device rose by this many at most, where they are told
+-- The erases of the device rose by this many at most, where they are told.
 abbrev pub ErasesAtMost : ℕ → BlocksState → BlocksState → Type 0
 ErasesAtMost limit before after = IfSome after.device.erases (λ made. IsSomeAnd before.device.erases (λ earlier. made ≤ earlier + limit))
 
--- what a write or an invalidate costs: the pages of its record where that fits behind the log, and else a switch with one erase too
+-- What a write or an invalidate costs: the pages of its record where that fits behind the log, and else a switch with one erase too.
 pub record StoreCosts (is_past : Bool) (before after : BlocksState) (size : ℕ) : Type 0 where
   pub behind : is_past ≡ false → CostsAtMost (record_pages size) before after × ErasesAtMost 0 before after
   pub switched : CostsAtMost (3 + 2 * live_pages before + record_pages size) before after × ErasesAtMost 1 before after

@@ -7,19 +7,19 @@ use Rattle.flt_sector.specs.Blocks.{Current, current, first_fault, block_value}
 use Rattle.flt_sector.specs.Log.{log}
 use Rattle.flt_fee.specs.declared.fee.Fee.{Fee}
 
--- the sequence number of the current sector is the last one
+-- The sequence number of the current sector is the last one.
 abbrev pub is_last : Result (Option Current) (ℕ × ℕ) → Bool
 is_last (Ok (Some at)) = at.sequence == 2 ^ 32 - 1
 is_last (Ok None) = false
 is_last (Err place) = false
 
--- a record of this length does not fit behind the log of the current sector
+-- A record of this length does not fit behind the log of the current sector.
 abbrev pub is_past : ℕ → List ℕ → List (List (List ℕ)) → ℕ → Result (Option Current) (ℕ × ℕ) → Bool
 is_past used numbers image size (Ok (Some at)) = not (nat_le ((log used numbers (sector_at image at.sector)).end + record_pages size) used)
 is_past used numbers image size (Ok None) = false
 is_past used numbers image size (Err place) = false
 
--- the device that a flash is
+-- The device that a flash is.
 abbrev pub device_of : FlashState → DeviceState
 device_of flash = record {
   faults = flash.faults;
@@ -29,7 +29,7 @@ device_of flash = record {
   bench = flash.bench;
 }
 
--- the driver as the layers above see it, by what it keeps and by its flash
+-- The driver as the layers above see it, by what it keeps and by its flash.
 abbrev pub state_by : ℕ → List ℕ → Bool → Bool → FlashState → BlocksState
 state_by used numbers is_stale has_mounted flash = record {
   numbers = numbers;
@@ -43,6 +43,6 @@ state_by used numbers is_stale has_mounted flash = record {
   device = device_of flash;
 }
 
--- the driver as the layers above see it
+-- The driver as the layers above see it.
 abbrev pub state_of : {F : Type 0} {g : _} → (F → FlashState) → Fee F g → BlocksState
 state_of state fee = state_by fee.used fee.numbers fee.is_stale fee.has_mounted (state fee.flash)

@@ -4,20 +4,20 @@ use Rattle.flt_flash.specs.Blocks.{BlocksState, live_pages, record_pages}
 use Rattle.flt_flash.specs.declared.blocks.BlockFault.{BlockFault}
 use Rattle.flt_flash.specs.declared.blocks.BlockFault.TheVariants.{Flash, Full, SequenceSpent, Damaged}
 
--- the room is a number, and less than this many pages
+-- The room is a number, and less than this many pages.
 abbrev pub is_less : Option ℕ → ℕ → Bool
 is_less None pages = false
 is_less (Some room) pages = nat_lt room pages
 
--- the fault by which a record that needs so many pages is refused, if it is: for want of room, or else of sequence numbers
+-- The fault by which a record that needs so many pages is refused, if it is: for want of room, or else of sequence numbers.
 abbrev pub refusal_by : Option ℕ → ℕ → ℕ → Bool → Option BlockFault
 refusal_by room live needed stuck = if is_less room (live + needed) then Some (Full live needed) else if stuck then Some SequenceSpent else None
 
--- the fault by which a driver refuses a record of this length, if it does
+-- The fault by which a driver refuses a record of this length, if it does.
 abbrev pub refusal : BlocksState → ℕ → ℕ → Option BlockFault
 refusal state block size = refusal_by state.room (live_pages state) (record_pages size) (state.is_stuck block size)
 
--- a record that is refused has no other answer than its refusal, and one that is not has none, but for a fault of the flash or of a mount
+-- A record that is refused has no other answer than its refusal, and one that is not has none, but for a fault of the flash or of a mount.
 abbrev pub AnswersBy : Option BlockFault → Result (Unit {0}) BlockFault → Type 0
 AnswersBy refused (Ok done) = refused ≡ None
 AnswersBy refused (Err Flash) = Unit {0}
@@ -25,11 +25,11 @@ AnswersBy refused (Err (Full live needed)) = refused ≡ Some (Full live needed)
 AnswersBy refused (Err SequenceSpent) = refused ≡ Some SequenceSpent
 AnswersBy refused (Err (Damaged sector page)) = Unit {0}
 
--- a mount that answers Ok leaves the same records stuck
+-- A mount that answers Ok leaves the same records stuck.
 abbrev pub KeepsStuck : BlocksState → BlocksState → Result (Unit {0}) BlockFault → Type 0
 KeepsStuck before after result = OnOk result ((block size : ℕ) → after.is_stuck block size ≡ before.is_stuck block size)
 
--- of two tests that hold the first holds
+-- Of two tests that hold the first holds.
 pub first_holds : (first second : Bool) → (first && second) ≡ true → first ≡ true
 first_holds true second both = λ i. true
 first_holds false second both = both

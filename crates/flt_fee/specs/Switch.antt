@@ -13,15 +13,15 @@ use Rattle.flt_record.specs.Record.{KeptApart}
 use Rattle.flt_record.specs.Recorded.{OnSector}
 use Rattle.flt_fee.specs.Mounted.{StandsAt}
 
--- the blocks of numbers below one hold what they hold, and the others nothing yet
+-- The blocks of numbers below one hold what they hold, and the others nothing yet.
 abbrev pub below : ℕ → (ℕ → Content) → ℕ → Content
 below from value block = if nat_lt block from then value block else missing
 
--- pages from 2 on are written, and no others
+-- Pages from 2 on are written, and no others.
 abbrev pub KeepsGates : List (List ℕ) → List (List ℕ) → Type 0
 KeepsGates pages after = KeptApart pages after 2 (length pages)
 
--- the current record of a block is copied behind the log of the other sector; the answer is where that log ends then
+-- The current record of a block is copied behind the log of the other sector; the answer is where that log ends then.
 pub record CopiesBlock (before after : FlashState) (other used : ℕ) (numbers : List ℕ) (number end : ℕ) (content : Content)
     (result : Result ℕ FlashFailed) : Type 0 where
   pub pages : List (List ℕ)
@@ -33,7 +33,7 @@ pub record CopiesBlock (before after : FlashState) (other used : ℕ) (numbers :
       → LogHolds used numbers pages last (given number content value))
   pub cause : OnErr result (HasRisenBy 1 before.faults after.faults)
 
--- the current records of all blocks are copied behind the gates of the other sector; the answer is where its log ends then
+-- The current records of all blocks are copied behind the gates of the other sector; the answer is where its log ends then.
 pub record CopiesBlocks (before after : FlashState) (sector other used : ℕ) (numbers : List ℕ) (result : Result ℕ FlashFailed) : Type 0 where
   pub pages : List (List ℕ)
   pub on : OnSector before after other pages
@@ -42,14 +42,14 @@ pub record CopiesBlocks (before after : FlashState) (sector other used : ℕ) (n
   pub done : IfOk result (λ end. LogHolds used numbers pages end (held_in used numbers (sector_at before.image sector)))
   pub cause : OnErr result (HasRisenBy 1 before.faults after.faults)
 
--- the image has no fault and gives each block this value, whichever of its sectors is the current one
+-- The image has no fault and gives each block this value, whichever of its sectors is the current one.
 pub record GivesValues (used : ℕ) (numbers : List ℕ) (image : List (List (List ℕ))) (value : ℕ → Content) : Type 0 where
   pub sector : ℕ
   pub sequence : ℕ
   pub end : ℕ
   pub stands : StandsAt used numbers image sector sequence end value
 
--- the table after a record was copied: the place of its block is that of the copy, in the log that ends here, and no other place moved
+-- The table after a record was copied: the place of its block is that of the copy, in the log that ends here, and no other place moved.
 pub record Replaces (numbers : List ℕ) (pages : List (List ℕ)) (before after : List (Option RecordPlace)) (number end : ℕ) (content : Content) : Type 0 where
   pub own : (k : ℕ) → k < length numbers → slice_index_or numbers k 0 ≡ number → IsAt pages end content (slice_index_or after k None)
   pub others : (k : ℕ) → k < length numbers → slice_index_or numbers k 0 ≢ number → slice_index_or after k None ≡ slice_index_or before k None

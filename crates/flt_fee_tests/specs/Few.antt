@@ -1,7 +1,7 @@
 -- A few block numbers, for tests.
 use Rattle.std.specs.Prelude.{ℕ, List, Contains}
 
--- the blocks 1 to 5 are among the numbers
+-- The blocks 1 to 5 are among the numbers.
 pub record HasFive (numbers : List ℕ) : Type 0 where
   pub one : Contains numbers 1
   pub two : Contains numbers 2

@@ -20,7 +20,7 @@ untorn_page before after = record { size = refl; bytes = λ byte lt bit. inl ref
 pub untorn_sector : (before after : List (List ℕ)) → IsTornSector before after before
 untorn_sector before after = record { size = refl; pages = λ page lt. untorn_page _ _ }
 
--- one page of a sector
+-- One page of a sector.
 module _ (pages : List (List ℕ)) (page : ℕ) (within : page < length pages) (bytes : List ℕ) where
   pub torn_sector : (torn : List ℕ) → IsTornPage (get_or pages page []) bytes torn → IsTornSector pages (set pages page bytes) (set pages page torn)
   torn_sector torn is = record {
@@ -31,7 +31,7 @@ module _ (pages : List (List ℕ)) (page : ℕ) (within : page < length pages) (
     ];
   }
 
-  -- the torn page of a torn sector
+  -- The torn page of a torn sector.
   pub torn_page_of : (new : List (List ℕ)) → IsTornSector pages (set pages page bytes) new → (torn : List ℕ) × IsTornPage (get_or pages page []) bytes torn × (new ≡ set pages page torn)
   torn_page_of new is =
       let here = is.pages page within in (
@@ -46,7 +46,7 @@ module _ (pages : List (List ℕ)) (page : ℕ) (within : page < length pages) (
         ]),
       )
 
--- one sector of an image
+-- One sector of an image.
 module _ (image : List (List (List ℕ))) (sector : ℕ) (within : sector < length image) (after : List (List ℕ)) where
   pub torn_image : (torn : List (List ℕ)) → IsTornSector (get_or image sector []) after torn → IsTorn image (set image sector after) (set image sector torn)
   torn_image torn is = record {

@@ -3,7 +3,7 @@ use Rattle.std.specs.Prelude.{◌≡◌, ◌<◌, ◌+◌, ◌/◌, ℕ, Bool, L
 use Rattle.flt_flash.specs.Content.{Content, missing, invalid, bytes}
 use Rattle.flt_flash.specs.State.{BenchState}
 
--- the device beneath a driver, and its operations and erases where they are told
+-- The device beneath a driver, and its operations and erases where they are told.
 pub record DeviceState : Type 0 where
   pub faults : ℕ
   pub image : List (List (List ℕ))
@@ -11,7 +11,7 @@ pub record DeviceState : Type 0 where
   pub erases : Option ℕ
   pub bench : BenchState
 
--- a driver of blocks; a place is a sector and a page, and a record is told by its block and its length
+-- A driver of blocks; a place is a sector and a page, and a record is told by its block and its length.
 pub record BlocksState : Type 0 where
   pub numbers : List ℕ  -- the block numbers with which it was made
   pub is_stale : Bool  -- the next call mounts first
@@ -23,25 +23,25 @@ pub record BlocksState : Type 0 where
   pub is_stuck : ℕ → ℕ → Bool  -- this record can't be written any more
   pub device : DeviceState
 
--- the pages of plain bytes of a record: 32 bytes a page
+-- The pages of plain bytes of a record: 32 bytes a page.
 abbrev pub byte_pages : ℕ → ℕ
 byte_pages length = (length + 31) / 32
 
--- the pages of a record of so many bytes: a head, the bytes, and a gate
+-- The pages of a record of so many bytes: a head, the bytes, and a gate.
 abbrev pub record_pages : ℕ → ℕ
 record_pages length = 2 + byte_pages length
 
--- the pages of the record that gives a block its content
+-- The pages of the record that gives a block its content.
 abbrev pub pages_of : Content → ℕ
 pages_of missing = 0
 pages_of invalid = 2
 pages_of (bytes held) = record_pages (length held)
 
--- the pages of the current records of all blocks
+-- The pages of the current records of all blocks.
 abbrev pub live_pages : BlocksState → ℕ
 live_pages state = sum_by (λ number. pages_of (state.value number)) state.numbers
 
--- the room is a number, and less than the live pages and those of a record of this length together
+-- The room is a number, and less than the live pages and those of a record of this length together.
 pub record IsFull (state : BlocksState) (size live needed : ℕ) : Type 0 where
   pub live_is : live ≡ live_pages state
   pub needed_is : needed ≡ record_pages size

@@ -3,32 +3,32 @@ use Rattle.std.specs.Prelude.{◌≡◌, ◌<◌, ◌≤◌, ℕ, List, [], ◌�
 use Rattle.flt_flash.specs.State.{Boot}
 use Rattle.flt_flash.specs.declared.boot.SavedBoot.{SavedBoot}
 
--- the boot that was saved
+-- The boot that was saved.
 abbrev pub boot_of : SavedBoot → Boot
 boot_of saved = record { faults = saved.faults; image = saved.first.items ∷ saved.second.items ∷ [] }
 
--- no boot: no fault, and an image of no sectors
+-- No boot: no fault, and an image of no sectors.
 abbrev pub no_boot : Boot
 no_boot = record { faults = 0; image = [] }
 
--- the boot of this number in a list of boots, from 0
+-- The boot of this number in a list of boots, from 0.
 abbrev pub boot_at : List Boot → ℕ → Boot
 boot_at boots number = slice_index_or boots number no_boot
 
--- a saved boot has room for two sectors of this many pages
+-- A saved boot has room for two sectors of this many pages.
 pub record HasSectorRoom (pages : ℕ) (saved : SavedBoot) : Type 0 where
   pub first : pages ≤ vec_capacity saved.first
   pub second : pages ≤ vec_capacity saved.second
 
--- a saved boot holds two sectors of this many pages
+-- A saved boot holds two sectors of this many pages.
 pub record HoldsPages (pages : ℕ) (saved : SavedBoot) : Type 0 where
   pub first : length saved.first.items ≡ pages
   pub second : length saved.second.items ≡ pages
 
--- each saved boot has room for two sectors of this many pages
+-- Each saved boot has room for two sectors of this many pages.
 abbrev pub HaveRoom : ℕ → List SavedBoot → Type 0
 HaveRoom pages saved = (k : ℕ) (d : SavedBoot) → k < length saved → HasSectorRoom pages (slice_index_or saved k d)
 
--- each saved boot holds two sectors of this many pages
+-- Each saved boot holds two sectors of this many pages.
 abbrev pub HoldPages : ℕ → List SavedBoot → Type 0
 HoldPages pages saved = (k : ℕ) (d : SavedBoot) → k < length saved → HoldsPages pages (slice_index_or saved k d)

@@ -9,30 +9,30 @@ use Rattle.flt_flash.specs.declared.blocks.Found.TheVariants.{Bytes, Missing, In
 use Rattle.flt_flash.specs.declared.blocks.BlockFault.{BlockFault}
 use Rattle.flt_flash.specs.declared.blocks.BlockFault.TheVariants.{Flash, Full, SequenceSpent, Damaged}
 
--- every block holds what it held
+-- Every block holds what it held.
 abbrev pub SameValues : BlocksState → BlocksState → Type 0
 SameValues before after = (block : ℕ) → after.value block ≡ before.value block
 
--- the image of the device is as it was
+-- The image of the device is as it was.
 abbrev pub SameImage : BlocksState → BlocksState → Type 0
 SameImage before after = after.device.image ≡ before.device.image
 
--- some record can't be written any more exactly where that was so before: no record was written, so no sequence number was used
+-- Some record can't be written any more exactly where that was so before: no record was written, so no sequence number was used.
 abbrev pub SameSpent : BlocksState → BlocksState → Type 0
 SameSpent before after = after.is_spent ≡ before.is_spent
 
--- every other block holds what it held
+-- Every other block holds what it held.
 abbrev pub OthersKept : ℕ → BlocksState → BlocksState → Type 0
 OthersKept block before after = (other : ℕ) → other ≢ block → after.value other ≡ before.value other
 
--- a count that is told, or not, never falls
+-- A count that is told, or not, never falls.
 abbrev pub NeverFalls : Option ℕ → Option ℕ → Type 0
 NeverFalls None None = Unit {0}
 NeverFalls None (Some after) = ⊥
 NeverFalls (Some before) None = ⊥
 NeverFalls (Some before) (Some after) = before ≤ after
 
--- what holds after any number of mounts, writes, reads and invalidates, whatever they answered
+-- What holds after any number of mounts, writes, reads and invalidates, whatever they answered.
 pub record Follows (before after : BlocksState) : Type 0 where
   pub numbers : after.numbers ≡ before.numbers
   pub room : after.room ≡ before.room
@@ -46,15 +46,15 @@ pub record Follows (before after : BlocksState) : Type 0 where
   pub erases : NeverFalls before.device.erases after.device.erases
   pub bench : KeepsBench before.device.bench after.device.bench
 
--- one mount, write, read or invalidate: a fault of the flash has its cause, a fault of the image is told by a mount
--- alone, before one has answered Ok, and none is passed over
+-- One mount, write, read or invalidate: a fault of the flash has its cause, a fault of the image is told by a mount
+-- alone, before one has answered Ok, and none is passed over.
 pub record Calls {T : Type 0} (before after : BlocksState) (result : Result T BlockFault) : Type 0 where
   pub follows : Follows before after
   pub flash : IsErrOf result Flash → HasRisenBy 1 before.device.faults after.device.faults
   pub damaged : (sector page : ℕ) → IsErrOf result (Damaged sector page) → (before.damage ≡ Some (sector, page)) × IsFalse before.has_mounted
   pub refuses_damage : OnOk result (before.damage ≡ None)
 
--- a fault of the flash or of the image leaves the driver stale, and no other answer does
+-- A fault of the flash or of the image leaves the driver stale, and no other answer does.
 abbrev pub Settles : {T : Type 0} → Result T BlockFault → BlocksState → Type 0
 Settles (Ok value) after = IsFalse after.is_stale
 Settles (Err Flash) after = IsTrue after.is_stale
@@ -62,12 +62,12 @@ Settles (Err (Full live needed)) after = IsFalse after.is_stale
 Settles (Err SequenceSpent) after = IsFalse after.is_stale
 Settles (Err (Damaged sector page)) after = IsTrue after.is_stale
 
--- want of room and of sequence numbers are no answers of this call
+-- Want of room and of sequence numbers are no answers of this call.
 pub record NeverFull {T : Type 0} (result : Result T BlockFault) : Type 0 where
   pub full : (live needed : ℕ) → IsErrOf result (Full live needed) → ⊥
   pub spent : IsErrOf result SequenceSpent → ⊥
 
--- a block is given a content that takes a record of this length
+-- A block is given a content that takes a record of this length.
 pub record Changes (before after : BlocksState) (block : ℕ) (asked : Content) (size : ℕ) (result : Result (Unit {0}) BlockFault) : Type 0 where
   pub done : OnOk result (after.value block ≡ asked)
   pub failed : IsErrOf result Flash → (after.value block ≡ before.value block) ⊎ (after.value block ≡ asked)
@@ -76,7 +76,7 @@ pub record Changes (before after : BlocksState) (block : ℕ) (asked : Content) 
   pub spent : IsErrOf result SequenceSpent → IsTrue (after.is_stuck block size) × SameValues before after
   pub damaged : (sector page : ℕ) → IsErrOf result (Damaged sector page) → SameValues before after
 
--- what a read finds of a content, with its bytes at the start of out
+-- What a read finds of a content, with its bytes at the start of out.
 abbrev pub ReadsContent : Content → Found → List ℕ → List ℕ → Type 0
 ReadsContent missing Missing before after = after ≡ before
 ReadsContent missing Invalid before after = ⊥
@@ -88,44 +88,44 @@ ReadsContent (bytes held) (Bytes n) before after = (n ≡ length held) × (after
 ReadsContent (bytes held) Missing before after = ⊥
 ReadsContent (bytes held) Invalid before after = ⊥
 
--- what a read finds of a content, without its bytes
+-- What a read finds of a content, without its bytes.
 abbrev pub found_of : Content → Found
 found_of missing = Missing
 found_of invalid = Invalid
 found_of (bytes held) = Bytes (length held)
 
--- the count of faults did not rise
+-- The count of faults did not rise.
 abbrev pub NoFault : BlocksState → BlocksState → Type 0
 NoFault before after = HasRisenBy 1 before.device.faults after.device.faults → ⊥
 
--- the erases are told, stand well below their greatest number, and did not rise
+-- The erases are told, stand well below their greatest number, and did not rise.
 abbrev pub NoErase : BlocksState → BlocksState → Type 0
 NoErase before after = IsSomeAnd before.device.erases (λ erases. (erases + 2 ^ 32 ≤ last_count) × (after.device.erases ≡ Some erases))
 
--- the operations of the device rose by this many at most, where they are told
+-- The operations of the device rose by this many at most, where they are told.
 abbrev pub CostsAtMost : ℕ → BlocksState → BlocksState → Type 0
 CostsAtMost limit before after = IfSome after.device.operations (λ made. IsSomeAnd before.device.operations (λ earlier. made ≤ earlier + limit))
 
--- the operations of a record of this length, with a switch of sectors before it where the room is limited
+-- The operations of a record of this length, with a switch of sectors before it where the room is limited.
 abbrev pub switch_cost : Option ℕ → ℕ → ℕ
 switch_cost None size = record_pages size
 switch_cost (Some room) size = 2 * room + 4
 
--- what a record of this length costs on a driver that is not stale, where no operation failed
+-- What a record of this length costs on a driver that is not stale, where no operation failed.
 pub record Costs (before after : BlocksState) (size : ℕ) : Type 0 where
   pub at_the_end : IsFalse before.is_stale → NoFault before after → NoErase before after → CostsAtMost (record_pages size) before after
   pub at_most : IsFalse before.is_stale → NoFault before after → CostsAtMost (switch_cost before.room size) before after
 
--- what a read of a block costs on a driver that is not stale, where no operation failed
+-- What a read of a block costs on a driver that is not stale, where no operation failed.
 abbrev pub ReadCosts : BlocksState → BlocksState → ℕ → Type 0
 ReadCosts before after block = IsFalse before.is_stale → NoFault before after → CostsAtMost (byte_pages (size_of (before.value block))) before after
 
--- an arm is made on the device, and nothing else changes
+-- An arm is made on the device, and nothing else changes.
 pub record ArmsDriver (arm : Arm) (before after : BlocksState) : Type 0 where
   pub bench : AddsArm arm before.device.faults before.device.bench after.device.bench
   pub rest : after ≡ record before { device = record before.device { bench = after.device.bench } }
 
--- the device is on again, the driver is stale, and nothing else changes
+-- The device is on again, the driver is stale, and nothing else changes.
 pub record PowersUpDriver (before after : BlocksState) : Type 0 where
   pub bench : AddsBoot before.device.faults before.device.image before.device.bench after.device.bench
   pub rest : after ≡ record before { is_stale = true; device = record before.device { bench = after.device.bench } }

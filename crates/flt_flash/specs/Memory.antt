@@ -5,7 +5,7 @@ use Rattle.flt_flash.specs.State.{FlashState}
 use Rattle.flt_flash.specs.Boots.{boot_of}
 use Rattle.flt_flash.specs.Power.{PowerState, power_state}
 
--- the flash as every user of a flash sees it
+-- The flash as every user of a flash sees it.
 abbrev pub state_of : FlashMem → FlashState
 state_of flash = record {
   pages = flash.pages;
@@ -22,6 +22,6 @@ state_of flash = record {
   };
 }
 
--- its power, and the arms that stand
+-- Its power, and the arms that stand.
 abbrev pub power_of : FlashMem → PowerState
 power_of flash = power_state flash.power

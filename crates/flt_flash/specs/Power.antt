@@ -9,48 +9,48 @@ use Rattle.flt_flash.specs.declared.power.Power.{Power}
 use Rattle.flt_flash.specs.State.{counted}
 use Rattle.flt_flash.specs.Arms.{after_write, acting, mutes, standing_after_write, standing_after_read}
 
--- the power, its counts, and the arms that stand, in the order in which they were made
+-- The power, its counts, and the arms that stand, in the order in which they were made.
 pub record PowerState : Type 0 where
   pub is_off : Bool
   pub faults : ℕ
   pub operations : ℕ
   pub standing : List Arm
 
--- what the power of a flash in memory means
+-- What the power of a flash in memory means.
 abbrev pub power_state : Power → PowerState
 power_state power = record { is_off = power.is_off; faults = power.faults; operations = power.operations; standing = power.standing.items }
 
--- the power of a flash that was just made
+-- The power of a flash that was just made.
 abbrev pub first_power : PowerState
 first_power = record { is_off = false; faults = 0; operations = 0; standing = [] }
 
--- the arm that acts at the next program or erase, if one does; none acts while the power is off
+-- The arm that acts at the next program or erase, if one does; none acts while the power is off.
 abbrev pub next_arm : PowerState → Option Arm
 next_arm power = if power.is_off then None else acting (map after_write power.standing)
 
--- the pattern by which an arm tears
+-- The pattern by which an arm tears.
 abbrev pub pattern_of : Option Arm → Option Pattern
 pattern_of None = None
 pattern_of (Some (Cut after pattern)) = Some pattern
 pattern_of (Some (Fault after pattern)) = Some pattern
 pattern_of (Some (Mute sector page times)) = None
 
--- the arm turns the power off
+-- The arm turns the power off.
 abbrev pub cuts : Option Arm → Bool
 cuts None = false
 cuts (Some (Cut after pattern)) = true
 cuts (Some (Fault after pattern)) = false
 cuts (Some (Mute sector page times)) = false
 
--- the pattern by which the next program or erase fails, if it does
+-- The pattern by which the next program or erase fails, if it does.
 abbrev pub failing_by : PowerState → Option Pattern
 failing_by power = if power.is_off then Some Nothing else pattern_of (next_arm power)
 
--- the next read of this page fails
+-- The next read of this page fails.
 abbrev pub read_fails : ℕ → ℕ → PowerState → Bool
 read_fails sector page power = power.is_off || list_any (mutes sector page) power.standing
 
--- the power after one more program or erase
+-- The power after one more program or erase.
 abbrev pub power_after_write : PowerState → PowerState
 power_after_write power = record {
   is_off = power.is_off || cuts (next_arm power);
@@ -59,7 +59,7 @@ power_after_write power = record {
   standing = if power.is_off then power.standing else standing_after_write power.standing;
 }
 
--- the power after one more read of this page
+-- The power after one more read of this page.
 abbrev pub power_after_read : ℕ → ℕ → PowerState → PowerState
 power_after_read sector page power = record {
   is_off = power.is_off;

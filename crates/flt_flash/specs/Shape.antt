@@ -5,7 +5,7 @@ use Rattle.flt_flash.specs.State.{HasShape}
 use Rattle.flt_flash.specs.Memory.{state_of}
 use Rattle.flt_flash.specs.declared.memory.FlashMem.{FlashMem}
 
--- the shape of the image is kept by the fields of the flash
+-- The shape of the image is kept by the fields of the flash.
 pub shape_of : (flash : FlashMem) → HasShape (state_of flash)
 shape_of flash = record {
   most = flash.most;

@@ -6,39 +6,39 @@ use Rattle.flt_flash.specs.declared.arm.Arm.TheVariants.{Cut, Fault, Mute}
 use Rattle.flt_flash.specs.declared.arm.ArmMade.{ArmMade}
 use Rattle.flt_flash.specs.declared.flash.FlashFailed.{FlashFailed}
 
--- the greatest number of a count, at which it stays
+-- The greatest number of a count, at which it stays.
 abbrev pub last_count : ℕ
 last_count = 2 ^ 64 - 1
 
--- a count that rose by this many at least, or stands at its greatest number
+-- A count that rose by this many at least, or stands at its greatest number.
 abbrev pub HasRisenBy : ℕ → ℕ → ℕ → Type 0
 HasRisenBy many before after = min (before + many) (2 ^ 64 - 1) ≤ after
 
--- one more, as far as the count goes
+-- One more, as far as the count goes.
 abbrev pub counted : ℕ → ℕ
 counted before = min (before + 1) (2 ^ 64 - 1)
 
--- a count as far as it goes
+-- A count as far as it goes.
 abbrev pub as_counted : ℕ → ℕ
 as_counted count = min count (2 ^ 64 - 1)
 
--- the erase calls of both sectors
+-- The erase calls of both sectors.
 abbrev pub erases_of : List ℕ → ℕ
 erases_of wear = as_counted (slice_index_or wear 0 0) + as_counted (slice_index_or wear 1 0)
 
--- a power-up: the count of faults and the image at its moment
+-- A power-up: the count of faults and the image at its moment.
 pub record Boot : Type 0 where
   pub faults : ℕ
   pub image : List (List (List ℕ))
 
--- what a bench keeps: the boots, the arms made where they are told, and how many arms stand
+-- What a bench keeps: the boots, the arms made where they are told, and how many arms stand.
 pub record BenchState : Type 0 where
   pub boots : List Boot
   pub boots_left : ℕ
   pub arms : Option (List ArmMade)
   pub armed : ℕ
 
--- what a flash means: pages and erase calls by sector, the counts of faults and of operations, its bench
+-- What a flash means: pages and erase calls by sector, the counts of faults and of operations, its bench.
 pub record FlashState : Type 0 where
   pub pages : ℕ
   pub image : List (List (List ℕ))
@@ -48,7 +48,7 @@ pub record FlashState : Type 0 where
   pub wear : List ℕ
   pub bench : BenchState
 
--- the image is two sectors of this many pages of 32 bytes, and the erase calls are counted for both; no count is past its greatest number
+-- The image is two sectors of this many pages of 32 bytes, and the erase calls are counted for both; no count is past its greatest number.
 pub record HasShape (state : FlashState) : Type 0 where
   pub most : state.pages < 65536
   pub sectors : length state.image ≡ 2
@@ -58,14 +58,14 @@ pub record HasShape (state : FlashState) : Type 0 where
   pub operations : state.operations ≤ 2 ^ 64 - 1
   pub erases : (sector : ℕ) → sector < 2 → slice_index_or state.wear sector 0 ≤ 2 ^ 64 - 1
 
--- an operation keeps the boots and the arms made, and lets none stand anew
+-- An operation keeps the boots and the arms made, and lets none stand anew.
 pub record KeepsBench (before after : BenchState) : Type 0 where
   pub boots : after.boots ≡ before.boots
   pub boots_left : after.boots_left ≡ before.boots_left
   pub arms : after.arms ≡ before.arms
   pub armed : after.armed ≤ before.armed
 
--- one read, program or erase, beside what it answers and does to the image
+-- One read, program or erase, beside what it answers and does to the image.
 pub record Operates {T : Type 0} (before after : FlashState) (result : Result T FlashFailed) : Type 0 where
   pub pages : after.pages ≡ before.pages
   pub counts : HasRisenBy 0 before.faults after.faults
@@ -78,13 +78,13 @@ pub record Operates {T : Type 0} (before after : FlashState) (result : Result T 
   pub erases : erases_of before.wear ≤ erases_of after.wear
   pub bench : KeepsBench before.bench after.bench
 
--- the program or erase of a cut or a fault is one to come
+-- The program or erase of a cut or a fault is one to come.
 abbrev pub CanArm : Arm → Type 0
 CanArm (Cut after pattern) = 0 < after
 CanArm (Fault after pattern) = 0 < after
 CanArm (Mute sector page times) = Unit {0}
 
--- one arm more is made, at this count of faults
+-- One arm more is made, at this count of faults.
 pub record AddsArm (arm : Arm) (faults : ℕ) (before after : BenchState) : Type 0 where
   pub boots : after.boots ≡ before.boots
   pub boots_left : after.boots_left ≡ before.boots_left
@@ -92,24 +92,24 @@ pub record AddsArm (arm : Arm) (faults : ℕ) (before after : BenchState) : Type
       made ≡ earlier ++ record { arm = arm; boots = length before.boots; faults = faults } ∷ []))
   pub armed : after.armed ≤ before.armed + 1
 
--- the power comes back, at this count of faults and this image
+-- The power comes back, at this count of faults and this image.
 pub record AddsBoot (faults : ℕ) (image : List (List (List ℕ))) (before after : BenchState) : Type 0 where
   pub boots : after.boots ≡ before.boots ++ record { faults = faults; image = image } ∷ []
   pub boots_left : after.boots_left ≡ before.boots_left - 1
   pub arms : after.arms ≡ before.arms
   pub armed : after.armed ≤ before.armed
 
--- an arm is made, and nothing else changes
+-- An arm is made, and nothing else changes.
 pub record Arms (arm : Arm) (before after : FlashState) : Type 0 where
   pub bench : AddsArm arm before.faults before.bench after.bench
   pub rest : after ≡ record before { bench = after.bench }
 
--- the flash is on again, and nothing else changes
+-- The flash is on again, and nothing else changes.
 pub record PowersUp (before after : FlashState) : Type 0 where
   pub bench : AddsBoot before.faults before.image before.bench after.bench
   pub rest : after ≡ record before { is_off = false; bench = after.bench }
 
--- a flash that was just made of these two sectors, whose power may come back this often
+-- A flash that was just made of these two sectors, whose power may come back this often.
 abbrev pub first_state : ℕ → List (List ℕ) → List (List ℕ) → ℕ → FlashState
 first_state pages first second boots = record {
   pages = pages;
@@ -121,7 +121,7 @@ first_state pages first second boots = record {
   bench = record { boots = []; boots_left = boots; arms = Some []; armed = 0 };
 }
 
--- any number of operations of one call or several
+-- Any number of operations of one call or several.
 pub record MakesOperations (before after : FlashState) : Type 0 where
   pub pages : after.pages ≡ before.pages
   pub counts : HasRisenBy 0 before.faults after.faults
@@ -132,7 +132,7 @@ pub record MakesOperations (before after : FlashState) : Type 0 where
   pub counts_for_no_arm : IsTrue before.is_off → after.bench ≡ before.bench
   pub bench : KeepsBench before.bench after.bench
 
--- reads alone, which change no bit
+-- Reads alone, which change no bit.
 pub record OnlyReads (before after : FlashState) : Type 0 where
   pub runs : MakesOperations before after
   pub image : after.image ≡ before.image

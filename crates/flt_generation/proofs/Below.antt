@@ -25,7 +25,7 @@ use Rattle.flt_generation.proofs.Whole.{blocks_read}
 
 module _ (c : Config) (sizes : HasSizes c) (value : ℕ → Content) (commit : Commit) (count : ℕ) (most : count ≤ 21) where
   module _ (p : Persist) (known : Sofar c value commit count p) where
-    -- an entry that was read fits beside the others
+    -- An entry that was read fits beside the others.
     entry_fits : (place : ℕ) → place + 5 < count → (entry : EntryState) → place < length p.entries.items → slice_index_or p.entries.items place entry ≡ entry
         → (entry_fits_at (slice_get c.events.items entry.event) entry && is_alone p.entries.items place entry.event) ≡ true
     entry_fits place before entry within here =
@@ -46,7 +46,7 @@ module _ (c : Config) (sizes : HasSizes c) (value : ℕ → Content) (commit : C
               ]
             ]
 
-    -- each part that was read fits
+    -- Each part that was read fits.
     part_fits_at : (id : ℕ) → 3 ≤ id → id < 3 + count → part_fits c p (part_of id) ≡ true
     part_fits_at id low below = elim (kind_of id low) [
       | is_summary at of ↦ fits_as Summary of (known.summary_is (omega (arith, below, low)))
@@ -63,7 +63,7 @@ module _ (c : Config) (sizes : HasSizes c) (value : ℕ → Content) (commit : C
           | inr past ↦ subst (λ (o : Option EntryState). place_fits c.events.items p.entries.items place o ≡ true) (sym past.1) refl
         ]
 
-  -- what was read holds
+  -- What was read holds.
   pub read_below : (p : Persist) → parts_read c value commit count ≡ Ok p → HoldBelow c value commit (3 + count) p
   read_below p is =
       let known = sofar c value commit count p most is in
@@ -76,6 +76,6 @@ module _ (c : Config) (sizes : HasSizes c) (value : ℕ → Content) (commit : C
       least : (id : ℕ) → IsTrue (is_used c id) → 3 ≤ id
       least id used = leb-true 3 id (and_parts _ _ (and_parts _ _ used).0).0
 
-  -- what holds is read
+  -- What holds is read.
   pub below_read : (p : Persist) → HoldBelow c value commit (3 + count) p → (q : Persist) × (parts_read c value commit count ≡ Ok q)
   below_read p is = let found = blocks_read c sizes p is.one_each value commit (3 + count) (omega (arith, most)) is count (omega arith) in (found.0, found.1)

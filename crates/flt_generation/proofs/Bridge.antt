@@ -159,7 +159,7 @@ excess_borne c value is = chosen (nat_le (excess c value + needed_pages c) c.pag
 
 -- ---- the whole
 module _ (c : Config) (value : ℕ → Content) (commit : Content) (g : Generation) where
-  -- what the steps say
+  -- What the steps say.
   pub held_holds : c.memory ≤ 16 → held_by c value commit ≡ Ok g → Holds c value commit g
   unfolding held_by
   held_holds memory is =

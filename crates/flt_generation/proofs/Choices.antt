@@ -6,7 +6,7 @@ use Rattle.std.proofs.lemmas.Bool.{and_parts, and_from, cases_lt, false_from_ne_
 use Rattle.std.proofs.lemmas.List.{map-id}
 use Rattle.std.proofs.lemmas.List.FromFn.{map-range_with_len_more}
 
--- what is chosen by a test that passed, or failed
+-- What is chosen by a test that passed, or failed.
 pub chosen : {A : Type 0} (b : Bool) (x y : A) → b ≡ true → (if b then x else y) ≡ x
 chosen true x y is = refl
 chosen false x y is = absurd (cc)
@@ -15,12 +15,12 @@ pub not_chosen : {A : Type 0} (b : Bool) (x y : A) → b ≡ false → (if b the
 not_chosen true x y is = absurd (cc)
 not_chosen false x y is = refl
 
--- where a value was chosen, the test passed
+-- Where a value was chosen, the test passed.
 pub some_chosen : {A : Type 0} (b : Bool) (x y : A) → (if b then Some x else None) ≡ Some y → (b ≡ true) × (x ≡ y)
 some_chosen true x y is = (refl, cc)
 some_chosen false x y is = absurd (cc)
 
--- a test of each number of a range
+-- A test of each number of a range.
 pub all_at : (test : ℕ → Bool) (first count : ℕ) → list_all test (range_with_len first count) ≡ true → (k : ℕ) → k < count → test (first + k) ≡ true
 all_at test first zero all k below = absurd (omega (arith, below))
 all_at test first (suc count) all zero below =
@@ -35,7 +35,7 @@ all_from test first (suc count) each =
     and_from (test first) (list_all test (range_with_len (first + 1) count)) (subst (λ (n : ℕ). test n ≡ true) (omega arith) (each 0 (omega arith)))
     (all_from test (first + 1) count (λ k below. subst (λ (n : ℕ). test n ≡ true) (omega arith) (each (suc k) (omega (arith, below)))))
 
--- one number more
+-- One number more.
 pub range_more : (first count : ℕ) → range_with_len first (count + 1) ≡ range_with_len first count ++ (first + count) ∷ []
 range_more first count =
     sym (map-id (range_with_len first (count + 1))) ∙ map-range_with_len_more (λ n. n) first count (first + count) refl
@@ -49,7 +49,7 @@ all_more test first count all next =
       | inr past ↦ subst (λ (n : ℕ). test n ≡ true) (omega (arith, past, below)) next
     ])
 
--- where one number fails, not all pass
+-- Where one number fails, not all pass.
 pub not_all : (test : ℕ → Bool) (first count k : ℕ) → k < count → test (first + k) ≡ false → list_all test (range_with_len first count) ≡ false
 not_all test first count k below fails =
     false_from_ne_true (list_all test (range_with_len first count)) (λ all. let passes = all_at test first count all k below in absurd (cc))

@@ -20,7 +20,7 @@ pub commit_from-commit_bytes : (commit : Commit) → commit.generation < 2 ^ 32 
 unfolding commit_from commit_bytes
 commit_from-commit_bytes commit most = λ i. record { generation = from_be_bytes-to_be_bytes_4 commit.generation most i; index = commit.index }
 
--- what four bytes hold is below 2 ^ 32
+-- What four bytes hold is below 2 ^ 32.
 pub long_below : (n : ℕ) → from_be_bytes w32 (to_be_bytes w32 n) < 4294967296
 long_below n = omega arith
 
@@ -28,7 +28,7 @@ generation_below : (commit : Commit) → (commit_from (commit_bytes commit)).gen
 unfolding commit_from commit_bytes
 generation_below commit = long_below commit.generation
 
--- an index, and its test
+-- An index, and its test.
 index_is : (c : Config) (id index : ℕ) → is_index c id index ≡ true → IsBlockIndex c id index
 index_is c id index is = by (is_used c id) refl
   where
@@ -49,7 +49,7 @@ is_index_of c id index is = by (is_used c id) refl
     by true used = chosen (is_used c id) (nat_le index 1) (index == 255) used ∙ le-leb index 1 (is.used used)
     by false unused = not_chosen (is_used c id) (nat_le index 1) (index == 255) unused ∙ eq-eqb index 255 (is.unused unused)
 
--- a commit of a configuration, and its test
+-- A commit of a configuration, and its test.
 pub tested_commit : (c : Config) (commit : Commit) → commit.generation < 4294967296 → is_commit c commit ≡ true → IsCommit c commit
 unfolding is_commit
 tested_commit c commit most is =
@@ -69,7 +69,7 @@ commit_test c commit is =
     and_from _ _ (and_from _ _ (le-leb 1 commit.generation is.least) (eq-eqb (length commit.index) 21 is.size))
     (all_from (λ n. is_index c n (index_in commit n)) 3 21 (λ k below. is_index_of c (3 + k) (index_in commit (3 + k)) (is.indices (3 + k) (omega arith) (omega (arith, below)))))
 
--- what is read is a commit of these bytes
+-- What is read is a commit of these bytes.
 pub read_commit : (c : Config) (held : List ℕ) (commit : Commit) → commit_in c held ≡ Some commit → IsCommit c commit × (held ≡ commit_bytes commit)
 unfolding commit_in
 read_commit c held commit is =
@@ -79,7 +79,7 @@ read_commit c held commit is =
     let below = subst (λ (h : List ℕ). (commit_from h).generation < 4294967296) (sym same) (generation_below (commit_from held)) in
     subst (λ (m : Commit). IsCommit c m × (held ≡ commit_bytes m)) by.1 (tested_commit c (commit_from held) below parts.1, same)
 
--- the bytes of a commit are read
+-- The bytes of a commit are read.
 pub commit_read : (c : Config) (held : List ℕ) (commit : Commit) → IsCommit c commit → held ≡ commit_bytes commit → commit_in c held ≡ Some commit
 unfolding commit_in
 commit_read c held commit is bytes =
@@ -91,12 +91,12 @@ commit_read c held commit is bytes =
     (subst (λ (m : Commit). is_commit c m ≡ true) (sym found) (commit_test c commit is)))
     ∙ ap Some found
 
--- bytes that are those of what they would be are read, where that is a commit
+-- Bytes that are those of what they would be are read, where that is a commit.
 pub tested_commit_bytes : (c : Config) (held : List ℕ) → bytes_eq held (commit_bytes (commit_from held)) ≡ true → is_commit c (commit_from held) ≡ true → commit_in c held ≡ Some (commit_from held)
 unfolding commit_in
 tested_commit_bytes c held same tested = chosen _ (Some (commit_from held)) None (and_from (bytes_eq held (commit_bytes (commit_from held))) (is_commit c (commit_from held)) same tested)
 
--- others are not
+-- Others are not.
 pub no_commit_by_bytes : (c : Config) (held : List ℕ) → bytes_eq held (commit_bytes (commit_from held)) ≡ false → commit_in c held ≡ None
 unfolding commit_in
 no_commit_by_bytes c held differ = not_chosen _ (Some (commit_from held)) None (and_left (bytes_eq held (commit_bytes (commit_from held))) (is_commit c (commit_from held)) differ)
@@ -109,7 +109,7 @@ sized : (c : Config) (commit : Commit) → is_commit c commit ≡ true → lengt
 unfolding is_commit
 sized c commit is = eqb-true (length commit.index) 21 (and_parts _ _ (and_parts _ _ is).0).1
 
--- bytes of another length are not those of a commit
+-- Bytes of another length are not those of a commit.
 pub no_commit_by_size : (c : Config) (held : List ℕ) → (length held ≡ 26 → ⊥) → commit_in c held ≡ None
 no_commit_by_size c held other = elim (cases_Bool (is_commit c (commit_from held))) [
   | inl passes ↦

@@ -15,7 +15,7 @@ use Rattle.flt_generation.proofs.Choices.{chosen, not_chosen}
 use Rattle.flt_generation.proofs.States.{first_states_more}
 use Rattle.flt_generation.proofs.Sizes.{states_size, padded_size}
 
--- two bytes that are those of a number hold it
+-- Two bytes that are those of a number hold it.
 pub word_of : (n : ℕ) (held : List ℕ) (at : ℕ) → n < 65536 → slice_index held at ≡ slice_index (be16 n) 0 → slice_index held (at + 1) ≡ slice_index (be16 n) 1 → word_at held at ≡ n
 word_of n held at below high low =
     let both : word_at held at ≡ from_be_bytes w16 (be16 n) = λ i. from_be_bytes w16 (high i ∷ low i ∷ []) in
@@ -35,7 +35,7 @@ note_below : (note : Option ℕ) → IfSome note (λ event. event < 65535) → n
 note_below None below = omega arith
 note_below (Some event) below = omega (arith, below)
 
--- the numbers and notes of a summary are within their bytes
+-- The numbers and notes of a summary are within their bytes.
 pub record HasShortSummary (p : Persist) : Type 0 where
   pub entries : length p.entries.items ≤ 16
   pub first_failed : IfSome p.first_failed (λ event. event < 65535)
@@ -43,7 +43,7 @@ pub record HasShortSummary (p : Persist) : Type 0 where
   pub recent_failed : IfSome p.recent_failed (λ event. event < 65535)
   pub recent_confirmed : IfSome p.recent_confirmed (λ event. event < 65535)
 
--- a state with the summary of another
+-- A state with the summary of another.
 abbrev pub summary_of : Persist → Persist → Persist
 summary_of p q =
     record q {
@@ -86,7 +86,7 @@ word_short : (lit : Bool) (clean : ℕ) → clean < 0x8000 → clean + 0x8000 * 
 word_short true clean below = omega (arith, below)
 word_short false clean below = omega (arith, below)
 
--- each byte of a block of states is that of a state
+-- Each byte of a block of states is that of a state.
 byte_of_state : (states : List EventState) (first count place j at : ℕ) → place < count → j < 4 → at ≡ 4 * place + j
     → slice_index (first_states states first count) at ≡ slice_index (state_bytes (slice_index_or states (first + place) start_state)) j
 byte_of_state states first zero place j at below small is = absurd (omega (arith, below))

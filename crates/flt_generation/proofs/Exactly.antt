@@ -21,7 +21,7 @@ use Rattle.flt_generation.proofs.Sizes.{accepted, taken_holds}
 use Rattle.flt_generation.proofs.Decoding.{summary_of, summary_read, state_read, entry_read}
 use Rattle.flt_generation.proofs.Short.{HasSizes, entry_sizes, short_summary, clean_short}
 
--- what is taken differs in its part alone
+-- What is taken differs in its part alone.
 rest_kept : (part : Part) (held : List ℕ) (p : Persist) → KeepsRest part p (with_part part held p)
 unfolding with_part with_summary
 rest_kept Summary held p = (refl, ap (λ (n : ℕ). replicate n untaken_entry) (sym (length-replicate (min (slice_index held 2) 16) untaken_entry)))

@@ -28,7 +28,7 @@ module _ (c : Config) (mark commit : Content) where
     mark_damaged : IsMarkDamaged mark commit → result ≡ Err (damaged (Block mark_id)) → MarkIs result
     mark_others : (IsMarkDamaged mark commit → ⊥) → (found : Mark) → IsOthers c mark found → result ≡ Err (other found) → MarkIs result
 
-  -- bytes that are read as a mark are not damaged
+  -- Bytes that are read as a mark are not damaged.
   read_fine : (held : List ℕ) → mark ≡ bytes held → (found : Mark) → mark_in held ≡ Some found → IsMarkDamaged mark commit → ⊥
   read_fine held is found read (mark_missing none some) = cc
   read_fine held is found read (mark_invalid none) = cc
@@ -37,7 +37,7 @@ module _ (c : Config) (mark commit : Content) where
       let form = read_mark held found read in
       none found form.0 (sym equal ∙ form.1)
 
-  -- and are that mark alone
+  -- And are that mark alone.
   read_alone : (held : List ℕ) → mark ≡ bytes held → (found : Mark) → mark_in held ≡ Some found → (m : Mark) → IsOthers c mark m → m ≡ found
   read_alone held is found read m others =
       let content = others.is in
@@ -82,7 +82,7 @@ commit_is c (bytes held) = by (commit_in c held) refl
         (λ raw is. (let equal : held ≡ raw = cc in subst (λ (h : List ℕ). commit_in c h ≡ None) equal none))
     by (Some commit) read = is_commit_of held refl commit read
 
--- a commit that is missing, or is read, is not damaged
+-- A commit that is missing, or is read, is not damaged.
 pub first_fine : (c : Config) (content : Content) → content ≡ missing → IsCommitDamaged c content → ⊥
 first_fine c content none (commit_invalid is) = cc
 first_fine c content none (no_commit held is nothing) = cc
@@ -94,7 +94,7 @@ commit_fine c content held is commit read (no_commit raw same none) =
     let form = read_commit c held commit read in
     none commit form.0 (sym equal ∙ form.1)
 
--- a commit that is named is the one that is read
+-- A commit that is named is the one that is read.
 pub named_alone : (c : Config) (content : Content) (held : List ℕ) → content ≡ bytes held → (commit : Commit) → commit_in c held ≡ Some commit
     → (raw : List ℕ) → content ≡ bytes raw → (named : Commit) → IsCommit c named → IsBytesOfCommit named raw → named ≡ commit
 named_alone c content held is commit read raw same named form reads =
@@ -104,13 +104,13 @@ named_alone c content held is commit read raw same named form reads =
 
 -- ---- the blocks that it names
 module _ (c : Config) (value : ℕ → Content) (commit : Commit) where
-  -- so many blocks are read, or one of them is the first that is not
+  -- So many blocks are read, or one of them is the first that is not.
   pub data PartsAre (count : ℕ) : Type 0 where
     all_read : (p : Persist) → parts_read c value commit count ≡ Ok p → PartsAre count
     failed : (before : ℕ) → before < count → (p : Persist) → parts_read c value commit before ≡ Ok p → IsTrue (is_used c (3 + before))
         → parts_read c value commit (before + 1) ≡ Err (damaged (Block (3 + before))) → parts_read c value commit count ≡ Err (damaged (Block (3 + before))) → PartsAre count
 
-  -- what one block more gives
+  -- What one block more gives.
   data OneIs (id : ℕ) (result : Result Persist Fault) : Type 0 where
     gives : (q : Persist) → result ≡ Ok q → OneIs id result
     fails : IsTrue (is_used c id) → result ≡ Err (damaged (Block id)) → OneIs id result
@@ -151,7 +151,7 @@ module _ (c : Config) (value : ℕ → Content) (commit : Commit) where
       by (failed before below p is used first told) = failed before (omega (arith, below)) p is used first (ap (λ (r : Result Persist Fault). r >>= with_named c value commit (3 + count)) told)
 
 -- ---- the application blocks
--- the first number of a range that passes
+-- The first number of a range that passes.
 pub record IsFirstIn (test : ℕ → Bool) (first count found : ℕ) : Type 0 where
   pub at_least : first ≤ found
   pub within : found < first + count

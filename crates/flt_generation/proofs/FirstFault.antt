@@ -19,16 +19,16 @@ use Rattle.flt_generation.proofs.Short.{HasSizes}
 use Rattle.flt_generation.proofs.Below.{read_below, below_read}
 use Rattle.flt_generation.proofs.FaultCases.{MarkIs, mark_fine, mark_damaged, mark_others, mark_is, CommitIs, is_first, commit_damaged, is_commit_of, commit_is, first_fine, commit_fine, named_alone, PartsAre, all_read, failed, parts_are, ApplicationsAre, all_fine, one_damaged, applications_are, ExcessIs, is_borne, too_great, excess_is}
 
--- the used blocks are those of the parts
+-- The used blocks are those of the parts.
 part_within : (c : Config) (id : ℕ) → IsTrue (is_used c id) → (3 ≤ id) × (id < 24)
 part_within c id used = let range = and_parts _ _ (and_parts _ _ used).0 in (leb-true 3 id range.0, ltb-true id 24 range.1)
 
--- a block is judged by its identifier
+-- A block is judged by its identifier.
 rank_at : (id : ℕ) → 0 < id → judging_order (damaged (Block id)) ≡ 2 * id
 rank_at zero some = absurd (omega (arith, some))
 rank_at (suc k) some = omega arith
 
--- what the content of a commit copy names
+-- What the content of a commit copy names.
 named_first : (c : Config) (value : ℕ → Content) (content : Content) → content ≡ missing → named c value content ≡ Ok (first_generation c)
 unfolding named
 named_first c value content is = ap (named c value) is
@@ -44,7 +44,7 @@ unfolding named
 named_form c value content held is form read = ap (named c value) is ∙ ap (generation_of c value) read
 
 module _ (c : Config) (value : ℕ → Content) (commit : Content) where
-  -- what a first fault excludes, up to a rank
+  -- What a first fault excludes, up to a rank.
   record NoneBefore (bound : ℕ) : Type 0 where
     mark : 2 < bound → IsMarkDamaged (value mark_number) commit → ⊥
     own : 3 < bound → (found : Mark) → IsOthers c (value mark_number) found → ⊥
@@ -67,12 +67,12 @@ module _ (c : Config) (value : ℕ → Content) (commit : Content) where
   none_before bound none (damaged (Block (suc k))) below (inr (inr (inr (inl is)))) = none.applications (suc k) (omega (arith, below)) is
   none_before bound none (damaged (Block (suc k))) below (inr (inr (inr (inr is)))) = omega (arith, is.0)
 
-  -- what an image is judged to be
+  -- What an image is judged to be.
   data HeldIs (result : Result Generation Fault) : Type 0 where
     holds : (g : Generation) → ((fault : Fault) → HasFault c value commit fault → ⊥) → result ≡ Ok g → HeldIs result
     has : (fault : Fault) → HasFirstFault c value commit fault → result ≡ Err fault → HeldIs result
 
-  -- the mark, the commit and the blocks that it names are fine
+  -- The mark, the commit and the blocks that it names are fine.
   record IsFine : Type 0 where
     mark : IsMarkDamaged (value mark_number) commit → ⊥
     own : (found : Mark) → IsOthers c (value mark_number) found → ⊥
@@ -112,12 +112,12 @@ module _ (c : Config) (value : ℕ → Content) (commit : Content) where
         })
         (ap (λ (r : Result (Unit {0}) Fault). r >>= (λ _. excess_judged c value >>= (λ _. Ok g))) told)
 
-  -- the mark is fine
+  -- The mark is fine.
   module _ (mark : IsMarkDamaged (value mark_number) commit → ⊥) (own : (found : Mark) → IsOthers c (value mark_number) found → ⊥) where
     abbrev judged_on : Result Generation Fault → Result Generation Fault
     judged_on result = result >>= (λ g. applications_judged value >>= (λ _. excess_judged c value >>= (λ _. Ok g)))
 
-    -- a fault of a block below the application blocks
+    -- A fault of a block below the application blocks.
     has_low : (id : ℕ) → 0 < id → id < 64 → HasFault c value commit (damaged (Block id)) → (4 < 2 * id → IsCommitDamaged c commit → ⊥) → ((k : ℕ) → k < id → IsPartDamaged c value commit k → ⊥)
         → HasFirstFault c value commit (damaged (Block id))
     has_low id some low is commit_ parts = record {
@@ -133,7 +133,7 @@ module _ (c : Config) (value : ℕ → Content) (commit : Content) where
           }) earlier (omega (arith, rank_at id some, below)) also;
     }
 
-    -- where the commit is a commit, the parts before one that was read are fine
+    -- Where the commit is a commit, the parts before one that was read are fine.
     part_before : HasSizes c → (held : List ℕ) → commit ≡ bytes held → (form : Commit) → commit_in c held ≡ Some form → (count : ℕ) → count ≤ 21 → (p : Persist) → parts_read c value form count ≡ Ok p
         → (id : ℕ) → id < 3 + count → IsPartDamaged c value commit id → ⊥
     part_before sizes held is form read count most p whole id below part =
@@ -222,7 +222,7 @@ module _ (c : Config) (value : ℕ → Content) (commit : Content) where
   unfolding held_by
   held_is sizes = by_mark sizes (marked c (value mark_number) commit) (mark_is c (value mark_number) commit)
 
-  -- one mark is another's at most
+  -- One mark is another's at most.
   one_other : (first second : Mark) → IsOthers c (value mark_number) first → IsOthers c (value mark_number) second → first ≡ second
   one_other first second one two =
       let a = one.is in
@@ -232,7 +232,7 @@ module _ (c : Config) (value : ℕ → Content) (commit : Content) where
       let also : mark_in one.held ≡ Some second = mark_read one.held second two.form (equal ∙ two.reads) in
       cc
 
-  -- the identifiers of faults end before the last rank
+  -- The identifiers of faults end before the last rank.
   id_small : (id : ℕ) → HasFault c value commit (damaged (Block id)) → id < 104
   id_small id (inl is) = omega (arith, is.0)
   id_small id (inr (inl is)) = omega (arith, is.0)
@@ -240,7 +240,7 @@ module _ (c : Config) (value : ℕ → Content) (commit : Content) where
   id_small id (inr (inr (inr (inl is)))) = omega (arith, is.at, is.within)
   id_small id (inr (inr (inr (inr is)))) = omega (arith, is.0)
 
-  -- two faults of one rank are one
+  -- Two faults of one rank are one.
   same_fault : (first second : Fault) → judging_order first ≡ judging_order second → HasFault c value commit first → HasFault c value commit second → first ≡ second
   same_fault (damaged (Page s p)) second rank one two = absurd one
   same_fault first (damaged (Page s p)) rank one two = absurd two

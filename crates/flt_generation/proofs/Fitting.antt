@@ -25,7 +25,7 @@ pub test_of_noted : (events : List EventCfg) (note : Option ℕ) → IsNoted eve
 test_of_noted events None is = refl
 test_of_noted events (Some event) is = lt-ltb event (length events) is
 
--- a state that passes fits its event, and one that fits passes
+-- A state that passes fits its event, and one that fits passes.
 pub state_by_test : (event : EventCfg) (state : EventState) → state_fits event state ≡ true → IsStateOf event state
 unfolding state_fits
 state_by_test event state fits =
@@ -53,7 +53,7 @@ state_by_test event state fits =
     warns true false lit short clear = (λ set. absurd (set (eqb-true (bit_and state.status 128) 0 (not-false _ (not-true _ clear)))), λ both. let yes = lt-ltb state.clean event.heal both.1 in absurd (cc))
     warns false short lit _ clear = (λ set. absurd (set (eqb-true (bit_and state.status 128) 0 (not-false _ (not-true _ clear)))), λ both. let yes = both.0 in absurd (cc))
 
--- a bit that is set passes, and one that is clear does not
+-- A bit that is set passes, and one that is clear does not.
 bit_set : (status k worth : ℕ) → worth ≡ 2 ^ k → IsBitSet status k → has_bit status worth ≡ true
 bit_set status k worth is set = not_from_false _ (ne_eqb (bit_and status worth) 0 (λ none. set (sym (ap (bit_and status) is) ∙ none)))
 
@@ -78,7 +78,7 @@ test_of_state event state is =
     lights true lit = and_from (has_bit state.status 8) event.indicator (bit_set state.status 3 8 refl (is.lit lit).0) (is.lit lit).1
     lights false lit = refl
 
--- an entry of an event that is configured, and its test
+-- An entry of an event that is configured, and its test.
 pub entry_by_test : (events : List EventCfg) (entry : EntryState) → entry_fits_at (slice_get events entry.event) entry ≡ true → IsEntryOf events entry
 entry_by_test events entry fits = elim (slice_get_cases events entry.event).1 [
   | inl found ↦
@@ -109,14 +109,14 @@ test_of_entry events entry is = elim (slice_get_cases events entry.event).1 [
   | inr past ↦ absurd (omega (arith, is.event, past.0))
 ]
 
--- no element passes
+-- No element passes.
 pub none_passes : {X : Type 0} (test : X → Bool) (xs : List X) → ((k : ℕ) (d : X) → k < length xs → test (slice_index_or xs k d) ≡ false) → position test xs ≡ None
 none_passes test [] fails = refl
 none_passes test (x ∷ xs) fails =
     let end = position_or_len_is test (x ∷ xs) (length (x ∷ xs)) x (omega arith) (λ k below. fails k x below) (λ past. absurd (omega (arith, past))) in
     not_chosen (nat_lt (position_or_len test (x ∷ xs)) (length (x ∷ xs))) (Some (position_or_len test (x ∷ xs))) None (le-ltb (position_or_len test (x ∷ xs)) (length (x ∷ xs)) (omega (arith, end)))
 
--- an entry is the only one of its event, where each other one is of another
+-- An entry is the only one of its event, where each other one is of another.
 pub alone_by : (entries : List EntryState) (place event : ℕ) → ((k : ℕ) (d : EntryState) → k < length entries → k ≢ place → (slice_index_or entries k d).event ≢ event) → is_alone entries place event ≡ true
 alone_by entries place event others = and_from _ _ (ap is_none (none_passes (is_of_event event) (take place entries) front)) (ap is_none (none_passes (is_of_event event) (drop (place + 1) entries) back))
   where

@@ -108,7 +108,7 @@ first_fault_is_told commit_of c given value fault = fault_is_first c value (comm
 pub holds_where_no_fault : (commit_of : (ℕ → Content) → Content) → HoldsWithoutFault (λ c value. held_by c value (commit_of value)) commit_of
 holds_where_no_fault commit_of c given value = holds_without_fault c value (commit_of value) (sizes_of c given)
 
--- the copies that count
+-- The copies that count.
 by_second : (first : Content) (held : List ℕ) → (IsBytes first → ⊥) → CopyCounts first (bytes held) (bytes held)
 by_second first held none = record { by_first = λ is. absurd (none is); by_second = λ _ _. refl; by_neither = λ _ no. absurd (no (held, refl)) }
 

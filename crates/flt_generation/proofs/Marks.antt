@@ -22,7 +22,7 @@ mark_from-mark_bytes mark is = λ i. record {
   entries = mark.entries;
 }
 
--- what two bytes hold is below 2 ^ 16
+-- What two bytes hold is below 2 ^ 16.
 pub word_below : (n : ℕ) → from_be_bytes w16 (to_be_bytes w16 n) < 65536
 word_below n = omega arith
 
@@ -30,7 +30,7 @@ pub fields_below : (mark : Mark) → ((mark_from (mark_bytes mark)).id < 65536) 
 unfolding mark_from mark_bytes
 fields_below mark = (word_below mark.id, word_below mark.events)
 
--- what is read is a mark of these bytes
+-- What is read is a mark of these bytes.
 pub read_mark : (held : List ℕ) (mark : Mark) → mark_in held ≡ Some mark → IsMark mark × (held ≡ mark_bytes mark)
 unfolding mark_in
 read_mark held mark is =
@@ -41,7 +41,7 @@ read_mark held mark is =
     subst (λ (m : Mark). IsMark m × (held ≡ mark_bytes m)) by.1
     (record { id = omega (arith, below.0); events = omega (arith, below.1); entries = omega (arith, ltb-true (mark_from held).entries 256 parts.1) }, same)
 
--- the bytes of a mark are read
+-- The bytes of a mark are read.
 pub mark_read : (held : List ℕ) (mark : Mark) → IsMark mark → held ≡ mark_bytes mark → mark_in held ≡ Some mark
 unfolding mark_in
 mark_read held mark is bytes =
@@ -53,18 +53,18 @@ mark_read held mark is bytes =
     (lt-ltb (mark_from held).entries 256 (subst (λ (m : Mark). m.entries < 256) (sym found) (omega (arith, is.entries)))))
     ∙ ap Some found
 
--- bytes that are not those of what they would be give none
+-- Bytes that are not those of what they would be give none.
 pub no_mark : (held : List ℕ) → bytes_eq held (mark_bytes (mark_from held)) ≡ false → mark_in held ≡ None
 unfolding mark_in
 no_mark held differ = not_chosen _ (Some (mark_from held)) None (and_left (bytes_eq held (mark_bytes (mark_from held))) (nat_lt (mark_from held).entries 256) differ)
 
--- bytes of another length give none
+-- Bytes of another length give none.
 pub no_mark_by_size : (held : List ℕ) → (length held ≡ 8 → ⊥) → mark_in held ≡ None
 no_mark_by_size held other =
     no_mark held (false_from_ne_true (bytes_eq held (mark_bytes (mark_from held)))
     (λ yes. other (ap length ((bytes_eq-Decides held (mark_bytes (mark_from held))).0 yes) ∙ mark_size (mark_from held))))
 
--- bytes that are those of what they would be are read
+-- Bytes that are those of what they would be are read.
 pub tested_mark : (held : List ℕ) → bytes_eq held (mark_bytes (mark_from held)) ≡ true → slice_index held 5 < 256 → mark_in held ≡ Some (mark_from held)
 unfolding mark_in mark_from
 tested_mark held same below =

@@ -17,11 +17,11 @@ use Rattle.flt_generation.specs.Laws.{IsGiven}
 use Rattle.flt_generation.proofs.Choices.{chosen, not_chosen}
 use Rattle.flt_generation.proofs.Steps.{is_summary, are_states, is_entry, kind_of}
 
--- the sum of one more in front
+-- The sum of one more in front.
 pub sum_more : {X : Type 0} (f : X → ℕ) (x : X) (xs : List X) → sum_by f (x ∷ xs) ≡ f x + sum_by f xs
 sum_more f x xs = sum_by-append f (x ∷ []) xs ∙ ap (λ (n : ℕ). n + sum_by f xs) (zero-add (f x))
 
--- a weight for each number of a range that is below a bound
+-- A weight for each number of a range that is below a bound.
 below_sum : (f : ℕ → ℕ) (weight : ℕ) → ((n : ℕ) → weight * (n + 1) ≡ weight + weight * n) → weight * 0 ≡ 0 → (bound first count : ℕ)
     → ((k : ℕ) → k < count → f (first + k) ≡ (if nat_lt k bound then weight else 0)) → sum_by f (range_with_len first count) ≡ weight * min bound count
 below_sum f weight times nothing bound first zero each =
@@ -60,7 +60,7 @@ below_sum f weight times nothing (suc bound) first (suc count) each =
           | inr past ↦ not_chosen (nat_lt (k + 1) (suc bound)) weight 0 (le-ltb (k + 1) (suc bound) (omega (arith, past))) ∙ sym (not_chosen (nat_lt k bound) weight 0 (le-ltb k bound past))
         ])
 
--- the pages of both indices, part by part
+-- The pages of both indices, part by part.
 pub both_sum : (f : ℕ → ℕ) (first count : ℕ) → sum_by f (flat_map both_indices (range_with_len first count)) ≡ sum_by (λ id. f (number_of id 0) + f (number_of id 1)) (range_with_len first count)
 both_sum f first zero = refl
 both_sum f first (suc count) =
@@ -77,7 +77,7 @@ mapped_sum f g first (suc count) =
     sum_more f (g first) (map g (range_with_len (first + 1) count)) ∙ ap (λ (n : ℕ). f (g first) + n) (mapped_sum f g (first + 1) count)
     ∙ sym (sum_more (λ n. f (g n)) first (range_with_len (first + 1) count))
 
--- the end of a range by itself
+-- The end of a range by itself.
 split_sum : (f : ℕ → ℕ) (first one two : ℕ) → sum_by f (range_with_len first (one + two)) ≡ sum_by f (range_with_len first one) + sum_by f (range_with_len (first + one) two)
 split_sum f first zero two =
     let size : zero + two ≡ two = omega arith in
@@ -103,7 +103,7 @@ module _ (c : Config) where
   abbrev for_part : ℕ → ℕ
   for_part number = if is_own_part c number then record_pages (part_length (part_of (number / 8))) else for_application number
 
-  -- the pages of a number that is none of the mark and the commit
+  -- The pages of a number that is none of the mark and the commit.
   of_other : (number : ℕ) → 18 ≤ number → own_pages c number ≡ for_part number
   unfolding own_pages
   of_other number high =
@@ -118,7 +118,7 @@ module _ (c : Config) where
   and_true true = refl
   and_true false = refl
 
-  -- the pages of an index of a part
+  -- The pages of an index of a part.
   pub of_part : (id index : ℕ) → 3 ≤ id → id < 24 → index ≤ 1 → own_pages c (number_of id index) ≡ (if has_part c (part_of id) then record_pages (part_length (part_of id)) else 0)
   of_part id index low high small =
       let number = number_of id index in
@@ -134,7 +134,7 @@ module _ (c : Config) where
       ∙ ap (λ (n : ℕ). if has_part c (part_of id) then record_pages (part_length (part_of n)) else for_application number) at
       ∙ ap (λ (n : ℕ). if has_part c (part_of id) then record_pages (part_length (part_of id)) else n) (not_chosen (is_own_application c number) (record_pages 32) 0 no_application)
 
-  -- the pages of both indices of a part
+  -- The pages of both indices of a part.
   abbrev both : ℕ → ℕ
   both id = own_pages c (number_of id 0) + own_pages c (number_of id 1)
 
@@ -199,7 +199,7 @@ module _ (c : Config) where
   summary_of_both : both 3 ≡ 6
   summary_of_both = both_of 3 (omega arith) (omega arith)
 
-  -- the configuration's own records take all that it needs but 7 pages
+  -- The configuration's own records take all that it needs but 7 pages.
   pub own_sum : IsGiven c → sum_by (own_pages c) numbers + 7 ≡ needed_pages c
   unfolding numbers
   own_sum given =
@@ -217,7 +217,7 @@ module _ (c : Config) where
       ∙ below_sum (λ n. own_pages c (application_number n)) 3 (λ n. omega arith) (omega arith) c.blocks 0 40 applications_of)
       (omega (arith, given.events)) given.valid.memory.1 given.valid.blocks
 
--- what stands or may be written, over a list of numbers
+-- What stands or may be written, over a list of numbers.
 most_sum : (f own : ℕ → ℕ) (ns : List ℕ) → sum_by (λ n. max (f n) (own n)) ns ≡ sum_by own ns + sum_by (λ n. f n - own n) ns
 most_sum f own [] = refl
 most_sum f own (n ∷ ns) =
@@ -231,14 +231,14 @@ pub borne_has_room : (c : Config) → IsGiven c → (value : ℕ → Content) �
 borne_has_room c given value borne =
     omega (arith, most_sum (λ number. pages_of (value number)) (own_pages c) numbers, own_sum c given, borne)
 
--- the used blocks lie between the commit and the application blocks, and are parts of the configuration
+-- The used blocks lie between the commit and the application blocks, and are parts of the configuration.
 pub used_range : (c : Config) (id : ℕ) → IsTrue (is_used c id) → (3 ≤ id) × (id < 24) × IsTrue (has_part c (part_of id))
 used_range c id used =
     let both = and_parts (nat_le 3 id && nat_lt id 24) (has_part c (part_of id)) used in
     let range = and_parts (nat_le 3 id) (nat_lt id 24) both.0 in
     (leb-true 3 id range.0, ltb-true id 24 range.1, both.1)
 
--- a used block is as long as its part
+-- A used block is as long as its part.
 pub own_part : (c : Config) (id index : ℕ) → IsTrue (is_used c id) → index ≤ 1 → own_pages c (number_of id index) ≡ record_pages (part_length (part_of id))
 own_part c id index used small =
     let range = used_range c id used in

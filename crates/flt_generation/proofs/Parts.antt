@@ -18,7 +18,7 @@ use Rattle.flt_generation.proofs.States.{state_kept, length-with_states}
 use Rattle.flt_generation.specs.declared.part.Part.{Part}
 use Rattle.flt_generation.specs.declared.part.Part.TheVariants.{Summary, States, Entry}
 
--- states that fit pass, in each block
+-- States that fit pass, in each block.
 pub states_pass : (events : List EventCfg) (states : List EventState) (first count : ℕ) → AreStatesOf events states → states_fit events states first count ≡ true
 unfolding states_fit
 states_pass events states first count are =
@@ -35,7 +35,7 @@ states_pass events states first count are =
       | inr past ↦ subst (λ (o : Option EventCfg). state_fits_at o (slice_index_or states (first + k) start_state) ≡ true) (sym past.1) refl
     ]
 
--- a state that passes in its block fits
+-- A state that passes in its block fits.
 pub state_passes : (events : List EventCfg) (states : List EventState) (first count : ℕ) → states_fit events states first count ≡ true
     → (place : ℕ) → place < count → (event : EventCfg) → first + place < length events → IsStateOf (slice_index_or events (first + place) event) (slice_index_or states (first + place) start_state)
 unfolding states_fit
@@ -46,7 +46,7 @@ state_passes events states first count fits place below event within =
     state_by_test (slice_index_or events (first + place) event) (slice_index_or states (first + place) start_state)
     (subst (λ (o : Option EventCfg). state_fits_at o (slice_index_or states (first + place) start_state) ≡ true) (slice_get-get_or events (first + place) event within) passes)
 
--- a block of states that pass, set in states that fit, leaves states that fit
+-- A block of states that pass, set in states that fit, leaves states that fit.
 pub set_states_fit : (events : List EventCfg) (held : List ℕ) (first : ℕ) (states : List EventState) → AreStatesOf events states
     → states_fit events (with_states held first 16 states) first 16 ≡ true → AreStatesOf events (with_states held first 16 states)
 set_states_fit events held first states are fits = record { one_each = length-with_states held first states 16 ∙ are.one_each; fitting = fitting }
@@ -74,7 +74,7 @@ set_states_fit events held first states are fits = record { one_each = length-wi
       ]
     ]
 
--- the clean counts of states that fit leave room for the bit beside them
+-- The clean counts of states that fit leave room for the bit beside them.
 pub states_short : (events : List EventCfg) (states : List EventState) → AreStatesOf events states → (k : ℕ) → (slice_index_or states k start_state).clean < 0x8000
 states_short events states are k = elim (cases_lt k (length events)) [
   | inl within ↦ inside events are k within
@@ -85,7 +85,7 @@ states_short events states are k = elim (cases_lt k (length events)) [
     inside [] given k within = absurd (omega (arith, within))
     inside (event ∷ rest) given k within = omega (arith, (given.fitting k event start_state within).clean)
 
--- each part of a state that fits does
+-- Each part of a state that fits does.
 pub part_of_fitting : (c : Config) (p : Persist) → Fits c p → (part : Part) → part_fits c p part ≡ true
 part_of_fitting c p fits Summary =
     and_from _ _ (and_from _ _ (and_from _ _ (and_from _ _ (le-leb _ c.memory fits.room) (test_of_noted c.events.items p.first_failed fits.first_failed))

@@ -52,7 +52,7 @@ pub no_entry_size : length no_entry_bytes ≡ 68
 unfolding no_entry_bytes
 no_entry_size = refl
 
--- the entry that is set is found at its place, and no other
+-- The entry that is set is found at its place, and no other.
 pub set_here : (entries : List EntryState) (place : ℕ) (entry : EntryState) → place < length entries → slice_get (set entries place entry) place ≡ Some entry
 set_here entries place entry within =
     slice_get-get_or (set entries place entry) place entry (omega (arith, length-set entries place entry, within))
@@ -65,7 +65,7 @@ entry_from_size : (held : List ℕ) → length (entry_bytes (entry_from held)) �
 unfolding entry_from
 entry_from_size held = entry_size (entry_from held) (frame_short held 4) (frame_short held 36)
 
--- what would be taken has the bytes of its part
+-- What would be taken has the bytes of its part.
 pub candidate_size : (part : Part) (held : List ℕ) (p : Persist) → length (part_bytes (with_part part held p) part) ≡ part_length part
 unfolding with_part
 candidate_size Summary held p = summary_size (with_part Summary held p)
@@ -75,7 +75,7 @@ candidate_size (Entry place) held p = elim (cases_lt place (length p.entries.ite
   | inr past ↦ ap (λ (o : Option EntryState). length (place_bytes o)) (none_here p.entries.items place (entry_from held) past) ∙ no_entry_size
 ]
 
--- bytes that are not the part's are refused, and so is a part that does not fit
+-- Bytes that are not the part's are refused, and so is a part that does not fit.
 pub refused_by_bytes : (c : Config) (part : Part) (held : List ℕ) (p : Persist) → bytes_eq held (part_bytes p part) ≡ false → if_holds c part held p ≡ None
 unfolding if_holds
 refused_by_bytes c part held p differ = not_chosen _ (Some p) None (and_left (bytes_eq held (part_bytes p part)) (part_fits c p part) differ)
@@ -88,7 +88,7 @@ pub accepted : (c : Config) (part : Part) (held : List ℕ) (p : Persist) → by
 unfolding if_holds
 accepted c part held p same fits = chosen _ (Some p) None (and_from (bytes_eq held (part_bytes p part)) (part_fits c p part) same fits)
 
--- what is taken has these bytes and fits
+-- What is taken has these bytes and fits.
 pub taken_holds : (c : Config) (part : Part) (held : List ℕ) (p q : Persist) → if_holds c part held p ≡ Some q → (p ≡ q) × (held ≡ part_bytes q part) × (part_fits c q part ≡ true)
 unfolding if_holds
 taken_holds c part held p q is =
@@ -98,7 +98,7 @@ taken_holds c part held p q is =
     let both = subst P by.1 ((bytes_eq-Decides held (part_bytes p part)).0 parts.0, parts.1) in
     (by.1, both.0, both.1)
 
--- bytes of another length are refused
+-- Bytes of another length are refused.
 pub refused_by_size : (c : Config) (part : Part) (held : List ℕ) (p : Persist) → (length held ≡ part_length part → ⊥) → taken c part held p ≡ None
 refused_by_size c part held p other =
     refused_by_bytes c part held (with_part part held p) (false_from_ne_true (bytes_eq held (part_bytes (with_part part held p) part))

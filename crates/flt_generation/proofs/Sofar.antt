@@ -23,7 +23,7 @@ use Rattle.flt_generation.proofs.Parts.{set_states_fit}
 use Rattle.flt_generation.proofs.Sizes.{taken_holds, set_here, candidate_size}
 use Rattle.flt_generation.proofs.Steps.{gave, both_ok, is_summary, are_states, is_entry, kind_of, bytes_kept}
 
--- a used block, by its part
+-- A used block, by its part.
 pub used_from : (c : Config) (id : ℕ) → 3 ≤ id → id < 24 → has_part c (part_of id) ≡ true → IsTrue (is_used c id)
 used_from c id low high has = and_from _ _ (and_from _ _ (le-leb 3 id low) (lt-ltb id 24 high)) has
 
@@ -31,7 +31,7 @@ pub none_from : (o : Option ℕ) → is_none o ≡ true → o ≡ None
 none_from None is = refl
 none_from (Some k) is = absurd (cc)
 
--- what is known behind the first blocks, so many of them
+-- What is known behind the first blocks, so many of them.
 pub record Sofar (c : Config) (value : ℕ → Content) (commit : Commit) (count : ℕ) (p : Persist) : Type 0 where
   pub contents : (id : ℕ) → 3 ≤ id → id < 3 + count → IsTrue (is_used c id) → value (number_of id (index_in commit id)) ≡ bytes (part_bytes p (part_of id))
   pub states_are : AreStatesOf c.events.items p.events.items
@@ -40,11 +40,11 @@ pub record Sofar (c : Config) (value : ℕ → Content) (commit : Commit) (count
   pub distinct : (i j : ℕ) (d : EntryState) → i < j → j + 5 < count → j < length p.entries.items → IsOfOtherEvent (slice_index_or p.entries.items i d) (slice_index_or p.entries.items j d)
   pub untaken : (k : ℕ) (d : EntryState) → 0 < count → count ≤ k + 5 → k < length p.entries.items → slice_index_or p.entries.items k d ≡ untaken_entry
 
--- the entries of a state whose summary fits have room
+-- The entries of a state whose summary fits have room.
 pub room_of : (c : Config) (p : Persist) → summary_fits c p ≡ true → length p.entries.items ≤ c.memory
 room_of c p fits = leb-true _ c.memory (and_parts _ _ (and_parts _ _ (and_parts _ _ (and_parts _ _ fits).0).0).0).0
 
--- its noted events are configured
+-- Its noted events are configured.
 pub notes_of : (c : Config) (p : Persist) → summary_fits c p ≡ true
     → (note_fits c.events.items p.first_failed ≡ true) × (note_fits c.events.items p.first_confirmed ≡ true) × (note_fits c.events.items p.recent_failed ≡ true) × (note_fits c.events.items p.recent_confirmed ≡ true)
 notes_of c p fits =
@@ -54,7 +54,7 @@ notes_of c p fits =
     ((and_parts _ _ d.0).1, d.1, b.1, a.1)
 
 module _ (c : Config) (value : ℕ → Content) (commit : Commit) (count : ℕ) (p : Persist) (known : Sofar c value commit count p) where
-  -- the blocks before stay, and the one that was taken stands in the state
+  -- The blocks before stay, and the one that was taken stands in the state.
   contents_more : (held : List ℕ) (q : Persist) → with_part (part_of (3 + count)) held p ≡ q → held ≡ part_bytes q (part_of (3 + count)) → value (number_of (3 + count) (index_in commit (3 + count))) ≡ bytes held
       → (id : ℕ) → 3 ≤ id → id < 3 + (count + 1) → IsTrue (is_used c id) → value (number_of id (index_in commit id)) ≡ bytes (part_bytes q (part_of id))
   contents_more held q gives is content id low below used = elim (cases_lt id (3 + count)) [
@@ -65,7 +65,7 @@ module _ (c : Config) (value : ℕ → Content) (commit : Commit) (count : ℕ) 
         subst (λ (n : ℕ). value (number_of n (index_in commit n)) ≡ bytes (part_bytes q (part_of n))) here (content ∙ ap bytes is)
   ]
 
-  -- a summary
+  -- A summary.
   by_summary : (held : List ℕ) → count ≡ 0 → summary_fits c (with_part Summary held p) ≡ true
       → ((id : ℕ) → 3 ≤ id → id < 3 + (count + 1) → IsTrue (is_used c id) → value (number_of id (index_in commit id)) ≡ bytes (part_bytes (with_part Summary held p) (part_of id)))
       → Sofar c value commit (count + 1) (with_part Summary held p)
@@ -79,7 +79,7 @@ module _ (c : Config) (value : ℕ → Content) (commit : Commit) (count : ℕ) 
     untaken = λ k d some past within. get_or-replicate (min (slice_index held 2) 16) k untaken_entry d (omega (arith, within, length-replicate (min (slice_index held 2) 16) untaken_entry));
   }
 
-  -- states of sixteen events
+  -- States of sixteen events.
   by_states : (held : List ℕ) (first : ℕ) → 0 < count → count < 5 → states_fit c.events.items (with_states held first 16 p.events.items) first 16 ≡ true
       → ((id : ℕ) → 3 ≤ id → id < 3 + (count + 1) → IsTrue (is_used c id) → value (number_of id (index_in commit id)) ≡ bytes (part_bytes (with_part (States first) held p) (part_of id)))
       → Sofar c value commit (count + 1) (with_part (States first) held p)
@@ -93,7 +93,7 @@ module _ (c : Config) (value : ℕ → Content) (commit : Commit) (count : ℕ) 
     untaken = λ k d _ past within. known.untaken k d some (omega (arith, past)) within;
   }
 
-  -- an entry
+  -- An entry.
   by_entry : (held : List ℕ) (place : ℕ) → place + 5 ≡ count
       → place_fits c.events.items (set p.entries.items place (entry_from held)) place (slice_get (set p.entries.items place (entry_from held)) place) ≡ true
       → ((id : ℕ) → 3 ≤ id → id < 3 + (count + 1) → IsTrue (is_used c id) → value (number_of id (index_in commit id)) ≡ bytes (part_bytes (with_part (Entry place) held p) (part_of id)))
@@ -152,7 +152,7 @@ module _ (c : Config) (value : ℕ → Content) (commit : Commit) (count : ℕ) 
 
 -- ---- one block more
 module _ (c : Config) (value : ℕ → Content) (commit : Commit) (count : ℕ) (p q : Persist) (known : Sofar c value commit count p) where
-  -- a used block, by its part
+  -- A used block, by its part.
   finish : (part : Part) → part_of (3 + count) ≡ part → (held : List ℕ) → with_part (part_of (3 + count)) held p ≡ q → held ≡ part_bytes q (part_of (3 + count)) → part_fits c q (part_of (3 + count)) ≡ true
       → value (number_of (3 + count) (index_in commit (3 + count))) ≡ bytes held
       → (part_fits c (with_part part held p) part ≡ true
@@ -187,7 +187,7 @@ module _ (c : Config) (value : ℕ → Content) (commit : Commit) (count : ℕ) 
           → place_fits c.events.items (set p.entries.items (3 + count - 8) (entry_from held)) (3 + count - 8) (slice_get (set p.entries.items (3 + count - 8) (entry_from held)) (3 + count - 8)) ≡ true
       entry_test held fits = fits
 
-  -- a block that is not used
+  -- A block that is not used.
   unused_step : is_used c (3 + count) ≡ false → count < 21 → Sofar c value commit (count + 1) p
   unused_step unused below = record {
     contents = λ id low high used. elim (cases_lt id (3 + count)) [
@@ -251,7 +251,7 @@ sofar c value commit (suc count) p most is =
     subst (λ (n : ℕ). Sofar c value commit n p) more
     (one_block c value commit count before.0 p (sofar c value commit count before.0 (omega (arith, most)) before.1) (omega (arith, most)) before.2)
 
--- the state that was read fits, and stands in the blocks
+-- The state that was read fits, and stands in the blocks.
 pub read_fits : (c : Config) (value : ℕ → Content) (commit : Commit) (p : Persist) → c.memory ≤ 16 → Sofar c value commit 21 p → Fits c p
 read_fits c value commit p memory known =
     let fits = known.summary_is (omega arith) in
@@ -272,7 +272,7 @@ read_blocks c value commit p known = λ id used.
     let range = (and_parts _ _ used).0 in
     known.contents id (leb-true 3 id (and_parts _ _ range).0) (ltb-true id 24 (and_parts _ _ range).1) used
 
--- each block that a commit names has the bytes of its part
+-- Each block that a commit names has the bytes of its part.
 pub record HasSize (value : ℕ → Content) (commit : Commit) (id : ℕ) : Type 0 where
   pub raw : List ℕ
   pub holds : value (number_of id (index_in commit id)) ≡ bytes raw

@@ -14,7 +14,7 @@ use Rattle.flt_generation.specs.Fit.{state_fits_at, states_fit}
 use Rattle.flt_generation.specs.Reading.{state_from, with_states}
 use Rattle.flt_generation.proofs.Choices.{all_at, all_from}
 
--- one state more is put
+-- One state more is put.
 pub first_states_more : (states : List EventState) (first count : ℕ) → first_states states first (count + 1) ≡ first_states states first count ++ state_bytes (slice_index_or states (first + count) start_state)
 unfolding first_states
 first_states_more states first count =
@@ -26,7 +26,7 @@ pub no_states : (states : List EventState) (first : ℕ) → first_states states
 unfolding first_states
 no_states states first = refl
 
--- the same states give the same bytes
+-- The same states give the same bytes.
 pub same_states : (xs ys : List EventState) (first count : ℕ) → ((place : ℕ) → place < count → slice_index_or xs (first + place) start_state ≡ slice_index_or ys (first + place) start_state)
     → first_states xs first count ≡ first_states ys first count
 same_states xs ys first zero same = no_states xs first ∙ sym (no_states ys first)
@@ -38,7 +38,7 @@ same_states xs ys first (suc count) same =
     ∙ sym (first_states_more ys first count))
 
 module _ (held : List ℕ) (first : ℕ) (states : List EventState) where
-  -- one state more is set
+  -- One state more is set.
   pub with_states_more : (count : ℕ) → with_states held first (count + 1) states ≡ set (with_states held first count states) (first + count) (state_from held count)
   unfolding with_states
   with_states_more count =
@@ -54,7 +54,7 @@ module _ (held : List ℕ) (first : ℕ) (states : List EventState) where
   length-with_states zero = refl
   length-with_states (suc count) = length-set (with_states held first count states) (first + count) (state_from held count) ∙ length-with_states count
 
-  -- within the block each state is that in the bytes, and elsewhere it is as it was
+  -- Within the block each state is that in the bytes, and elsewhere it is as it was.
   pub state_set : (count place : ℕ) (d : EventState) → place < count → first + place < length states → slice_index_or (with_states held first count states) (first + place) d ≡ state_from held place
   unfolding with_states
   state_set zero place d below within = absurd (omega (arith, below))
@@ -74,7 +74,7 @@ module _ (held : List ℕ) (first : ℕ) (states : List EventState) where
       get_or-set_other (with_states held first count states) (first + count) k (state_from held count) d (λ e. elim out [ inl low ↦ omega (arith, low, e) | inr high ↦ omega (arith, high, e) ])
       ∙ state_kept count k d (elim out [ inl low ↦ inl low | inr high ↦ inr (omega (arith, high)) ])
 
--- such states pass together
+-- Such states pass together.
 pub pass_together : (events : List EventCfg) (xs ys : List EventState) (first count : ℕ) → ((place : ℕ) → place < count → slice_index_or xs (first + place) start_state ≡ slice_index_or ys (first + place) start_state)
     → states_fit events xs first count ≡ true → states_fit events ys first count ≡ true
 unfolding states_fit

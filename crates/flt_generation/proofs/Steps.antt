@@ -19,12 +19,12 @@ use Rattle.flt_generation.specs.Holding.{Fault, ◌>>=◌, or_damaged, with_cont
 use Rattle.flt_generation.proofs.Choices.{chosen, not_chosen}
 use Rattle.flt_generation.proofs.States.{state_kept, same_states}
 
--- a value behind two steps was one behind the first
+-- A value behind two steps was one behind the first.
 pub both_ok : {A B : Type 0} (first : Result A Fault) (next : A → Result B Fault) (last : B) → (first >>= next) ≡ Ok last → (value : A) × (first ≡ Ok value) × (next value ≡ Ok last)
 both_ok (Ok value) next last is = (value, refl, is)
 both_ok (Err fault) next last is = absurd (cc)
 
--- what the block that a commit names gave
+-- What the block that a commit names gave.
 pub record Gave (c : Config) (value : ℕ → Content) (commit : Commit) (id : ℕ) (p q : Persist) : Type 0 where
   pub used : IsTrue (is_used c id) → (held : List ℕ) × (value (number_of id (index_in commit id)) ≡ bytes held) × (taken c (part_of id) held p ≡ Some q)
   pub unused : IsFalse (is_used c id) → q ≡ p
@@ -44,7 +44,7 @@ gave c value commit id p q is = record {
   unused = λ unused. let same : Ok p ≡ Ok q = sym (not_chosen (is_used c id) (with_content c id (value (number_of id (index_in commit id))) p) (Ok p) unused) ∙ is in cc;
 }
 
--- which part a block holds
+-- Which part a block holds.
 pub data Kind (id : ℕ) : Type 0 where
   is_summary : id ≡ 3 → part_of id ≡ Summary → Kind id
   are_states : 4 ≤ id → id < 8 → part_of id ≡ States (16 * (id - 4)) → Kind id
@@ -61,7 +61,7 @@ kind_of id low = elim (cases_eq id 3) [
       ]
 ]
 
--- an entry that is set leaves every other place
+-- An entry that is set leaves every other place.
 pub get_other : (entries : List EntryState) (place other : ℕ) (entry : EntryState) → other ≢ place → slice_get (set entries place entry) other ≡ slice_get entries other
 get_other entries place other entry differ = elim (cases_lt other (length entries)) [
   | inl within ↦
@@ -71,7 +71,7 @@ get_other entries place other entry differ = elim (cases_lt other (length entrie
 ]
 
 module _ (held : List ℕ) (p : Persist) where
-  -- the bytes of a summary stay where states or an entry are taken
+  -- The bytes of a summary stay where states or an entry are taken.
   summary_by_states : (first : ℕ) → summary_bytes (with_part (States first) held p) ≡ summary_bytes p
   unfolding summary_bytes with_part
   summary_by_states first = refl
@@ -94,7 +94,7 @@ module _ (held : List ℕ) (p : Persist) where
   unfolding with_part
   entry_by_entry place before apart = ap place_bytes (get_other p.entries.items place before (entry_from held) (λ e. omega (arith, apart, e)))
 
--- a block that is taken leaves the bytes of each block before it
+-- A block that is taken leaves the bytes of each block before it.
 pub bytes_kept : (held : List ℕ) (p : Persist) (now id : ℕ) → 3 ≤ id → id < now → part_bytes (with_part (part_of now) held p) (part_of id) ≡ part_bytes p (part_of id)
 bytes_kept held p now id low before =
     elim (kind_of now (omega (arith, low, before))) [

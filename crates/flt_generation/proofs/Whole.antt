@@ -31,7 +31,7 @@ use Rattle.flt_config.proofs.DistinctLemmas.{position-None}
 use Rattle.flt_generation.specs.Faults.{HoldBelow}
 use Rattle.flt_generation.proofs.Short.{HasSizes, entry_sizes, short_summary, clean_short}
 
--- the parts that were read so far are those of a state, and the others are still those of none
+-- The parts that were read so far are those of a state, and the others are still those of none.
 pub record Agrees (count : ℕ) (q p : Persist) : Type 0 where
   pub summary_same : 0 < count → (q.overflow ≡ p.overflow) × (q.first_failed ≡ p.first_failed) × (q.first_confirmed ≡ p.first_confirmed) × (q.recent_failed ≡ p.recent_failed) × (q.recent_confirmed ≡ p.recent_confirmed)
   pub entries_count : 0 < count → length q.entries.items ≡ length p.entries.items
@@ -191,7 +191,7 @@ module _ (c : Config) (sizes : HasSizes c) (p : Persist) (one_each : length p.ev
         untaken = λ k d some from inside. get_or-set_other q.entries.items place k (entry_from (entry_bytes entry)) d (λ e. omega (arith, e, from, at)) ∙ agrees.untaken k d (omega (arith, at)) (omega (arith, from)) inside;
       }
 
-    -- no entry stands at the place
+    -- No entry stands at the place.
     module _ (past : length p.entries.items ≤ place) where
       past_q : length q.entries.items ≤ place
       past_q = omega (arith, same_count, past)
@@ -299,7 +299,7 @@ module _ (c : Config) (sizes : HasSizes c) (p : Persist) (one_each : length p.ev
       entry_fit place entry found of = subst (λ (o : Option EntryState). place_fits c.events.items p.entries.items place o ≡ true) found (fits_of (Entry place) of)
 
   module _ (value : ℕ → Content) (commit : Commit) (bound : ℕ) (most : bound ≤ 24) (stands : HoldBelow c value commit bound p) where
-    -- the entries have room, once the summary was read
+    -- The entries have room, once the summary was read.
     room : 3 < bound → length p.entries.items ≤ c.memory
     room some = room_of c p (stands.fits 3 refl some)
 
@@ -340,7 +340,7 @@ module _ (c : Config) (sizes : HasSizes c) (p : Persist) (one_each : length p.ev
         let more : count + 1 ≡ suc count = omega arith in
         (given.0, ap (λ (r : Result Persist Fault). r >>= with_named c value commit (3 + count)) before.1 ∙ given.1, subst (λ (n : ℕ). Agrees n given.0 p) more given.2)
 
-  -- a state whose parts were all read
+  -- A state whose parts were all read.
   all_agree : (q : Persist) → length p.entries.items ≤ c.memory → Agrees 21 q p → q ≡ p
   all_agree q room agrees =
       let s = agrees.summary_same (omega arith) in
@@ -359,7 +359,7 @@ module _ (c : Config) (sizes : HasSizes c) (p : Persist) (one_each : length p.ev
         recent_confirmed = s.4 i;
       }
 
--- the blocks of a state that fits are read as that state
+-- The blocks of a state that fits are read as that state.
 pub whole_read : (c : Config) → HasSizes c → (value : ℕ → Content) (commit : Commit) (p : Persist) → Fits c p → BlocksHold c value commit p → parts_read c value commit 21 ≡ Ok p
 whole_read c sizes value commit p fits blocks =
     let stands : HoldBelow c value commit 24 p = record {

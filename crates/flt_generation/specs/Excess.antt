@@ -7,14 +7,14 @@ use Rattle.flt_flash.specs.Blocks.{pages_of, record_pages}
 use Rattle.flt_generation.specs.Layout.{numbers, id_of, index_of, mark_number, first_commit, second_commit, first_application, is_used, part_of}
 use Rattle.flt_generation.specs.Form.{part_length, mark_length, commit_length, application_length}
 
--- a number of a block of this configuration: an index of a used one, or an application block
+-- A number of a block of this configuration: an index of a used one, or an application block.
 abbrev pub is_own_part : Config → ℕ → Bool
 is_own_part c number = is_used c (id_of number) && nat_le (index_of number) 1
 
 abbrev pub is_own_application : Config → ℕ → Bool
 is_own_application c number = (index_of number == 0) && nat_le first_application (id_of number) && nat_lt (id_of number) (first_application + c.blocks)
 
--- the pages of the longest record that this configuration keeps under a number, 0 where it keeps none
+-- The pages of the longest record that this configuration keeps under a number, 0 where it keeps none.
 unfoldable pub own_pages : Config → ℕ → ℕ
 own_pages c number =
     if number == mark_number then record_pages mark_length
@@ -23,10 +23,10 @@ own_pages c number =
     else if is_own_application c number then record_pages application_length
     else 0
 
--- the pages of the records beyond those, over all numbers
+-- The pages of the records beyond those, over all numbers.
 abbrev pub excess : Config → (ℕ → Content) → ℕ
 excess c value = sum_by (λ number. pages_of (value number) - own_pages c number) numbers
 
--- the pages that the configuration leaves bear it
+-- The pages that the configuration leaves bear it.
 abbrev pub IsBorne : Config → (ℕ → Content) → Type 0
 IsBorne c value = excess c value + needed_pages c ≤ c.pages

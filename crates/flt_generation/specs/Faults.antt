@@ -12,13 +12,13 @@ use Rattle.flt_generation.specs.Fit.{part_fits}
 use Rattle.flt_generation.specs.Excess.{IsBorne}
 use Rattle.flt_generation.specs.Holding.{Fault, damaged, other, is_application}
 
--- the mark is missing beside a commit, invalid, or of bytes that are no mark
+-- The mark is missing beside a commit, invalid, or of bytes that are no mark.
 pub data IsMarkDamaged (mark commit : Content) : Type 0 where
   mark_missing : mark ≡ missing → commit ≢ missing → IsMarkDamaged mark commit
   mark_invalid : mark ≡ invalid → IsMarkDamaged mark commit
   no_mark : (held : List ℕ) → mark ≡ bytes held → ((form : Mark) → IsMark form → IsBytesOfMark form held → ⊥) → IsMarkDamaged mark commit
 
--- the mark is this one, and not the configuration's
+-- The mark is this one, and not the configuration's.
 pub record IsOthers (c : Config) (mark : Content) (found : Mark) : Type 0 where
   pub held : List ℕ
   pub is : mark ≡ bytes held
@@ -26,18 +26,18 @@ pub record IsOthers (c : Config) (mark : Content) (found : Mark) : Type 0 where
   pub reads : IsBytesOfMark found held
   pub differs : found ≢ mark_of c
 
--- the commit is invalid, or of bytes that are no commit of the configuration
+-- The commit is invalid, or of bytes that are no commit of the configuration.
 pub data IsCommitDamaged (c : Config) (commit : Content) : Type 0 where
   commit_invalid : commit ≡ invalid → IsCommitDamaged c commit
   no_commit : (held : List ℕ) → commit ≡ bytes held → ((form : Commit) → IsCommit c form → IsBytesOfCommit form held → ⊥) → IsCommitDamaged c commit
 
--- the used blocks below an identifier, each at the index at which the commit names it, hold the parts of this state, which fit
+-- The used blocks below an identifier, each at the index at which the commit names it, hold the parts of this state, which fit.
 pub record HoldBelow (c : Config) (value : ℕ → Content) (commit : Commit) (bound : ℕ) (state : Persist) : Type 0 where
   pub one_each : length state.events.items ≡ length c.events.items
   pub blocks : (id : ℕ) → IsTrue (is_used c id) → id < bound → value (number_of id (index_in commit id)) ≡ bytes (block_bytes state id)
   pub fits : (id : ℕ) → IsTrue (is_used c id) → id < bound → IsTrue (part_fits c state (part_of id))
 
--- there is a commit, and the blocks up to this used one hold the parts of no state
+-- There is a commit, and the blocks up to this used one hold the parts of no state.
 pub record IsPartDamaged (c : Config) (value : ℕ → Content) (commit : Content) (id : ℕ) : Type 0 where
   pub held : List ℕ
   pub is : commit ≡ bytes held
@@ -47,14 +47,14 @@ pub record IsPartDamaged (c : Config) (value : ℕ → Content) (commit : Conten
   pub used : IsTrue (is_used c id)
   pub none : (state : Persist) → HoldBelow c value named (id + 1) state → ⊥
 
--- this application block is invalid, or longer than such a block
+-- This application block is invalid, or longer than such a block.
 pub record IsApplicationDamaged (value : ℕ → Content) (id : ℕ) : Type 0 where
   pub block : ℕ
   pub at : id ≡ first_application + block
   pub within : block < applications
   pub damaged_there : IsFalse (is_application (value (application_number block)))
 
--- what may be told of an image with this commit: a fault of it
+-- What may be told of an image with this commit: a fault of it.
 abbrev pub HasFault : Config → (ℕ → Content) → Content → Fault → Type 0
 HasFault c value commit (other mark) = IsOthers c (value mark_number) mark
 HasFault c value commit (damaged (Page sector page)) = ⊥
@@ -65,15 +65,15 @@ HasFault c value commit (damaged (Block id)) =
     ⊎ IsApplicationDamaged value id
     ⊎ ((id ≡ 0) × (IsBorne c value → ⊥))
 
--- the place of a fault in the order of judging: the pages, then the blocks by their identifiers, another configuration's mark behind the
--- block of the mark, and the excess, which is told at 0, behind all others
+-- The place of a fault in the order of judging: the pages, then the blocks by their identifiers, another configuration's mark behind the
+-- block of the mark, and the excess, which is told at 0, behind all others.
 abbrev pub judging_order : Fault → ℕ
 judging_order (damaged (Page sector page)) = 0
 judging_order (damaged (Block zero)) = 2 * (first_application + applications)
 judging_order (damaged (Block (suc before))) = 2 * (before + 1)
 judging_order (other mark) = 2 * mark_id + 1
 
--- an image has this fault, and none that is judged before it
+-- An image has this fault, and none that is judged before it.
 pub record HasFirstFault (c : Config) (value : ℕ → Content) (commit : Content) (fault : Fault) : Type 0 where
   pub is : HasFault c value commit fault
   pub first : (earlier : Fault) → judging_order earlier < judging_order fault → HasFault c value commit earlier → ⊥

@@ -11,57 +11,57 @@ use Rattle.flt_config.specs.Ranges.{frame_width}
 use Rattle.flt_generation.specs.declared.part.Part.{Part}
 use Rattle.flt_generation.specs.declared.part.Part.TheVariants.{Summary, States, Entry}
 
--- a bit of the status byte, by its worth
+-- A bit of the status byte, by its worth.
 abbrev pub has_bit : ℕ → ℕ → Bool
 has_bit status worth = not (bit_and status worth == 0)
 
--- the counts are in range; bit 7 is set exactly while the event is lit and not healed; it is lit with bit 3 and an indicator
+-- The counts are in range; bit 7 is set exactly while the event is lit and not healed; it is lit with bit 3 and an indicator.
 unfoldable pub state_fits : EventCfg → EventState → Bool
 state_fits event state =
     nat_le state.status 255 && nat_le state.failed 255 && nat_le state.clean 510
     && (if state.lit && nat_lt state.clean event.heal then has_bit state.status 128 else not (has_bit state.status 128))
     && (if state.lit then has_bit state.status 8 && event.indicator else true)
 
--- the state of an event, if there is such an event
+-- The state of an event, if there is such an event.
 abbrev pub state_fits_at : Option EventCfg → EventState → Bool
 state_fits_at None state = true
 state_fits_at (Some event) state = state_fits event state
 
--- the states of so many events from this one on
+-- The states of so many events from this one on.
 unfoldable pub states_fit : List EventCfg → List EventState → ℕ → ℕ → Bool
 states_fit events states first count =
     list_all (λ place. state_fits_at (slice_get events (first + place)) (slice_index_or states (first + place) start_state)) (range_with_len 0 count)
 
--- the entry occurred, and both frames have the width of the event
+-- The entry occurred, and both frames have the width of the event.
 abbrev pub entry_fits_at : Option EventCfg → EntryState → Bool
 entry_fits_at None entry = false
 entry_fits_at (Some event) entry =
     nat_le 1 entry.occurrence && nat_le entry.occurrence 255
     && (length entry.first.items == frame_width event.dids.items) && (length entry.recent.items == frame_width event.dids.items)
 
--- no other entry is of this event
+-- No other entry is of this event.
 abbrev pub is_alone : List EntryState → ℕ → ℕ → Bool
 is_alone entries place event =
     is_none (position (is_of_event event) (take place entries)) && is_none (position (is_of_event event) (drop (place + 1) entries))
 
--- the entry at a place, if there is one, fits beside the others
+-- The entry at a place, if there is one, fits beside the others.
 abbrev pub place_fits : List EventCfg → List EntryState → ℕ → Option EntryState → Bool
 place_fits events entries place None = true
 place_fits events entries place (Some entry) = entry_fits_at (slice_get events entry.event) entry && is_alone entries place entry.event
 
--- a noted event, if there is one, is configured
+-- A noted event, if there is one, is configured.
 abbrev pub note_fits : List EventCfg → Option ℕ → Bool
 note_fits events None = true
 note_fits events (Some event) = nat_lt event (length events)
 
--- the entries are within the memory, and the noted events are configured
+-- The entries are within the memory, and the noted events are configured.
 abbrev pub summary_fits : Config → Persist → Bool
 summary_fits c p =
     nat_le (length p.entries.items) c.memory
     && note_fits c.events.items p.first_failed && note_fits c.events.items p.first_confirmed
     && note_fits c.events.items p.recent_failed && note_fits c.events.items p.recent_confirmed
 
--- a part of a state fits a configuration beside what the state holds else
+-- A part of a state fits a configuration beside what the state holds else.
 abbrev pub part_fits : Config → Persist → Part → Bool
 part_fits c p Summary = summary_fits c p
 part_fits c p (States first) = states_fit c.events.items p.events.items first 16

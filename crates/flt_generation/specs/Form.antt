@@ -19,45 +19,45 @@ be16 = to_be_bytes w16
 abbrev pub be32 : ℕ → List ℕ
 be32 = to_be_bytes w32
 
--- the mark of a configuration
+-- The mark of a configuration.
 abbrev pub mark_of : Config → Mark
 mark_of c = record { id = c.id; events = length c.events.items; entries = c.memory }
 
--- the numbers are within their fields
+-- The numbers are within their fields.
 pub record IsMark (mark : Mark) : Type 0 where
   pub id : mark.id < 2 ^ 16
   pub events : mark.events < 2 ^ 16
   pub entries : mark.entries < 2 ^ 8
 
--- version 1, the configuration, its events, its entries, 00 00
+-- Version 1, the configuration, its events, its entries, 00 00.
 unfoldable pub mark_bytes : Mark → List ℕ
 mark_bytes mark = 1 ∷ be16 mark.id ++ be16 mark.events ++ mark.entries ∷ 0 ∷ 0 ∷ []
 
--- an index of 0 or 1 for a used block, and FF for another
+-- An index of 0 or 1 for a used block, and FF for another.
 pub record IsBlockIndex (c : Config) (id index : ℕ) : Type 0 where
   pub used : IsTrue (is_used c id) → index ≤ 1
   pub unused : IsFalse (is_used c id) → index ≡ 0xFF
 
--- a commit of this configuration
+-- A commit of this configuration.
 pub record IsCommit (c : Config) (commit : Commit) : Type 0 where
   pub least : 1 ≤ commit.generation
   pub most : commit.generation < 2 ^ 32
   pub size : length commit.index ≡ parts
   pub indices : (id : ℕ) → first_part ≤ id → id < end_part → IsBlockIndex c id (index_in commit id)
 
--- version 1, the number of the generation, the index of each block
+-- Version 1, the number of the generation, the index of each block.
 unfoldable pub commit_bytes : Commit → List ℕ
 commit_bytes commit = 1 ∷ be32 commit.generation ++ commit.index
 
--- these are bytes of this commit, in a version that is read
+-- These are bytes of this commit, in a version that is read.
 abbrev pub IsBytesOfCommit : Commit → List ℕ → Type 0
 IsBytesOfCommit commit held = held ≡ commit_bytes commit
 
--- these are bytes of this mark, in a version that is read
+-- These are bytes of this mark, in a version that is read.
 abbrev pub IsBytesOfMark : Mark → List ℕ → Type 0
 IsBytesOfMark mark held = held ≡ mark_bytes mark
 
--- a noted event, or FFFF for none
+-- A noted event, or FFFF for none.
 abbrev pub note_word : Option ℕ → ℕ
 note_word None = 0xFFFF
 note_word (Some event) = event
@@ -65,60 +65,60 @@ note_word (Some event) = event
 abbrev pub note_bytes : Option ℕ → List ℕ
 note_bytes note = be16 (note_word note)
 
--- 01 for true, 00 for false
+-- 01 for true, 00 for false.
 abbrev pub flag : Bool → ℕ
 flag true = 1
 flag false = 0
 
--- version 1, the overflow flag, the number of entries, 00, the noted events, 20 bytes 00
+-- Version 1, the overflow flag, the number of entries, 00, the noted events, 20 bytes 00.
 unfoldable pub summary_bytes : Persist → List ℕ
 summary_bytes p =
     1 ∷ flag p.overflow ∷ length p.entries.items ∷ 0
     ∷ note_bytes p.first_failed ++ note_bytes p.first_confirmed ++ note_bytes p.recent_failed ++ note_bytes p.recent_confirmed
     ++ replicate 20 0
 
--- the status, the failed count, the clean count with its top bit set where the event is lit
+-- The status, the failed count, the clean count with its top bit set where the event is lit.
 unfoldable pub state_bytes : EventState → List ℕ
 state_bytes state = state.status ∷ state.failed ∷ be16 (state.clean + 0x8000 * flag state.lit)
 
--- the states of so many events from this one on, those past the last in their start state
+-- The states of so many events from this one on, those past the last in their start state.
 unfoldable pub first_states : List EventState → ℕ → ℕ → List ℕ
 first_states states first count =
     concat (map (λ place. state_bytes (slice_index_or states (first + place) start_state)) (range_with_len 0 count))
 
--- those of one block
+-- Those of one block.
 abbrev pub states_bytes : List EventState → ℕ → List ℕ
 states_bytes states first = first_states states first states_per_block
 
--- a frame, filled up with 00 to 32 bytes
+-- A frame, filled up with 00 to 32 bytes.
 abbrev pub padded : List ℕ → List ℕ
 padded frame = frame ++ replicate (32 - length frame) 0
 
--- the event, the occurrence, the length of its frames, the first frame, the recent one
+-- The event, the occurrence, the length of its frames, the first frame, the recent one.
 unfoldable pub entry_bytes : EntryState → List ℕ
 entry_bytes entry =
     be16 entry.event ++ entry.occurrence ∷ length entry.first.items ∷ padded entry.first.items ++ padded entry.recent.items
 
--- FF FF and 66 bytes 00
+-- FF FF and 66 bytes 00.
 unfoldable pub no_entry_bytes : List ℕ
 no_entry_bytes = 0xFF ∷ 0xFF ∷ replicate 66 0
 
--- the entry at a place, if there is one
+-- The entry at a place, if there is one.
 abbrev pub place_bytes : Option EntryState → List ℕ
 place_bytes None = no_entry_bytes
 place_bytes (Some entry) = entry_bytes entry
 
--- the bytes of a part of a state
+-- The bytes of a part of a state.
 abbrev pub part_bytes : Persist → Part → List ℕ
 part_bytes p Summary = summary_bytes p
 part_bytes p (States first) = states_bytes p.events.items first
 part_bytes p (Entry place) = place_bytes (slice_get p.entries.items place)
 
--- the bytes of a used block of a state
+-- The bytes of a used block of a state.
 abbrev pub block_bytes : Persist → ℕ → List ℕ
 block_bytes p id = part_bytes p (part_of id)
 
--- how many bytes the mark, a commit, the summary, a block of states and an entry have, and how many an application block may have
+-- How many bytes the mark, a commit, the summary, a block of states and an entry have, and how many an application block may have.
 abbrev pub mark_length : ℕ
 mark_length = 8
 
@@ -137,7 +137,7 @@ entry_length = 68
 abbrev pub application_length : ℕ
 application_length = 32
 
--- how many bytes a part has
+-- How many bytes a part has.
 abbrev pub part_length : Part → ℕ
 part_length Summary = summary_length
 part_length (States first) = states_length

@@ -15,19 +15,19 @@ use Rattle.flt_generation.specs.Form.{mark_of, application_length, block_bytes, 
 use Rattle.flt_generation.specs.Reading.{mark_in, commit_in, taken}
 use Rattle.flt_generation.specs.Excess.{excess, IsBorne}
 
--- a saved state and its number
+-- A saved state and its number.
 pub record Generation : Type 0 where
   pub number : ℕ
   pub state : Persist
 
--- the number of the last generation: no other follows it
+-- The number of the last generation: no other follows it.
 abbrev pub last_number : ℕ
 last_number = 2 ^ 32 - 1
 
 abbrev pub first_generation : Config → Generation
 first_generation c = record { number = 0; state = initial_state c }
 
--- why an image holds no generation of a configuration: it is damaged at a place, or another configuration's
+-- Why an image holds no generation of a configuration: it is damaged at a place, or another configuration's.
 pub data Fault : Type 0 where
   damaged : Place → Fault
   other : Mark → Fault
@@ -35,22 +35,22 @@ pub data Fault : Type 0 where
 abbrev pub damaged_at : {A : Type 0} → ℕ → Result A Fault
 damaged_at id = Err (damaged (Block id))
 
--- what follows where a step has no fault
+-- What follows where a step has no fault.
 infixl 10 ◌>>=◌
 abbrev pub ◌>>=◌ : {A B : Type 0} → Result A Fault → (A → Result B Fault) → Result B Fault
 Ok value >>= next = next value
 Err fault >>= next = Err fault
 
--- two marks are the same
+-- Two marks are the same.
 abbrev pub is_same_mark : Mark → Mark → Bool
 is_same_mark first second = (first.id == second.id) && (first.events == second.events) && (first.entries == second.entries)
 
--- what was read as a mark is that of the configuration
+-- What was read as a mark is that of the configuration.
 abbrev pub judged_mark : Config → Option Mark → Result (Unit {0}) Fault
 judged_mark c None = damaged_at mark_id
 judged_mark c (Some mark) = if is_same_mark mark (mark_of c) then Ok tt else Err (other mark)
 
--- the mark is the configuration's; it may be missing where the commit is
+-- The mark is the configuration's; it may be missing where the commit is.
 unfoldable pub marked : Config → Content → Content → Result (Unit {0}) Fault
 marked c missing missing = Ok tt
 marked c missing invalid = damaged_at mark_id
@@ -58,45 +58,45 @@ marked c missing (bytes held) = damaged_at mark_id
 marked c invalid commit = damaged_at mark_id
 marked c (bytes held) commit = judged_mark c (mark_in held)
 
--- a state, or the fault of the block that did not give one
+-- A state, or the fault of the block that did not give one.
 abbrev pub or_damaged : ℕ → Option Persist → Result Persist Fault
 or_damaged id None = damaged_at id
 or_damaged id (Some p) = Ok p
 
--- the state with the part in a block's content
+-- The state with the part in a block's content.
 abbrev pub with_content : Config → ℕ → Content → Persist → Result Persist Fault
 with_content c id missing p = damaged_at id
 with_content c id invalid p = damaged_at id
 with_content c id (bytes held) p = or_damaged id (taken c (part_of id) held p)
 
--- the state with the part in the block that the commit names, where it is used
+-- The state with the part in the block that the commit names, where it is used.
 abbrev pub with_named : Config → (ℕ → Content) → Commit → ℕ → Persist → Result Persist Fault
 with_named c value commit id p = if is_used c id then with_content c id (value (number_of id (index_in commit id))) p else Ok p
 
--- the first state with the parts in the first blocks that the commit names, so many of them in ascending order
+-- The first state with the parts in the first blocks that the commit names, so many of them in ascending order.
 unfoldable pub parts_read : Config → (ℕ → Content) → Commit → ℕ → Result Persist Fault
 parts_read c value commit zero = Ok (initial_state c)
 parts_read c value commit (suc count) = parts_read c value commit count >>= with_named c value commit (first_part + count)
 
--- the generation of a commit and of the state in its blocks
+-- The generation of a commit and of the state in its blocks.
 abbrev pub generation_of : Config → (ℕ → Content) → Option Commit → Result Generation Fault
 generation_of c value None = damaged_at commit_id
 generation_of c value (Some commit) =
     parts_read c value commit parts >>= (λ state. Ok (record { number = commit.generation; state = state }))
 
--- the generation that the content of a commit copy names; none names the first
+-- The generation that the content of a commit copy names; none names the first.
 unfoldable pub named : Config → (ℕ → Content) → Content → Result Generation Fault
 named c value missing = Ok (first_generation c)
 named c value invalid = damaged_at commit_id
 named c value (bytes held) = generation_of c value (commit_in c held)
 
--- an application block has no more bytes than one may have, or was never written
+-- An application block has no more bytes than one may have, or was never written.
 abbrev pub is_application : Content → Bool
 is_application missing = true
 is_application invalid = false
 is_application (bytes held) = nat_le (length held) application_length
 
--- the first application block that is at fault
+-- The first application block that is at fault.
 abbrev pub application_fault : Option ℕ → Result (Unit {0}) Fault
 application_fault None = Ok tt
 application_fault (Some block) = damaged_at (first_application + block)
@@ -104,17 +104,17 @@ application_fault (Some block) = damaged_at (first_application + block)
 unfoldable pub applications_judged : (ℕ → Content) → Result (Unit {0}) Fault
 applications_judged value = application_fault (find (λ block. not (is_application (value (application_number block)))) (range_with_len 0 applications))
 
--- the excess is borne
+-- The excess is borne.
 unfoldable pub excess_judged : Config → (ℕ → Content) → Result (Unit {0}) Fault
 excess_judged c value = if nat_le (excess c value + needed_pages c) c.pages then Ok tt else damaged_at 0
 
--- what an image holds by a commit: the mark, the blocks that the commit names, the application blocks and the excess are judged, in this order
+-- What an image holds by a commit: the mark, the blocks that the commit names, the application blocks and the excess are judged, in this order.
 unfoldable pub held_by : Config → (ℕ → Content) → Content → Result Generation Fault
 held_by c value commit =
     marked c (value mark_number) commit >>= (λ _. named c value commit
     >>= (λ g. applications_judged value >>= (λ _. excess_judged c value >>= (λ _. Ok g))))
 
--- the first copy where it has bytes, else the second where that has bytes, else the first
+-- The first copy where it has bytes, else the second where that has bytes, else the first.
 abbrev pub either_copy : Content → Content → Content
 either_copy (bytes held) second = bytes held
 either_copy missing (bytes held) = bytes held
@@ -124,59 +124,59 @@ either_copy invalid (bytes held) = bytes held
 either_copy invalid missing = invalid
 either_copy invalid invalid = invalid
 
--- a copy that has no bytes is none
+-- A copy that has no bytes is none.
 abbrev pub only_bytes : Content → Content
 only_bytes (bytes held) = bytes held
 only_bytes missing = missing
 only_bytes invalid = missing
 
--- what an image holds
+-- What an image holds.
 abbrev pub held : Config → (ℕ → Content) → Result Generation Fault
 held c value = held_by c value (either_copy (value first_commit) (value second_commit))
 
--- what it holds where the first copy of the commit can't be read
+-- What it holds where the first copy of the commit can't be read.
 abbrev pub spare : Config → (ℕ → Content) → Result Generation Fault
 spare c value = held_by c value (only_bytes (value second_commit))
 
--- the mark is the configuration's; where there is no commit, it may be missing
+-- The mark is the configuration's; where there is no commit, it may be missing.
 abbrev pub MarkAllows : Config → Content → Content → Type 0
 MarkAllows c missing commit = commit ≡ missing
 MarkAllows c invalid commit = ⊥
 MarkAllows c (bytes held) commit = IsBytesOfMark (mark_of c) held
 
--- the used blocks, each at the index at which the commit names it, hold this state
+-- The used blocks, each at the index at which the commit names it, hold this state.
 abbrev pub BlocksHold : Config → (ℕ → Content) → Commit → Persist → Type 0
 BlocksHold c value commit state = (id : ℕ) → IsTrue (is_used c id) → value (number_of id (index_in commit id)) ≡ bytes (block_bytes state id)
 
--- the commit names this generation, which stands in the blocks
+-- The commit names this generation, which stands in the blocks.
 pub record CommitNames (c : Config) (value : ℕ → Content) (commit : Commit) (g : Generation) : Type 0 where
   pub form : IsCommit c commit
   pub number : commit.generation ≡ g.number
   pub blocks : BlocksHold c value commit g.state
   pub fits : Fits c g.state
 
--- the content of a commit copy names this generation; none names the first
+-- The content of a commit copy names this generation; none names the first.
 abbrev pub Names : Config → (ℕ → Content) → Content → Generation → Type 0
 Names c value missing g = g ≡ first_generation c
 Names c value invalid g = ⊥
 Names c value (bytes held) g = (commit : Commit) × IsBytesOfCommit commit held × CommitNames c value commit g
 
--- what an image holds by a commit, without reading a byte: what stands where
+-- What an image holds by a commit, without reading a byte: what stands where.
 pub record Holds (c : Config) (value : ℕ → Content) (commit : Content) (g : Generation) : Type 0 where
   pub mark : MarkAllows c (value mark_number) commit
   pub names : Names c value commit g
   pub applications : (block : ℕ) → block < applications → IsTrue (is_application (value (application_number block)))
   pub excess : IsBorne c value
 
--- the generation that the image holds
+-- The generation that the image holds.
 abbrev pub IsHeld : Config → (ℕ → Content) → Generation → Type 0
 IsHeld c value g = Holds c value (either_copy (value first_commit) (value second_commit)) g
 
--- the generation that it holds where the first copy can't be read
+-- The generation that it holds where the first copy can't be read.
 abbrev pub IsSpare : Config → (ℕ → Content) → Generation → Type 0
 IsSpare c value g = Holds c value (only_bytes (value second_commit)) g
 
--- the two are one generation or follow each other
+-- The two are one generation or follow each other.
 pub record IsSound (c : Config) (value : ℕ → Content) (held spare : Generation) : Type 0 where
   pub holds : IsHeld c value held
   pub spares : IsSpare c value spare
@@ -184,11 +184,11 @@ pub record IsSound (c : Config) (value : ℕ → Content) (held spare : Generati
   pub step : held.number ≤ spare.number + 1
   pub same : held.number ≡ spare.number → held.state ≡ spare.state
 
--- one of the old two or a new one
+-- One of the old two or a new one.
 abbrev pub IsOneOf : Generation → Generation → Generation → Generation → Type 0
 IsOneOf g held spare new = (g ≡ held) ⊎ (g ≡ spare) ⊎ (g ≡ new)
 
--- what a save that failed leaves of an image that was sound
+-- What a save that failed leaves of an image that was sound.
 pub record OldOrNew (c : Config) (value : ℕ → Content) (old_held old_spare new : Generation) : Type 0 where
   pub held : Generation
   pub spare : Generation
@@ -197,6 +197,6 @@ pub record OldOrNew (c : Config) (value : ℕ → Content) (old_held old_spare n
   pub spare_is : IsOneOf spare old_held old_spare new
   pub rises : old_spare.number ≤ spare.number
 
--- every application block holds what it held
+-- Every application block holds what it held.
 abbrev pub SameApplications : (ℕ → Content) → (ℕ → Content) → Type 0
 SameApplications before after = (block : ℕ) → block < applications → after (application_number block) ≡ before (application_number block)

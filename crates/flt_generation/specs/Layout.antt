@@ -6,7 +6,7 @@ use Rattle.flt_generation.specs.declared.commit.Commit.{Commit}
 use Rattle.flt_generation.specs.declared.part.Part.{Part}
 use Rattle.flt_generation.specs.declared.part.Part.TheVariants.{Summary, States, Entry}
 
--- the identifiers: the mark, the commit, then the parts of a generation from the first up to the end, and the application blocks
+-- The identifiers: the mark, the commit, then the parts of a generation from the first up to the end, and the application blocks.
 abbrev pub mark_id : ℕ
 mark_id = 1
 
@@ -22,7 +22,7 @@ parts = 21
 abbrev pub end_part : ℕ
 end_part = first_part + parts
 
--- among the parts: the summary, then the blocks of states, and the entries
+-- Among the parts: the summary, then the blocks of states, and the entries.
 abbrev pub summary_id : ℕ
 summary_id = 3
 
@@ -38,7 +38,7 @@ first_entry_id = 8
 abbrev pub entries : ℕ
 entries = 16
 
--- how many events have their states in one block
+-- How many events have their states in one block.
 abbrev pub states_per_block : ℕ
 states_per_block = 16
 
@@ -48,15 +48,15 @@ first_application = 64
 abbrev pub applications : ℕ
 applications = 40
 
--- how many of the driver's numbers belong to a block
+-- How many of the driver's numbers belong to a block.
 abbrev pub numbers_per_block : ℕ
 numbers_per_block = 8
 
--- the driver's number of a block's copy or index
+-- The driver's number of a block's copy or index.
 abbrev pub number_of : ℕ → ℕ → ℕ
 number_of id index = id * numbers_per_block + index
 
--- the block and the index of a number
+-- The block and the index of a number.
 abbrev pub id_of : ℕ → ℕ
 id_of number = number / numbers_per_block
 
@@ -75,38 +75,38 @@ second_commit = number_of commit_id 1
 abbrev pub application_number : ℕ → ℕ
 application_number block = number_of (first_application + block) 0
 
--- the two indices of a part
+-- The two indices of a part.
 abbrev pub both_indices : ℕ → List ℕ
 both_indices id = number_of id 0 ∷ number_of id 1 ∷ []
 
--- all numbers of the driver, in ascending order
+-- All numbers of the driver, in ascending order.
 unfoldable pub numbers : List ℕ
 numbers =
     (mark_number ∷ first_commit ∷ second_commit ∷ [])
     ++ flat_map both_indices (range_with_len first_part parts)
     ++ map application_number (range_with_len 0 applications)
 
--- the part that a block holds: the summary, the states of some events, an entry
+-- The part that a block holds: the summary, the states of some events, an entry.
 abbrev pub part_of : ℕ → Part
 part_of id =
     if id == summary_id then Summary
     else if nat_lt id first_entry_id then States (states_per_block * (id - first_states_id))
     else Entry (id - first_entry_id)
 
--- a part that each generation of this configuration has
+-- A part that each generation of this configuration has.
 abbrev pub has_part : Config → Part → Bool
 has_part c Summary = true
 has_part c (States first) = nat_lt first (length c.events.items)
 has_part c (Entry place) = nat_lt place c.memory
 
--- a block that each generation of this configuration has
+-- A block that each generation of this configuration has.
 abbrev pub is_used : Config → ℕ → Bool
 is_used c id = nat_le first_part id && nat_lt id end_part && has_part c (part_of id)
 
--- those blocks, in ascending order
+-- Those blocks, in ascending order.
 unfoldable pub used_ids : Config → List ℕ
 used_ids c = filter (is_used c) (range_with_len first_part parts)
 
--- the index at which a commit names a block
+-- The index at which a commit names a block.
 abbrev pub index_in : Commit → ℕ → ℕ
 index_in commit id = slice_index commit.index (id - first_part)

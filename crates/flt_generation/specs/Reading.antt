@@ -14,45 +14,45 @@ use Rattle.flt_generation.specs.Layout.{first_part, parts, is_used, index_in}
 use Rattle.flt_generation.specs.Form.{mark_bytes, commit_bytes, part_bytes}
 use Rattle.flt_generation.specs.Fit.{part_fits}
 
--- the number in two bytes
+-- The number in two bytes.
 abbrev pub word_at : List ℕ → ℕ → ℕ
 word_at held at = from_be_bytes w16 (slice_index held at ∷ slice_index held (at + 1) ∷ [])
 
--- the mark whose numbers stand in these bytes
+-- The mark whose numbers stand in these bytes.
 unfoldable pub mark_from : List ℕ → Mark
 mark_from held = record { id = word_at held 1; events = word_at held 3; entries = slice_index held 5 }
 
--- the mark of which these are the bytes, if they are those of one
+-- The mark of which these are the bytes, if they are those of one.
 unfoldable pub mark_in : List ℕ → Option Mark
 mark_in held = if bytes_eq held (mark_bytes (mark_from held)) && nat_lt (mark_from held).entries 256 then Some (mark_from held) else None
 
--- the commit whose numbers stand in these bytes
+-- The commit whose numbers stand in these bytes.
 unfoldable pub commit_from : List ℕ → Commit
 commit_from held = record { generation = from_be_bytes w32 (slice_range held 1 5); index = drop 5 held }
 
--- 0 or 1 for a used block, FF for another
+-- 0 or 1 for a used block, FF for another.
 abbrev pub is_index : Config → ℕ → ℕ → Bool
 is_index c id index = if is_used c id then nat_le index 1 else index == 0xFF
 
--- a commit of this configuration, as a test
+-- A commit of this configuration, as a test.
 unfoldable pub is_commit : Config → Commit → Bool
 is_commit c commit =
     nat_le 1 commit.generation && (length commit.index == parts)
     && list_all (λ id. is_index c id (index_in commit id)) (range_with_len first_part parts)
 
--- the commit of this configuration of which these are the bytes, if they are those of one
+-- The commit of this configuration of which these are the bytes, if they are those of one.
 unfoldable pub commit_in : Config → List ℕ → Option Commit
 commit_in c held = if bytes_eq held (commit_bytes (commit_from held)) && is_commit c (commit_from held) then Some (commit_from held) else None
 
--- the noted event in two bytes
+-- The noted event in two bytes.
 abbrev pub note_at : List ℕ → ℕ → Option ℕ
 note_at held at = if word_at held at == 0xFFFF then None else Some (word_at held at)
 
--- an entry whose own block was not taken yet
+-- An entry whose own block was not taken yet.
 abbrev pub untaken_entry : EntryState
 untaken_entry = record { event = 0xFFFF; occurrence = 0; first = record { items = [] }; recent = record { items = [] } }
 
--- a state with the summary in these bytes; its entries are taken later
+-- A state with the summary in these bytes; its entries are taken later.
 unfoldable pub with_summary : List ℕ → Persist → Persist
 with_summary held p =
     record p {
@@ -64,7 +64,7 @@ with_summary held p =
       recent_confirmed = note_at held 10;
     }
 
--- the state of the event at this place of a block
+-- The state of the event at this place of a block.
 unfoldable pub state_from : List ℕ → ℕ → EventState
 state_from held place =
     record {
@@ -74,16 +74,16 @@ state_from held place =
       lit = nat_le 0x8000 (word_at held (4 * place + 2));
     }
 
--- the states with those of so many events from this one on as in these bytes
+-- The states with those of so many events from this one on as in these bytes.
 unfoldable pub with_states : List ℕ → ℕ → ℕ → List EventState → List EventState
 with_states held first zero states = states
 with_states held first (suc count) states = slice_set (with_states held first count states) (first + count) (state_from held count)
 
--- the frame of so many bytes from this byte on
+-- The frame of so many bytes from this byte on.
 abbrev pub frame_at : List ℕ → ℕ → List ℕ
 frame_at held at = take (min (slice_index held 3) 32) (drop at held)
 
--- the entry in these bytes
+-- The entry in these bytes.
 unfoldable pub entry_from : List ℕ → EntryState
 entry_from held =
     record {
@@ -93,16 +93,16 @@ entry_from held =
       recent = record { items = frame_at held 36 };
     }
 
--- a state with a part as in these bytes; an entry past the number of entries has no place
+-- A state with a part as in these bytes; an entry past the number of entries has no place.
 unfoldable pub with_part : Part → List ℕ → Persist → Persist
 with_part Summary held p = with_summary held p
 with_part (States first) held p = record p { events = record { items = with_states held first 16 p.events.items } }
 with_part (Entry place) held p = record p { entries = record { items = slice_set p.entries.items place (entry_from held) } }
 
--- a state, where a part of it has these bytes and fits beside the rest
+-- A state, where a part of it has these bytes and fits beside the rest.
 unfoldable pub if_holds : Config → Part → List ℕ → Persist → Option Persist
 if_holds c part held p = if bytes_eq held (part_bytes p part) && part_fits c p part then Some p else None
 
--- the state with a part taken from these bytes, exactly where they are the bytes of such a part and it fits
+-- The state with a part taken from these bytes, exactly where they are the bytes of such a part and it fits.
 abbrev pub taken : Config → Part → List ℕ → Persist → Option Persist
 taken c part held p = if_holds c part held (with_part part held p)

@@ -9,78 +9,78 @@ use Rattle.flt_generation.specs.declared.commit.Commit.{Commit}
 use Rattle.flt_generation.specs.Layout.{first_part, end_part, parts, number_of, is_used, index_in}
 use Rattle.flt_generation.specs.Form.{commit_bytes, block_bytes, IsBytesOfCommit}
 
--- what is written as a commit; none before the first save
+-- What is written as a commit; none before the first save.
 abbrev pub commit_content : Option Commit → Content
 commit_content None = missing
 commit_content (Some commit) = bytes (commit_bytes commit)
 
--- a commit copy has bytes of this commit, in a version that is read; none is written before the first save
+-- A commit copy has bytes of this commit, in a version that is read; none is written before the first save.
 abbrev pub IsContentOf : Option Commit → Content → Type 0
 IsContentOf None content = content ≡ missing
 IsContentOf (Some commit) content = (held : List ℕ) × (content ≡ bytes held) × IsBytesOfCommit commit held
 
--- the number of the generation that a commit names; none names the first, of number 0
+-- The number of the generation that a commit names; none names the first, of number 0.
 abbrev pub number_in : Option Commit → ℕ
 number_in None = 0
 number_in (Some commit) = commit.generation
 
--- where the next commit names a used block: at 0 where there was no commit; else at the index where it stands, where its bytes stayed,
--- and at the other one, where they changed
+-- Where the next commit names a used block: at 0 where there was no commit; else at the index where it stands, where its bytes stayed,
+-- and at the other one, where they changed.
 abbrev pub IsPlaced : Option Commit → List ℕ → List ℕ → ℕ → ℕ → Type 0
 IsPlaced None before after id index = index ≡ 0
 IsPlaced (Some commit) before after id index =
     ((before ≡ after) × (index ≡ index_in commit id)) ⊎ ((before ≢ after) × (index ≤ 1) × (index_in commit id ≢ index))
 
--- what the next commit has for a block, by its bytes before and after: its place, or FF for one that is not used
+-- What the next commit has for a block, by its bytes before and after: its place, or FF for one that is not used.
 pub record IsNextIndex (c : Config) (current : Option Commit) (before after : List ℕ) (id index : ℕ) : Type 0 where
   pub used : IsTrue (is_used c id) → IsPlaced current before after id index
   pub unused : IsFalse (is_used c id) → index ≡ 0xFF
 
--- the next commit has the next number, and such an index for each block; the bytes of the two generations are told by identifier
+-- The next commit has the next number, and such an index for each block; the bytes of the two generations are told by identifier.
 pub record IsNext (c : Config) (current : Option Commit) (before after : ℕ → List ℕ) (next : Commit) : Type 0 where
   pub number : next.generation ≡ number_in current + 1
   pub size : length next.index ≡ parts
   pub blocks : (id : ℕ) → first_part ≤ id → id < end_part → IsNextIndex c current (before id) (after id) id (index_in next id)
 
--- the next commit names the block at another index than this one, or there is none before: it is written
+-- The next commit names the block at another index than this one, or there is none before: it is written.
 abbrev pub is_moved : Option Commit → Commit → ℕ → Bool
 is_moved None next id = true
 is_moved (Some commit) next id = not (index_in commit id == index_in next id)
 
--- the blocks that are written
+-- The blocks that are written.
 abbrev pub is_written : Config → Option Commit → Commit → ℕ → Bool
 is_written c current next id = is_used c id && is_moved current next id
 
--- what is written is at index 0 or 1
+-- What is written is at index 0 or 1.
 abbrev pub WritesWithin : Config → Option Commit → Commit → Type 0
 WritesWithin c current next = (id : ℕ) → IsTrue (is_written c current next id) → index_in next id ≤ 1
 
--- the number is that of a used block that is written, at the index at which the next commit names it, and holds its bytes
+-- The number is that of a used block that is written, at the index at which the next commit names it, and holds its bytes.
 pub record IsNewBlock (c : Config) (current : Option Commit) (next : Commit) (after : ℕ → List ℕ) (id number : ℕ) (content : Content) : Type 0 where
   pub written : IsTrue (is_written c current next id)
   pub small : index_in next id ≤ 1
   pub place : number ≡ number_of id (index_in next id)
   pub is : content ≡ bytes (after id)
 
--- each number holds what it held, but that this block may have been written
+-- Each number holds what it held, but that this block may have been written.
 abbrev pub OnlyNewBlock : Config → Option Commit → Commit → (ℕ → List ℕ) → ℕ → (ℕ → Content) → (ℕ → Content) → Type 0
 OnlyNewBlock c current next bytes_of id before after =
     (number : ℕ) → (after number ≡ before number) ⊎ IsNewBlock c current next bytes_of id number (after number)
 
--- each number holds what it held, or is one of the blocks that are written for the next commit
+-- Each number holds what it held, or is one of the blocks that are written for the next commit.
 abbrev pub OnlyNewBlocks : Config → Option Commit → Commit → (ℕ → List ℕ) → (ℕ → Content) → (ℕ → Content) → Type 0
 OnlyNewBlocks c current next bytes_of before after =
     (number : ℕ) → (after number ≡ before number) ⊎ ((id : ℕ) × IsNewBlock c current next bytes_of id number (after number))
 
--- each used block whose bytes are those of the state before stands at the index at which it stood
+-- Each used block whose bytes are those of the state before stands at the index at which it stood.
 abbrev pub KeepsIndices : Config → Persist → Persist → Commit → Commit → Type 0
 KeepsIndices c before after current next =
     (id : ℕ) → IsTrue (is_used c id) → block_bytes before id ≡ block_bytes after id → index_in next id ≡ index_in current id
 
--- the pages of the record of a used block whose bytes changed
+-- The pages of the record of a used block whose bytes changed.
 abbrev pub pages_changed : Config → (ℕ → List ℕ) → (ℕ → List ℕ) → ℕ → ℕ
 pages_changed c before after id = if is_used c id && not (bytes_eq (before id) (after id)) then record_pages (length (after id)) else 0
 
--- the pages of all those records
+-- The pages of all those records.
 unfoldable pub changed_pages : Config → (ℕ → List ℕ) → (ℕ → List ℕ) → ℕ
 changed_pages c before after = sum_by (pages_changed c before after) (range_with_len first_part parts)

@@ -14,7 +14,7 @@ one_more test first count next is =
     ap (λ (n : ℕ). filter test (range_with_len first count) ++ filter test (n ∷ [])) (sym is)
     ∙ sym (filter-append test (range_with_len first count) ((first + count) ∷ [])) ∙ sym (ap (filter test) (range_more first count))
 
--- the lists that a function gives of a range, with one number more
+-- The lists that a function gives of a range, with one number more.
 pub lists_more : {X : Type 0} (f : ℕ → List X) (before : List X) (first count next : ℕ) → first + count ≡ next
     → before ++ flat_map f (range_with_len first count) ++ f next ≡ before ++ flat_map f (range_with_len first (count + 1))
 lists_more f before first count next is =
@@ -22,7 +22,7 @@ lists_more f before first count next is =
     ∙ flat_map_more f before (range_with_len first count) (first + count)
     ∙ sym (ap (λ (ns : List ℕ). before ++ flat_map f ns) (range_more first count))
 
--- one application block more
+-- One application block more.
 pub applications_more : (before : List ℕ) (block : ℕ) → (before ++ map application_number (range_with_len 0 block)) ++ ((64 + block) * 8) ∷ [] ≡ before ++ map application_number (range_with_len 0 (block + 1))
 applications_more before block =
     let here : (64 + block) * 8 ≡ application_number block = omega arith in
@@ -30,7 +30,7 @@ applications_more before block =
     ∙ ap (λ (n : ℕ). before ++ (map application_number (range_with_len 0 block) ++ n ∷ [])) here
     ∙ ap (λ (ns : List ℕ). before ++ ns) (sym (map-range_with_len_more application_number 0 block block (omega arith)))
 
--- both indices of one part more
+-- Both indices of one part more.
 pub indices_more : (before made : List ℕ) (id : ℕ) → 3 ≤ id → made ≡ before ++ flat_map both_indices (range_with_len 3 (id - 3))
     → (made ++ (id * 8) ∷ []) ++ (id * 8 + 1) ∷ [] ≡ before ++ flat_map both_indices (range_with_len 3 (id + 1 - 3))
 indices_more before made id low is =

@@ -13,7 +13,7 @@ use Rattle.flt_nvm.specs.Table.{serves}
 use Rattle.flt_generation.specs.Layout.{numbers}
 use Rattle.flt_image.specs.Table.{row, rows, block_table}
 
--- no row, and one row more
+-- No row, and one row more.
 pub no_rows : (before : List BlockCfg) (kind : Kind) (length first : ℕ) → before ≡ before ++ rows kind length first 0
 unfolding rows
 no_rows before kind length first = sym (append-nil before)
@@ -26,12 +26,12 @@ rows_more before made kind length first count is =
     ∙ append_assoc before (map (row kind length) (range_with_len first count)) (row kind length (first + count) ∷ [])
     ∙ ap (λ (all : List BlockCfg). before ++ all) (sym (map-range_with_len_more (row kind length) first count (first + count) refl))
 
--- the table is one that a driver with these numbers serves
+-- The table is one that a driver with these numbers serves.
 pub table_serves : serves numbers block_table ≡ true
 unfolding numbers block_table rows
 table_serves = refl
 
--- the numbers are distinct
+-- The numbers are distinct.
 pub numbers_differ : AllPairs (λ (first second : ℕ). first ≢ second) numbers
 unfolding numbers
 numbers_differ = AllPairs-from_IsDistinct Decides-eqb numbers (IsDistinct-from_count nat_eq_equiv numbers refl)

@@ -13,7 +13,7 @@ use Rattle.flt_image.specs.Blocks.{longest}
 use Rattle.flt_generation.proofs.Sizes.{summary_size, states_size, entry_size, no_entry_size}
 use Rattle.flt_generation.proofs.Short.{HasSizes, entry_sizes}
 
--- no part is longer than an entry
+-- No part is longer than an entry.
 pub part_short : (part : Part) → part_length part ≤ longest
 part_short Summary = omega arith
 part_short (States first) = omega arith
@@ -26,7 +26,7 @@ sizes_of c given = record {
   frames = λ k event below. (given.valid.events k event below).frame;
 }
 
--- each part of a state that fits has its length
+-- Each part of a state that fits has its length.
 pub part_sized : (c : Config) → IsGiven c → (p : Persist) → Fits c p → (part : Part) → length (part_bytes p part) ≡ part_length part
 part_sized c given p fits Summary = summary_size p
 part_sized c given p fits (States first) = states_size p.events.items first 16

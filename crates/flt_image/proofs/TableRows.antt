@@ -21,7 +21,7 @@ is_native Native = true
 is_native Redundant = false
 is_native (Dataset indices) = false
 
--- the block was found, under this identifier, with this length
+-- The block was found, under this identifier, with this length.
 abbrev is_found : (Kind → Bool) → ℕ → ℕ → Option BlockCfg → Bool
 is_found test id length None = false
 is_found test id length (Some block) = test block.kind && ((block.id == id) && (block.length == length))
@@ -65,7 +65,7 @@ pub commit_row : block_in block_table commit_id ≡ Some (row Redundant 26 commi
 unfolding block_table rows
 commit_row = refl
 
--- a part is kept under two indices
+-- A part is kept under two indices.
 pub part_row : (id : ℕ) → first_part ≤ id → id < end_part → block_in block_table id ≡ Some (row (Dataset 2) (part_length (part_of id)) id)
 part_row id low high =
     let at : first_part + (id - first_part) ≡ id = omega (arith, low) in
@@ -73,7 +73,7 @@ part_row id low high =
     (subst (λ (n : ℕ). is_found is_dataset n (part_length (part_of n)) (block_in block_table n) ≡ true) at
     (all_at (λ n. is_found is_dataset n (part_length (part_of n)) (block_in block_table n)) first_part parts all_parts (id - first_part) (omega (arith, low, high))))
 
--- an application block has one copy
+-- An application block has one copy.
 pub application_row : (block : ℕ) → block < applications → block_in block_table (first_application + block) ≡ Some (row Native 32 (first_application + block))
 application_row block within =
     found_row is_native Native one_copy (first_application + block) 32 (block_in block_table (first_application + block))

@@ -23,7 +23,7 @@ use Rattle.flt_generation.proofs.Sizes.{set_here, none_here, refused_by_bytes, r
 use Rattle.flt_generation.proofs.Parts.{state_passes}
 use Rattle.flt_image.specs.Taking.{TakesIn, block_states, no_state, summed_up, IsSummaryOf}
 
--- an answer, by what is taken
+-- An answer, by what is taken.
 pub refuses : {o : Option Persist} (before : Persist) → o ≡ None → TakesIn o false before before
 refuses before none = subst (λ (o : Option Persist). TakesIn o false before before) (sym none) (refl, refl)
 
@@ -31,7 +31,7 @@ pub takes : {o : Option Persist} (before after state : Persist) → o ≡ Some s
 takes before after state some same = subst (λ (o : Option Persist). TakesIn o true before after) (sym some) (refl, same)
 
 -- ---- the states of sixteen events
--- the same states give the same bytes, wherever they stand
+-- The same states give the same bytes, wherever they stand.
 moved_states : (xs ys : List EventState) (from first count : ℕ) → ((place : ℕ) → place < count → slice_index_or xs (from + place) start_state ≡ slice_index_or ys (first + place) start_state)
     → first_states xs from count ≡ first_states ys first count
 moved_states xs ys from first zero same = no_states xs from ∙ sym (no_states ys first)
@@ -43,19 +43,19 @@ moved_states xs ys from first (suc count) same =
     ∙ ap (λ (state : EventState). first_states ys first count ++ state_bytes state) (same count (omega arith))
     ∙ sym (first_states_more ys first count))
 
--- a state of the first ones of a block
+-- A state of the first ones of a block.
 pub block_state_at : (held : List ℕ) (states : List EventState) → states ≡ block_states held (length states) → (place : ℕ) (d : EventState) → place < length states → slice_index_or states place d ≡ state_from held place
 block_state_at held states is place d below =
     ap (λ (xs : List EventState). slice_index_or xs place d) is ∙ get_or-map-range_with_len (state_from held) 0 (length states) place place d below (omega arith)
 
--- the block has these states of the events from the first one on; its places past the last event have none
+-- The block has these states of the events from the first one on; its places past the last event have none.
 module _ (c : Config) (first count : ℕ) (held : List ℕ) (into : Persist) (size : length into.events.items ≡ length c.events.items) (within : first < length c.events.items)
     (count_is : count ≡ min (length c.events.items - first) 16) (read : List EventState) (read_is : read ≡ block_states held count) where
-  -- the states that this block leaves
+  -- The states that this block leaves.
   abbrev pub after : List EventState
   after = with_states held first 16 into.events.items
 
-  -- the events whose states the block has
+  -- The events whose states the block has.
   abbrev pub own : List EventCfg
   own = slice_range c.events.items first (first + count)
 
@@ -82,7 +82,7 @@ module _ (c : Config) (first count : ℕ) (held : List ℕ) (into : Persist) (si
   same_bytes : states_bytes read 0 ≡ states_bytes after first
   same_bytes = moved_states read after 0 first 16 (λ place small. (let none : 0 + place ≡ place = omega arith in ap (λ (n : ℕ). slice_index_or read n start_state) none ∙ together place small))
 
-  -- they fit their events exactly where the block passes
+  -- They fit their events exactly where the block passes.
   read_fits : states_fit c.events.items after first 16 ≡ true → AreStatesOf own read
   read_fits passes = record { one_each = read_size ∙ sym own_size; fitting = fitting }
     where
@@ -129,7 +129,7 @@ module _ (c : Config) (first count : ℕ) (held : List ℕ) (into : Persist) (si
   unfolding with_part
   states_taken are same = accepted c (States first) held (with_part (States first) held into) (sym (ap (bytes_eq held) same_bytes) ∙ same) (fit_passes are)
 
-  -- past the last event nothing is set
+  -- Past the last event nothing is set.
   none_past : (extra : ℕ) → count + extra ≤ 16 → with_states held first (count + extra) into.events.items ≡ with_states held first count into.events.items
   none_past zero small = (let same : count + 0 ≡ count = omega arith in ap (λ (n : ℕ). with_states held first n into.events.items) same)
   none_past (suc extra) small =
@@ -150,7 +150,7 @@ module _ (c : Config) (first count : ℕ) (held : List ℕ) (into : Persist) (si
 
 -- ---- an entry
 module _ (c : Config) (place : ℕ) (held : List ℕ) (into : Persist) where
-  -- past the entries
+  -- Past the entries.
   none_differs : length into.entries.items ≤ place → bytes_eq held no_entry_bytes ≡ false → taken c (Entry place) held into ≡ None
   unfolding with_part
   none_differs past differ =
@@ -165,7 +165,7 @@ module _ (c : Config) (place : ℕ) (held : List ℕ) (into : Persist) where
       (ap (λ (o : Option EntryState). place_fits c.events.items (set into.entries.items place (entry_from held)) place o) (none_here into.entries.items place (entry_from held) past))
       ∙ ap (λ (es : List EntryState). Some (record into { entries = record { items = es } })) (set_past into.entries.items place (entry_from held) past)
 
-  -- by whether the bytes are those of no entry
+  -- By whether the bytes are those of no entry.
   pub none_answered : (result : Bool) → length into.entries.items ≤ place → result ≡ bytes_eq held no_entry_bytes → TakesIn (taken c (Entry place) held into) result into into
   none_answered true past said = takes into into into (none_taken past (sym said)) refl
   none_answered false past said = refuses into (none_differs past (sym said))
@@ -231,7 +231,7 @@ test_of_summary c p is =
     and_from _ _ (and_from _ _ (and_from _ _ (and_from _ _ (le-leb _ c.memory is.room) (test_of_noted c.events.items _ is.first_failed))
     (test_of_noted c.events.items _ is.first_confirmed)) (test_of_noted c.events.items _ is.recent_failed)) (test_of_noted c.events.items _ is.recent_confirmed)
 
--- a summary is that of its bytes, whatever state it is read into
+-- A summary is that of its bytes, whatever state it is read into.
 bytes_alike : (held : List ℕ) (p q : Persist) → summary_bytes (with_summary held p) ≡ summary_bytes (with_summary held q)
 unfolding with_summary summary_bytes
 bytes_alike held p q = refl

@@ -7,15 +7,15 @@ use Rattle.flt_generation.specs.Form.{block_bytes, part_length}
 use Rattle.flt_image.specs.declared.blocks.TheConstants.{LONGEST}
 use Rattle.flt_image.specs.declared.blocks.StateBlocks.{StateBlocks}
 
--- the most bytes of a block of a state
+-- The most bytes of a block of a state.
 abbrev pub longest : ℕ
 longest = LONGEST
 
--- the bytes that are kept of a block
+-- The bytes that are kept of a block.
 abbrev pub bytes_at : StateBlocks → ℕ → List ℕ
 bytes_at blocks id = (slice_index_or blocks.blocks.items (id - first_part) (record { items = [] })).items
 
--- these are the bytes of each used block of a state, as many as the block has
+-- These are the bytes of each used block of a state, as many as the block has.
 pub record AreBlocksOf (c : Config) (state : Persist) (bytes_of : ℕ → List ℕ) : Type 0 where
   pub bytes : (id : ℕ) → IsTrue (is_used c id) → bytes_of id ≡ block_bytes state id
   pub sizes : (id : ℕ) → IsTrue (is_used c id) → length (bytes_of id) ≡ part_length (part_of id)

@@ -7,19 +7,19 @@ use Rattle.flt_nvm.specs.declared.table.BlockCfg.{BlockCfg}
 use Rattle.flt_generation.specs.Layout.{mark_id, commit_id, summary_id, first_states_id, states_blocks, first_entry_id, entries, first_application, applications}
 use Rattle.flt_generation.specs.Form.{mark_length, commit_length, summary_length, states_length, entry_length, application_length}
 
--- a block of this kind that holds so many bytes
+-- A block of this kind that holds so many bytes.
 abbrev pub row : Kind → ℕ → ℕ → BlockCfg
 row kind length id = record { id = id; kind = kind; length = length }
 
--- so many of them, from this identifier on
+-- So many of them, from this identifier on.
 unfoldable pub rows : Kind → ℕ → ℕ → ℕ → List BlockCfg
 rows kind length first count = map (row kind length) (range_with_len first count)
 
--- a part stands at one of two indices
+-- A part stands at one of two indices.
 abbrev pub part : Kind
 part = Dataset 2
 
--- the mark, the commit, the summary, the states, the entries, and the application blocks
+-- The mark, the commit, the summary, the states, the entries, and the application blocks.
 unfoldable pub block_table : List BlockCfg
 block_table =
     rows Native mark_length mark_id 1

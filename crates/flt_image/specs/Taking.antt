@@ -7,12 +7,12 @@ use Rattle.flt_config.specs.declared.persist.EventState.{EventState}
 use Rattle.flt_config.specs.Durable.{start_state, IsNoted}
 use Rattle.flt_generation.specs.Reading.{state_from}
 
--- true and the state with the part, where there is one; false and the state as it was, where there is none
+-- True and the state with the part, where there is one; false and the state as it was, where there is none.
 abbrev pub TakesIn : Option Persist → Bool → Persist → Persist → Type 0
 TakesIn None result before after = IsFalse result × (after ≡ before)
 TakesIn (Some state) result before after = IsTrue result × (after ≡ state)
 
--- a state that holds nothing: what a summary is read into
+-- A state that holds nothing: what a summary is read into.
 abbrev pub no_state : Persist
 no_state =
     record {
@@ -25,7 +25,7 @@ no_state =
       recent_confirmed = None;
     }
 
--- a state with what the summary of another one says
+-- A state with what the summary of another one says.
 abbrev pub summed_up : Persist → Persist → Persist
 summed_up read p =
     record p {
@@ -37,7 +37,7 @@ summed_up read p =
       recent_confirmed = read.recent_confirmed;
     }
 
--- the entries are within the memory, and the noted events are configured
+-- The entries are within the memory, and the noted events are configured.
 pub record IsSummaryOf (c : Config) (p : Persist) : Type 0 where
   pub room : length p.entries.items ≤ c.memory
   pub first_failed : IsNoted c.events.items p.first_failed
@@ -45,10 +45,10 @@ pub record IsSummaryOf (c : Config) (p : Persist) : Type 0 where
   pub recent_failed : IsNoted c.events.items p.recent_failed
   pub recent_confirmed : IsNoted c.events.items p.recent_confirmed
 
--- the first states of a block
+-- The first states of a block.
 abbrev pub block_states : List ℕ → ℕ → List EventState
 block_states held count = map (state_from held) (range_with_len 0 count)
 
--- the clean counts leave room for the bit beside them
+-- The clean counts leave room for the bit beside them.
 abbrev pub HaveShortCounts : List EventState → Type 0
 HaveShortCounts states = (event : ℕ) → (slice_index_or states event start_state).clean < 0x8000

@@ -109,7 +109,7 @@ fn streams_stutter(rt: HostRuntime) -> Result<(), Fail> {
     assert_eq!(rt; source.pull(&mut out).ok(), None);
     assert_eq!(rt; source.pull(&mut out).ok(), Some(0));
 
-    // a short write in mid-stream, and then a write of no byte
+    // A short write in mid-stream, and then a write of no byte.
     let turns = vec![in alloc; Turn::Moves(2), INTERRUPTED, Turn::Moves(2), Turn::Moves(0)]?;
     let mut sink = WriteSink::new(Stuttering::new(Vec::new(alloc), turns));
     assert_eq!(rt; sink.push(b"abc").is_ok(), true);

@@ -33,12 +33,12 @@ queue_call ops.Take is = absurd (omega (arith, is))
 queue_call (ops.Done block written) is = absurd (omega (arith, is))
 queue_call (ops.Ask block) is = tt
 
--- calls of which none is one of a drain
+-- Calls of which none is one of a drain.
 pub queue_calls : (journal : List (Entry QueueOp)) → drains_in journal ≡ 0 → All (λ (e : Entry QueueOp). IsQueueCall e.op) journal
 queue_calls [] none = All-nil (λ (e : Entry QueueOp). IsQueueCall e.op)
 queue_calls (e ∷ journal) none = All-cons (λ (e : Entry QueueOp). IsQueueCall e.op) e journal (queue_call e.op (omega (arith, none))) (queue_calls journal (omega (arith, none)))
 
--- the calls of a journal, the newest first
+-- The calls of a journal, the newest first.
 abbrev pub newest_of : List (Entry QueueOp) → History
 newest_of journal = reverse (ops_of journal)
 
@@ -53,11 +53,11 @@ apart ops.Take is = absurd is
 apart (ops.Done block written) is = absurd is
 apart (ops.Ask block) is = refl
 
--- those before a call, where they have as many results
+-- Those before a call, where they have as many results.
 pub up_to_fewer : (jobs : ℕ) (op : QueueOp) (past : History) → jobs ≤ done_count past → up_to_done jobs (op ∷ past) ≡ up_to_done jobs past
 up_to_fewer jobs op past few = rw (le-leb jobs (done_count past) few) refl
 
--- all of them, where the newest is the last result
+-- All of them, where the newest is the last result.
 up_to_last : (jobs block : ℕ) (written : Bool) (past : History) → jobs ≡ done_count past + 1 → up_to_done jobs (ops.Done block written ∷ past) ≡ ops.Done block written ∷ past
 up_to_last jobs block written past is = rw (lt-leb jobs (done_count past) (omega (arith, is))) refl
 
@@ -67,14 +67,14 @@ count_beside op past is = rw is refl
 -- ---- what a block may hold
 
 module _ (block : ℕ) (first held : Content) where
-  -- behind a call of a step
+  -- Behind a call of a step.
   pub may_beside : (op : QueueOp) (past : History) → IsQueueCall op → MayHold block first past held → MayHold block first (op ∷ past) held
   may_beside (ops.Post urgent job) past is may = may
   may_beside ops.Take past is may = absurd is
   may_beside (ops.Done done written) past is may = absurd is
   may_beside (ops.Ask asked) past is may = may
 
-  -- behind all calls, where it may behind those up to the last result
+  -- Behind all calls, where it may behind those up to the last result.
   pub may_whole : (past : History) (jobs : ℕ) → jobs ≡ done_count past → MayHold block first (up_to_done jobs past) held → MayHold block first past held
   may_whole [] jobs is may = may
   may_whole (ops.Post urgent job ∷ past) jobs is may = may_whole past jobs is (subst (λ l. MayHold block first l held) (up_to_fewer jobs (ops.Post urgent job) past (omega (arith, is))) may)
@@ -86,14 +86,14 @@ module _ (block : ℕ) (first held : Content) where
   choose_of true P Q first second = first refl
   choose_of false P Q first second = second
 
-  -- behind a result: where it is that the job was written, the block holds its bytes
+  -- Behind a result: where it is that the job was written, the block holds its bytes.
   pub may_done : (past : History) (done : ℕ) (written : Bool) → (written ≡ true → done ≡ block → IsBytesOf (last_taken block past) held) → MayHold block first past held
       → MayHold block first (ops.Done done written ∷ past) held
   may_done past done written by_job may =
       choose_of (written && (done == block)) (IsBytesOf (last_taken block past) held) (MayHold block first past held)
       (λ both. (let parts = and_parts written (done == block) both in by_job parts.0 (eqb-true done block parts.1))) may
 
--- the job that was taken last, behind a call of a step
+-- The job that was taken last, behind a call of a step.
 last_beside : (block : ℕ) (op : QueueOp) (past : History) → IsQueueCall op → last_taken block (op ∷ past) ≡ last_taken block past
 last_beside block (ops.Post urgent job) past is = refl
 last_beside block ops.Take past is = absurd is
@@ -103,7 +103,7 @@ last_beside block (ops.Ask asked) past is = refl
 -- ---- what reads were answered
 
 module _ (first : ℕ → Content) where
-  -- behind one call more
+  -- Behind one call more.
   gets_more : (op : QueueOp) (past : History) (earlier : List Deed) (step : Step) (told : Told) → jobs_told (answers_of earlier) ≤ done_count past → GetsBy first past earlier step told → GetsBy first (op ∷ past) earlier step told
   gets_more op past earlier (steps.Get block) (answers.Bytes found) few gets =
       subst (λ l. MayHold block (first (application_number block)) l (holding found.items)) (sym (up_to_fewer (jobs_told (answers_of earlier)) op past few)) gets
@@ -151,7 +151,7 @@ module _ (first : ℕ → Content) where
 -- ---- all of it
 
 module _ (first : ℕ → Content) (jobs : ℕ) (deeds : List Deed) (values : ℕ → Content) where
-  -- behind a call that is no result
+  -- Behind a call that is no result.
   pub held_beside : (op : QueueOp) (past : History) → is_done op ≡ false → AreHeld first past jobs deeds values → AreHeld first (op ∷ past) jobs deeds values
   held_beside op past is held =
       let done = held.done in
@@ -163,7 +163,7 @@ module _ (first : ℕ → Content) (jobs : ℕ) (deeds : List Deed) (values : �
         told = held.told;
       }
 
-  -- behind calls of steps
+  -- Behind calls of steps.
   pub held_further : (journal more : List (Entry QueueOp)) → All (λ (e : Entry QueueOp). IsQueueCall e.op) more → AreHeld first (newest_of journal) jobs deeds values → AreHeld first (newest_of (journal ++ more)) jobs deeds values
   held_further journal [] are held = subst (λ j. AreHeld first (newest_of j) jobs deeds values) (sym (append-nil journal)) held
   held_further journal (e ∷ more) are held =
@@ -173,7 +173,7 @@ module _ (first : ℕ → Content) (jobs : ℕ) (deeds : List Deed) (values : �
 
 -- ---- a job that was taken
 
--- it was taken last of its block, and the block may hold its bytes
+-- It was taken last of its block, and the block may hold its bytes.
 pub record IsInHand (job : Job) (past : History) : Type 0 where
   pub last : last_taken job.block past ≡ Some job
   pub may : (first : Content) → MayHold job.block first past (holding job.bytes.items)
@@ -202,7 +202,7 @@ hand_further job journal (e ∷ more) are hand =
 number_apart : (block other : ℕ) → block ≢ other → application_number block ≢ application_number other
 number_apart block other differ same = differ (omega (arith, same))
 
--- what writing a job leaves of the blocks
+-- What writing a job leaves of the blocks.
 pub record IsWritten (job : Job) (written : Bool) (before after : ℕ → Content) : Type 0 where
   pub either : (after (application_number job.block) ≡ before (application_number job.block)) ⊎ (after (application_number job.block) ≡ holding job.bytes.items)
   pub all : written ≡ true → after (application_number job.block) ≡ holding job.bytes.items
@@ -210,7 +210,7 @@ pub record IsWritten (job : Job) (written : Bool) (before after : ℕ → Conten
 
 module _ (first : ℕ → Content) (jobs : ℕ) (deeds : List Deed) (before after : ℕ → Content) (job : Job) (written : Bool) (past : History) (wrote : IsWritten job written before after) (hand : IsInHand job past)
     (held : AreHeld first past jobs deeds before) where
-  -- what each block may hold before the result is noted
+  -- What each block may hold before the result is noted.
   may_now : (block : ℕ) → block < applications → MayHold block (first (application_number block)) past (before (application_number block))
   may_now block below = may_whole block (first (application_number block)) (before (application_number block)) past jobs held.done (held.held block below)
 
@@ -236,7 +236,7 @@ module _ (first : ℕ → Content) (jobs : ℕ) (deeds : List Deed) (before afte
       by_test true is = inl (eqb-true job.block block is)
       by_test false is = inr (λ same. false≢true (sym is ∙ eq-eqb job.block block same))
 
-  -- one job more was done
+  -- One job more was done.
   pub held_done : AreHeld first (ops.Done job.block written ∷ past) (jobs + 1) deeds after
   held_done =
       let done = held.done in

@@ -50,7 +50,7 @@ module _ {S O R : Type 0} (admits : S → O → Type 0) (answer : S → List O �
     chain = is.runs.chain;
   }
 
-  -- the calls that the lanes made
+  -- The calls that the lanes made.
   record HaveMade (main : Seated S O) (width number : ℕ) (lanes : List (Lane S O)) : Type 0 where
     pub made : Block O R
     pub makes : LanesMake MadeBy number (steps_all lanes) (tolds lanes) made

@@ -28,11 +28,11 @@ module _ {X : Type 0} (P : X → Type 0) where
   pub all_of_map : {Y : Type 0} (f : Y → X) (ys : List Y) → All P (map f ys) → All (λ y. P (f y)) ys
   all_of_map f ys all k d within = subst P (get_or-map f ys k d (f d) within) (all k (f d) (omega (arith, within, length-map ys f)))
 
--- the number of each lane is among their numbers
+-- The number of each lane is among their numbers.
 pub number_among : {O : Type 0} → (lanes : List (ℕ × List O)) → All (λ lane. Contains (map (λ l. l.0) lanes) lane.0) lanes
 number_among lanes = all_of_map (Contains (map (λ l. l.0) lanes)) (λ l. l.0) lanes (All-contains_itself (map (λ l. l.0) lanes))
 
--- what a main seat is that has joined these seats
+-- What a main seat is that has joined these seats.
 pub record HasJoined {S O : Type 0} (main after : Seated S O) (width : ℕ) (afters : List (Seated S O)) : Type 0 where
   pub number_is : after.number ≡ main.number
   pub start_is : after.start ≡ main.start
@@ -44,22 +44,22 @@ pub record HasJoined {S O : Type 0} (main after : Seated S O) (width : ℕ) (aft
   pub olds_are : after.olds ≡ main.olds ++ map (λ (s : Seated S O). s.seen) afters
   pub ended_are : after.ended ≡ main.ended ++ map (λ (s : Seated S O). (s.number, s.mine)) afters
 
--- a number that was given out for a block
+-- A number that was given out for a block.
 abbrev pub IsGivenFor : {S O : Type 0} → Seated S O → ℕ → (ℕ × List O) → Type 0
 IsGivenFor main width lane = (main.children < lane.0) × (lane.0 ≤ main.children + width)
 
--- the numbers of the lanes are those that were given out for them
+-- The numbers of the lanes are those that were given out for them.
 abbrev pub IsNumberOf : {S O R : Type 0} → Seated S O → ℕ → (ℕ × List (Call O R)) → Type 0
 IsNumberOf main width lane = (main.children < lane.0) × (lane.0 ≤ main.children + width)
 
--- each lane makes its first call behind what was known before the block
+-- Each lane makes its first call behind what was known before the block.
 abbrev pub IsFresh : {S O R : Type 0} → Seated S O → (ℕ × List (Call O R)) → Type 0
 IsFresh {S} {O} main lane = (old : List (Entry O)) → (IsPrefix old main.seen ⊎ Contains main.olds old) → (lane.1 ≡ []) ⊎ (calls_of lane.0 old ≡ [])
 
 module _ {S O R : Type 0} (admits : S → O → Type 0) (answer : S → List O → O → R) where
   -- ---- a lane of a block
 
-  -- its seat was split from the main seat, and made the calls
+  -- Its seat was split from the main seat, and made the calls.
   pub record HasRunFrom (main : Seated S O) (lane : ℕ × List (Call O R)) (after : Seated S O) : Type 0 where
     pub before : Seated S O
     pub number_is : before.number ≡ lane.0
@@ -69,7 +69,7 @@ module _ {S O R : Type 0} (admits : S → O → Type 0) (answer : S → List O �
     pub start_is : before.start ≡ main.start
     pub chain : Chain admits answer before lane.1 after
 
-  -- and what follows of it
+  -- And what follows of it.
   pub record IsLane (main : Seated S O) (lane : ℕ × List (Call O R)) (after : Seated S O) : Type 0 where
     pub number_is : after.number ≡ lane.0
     pub mine_is : after.mine ≡ ops_asked lane.1
@@ -109,7 +109,7 @@ module _ {S O R : Type 0} (admits : S → O → Type 0) (answer : S → List O �
   lanes_fresh main (lane ∷ lanes) [] are = absurd are
   lanes_fresh main (lane ∷ lanes) (a ∷ afters) are = All-cons (IsFresh main) lane lanes are.0.fresh (lanes_fresh main lanes afters are.1)
 
-  -- each lane's calls are known to its own seat
+  -- Each lane's calls are known to its own seat.
   lanes_own : (main : Seated S O) (lanes : Block O R) (afters : List (Seated S O)) → AreLanes main lanes afters → All (λ (s : Seated S O). length s.mine ≤ length (calls_of s.number s.seen)) afters
   unfolding AreLanes
   lanes_own main [] [] are = All-nil (λ (s : Seated S O). length s.mine ≤ length (calls_of s.number s.seen))
@@ -206,7 +206,7 @@ module _ {S O R : Type 0} (admits : S → O → Type 0) (answer : S → List O �
       each_new : (journal : List (Entry O)) → Mixes journal ((main.number, main.mine) ∷ (main.ended ++ new)) → All (λ lane. calls_of lane.0 journal ≡ lane.1) new
       each_new journal mixes = all_right (λ lane. calls_of lane.0 journal ≡ lane.1) main.ended new (All-tail (λ lane. calls_of lane.0 journal ≡ lane.1) (main.number, main.mine) (main.ended ++ new) mixes.each)
 
-      -- a lane of the block has no call in what was known before it
+      -- A lane of the block has no call in what was known before it.
       no_new : (journal old : List (Entry O)) → Mixes journal ((main.number, main.mine) ∷ (main.ended ++ new)) → IsPrefix old journal → (IsPrefix old main.seen ⊎ Contains main.olds old)
           → All (λ lane. calls_of lane.0 old ≡ []) new
       no_new journal old mixes pre known = All-map (λ (lane : ℕ × List O). calls_of lane.0 old ≡ []) (λ lane. (lane.0, ops_asked lane.1)) lanes (λ k d within.
@@ -216,7 +216,7 @@ module _ {S O R : Type 0} (admits : S → O → Type 0) (answer : S → List O �
           (λ none. none)
           (lanes_fresh main lanes afters are k d within old known))
 
-      -- so what was known before it is a beginning of the front in which none of them calls
+      -- So what was known before it is a beginning of the front in which none of them calls.
       old_low : (journal old : List (Entry O)) → Mixes journal ((main.number, main.mine) ∷ (main.ended ++ new)) → IsPrefix old journal → (IsPrefix old main.seen ⊎ Contains main.olds old)
           → IsPrefix old (low_front main.children journal)
       old_low journal old mixes pre known = low_prefix main.children old journal (λ n past.
@@ -226,7 +226,7 @@ module _ {S O R : Type 0} (admits : S → O → Type 0) (answer : S → List O �
           (λ k d within same. absurd (omega (arith, same, past, (is.ended k d within).given)))
           (λ k d within same. subst (λ m. calls_of m old ≡ []) same (no_new journal old mixes pre known k d within)))) pre
 
-      -- the calls of the main seat and of the lanes that were joined before stand in that front
+      -- The calls of the main seat and of the lanes that were joined before stand in that front.
       main_full : (journal : List (Entry O)) → Mixes journal ((main.number, main.mine) ∷ (main.ended ++ new)) → IsPrefix main.seen journal → IsFull main.number main.mine (low_front main.children journal) (high_rest main.children journal)
       main_full journal mixes pre =
           let low = old_low journal main.seen mixes pre (inl ([], append-nil main.seen)) in
@@ -280,7 +280,7 @@ module _ {S O R : Type 0} (admits : S → O → Type 0) (answer : S → List O �
                 (λ k d within same. absurd (apart (subst (Contains (map (λ lane. lane.0) new)) same (among k d within)))));
           }
 
-      -- so their calls stand behind that front
+      -- So their calls stand behind that front.
       past_front : (journal : List (Entry O)) (n : ℕ) → main.children < n → BlockTold answer main.start journal lanes → All (λ (call : Call O R). length (low_front main.children journal) ≤ call.told.place) (calls_in_block n lanes)
       past_front journal n past told k d within =
           let call = get_or (calls_in_block n lanes) k d in

@@ -33,17 +33,17 @@ use Rattle.flt_lane.proofs.Keeping.{IsNoSave, kept_other}
 
 -- ---- seats that know as much
 
--- what the one knows, the other knows too
+-- What the one knows, the other knows too.
 abbrev pub KnowsToo : {S O : Type 0} → Seated S O → Seated S O → Type 0
 KnowsToo {S} {O} before after = (known : List (Entry O)) → IsKnownTo before known → IsKnownTo after known
 
--- a seat that joined others knows what each of them knew
+-- A seat that joined others knows what each of them knew.
 pub knows_joined : {S O : Type 0} (main after seat : Seated S O) (seats : List (Seated S O)) → AreJoined main after seats → Contains (map (λ (s : Seated S O). s.seen) seats) seat.seen → seat.olds ≡ main.olds → KnowsToo seat after
 knows_joined {S} {O} main after seat seats joined among olds known =
     ⊎_elim (λ pre. inr (seat.seen, subst (λ l. Contains l seat.seen) (sym joined.olds_are) (Contains-append_right main.olds (map (λ (s : Seated S O). s.seen) seats) seat.seen among), pre))
     (λ old. inr (old.0, subst (λ l. Contains l old.0) (sym joined.olds_are) (Contains-append_left main.olds (map (λ (s : Seated S O). s.seen) seats) old.0 (subst (λ l. Contains l old.0) olds old.1)), old.2))
 
--- and what the main seat knew before
+-- And what the main seat knew before.
 pub knows_still : {S O : Type 0} (main after : Seated S O) (seats : List (Seated S O)) → AreJoined main after seats → KnowsToo main after
 knows_still {S} {O} main after seats joined known =
     ⊎_elim (λ pre. inl (subst (IsPrefix known) (sym joined.seen_is) pre))
@@ -65,7 +65,7 @@ holds_known : (first : ℕ → Content) (before after : QueueSeat) (calls jobs :
 holds_known first before after calls jobs deeds values knows holds = record { known = holds.known; is_known = knows holds.known holds.is_known; least = holds.least; held = holds.held }
 
 module _ {B : Type 0} {b : Ghosts B} (c : Config) where
-  -- steps that leave the store alone
+  -- Steps that leave the store alone.
   pub carries_beside : (before after : Seat) (jobs jobs_after : QueueSeat) (deeds : List Deed) (store : Store B b) → KnowsToo before after → KnowsToo jobs jobs_after → Carries c before after jobs jobs_after deeds deeds store store
   carries_beside before after jobs jobs_after deeds store knows job_knows = record {
     alive = λ alive. alive;
@@ -74,7 +74,7 @@ module _ {B : Type 0} {b : Ghosts B} (c : Config) where
     holds = λ alive first holds. holds_known first jobs jobs_after _ _ deeds _ job_knows holds;
   }
 
-  -- what is carried on between seats that know less and more
+  -- What is carried on between seats that know less and more.
   pub carries_between : (main before after later : Seat) (jobs jobs_before jobs_after jobs_later : QueueSeat) (earlier deeds : List Deed) (store now : Store B b) → before.start ≡ main.start → KnowsToo main before → KnowsToo after later
       → KnowsToo jobs jobs_before → KnowsToo jobs_after jobs_later → Carries c before after jobs_before jobs_after earlier deeds store now → Carries c main later jobs jobs_later earlier deeds store now
   carries_between main before after later jobs jobs_before jobs_after jobs_later earlier deeds store now start first_knows then_knows job_first job_then carries = record {
@@ -93,7 +93,7 @@ module _ {B : Type 0} {b : Ghosts B} (c : Config) where
     holds = λ alive first holds. two.holds (one.alive alive) first (one.holds alive first holds);
   }
 
-  -- an arm
+  -- An arm.
   pub carries_arm : (seat : Seat) (jobs : QueueSeat) (deeds : List Deed) (store now : Store B b) (arm : Arm) → ArmsDriver arm (driver_of store) (driver_of now) → ((held spare : Generation) → IsRunning c held spare store → IsRunning c held spare now)
       → Carries c seat seat jobs jobs deeds deeds store now
   carries_arm seat jobs deeds store now arm arms runs = record {
@@ -136,7 +136,7 @@ module _ (first : ℕ → Content) (seat : QueueSeat) (earlier : List Deed) (dee
     held = λ few. deed_held _ (holds.held (omega (arith, few, no_drain)));
   }
 
--- what a read of an application block tells of it
+-- What a read of an application block tells of it.
 pub gets_bytes : (content : Content) (found : Bool) (out : List ℕ) → Gets content found out → found ≡ true → content ≡ holding out
 gets_bytes missing found out gets is = absurd (false≢true (sym gets.0 ∙ is))
 gets_bytes invalid found out gets is = absurd gets
@@ -149,7 +149,7 @@ gets_none (holding held) found out gets is = absurd (true≢false (sym gets.0 �
 
 -- ---- a deed that is no save
 
--- leaves the generations that were saved as they are
+-- Leaves the generations that were saved as they are.
 pub living_deed : {B : Type 0} {b : Ghosts B} (c : Config) (first : Generation) (seat : Seat) (earlier : List Deed) (deed : Deed) (store now : Store B b) → IsNoSave deed.1 → saves_by deed.1 ≡ 0
     → ((held spare : Generation) → IsRunning c held spare store → IsRunning c held spare now) → IsLivingOn c first seat earlier store → IsLivingOn c first seat (deed ∷ earlier) now
 living_deed c first seat earlier deed store now no_save none runs living = record {

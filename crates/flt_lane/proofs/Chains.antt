@@ -15,7 +15,7 @@ use Rattle.flt_life.proofs.Mixings.{at_end, told_longer}
 use Rattle.flt_lane.proofs.Journals.{no_call_before, prefix_trans}
 
 module _ {S O R : Type 0} (admits : S → O → Type 0) (answer : S → List O → O → R) where
-  -- what a chain leaves
+  -- What a chain leaves.
   pub record IsFact (before : Seated S O) (calls : List (Call O R)) (after : Seated S O) : Type 0 where
     pub number_is : after.number ≡ before.number
     pub start_is : after.start ≡ before.start
@@ -29,7 +29,7 @@ module _ {S O R : Type 0} (admits : S → O → Type 0) (answer : S → List O �
     pub told : All (IsToldInPlace answer before.start after.seen before.number) calls
     pub rising : Rise (length before.seen) calls
 
-  -- what one call leaves
+  -- What one call leaves.
   pub call_told : (before after : Seated S O) (call : Call O R) → IsCall admits answer before after call.op call.told → IsToldInPlace answer before.start after.seen before.number call
   call_told before after call is = let ext = is.place in record {
     stands = ap (λ j. slice_get j call.told.place) ext.seen ∙ at_end (before.seen ++ ext.between) (entry before.number call.op) call.told.place ext.place_is;
@@ -98,7 +98,7 @@ module _ {S O R : Type 0} (admits : S → O → Type 0) (answer : S → List O �
         rising = call_rises before mid call calls is rest.rising;
       }
 
-  -- chains one behind the other
+  -- Chains one behind the other.
   pub chain_more : (before : Seated S O) (calls : List (Call O R)) (mid : Seated S O) (more : List (Call O R)) (after : Seated S O) → Chain admits answer before calls mid → Chain admits answer mid more after
       → Chain admits answer before (calls ++ more) after
   unfolding Chain

@@ -41,7 +41,7 @@ use Rattle.flt_lane.proofs.Leaving.{leaves_nothing, leaves_further}
 abbrev IsCall : QueueSeat → QueueSeat → QueueOp → Answer QueueReply → Type 0
 IsCall = queued.IsCall
 
--- how many calls of drains a call leaves
+-- How many calls of drains a call leaves.
 many : (known more seen : List (Entry QueueOp)) (e : Entry QueueOp) → seen ≡ (known ++ more) ++ e ∷ [] → drains_in seen ≡ drains_in known + drains_in more + drain_call e.op
 many known more seen e is =
     let one = drains-append (known ++ more) (e ∷ []) in
@@ -52,7 +52,7 @@ many known more seen e is =
 newest_seen : (front seen : List (Entry QueueOp)) (e : Entry QueueOp) → seen ≡ front ++ e ∷ [] → newest_of seen ≡ e.op ∷ newest_of front
 newest_seen front seen e is = ap newest_of is ∙ newest_more front e
 
--- the job that was handed out
+-- The job that was handed out.
 handed_job : (next : Option Job) (job : Job) → replies.Job job ≡ handed_out next → next ≡ Some job
 handed_job None job is = absurd (cc)
 handed_job (Some other) job is = ap Some (same other job (sym is))
@@ -80,7 +80,7 @@ module _ (first : ℕ → Content) (before after : QueueSeat) (told : Answer Que
   abbrev front_take : List (Entry QueueOp)
   front_take = holds.known ++ at_take.more
 
-  -- what is held just before the take
+  -- What is held just before the take.
   held_front : drains_in after.seen ≤ calls + 1 → AreHeld first (newest_of front_take) jobs deeds values
   held_front few =
       let all = many holds.known at_take.more after.seen (entry before.number ops.Take) at_take.seen in
@@ -103,7 +103,7 @@ module _ (first : ℕ → Content) (before after : QueueSeat) (told : Answer Que
     held = held_taken;
   }
 
--- the job that a take handed out is in hand
+-- The job that a take handed out is in hand.
 pub in_hand : (before after : QueueSeat) (told : Answer QueueReply) (job : Job) → IsCall before after ops.Take told → told.reply ≡ replies.Job job → IsInHand job (newest_of after.seen)
 in_hand before after told job call is =
     let at : Since before.seen before after ops.Take told.place = since before.seen before after ops.Take told.place (knows_all before) call.place in
@@ -145,7 +145,7 @@ module _ (first : ℕ → Content) (before mid after : QueueSeat) (taken noted :
 
 -- ---- why jobs could not be written
 
--- a driver that is not spent was not before, since one that is spent stays so
+-- A driver that is not spent was not before, since one that is spent stays so.
 unspent_before : (before after : Bool) → (IsTrue before → IsTrue after) → IsFalse after → IsFalse before
 unspent_before true after stays unspent = let spent : IsTrue after = stays refl in absurd (cc)
 unspent_before false after stays unspent = refl
@@ -166,7 +166,7 @@ module _ {B : Type 0} {b : Ghosts B} (c : Config) (store now : Store B b) where
         sequence = λ was. follows.stays_spent (caused.sequence was);
       }
 
--- no job more
+-- No job more.
 pub caused_same : {B : Type 0} {b : Ghosts B} (c : Config) (store : Store B b) (begun : ℕ) (told : List Told) (some more less : ℕ) → IsCaused c begun (answers.Drained some less ∷ told) store
     → IsCaused c begun (answers.Drained more (less + 0) ∷ told) store
 caused_same c store begun told some more less caused = record {

@@ -26,18 +26,18 @@ use Rattle.flt_lane.proofs.Journals.{prefix_trans}
 use Rattle.flt_lane.proofs.Keeping.{kept_first, kept_further}
 use Rattle.flt_lane.proofs.Saves.{map_reverse, saves-append, step_calls}
 
--- a seat that took no call
+-- A seat that took no call.
 pub fresh_of : {S O : Type 0} (main : Seated S O) (lock : _) (start : S) (room : ℕ) → main ≡ main_seat lock start room → main ≡ main_seat main.lock main.start main.left
 fresh_of {S} {O} main lock start room is = subst (λ (m : Seated S O). m ≡ main_seat m.lock m.start m.left) (sym is) refl
 
--- what was known is a beginning of the journal that the closed lock left
+-- What was known is a beginning of the journal that the closed lock left.
 pub known_whole : {S O : Type 0} (main : Seated S O) (journal known : List (Entry O)) → CouldClose main journal → IsKnownTo main known → IsPrefix known journal
 known_whole main journal known whole =
     ⊎_elim (λ pre. prefix_trans known main.seen journal pre whole.seen) (λ old. prefix_trans known old.0 journal old.2 (All-contains (λ o. IsPrefix o journal) main.olds old.0 whole.olds old.1))
 
 -- ---- the generations
 
--- what is kept by what the main seat knows is kept by the whole journal: behind it stands no call of a save
+-- What is kept by what the main seat knows is kept by the whole journal: behind it stands no call of a save.
 pub kept_at_end : (c : Config) (first : Generation) (main : Seat) (deeds : List Deed) (h s : Generation) (journal known : Journal) → CouldClose main journal → IsKnownTo main known → saves_in journal ≤ saves_of deeds → saves_of deeds ≤ saves_in known
     → (saves_in known ≤ saves_of deeds → IsKeptSince c first (reverse known) (answers_of deeds) h s) → IsKeptSince c first (reverse journal) (answers_of deeds) h s
 kept_at_end c first main deeds h s journal known whole is_known most least kept =
@@ -47,7 +47,7 @@ kept_at_end c first main deeds h s journal known whole is_known most least kept 
     subst (λ j. IsKeptSince c first (reverse j) (answers_of deeds) h s) pre.1
     (kept_further c first (answers_of deeds) h s known rest (step_calls rest (omega (arith, sum, most, least))) (kept (omega (arith, sum, most))))
 
--- the store before the first step
+-- The store before the first step.
 pub living_first : {B : Type 0} {b : Ghosts B} (c : Config) (first : Generation) (main : Seat) (store : Store B b) → IsRunning c first first store → IsLivingOn c first main [] store
 living_first c first main store running = record {
   held = first;
@@ -61,7 +61,7 @@ living_first c first main store running = record {
 
 -- ---- the application blocks
 
--- before the first step
+-- Before the first step.
 pub holds_first : (jobs : QueueSeat) (values : ℕ → Content) → HoldsOn values jobs [] values
 holds_first jobs values = record {
   known = [];
@@ -70,7 +70,7 @@ holds_first jobs values = record {
   held = λ few. record { done = refl; held = λ block below. refl; got = tt; told = omega arith };
 }
 
--- what holds of all calls
+-- What holds of all calls.
 pub record HoldsAll (first : ℕ → Content) (past : History) (deeds : List Deed) (values : ℕ → Content) : Type 0 where
   pub held : HoldApplications first past values
   pub got : AreGot first past deeds

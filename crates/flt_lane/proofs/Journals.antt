@@ -27,7 +27,7 @@ module _ {X : Type 0} where
   prefix_trans xs ys zs first second = subst (IsPrefix xs) second.1 (prefix_longer xs ys second.0 first)
 
 module _ {O : Type 0} where
-  -- the first entry is a call of its lane
+  -- The first entry is a call of its lane.
   pub head_call : (e : Entry O) (es : List (Entry O)) → calls_of e.lane (e ∷ es) ≡ e.op ∷ calls_of e.lane es
   head_call e es = rw (eq-eqb e.lane e.lane refl) refl
 
@@ -37,12 +37,12 @@ module _ {O : Type 0} where
   pub no_call_before : (n : ℕ) (xs ys : List (Entry O)) → calls_of n (xs ++ ys) ≡ [] → calls_of n xs ≡ []
   no_call_before n xs ys none = nothing_in_front (calls_of n xs) (calls_of n ys) (sym (calls_of-append n xs ys) ∙ none)
 
-  -- where no lane has a call, there is none
+  -- Where no lane has a call, there is none.
   pub no_calls : (xs : List (Entry O)) → ((n : ℕ) → calls_of n xs ≡ []) → xs ≡ []
   no_calls [] none = refl
   no_calls (e ∷ es) none = let first = head_call e es in let gone = none e.lane in absurd (cc)
 
-  -- a piece has no call of a lane, where the whole has none, or else the lane is one of those of which the piece has none
+  -- A piece has no call of a lane, where the whole has none, or else the lane is one of those of which the piece has none.
   pub none_of : (journal piece : List (Entry O)) (lanes : List (ℕ × List O)) (n : ℕ) → Mixes journal lanes → (calls_of n journal ≡ [] → calls_of n piece ≡ [])
       → All (λ lane. lane.0 ≡ n → calls_of n piece ≡ []) lanes → calls_of n piece ≡ []
   none_of journal piece lanes n mixes from each = empty_unless (calls_of n piece) (λ x rest is.
@@ -51,7 +51,7 @@ module _ {O : Type 0} where
       cc)) in
       cc)
 
-  -- a front that has as many calls of a lane as the whole has all of them
+  -- A front that has as many calls of a lane as the whole has all of them.
   pub record IsFull (n : ℕ) (ops : List O) (front rest : List (Entry O)) : Type 0 where
     pub none : calls_of n rest ≡ []
     pub all : calls_of n front ≡ ops
@@ -63,19 +63,19 @@ module _ {O : Type 0} where
       let none : calls_of n rest ≡ [] = none_of_length (calls_of n rest) (omega (arith, lengths, enough)) in
       record { none = none; all = sym (append-nil (calls_of n front)) ∙ ap (λ l. calls_of n front ++ l) (sym none) ∙ parts }
 
-  -- nothing stands behind a front that has as many calls of each lane as the whole
+  -- Nothing stands behind a front that has as many calls of each lane as the whole.
   pub none_left : (front rest : List (Entry O)) (lanes : List (ℕ × List O)) → Mixes (front ++ rest) lanes → All (λ lane. length lane.1 ≤ length (calls_of lane.0 front)) lanes → rest ≡ []
   none_left front rest lanes mixes enough = no_calls rest (λ n. none_of (front ++ rest) rest lanes n mixes (no_call_behind n front rest)
       (λ k d within same. subst (λ m. calls_of m rest ≡ []) same (full_front (get_or lanes k d).0 (get_or lanes k d).1 front rest (mixes.each k d within) (enough k d within)).none))
 
-  -- a longer journal has as many calls
+  -- A longer journal has as many calls.
   pub more_calls : (n : ℕ) (xs ys : List (Entry O)) → IsPrefix xs ys → length (calls_of n xs) ≤ length (calls_of n ys)
   more_calls n xs ys pre =
       let lengths : length (calls_of n xs) + length (calls_of n pre.0) ≡ length (calls_of n ys) =
       sym (length-append (calls_of n xs) (calls_of n pre.0)) ∙ ap length (sym (calls_of-append n xs pre.0)) ∙ ap (λ l. length (calls_of n l)) pre.1 in
       omega (arith, lengths)
 
-  -- an entry of a lane stands behind a front in which the lane has no call
+  -- An entry of a lane stands behind a front in which the lane has no call.
   pub behind_front : (n : ℕ) (op : O) (front rest : List (Entry O)) (place : ℕ) → calls_of n front ≡ [] → slice_get (front ++ rest) place ≡ Some (entry n op) → length front ≤ place
   behind_front n op [] rest place none stands = omega arith
   behind_front n op (e ∷ front) rest zero none stands =
@@ -94,7 +94,7 @@ module _ {O : Type 0} where
 
   -- ---- a journal cut where lanes past a number begin
 
-  -- the front in which no lane is past this number
+  -- The front in which no lane is past this number.
   abbrev pub low_front : ℕ → List (Entry O) → List (Entry O)
   low_front most [] = []
   low_front most (e ∷ es) = cond (leb e.lane most) (e ∷ low_front most es) []
@@ -117,7 +117,7 @@ module _ {O : Type 0} where
   longer_front most e es more none rest true low = rw low (rest.0, ap (λ l. e ∷ l) rest.1)
   longer_front most e es more none rest false high = let first = head_call e es in let gone = none (leb-false e.lane most high) in absurd (cc)
 
-  -- a beginning without calls of lanes past the number is a beginning of that front
+  -- A beginning without calls of lanes past the number is a beginning of that front.
   pub low_prefix : (most : ℕ) (old journal : List (Entry O)) → ((n : ℕ) → most < n → calls_of n old ≡ []) → IsPrefix old journal → IsPrefix old (low_front most journal)
   low_prefix most [] journal none pre = (low_front most journal, refl)
   low_prefix most (e ∷ es) journal none pre =
@@ -129,7 +129,7 @@ module _ {O : Type 0} where
       ∙ no_call_of_others n e.lane e.op (λ same. absurd (omega (arith, same, leb-true e.lane most low))))
   low_calls_more most n e es past rest false high = rw high refl
 
-  -- no lane past the number calls in that front
+  -- No lane past the number calls in that front.
   pub low_calls : (most n : ℕ) (journal : List (Entry O)) → most < n → calls_of n (low_front most journal) ≡ []
   low_calls most n [] past = refl
   low_calls most n (e ∷ es) past = low_calls_more most n e es past (low_calls most n es past) (leb e.lane most) refl

@@ -52,11 +52,11 @@ snapshot_call start lane number earlier (ops.Show event) is = refl
 snapshot_call start lane number earlier ops.Snapshot is = absurd is
 snapshot_call start lane number earlier (ops.Saved other) is = absurd is
 
--- an entry more, the newest first
+-- An entry more, the newest first.
 pub pushed : (journal : Journal) (e : Entry Op) → reverse (journal ++ e ∷ []) ≡ e ∷ reverse journal
 pushed journal e = reverse-append journal (e ∷ [])
 
--- the calls of steps behind a journal leave its last snapshot
+-- The calls of steps behind a journal leave its last snapshot.
 pub snapshot_further : (start : Life) (number : ℕ) (journal entries : Journal) → All (λ (e : Entry Op). IsStepCall e.op) entries → snapshot_of start number (reverse (journal ++ entries)) ≡ snapshot_of start number (reverse journal)
 snapshot_further start number journal [] are = ap (λ j. snapshot_of start number (reverse j)) (append-nil journal)
 snapshot_further start number journal (e ∷ entries) are =
@@ -68,7 +68,7 @@ module _ (start : Life) (journal : Journal) (told : List Told) (last : Generatio
   left_entry : (lane : ℕ) (op : Op) (g : Generation) → IsStepCall op → IsLeft start journal told last g → IsLeft start (entry lane op ∷ journal) told last g
   left_entry lane op g is = ⊎_elim (λ same. inl same) (λ (more : IsUnacknowledged start journal told last g). inr record { past = more.past; most = more.most; taken = taken_call start journal op g.state _ is more.taken })
 
-  -- a save that failed leaves what was there
+  -- A save that failed leaves what was there.
   left_failed : (lane : ℕ) (fault : SaveFault) (g : Generation) → IsLeft start journal told last g → IsLeft start (entry lane ops.Snapshot ∷ journal) (answers.SaveFailed fault ∷ told) last g
   left_failed lane fault g = ⊎_elim (λ same. inl same) (λ (more : IsUnacknowledged start journal told last g). (let most = more.most in inr record { past = more.past; most = omega (arith, most); taken = inr more.taken }))
 
@@ -78,7 +78,7 @@ module _ (start : Life) (journal : Journal) (told : List Told) (last : Generatio
   at_most : (g : Generation) → IsLeft start journal told last g → g.number ≤ last.number + failures told
   at_most g = ⊎_elim (λ same. (let is = ap (λ (d : Generation). d.number) same in omega (arith, is))) (λ (more : IsUnacknowledged start journal told last g). more.most)
 
-  -- or what it was to write
+  -- Or what it was to write.
   left_new : (lane : ℕ) (fault : SaveFault) (chosen : Generation) → IsLeft start journal told last chosen
       → IsLeft start (entry lane ops.Snapshot ∷ journal) (answers.SaveFailed fault ∷ told) last (numbered (chosen.number + 1) (saved_after start (calls_of journal)))
   left_new lane fault chosen left =
@@ -86,7 +86,7 @@ module _ (start : Life) (journal : Journal) (told : List Told) (last : Generatio
       let most = at_most chosen left in
       inr record { past = omega (arith, least); most = omega (arith, most); taken = inl refl }
 
--- the one from which a save went on
+-- The one from which a save went on.
 chosen_of : (P : Generation → Type 0) {Q R : Type 0} (h s chosen : Generation) → (chosen ≡ h) ⊎ ((chosen ≡ s) × Q × R) → P h → P s → P chosen
 chosen_of P h s chosen is by_held by_spare = ⊎_elim (λ e. subst P (sym e) by_held) (λ more. subst P (sym more.0) by_spare) is
 
@@ -94,7 +94,7 @@ one_of : (P : Generation → Type 0) (g h s new : Generation) → IsOneOf g h s 
 one_of P g h s new is by_held by_spare by_new =
     ⊎_elim (λ e. subst P (sym e) by_held) (λ more. ⊎_elim (λ e. subst P (sym e) by_spare) (λ e. subst P (sym e) by_new) more) is
 
--- the answer of a drain or of a read
+-- The answer of a drain or of a read.
 abbrev pub IsNoSave : Told → Type 0
 IsNoSave (answers.Drained written failed) = Unit {0}
 IsNoSave (answers.Bytes found) = Unit {0}
@@ -128,7 +128,7 @@ module _ (c : Config) (first : Generation) (journal : Journal) (told : List Told
     rising = rising;
   }
 
-  -- an answer of a drain or a read
+  -- An answer of a drain or a read.
   pub kept_other : (answer : Told) → IsNoSave answer → IsKeptSince c first journal (answer ∷ told) h s
   kept_other (answers.Drained written failed) is = kept_beside (answers.Drained written failed) refl refl kept.rising
   kept_other (answers.Bytes found) is = kept_beside (answers.Bytes found) refl refl kept.rising
@@ -162,7 +162,7 @@ module _ (c : Config) (first : Generation) (journal : Journal) (told : List Told
           rising = kept.rising;
         }
 
-    -- the snapshot of the state was the last one of the lane, also where calls of other lanes stand behind it
+    -- The snapshot of the state was the last one of the lane, also where calls of other lanes stand behind it.
     pub kept_saved : (lane number : ℕ) (later : Journal) → number ≡ chosen.number + 1 → snapshot_of (start_from c first.state) lane later ≡ Some (saved_after (start_from c first.state) (calls_of journal))
         → IsKeptSince c first (entry lane (ops.Saved number) ∷ later) (answers.Saved number ∷ told)
         (numbered number (saved_after (start_from c first.state) (calls_of journal))) (numbered number (saved_after (start_from c first.state) (calls_of journal)))
@@ -179,7 +179,7 @@ module _ (c : Config) (first : Generation) (journal : Journal) (told : List Told
           rising = ((omega (arith, least, next, last), omega (arith, most, next, last)), kept.rising);
         }
 
--- calls of steps behind a journal
+-- Calls of steps behind a journal.
 pub kept_further : (c : Config) (first : Generation) (told : List Told) (h s : Generation) (journal entries : Journal) → All (λ (e : Entry Op). IsStepCall e.op) entries → IsKeptSince c first (reverse journal) told h s
     → IsKeptSince c first (reverse (journal ++ entries)) told h s
 kept_further c first told h s journal [] are kept = subst (λ j. IsKeptSince c first (reverse j) told h s) (sym (append-nil journal)) kept
@@ -188,6 +188,6 @@ kept_further c first told h s journal (e ∷ entries) are kept =
     subst (λ j. IsKeptSince c first (reverse j) told h s) (append_assoc journal (e ∷ []) entries)
     (kept_further c first told h s (journal ++ e ∷ []) entries (All-tail (λ (e : Entry Op). IsStepCall e.op) e entries are) (subst (λ j. IsKeptSince c first j told h s) (sym (pushed journal e)) one))
 
--- no step
+-- No step.
 pub kept_first : (c : Config) (first : Generation) → IsKeptSince c first [] [] first first
 kept_first c first = record { last = first; acknowledged = refl; number = refl; held_is = inl refl; spare_is = inl refl; rising = tt }

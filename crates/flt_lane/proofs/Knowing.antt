@@ -16,13 +16,13 @@ take_front : {X : Type 0} (front back : List X) (n : ℕ) → length front ≡ n
 take_front front back n is = take-append-le n front back (omega (arith, is)) ∙ take_all n front (omega (arith, is))
 
 module _ {S O : Type 0} where
-  -- what was known before a call stands before it
+  -- What was known before a call stands before it.
   pub known_before : (before after : Seated S O) (op : O) (place : ℕ) (known : List (Entry O)) → (ext : Extends before after op place) → IsKnownTo before known → IsPrefix known (before.seen ++ ext.between)
   known_before before after op place known ext =
       ⊎_elim (λ pre. prefix_trans known before.seen (before.seen ++ ext.between) pre (ext.between, refl))
       (λ old. prefix_trans known old.0 (before.seen ++ ext.between) old.2 (All-contains (λ o. IsPrefix o (before.seen ++ ext.between)) before.olds old.0 ext.olds old.1))
 
-  -- and is known behind it
+  -- And is known behind it.
   pub known_behind : (before after : Seated S O) (op : O) (place : ℕ) (known : List (Entry O)) → Extends before after op place → IsKnownTo before known → IsKnownTo after known
   known_behind before after op place known ext is =
       inl (subst (IsPrefix known) (sym ext.seen) (prefix_trans known (before.seen ++ ext.between) ((before.seen ++ ext.between) ++ _ ∷ []) (known_before before after op place known ext is) (_ ∷ [], refl)))
@@ -30,7 +30,7 @@ module _ {S O : Type 0} where
   pub knows_all : (seat : Seated S O) → IsKnownTo seat seat.seen
   knows_all seat = inl ([], append-nil seat.seen)
 
-  -- the calls behind what was known, up to a call
+  -- The calls behind what was known, up to a call.
   pub record Since (known : List (Entry O)) (before after : Seated S O) (op : O) (place : ℕ) : Type 0 where
     pub more : List (Entry O)
     pub seen : after.seen ≡ (known ++ more) ++ entry before.number op ∷ []
@@ -47,13 +47,13 @@ module _ {S O : Type 0} where
         ops_are = ap ops_of (taken ∙ sym pre.1);
       }
 
-  -- a seat that knows as much
+  -- A seat that knows as much.
   pub known_same : (seat other : Seated S O) (known : List (Entry O)) → other.seen ≡ seat.seen → other.olds ≡ seat.olds → IsKnownTo seat known → IsKnownTo other known
   known_same seat other known seen olds =
       ⊎_elim (λ pre. inl (subst (IsPrefix known) (sym seen) pre)) (λ old. inr (old.0, subst (λ l. Contains l old.0) (sym olds) old.1, old.2))
 
 module _ {S O R : Type 0} (admits : S → O → Type 0) (answer : S → List O → O → R) where
-  -- also behind a chain of calls
+  -- Also behind a chain of calls.
   pub known_along : (before : Seated S O) (calls : List (Call O R)) (after : Seated S O) (known : List (Entry O)) → Chain admits answer before calls after → IsKnownTo before known → IsKnownTo after known
   unfolding Chain
   known_along before [] after known same is = subst (λ (s : Seated S O). IsKnownTo s known) (sym same) is

@@ -19,7 +19,7 @@ if-append : (b : Bool) (step : Step) (told : Told) (deeds more : List Deed) → 
 if-append true step told deeds more = refl
 if-append false step told deeds more = refl
 
--- its deed stands behind those of the steps before it
+-- Its deed stands behind those of the steps before it.
 pub lane_deeds_more : (steps : List Step) (told : List Told) (step : Step) (one : Told) → length told ≡ length steps → lane_deeds (steps ++ step ∷ []) (told ++ one ∷ []) ≡ lane_deeds steps told ++ with_deed step one []
 lane_deeds_more [] [] step one size = refl
 lane_deeds_more [] (answer ∷ told) step one size = absurd (omega (arith, size))
@@ -27,7 +27,7 @@ lane_deeds_more (first ∷ steps) [] step one size = absurd (omega (arith, size)
 lane_deeds_more (first ∷ steps) (answer ∷ told) step one size =
     ap (with_deed first answer) (lane_deeds_more steps told step one (omega (arith, size))) ∙ if-append (is_store_step first) first answer (lane_deeds steps told) (with_deed step one [])
 
--- and is the newest
+-- And is the newest.
 newest_if : (b : Bool) (step : Step) (told : Told) (deeds earlier : List Deed) → reverse (deeds ++ deed_if b step told []) ++ earlier ≡ deed_if b step told (reverse deeds ++ earlier)
 newest_if true step told deeds earlier = ap (λ l. l ++ earlier) (reverse-append deeds ((step, told) ∷ []))
 newest_if false step told deeds earlier = ap (λ l. reverse l ++ earlier) (append-nil deeds)
@@ -49,21 +49,21 @@ if_none : (b : Bool) (step : Step) (told : Told) (deeds : List Deed) → b ≡ f
 if_none true step told deeds is none = absurd (true≢false is)
 if_none false step told deeds is none = none
 
--- a lane that does not has no deeds
+-- A lane that does not has no deeds.
 pub no_deeds : (steps : List Step) (told : List Told) → has_store_step steps ≡ false → lane_deeds steps told ≡ []
 no_deeds [] told none = refl
 no_deeds (step ∷ steps) [] none = refl
 no_deeds (step ∷ steps) (answer ∷ told) none =
     if_none (is_store_step step) step answer (lane_deeds steps told) (left_false (is_store_step step) (list_any is_store_step steps) none) (no_deeds steps told (right_false (is_store_step step) (list_any is_store_step steps) none))
 
--- nor have several
+-- Nor have several.
 pub none_deeds : (lanes : List (List Step)) (told : List (List Told)) → ((k : ℕ) (d : List Step) → k < length lanes → has_store_step (get_or lanes k d) ≡ false) → block_deeds lanes told ≡ []
 none_deeds [] told none = refl
 none_deeds (steps ∷ lanes) [] none = refl
 none_deeds (steps ∷ lanes) (answers ∷ told) none =
     ap (λ l. l ++ block_deeds lanes told) (no_deeds steps answers (none 0 steps (omega arith))) ∙ none_deeds lanes told (λ k d within. none (suc k) d (omega arith))
 
--- where one does, its deeds are all
+-- Where one does, its deeds are all.
 pub one_deeds : (lanes : List (List Step)) (told : List (List Told)) (place : ℕ) (steps : List Step) (answers : List Told) → place < length lanes → length told ≡ length lanes → get_or lanes place steps ≡ steps → get_or told place answers ≡ answers
     → ((k : ℕ) (d : List Step) → k < length lanes → k ≢ place → has_store_step (get_or lanes k d) ≡ false) → block_deeds lanes told ≡ lane_deeds steps answers
 one_deeds [] told place steps answers within size is told_is others = absurd (omega (arith, within))
@@ -86,7 +86,7 @@ nothing : {X : Type 0} (xs : List X) → length xs ≡ 0 → xs ≡ []
 nothing [] none = refl
 nothing (x ∷ xs) none = absurd (omega (arith, none))
 
--- the deeds of a part stand behind those of the parts before it
+-- The deeds of a part stand behind those of the parts before it.
 pub deeds_more : (parts : List (PartOf Step)) (own : List Told) (lanes : List (List Told)) (part : PartOf Step) (mine : List Told) (others : List (List Told)) → length own ≡ length (own_steps parts) → length lanes ≡ widths parts
     → deeds_in (parts ++ part ∷ []) (own ++ mine) (lanes ++ others) ≡ deeds_in parts own lanes ++ deeds_in (part ∷ []) mine others
 deeds_more [] own lanes part mine others size wide = λ i. deeds_in (part ∷ []) (nothing own size i ++ mine) (nothing lanes wide i ++ others)

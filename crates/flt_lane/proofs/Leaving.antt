@@ -12,7 +12,7 @@ module _ {B : Type 0} {b : Ghosts B} where
   pub leaves_nothing : (store : Store B b) → LeavesStore store store
   leaves_nothing store = record { goes_on = goes_nowhere (driver_of store); given = none_given (driver_of store).device.bench.arms; armed = omega arith }
 
-  -- calls of the driver
+  -- Calls of the driver.
   pub leaves_by_calls : (store now : Store B b) → Follows (driver_of store) (driver_of now) → LeavesStore store now
   leaves_by_calls store now follows = record {
     goes_on = goes_by_calls (driver_of store) (driver_of now) follows;

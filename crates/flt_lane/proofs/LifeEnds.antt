@@ -64,7 +64,7 @@ parts_for c (part ∷ parts) possible few =
 pub same_blocks : (c d : Config) → c ≡ d → c.blocks ≡ d.blocks
 same_blocks c d same = ap (λ (k : Config). k.blocks) same
 
--- the journals of a life, which have no more calls of saves and of drains than its deeds
+-- The journals of a life, which have no more calls of saves and of drains than its deeds.
 pub record HasEnded (start : Life) (parts : List (PartOf Step)) (own : List Told) (lanes : List (List Told)) (journal : Journal) (queue : List (Entry QueueOp)) : Type 0 where
   pub life : IsLife start parts own lanes journal queue
   pub saves : saves_in journal ≤ saves_of (reverse (deeds_in parts own lanes))
@@ -85,7 +85,7 @@ life_by start main after jobs jobs_after parts own lanes journal queue fresh job
   jobs = subst (λ n. IsMade StepQueues queued.reply_after n parts own lanes queue) blocks (made_of queued.reply_after StepQueues jobs jobs_after parts own lanes queue jobs_fresh ran.queue jobs_whole);
 }
 
--- both journals turned twice
+-- Both journals turned twice.
 pub turned_life : (start : Life) (parts : List (PartOf Step)) (own : List Told) (lanes : List (List Told)) (journal : Journal) (queue : List (Entry QueueOp)) → IsLife start parts own lanes journal queue
     → IsLife start parts own lanes (reverse (reverse journal)) (reverse (reverse queue))
 turned_life start parts own lanes journal queue life =
@@ -101,7 +101,7 @@ module _ {B : Type 0} {b : Ghosts B} where
     pub ended : HasEnded (start_from c state) parts own lanes journal queue
     pub carries : Carries c main after jobs jobs_after [] (reverse (deeds_in parts own lanes)) store now
 
-  -- the parts that were carried out are those of the life
+  -- The parts that were carried out are those of the life.
   pub over_of : (c : Config) (state : Persist) (main after : Seat) (jobs jobs_after : QueueSeat) (given parts : List (PartOf Step)) (own : List Told) (lanes : List (List Told)) (journal : Journal) (queue : List (Entry QueueOp)) (store now : Store B b)
       → main ≡ main_seat main.lock main.start main.left → jobs ≡ main_seat jobs.lock jobs.start jobs.left → main.start ≡ start_from c state → jobs.start ≡ c.blocks → given ≡ parts
       → HaveRunParts main after jobs jobs_after given own lanes → CouldClose after journal → CouldClose jobs_after queue → Carries c main after jobs jobs_after [] (reverse (deeds_in given own lanes)) store now
@@ -117,7 +117,7 @@ module _ {B : Type 0} {b : Ghosts B} where
         carries = subst (λ l. Carries c main after jobs jobs_after [] (reverse (deeds_in l own lanes)) store now) same carries;
       }
 
-  -- the generations that the store holds in the end
+  -- The generations that the store holds in the end.
   pub record HasLeft (c : Config) (first : Generation) (journal : Journal) (told : List Told) (now : Store B b) : Type 0 where
     pub held : Generation
     pub spare : Generation

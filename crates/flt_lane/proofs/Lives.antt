@@ -42,7 +42,7 @@ use Rattle.flt_lane.proofs.Seats.{next_of}
 -- ---- on one lock
 
 module _ {S O R : Type 0} (admits : S → O → Type 0) (answer : S → List O → O → R) (MadeBy : Step → Told → List (Call O R) → Type 0) (count : Step → ℕ) where
-  -- a step of lane 0 is a part
+  -- A step of lane 0 is a part.
   pub part_one : (main after : Seated S O) (step : Step) (told : Told) → IsMain main → MakesBy admits answer MadeBy count main step told after → HasRunPart answer MadeBy main after (inl step) (told ∷ []) []
   part_one main after step told is makes = record {
     made = (0, makes.calls) ∷ [];
@@ -50,7 +50,7 @@ module _ {S O R : Type 0} (admits : S → O → Type 0) (answer : S → List O �
     lived = chain_part admits answer main makes.calls after is makes.chain;
   }
 
-  -- and so is a block
+  -- And so is a block.
   pub part_block : (main after : Seated S O) (lanes : List (List Step)) (told : List (List Told)) → HasRunBlock answer MadeBy main after lanes told → HasRunPart answer MadeBy main after (inr lanes) [] told
   part_block main after lanes told ran = record { made = ran.made; makes = (refl, ran.makes); lived = ran.lived }
 
@@ -114,7 +114,7 @@ module _ {B : Type 0} {b : Ghosts B} (c : Config) (main after : Seat) (jobs jobs
 
 -- ---- room
 
--- there is room for the first of these steps
+-- There is room for the first of these steps.
 pub room_of_first : (replies : LaneReplies) (step : Step) (rest : List Step) → HasRoomForSteps replies (step ∷ rest) → HasRoomForSteps replies (step ∷ [])
 room_of_first replies step rest room =
     let all = sizes-cons step rest in
@@ -167,7 +167,7 @@ living_begins locks main jobs parts rest own told armed is main_is jobs_is seat 
   told_room = told_room;
 }
 
--- the arms of one part more
+-- The arms of one part more.
 arms-append : (actions more : List Action) → all_arms (actions ++ more) ≡ all_arms actions ++ all_arms more
 arms-append [] more = refl
 arms-append (action ∷ actions) more = ap (λ l. arms_of action ++ l) (arms-append actions more) ∙ sym (append_assoc (arms_of action) (all_arms actions) (all_arms more))
@@ -181,7 +181,7 @@ pub arms_more_parts : (done : List PartRoom) (part : PartRoom) → all_arms (own
 arms_more_parts done part = ap (λ l. all_arms (own_actions l)) (map-append part_in done (part ∷ [])) ∙ ap all_arms (actions-append (parts_in done) (part_in part ∷ []))
     ∙ arms-append (own_actions (parts_in done)) (own_actions (part_in part ∷ []))
 
--- what the parts need in all is what those that were carried out, the next one and the later ones need
+-- What the parts need in all is what those that were carried out, the next one and the later ones need.
 parts_split : (parts done rest later : List PartRoom) (part : PartRoom) → done ++ rest ≡ parts → rest ≡ part ∷ later → parts_in parts ≡ parts_in done ++ part_in part ∷ parts_in later
 parts_split parts done rest later part is next = ap parts_in (sym is) ∙ map-append part_in done rest ∙ ap (λ l. parts_in done ++ parts_in l) next
 
@@ -263,7 +263,7 @@ module _ {F : _} {g : _} {A : Type 0} (locks : Locks F g) (main now : Seat) (job
         told_room = omega (arith, told_room, is.told_room);
       }
 
-  -- the deeds of one part more
+  -- The deeds of one part more.
   pub deeds_with : (own_after : LaneReplies) (told_after : Vec LaneReplies A) (mine : List Told) (others : List (List Told)) → told_in own_after ≡ told_in own ++ mine → map told_in told_after.items ≡ map told_in told.items ++ others
       → reverse (deeds_in (parts_in (done ++ part ∷ [])) (told_in own_after) (map told_in told_after.items))
       ≡ reverse (deeds_in (part_in part ∷ []) mine others) ++ reverse (deeds_in (parts_in done) (told_in own) (map told_in told.items))

@@ -30,7 +30,7 @@ nothing_mixes {O} number = record {
 }
 
 module _ {O R : Type 0} where
-  -- the calls of one lane, one behind the other
+  -- The calls of one lane, one behind the other.
   alone_more : (number : ℕ) (xs ys : List (Call O R)) (first second : List (Entry O)) → Mixes first (asked_of ((number, xs) ∷ [])) → Mixes second (asked_of ((number, ys) ∷ []))
       → Mixes (first ++ second) (asked_of ((number, xs ++ ys) ∷ []))
   alone_more number xs ys first second a b =
@@ -234,7 +234,7 @@ module _ {S O R : Type 0} (admits : S → O → Type 0) (answer : S → List O �
             rising = rise_alone (length front) (call ∷ []) (rise_one (length front) call (omega (arith, ext.place_is)));
           }
 
-  -- calls of the main seat are those of lane 0, in a block of their own
+  -- Calls of the main seat are those of lane 0, in a block of their own.
   pub chain_part : (main : Seated S O) (calls : List (Call O R)) (after : Seated S O) → IsMain main → Chain admits answer main calls after → LivesAlone main calls after
   unfolding Chain
   chain_part main [] after is same = subst (LivesAlone main []) (sym same) (no_call main is)

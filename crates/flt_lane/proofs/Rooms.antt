@@ -10,7 +10,7 @@ use Rattle.flt_life.specs.Room.{steps_of}
 use Rattle.flt_lane.specs.declared.room.PartRoom.{PartRoom}
 use Rattle.flt_lane.specs.Room.{part_in}
 
--- two lists in one another's place, of which the first pieces are as long
+-- Two lists in one another's place, of which the first pieces are as long.
 record AreSame {X : Type 0} (xs ys first second : List X) : Type 0 where
   pub front : xs ≡ first
   pub back : ys ≡ second
@@ -25,7 +25,7 @@ same_pieces {X} (x ∷ xs) ys (a ∷ first) second is long =
     let rest = same_pieces xs ys first second others (omega (arith, long)) in
     record { front = λ i. one i ∷ rest.front i; back = rest.back }
 
--- the rooms that were taken for a block are those of its lanes, and those of the later blocks are left
+-- The rooms that were taken for a block are those of its lanes, and those of the later blocks are left.
 pub record AreTaken (block : List (List Step)) (rooms left : List LaneRoom) (later : List (List Step)) : Type 0 where
   pub taken : steps_of rooms ≡ block
   pub rest : steps_of left ≡ later
@@ -38,7 +38,7 @@ taken_rooms block later all rooms left are count is =
     let same = same_pieces (steps_of rooms) (steps_of left) block later pieces long in
     record { taken = same.front; rest = same.back }
 
--- there are as many as the block has lanes
+-- There are as many as the block has lanes.
 pub enough_rooms : (block later : List (List Step)) (all : List LaneRoom) → steps_of all ≡ lanes_in (inr block ∷ []) ++ later → length block ≤ length all
 enough_rooms block later all is =
     let long = ap length (is ∙ ap (λ l. l ++ later) (append-nil block)) ∙ length-append block later in
@@ -49,13 +49,13 @@ lanes-append : (part : PartOf Step) (later : List (PartOf Step)) → lanes_in (p
 lanes-append (inl step) later = refl
 lanes-append (inr lanes) later = ap (λ l. l ++ lanes_in later) (sym (append-nil lanes))
 
--- the next part, and the later ones
+-- The next part, and the later ones.
 pub next_lanes : (parts : List Part) (index : ℕ) (part : Part) → index < length parts → part ≡ get_or parts index part
     → lanes_in (parts_of (drop index parts)) ≡ lanes_in (part_of part ∷ []) ++ lanes_in (parts_of (drop (index + 1) parts))
 next_lanes parts index part within is =
     rw (drop-cons parts index part within, add-one) (ap (λ (p : Part). lanes_in (part_of p ∷ parts_of (drop (suc index) parts))) (sym is) ∙ lanes-append (part_of part) (parts_of (drop (suc index) parts)))
 
--- one part more has its room
+-- One part more has its room.
 pub parts_more : (rooms : List PartRoom) (room : PartRoom) (parts : List Part) (index : ℕ) (part : Part) → map part_in rooms ≡ parts_of (take index parts) → part_in room ≡ part_of part → index < length parts
     → part ≡ get_or parts index part → map part_in (rooms ++ room ∷ []) ≡ parts_of (take (index + 1) parts)
 parts_more rooms room parts index part are same within is =

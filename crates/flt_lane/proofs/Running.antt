@@ -98,18 +98,18 @@ begins locks lane ready = record {
   seats = ready.seats;
 }
 
--- the next step of those that are left
+-- The next step of those that are left.
 pub next_step : (steps : List Step) (index : ℕ) (step : Step) → index < length steps → step ≡ get_or steps index step → drop index steps ≡ step ∷ drop (index + 1) steps
 next_step steps index step within is = rw (drop-cons steps index step within, add-one) (ap (λ s. s ∷ drop (suc index) steps) (sym is))
 
--- what all steps come to, by those so far, the next one and the others
+-- What all steps come to, by those so far, the next one and the others.
 pub sum_so_far : (amount : Step → ℕ) (steps : List Step) (index : ℕ) (step : Step) → index < length steps → step ≡ get_or steps index step
     → sum_by amount steps ≡ sum_by amount (take index steps) + (amount step + sum_by amount (drop (index + 1) steps))
 sum_so_far amount steps index step within is =
     ap (sum_by amount) (sym (take-append-drop index steps)) ∙ sum_by-append amount (take index steps) (drop index steps)
     ∙ ap (λ l. sum_by amount (take index steps) + sum_by amount l) (next_step steps index step within is) ∙ ap (λ n. sum_by amount (take index steps) + n) (sum_by-cons amount step (drop (index + 1) steps))
 
--- the seats stay those of the locks
+-- The seats stay those of the locks.
 pub seats_stay : {F : _} {g : _} (locks : Locks F g) (now after : LaneWork) (step : Step) (told : Told) → AreSeatsOf locks now → Makes now.seat step told after.seat → Queues now.queue_seat step told after.queue_seat
     → IsSeatOf locks.dem after.seat → turn.IsSeatOf locks.queue.turn after.queue_seat → AreSeatsOf locks after
 seats_stay locks now after step told seats makes queues dem job_seat = record {
@@ -121,7 +121,7 @@ seats_stay locks now after step told seats makes queues dem job_seat = record {
 
 module _ {F : _} {g : _} (locks : Locks F g) (before now : LaneWork) (index : ℕ) (step : Step) (ready : IsPrepared locks before) (on : IsPartway locks before now index) (within : index < length before.steps.now)
     (is : step ≡ get_or before.steps.now index step) where
-  -- there are the calls for the next step
+  -- There are the calls for the next step.
   pub calls_left : calls_by step ≤ now.seat.left
   calls_left = let sum = sum_so_far calls_by before.steps.now index step within is in let left = on.dem.left in omega (arith, sum, left, ready.calls)
 

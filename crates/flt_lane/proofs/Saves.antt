@@ -58,7 +58,7 @@ map_reverse f (x ∷ xs) = reverse-append (f x ∷ []) (map f xs) ∙ ap (λ l. 
     map-push f [] x = refl
     map-push f (y ∷ xs) x = ap (λ l. f y ∷ l) (map-push f xs x)
 
--- the calls behind what was known, the newest first
+-- The calls behind what was known, the newest first.
 pub calls_since : (known : Journal) (before after : Seat) (op : Op) (place : ℕ) (at : Since known before after op place) → past place after.seen ≡ calls_of (reverse (known ++ at.more))
 calls_since known before after op place at = ap reverse at.ops_are ∙ map_reverse (λ (e : Entry Op). e.op) (known ++ at.more)
 
@@ -86,7 +86,7 @@ module _ {B : Type 0} {b : Ghosts B} (c : Config) (main mid : Seat) (taken : Ans
   state_is : state ≡ saved_after (start_from c first.state) (calls_of (reverse front))
   state_is = is ∙ (λ i. saved_after (start i) (calls_since living.known main mid ops.Snapshot taken.place at i))
 
-  -- the generations as they were kept before the snapshot, where no other save was made
+  -- The generations as they were kept before the snapshot, where no other save was made.
   ahead : saves_in mid.seen ≤ saves_of earlier + 1 → IsKeptSince c first (reverse front) (answers_of earlier) living.held living.spare
   ahead few =
       let all = many living.known at.more mid.seen (entry main.number ops.Snapshot) at.seen in

@@ -127,7 +127,7 @@ joining_more main now after jobs jobs_now jobs_after works before told more repl
   room = room ∙ is.room;
 }
 
--- there is room for the answers of the next lane
+-- There is room for the answers of the next lane.
 pub room_to_join : {A : Type 0} (main now : Seat) (jobs jobs_now : QueueSeat) (works : List LaneWork) (before told : Vec LaneReplies A) (joined rest later : List LaneWork) (work : LaneWork)
     → IsJoining main now jobs jobs_now works before told joined rest → rest ≡ work ∷ later → vec_len before + length works ≤ vec_capacity before → vec_len told < vec_capacity told
 room_to_join main now jobs jobs_now works before told joined rest later work is next enough =
@@ -171,7 +171,7 @@ steps_of_length rooms = length-map rooms (λ (room : LaneRoom). room.steps.now)
 steps_of-append : (rooms more : List LaneRoom) → steps_of (rooms ++ more) ≡ steps_of rooms ++ steps_of more
 steps_of-append rooms more = map-append (λ (room : LaneRoom). room.steps.now) rooms more
 
--- what holds of each lane, holds of the next
+-- What holds of each lane, holds of the next.
 pub next_of : {X : Type 0} (P : X → Type 0) (all done rest later : List X) (x : X) → done ++ rest ≡ all → rest ≡ x ∷ later → All P all → P x
 next_of P all done rest later x is next holds = All-head P x later (subst (All P) next (all_right P done rest (subst (All P) (sym is) holds)))
 
@@ -186,7 +186,7 @@ all_steps amount rooms done rest later room is next = ap (λ l. sum_by amount (s
 
 module _ {F : _} {g : _} (locks : Locks F g) (main now : Seat) (jobs jobs_now : QueueSeat) (rooms : List LaneRoom) (works : List LaneWork) (done rest later : List LaneRoom) (room : LaneRoom)
     (is : IsSplitting locks main now jobs jobs_now rooms works done rest) (next : rest ≡ room ∷ later) where
-  -- there are the calls for the next lane
+  -- There are the calls for the next lane.
   pub room_for : all_calls (steps_of rooms) ≤ main.left → calls_of room.steps.now ≤ now.left
   room_for enough = let sum = all_steps calls_of rooms done rest later room is.all next in omega (arith, sum, is.off.left_is, enough)
 
@@ -199,14 +199,14 @@ module _ {F : _} {g : _} (locks : Locks F g) (main now : Seat) (jobs jobs_now : 
       let some = ap length next in
       omega (arith, count, some)
 
-  -- and numbers
+  -- And numbers.
   pub number_for : now.children + 1 ≤ main.children + length rooms
   number_for = let within = counts in omega (arith, within, is.off.children_is)
 
   pub job_number_for : jobs_now.children + 1 ≤ jobs.children + length rooms
   job_number_for = let within = counts in omega (arith, within, is.job_off.children_is)
 
-  -- and room for its seats
+  -- And room for its seats.
   pub seat_for : length done + 1 ≤ length rooms
   seat_for = counts
 
@@ -261,7 +261,7 @@ all_ready locks main jobs number job_number [] (w ∷ works) are = absurd are
 all_ready locks main jobs number job_number (l ∷ lanes) [] are = absurd are
 all_ready locks main jobs number job_number (l ∷ lanes) (w ∷ works) are = All-cons (IsPrepared locks) w works are.0.ready (all_ready locks main jobs (number + 1) (job_number + 1) lanes works are.1)
 
--- the lanes have their steps, and begin where the main seat began
+-- The lanes have their steps, and begin where the main seat began.
 pub all_steps_are : {F : _} {g : _} (locks : Locks F g) (main : Seat) (jobs : QueueSeat) (number job_number : ℕ) (lanes : List (List Step)) (works : List LaneWork) → AreSplit locks main jobs number job_number lanes works
     → map (λ (w : LaneWork). w.steps.now) works ≡ lanes
 unfolding AreSplit

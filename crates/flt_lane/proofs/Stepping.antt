@@ -44,7 +44,7 @@ use Rattle.flt_lane.proofs.Chains.{chain_fact, chain_more, chain_of_one}
 
 -- ---- calls of the status machine
 
--- a step of one call
+-- A step of one call.
 pub one_made : (before : Seat) (step : Step) (op : Op) (told : Answer Reply) (after : Seat) → action_of step ≡ action.Call op → IsCall before after op told → Makes before step (answers.Dem told) after
 one_made before step op told after makes call = record {
   calls = record { op = op; told = told } ∷ [];
@@ -53,12 +53,12 @@ one_made before step op told after makes call = record {
   left = let left = call.place.left in let one = ap call_count makes in omega (arith, left, one);
 }
 
--- a step of none
+-- A step of none.
 pub none_made : (seat : Seat) (step : Step) (told : Told) → StepMakes step told [] → Makes seat step told seat
 unfolding Chain
 none_made seat step told made = record { calls = []; made = made; chain = refl; left = omega arith }
 
--- a save of one call, and of two
+-- A save of one call, and of two.
 pub failed_made : (before : Seat) (fault : SaveFault) (taken : Answer Reply) (after : Seat) → IsCall before after ops.Snapshot taken → Makes before steps.Save (answers.SaveFailed fault) after
 failed_made before fault taken after call = record {
   calls = record { op = ops.Snapshot; told = taken } ∷ [];
@@ -77,7 +77,7 @@ saved_made before mid number taken noted after first second = record {
   left = let one = first.place.left in let two = second.place.left in omega (arith, one, two);
 }
 
--- what a snapshot takes fits
+-- What a snapshot takes fits.
 pub taken_fits : (c : Config) (start : Life) (past : History) (state : Persist) → start.config ≡ c → IsValid c → Fits c start.base → state ≡ saved_after start past → Fits c state
 taken_fits c start past state same valid fits is =
     subst (Fits c) (sym is) (subst (λ k. Fits k (saved_after start past)) same (saved_states_fit start past (subst IsValid (sym same) valid) (subst (λ k. Fits k start.base) (sym same) fits)))
@@ -126,7 +126,7 @@ none_queued seat step told made = record { calls = []; made = made; chain = refl
 -- ---- a drain
 
 module _ {B : Type 0} {b : Ghosts B} (c : Config) where
-  -- it took 32 jobs
+  -- It took 32 jobs.
   pub full_drained : (before after : QueueSeat) (written failed : ℕ) (store now : Store B b) → HasDrained c before after written failed 32 store now → Queues before steps.Drain (answers.Drained written failed) after
   full_drained before after written failed store now drained = record {
     calls = calls_for_all drained.jobs;
@@ -142,7 +142,7 @@ module _ {B : Type 0} {b : Ghosts B} (c : Config) where
     left = let left = drained.left in omega (arith, left);
   }
 
-  -- it found no more
+  -- It found no more.
   pub short_drained : (before mid after : QueueSeat) (written failed count : ℕ) (store middle now : Store B b) → count < 32 → HasDrained c before mid written failed count store middle → FindsNone c mid after middle now
       → Queues before steps.Drain (answers.Drained written failed) after
   short_drained before mid after written failed count store middle now few drained none =
@@ -163,7 +163,7 @@ module _ {B : Type 0} {b : Ghosts B} (c : Config) where
         left = let left = drained.left in let one = fact.left_is in omega (arith, left, one, few);
       }
 
--- a step that calls the status machine makes no call of the queue
+-- A step that calls the status machine makes no call of the queue.
 pub no_queue : (c : Config) (step : Step) (told : Told) → IsPossibleInLane c step → is_store_step step ≡ false → ((urgent : Bool) (block : ℕ) (bytes : _) → step ≡ steps.Post urgent block bytes → ⊥) → ((block : ℕ) → step ≡ steps.Ask block → ⊥)
     → StepQueues step told []
 no_queue c (steps.Report event report) told is none post ask = refl
@@ -181,7 +181,7 @@ no_queue c (steps.Arming arm) told is none post ask = absurd (false≢true is.0)
 
 -- ---- the kinds of steps
 
--- a step that makes one call of the status machine
+-- A step that makes one call of the status machine.
 pub record IsCallStep (step : Step) : Type 0 where
   pub lane : is_lane_step step ≡ true
   pub no_store : is_store_step step ≡ false
@@ -190,7 +190,7 @@ pub record IsCallStep (step : Step) : Type 0 where
   pub no_queue : (told : Told) → StepQueues step told []
   pub no_arms : arms_of (action_of step) ≡ []
 
--- it is one that is none of these
+-- It is one that is none of these.
 pub call_step : (step : Step) → (step ≡ steps.Save → ⊥) → (step ≡ steps.Drain → ⊥) → ((block : ℕ) → step ≡ steps.Get block → ⊥) → ((arm : Arm) → step ≡ steps.Arming arm → ⊥)
     → ((urgent : Bool) (block : ℕ) (bytes : _) → step ≡ steps.Post urgent block bytes → ⊥) → ((block : ℕ) → step ≡ steps.Ask block → ⊥) → IsCallStep step
 call_step (steps.Report event report) save drain get arming post ask = record { lane = refl; no_store = refl; one = (_, refl); calls = refl; no_queue = λ told. refl; no_arms = refl }
@@ -206,7 +206,7 @@ call_step (steps.Get block) save drain get arming post ask = absurd (get block r
 call_step (steps.Ask block) save drain get arming post ask = absurd (ask block refl)
 call_step (steps.Arming arm) save drain get arming post ask = absurd (arming arm refl)
 
--- a step that makes one call of the queue
+-- A step that makes one call of the queue.
 pub record IsQueueStep (step : Step) : Type 0 where
   pub no_store : is_store_step step ≡ false
   pub no_calls : (told : Told) → StepMakes step told []
@@ -218,7 +218,7 @@ post_step urgent block bytes = record { no_store = refl; no_calls = λ told. ref
 pub ask_step : (block : ℕ) → IsQueueStep (steps.Ask block)
 ask_step block = record { no_store = refl; no_calls = λ told. refl; no_arms = refl }
 
--- a step that is no save, drain or read touches no store
+-- A step that is no save, drain or read touches no store.
 pub no_store_step : (step : Step) → (step ≡ steps.Save → ⊥) → (step ≡ steps.Drain → ⊥) → ((block : ℕ) → step ≡ steps.Get block → ⊥) → is_store_step step ≡ false
 no_store_step (steps.Report event report) save drain get = refl
 no_store_step (steps.Show event) save drain get = refl
@@ -233,7 +233,7 @@ no_store_step (steps.Get block) save drain get = absurd (get block refl)
 no_store_step (steps.Ask block) save drain get = refl
 no_store_step (steps.Arming arm) save drain get = refl
 
--- and one that is no arming makes no arm
+-- And one that is no arming makes no arm.
 pub no_arms : (step : Step) → ((arm : Arm) → step ≡ steps.Arming arm → ⊥) → arms_of (action_of step) ≡ []
 no_arms (steps.Report event report) arming = refl
 no_arms (steps.Show event) arming = refl

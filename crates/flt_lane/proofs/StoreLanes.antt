@@ -54,7 +54,7 @@ pub record IsFrom {S O : Type 0} (main seat : Seated S O) : Type 0 where
   pub seen : seat.seen ≡ main.seen
   pub olds : seat.olds ≡ main.olds
 
--- of each lane
+-- Of each lane.
 pub record IsWorkFrom (main : Seat) (jobs : QueueSeat) (work : LaneWork) : Type 0 where
   pub dem : IsFrom main work.seat
   pub queue : IsFrom jobs work.queue_seat
@@ -105,7 +105,7 @@ default_of (w ∷ works) k within = w
 module _ {B : Type 0} {b : Ghosts B} (c : Config) (main off after : Seat) (jobs jobs_off jobs_after : QueueSeat) (lanes : List (List Step)) (works ran : List LaneWork) (store now : Store B b) (seats calls job_calls : ℕ)
     (is_off : IsSplitOff main off seats calls) (is_job_off : IsSplitOff jobs jobs_off seats job_calls) (lanes_are : map (λ (w : LaneWork). w.steps.now) works ≡ lanes) (from : All (IsWorkFrom main jobs) works)
     (joined : AreJoined off after (map (λ (w : LaneWork). w.seat) ran)) (jobs_joined : AreJoined jobs_off jobs_after (map (λ (w : LaneWork). w.queue_seat) ran)) (earlier : List Deed) where
-  -- the steps of a lane
+  -- The steps of a lane.
   steps_at : (k : ℕ) (d : LaneWork) (e : List Step) → k < length works → get_or lanes k e ≡ (get_or works k d).steps.now
   steps_at k d e within = ap (λ l. get_or l k e) (sym lanes_are) ∙ get_or-map (λ (w : LaneWork). w.steps.now) works k d e within
 

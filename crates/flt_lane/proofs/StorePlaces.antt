@@ -7,7 +7,7 @@ use Rattle.flt_script.specs.declared.step.Step.{Step}
 use Rattle.flt_lane.specs.declared.lane.LaneWork.{LaneWork}
 use Rattle.flt_lane.specs.Stored.{StoresAt, is_store_lane}
 
--- how many lanes do
+-- How many lanes do.
 abbrev pub stores : List LaneWork → ℕ
 stores works = store_lanes (map (λ (w : LaneWork). w.steps.now) works)
 
@@ -23,7 +23,7 @@ none_stores [] none k d within = absurd (omega (arith, within))
 none_stores (w ∷ works) none zero d within = not_one (is_store_lane w) (stores works) (stores (w ∷ works)) (stores-cons w works) none
 none_stores (w ∷ works) none (suc k) d within = none_stores works (let sum = stores-cons w works in omega (arith, sum, none)) k d (omega (arith, within))
 
--- the first is one of them, or is not
+-- The first is one of them, or is not.
 rest_stores : (w : LaneWork) (works : List LaneWork) → stores (w ∷ works) ≤ 1 → is_store_lane w ≡ true → stores works ≤ 0
 rest_stores w works few is = let sum = stores-cons w works in let one : cond (is_store_lane w) 1 0 ≡ 1 = ap {B = ℕ} (λ b. cond b 1 0) is in omega (arith, sum, one, few)
 

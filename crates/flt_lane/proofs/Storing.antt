@@ -48,7 +48,7 @@ module _ {B : Type 0} {b : Ghosts B} where
   leaves_step (steps.Ask block) store now is goes given armed = record { goes_on = goes; given = given; armed = omega (arith, armed) }
   leaves_step (steps.Arming arm) store now is goes given armed = absurd (false≢true is)
 
--- a step of a lane makes no arm
+-- A step of a lane makes no arm.
 pub no_arm : (step : Step) → IsTrue (is_lane_step step) → arm_count (action_of step) ≡ 0
 no_arm (steps.Report event report) is = refl
 no_arm (steps.Show event) is = refl

@@ -43,7 +43,7 @@ stores_exchanged place xs ys is stores =
     }
 
 module _ {B : Type 0} {b : Ghosts B} (c : Config) (place : ℕ) (lanes begun ended afters : List LaneWork) (store now : Store B b) where
-  -- each lane at its own place again
+  -- Each lane at its own place again.
   pub runs_exchanged : Exchanged place lanes begun → Exchanged place ended afters → RunsStore c 0 begun ended store now → RunsStore c place lanes afters store now
   runs_exchanged is back runs =
       let len = is.len in

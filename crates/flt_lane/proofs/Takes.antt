@@ -22,7 +22,7 @@ use Rattle.flt_lane.proofs.Chains.{chain_more, chain_of_one}
 use Rattle.flt_lane.proofs.Drains.{caused_job, caused_same, holds_noted, holds_taken}
 use Rattle.flt_lane.proofs.Leaving.{leaves_by_calls, leaves_nothing}
 
--- what a take that handed out no job was told
+-- What a take that handed out no job was told.
 no_job : (next : Option Job) (reply : QueueReply) → reply ≡ handed_out next → ((job : Job) → reply ≡ replies.Job job → ⊥) → reply ≡ replies.NoJob
 no_job None reply is other = is
 no_job (Some job) reply is other = absurd (other job is)

@@ -18,7 +18,7 @@ use Rattle.flt_lane.proofs.Journals.{head_call, no_call_behind}
 use Rattle.flt_lane.proofs.LaneDeeds.{lanes_told_count}
 
 module _ {O : Type 0} (weight : O → ℕ) where
-  -- of a journal, of calls, and of the calls of lanes
+  -- Of a journal, of calls, and of the calls of lanes.
   abbrev pub weigh : List (Entry O) → ℕ
   weigh [] = 0
   weigh (e ∷ journal) = weight e.op + weigh journal
@@ -128,7 +128,7 @@ asked-append [] more = refl
 asked-append (call ∷ calls) more = ap (λ l. call.op ∷ l) (asked-append calls more)
 
 module _ (amount : Told → ℕ) where
-  -- of deeds
+  -- Of deeds.
   abbrev pub amount_of : List Deed → ℕ
   amount_of [] = 0
   amount_of (deed ∷ deeds) = amount deed.1 + amount_of deeds

@@ -29,7 +29,7 @@ module _ {S O : Type 0} where
   pub fresh_is_main : (main : Seated S O) → main ≡ main_seat main.lock main.start main.left → IsMain main
   fresh_is_main main fresh = subst IsMain (sym fresh) (new_is_main main)
 
-  -- the lock was closed, and left this journal
+  -- The lock was closed, and left this journal.
   pub closed : (after : Seated S O) (journal : List (Entry O)) → IsPrefix after.seen journal → All (λ old. IsPrefix old journal) after.olds → Interleaves journal ((after.number, after.mine) ∷ after.ended) → CouldClose after journal
   closed after journal seen olds mixes = record { seen = seen; olds = olds; mixes = record { each = mixes.each; others = mixes.others } }
 
@@ -37,7 +37,7 @@ module _ {S O : Type 0} where
   empty_before main before fresh whole = nothing_yet before (subst (λ (s : Seated S O). Mixes before ((s.number, s.mine) ∷ s.ended)) fresh whole.mixes)
 
 module _ {S O R : Type 0} (answer : S → List O → O → R) (MadeBy : Step → Told → List (Call O R) → Type 0) where
-  -- the journal that a lock left has the calls of the parts
+  -- The journal that a lock left has the calls of the parts.
   pub made_of : (main after : Seated S O) (parts : List (PartOf Step)) (own : List Told) (lanes : List (List Told)) (journal : List (Entry O)) → main ≡ main_seat main.lock main.start main.left
       → HasRunParts answer MadeBy main after parts own lanes → CouldClose after journal → IsMade MadeBy answer main.start parts own lanes journal
   made_of main after parts own lanes journal fresh ran whole =

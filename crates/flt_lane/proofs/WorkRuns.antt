@@ -20,7 +20,7 @@ use Rattle.flt_lane.specs.Runs.{QueueSeat, RunsSteps, RunsQueue, calls_by, queue
 use Rattle.flt_lane.specs.Work.{HasRun}
 use Rattle.flt_lane.proofs.BlockRuns.{Lane, AreRunLanes, afters, ran_block, steps_all, tolds}
 
--- the lanes on each lock
+-- The lanes on each lock.
 abbrev pub dem_lanes : List LaneWork → List LaneWork → List (Lane DemStart Op)
 dem_lanes [] after = []
 dem_lanes (w ∷ works) [] = []
@@ -37,11 +37,11 @@ DemRun main number lanes = AreRunLanes MayBeAsked reply_after StepMakes calls_by
 abbrev QueueRun : QueueSeat → ℕ → List (Lane ℕ QueueOp) → Type 0
 QueueRun jobs number lanes = AreRunLanes queue.IsAdmitted queued.reply_after StepQueues queued_by queued_of jobs number lanes
 
--- each work after its steps
+-- Each work after its steps.
 abbrev pub Each : List LaneWork → List LaneWork → Type 0
 Each works after = (k : ℕ) (d : LaneWork) → k < length works → HasRun (get_or works k d) (get_or after k d)
 
--- all that follows of the lanes
+-- All that follows of the lanes.
 pub record Ran (main : Seat) (jobs : QueueSeat) (number job_number : ℕ) (lanes : List (List Step)) (works after : List LaneWork) : Type 0 where
   pub dem : DemRun main number (dem_lanes works after)
   pub queue : QueueRun jobs job_number (queue_lanes works after)

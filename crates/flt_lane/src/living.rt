@@ -74,7 +74,7 @@ fn run_one<R: Wait, G: Gate, B: Blocks + Drop>(
 {
     let index = own.answers.len() as u32;
     gate.before(rt, 0, index);
-    // each kind of step keeps its answer by itself, so that it goes to its place at once
+    // Each kind of step keeps its answer by itself, so that it goes to its place at once.
     match step {
         Step::Save | Step::Drain | Step::Get { .. } | Step::Arming(_) => {
             let answer = do_step(

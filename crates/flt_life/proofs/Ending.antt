@@ -13,7 +13,7 @@ use Rattle.flt_life.specs.Moment.{Moment}
 use Rattle.flt_life.specs.Statuses.{IsJudgedFaulty, StatusHasCause, status_by}
 
 module _ (c : Config) (boot next : Moment) (ended : ℕ) where
-  -- an image in which a generation is held is judged faulty only by its second copy
+  -- An image in which a generation is held is judged faulty only by its second copy.
   found_by_three : (g : Generation) → held c boot.value ≡ Ok g → (fault : Fault) → IsFound c boot ended (Err fault) → HasRisenBy 3 boot.faults ended
   found_by_three g is fault = ⊎_elim (λ other. absurd (cc (is, other))) (λ spare. spare.1)
 

@@ -45,7 +45,7 @@ all_stay bytes more (answer ∷ rest) within =
     let others = all_stay bytes more rest (All-tail (IsAnswerWithin (length bytes)) answer rest within) in
     λ i. first i ∷ others i
 
--- one answer more
+-- One answer more.
 pub told_more : (bytes more : List ℕ) (before : List (StepAnswer KeptReply)) (answer : StepAnswer KeptReply) → All (IsAnswerWithin (length bytes)) before
     → told_by (bytes ++ more) (before ++ answer ∷ []) ≡ told_by bytes before ++ with_reply (reply_in (bytes ++ more)) answer ∷ []
 told_more bytes more before answer within =

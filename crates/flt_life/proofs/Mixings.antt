@@ -24,7 +24,7 @@ module _ {X : Type 0} where
   at_end (x ∷ front) e zero is = absurd (omega arith)
   at_end (x ∷ front) e (suc place) is = at_end front e place (omega arith)
 
--- what is told in a journal is told in a longer one
+-- What is told in a journal is told in a longer one.
 module _ {S O R : Type 0} (answer : S → List O → O → R) (start : S) where
   pub told_longer : (journal longer : List (Entry O)) (lane : ℕ) (call : Call O R) → IsPrefix journal longer → IsToldInPlace answer start journal lane call → IsToldInPlace answer start longer lane call
   told_longer journal longer lane call pre is = subst (λ j. IsToldInPlace answer start j lane call) pre.1 record {

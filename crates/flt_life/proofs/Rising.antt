@@ -9,13 +9,13 @@ use Rattle.flt_life.specs.Mixing.{Call, Block, IsToldInPlace, BlockTold, Rise, c
 module _ {O R : Type 0} where
   -- ---- calls
 
-  -- from a lower place on
+  -- From a lower place on.
   pub rise_lower : (low bound : ℕ) (calls : List (Call O R)) → bound ≤ low → Rise low calls → Rise bound calls
   unfolding Rise
   rise_lower low bound [] below rising = tt
   rise_lower low bound (call ∷ calls) below rising = (omega (arith, below, rising.0), rising.1)
 
-  -- from a place on, before which none of them stands
+  -- From a place on, before which none of them stands.
   pub rise_from : (low bound : ℕ) (calls : List (Call O R)) → All (λ call. bound ≤ call.told.place) calls → Rise low calls → Rise bound calls
   unfolding Rise
   rise_from low bound [] past rising = tt
@@ -38,7 +38,7 @@ module _ {O R : Type 0} where
 
   -- ---- the calls of a lane
 
-  -- a number below those of all lanes of a block
+  -- A number below those of all lanes of a block.
   pub none_in_block : (number : ℕ) (lanes : Block O R) → All (λ lane. number < lane.0) lanes → calls_in_block number lanes ≡ []
   none_in_block number [] past = refl
   none_in_block number (lane ∷ lanes) past =
@@ -50,7 +50,7 @@ module _ {O R : Type 0} where
   lane_append number (lanes ∷ blocks) more =
       ap (λ l. calls_in_block number lanes ++ l) (lane_append number blocks more) ∙ sym (append_assoc (calls_in_block number lanes) (calls_in_lane number blocks) (calls_in_lane number more))
 
-  -- so it is in a block, where each lane has a number of its own
+  -- So it is in a block, where each lane has a number of its own.
   pub rise_block : (low number : ℕ) (calls : List (Call O R)) (lanes : Block O R) → All (λ lane. number < lane.0) lanes → Rise low calls → ((n : ℕ) → Rise low (calls_in_block n lanes))
       → (n : ℕ) → Rise low (calls_in_block n ((number, calls) ∷ lanes))
   rise_block low number calls lanes past rising others n = by_test (eqb number n) refl
@@ -64,7 +64,7 @@ module _ {O R : Type 0} where
   pub rise_of_block : (low : ℕ) (lanes : Block O R) (n : ℕ) → Rise low (calls_in_block n lanes) → Rise low (calls_in_lane n (lanes ∷ []))
   rise_of_block low lanes n rising = subst (Rise low) (sym (append-nil (calls_in_block n lanes))) rising
 
-  -- a block of lane 0 alone
+  -- A block of lane 0 alone.
   pub rise_alone : (low : ℕ) (calls : List (Call O R)) → Rise low calls → (n : ℕ) → Rise low (calls_in_lane n (((0, calls) ∷ []) ∷ []))
   rise_alone low calls rising n = by_test (eqb 0 n)
     where
@@ -99,11 +99,11 @@ module _ {S O R : Type 0} (answer : S → List O → O → R) (start : S) (journ
       (told_in_block number lanes (All-head (BlockTold answer start journal) lanes blocks told))
       (told_in_lane number blocks (All-tail (BlockTold answer start journal) lanes blocks told))
 
-  -- they stand in it
+  -- They stand in it.
   pub places_within : (number : ℕ) (calls : List (Call O R)) → All (IsToldInPlace answer start journal number) calls → All (λ call. call.told.place < length journal) calls
   places_within number calls told k d within = get_within journal (get_or calls k d).told.place _ (told k d within).stands
 
-  -- blocks whose calls stand behind it
+  -- Blocks whose calls stand behind it.
   pub rise_more : (low : ℕ) (blocks more : List (Block O R)) → low ≤ length journal → All (BlockTold answer start journal) blocks → (number : ℕ) → Rise low (calls_in_lane number blocks)
       → Rise (length journal) (calls_in_lane number more) → Rise low (calls_in_lane number (blocks ++ more))
   rise_more low blocks more below told number first second = subst (Rise low) (sym (lane_append number blocks more))

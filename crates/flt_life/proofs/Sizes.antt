@@ -109,7 +109,7 @@ module _ (parts : List Part) (index : ℕ) (part : Part) (within : index < lengt
           let both = ap widths (sym (map-append part_of (take n all) (drop n all)) ∙ ap parts_of (take-append-drop n all)) in
           omega (arith, most, both)
 
-  -- a step by itself
+  -- A step by itself.
   module _ (step : Step) (one : part ≡ One step) where
     one_is : parts_of (take (index + 1) parts) ≡ parts_of (take index parts) ++ inl step ∷ []
     one_is = parts_more_by ∙ ap (λ (p : Part). parts_of (take index parts) ++ part_of p ∷ []) one
@@ -139,7 +139,7 @@ module _ (parts : List Part) (index : ℕ) (part : Part) (within : index < lengt
         let this = ap (λ (p : Part). steps_in (part_of p)) one in
         omega (arith, most, within_sum, this)
 
-  -- a block
+  -- A block.
   module _ (lanes : List (List Step)) (block : part_of part ≡ inr lanes) where
     block_is : parts_of (take (index + 1) parts) ≡ parts_of (take index parts) ++ inr lanes ∷ []
     block_is = parts_more_by ∙ ap (λ (p : PartOf Step). parts_of (take index parts) ++ p ∷ []) block
@@ -159,13 +159,13 @@ module _ (parts : List Part) (index : ℕ) (part : Part) (within : index < lengt
     pub numbers_within : widths (parts_of (take index parts)) + length lanes ≤ widths (parts_of parts)
     numbers_within = let within_sum = widths_within in let this = ap width block in omega (arith, within_sum, this)
 
--- as many lanes as the blocks have
+-- As many lanes as the blocks have.
 pub lanes_count : (parts : List (PartOf Step)) → length (lanes_in parts) ≡ widths parts
 lanes_count [] = refl
 lanes_count (inl step ∷ parts) = let rest = lanes_count parts in omega (arith, rest)
 lanes_count (inr lanes ∷ parts) = let rest = lanes_count parts in let sum = length-append lanes (lanes_in parts) in omega (arith, rest, sum)
 
--- lanes of at most so many steps, wherever they lie in memory
+-- Lanes of at most so many steps, wherever they lie in memory.
 pub short_lanes : {A : Type 0} (most : ℕ) (lanes : List (Vec Step A)) → sum_by length (map (λ (lane : Vec Step A). lane.items) lanes) ≤ most → All (λ (lane : Vec Step A). length lane.items ≤ most) lanes
 short_lanes most [] few = All-nil _
 short_lanes {A} most (lane ∷ lanes) few =

@@ -14,7 +14,7 @@ use Rattle.flt_script.specs.declared.step.Step.TheVariants as steps
 use Rattle.flt_life.specs.declared.action.Action.{Action}
 use Rattle.flt_life.specs.declared.action.Action.TheVariants.{Call, Queue, Save, Drain, Get, Arm}
 
--- what a step does
+-- What a step does.
 abbrev pub action_of : Step → Action
 action_of (steps.Report event report) = Call (ops.Report event report)
 action_of (steps.Show event) = Call (ops.Show event)
@@ -29,20 +29,20 @@ action_of (steps.Get block) = Get block
 action_of (steps.Ask block) = Queue (queue.Ask block)
 action_of (steps.Arming arm) = Arm arm
 
--- a call of a step is none that a save makes
+-- A call of a step is none that a save makes.
 abbrev pub IsStepCall : Op → Type 0
 IsStepCall ops.Snapshot = ⊥
 IsStepCall (ops.Saved number) = ⊥
 IsStepCall _ = Unit {0}
 
--- a call of the queue is none that a drain makes
+-- A call of the queue is none that a drain makes.
 abbrev pub IsQueueCall : QueueOp → Type 0
 IsQueueCall (queue.Post urgent job) = Unit {0}
 IsQueueCall queue.Take = ⊥
 IsQueueCall (queue.Done block written) = ⊥
 IsQueueCall (queue.Ask block) = Unit {0}
 
--- a step whose numbers are in their ranges
+-- A step whose numbers are in their ranges.
 abbrev pub IsPossible : Config → Action → Type 0
 IsPossible c (Call op) = IsStepCall op × IsAdmitted c op
 IsPossible c (Queue op) = IsQueueCall op × jobs.IsAdmitted c.blocks op
@@ -51,39 +51,39 @@ IsPossible c Drain = Unit {0}
 IsPossible c (Get block) = block < c.blocks
 IsPossible c (Arm arm) = CanArm arm
 
--- an arm whose numbers are in their ranges, or another step
+-- An arm whose numbers are in their ranges, or another step.
 abbrev pub IsPossibleArm : Action → Type 0
 IsPossibleArm (Arm arm) = CanArm arm
 IsPossibleArm _ = Unit {0}
 
--- the arm that a step makes, if it makes one
+-- The arm that a step makes, if it makes one.
 abbrev pub arms_of : Action → List Arming
 arms_of (Arm arm) = arm ∷ []
 arms_of _ = []
 
--- the arms that steps make, in order
+-- The arms that steps make, in order.
 abbrev pub all_arms : List Action → List Arming
 all_arms [] = []
 all_arms (action ∷ rest) = arms_of action ++ all_arms rest
 
--- how many arms a step makes
+-- How many arms a step makes.
 abbrev pub arm_count : Action → ℕ
 arm_count (Arm arm) = 1
 arm_count _ = 0
 
--- how many calls of the status machine a step makes at most: a save takes a snapshot, and is acknowledged
+-- How many calls of the status machine a step makes at most: a save takes a snapshot, and is acknowledged.
 abbrev pub call_count : Action → ℕ
 call_count (Call op) = 1
 call_count Save = 2
 call_count _ = 0
 
--- how many calls of the queue a step makes at most: a drain takes 32 jobs, and notes what became of each
+-- How many calls of the queue a step makes at most: a drain takes 32 jobs, and notes what became of each.
 abbrev pub queue_count : Action → ℕ
 queue_count (Queue op) = 1
 queue_count Drain = 64
 queue_count _ = 0
 
--- the bytes of the longest response to a step: a request has one
+-- The bytes of the longest response to a step: a request has one.
 abbrev pub response_size : Action → ℕ
 response_size (Call (ops.Request tester bytes)) = 512
 response_size _ = 0

@@ -12,28 +12,28 @@ use Rattle.flt_life.specs.Answers.{Told}
 use Rattle.flt_life.specs.Ordered.{Deed}
 use Rattle.flt_life.specs.declared.answer.StepAnswer.TheVariants.{Drained, Bytes, NoBlock}
 
--- the job that a take would hand out behind these calls
+-- The job that a take would hand out behind these calls.
 abbrev pub job_behind : History → Option Job
 job_behind past = next_of (waiting past)
 
--- the job of a block that was taken last
+-- The job of a block that was taken last.
 abbrev pub last_taken : ℕ → History → Option Job
 last_taken block [] = None
 last_taken block (ops.Take ∷ past) = if is_of block (job_behind past) then job_behind past else last_taken block past
 last_taken block (_ ∷ past) = last_taken block past
 
--- these are the bytes of the job
+-- These are the bytes of the job.
 abbrev pub IsBytesOf : Option Job → Content → Type 0
 IsBytesOf None held = ⊥
 IsBytesOf (Some job) held = held ≡ holding job.bytes.items
 
--- one of two, as asked
+-- One of two, as asked.
 abbrev pub Choose : Bool → Type 0 → Type 0 → Type 0
 Choose true first second = first
 Choose false first second = second
 
--- an application block may hold this behind these calls of the queue: the bytes of a job of its own that was taken, and not before
--- the last one that was done as written; where none was, also what it held at first
+-- An application block may hold this behind these calls of the queue: the bytes of a job of its own that was taken, and not before
+-- the last one that was done as written; where none was, also what it held at first.
 abbrev pub MayHold : ℕ → Content → History → Content → Type 0
 MayHold block first [] held = held ≡ first
 MayHold block first (ops.Take ∷ past) held = (IsTrue (is_of block (job_behind past)) × IsBytesOf (job_behind past) held) ⊎ MayHold block first past held
@@ -41,11 +41,11 @@ MayHold block first (ops.Done done written ∷ past) held = Choose (written && (
     (MayHold block first past held)
 MayHold block first (_ ∷ past) held = MayHold block first past held
 
--- each application block holds what it may
+-- Each application block holds what it may.
 abbrev pub HoldApplications : (ℕ → Content) → History → (ℕ → Content) → Type 0
 HoldApplications first past held = (block : ℕ) → block < applications → MayHold block (first (application_number block)) past (held (application_number block))
 
--- how many jobs were done
+-- How many jobs were done.
 abbrev pub is_done : QueueOp → Bool
 is_done (ops.Done block written) = true
 is_done _ = false
@@ -54,18 +54,18 @@ abbrev pub done_count : History → ℕ
 done_count [] = 0
 done_count (op ∷ past) = if is_done op then done_count past + 1 else done_count past
 
--- the calls up to that by which so many jobs were done
+-- The calls up to that by which so many jobs were done.
 abbrev pub up_to_done : ℕ → History → History
 up_to_done jobs [] = []
 up_to_done jobs (op ∷ past) = if nat_le jobs (done_count past) then up_to_done jobs past else op ∷ past
 
--- how many jobs drains were told as done
+-- How many jobs drains were told as done.
 abbrev pub jobs_told : List Told → ℕ
 jobs_told [] = 0
 jobs_told (Drained written failed ∷ earlier) = jobs_told earlier + (written + failed)
 jobs_told (_ ∷ earlier) = jobs_told earlier
 
--- a read answers by the drains that stand before it
+-- A read answers by the drains that stand before it.
 abbrev pub GetsBy : (ℕ → Content) → History → List Deed → Step → Told → Type 0
 GetsBy first queue earlier (Get block) (Bytes bytes) =
     MayHold block (first (application_number block)) (up_to_done (jobs_told (map (λ d. d.1) earlier)) queue) (holding bytes.items)
@@ -73,7 +73,7 @@ GetsBy first queue earlier (Get block) NoBlock = MayHold block (first (applicati
     (up_to_done (jobs_told (map (λ d. d.1) earlier)) queue) missing
 GetsBy first queue earlier _ _ = Unit {0}
 
--- so does each read among these deeds
+-- So does each read among these deeds.
 abbrev pub AreGot : (ℕ → Content) → History → List Deed → Type 0
 AreGot first queue [] = Unit {0}
 AreGot first queue (deed ∷ earlier) = GetsBy first queue earlier deed.0 deed.1 × AreGot first queue earlier

@@ -9,27 +9,27 @@ use Rattle.flt_life.specs.Answers.{Told}
 use Rattle.flt_life.specs.declared.answer.StepAnswer.TheVariants.{SaveFailed, Drained, BlockFlash}
 use Rattle.flt_life.specs.Moment.{Moment}
 
--- how many saves and reads of application blocks the flash failed
+-- How many saves and reads of application blocks the flash failed.
 abbrev pub flash_failures : List Told → ℕ
 flash_failures [] = 0
 flash_failures (SaveFailed Flash ∷ earlier) = flash_failures earlier + 1
 flash_failures (BlockFlash ∷ earlier) = flash_failures earlier + 1
 flash_failures (_ ∷ earlier) = flash_failures earlier
 
--- how many jobs could not be written
+-- How many jobs could not be written.
 abbrev pub jobs_failed : List Told → ℕ
 jobs_failed [] = 0
 jobs_failed (Drained written failed ∷ earlier) = jobs_failed earlier + failed
 jobs_failed (_ ∷ earlier) = jobs_failed earlier
 
--- a save failed for this cause
+-- A save failed for this cause.
 abbrev pub HasFailedBy : SaveFault → List Told → Type 0
 HasFailedBy fault [] = ⊥
 HasFailedBy fault (SaveFailed told ∷ earlier) = (told ≡ fault) ⊎ HasFailedBy fault earlier
 HasFailedBy fault (_ ∷ earlier) = HasFailedBy fault earlier
 
--- each step that failed has its cause: three faults of the flash for each save, read and job, where a job needs none if the last
--- sequence number is in use at the next power-up; the last number of a generation there; or the last sequence number there
+-- Each step that failed has its cause: three faults of the flash for each save, read and job, where a job needs none if the last
+-- sequence number is in use at the next power-up; the last number of a generation there; or the last sequence number there.
 pub record AreCaused (c : Config) (boot next : Moment) (told : List Told) : Type 0 where
   pub flash : HasRisenBy (3 * flash_failures told) boot.faults next.faults
   pub jobs : IsFalse next.is_spent → HasRisenBy (3 * (flash_failures told + jobs_failed told)) boot.faults next.faults

@@ -12,18 +12,18 @@ use Rattle.flt_life.specs.Mixing.{Call}
 abbrev pub QueueCall : Type 0
 QueueCall = Call QueueOp QueueReply
 
--- a take that was told this at a place
+-- A take that was told this at a place.
 abbrev pub take_at : ℕ → QueueReply → QueueCall
 take_at place reply = record { op = ops.Take; told = record { place = place; reply = reply } }
 
--- a job that was taken at a place, whether it was written, and what the queue said to that
+-- A job that was taken at a place, whether it was written, and what the queue said to that.
 pub record Drained : Type 0 where
   pub place : ℕ
   pub job : Job
   pub written : Bool
   pub noted : Answer QueueReply
 
--- the two calls for a job
+-- The two calls for a job.
 abbrev pub calls_for : Drained → List QueueCall
 calls_for d = take_at d.place (replies.Job d.job) ∷ record { op = ops.Done d.job.block d.written; told = d.noted } ∷ []
 
@@ -31,12 +31,12 @@ abbrev pub calls_for_all : List Drained → List QueueCall
 calls_for_all [] = []
 calls_for_all (d ∷ jobs) = calls_for d ++ calls_for_all jobs
 
--- the last take, which found no job; there is none behind the 32nd job
+-- The last take, which found no job; there is none behind the 32nd job.
 abbrev pub IsLastTake : ℕ → List QueueCall → Type 0
 IsLastTake jobs [] = jobs ≡ 32
 IsLastTake jobs (call ∷ calls) = (jobs < 32) × ((place : ℕ) × (call ≡ take_at place replies.NoJob)) × (calls ≡ [])
 
--- a drain takes jobs, at most 32, notes what became of each, and ends where no job waits
+-- A drain takes jobs, at most 32, notes what became of each, and ends where no job waits.
 pub record DrainMakes (written failed : ℕ) (calls : List QueueCall) : Type 0 where
   pub jobs : List Drained
   pub last : List QueueCall

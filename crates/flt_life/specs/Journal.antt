@@ -14,7 +14,7 @@ Journal = List (Entry Op)
 abbrev pub entry : ℕ → Op → Entry Op
 entry lane op = record { lane = lane; op = op }
 
--- the calls of a journal
+-- The calls of a journal.
 abbrev pub calls_of : Journal → History
 calls_of journal = map (λ e. e.op) journal
 
@@ -22,29 +22,29 @@ abbrev pub is_snapshot : Op → Bool
 is_snapshot ops.Snapshot = true
 is_snapshot _ = false
 
--- the state that the last snapshot of a lane took
+-- The state that the last snapshot of a lane took.
 abbrev pub snapshot_of : Life → ℕ → Journal → Option Persist
 snapshot_of start lane [] = None
 snapshot_of start lane (e ∷ earlier) =
     if is_snapshot e.op && (e.lane == lane) then Some (saved_after start (calls_of earlier)) else snapshot_of start lane earlier
 
--- a save is acknowledged with its number, and with the state that its lane took last; another call acknowledges nothing
+-- A save is acknowledged with its number, and with the state that its lane took last; another call acknowledges nothing.
 abbrev pub AcknowledgesBy : Life → ℕ → Journal → Op → Generation → Type 0 → Type 0
 AcknowledgesBy start lane earlier (ops.Saved number) g before = (g.number ≡ number) × (snapshot_of start lane earlier ≡ Some g.state)
 AcknowledgesBy start lane earlier _ g before = before
 
--- the generation that was acknowledged last; before the first save it is the one with which the life started
+-- The generation that was acknowledged last; before the first save it is the one with which the life started.
 abbrev pub Acknowledges : Life → Generation → Journal → Generation → Type 0
 Acknowledges start first [] g = g ≡ first
 Acknowledges start first (e ∷ earlier) g = AcknowledgesBy start e.lane earlier e.op g (Acknowledges start first earlier g)
 
--- a snapshot takes the state of its place; a save that is acknowledged leaves none behind it
+-- A snapshot takes the state of its place; a save that is acknowledged leaves none behind it.
 abbrev pub TakesBy : Life → Journal → Op → Persist → Type 0 → Type 0
 TakesBy start earlier ops.Snapshot state before = (state ≡ saved_after start (calls_of earlier)) ⊎ before
 TakesBy start earlier (ops.Saved number) state before = ⊥
 TakesBy start earlier _ state before = before
 
--- the state was taken by a snapshot behind the last save that was acknowledged
+-- The state was taken by a snapshot behind the last save that was acknowledged.
 abbrev pub IsTakenSince : Life → Journal → Persist → Type 0
 IsTakenSince start [] state = ⊥
 IsTakenSince start (e ∷ earlier) state = TakesBy start earlier e.op state (IsTakenSince start earlier state)

@@ -11,16 +11,16 @@ use Rattle.flt_life.specs.declared.life.Boot.TheVariants.{Started, Dark, Refused
 use Rattle.flt_life.specs.Moment.{Moment, Medium, moment_at, IsSoundAt}
 use Rattle.flt_life.specs.Chain.{LifeView, AreLinked}
 
--- the image is sound
+-- The image is sound.
 abbrev pub IsSoundIn : Config → Moment → Type 0
 IsSoundIn c moment = (held : Generation) × (spare : Generation) × IsSoundAt c moment held spare
 
--- the first boot of a run, or the end of a run without lives
+-- The first boot of a run, or the end of a run without lives.
 abbrev pub first_boot : PowerUp → List PowerUp → PowerUp
 first_boot next [] = next
 first_boot next (boot ∷ boots) = first_boot boot boots
 
--- the life was not refused but for want of sequence numbers
+-- The life was not refused but for want of sequence numbers.
 abbrev pub IsUndamaged : Boot → Type 0
 IsUndamaged (Started number state) = Unit {0}
 IsUndamaged Dark = Unit {0}
@@ -29,7 +29,7 @@ IsUndamaged (Refused (faults.Damaged place)) = ⊥
 IsUndamaged (Refused (faults.OtherConfig found wanted)) = ⊥
 IsUndamaged (Refused faults.SequenceSpent) = Unit {0}
 
--- where the first image is sound, each image is, also at the end, and no life is refused as damaged or of another configuration
+-- Where the first image is sound, each image is, also at the end, and no life is refused as damaged or of another configuration.
 abbrev pub SoundRunsStaySound : Type 0
 SoundRunsStaySound = (c : Config) → IsGiven c → (medium : Medium) (arms : Option (List ArmMade)) (earlier : ℕ) (next : PowerUp) (boots : List PowerUp)
     (lives : List LifeView)

@@ -21,17 +21,17 @@ use Rattle.flt_life.specs.Moment.{Moment, Medium, IsSoundAt, boot_in}
 use Rattle.flt_life.specs.Parts.{own_actions}
 use Rattle.flt_life.specs.Played.{IsPlayed}
 
--- the answers of lane 0, in their order
+-- The answers of lane 0, in their order.
 abbrev pub own_told : List LaneReplies → List Told
 own_told [] = []
 own_told (lane ∷ lanes) = told_by lane.responses.items lane.answers.items
 
--- the answers of the other lanes, each in their order
+-- The answers of the other lanes, each in their order.
 abbrev pub lanes_told : List LaneReplies → List (List Told)
 lanes_told [] = []
 lanes_told (lane ∷ lanes) = map (λ (l : LaneReplies). told_by l.responses.items l.answers.items) lanes
 
--- a life of these parts as contracts see it
+-- A life of these parts as contracts see it.
 abbrev pub view_of : List (PartOf Step) → Life → LifeView
 view_of parts life = record {
   parts = parts;
@@ -42,13 +42,13 @@ view_of parts life = record {
   lanes = lanes_told life.replies.items;
 }
 
--- the lives of these parts, life by life; a life too many has no parts
+-- The lives of these parts, life by life; a life too many has no parts.
 abbrev pub views_of : List (List (PartOf Step)) → List Life → List LifeView
 views_of script [] = []
 views_of [] (life ∷ lives) = view_of [] life ∷ views_of [] lives
 views_of (parts ∷ script) (life ∷ lives) = view_of parts life ∷ views_of script lives
 
--- each life is made of its parts
+-- Each life is made of its parts.
 abbrev pub ArePlayed : Config → List LifeView → Type 0
 ArePlayed c lives = All (IsPlayed c) lives
 
@@ -57,42 +57,42 @@ is_refused (Started number state) = false
 is_refused Dark = false
 is_refused (Refused fault) = true
 
--- no life but the last is refused, and where that one is not, there are as many as asked; and never more
+-- No life but the last is refused, and where that one is not, there are as many as asked; and never more.
 abbrev pub AreEnded : ℕ → List LifeView → Type 0
 AreEnded many [] = many ≡ 0
 AreEnded many (life ∷ earlier) = All (λ l. IsFalse (is_refused l.boot)) earlier × (length earlier < many)
     × (IsTrue (is_refused life.boot) ⊎ (many ≡ length earlier + 1))
 
--- the lives of a run, which are the first ones of this script, the newest first
+-- The lives of a run, which are the first ones of this script, the newest first.
 abbrev pub lives_seen : List (List (PartOf Step)) → List Life → List LifeView
 lives_seen script lives = reverse (views_of script lives)
 
--- lives without where they lie in memory
+-- Lives without where they lie in memory.
 abbrev pub lists : {A : Type 0} → List (Vec Part A) → List (List (PartOf Step))
 lists lives = map (λ life. parts_of life.items) lives
 
--- the arms that the steps of a life give to the bench: a refused life makes no step
+-- The arms that the steps of a life give to the bench: a refused life makes no step.
 abbrev pub arms_by : List (PartOf Step) → Boot → List Arm
 arms_by parts (Started number state) = all_arms (own_actions parts)
 arms_by parts Dark = all_arms (own_actions parts)
 arms_by parts (Refused fault) = []
 
--- the arms of lives, in the order in which they are given
+-- The arms of lives, in the order in which they are given.
 abbrev pub arms_given : List LifeView → List Arm
 arms_given [] = []
 arms_given (life ∷ lives) = arms_given lives ++ arms_by life.parts life.boot
 
--- the arms that were made between two states of a bench, where both tell theirs, are these
+-- The arms that were made between two states of a bench, where both tell theirs, are these.
 abbrev pub AreGiven : List Arm → Option (List ArmMade) → Option (List ArmMade) → Type 0
 AreGiven arms before after = IfSome (arms_between before after) (λ made. map (λ a. a.arm) made ≡ arms)
 
--- the boots that were added between two states of a device, and the lives of a run between them
+-- The boots that were added between two states of a device, and the lives of a run between them.
 pub record IsLinked (c : Config) (medium : Medium) (before now : DeviceState) (lives : List LifeView) : Type 0 where
   pub boots : List PowerUp
   pub is : now.bench.boots ≡ before.bench.boots ++ reverse boots
   pub linked : AreLinked c medium (arms_between before.bench.arms now.bench.arms) (length before.bench.boots) (boot_in now) boots lives
 
--- a sound image stays sound
+-- A sound image stays sound.
 abbrev pub StaysSound : Config → Moment → Moment → Type 0
 StaysSound c before after = (held spare : Generation) → IsSoundAt c before held spare → (now_held : Generation) × (now_spare : Generation)
     × IsSoundAt c after now_held now_spare

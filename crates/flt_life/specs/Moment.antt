@@ -7,26 +7,26 @@ use Rattle.flt_config.specs.declared.config.Config.{Config}
 use Rattle.flt_generation.specs.Holding.{Generation}
 use Rattle.flt_whole.specs.Whole.{IsSoundWhole}
 
--- what each block of the image holds, the place of its first fault, whether the last sequence number is in use, and the count of the
--- device's faults
+-- What each block of the image holds, the place of its first fault, whether the last sequence number is in use, and the count of the
+-- device's faults.
 pub record Moment : Type 0 where
   pub value : ℕ → Content
   pub damage : Option (ℕ × ℕ)
   pub is_spent : Bool
   pub faults : ℕ
 
--- the moment as a driver tells it
+-- The moment as a driver tells it.
 abbrev pub moment_of : BlocksState → Moment
 moment_of driver = record { value = driver.value; damage = driver.damage; is_spent = driver.is_spent; faults = driver.device.faults }
 
--- how a kind of device keeps blocks: what each number holds in an image, the first fault of an image, and whether it has come to the
--- last sequence number
+-- How a kind of device keeps blocks: what each number holds in an image, the first fault of an image, and whether it has come to the
+-- last sequence number.
 pub record Medium : Type 0 where
   pub value : List (List (List ℕ)) → ℕ → Content
   pub damage : List (List (List ℕ)) → Option (ℕ × ℕ)
   pub is_spent : List (List (List ℕ)) → Bool
 
--- the moment of a power-up on a medium
+-- The moment of a power-up on a medium.
 abbrev pub moment_at : Medium → Boot → Moment
 moment_at medium boot = record {
   value = medium.value boot.image;
@@ -35,19 +35,19 @@ moment_at medium boot = record {
   faults = boot.faults;
 }
 
--- the boot that a power-up now would add
+-- The boot that a power-up now would add.
 abbrev pub boot_in : DeviceState → Boot
 boot_in device = record { faults = device.faults; image = device.image }
 
 abbrev pub boot_of : BlocksState → Boot
 boot_of driver = boot_in driver.device
 
--- a driver's blocks and its fault are those of its image
+-- A driver's blocks and its fault are those of its image.
 pub record IsOn (medium : Medium) (driver : BlocksState) : Type 0 where
   pub value : medium.value driver.device.image ≡ driver.value
   pub damage : medium.damage driver.device.image ≡ driver.damage
   pub is_spent : medium.is_spent driver.device.image ≡ driver.is_spent
 
--- the image has no fault, and holds these two generations, the second by the second copy of its commit
+-- The image has no fault, and holds these two generations, the second by the second copy of its commit.
 abbrev pub IsSoundAt : Config → Moment → Generation → Generation → Type 0
 IsSoundAt c moment = IsSoundWhole c moment.damage moment.value

@@ -10,7 +10,7 @@ use Rattle.flt_life.specs.Answers.{Told}
 abbrev pub Deed : Type 0
 Deed = Step × Told
 
--- a step more before these, where it touches the store
+-- A step more before these, where it touches the store.
 abbrev pub deed_if : Bool → Step → Told → List Deed → List Deed
 deed_if true step told deeds = (step, told) ∷ deeds
 deed_if false step told deeds = deeds
@@ -18,19 +18,19 @@ deed_if false step told deeds = deeds
 abbrev pub with_deed : Step → Told → List Deed → List Deed
 with_deed step told deeds = deed_if (is_store_step step) step told deeds
 
--- the deeds of a lane
+-- The deeds of a lane.
 abbrev pub lane_deeds : List Step → List Told → List Deed
 lane_deeds [] told = []
 lane_deeds (step ∷ steps) [] = []
 lane_deeds (step ∷ steps) (answer ∷ told) = with_deed step answer (lane_deeds steps told)
 
--- of the lanes of a block
+-- Of the lanes of a block.
 abbrev pub block_deeds : List (List Step) → List (List Told) → List Deed
 block_deeds [] told = []
 block_deeds (steps ∷ lanes) [] = []
 block_deeds (steps ∷ lanes) (answers ∷ told) = lane_deeds steps answers ++ block_deeds lanes told
 
--- of all parts, by the answers of lane 0 and those of the other lanes
+-- Of all parts, by the answers of lane 0 and those of the other lanes.
 abbrev pub deeds_in : List (PartOf Step) → List Told → List (List Told) → List Deed
 deeds_in [] own lanes = []
 deeds_in (inl step ∷ parts) [] lanes = deeds_in parts [] lanes

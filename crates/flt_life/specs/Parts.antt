@@ -8,19 +8,19 @@ use Rattle.flt_script.specs.Step.{is_lane_step, store_lanes, steps_of_part}
 use Rattle.flt_life.specs.declared.action.Action.{Action}
 use Rattle.flt_life.specs.Actions.{action_of, IsPossible, arm_count, call_count, queue_count}
 
--- the steps of lane 0, in order
+-- The steps of lane 0, in order.
 abbrev pub own_steps : {T : Type 0} → List (PartOf T) → List T
 own_steps [] = []
 own_steps (inl step ∷ parts) = step ∷ own_steps parts
 own_steps (inr lanes ∷ parts) = own_steps parts
 
--- the lanes of all blocks, in order
+-- The lanes of all blocks, in order.
 abbrev pub lanes_in : {T : Type 0} → List (PartOf T) → List (List T)
 lanes_in [] = []
 lanes_in (inl step ∷ parts) = lanes_in parts
 lanes_in (inr lanes ∷ parts) = lanes ++ lanes_in parts
 
--- how many lanes the block of a part has, and those of all parts
+-- How many lanes the block of a part has, and those of all parts.
 abbrev pub width : {T : Type 0} → PartOf T → ℕ
 width (inl step) = 0
 width (inr lanes) = length lanes
@@ -29,11 +29,11 @@ abbrev pub widths : {T : Type 0} → List (PartOf T) → ℕ
 widths [] = 0
 widths (part ∷ parts) = width part + widths parts
 
--- what the steps of lane 0 do
+-- What the steps of lane 0 do.
 abbrev pub own_actions : List (PartOf Step) → List Action
 own_actions parts = map action_of (own_steps parts)
 
--- the numbers of each step are in their ranges; no lane arms, and at most one lane of a block saves, drains or gets
+-- The numbers of each step are in their ranges; no lane arms, and at most one lane of a block saves, drains or gets.
 abbrev pub IsPossibleInLane : Config → Step → Type 0
 IsPossibleInLane c step = IsTrue (is_lane_step step) × IsPossible c (action_of step)
 
@@ -41,14 +41,14 @@ abbrev pub IsPossiblePart : Config → PartOf Step → Type 0
 IsPossiblePart c (inl step) = IsPossible c (action_of step)
 IsPossiblePart c (inr lanes) = All (λ lane. All (IsPossibleInLane c) lane) lanes × (store_lanes lanes ≤ 1)
 
--- how many calls steps make at most of the status machine, and of the queue
+-- How many calls steps make at most of the status machine, and of the queue.
 abbrev pub calls_of : List Step → ℕ
 calls_of steps = sum_by (λ step. call_count (action_of step)) steps
 
 abbrev pub queued_of : List Step → ℕ
 queued_of steps = sum_by (λ step. queue_count (action_of step)) steps
 
--- the same of a part
+-- The same of a part.
 abbrev pub calls_in : PartOf Step → ℕ
 calls_in (inl step) = call_count (action_of step)
 calls_in (inr lanes) = sum_by calls_of lanes
@@ -57,11 +57,11 @@ abbrev pub queued_in : PartOf Step → ℕ
 queued_in (inl step) = queue_count (action_of step)
 queued_in (inr lanes) = sum_by queued_of lanes
 
--- how many steps a part has
+-- How many steps a part has.
 abbrev pub steps_in : PartOf Step → ℕ
 steps_in part = steps_of_part part
 
--- how many arms a part makes
+-- How many arms a part makes.
 abbrev pub arms_in : PartOf Step → ℕ
 arms_in (inl step) = arm_count (action_of step)
 arms_in (inr lanes) = 0

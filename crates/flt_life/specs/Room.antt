@@ -10,34 +10,34 @@ use Rattle.flt_life.specs.Actions.{action_of, response_size}
 use Rattle.flt_life.specs.Answers.{Told, told_by}
 use Rattle.flt_life.specs.Parts.{own_steps, lanes_in, widths}
 
--- the answers that a lane has
+-- The answers that a lane has.
 abbrev pub told_in : LaneReplies → List Told
 told_in replies = told_by replies.responses.items replies.answers.items
 
--- the bytes of the longest responses to steps
+-- The bytes of the longest responses to steps.
 abbrev pub sizes_of : List Step → ℕ
 sizes_of steps = sum_by response_size (map action_of steps)
 
--- no answer
+-- No answer.
 pub record IsEmpty (replies : LaneReplies) : Type 0 where
   pub answers : replies.answers.items ≡ []
   pub responses : replies.responses.items ≡ []
 
--- there is room for the answers to these steps
+-- There is room for the answers to these steps.
 pub record HasRoomForSteps (replies : LaneReplies) (steps : List Step) : Type 0 where
   pub answers : vec_len replies.answers + length steps ≤ vec_capacity replies.answers
   pub responses : vec_len replies.responses + sizes_of steps ≤ vec_capacity replies.responses
 
--- a lane without answers, and with room for one to each of its steps
+-- A lane without answers, and with room for one to each of its steps.
 pub record IsLaneRoom (lane : LaneRoom) : Type 0 where
   pub empty : IsEmpty lane.replies
   pub room : HasRoomForSteps lane.replies lane.steps.now
 
--- the steps of lanes
+-- The steps of lanes.
 abbrev pub steps_of : List LaneRoom → List (List Step)
 steps_of rooms = map (λ room. room.steps.now) rooms
 
--- there is room for all answers of a life with these parts
+-- There is room for all answers of a life with these parts.
 pub record IsLifeRoom (parts : List (PartOf Step)) (room : LifeRoom) : Type 0 where
   pub own_empty : IsEmpty room.own
   pub own_room : HasRoomForSteps room.own (own_steps parts)

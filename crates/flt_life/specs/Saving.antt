@@ -6,36 +6,36 @@ use Rattle.flt_life.specs.Answers.{Told}
 use Rattle.flt_life.specs.declared.answer.StepAnswer.TheVariants.{Saved, SaveFailed}
 use Rattle.flt_life.specs.Journal.{Journal, IsTakenSince}
 
--- how many saves failed since the last one that was acknowledged
+-- How many saves failed since the last one that was acknowledged.
 abbrev pub failures : List Told → ℕ
 failures [] = 0
 failures (Saved number ∷ earlier) = 0
 failures (SaveFailed fault ∷ earlier) = failures earlier + 1
 failures (_ ∷ earlier) = failures earlier
 
--- the number that was acknowledged last, or the one with which the life started
+-- The number that was acknowledged last, or the one with which the life started.
 abbrev pub last_number : ℕ → List Told → ℕ
 last_number first [] = first
 last_number first (Saved number ∷ earlier) = number
 last_number first (_ ∷ earlier) = last_number first earlier
 
--- the number is one more than this, and one more at most for each save that failed between
+-- The number is one more than this, and one more at most for each save that failed between.
 abbrev pub IsNextNumber : ℕ → ℕ → ℕ → Type 0
 IsNextNumber earlier failed number = (earlier + 1 ≤ number) × (number ≤ earlier + 1 + failed)
 
--- each number that was acknowledged is the next one
+-- Each number that was acknowledged is the next one.
 abbrev pub AreRising : ℕ → List Told → Type 0
 AreRising first [] = Unit {0}
 AreRising first (Saved number ∷ earlier) = IsNextNumber (last_number first earlier) (failures earlier) number × AreRising first earlier
 AreRising first (_ ∷ earlier) = AreRising first earlier
 
--- a generation of a save that was not acknowledged: its number is past the last one that was, by one at most for each save that
--- failed since, and its state was taken since
+-- A generation of a save that was not acknowledged: its number is past the last one that was, by one at most for each save that
+-- failed since, and its state was taken since.
 pub record IsUnacknowledged (start : Life) (journal : Journal) (answers : List Told) (last g : Generation) : Type 0 where
   pub past : last.number < g.number
   pub most : g.number ≤ last.number + failures answers
   pub taken : IsTakenSince start journal g.state
 
--- the generation that was acknowledged last, or one of a save since then
+-- The generation that was acknowledged last, or one of a save since then.
 abbrev pub IsLeft : Life → Journal → List Told → Generation → Generation → Type 0
 IsLeft start journal answers last g = (g ≡ last) ⊎ IsUnacknowledged start journal answers last g

@@ -21,7 +21,7 @@ is_on_sectors c used given is_stale has_mounted flash least given_is room =
       is_spent = λ i. is_last (current (same i) flash.image);
     }
 
--- a sound image stays one, as the driver's blocks and as its device's image
+-- A sound image stays one, as the driver's blocks and as its device's image.
 pub sound_on_device : (c : Config) (medium : Medium) (before after : BlocksState) (first last : DeviceState) → IsOn medium before → IsOn medium after
     → first ≡ before.device → last ≡ after.device → StaysSound c (moment_of before) (moment_of after)
     → StaysSound c (moment_at medium (boot_in first)) (moment_at medium (boot_in last))

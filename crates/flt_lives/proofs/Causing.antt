@@ -27,19 +27,19 @@ number_small c value missing g names = let is = ap (λ (d : Generation). d.numbe
 number_small c value invalid g names = absurd names
 number_small c value (bytes held) g names = let is = names.2.number in let most = names.2.form.most in omega (arith, is, most)
 
--- a read of an application block was answered by what the block holds
+-- A read of an application block was answered by what the block holds.
 abbrev pub IsRead : Told → Type 0
 IsRead (answers.Bytes found) = Unit {0}
 IsRead answers.NoBlock = Unit {0}
 IsRead _ = ⊥
 
--- a driver that is not spent was not before, since one that is spent stays so
+-- A driver that is not spent was not before, since one that is spent stays so.
 unspent_before : (before after : Bool) → (IsTrue before → IsTrue after) → IsFalse after → IsFalse before
 unspent_before true after stays unspent = let spent : IsTrue after = stays refl in absurd (cc)
 unspent_before false after stays unspent = refl
 
 module _ {B : Type 0} {b : Ghosts B} (c : Config) (begun : ℕ) (told : List Told) (before after : Store B b) (caused : IsCaused c begun told before) where
-  -- the faults of the saves, the reads and the jobs so far, as long as the last sequence number is not in use
+  -- The faults of the saves, the reads and the jobs so far, as long as the last sequence number is not in use.
   jobs_before : Follows (driver_of before) (driver_of after) → IsFalse (driver_of after).is_spent → HasRisenBy (3 * (flash_failures told + jobs_failed told)) begun (driver_of before).device.faults
   jobs_before follows unspent = caused.jobs (unspent_before (driver_of before).is_spent (driver_of after).is_spent follows.stays_spent unspent)
 
@@ -99,7 +99,7 @@ module _ {B : Type 0} {b : Ghosts B} (c : Config) (begun : ℕ) (told : List Tol
         sequence = λ was. sequence refl;
       }
 
-  -- an arm changes no count of faults
+  -- An arm changes no count of faults.
   pub caused_arm : (arm : Arm) → ArmsDriver arm (driver_of before) (driver_of after) → IsRunning c caused.held_now caused.spare_now after → IsCaused c begun told after
   caused_arm arm arms running =
       let faults = ap (λ (d : BlocksState). d.device.faults) arms.rest in
@@ -115,7 +115,7 @@ module _ {B : Type 0} {b : Ghosts B} (c : Config) (begun : ℕ) (told : List Tol
         sequence = λ was. subst IsTrue (sym spent) (caused.sequence was);
       }
 
-  -- calls of the driver by which no more is told to have failed leave the causes as they are
+  -- Calls of the driver by which no more is told to have failed leave the causes as they are.
   caused_still : (now : List Told) → Follows (driver_of before) (driver_of after) → IsRunning c caused.held_now caused.spare_now after → flash_failures now ≡ flash_failures told
       → (IsFalse (driver_of after).is_spent → HasRisenBy (3 * (flash_failures now + jobs_failed now)) begun (driver_of after).device.faults)
       → (HasFailedBy Spent now → HasFailedBy Spent told) → (HasFailedBy SequenceSpent now → HasFailedBy SequenceSpent told) → IsCaused c begun now after
@@ -131,7 +131,7 @@ module _ {B : Type 0} {b : Ghosts B} (c : Config) (begun : ℕ) (told : List Tol
         sequence = λ was. follows.stays_spent (caused.sequence (by_sequence was));
       }
 
-  -- a read that found the bytes of a block, or that it was never written
+  -- A read that found the bytes of a block, or that it was never written.
   pub caused_read : (answer : Told) → IsRead answer → Follows (driver_of before) (driver_of after) → IsRunning c caused.held_now caused.spare_now after → IsCaused c begun (answer ∷ told) after
   caused_read (answers.Bytes found) is follows running =
       let counts = follows.counts in
@@ -148,7 +148,7 @@ module _ {B : Type 0} {b : Ghosts B} (c : Config) (begun : ℕ) (told : List Tol
   caused_read answers.Armed is follows running = absurd is
   caused_read answers.Dark is follows running = absurd is
 
-  -- a read that failed in three tries
+  -- A read that failed in three tries.
   pub caused_unread : Follows (driver_of before) (driver_of after) → FailsThrice (driver_of before) (driver_of after) → IsRunning c caused.held_now caused.spare_now after
       → IsCaused c begun (answers.BlockFlash ∷ told) after
   caused_unread follows three running =
@@ -163,7 +163,7 @@ module _ {B : Type 0} {b : Ghosts B} (c : Config) (begun : ℕ) (told : List Tol
         sequence = λ was. follows.stays_spent (caused.sequence was);
       }
 
-  -- a drain: where the last sequence number is not in use behind it, each job that could not be written met three faults
+  -- A drain: where the last sequence number is not in use behind it, each job that could not be written met three faults.
   pub caused_drained : (written failed : ℕ) → Follows (driver_of before) (driver_of after) → (IsFalse (driver_of after).is_spent → HasRisenBy (3 * failed) (driver_of before).device.faults (driver_of after).device.faults)
       → IsRunning c caused.held_now caused.spare_now after → IsCaused c begun (answers.Drained written failed ∷ told) after
   caused_drained written failed follows rose running =

@@ -30,7 +30,7 @@ if-append : (b : Bool) (step : Step) (told : Told) (deeds more : List Deed) → 
 if-append true step told deeds more = refl
 if-append false step told deeds more = refl
 
--- its deed stands behind those of the parts before it
+-- Its deed stands behind those of the parts before it.
 pub deeds_more : (parts : List (PartOf Step)) (own : List Told) (lanes : List (List Told)) (step : Step) (told : Told) → length own ≡ length (own_steps parts)
     → deeds_in (parts ++ inl step ∷ []) (own ++ told ∷ []) lanes ≡ deeds_in parts own lanes ++ with_deed step told []
 deeds_more [] [] lanes step told size = refl
@@ -43,7 +43,7 @@ deeds_more (inr block ∷ parts) own lanes step told size =
     let back = drop (length block) lanes in
     ap (λ rest. front ++ rest) (deeds_more parts own back step told size) ∙ sym (append_assoc front (deeds_in parts own back) (with_deed step told []))
 
--- the answers, the newest first
+-- The answers, the newest first.
 abbrev answers_of : List Deed → List Told
 answers_of deeds = map (λ d. d.1) (reverse deeds)
 
@@ -67,7 +67,7 @@ answer_added (steps.Get block) told deeds = deed_added (steps.Get block) told de
 answer_added (steps.Ask block) told deeds = deed_none deeds
 answer_added (steps.Arming arm) told deeds = deed_none deeds
 
--- the answers of the deeds of parts, and of one step more
+-- The answers of the deeds of parts, and of one step more.
 pub deeds_told_more : (parts : List (PartOf Step)) (own : List Told) (step : Step) (told : Told) → length own ≡ length (own_steps parts)
     → deeds_told (parts ++ inl step ∷ []) (own ++ told ∷ []) ≡ with_answer (action_of step) told (deeds_told parts own)
 deeds_told_more parts own step told size = ap answers_of (deeds_more parts own [] step told size) ∙ answer_added step told (deeds_in parts own [])
@@ -75,7 +75,7 @@ deeds_told_more parts own step told size = ap answers_of (deeds_more parts own [
 -- ---- what holds of the steps of parts holds of those of their deeds
 
 module _ (P : Step → Type 0) where
-  -- of each step of a part
+  -- Of each step of a part.
   abbrev pub OfPart : PartOf Step → Type 0
   OfPart (inl step) = P step
   OfPart (inr lanes) = All (λ lane. All P lane) lanes
@@ -115,7 +115,7 @@ module _ (P : Step → Type 0) where
       subst (All OfDeed) (sym (reverse-append (deed ∷ []) deeds))
       (All-append OfDeed (reverse deeds) (deed ∷ []) (all_reverse deeds (All-tail OfDeed deed deeds all)) (All-cons OfDeed deed [] (All-head OfDeed deed deeds all) (All-nil OfDeed)))
 
-  -- also with the newest first
+  -- Also with the newest first.
   pub all_newest : (parts : List (PartOf Step)) (own : List Told) (lanes : List (List Told)) → All OfPart parts → All OfDeed (reverse (deeds_in parts own lanes))
   all_newest parts own lanes all = all_reverse (deeds_in parts own lanes) (all_deeds parts own lanes all)
 
@@ -201,7 +201,7 @@ part_possible c (inr lanes) possible =
     All-weaker (λ lane. All (IsPossibleInLane c) lane) (λ lane. All (λ step. IsPossible c (action_of step)) lane)
     (λ lane all. All-weaker (IsPossibleInLane c) (λ step. IsPossible c (action_of step)) (λ step one. one.1) lane all) lanes possible.0
 
--- what a life leaves in the application blocks that its start-up left, it leaves in those that its power-up found
+-- What a life leaves in the application blocks that its start-up left, it leaves in those that its power-up found.
 pub keeps_from_boot : (c : Config) (boot started next : Moment) (life : LifeView) → IsValid c → All (IsPossiblePart c) life.parts → SameApplications boot.value started.value → KeepsApplications started next life
     → KeepsApplications boot next life
 keeps_from_boot c boot started next life valid possible same keeps = record {

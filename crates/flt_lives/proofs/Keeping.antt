@@ -43,7 +43,7 @@ module _ (start : Life) (journal : Journal) (told : List Told) (last : Generatio
   left_call : (op : Op) (g : Generation) → IsStepCall op → IsLeft start journal told last g → IsLeft start (entry 0 op ∷ journal) told last g
   left_call op g is = ⊎_elim (λ same. inl same) (λ (more : IsUnacknowledged start journal told last g). inr record { past = more.past; most = more.most; taken = taken_call start journal op g.state _ is more.taken })
 
-  -- a save that failed leaves what was there
+  -- A save that failed leaves what was there.
   left_failed : (fault : SaveFault) (g : Generation) → IsLeft start journal told last g → IsLeft start (entry 0 ops.Snapshot ∷ journal) (answers.SaveFailed fault ∷ told) last g
   left_failed fault g = ⊎_elim (λ same. inl same) (λ (more : IsUnacknowledged start journal told last g). (let most = more.most in inr record { past = more.past; most = omega (arith, most); taken = inr more.taken }))
 
@@ -53,7 +53,7 @@ module _ (start : Life) (journal : Journal) (told : List Told) (last : Generatio
   at_most : (g : Generation) → IsLeft start journal told last g → g.number ≤ last.number + failures told
   at_most g = ⊎_elim (λ same. (let is = ap (λ (d : Generation). d.number) same in omega (arith, is))) (λ (more : IsUnacknowledged start journal told last g). more.most)
 
-  -- or what it was to write
+  -- Or what it was to write.
   left_new : (fault : SaveFault) (chosen : Generation) → IsLeft start journal told last chosen
       → IsLeft start (entry 0 ops.Snapshot ∷ journal) (answers.SaveFailed fault ∷ told) last (numbered (chosen.number + 1) (saved_after start (calls_of journal)))
   left_new fault chosen left =
@@ -61,7 +61,7 @@ module _ (start : Life) (journal : Journal) (told : List Told) (last : Generatio
       let most = at_most chosen left in
       inr record { past = omega (arith, least); most = omega (arith, most); taken = inl refl }
 
--- the one from which a save went on
+-- The one from which a save went on.
 pub chosen_of : (P : Generation → Type 0) {Q R : Type 0} (h s chosen : Generation) → (chosen ≡ h) ⊎ ((chosen ≡ s) × Q × R) → P h → P s → P chosen
 chosen_of P h s chosen is by_held by_spare = ⊎_elim (λ e. subst P (sym e) by_held) (λ more. subst P (sym more.0) by_spare) is
 
@@ -117,6 +117,6 @@ module _ (c : Config) (first : Generation) (journal : Journal) (told : List Told
           rising = ((omega (arith, least, next, last), omega (arith, most, next, last)), kept.rising);
         }
 
--- no step
+-- No step.
 pub kept_first : (c : Config) (first : Generation) → IsKeptSince c first [] [] first first
 kept_first c first = record { last = first; acknowledged = refl; number = refl; held_is = inl refl; spare_is = inl refl; rising = tt }

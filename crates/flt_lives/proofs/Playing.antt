@@ -97,12 +97,12 @@ module _ {S O R : Type 0} (answer : S → List O → O → R) (start : S) where
   }
 
   module _ (MadeBy : Step → Told → List (Call O R) → Type 0) where
-    -- no step
+    -- No step.
     made_none : IsMade MadeBy answer start [] [] [] []
     unfolding HasInOrder
     made_none = record { blocks = []; made = parts_none MadeBy 1; follows = refl; told = All-nil (BlockTold answer start []); rising = λ number. rise_none 0 [] refl }
 
-    -- a step more, which made these calls
+    -- A step more, which made these calls.
     made_more : (parts : List (PartOf Step)) (own : List Told) (lanes : List (List Told)) (journal : List (Entry O)) (step : Step) (told : Told) (ops : List O) → IsMade MadeBy answer start parts own lanes journal
         → MadeBy step told (calls_at journal ops) → IsMade MadeBy answer start (parts ++ inl step ∷ []) (own ++ told ∷ []) lanes (journal ++ map (λ op. entry 0 op) ops)
     made_more parts own lanes journal step told ops is makes =
@@ -133,7 +133,7 @@ module _ (start : Life) where
     is : after ≡ journal ++ map (λ op. entry 0 op) ops
 
   module _ (journal after : Journal) where
-    -- the newest entries are those at the end
+    -- The newest entries are those at the end.
     behind : (newest : Journal) → reverse after ≡ newest ++ reverse journal → after ≡ journal ++ reverse newest
     behind newest is =
         sym (reverse-reverse after) ∙ ap reverse is ∙ reverse-append newest (reverse journal) ∙ ap (λ l. l ++ reverse newest) (reverse-reverse journal)
@@ -173,7 +173,7 @@ module _ (start : Life) where
     ops_by (actions.Get block) told carried = absurd carried
     ops_by (actions.Arm arm) told carried = record { ops = []; makes = (carried.1, refl); is = behind [] carried.0 }
 
-  -- it makes no call of the queue
+  -- It makes no call of the queue.
   queues_none : (before after : Journal) (action : Action) (told : Told) → IsCarriedOut start before action after told → ActionQueues action told []
   queues_none before after (actions.Call op) told carried = refl
   queues_none before after (actions.Queue op) told carried = absurd carried
@@ -182,11 +182,11 @@ module _ (start : Life) where
   queues_none before after (actions.Get block) told carried = absurd carried
   queues_none before after (actions.Arm arm) told carried = refl
 
--- no step
+-- No step.
 pub no_parts : (start : Life) → IsLife start [] [] [] [] []
 no_parts start = record { dem = made_none reply_after start StepMakes; jobs = made_none queued.reply_after start.config.blocks StepQueues }
 
--- and one more
+-- And one more.
 pub life_more : (start : Life) (parts : List (PartOf Step)) (own : List Told) (lanes : List (List Told)) (journal after : Journal) (step : Step) (told : Told)
     → IsLife start parts own lanes journal [] → IsCarriedOut start (reverse journal) (action_of step) (reverse after) told
     → IsLife start (parts ++ inl step ∷ []) (own ++ told ∷ []) lanes after []
@@ -199,7 +199,7 @@ life_more start parts own lanes journal after step told life carried =
           (queues_none start (reverse journal) (reverse after) (action_of step) told carried);
     }
 
--- a life of lane 0 alone, as it is told
+-- A life of lane 0 alone, as it is told.
 abbrev pub alone_view : List (PartOf Step) → Boot → Journal → List Told → LifeView
 alone_view parts boot journal own = record { parts = parts; boot = boot; journal = journal; queue = []; own = own; lanes = [] }
 

@@ -12,7 +12,7 @@ pub no_arms : (boots count : ℕ) (arms : Option (List ArmMade)) → ArmsSince b
 no_arms boots count None = tt
 no_arms boots count (Some made) = record { more = []; is = search rules; each = search rules }
 
--- no step
+-- No step.
 pub goes_nowhere : (driver : BlocksState) → GoesOn driver driver
 goes_nowhere driver = record {
   numbers = refl;
@@ -23,7 +23,7 @@ goes_nowhere driver = record {
   arms = no_arms _ _ driver.device.bench.arms;
 }
 
--- calls of the driver
+-- Calls of the driver.
 pub goes_by_calls : (before after : BlocksState) → Follows before after → GoesOn before after
 goes_by_calls before after follows = record {
   numbers = follows.numbers;
@@ -49,7 +49,7 @@ arms_further boots count later rose (Some earlier) (Some middle) (Some made) one
   each = All-append (IsMadeIn boots count) one.more two.more one.each (all_later boots count later rose two.more two.each);
 }
 
--- steps, and then more
+-- Steps, and then more.
 pub goes_further : (first second third : BlocksState) → GoesOn first second → GoesOn second third → GoesOn first third
 goes_further first second third one two =
     let rose = one.counts in let rises = two.counts in

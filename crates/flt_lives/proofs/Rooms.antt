@@ -33,7 +33,7 @@ use Rattle.flt_lives.proofs.Calls.{call_most}
 
 -- ---- bounds of one step and of all
 
--- the calls of steps by themselves
+-- The calls of steps by themselves.
 pub alone_calls : (parts : List (PartOf Step)) → AreAlone parts → sum_by calls_in parts ≡ sum_by call_count (own_actions parts)
 alone_calls [] alone = refl
 alone_calls (inl step ∷ parts) alone =
@@ -53,7 +53,7 @@ calls_most (inl step ∷ parts) =
     omega (arith, rest, sum, actions, one)
 calls_most (inr lanes ∷ parts) = let rest = calls_most parts in let sum = sum_by-cons steps_in (inr lanes) parts in omega (arith, rest, sum)
 
--- the arms of a part are those of its step
+-- The arms of a part are those of its step.
 pub arms_are : (parts : List (PartOf Step)) → sum_by arms_in parts ≡ sum_by arm_count (own_actions parts)
 arms_are [] = refl
 arms_are (inl step ∷ parts) =
@@ -99,7 +99,7 @@ calls_fit account action room =
     let fits = room.calls in
     omega (arith, sum, fits)
 
--- the room that a step leaves for the others
+-- The room that a step leaves for the others.
 pub room_after : (before after : Account) (action : Action) (rest : List Action) → HasRoomFor before (action ∷ rest) → vec_len after.journal ≤ vec_len before.journal + call_count action
     → vec_capacity after.journal ≡ vec_capacity before.journal → vec_len after.replies.answers ≡ vec_len before.replies.answers + 1
     → vec_capacity after.replies.answers ≡ vec_capacity before.replies.answers → vec_len after.replies.responses ≤ vec_len before.replies.responses + response_size action
@@ -115,7 +115,7 @@ room_after before after action rest room calls call_room answers answer_room res
       responses = omega (arith, response_fits, response_sum, responses, response_room);
     }
 
--- a response is an answer to a request alone
+-- A response is an answer to a request alone.
 size_most : (kind : ReplyKind) (response : List ℕ) → length response ≤ 512 → size_of kind response ≤ 512
 size_most kinds.Taken response few = omega arith
 size_most (kinds.Ignored cause) response few = omega arith
@@ -133,7 +133,7 @@ size_of_call (ops.Show event) kind response none few = let is = none (λ no. no)
 size_of_call ops.Snapshot kind response none few = let is = none (λ no. no) in omega (arith, is)
 size_of_call (ops.Saved number) kind response none few = let is = none (λ no. no) in omega (arith, is)
 
--- a possible step is possible in a dark life
+-- A possible step is possible in a dark life.
 pub possible_arm : (c : Config) (action : Action) → IsPossible c action → IsPossibleArm action
 possible_arm c (Call op) possible = tt
 possible_arm c (Queue op) possible = tt
@@ -176,7 +176,7 @@ module _ {X : Type 0} (P : X → Type 0) where
   all_right [] ys all = all
   all_right (x ∷ xs) ys all = all_right xs ys (All-tail P x (xs ++ ys) all)
 
--- the next one of those that are left
+-- The next one of those that are left.
 pub next_of : {X : Type 0} (P : X → Type 0) (done later : List X) (next : X) → All P (done ++ next ∷ later) → P next
 next_of P done later next all = All-head P next later (all_right P done (next ∷ later) all)
 
@@ -224,7 +224,7 @@ dark_in_lane (steps.Get block) may = refl
 dark_in_lane (steps.Ask block) may = refl
 dark_in_lane (steps.Arming arm) may = absurd (cc)
 
--- each of parts by themselves is one
+-- Each of parts by themselves is one.
 pub one_alone : (parts : List Part) (index : ℕ) (part : Part) → index < length parts → part ≡ get_or parts index part → AreAlone (parts_of parts) → IsAlone (part_of part)
 one_alone parts index part within is alone =
     let size = length-map parts part_of in

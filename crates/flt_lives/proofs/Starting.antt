@@ -29,7 +29,7 @@ use Rattle.flt_life.specs.Causes.{AreCaused}
 use Rattle.flt_lives.specs.Going.{ArmsSince, GoesOn, AddsLife}
 use Rattle.flt_lives.proofs.Riding.{goes_nowhere}
 
--- a fault that does not make the life dark
+-- A fault that does not make the life dark.
 abbrev pub Refuses : StartFault → Type 0
 Refuses faults.Flash = ⊥
 Refuses _ = Unit {0}
@@ -141,7 +141,7 @@ module _ {B : Type 0} {b : Ghosts B} (c : Config) (first : BlocksState) (before 
     arms = life_arms first (driver_of before) powers (driver_of after) last follows goes;
   }
 
--- what holds of a result that is there
+-- What holds of a result that is there.
 pub if_ok : {T E : Type 0} {P Q R S U : T → Type 0} (result : Result T E) → ((t : T) → P t → Q t → R t → S t → U t) → IfOk result P → IfOk result Q → IfOk result R → IfOk result S → IfOk result U
 if_ok (Ok t) more p q r s = more t p q r s
 if_ok (Err e) more p q r s = tt

@@ -5,7 +5,7 @@ use Rattle.flt_generation.specs.Holding.{Generation}
 use Rattle.flt_store.specs.declared.store.Store.{Store}
 use Rattle.flt_store.specs.Store.{IsRunning}
 
--- the store runs with two generations
+-- The store runs with two generations.
 pub record IsAlive {B : Type 0} {b : Ghosts B} (c : Config) (store : Store B b) : Type 0 where
   pub held : Generation
   pub spare : Generation

@@ -9,14 +9,14 @@ use Rattle.flt_life.specs.declared.action.Action.TheVariants.{Queue, Drain, Get}
 use Rattle.flt_life.specs.Actions.{action_of}
 use Rattle.flt_life.specs.Parts.{own_actions}
 
--- a step that leaves the queue and the application blocks alone
+-- A step that leaves the queue and the application blocks alone.
 abbrev pub IsPlain : Action → Type 0
 IsPlain (Queue op) = ⊥
 IsPlain Drain = ⊥
 IsPlain (Get block) = ⊥
 IsPlain _ = Unit {0}
 
--- such a step by itself
+-- Such a step by itself.
 abbrev pub IsAlone : PartOf Step → Type 0
 IsAlone (inl step) = IsPlain (action_of step)
 IsAlone (inr lanes) = ⊥
@@ -24,6 +24,6 @@ IsAlone (inr lanes) = ⊥
 abbrev pub AreAlone : List (PartOf Step) → Type 0
 AreAlone parts = All IsAlone parts
 
--- what the steps of lane 0 do, in order
+-- What the steps of lane 0 do, in order.
 abbrev pub actions_in : List Part → List Action
 actions_in parts = own_actions (parts_of parts)

@@ -12,18 +12,18 @@ use Rattle.flt_life.specs.Answers.{Told}
 use Rattle.flt_life.specs.declared.answer.StepAnswer.TheVariants as answers
 use Rattle.flt_life.specs.Journal.{Journal, entry, calls_of}
 
--- the machine's answer to a call behind these, at its place
+-- The machine's answer to a call behind these, at its place.
 abbrev pub answer_at : Life → Journal → Op → Answer Reply
 answer_at start before op = record { place = length before; reply = answer start (calls_of before) op }
 
--- a save takes a snapshot, and then, where it is answered with a number, is acknowledged by it
+-- A save takes a snapshot, and then, where it is answered with a number, is acknowledged by it.
 abbrev pub SaveIsCarriedOut : Journal → Journal → Told → Type 0
 SaveIsCarriedOut before journal (answers.Saved number) = journal ≡ entry 0 (ops.Saved number) ∷ entry 0 ops.Snapshot ∷ before
 SaveIsCarriedOut before journal (answers.SaveFailed fault) = journal ≡ entry 0 ops.Snapshot ∷ before
 SaveIsCarriedOut before journal _ = ⊥
 
--- a step adds its calls to the journal, and its answer is the machine's or the store's; the queue and the application blocks are left
--- alone
+-- A step adds its calls to the journal, and its answer is the machine's or the store's; the queue and the application blocks are left
+-- alone.
 abbrev pub IsCarriedOut : Life → Journal → Action → Journal → Told → Type 0
 IsCarriedOut start before (actions.Call op) journal told = (journal ≡ entry 0 op ∷ before) × (told ≡ answers.Dem (answer_at start before op))
 IsCarriedOut start before actions.Save journal told = SaveIsCarriedOut before journal told

@@ -3,6 +3,6 @@ use Rattle.std.specs.Prelude.{List, All, IsTrue}
 use Rattle.flt_script.specs.declared.step.Step.{Step}
 use Rattle.flt_script.specs.Step.{is_lane_step}
 
--- each step may stand in a lane
+-- Each step may stand in a lane.
 abbrev pub IsLaneSteps : List Step → Type 0
 IsLaneSteps steps = All (λ step. IsTrue (is_lane_step step)) steps

@@ -6,12 +6,12 @@ use Rattle.flt_flash.specs.State.{HasRisenBy}
 use Rattle.flt_flash.specs.Blocks.{BlocksState}
 use Rattle.flt_life.specs.Moment.{boot_of}
 
--- an arm of a life with so many boots, made when the count of faults had come to this
+-- An arm of a life with so many boots, made when the count of faults had come to this.
 pub record IsMadeIn (boots count : ℕ) (arm : ArmMade) : Type 0 where
   pub life : arm.boots ≡ boots
   pub later : HasRisenBy 0 count arm.faults
 
--- the arms made since then, where they are told, are of one life and were made past this count
+-- The arms made since then, where they are told, are of one life and were made past this count.
 pub record AddsArms (boots count : ℕ) (earlier made : List ArmMade) : Type 0 where
   pub more : List ArmMade
   pub is : made ≡ earlier ++ more
@@ -20,7 +20,7 @@ pub record AddsArms (boots count : ℕ) (earlier made : List ArmMade) : Type 0 w
 abbrev pub ArmsSince : ℕ → ℕ → Option (List ArmMade) → Option (List ArmMade) → Type 0
 ArmsSince boots count before after = IfSome after (λ made. IsSomeAnd before (λ earlier. AddsArms boots count earlier made))
 
--- any number of steps of one life
+-- Any number of steps of one life.
 pub record GoesOn (before after : BlocksState) : Type 0 where
   pub numbers : after.numbers ≡ before.numbers
   pub room : after.room ≡ before.room
@@ -29,7 +29,7 @@ pub record GoesOn (before after : BlocksState) : Type 0 where
   pub boots_left : after.device.bench.boots_left ≡ before.device.bench.boots_left
   pub arms : ArmsSince (length before.device.bench.boots) before.device.faults before.device.bench.arms after.device.bench.arms
 
--- the arms that were made between two states of a bench, where they are told, are these
+-- The arms that were made between two states of a bench, where they are told, are these.
 pub record AddsGiven (arms : List Arm) (earlier made : List ArmMade) : Type 0 where
   pub more : List ArmMade
   pub is : made ≡ earlier ++ more
@@ -38,7 +38,7 @@ pub record AddsGiven (arms : List Arm) (earlier made : List ArmMade) : Type 0 wh
 abbrev pub WereGiven : List Arm → Option (List ArmMade) → Option (List ArmMade) → Type 0
 WereGiven arms before after = IfSome after (λ made. IsSomeAnd before (λ earlier. AddsGiven arms earlier made))
 
--- what a life leaves of a driver and its bench: one boot more
+-- What a life leaves of a driver and its bench: one boot more.
 pub record AddsLife (before after : BlocksState) : Type 0 where
   pub numbers : after.numbers ≡ before.numbers
   pub room : after.room ≡ before.room

@@ -10,20 +10,20 @@ use Rattle.flt_store.specs.Cause.{HasRoom}
 use Rattle.flt_life.specs.Moment.{Medium, IsOn, boot_of, moment_at}
 use Rattle.flt_life.specs.Chain.{LifeView, IsLifeBetween}
 
--- a driver for the numbers of an image that leaves the configuration its room keeps its blocks as this medium does
+-- A driver for the numbers of an image that leaves the configuration its room keeps its blocks as this medium does.
 abbrev pub KeepsOn : {B : Type 0} → Ghosts B → Config → Medium → Type 0
 KeepsOn {B = B} b c medium = (driver : B) → (b.state driver).numbers ≡ numbers → HasRoom c (b.state driver).room → IsOn medium (b.state driver)
 
--- an arm that was made in a life with so many boots was made past this count
+-- An arm that was made in a life with so many boots was made past this count.
 pub record IsPast (boots count : ℕ) (arm : ArmMade) : Type 0 where
   pub later : arm.boots ≡ boots → HasRisenBy 0 count arm.faults
 
--- the arms were made past the counts at the ends of the start-ups of their lives
+-- The arms were made past the counts at the ends of the start-ups of their lives.
 abbrev pub ArePast : ℕ → List ℕ → List ArmMade → Type 0
 ArePast earlier [] made = Unit {0}
 ArePast earlier (count ∷ counts) made = All (IsPast (earlier + length counts + 1) count) made × ArePast earlier counts made
 
--- lives between their boots, with the count of faults at the end of each start-up
+-- Lives between their boots, with the count of faults at the end of each start-up.
 abbrev pub AreLinkedBy : Config → Medium → PowerUp → List PowerUp → List LifeView → List ℕ → Type 0
 AreLinkedBy c medium next [] [] [] = Unit {0}
 AreLinkedBy c medium next [] [] (count ∷ counts) = ⊥
@@ -34,7 +34,7 @@ AreLinkedBy c medium next (boot ∷ boots) (life ∷ lives) (count ∷ counts) =
     IsLifeBetween c (moment_at medium boot) (moment_at medium next) count life × HasRisenBy 0 count next.faults × (length counts ≡ length boots)
     × AreLinkedBy c medium boot boots lives counts
 
--- the arms of a run, each made past the count at the end of the start-up of its life, and in one of the lives so far
+-- The arms of a run, each made past the count at the end of the start-up of its life, and in one of the lives so far.
 pub record MadeInRun (earlier : ℕ) (counts : List ℕ) (before now : List ArmMade) : Type 0 where
   pub made : List ArmMade
   pub is : now ≡ before ++ made

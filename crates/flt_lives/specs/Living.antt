@@ -30,39 +30,39 @@ use Rattle.flt_life.specs.Saving.{IsLeft, AreRising, last_number}
 use Rattle.flt_lives.specs.declared.account.Account.{Account}
 use Rattle.flt_lives.specs.Going.{ArmsSince}
 
--- the unit stands for some calls from a base that fits a valid configuration
+-- The unit stands for some calls from a base that fits a valid configuration.
 pub record IsUnderWay (c : Config) (unit : UnitView) : Type 0 where
   pub past : History
   pub valid : IsValid c
   pub fits : Fits c unit.base
   pub stands : Stands (start_from c unit.base) past unit
 
--- the answers of the deeds so far, the newest first, and that of a step more, where it touches the store
+-- The answers of the deeds so far, the newest first, and that of a step more, where it touches the store.
 abbrev pub with_answer : Action → Told → List Told → List Told
 with_answer Save told earlier = told ∷ earlier
 with_answer Drain told earlier = told ∷ earlier
 with_answer (Get block) told earlier = told ∷ earlier
 with_answer _ told earlier = earlier
 
--- the answers of the deeds of parts without blocks, the newest first
+-- The answers of the deeds of parts without blocks, the newest first.
 abbrev pub deeds_told : List (PartOf Step) → List Told → List Told
 deeds_told parts own = map (λ d. d.1) (reverse (deeds_in parts own []))
 
--- an account has room for the calls, the answers and the responses of these steps
+-- An account has room for the calls, the answers and the responses of these steps.
 pub record HasRoomFor (account : Account) (actions : List Action) : Type 0 where
   pub few : vec_len account.journal + sum_by call_count actions ≤ 131072
   pub calls : vec_len account.journal + sum_by call_count actions ≤ vec_capacity account.journal
   pub answers : vec_len account.replies.answers + length actions ≤ vec_capacity account.replies.answers
   pub responses : vec_len account.replies.responses + sum_by response_size actions ≤ vec_capacity account.replies.responses
 
--- what holds of a life, with the count of faults at the end of its start-up, and the arms that were made in it
+-- What holds of a life, with the count of faults at the end of its start-up, and the arms that were made in it.
 pub record IsLived (c : Config) (before after : BlocksState) (life : LifeView) : Type 0 where
   pub ended : ℕ
   pub holds : IsLifeBetween c (moment_of before) (moment_of after) ended life
   pub later : HasRisenBy 0 ended after.device.faults
   pub arms : ArmsSince (length before.device.bench.boots + 1) ended before.device.bench.arms after.device.bench.arms
 
--- both generations of the image are the one that was acknowledged last, or one of a save since then
+-- Both generations of the image are the one that was acknowledged last, or one of a save since then.
 pub record IsKeptSince (c : Config) (first : Generation) (journal : Journal) (told : List Told) (held spare : Generation) : Type 0 where
   pub last : Generation
   pub acknowledged : Acknowledges (start_from c first.state) first journal last
@@ -79,7 +79,7 @@ module _ {B : Type 0} {b : Ghosts B} where
     pub running : IsRunning c held spare store
     pub kept : IsKeptSince c first journal told held spare
 
-  -- each step that failed has its cause so far, since this count of faults
+  -- Each step that failed has its cause so far, since this count of faults.
   pub record IsCaused (c : Config) (begun : ℕ) (told : List Told) (store : Store B b) : Type 0 where
     pub held_now : Generation
     pub spare_now : Generation
@@ -89,7 +89,7 @@ module _ {B : Type 0} {b : Ghosts B} where
     pub spent : HasFailedBy Spent told → 2 ^ 32 - 1 ≤ spare_now.number
     pub sequence : HasFailedBy SequenceSpent told → IsTrue (driver_of store).is_spent
 
-  -- a step of lane 0 added its calls and its answer
+  -- A step of lane 0 added its calls and its answer.
   pub record TakesStep (c : Config) (action : Action) (unit next_unit : UnitView) (store next_store : Store B b) (before after : Account) : Type 0 where
     pub last : Told
     pub answers : told_in after.replies ≡ told_in before.replies ++ last ∷ []

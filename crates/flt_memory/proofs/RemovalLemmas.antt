@@ -41,7 +41,7 @@ some_where : (found : Bool) (place : ℕ) → IsTrue found ↔ IsSome (cond foun
 some_where true place = search rules
 some_where false place = search rules
 
--- a list without the elements that pass is shorter exactly where one is found
+-- A list without the elements that pass is shorter exactly where one is found.
 pub shorter_tells : {X : Type 0} (passes : X → Bool) (old new : List X) (before now : ℕ) → new ≡ filter (λ x. not (passes x)) old → before ≡ length old →
     now ≡ length new → IsTrue (nat_lt now before) ↔ IsSome (position passes old)
 shorter_tells {X = X} passes old new before now filtered before_is now_is =

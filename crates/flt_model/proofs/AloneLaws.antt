@@ -21,19 +21,19 @@ use Rattle.flt_model.specs.CallLaws.{IsAboutEvent, IsLeftAlone, OthersAreLeftAlo
 
 -- ---- the marks of one event, seen from another
 
--- one more mark of the event
+-- One more mark of the event.
 other_mark : (event other : ℕ) (mark : Mark) (signals : List ℕ) (marks : Trace) → other ≢ event →
     marks_of other (Of event mark signals ∷ marks) ≡ marks_of other marks
 other_mark event other mark signals marks ne = rw (ne_eqb event other (λ same. ne (sym same))) refl
 
--- one more mark of the event, where the other was left alone before
+-- One more mark of the event, where the other was left alone before.
 and_mark : (event other : ℕ) (mark : Mark) (signals : List ℕ) (old : Past) (marks : Trace) → other ≢ event → IsLeftAlone old (marks_of other marks) →
     IsLeftAlone old (marks_of other (Of event mark signals ∷ marks))
 and_mark event other mark signals old marks ne (inl same) = inl (other_mark event other mark signals marks ne ∙ same)
 and_mark event other mark signals old marks ne (inr more) = inr (other_mark event other mark signals marks ne ∙ more)
 
 module _ (life : Life) (event other : ℕ) (ne : other ≢ event) where
-  -- a displacement of some event
+  -- A displacement of some event.
   displaced_alone : (worst : ℕ) (signals : List ℕ) (old : Past) (marks : Trace) → marks_of other marks ≡ old → IsLeftAlone old (marks_of other (Of worst Displaced signals ∷ marks))
   displaced_alone worst signals old marks e =
       elim (cases_Bool (nat_eq worst other)) [
@@ -81,11 +81,11 @@ module _ (life : Life) (event other : ℕ) (ne : other ≢ event) where
 
 -- ---- a call about one event
 
--- an event to which nothing happens has no part
+-- An event to which nothing happens has no part.
 no_part : (life : Life) (past : History) (op : Op) (event : ℕ) (marks : Trace) → happening_of life event past op ≡ None → event_part life past op event marks ≡ marks
 no_part life past op event marks none = ap (λ h. with_marks life event past h marks) none
 
--- the parts in order are that of the one event, or none
+-- The parts in order are that of the one event, or none.
 alone_in_order : (life : Life) (past : History) (op : Op) (event other : ℕ) (n : ℕ) (marks : Trace) → n ≤ count life → IsAboutEvent life past op event → other ≢ event →
     (in_order (event_part life past op) n marks ≡ marks) ⊎ ((event < n) × (in_order (event_part life past op) n marks ≡ event_part life past op event marks))
 alone_in_order life past op event other zero marks within about ne = inl refl
@@ -105,7 +105,7 @@ alone_in_order life past op event other (suc n) marks within about ne =
           ]
     ]
 
--- a mark of a clear of all is no event's
+-- A mark of a clear of all is no event's.
 clear_alone : (other : ℕ) (dtc : Option ℕ) (marks : Trace) → marks_of other (with_clear dtc marks) ≡ marks_of other marks
 clear_alone other None marks = refl
 clear_alone other (Some dtc) marks = elim (cases_Bool (nat_eq dtc all_dtcs)) [ inl e ↦ rw e refl | inr e ↦ rw e refl ]
@@ -142,7 +142,7 @@ other_dtc life event other distinct within_event within_other ne same =
       | inr (inr more) ↦ distinct other event no_event more within_event (at_other ∙ sym same ∙ sym at_event)
     ]
 
--- what a clear that does not reach an event is for it
+-- What a clear that does not reach an event is for it.
 unreached : (life : Life) (other dtc : ℕ) → dtc ≢ all_dtcs → dtc ≢ (event_of life other).dtc → happening_of_clear life other (Some dtc) ≡ None
 unreached life other dtc not_all ne = rw (ne_eqb dtc all_dtcs not_all, ne_eqb dtc (event_of life other).dtc ne) refl
 

@@ -48,7 +48,7 @@ within_at low high [] place all h = absurd (omega (arith, h))
 within_at low high (event ∷ events) zero all h = all.0.1
 within_at low high (event ∷ events) (suc place) all h = within_at low high events place all.1 (omega (arith, h))
 
--- without the lowest
+-- Without the lowest.
 within_next : (low high : ℕ) (events : List ℕ) → AllWithin low high events → AllWithin (suc low) high (filter (is_other low) events)
 within_next low high [] all = tt
 within_next low high (event ∷ events) all =
@@ -228,7 +228,7 @@ cleared_first : (notable : Notable) (base : Option ℕ) (sent : List ℕ) (high 
 cleared_first notable base sent high zero marks noted_event = noted_event
 cleared_first notable base sent high (suc n) marks noted_event = note_next n high (first notable base (all_cleared sent n marks)) (cleared_first notable base sent high n marks noted_event)
 
--- an event behind those that were cleared
+-- An event behind those that were cleared.
 later_marks : (event : ℕ) (sent : List ℕ) (n : ℕ) (marks : Trace) → n ≤ event → marks_of event (all_cleared sent n marks) ≡ marks_of event marks
 later_marks event sent zero marks h = refl
 later_marks event sent (suc n) marks h = rw (ne_eqb n event (λ same. absurd (omega (arith, h, same)))) (later_marks event sent n marks (omega (arith, h)))
@@ -245,7 +245,7 @@ cleared_marks event sent (suc n) marks h =
           rw apart (cleared_marks event sent n marks (omega (arith, ne, h)))
     ]
 
--- the same at each number
+-- The same at each number.
 map_below-replicate : (f : ℕ → EventState) (state : EventState) (n : ℕ) → ((event : ℕ) → event < n → f event ≡ state) → map f (below n) ≡ replicate n state
 map_below-replicate f state zero each = refl
 map_below-replicate f state (suc n) each =
@@ -258,7 +258,7 @@ map_below-replicate f state (suc n) each =
 
 -- ---- the call
 
--- each event takes a clear
+-- Each event takes a clear.
 clear_part : (life : Life) (past : History) (op : Op) (event : ℕ) (marks : Trace) → cleared_dtc op ≡ Some all_dtcs → event_part life past op event marks ≡ Of event Clear (signals past) ∷ marks
 clear_part life past (ops.Request from bytes) event marks e = rw e refl
 clear_part life past (ops.Signal index value) event marks e = absurd (cc)

@@ -19,7 +19,7 @@ abbrev pub Begins : ℕ → Option (List ℕ) → Type 0
 Begins byte None = ⊥
 Begins byte (Some bytes) = slice_get bytes 0 ≡ Some byte
 
--- a request of this form is answered, but for an unknown DTC
+-- A request of this form is answered, but for an unknown DTC.
 abbrev pub IsSound : ℕ → Form → Type 0
 IsSound service (Plain request) = (view : View) → Begins (service + 0x40) (positive view request)
 IsSound service (Masked request) = (view : View) (mask : ℕ) → Begins (service + 0x40) (positive view (request mask))
@@ -105,7 +105,7 @@ sound_row service sub form e = sound_in sub_functions service sub form all_sound
 
 -- ---- a positive response
 
--- a positive response, which is sent or suppressed
+-- A positive response, which is sent or suppressed.
 record IsResponse (service : ℕ) (silent : Bool) (reply : Reply) : Type 0 where
   bytes : List ℕ
   begins : slice_get bytes 0 ≡ Some (service + 0x40)
@@ -129,7 +129,7 @@ longer a b less = ne_eqb b a (λ same. absurd (omega (arith, less, same)))
 
 -- ---- a clear
 
--- what follows where no earlier condition holds
+-- What follows where no earlier condition holds.
 abbrev Ordered : View → ℕ → Bool → List Condition → Reply → Type 0
 Ordered view service silent rows reply = MatchOption (first_code rows) (IsResponse service silent reply) (λ code. reply ≡ negative service code)
 
@@ -154,7 +154,7 @@ clear_case view extended (a ∷ b ∷ c ∷ d ∷ rest) = rw (shorter 4 (length 
 
 -- ---- a service with sub-functions
 
--- a DTC and a record number: both are to be known
+-- A DTC and a record number: both are to be known.
 record_case : (view : View) (service : ℕ) (silent : Bool) (request : Request) (is_record : Bool) (found : Option EventView) →
     MatchOption found (positive view request ≡ None) (λ event. Begins (service + 0x40) (positive view request)) →
     Ordered view service silent (where_ (not is_record || is_none found) request_out_of_range ∷ [])
@@ -163,14 +163,14 @@ record_case view service silent request false found sound = refl
 record_case view service silent request true None sound = rw sound refl
 record_case view service silent request true (Some event) sound = answered service silent (positive view request) sound
 
--- option bytes
+-- Option bytes.
 option_case : (view : View) (service : ℕ) (silent : Bool) (request : Request) (is_known : Bool) → Begins (service + 0x40) (positive view request) →
     Ordered view service silent (where_ (not is_known) request_out_of_range ∷ [])
     (response_to view service (accepted service silent (cond is_known (Ok request) (Err request_out_of_range))))
 option_case view service silent request false sound = refl
 option_case view service silent request true sound = answered service silent (positive view request) sound
 
--- the conditions on what stands behind the service
+-- The conditions on what stands behind the service.
 abbrev pub rows_behind : View → List ℕ → Option Form → List ℕ → List Condition
 rows_behind view bytes form rest =
     where_ (is_none form) sub_function_not_supported
@@ -204,7 +204,7 @@ form_case view service sub silent (Some (Optioned request)) (a ∷ b ∷ c ∷ d
     let length_of = length (service ∷ sub ∷ a ∷ b ∷ c ∷ d ∷ rest) in
     rw (shorter 2 length_of (omega arith), shorter 5 length_of (omega arith)) refl
 
--- the second byte suppresses the response: it is a sub-function with bit 7
+-- The second byte suppresses the response: it is a sub-function with bit 7.
 abbrev suppresses : ℕ → ℕ → Bool
 suppresses service second = not (nat_eq service 0x14) && nat_le 128 second
 

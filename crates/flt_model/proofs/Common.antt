@@ -12,13 +12,13 @@ use mir.Val.{bool_byte}
 use Rattle.flt_model.specs.Byte.{value_of, is_bit_set}
 use Rattle.flt_model.specs.Durable.{below}
 
--- what is looked up after a write there
+-- What is looked up after a write there.
 pub slice_get-set_same : {X : Type 0} (xs : List X) (i : ℕ) (x : X) → i < length xs → slice_get (slice_set xs i x) i ≡ Some x
 slice_get-set_same [] i x h = absurd (omega arith)
 slice_get-set_same (first ∷ xs) zero x h = refl
 slice_get-set_same (first ∷ xs) (suc i) x h = slice_get-set_same xs i x (omega arith)
 
--- and elsewhere
+-- And elsewhere.
 pub slice_get-set_other : {X : Type 0} (xs : List X) (i j : ℕ) (x : X) → i ≢ j → slice_get (slice_set xs i x) j ≡ slice_get xs j
 slice_get-set_other [] i j x ne = refl
 slice_get-set_other (first ∷ xs) zero zero x ne = absurd (ne refl)
@@ -26,11 +26,11 @@ slice_get-set_other (first ∷ xs) zero (suc j) x ne = refl
 slice_get-set_other (first ∷ xs) (suc i) zero x ne = refl
 slice_get-set_other (first ∷ xs) (suc i) (suc j) x ne = slice_get-set_other xs i j x (λ e. ne (ap suc e))
 
--- a whole list written over another of its length
+-- A whole list written over another of its length.
 pub refill-whole : {X : Type 0} (old new : List X) → length new ≡ length old → refill (length old) old new ≡ new
 refill-whole old new e = grind (arith, common_steps, e)
 
--- a bool as a byte
+-- A bool as a byte.
 pub bool_byte_value : (bit : Bool) → bool_byte bit ≡ value_of bit
 bool_byte_value true = refl
 bool_byte_value false = refl
@@ -39,7 +39,7 @@ pub value_of-le : (bit : Bool) → value_of bit ≤ 1
 value_of-le true = omega arith
 value_of-le false = omega arith
 
--- the test of a bit, as a fact
+-- The test of a bit, as a fact.
 pub bit_is_set : (byte k : ℕ) → is_bit_set byte k ≡ true → IsBitSet byte k
 bit_is_set byte k e = rw (and_pow byte k, eqb-true (bit_at byte k) 1 e) (λ zero. omega (arith, pow_pos k, zero))
 
@@ -49,7 +49,7 @@ set_bit_is byte k set =
     (λ ne. let zero : bit_at byte k ≡ 0 = omega arith in absurd (set (and_pow byte k ∙ ap (λ b. b * 2 ^ k) zero ∙ omega arith)))
     (cases_eq (bit_at byte k) 1)
 
--- the numbers below one: how many they are, and which stands where
+-- The numbers below one: how many they are, and which stands where.
 pub length_below : (n : ℕ) → length (below n) ≡ n
 length_below zero = refl
 length_below (suc n) = let before = length_below n in let more = length-append (below n) (n ∷ []) in omega (arith, before, more)

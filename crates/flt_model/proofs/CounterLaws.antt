@@ -18,7 +18,7 @@ scaled-less scale part whole above less =
 pub scaled-whole : (scale whole : ℕ) → 0 < whole → scaled scale whole whole ≡ scale
 scaled-whole scale whole above = mul-div_cancel_left scale {n = whole} above
 
--- the part comes to the scale exactly where it is the whole
+-- The part comes to the scale exactly where it is the whole.
 record Scaled (scale part whole : ℕ) : Type 0 where
   pub least : scaled scale part whole ≤ scale
   pub whole_is : scaled scale part whole ≡ scale → part ≡ whole
@@ -62,7 +62,7 @@ turned (suc s) h = record {
 
 -- ---- by a counter
 
--- a value above 0 is scaled to the failed threshold
+-- A value above 0 is scaled to the failed threshold.
 risen : (w : ℕ) (pass_at up down : ℤ) (jump_up jump_down : Option ℤ) (n : ℕ) →
     detection_counter (Counter (pos w) pass_at up down jump_up jump_down) (Count (pos (suc n))) ≡ pos (scaled 127 (suc n) w)
 risen w pass_at up down jump_up jump_down n =

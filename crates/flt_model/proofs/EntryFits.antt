@@ -20,15 +20,15 @@ use Rattle.flt_model.specs.Happening.{signals}
 
 -- ---- the width of a frame
 
--- data identifiers of at most eight bytes each, as in a valid configuration
+-- Data identifiers of at most eight bytes each, as in a valid configuration.
 abbrev pub AreNarrow : List DidUse → Type 0
 AreNarrow dids = All (λ did. did.width ≤ 8) dids
 
--- the bytes of an identifier are as many as its width
+-- The bytes of an identifier are as many as its width.
 did_wide : (signals : List ℕ) (did : DidUse) → did.width ≤ 8 → length (did_bytes signals did) ≡ did.width
 did_wide signals did narrow = length-drop (8 - did.width) (to_be_bytes w64 _) ∙ omega (arith, narrow)
 
--- and those of a frame as many as its widths together
+-- And those of a frame as many as its widths together.
 frame_wide : (signals : List ℕ) (dids : List DidUse) → AreNarrow dids → length (frame_bytes dids signals) ≡ frame_width dids
 frame_wide signals dids narrow = length-flat_map (did_bytes signals) dids ∙ sums signals dids narrow
   where
@@ -43,12 +43,12 @@ frame_wide signals dids narrow = length-flat_map (did_bytes signals) dids ∙ su
 
 -- ---- an entry that stays
 
--- a mark that gives no entry
+-- A mark that gives no entry.
 abbrev pub IsNotAdded : Mark → Type 0
 IsNotAdded Added = ⊥
 IsNotAdded _ = Unit {0}
 
--- an event with an entry behind it had one before it
+-- An event with an entry behind it had one before it.
 pub still : (mark : Mark) → IsNotAdded mark → (flag b : Bool) (past : Past) → decided entry_row flag (own b mark past) ≡ true → decided entry_row flag past ≡ true
 still mark not flag false past held = held
 still Added not flag true past held = absurd not
@@ -66,7 +66,7 @@ one_more_least : (b : Bool) (n : ℕ) → 1 ≤ n → 1 ≤ one_more b n
 one_more_least true n least = omega (arith, least)
 one_more_least false n least = least
 
--- an entry counts at least one occurrence
+-- An entry counts at least one occurrence.
 pub counted : (kind : Kind) (flag : Bool) (base : ℕ) → (flag ≡ true → 1 ≤ base) → (past : Past) → decided entry_row flag past ≡ true → 1 ≤ count_since restarts_occurrence kind base past
 counted kind flag base first [] held = first held
 counted kind flag base first (Added ∷ past) held = omega arith
@@ -81,7 +81,7 @@ counted kind flag base first (Refused ∷ past) held = one_more_least (kind past
 -- ---- the entry of the base
 
 module _ (events : List EventCfg) (event : ℕ) where
-  -- an entry of the event that fits
+  -- An entry of the event that fits.
   abbrev pub IsOwn : EntryState → Type 0
   IsOwn entry = IsEntryOf events entry × (entry.event ≡ event)
 
@@ -90,13 +90,13 @@ module _ (events : List EventCfg) (event : ℕ) where
   found_cond entry held true is fits rest = (fits, eqb-true entry.event event is)
   found_cond entry held false is fits rest = rest
 
-  -- the entry of the event among those that fit, if there is one
+  -- The entry of the event among those that fit, if there is one.
   pub found : (held : List EntryState) → All (IsEntryOf events) held → IfSome (find (is_of_event event) held) IsOwn
   found [] all = tt
   found (entry ∷ held) all = found_cond entry held (entry.event == event) refl (All-head (IsEntryOf events) entry held all) (found held (All-tail (IsEntryOf events) entry held all))
 
 module _ (life : Life) (event : ℕ) (narrow : AreNarrow (event_of life event).dids.items) where
-  -- a frame of the event has its width
+  -- A frame of the event has its width.
   pub own_frame : (sent : List ℕ) → length (frame life event sent) ≡ frame_width (event_of life event).dids.items
   own_frame sent = frame_wide sent (event_of life event).dids.items narrow
 
@@ -107,7 +107,7 @@ module _ (life : Life) (event : ℕ) (narrow : AreNarrow (event_of life event).d
   first_added flag false past rest bytes before is held = before held
 
   module _ (base_wide : is_some (base_entry life event) ≡ true → length (base_first life event) ≡ frame_width (event_of life event).dids.items) where
-    -- so has the first frame of its entry
+    -- So has the first frame of its entry.
     pub first_wide : (marks : Trace) → has_entry life event marks ≡ true → length (decided (first_row life event) (base_first life event) marks) ≡ frame_width (event_of life event).dids.items
     first_wide [] held = base_wide held
     first_wide (AllCleared ∷ marks) held = first_wide marks held

@@ -12,7 +12,7 @@ use Rattle.flt_model.specs.Status.{confirmed, lit, clean_count, status, durable}
 use Rattle.flt_model.proofs.StatusLaws.{indicator_is_lit, lit_is_confirmed}
 use Rattle.flt_model.proofs.Common.{value_of-le, bit_is_set, set_bit_is}
 
--- the byte is one byte
+-- The byte is one byte.
 byte_small : (s : Status) → byte_of s ≤ 255
 byte_small s =
     let b0 = value_of-le s.test_failed in
@@ -26,7 +26,7 @@ byte_small s =
     omega arith
 
 module _ (rules : EventCfg) (base : EventState) (fits : IsStateOf rules base) where
-  -- an event that is lit has an indicator
+  -- An event that is lit has an indicator.
   lit_indicated : (past : Past) → lit base rules past ≡ true → rules.indicator ≡ true
   lit_indicated [] on = (fits.lit on).1
   lit_indicated (Failed ∷ past) on = (and_parts rules.indicator (confirmed base rules (Failed ∷ past)) on).0
@@ -38,7 +38,7 @@ module _ (rules : EventCfg) (base : EventState) (fits : IsStateOf rules base) wh
   lit_indicated (Added ∷ past) on = lit_indicated past on
   lit_indicated (Refused ∷ past) on = lit_indicated past on
 
-  -- what the marks decide fits again
+  -- What the marks decide fits again.
   pub event_fits : (past : Past) → IsStateOf rules (durable base rules past)
   event_fits past =
       let seven = indicator_is_lit base rules past in

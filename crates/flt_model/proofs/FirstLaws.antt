@@ -9,7 +9,7 @@ use Rattle.flt_model.specs.NoteLaws.{has_clear, was_cleared, HoldsNote, FirstIsH
 use Rattle.flt_model.proofs.RecentLaws.{IsNoClear, same_clears}
 
 module _ (notable : Notable) (base : Option ℕ) (event : ℕ) where
-  -- what is no clear of the event leaves its note
+  -- What is no clear of the event leaves its note.
   behind : (traced : Traced) (trace : Trace) → ((later : Trace) → was_cleared event (traced ∷ later) ≡ was_cleared event later) → HoldsNote notable base trace event
       → HoldsNote notable base (traced ∷ trace) event
   behind traced trace leaves = ⊎_elim

@@ -27,7 +27,7 @@ sunk_in_range : (fail_at pass_at down : ℤ) (jump : Option ℤ) (value : ℤ) �
 sunk_in_range f p d None value a b c i = greatest_in_range f p (value -ℤ d) (omega (arith, ints)) (omega (arith, ints))
 sunk_in_range f p d (Some jump) value a b c i = greatest_in_range f p (int_min value jump -ℤ d) (omega (arith, ints, int_min_is value jump)) (omega (arith, ints))
 
--- the signs of a counter's numbers
+-- The signs of a counter's numbers.
 record Signs (fail_at pass_at up down : ℤ) : Type 0 where
   pub above : pos 0 <ℤ fail_at
   pub below : pass_at <ℤ pos 0

@@ -17,20 +17,20 @@ use Rattle.flt_model.specs.declared.call.Qualified.TheVariants as results
 use Rattle.flt_model.proofs.EntryFits.{AreNarrow, IsNotAdded, still, own_frame}
 
 module _ (life : Life) (narrow : (event : ℕ) → AreNarrow (event_of life event).dids.items) where
-  -- the recent frame of an event has its width
+  -- The recent frame of an event has its width.
   abbrev IsFramed : ℕ → Trace → Type 0
   IsFramed event marks = length (decided (recent_row life event) (base_recent life event) marks) ≡ frame_width (event_of life event).dids.items
 
-  -- that of each event that has an entry
+  -- That of each event that has an entry.
   abbrev pub AreFramed : Trace → Type 0
   AreFramed marks = (event : ℕ) → has_entry life event marks ≡ true → IsFramed event marks
 
-  -- a mark that takes no frame
+  -- A mark that takes no frame.
   abbrev IsPlain : Mark → Type 0
   IsPlain Failed = ⊥
   IsPlain _ = Unit {0}
 
-  -- what is framed stays so under a plain mark
+  -- What is framed stays so under a plain mark.
   plain : (event other : ℕ) (mark : Mark) → IsPlain mark → (sent : List ℕ) (marks : Trace) → IsFramed event marks → IsFramed event (Of other mark sent ∷ marks)
   plain event other Failed is sent marks framed = absurd is
   plain event other Passed is sent marks framed = framed
@@ -41,7 +41,7 @@ module _ (life : Life) (narrow : (event : ℕ) → AreNarrow (event_of life even
   plain event other Added is sent marks framed = framed
   plain event other Refused is sent marks framed = framed
 
-  -- those of all events, under a plain mark that gives no entry
+  -- Those of all events, under a plain mark that gives no entry.
   kept_plain : (other : ℕ) (mark : Mark) → IsPlain mark → IsNotAdded mark → (sent : List ℕ) (marks : Trace) → AreFramed marks → AreFramed (Of other mark sent ∷ marks)
   kept_plain other mark is not sent marks framed = λ event held.
       plain event other mark is sent marks (framed event (still mark not (is_some (base_entry life event)) (nat_eq other event) (marks_of event marks) held))
@@ -52,7 +52,7 @@ module _ (life : Life) (narrow : (event : ℕ) → AreNarrow (event_of life even
   failed_cond true false flag past rest bytes wide before is held = before held
   failed_cond false entering flag past rest bytes wide before is held = before held
 
-  -- under a failure
+  -- Under a failure.
   framed_failed : (other : ℕ) (sent : List ℕ) (marks : Trace) → AreFramed marks → AreFramed (Of other Failed sent ∷ marks)
   framed_failed other sent marks framed = λ event held.
       failed_cond (nat_eq other event) (enters (base_of life event) (marks_of event marks)) (is_some (base_entry life event)) (marks_of event marks) _ (frame life event sent) _
@@ -63,7 +63,7 @@ module _ (life : Life) (narrow : (event : ℕ) → AreNarrow (event_of life even
   fresh_cond true false same enters rest bytes wide is = absurd (cc)
   fresh_cond false entering same enters rest bytes wide is = absurd (cc)
 
-  -- a failure that enters takes the frame
+  -- A failure that enters takes the frame.
   fresh : (event : ℕ) (sent : List ℕ) (marks : Trace) → enters (base_of life event) (marks_of event marks) ≡ true → IsFramed event (Of event Failed sent ∷ marks)
   fresh event sent marks entering =
       fresh_cond (nat_eq event event) (enters (base_of life event) (marks_of event marks)) (eq-eqb event event refl) entering _ (frame life event sent) _ (own_frame life event (narrow event) sent)
@@ -72,7 +72,7 @@ module _ (life : Life) (narrow : (event : ℕ) → AreNarrow (event_of life even
   added_cond true flag past Goal own_goal before held = own_goal refl
   added_cond false flag past Goal own_goal before held = before held
 
-  -- and where an event gets an entry whose recent frame was taken
+  -- And where an event gets an entry whose recent frame was taken.
   framed_added : (event : ℕ) (sent : List ℕ) (marks : Trace) → IsFramed event marks → AreFramed marks → AreFramed (Of event Added sent ∷ marks)
   framed_added event sent marks own_framed framed = λ other held.
       added_cond (nat_eq event other) (is_some (base_entry life other)) (marks_of other marks) (IsFramed other (Of event Added sent ∷ marks))
@@ -129,7 +129,7 @@ module _ (life : Life) (narrow : (event : ℕ) → AreNarrow (event_of life even
   framed_clear None marks framed = framed
   framed_clear (Some dtc) marks framed = elim (cases_Bool (nat_eq dtc all_dtcs)) [ inl e ↦ rw e framed | inr e ↦ rw e framed ]
 
-  -- so the recent frames have their widths after every list of calls
+  -- So the recent frames have their widths after every list of calls.
   pub frames_stay : (past : History) → AreFramed [] → AreFramed (trace life past)
   frames_stay [] framed = framed
   frames_stay (op ∷ past) framed = framed_clear (cleared_dtc op) (in_order (event_part life past op) (count life) (trace life past)) (framed_in_order past op (count life) (trace life past) (frames_stay past framed))

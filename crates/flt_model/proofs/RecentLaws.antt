@@ -7,7 +7,7 @@ use Rattle.flt_model.specs.Mark.Mark.{Failed, Passed, Cycle, Clear, Aged, Displa
 use Rattle.flt_model.specs.Noted.{Notable, recent, without, recent_after}
 use Rattle.flt_model.specs.NoteLaws.{has_clear, was_cleared, unless_cleared, IsQuiet, RecentIsOfLastFailure, RecentIsOfBase}
 
--- a mark that is no clear
+-- A mark that is no clear.
 abbrev pub IsNoClear : Mark → Type 0
 IsNoClear Clear = ⊥
 IsNoClear _ = Unit {0}
@@ -23,7 +23,7 @@ same_clears Displaced plain true past = refl
 same_clears Added plain true past = refl
 same_clears Refused plain true past = refl
 
--- what is noted stays noted under it
+-- What is noted stays noted under it.
 same_unless : (event : ℕ) (mark : Mark) → IsNoClear mark → (signals : List ℕ) (later : Trace) (noted : Option ℕ) →
     unless_cleared later noted ≡ unless_cleared (Of event mark signals ∷ later) noted
 same_unless event mark plain signals later None = refl
@@ -47,7 +47,7 @@ without_cond event other false =
       | inr ne ↦ rw (ne_eqb event other ne, ne_eqb other event (λ same. ne (sym same))) refl
     ]
 
--- and a clear takes the note of its event
+-- And a clear takes the note of its event.
 cleared_unless : (event : ℕ) (signals : List ℕ) (later : Trace) (noted : Option ℕ) →
     without event (unless_cleared later noted) ≡ unless_cleared (Of event Clear signals ∷ later) noted
 cleared_unless event signals later None = refl

@@ -133,7 +133,7 @@ entries_keep_room life [] r = r
 entries_keep_room life (op ∷ past) r =
     kept_clear life (cleared_dtc op) (in_order (event_part life past op) (count life) (trace life past)) (kept_in_order life past op (count life) (trace life past) (entries_keep_room life past r))
 
--- the events of entries that are of distinct events
+-- The events of entries that are of distinct events.
 pub fitting_base_has_room : FittingBaseHasRoom
 fitting_base_has_room life fits =
     let held = life.base.entries.items in

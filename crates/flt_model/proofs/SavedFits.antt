@@ -28,14 +28,14 @@ use Rattle.flt_model.proofs.RecentFits.{AreFramed, frames_stay}
 
 -- ---- what is read of the configuration and of a note
 
--- the identifiers of a configured event, and of none
+-- The identifiers of a configured event, and of none.
 narrow_at : (events : List EventCfg) → All IsEventInRange events → (k : ℕ) → AreNarrow (unwrap_or (slice_get events k) no_event).dids.items
 narrow_at [] all k = All-nil _
 narrow_at (event ∷ events) all zero =
     All-weaker (λ did. IsFromTo 1 8 did.width) (λ did. did.width ≤ 8) (λ did is. is.1) event.dids.items (All-head IsEventInRange event events all).did_widths
 narrow_at (event ∷ events) all (suc k) = narrow_at events (All-tail IsEventInRange event events all) k
 
--- a note of a configured event
+-- A note of a configured event.
 noted_within : (n : ℕ) (note : Option ℕ) → NoteWithin 0 n note → IfSome note (λ event. event < n)
 noted_within n None within = tt
 noted_within n (Some event) within = within.1
@@ -60,7 +60,7 @@ module _ (events : List EventCfg) (event : ℕ) where
 -- ---- the whole
 
 module _ (life : Life) (valid : IsValid life.config) (fits : Fits life.config life.base) where
-  -- the configuration of an event, as the definitions and as the fit read it
+  -- The configuration of an event, as the definitions and as the fit read it.
   narrow : (event : ℕ) → AreNarrow (event_of life event).dids.items
   narrow = narrow_at life.config.events.items valid.events
 
@@ -81,7 +81,7 @@ module _ (life : Life) (valid : IsValid life.config) (fits : Fits life.config li
 
   -- ---- the entries
 
-  -- an entry that an event has
+  -- An entry that an event has.
   entry_is : (marks : Trace) (event : ℕ) → AreFramed life narrow marks → event < count life → has_entry life event marks ≡ true → IsEntryOf life.config.events.items (entry_of life event marks)
   entry_is marks event framed within held =
       let least = counted (is_entering life event) (is_some (base_entry life event)) (base_occurrence life event)
@@ -94,7 +94,7 @@ module _ (life : Life) (valid : IsValid life.config) (fits : Fits life.config li
         recent = λ d. framed event held ∙ other_width event d within;
       }
 
-  -- all of them
+  -- All of them.
   entries_are : (marks : Trace) → AreFramed life narrow marks → TraceBelow (count life) marks
       → All (IsEntryOf life.config.events.items) (map (λ event. entry_of life event marks) (holders life marks))
   entries_are marks framed b =
@@ -104,7 +104,7 @@ module _ (life : Life) (valid : IsValid life.config) (fits : Fits life.config li
       let less = within_at 0 (count life) (holders life marks) place (holders_within life fits marks b) within in
       entry_is marks event framed less (sym (holders_have_entries life marks event) ∙ among_at (holders life marks) place within))))
 
-  -- they are of different events
+  -- They are of different events.
   apart : (marks : Trace) → Distinct (holders life marks) → AllPairs IsOfOtherEvent (map (λ event. entry_of life event marks) (holders life marks))
   apart marks distinct i j d less within =
       let f : ℕ → EntryState = λ event. entry_of life event marks in

@@ -16,7 +16,7 @@ use Rattle.flt_model.proofs.Common.{value_of-le}
 
 -- ---- the byte
 
--- the test of one bit, by its value
+-- The test of one bit, by its value.
 bit_tells : (byte k : ℕ) (bit : Bool) → bit_at byte k ≡ value_of bit → is_bit_set byte k ≡ bit
 bit_tells byte k true e = rw e refl
 bit_tells byte k false e = rw e refl
@@ -77,7 +77,7 @@ test_failed_is_last_result (Refused ∷ past) = test_failed_is_last_result past
 
 -- ---- pendingDTC
 
--- a test failed in this cycle
+-- A test failed in this cycle.
 failed_now : (past : Past) → failed_this_cycle start_state past ≡ has_failed (this_cycle (since_clear past))
 failed_now [] = refl
 failed_now (Failed ∷ past) = refl
@@ -93,7 +93,7 @@ or_true : (b : Bool) → true ≡ (b || true)
 or_true true = refl
 or_true false = refl
 
--- a test was completed in this cycle
+-- A test was completed in this cycle.
 completed_now : (past : Past) → not (not_completed_this_cycle start_state past) ≡ (has_failed (this_cycle (since_clear past)) || has_passed (this_cycle (since_clear past)))
 completed_now [] = refl
 completed_now (Failed ∷ past) = refl
@@ -111,7 +111,7 @@ clean_test true false completed e = refl
 clean_test false true completed e = rw e refl
 clean_test false false completed e = rw e refl
 
--- a cycle that ends here had passed tests alone
+-- A cycle that ends here had passed tests alone.
 clean_now : (past : Past) → ends_clean start_state past ≡ (has_passed (this_cycle (since_clear past)) && not (has_failed (this_cycle (since_clear past))))
 clean_now past =
     ap (λ b. not b && not (not_completed_this_cycle start_state past)) (failed_now past)

@@ -10,7 +10,7 @@ use Rattle.flt_model.specs.DebounceLaws.{is_broken_off, TicksQualifyOnce}
 
 -- ---- a run that goes on
 
--- without a report no time is counted
+-- Without a report no time is counted.
 none_elapsed : (past : Happenings) → has_report past ≡ false → elapsed past ≡ 0
 none_elapsed [] none = refl
 none_elapsed (Reported report ∷ past) none = absurd (cc)
@@ -28,7 +28,7 @@ ticked_stays limit ticks past true at = refl
 ticked_stays limit ticks past false at =
     le-leb limit (elapsed (Ticked ticks ∷ past)) (later_elapsed limit ticks past (has_report past) refl (leb-true limit (elapsed past) at))
 
--- what came to a threshold stays there
+-- What came to a threshold stays there.
 at_stays : (limit : ℕ) (happening : Happening) (past : Happenings) → is_at_threshold limit past ≡ true → is_at_threshold limit (happening ∷ past) ≡ true
 at_stays limit (Reported reports.Failed) past at = refl
 at_stays limit (Reported reports.Passed) past at = refl
@@ -51,7 +51,7 @@ goes_on way Ended past of last = absurd (cc)
 goes_on way Cleared past of last = absurd (cc)
 
 module _ (fail pass : ℕ) (way : Qualified) where
-  -- a timer at the threshold of its direction
+  -- A timer at the threshold of its direction.
   abbrev IsThere : Happenings → Type 0
   IsThere past = (last_direction past ≡ Some way) × (is_reached fail pass way past ≡ true)
 
@@ -71,12 +71,12 @@ module _ (fail pass : ℕ) (way : Qualified) where
       not_not true e = refl
       not_not false e = absurd (cc)
 
-  -- it qualifies nothing
+  -- It qualifies nothing.
   nothing_more : (ticks : ℕ) (past : Happenings) → IsThere past → qualified_by_tick fail pass ticks past (last_direction past) ≡ None
   nothing_more ticks past there =
       ap (qualified_by_tick fail pass ticks past) there.0 ∙ ap (λ b. cond (not b && is_reached fail pass way (Ticked ticks ∷ past)) (Some way) None) there.1
 
--- ticks that qualify bring a timer there
+-- Ticks that qualify bring a timer there.
 brought : (fail pass ticks : ℕ) (past : Happenings) (first : Qualified) (last : Option Qualified) → last_direction past ≡ last → qualified_by_tick fail pass ticks past last ≡ Some first
     → IsThere fail pass first (Ticked ticks ∷ past)
 brought fail pass ticks past first None is e = absurd (cc)

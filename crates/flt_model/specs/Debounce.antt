@@ -13,13 +13,13 @@ use Rattle.flt_model.specs.declared.call.DebState.TheVariants.{Count, Idle, Fail
 
 -- What happens to an event from outside.
 pub data Happening : Type 0 where
-  -- a report that is not ignored
+  -- A report that is not ignored.
   Reported : Report → Happening
-  -- ticks of time with the setting on
+  -- Ticks of time with the setting on.
   Ticked : ℕ → Happening
-  -- the end of its cycle, at which its debouncing rests
+  -- The end of its cycle, at which its debouncing rests.
   Ended : Happening
-  -- a clear that reaches it, at which its debouncing rests
+  -- A clear that reaches it, at which its debouncing rests.
   Cleared : Happening
 
 -- What happened to an event, the newest first.

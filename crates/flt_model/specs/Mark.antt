@@ -3,20 +3,20 @@ use Rattle.std.specs.Prelude.{ℕ, ◌+◌, ◌==◌, Bool, true, false, if◌th
 
 -- What happens to one event, as far as its durable state goes.
 pub data Mark : Type 0 where
-  -- a failed or passed test result
+  -- A failed or passed test result.
   Failed : Mark
   Passed : Mark
-  -- the end of an operation cycle, and the start of the next
+  -- The end of an operation cycle, and the start of the next.
   Cycle : Mark
-  -- the tester's clear
+  -- The tester's clear.
   Clear : Mark
-  -- enough clean cycles since the last failure
+  -- Enough clean cycles since the last failure.
   Aged : Mark
-  -- the event's entry gave way to another event's
+  -- The event's entry gave way to another event's.
   Displaced : Mark
-  -- the event got an entry
+  -- The event got an entry.
   Added : Mark
-  -- the event found no room for an entry
+  -- The event found no room for an entry.
   Refused : Mark
 
 -- The marks of an event, the newest first.
@@ -54,9 +54,9 @@ count_since restart counted base (mark ∷ past) =
 
 -- A mark among those of all events.
 pub data Traced : Type 0 where
-  -- a mark of an event, with the signals at its moment
+  -- A mark of an event, with the signals at its moment.
   Of : ℕ → Mark → List ℕ → Traced
-  -- all events were cleared at once
+  -- All events were cleared at once.
   AllCleared : Traced
 
 -- The marks of all events since power-up, the newest first.

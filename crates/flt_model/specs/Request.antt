@@ -13,13 +13,13 @@ RequestBytes = ArrayVec ℕ
 
 -- What stands behind a sub-function.
 pub data Form : Type 0 where
-  -- nothing
+  -- Nothing.
   Plain : Request → Form
-  -- a status mask
+  -- A status mask.
   Masked : (ℕ → Request) → Form
-  -- a DTC of three bytes, and a record number
+  -- A DTC of three bytes, and a record number.
   Recorded : (ℕ → ℕ → Request) → Form
-  -- nothing, or three option bytes
+  -- Nothing, or three option bytes.
   Optioned : Request → Form
 
 -- A row of the table: a service, a sub-function, and what stands behind it.

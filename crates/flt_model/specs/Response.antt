@@ -19,13 +19,13 @@ pub record EventView : Type 0 where
   pub dids : List DidUse
   pub state : EventState
   pub entry : Option EntryState
-  -- the fault detection counter
+  -- The fault detection counter.
   pub counter : ℤ
 
 -- The events in order of number, and which of them are noted.
 pub record View : Type 0 where
   pub events : List EventView
-  -- by the sub-function that reads it
+  -- By the sub-function that reads it.
   pub noted : ℕ → Option ℕ
 
 -- ---- bytes

@@ -11,7 +11,7 @@ use Rattle.flt_nvm.specs.Tries.{Tries, Changing}
 use Rattle.flt_nvm.specs.Leaves.{FlashTakesThree, Gives, GivesBoth, GivesInAJob, GivesInTwoJobs, GivesNumber}
 
 module _ (block : ℕ) (asked : Content) (size : ℕ) where
-  -- one try
+  -- One try.
   gives_at_once : (before after : BlocksState) (result : Result (Unit {0}) BlockFault) → Changes before after block asked size result → Gives before after block asked size result
   gives_at_once before after (Ok x) does = record { done = does.done; either = inr does.done; others = does.others; full = λ live needed told. (does.full live needed told).0; spent = λ told. (does.spent told).0 }
   gives_at_once before after (Err fault) does =
@@ -23,7 +23,7 @@ module _ (block : ℕ) (asked : Content) (size : ℕ) where
       by_fault SequenceSpent does = inl ((does.spent refl).1 block)
       by_fault (Damaged sector page) does = inl (does.damaged sector page refl block)
 
-  -- a try that failed, and then more
+  -- A try that failed, and then more.
   gives_again : (first second third : BlocksState) (failed result : Result (Unit {0}) BlockFault) → Gives first second block asked size failed → Gives second third block asked size result → Gives first third block asked size result
   gives_again first second third failed result one two = record {
     done = two.done;
@@ -54,7 +54,7 @@ module _ (block : ℕ) (asked : Content) (size : ℕ) (before after : BlocksStat
   unfolding Tries
   takes_three = grind (arith, common_steps)
 
-  -- all that a job leaves that gives a number a content
+  -- All that a job leaves that gives a number a content.
   pub gives_number : GivesNumber block asked size before after result
   gives_number = record {
     job = tries;
@@ -65,20 +65,20 @@ module _ (block : ℕ) (asked : Content) (size : ℕ) (before after : BlocksStat
   }
 
 module _ (id : ℕ) (asked : Content) (size first : ℕ) (first_is : first ≡ number_of id 0) where
-  -- the job on the first copy failed
+  -- The job on the first copy failed.
   pub first_job_alone : (before after : BlocksState) (result : Result (Unit {0}) BlockFault) → is_ok result ≡ false
       → GivesInAJob first asked size before after result → GivesInTwoJobs id asked size before after result
   first_job_alone before after (Ok value) failed job = absurd (cc failed)
   first_job_alone before after (Err fault) failed job = inl (subst (λ (n : ℕ). GivesInAJob n asked size before after (Err fault)) first_is job, refl)
 
-  -- the job on the second copy followed
+  -- The job on the second copy followed.
   pub both_jobs : (second : ℕ) → second ≡ number_of id 1 → (before between after : BlocksState) (answer result : Result (Unit {0}) BlockFault) → is_ok answer ≡ true
       → GivesInAJob first asked size before between answer → GivesInAJob second asked size between after result → GivesInTwoJobs id asked size before after result
   both_jobs second second_is before between after (Err fault) result answered job next = absurd (cc answered)
   both_jobs second second_is before between after (Ok value) result answered job next =
       inr (between, subst (λ (n : ℕ). GivesInAJob n asked size before between (Ok tt)) first_is job, subst (λ (n : ℕ). GivesInAJob n asked size between after result) second_is next)
 
-  -- what the job on the first copy leaves, where it failed
+  -- What the job on the first copy leaves, where it failed.
   pub first_gives_alone : (before after : BlocksState) (fault : BlockFault) → Gives before after first asked size (Err fault) → GivesBoth before after id asked size (Err fault)
   first_gives_alone before after fault gives =
       let one = subst (λ (n : ℕ). Gives before after n asked size (Err fault)) first_is gives in

@@ -15,7 +15,7 @@ of_found : {Single : Type 0} (Both : Type 0) (found : Option BlockCfg) → (IsSo
 of_found Both None other fact = tt
 of_found Both (Some block) other fact = of_kind Both block.kind other fact
 
--- of a block that is not redundant
+-- Of a block that is not redundant.
 pub single : {Single : Type 0} (Both : Type 0) (table : List BlockCfg) (id : ℕ) → (IsRedundant table id → ⊥) → Single → AsKept table id Single Both
 single Both table id other fact = of_found Both (block_in table id) other fact
 
@@ -28,6 +28,6 @@ by_found : {Both : Type 0} (Single : Type 0) (found : Option BlockCfg) → IsSom
 by_found Single None is fact = tt
 by_found Single (Some block) is fact = by_kind Single block.kind is fact
 
--- of a redundant block
+-- Of a redundant block.
 pub both : {Both : Type 0} (Single : Type 0) (table : List BlockCfg) (id : ℕ) → IsRedundant table id → Both → AsKept table id Single Both
 both Single table id is fact = by_found Single (block_in table id) is fact

@@ -12,7 +12,7 @@ use Rattle.flt_nvm.specs.Leaves.{FlashTakesThree}
 no_fault : {T : Type 0} (value : T) (fault : BlockFault) → IsErrOf (Ok value) fault → ⊥
 no_fault value fault is = absurd (cc is)
 
--- a fault is the same one in an answer of another type
+-- A fault is the same one in an answer of another type.
 same_fault : (S T : Type 0) (fault other : BlockFault) → IsErrOf {T = T} (Err fault) other → IsErrOf {T = S} (Err fault) other
 same_fault S T fault other is = let same : fault ≡ other = cc is in ap Err same
 
@@ -70,7 +70,7 @@ looks_err S T block (suc (suc more)) before after fault (inr (between, failed, r
     inr (between, look_err block before between S T Flash failed, looks_err S T block (suc more) between after fault rest)
 
 module _ {T : Type 0} (block : ℕ) (before after : BlocksState) (result : Result T BlockFault) (tries : Tries 3 (Looks block) before after result) where
-  -- what a job that reads leaves
+  -- What a job that reads leaves.
   pub reads_in_a_job : ReadsAlone before after result
   unfolding Tries
   reads_in_a_job = grind (arith, common_steps)

@@ -15,7 +15,7 @@ both_true : (a b : Bool) → (a && b) ≡ true → (a ≡ true) × (b ≡ true)
 both_true true b is = (refl, is)
 both_true false b is = absurd (cc is)
 
--- a block that is found stands in the table, under this identifier
+-- A block that is found stands in the table, under this identifier.
 found_is_served : (numbers : List ℕ) (table : List BlockCfg) (id : ℕ) (block : BlockCfg) → serves numbers table ≡ true → block_in table id ≡ Some block → (is_served numbers block ≡ true) × (block.id ≡ id)
 found_is_served numbers [] id block all found = absurd (cc found)
 found_is_served numbers (first ∷ rest) id block all found =
@@ -37,7 +37,7 @@ taken_in_range (Dataset indices) place fits within =
     let most : indices < 9 = ltb-true indices 9 parts.1 in
     omega arith
 
--- what a table that is served says of one of its blocks
+-- What a table that is served says of one of its blocks.
 record IsServed (numbers : List ℕ) (block : BlockCfg) : Type 0 where
   id : block.id < 8192
   length_is : block.length < 129
@@ -65,7 +65,7 @@ module _ (numbers : List ℕ) (block : BlockCfg) (is : IsServed numbers block) (
       let same : get_or places place 0 ≡ place = omega (arith, taken, get_or-range_with_len 0 (numbers_taken block.kind) place 0 taken) in
       Contains-from_any (λ (x y : ℕ) e. eqb-true x y e) (number_of block.id place) numbers (subst (λ (p : ℕ). has_number numbers (number_of block.id p) ≡ true) same at)
 
--- the numbers of a block
+-- The numbers of a block.
 pub record IsGiven (numbers : List ℕ) (id place : ℕ) : Type 0 where
   pub id_is : id < 8192
   pub place_is : place < 8
@@ -82,7 +82,7 @@ module _ (numbers : List ℕ) (table : List BlockCfg) (id : ℕ) (all : serves n
           let is = served numbers block found.0 in
           subst (λ (n : ℕ). IsGiven numbers n place) found.1 (record { id_is = is.id; place_is = taken_in_range block.kind place is.kind taken; number = number_is_given numbers block is place taken })
 
-  -- a block holds 128 bytes at most
+  -- A block holds 128 bytes at most.
   pub size_in_range : (size : ℕ) → FitsBlock table id size → size ≤ 128
   size_in_range size holds = by_block (block_in table id) refl holds
     where

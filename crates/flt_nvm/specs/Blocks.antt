@@ -16,7 +16,7 @@ use Rattle.flt_nvm.specs.Reads.{IsUnmended, IsUnreadable, LooksInAJob, LooksInTw
 use Rattle.flt_nvm.specs.Driver.{driver_of, table_of}
 
 module _ {B : Type 0} {b : Ghosts B} where
-  -- a write or an invalidate, which gives a block a content
+  -- A write or an invalidate, which gives a block a content.
   pub record GivesBlock (id index : ℕ) (asked : Content) (size : ℕ) (before after : Nvm B b) (result : Result (Unit {0}) BlockFault) : Type 0 where
     pub jobs : AsKept (table_of before) id (GivesInAJob (number_of id index) asked size (driver_of before) (driver_of after) result)
         (GivesInTwoJobs id asked size (driver_of before) (driver_of after) result)
@@ -27,7 +27,7 @@ module _ {B : Type 0} {b : Ghosts B} where
     pub three : FlashTakesThree (driver_of before) (driver_of after) result
     pub table : table_of after ≡ table_of before
 
-  -- a read of a block
+  -- A read of a block.
   pub record ReadsBlock (id index : ℕ) (before after : Nvm B b) (out_before out_after : List ℕ) (result : Result Got BlockFault) : Type 0 where
     pub jobs : AsKept (table_of before) id (LooksInAJob (number_of id index) (driver_of before) (driver_of after) result)
         (LooksInTwoJobs id (driver_of before) (driver_of after) result)
@@ -37,13 +37,13 @@ module _ {B : Type 0} {b : Ghosts B} where
     pub reads : ReadsAlone (driver_of before) (driver_of after) result
     pub costs : AsKept (table_of before) id (ReadCosts (driver_of before) (driver_of after) (number_of id index))
         (ReadsBothCosts (driver_of before) (driver_of after) id)
-    -- of a redundant block Flash comes only where neither copy gave its bytes
+    -- Of a redundant block Flash comes only where neither copy gave its bytes.
     pub unread : IsErrOf result Flash → AsKept (table_of before) id (HasRisenBy 3 (driver_of before).device.faults (driver_of after).device.faults)
         (IsUnreadable (driver_of before) (driver_of after) id)
     pub three : FlashTakesThree (driver_of before) (driver_of after) result
     pub table : table_of after ≡ table_of before
 
-  -- a read of one copy of a redundant block, 1 or 2
+  -- A read of one copy of a redundant block, 1 or 2.
   pub record ReadsCopy (id copy : ℕ) (before after : Nvm B b) (out_before out_after : List ℕ) (result : Result Got BlockFault) : Type 0 where
     pub job : LooksInAJob (number_of id (copy - 1)) (driver_of before) (driver_of after) result
     pub got : IfOk result (λ got. GotOf copy ((driver_of before).value (number_of id (copy - 1))) got out_before out_after)
@@ -53,7 +53,7 @@ module _ {B : Type 0} {b : Ghosts B} where
     pub three : FlashTakesThree (driver_of before) (driver_of after) result
     pub table : table_of after ≡ table_of before
 
-  -- a repair by one copy, 1 or 2, which holds these bytes: the other one is given them where it does not hold them or can't be read
+  -- A repair by one copy, 1 or 2, which holds these bytes: the other one is given them where it does not hold them or can't be read.
   pub record Repairs (id copy : ℕ) (held : Content) (size : ℕ) (before after : Nvm B b) (result : Result (Unit {0}) BlockFault) : Type 0 where
     pub first : OnOk result ((driver_of after).value (number_of id 0) ≡ held)
     pub second : OnOk result ((driver_of after).value (number_of id 1) ≡ held)
@@ -62,9 +62,9 @@ module _ {B : Type 0} {b : Ghosts B} where
     pub settled : OnOk result (IsFalse (driver_of after).is_stale)
     pub jobs : MendsInTwoJobs Got (number_of id (2 - copy)) held size (driver_of before) (driver_of after) result
     pub three : FlashTakesThree (driver_of before) (driver_of after) result
-    -- Flash comes only where the other copy could be neither read nor written, or needs to be written and could not
+    -- Flash comes only where the other copy could be neither read nor written, or needs to be written and could not.
     pub unmended : IsErrOf result Flash → IsUnmended (driver_of before) (driver_of after) (number_of id (2 - copy)) held
-    -- a copy that holds the bytes and could be read is not written
+    -- A copy that holds the bytes and could be read is not written.
     pub full : (live needed : ℕ) → IsErrOf result (Full live needed)
         → ((driver_of before).value (number_of id (2 - copy)) ≢ held) ⊎ HasRisenBy 3 (driver_of before).device.faults (driver_of after).device.faults
     pub spent : IsErrOf result SequenceSpent

@@ -6,10 +6,10 @@ use Rattle.flt_nvm.specs.declared.table.BlockCfg.{BlockCfg}
 use Rattle.flt_nvm.specs.declared.nvm.Nvm.{Nvm}
 
 module _ {B : Type 0} {b : Ghosts B} where
-  -- the driver beneath
+  -- The driver beneath.
   abbrev pub driver_of : Nvm B b → BlocksState
   driver_of nvm = b.state nvm.blocks
 
-  -- the table of blocks
+  -- The table of blocks.
   abbrev pub table_of : Nvm B b → List BlockCfg
   table_of nvm = nvm.table.items

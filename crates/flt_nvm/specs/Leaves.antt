@@ -12,15 +12,15 @@ use Rattle.flt_nvm.specs.declared.got.Got.TheVariants.{Bytes, Missing, Invalid}
 use Rattle.flt_nvm.specs.Table.{number_of}
 use Rattle.flt_nvm.specs.Tries.{Tries, Changing, Mounts}
 
--- a number holds what it held, or what was asked
+-- A number holds what it held, or what was asked.
 abbrev pub IsEither : BlocksState → BlocksState → ℕ → Content → Type 0
 IsEither before after number asked = (after.value number ≡ before.value number) ⊎ (after.value number ≡ asked)
 
--- a fault of the flash comes only where the count of faults rose by three
+-- A fault of the flash comes only where the count of faults rose by three.
 abbrev pub FlashTakesThree : {T : Type 0} → BlocksState → BlocksState → Result T BlockFault → Type 0
 FlashTakesThree before after result = IsErrOf result Flash → HasRisenBy 3 before.device.faults after.device.faults
 
--- one number holds what was asked after Ok, what it held or what was asked after a fault, and every other what it held
+-- One number holds what was asked after Ok, what it held or what was asked after a fault, and every other what it held.
 pub record Gives (before after : BlocksState) (number : ℕ) (asked : Content) (size : ℕ) (result : Result (Unit {0}) BlockFault) : Type 0 where
   pub done : OnOk result (after.value number ≡ asked)
   pub either : IsEither before after number asked
@@ -28,8 +28,8 @@ pub record Gives (before after : BlocksState) (number : ℕ) (asked : Content) (
   pub full : (live needed : ℕ) → IsErrOf result (Full live needed) → IsFull after size live needed
   pub spent : IsErrOf result SequenceSpent → IsTrue (after.is_stuck number size)
 
--- both copies hold what was asked after Ok; after a fault each holds what it held or what was asked, and the second has changed
--- only where the first holds what was asked; every other number holds what it held
+-- Both copies hold what was asked after Ok; after a fault each holds what it held or what was asked, and the second has changed
+-- only where the first holds what was asked; every other number holds what it held.
 pub record GivesBoth (before after : BlocksState) (id : ℕ) (asked : Content) (size : ℕ) (result : Result (Unit {0}) BlockFault) : Type 0 where
   pub first : OnOk result (after.value (number_of id 0) ≡ asked)
   pub second : OnOk result (after.value (number_of id 1) ≡ asked)
@@ -39,17 +39,17 @@ pub record GivesBoth (before after : BlocksState) (id : ℕ) (asked : Content) (
   pub full : (live needed : ℕ) → IsErrOf result (Full live needed) → IsFull after size live needed
   pub spent : IsErrOf result SequenceSpent → IsTrue (after.is_stuck (number_of id 0) size) ⊎ IsTrue (after.is_stuck (number_of id 1) size)
 
--- one job of at most three tries
+-- One job of at most three tries.
 abbrev pub GivesInAJob : ℕ → Content → ℕ → BlocksState → BlocksState → Result (Unit {0}) BlockFault → Type 0
 GivesInAJob number asked size before after result = Tries 3 (Changing number asked size) before after result
 
--- a job on the first copy, and one on the second only where the first answered Ok
+-- A job on the first copy, and one on the second only where the first answered Ok.
 abbrev pub GivesInTwoJobs : ℕ → Content → ℕ → BlocksState → BlocksState → Result (Unit {0}) BlockFault → Type 0
 GivesInTwoJobs id asked size before after result =
     (GivesInAJob (number_of id 0) asked size before after result × IsErr result)
     ⊎ ((between : BlocksState) × GivesInAJob (number_of id 0) asked size before between (Ok tt) × GivesInAJob (number_of id 1) asked size between after result)
 
--- a job that mounts: no block changes, and no sequence number is used
+-- A job that mounts: no block changes, and no sequence number is used.
 pub record MountsInAJob (before after : BlocksState) (result : Result (Unit {0}) BlockFault) : Type 0 where
   pub tries : Tries 3 Mounts before after result
   pub values : SameValues before after
@@ -59,7 +59,7 @@ pub record MountsInAJob (before after : BlocksState) (result : Result (Unit {0})
   pub spent : SameSpent before after
   pub three : FlashTakesThree before after result
 
--- a job that gives a number a content
+-- A job that gives a number a content.
 pub record GivesNumber (number : ℕ) (asked : Content) (size : ℕ) (before after : BlocksState) (result : Result (Unit {0}) BlockFault) : Type 0 where
   pub job : GivesInAJob number asked size before after result
   pub gives : Gives before after number asked size result
@@ -67,7 +67,7 @@ pub record GivesNumber (number : ℕ) (asked : Content) (size : ℕ) (before aft
   pub stale : Settles result after
   pub three : FlashTakesThree before after result
 
--- one job or two that give both copies a content
+-- One job or two that give both copies a content.
 pub record GivesCopies (id : ℕ) (asked : Content) (size : ℕ) (before after : BlocksState) (result : Result (Unit {0}) BlockFault) : Type 0 where
   pub jobs : GivesInTwoJobs id asked size before after result
   pub gives : GivesBoth before after id asked size result
@@ -75,26 +75,26 @@ pub record GivesCopies (id : ℕ) (asked : Content) (size : ℕ) (before after :
   pub stale : Settles result after
   pub three : FlashTakesThree before after result
 
--- missing or invalid
+-- Missing or invalid.
 abbrev pub HasNoBytes : Content → Type 0
 HasNoBytes missing = Unit {0}
 HasNoBytes invalid = Unit {0}
 HasNoBytes (bytes held) = ⊥
 
--- a read gave bytes
+-- A read gave bytes.
 abbrev pub GaveBytes : Got → Type 0
 GaveBytes (Bytes length copy) = Unit {0}
 GaveBytes Missing = ⊥
 GaveBytes Invalid = ⊥
 
--- what a read of this copy alone answers, with the bytes at the start of out and the rest of out as it was
+-- What a read of this copy alone answers, with the bytes at the start of out and the rest of out as it was.
 abbrev pub GotOf : ℕ → Content → Got → List ℕ → List ℕ → Type 0
 GotOf copy content (Bytes length from) before after = (from ≡ copy) × ReadsContent content (FoundBytes length) before after
 GotOf copy content Missing before after = ReadsContent content FoundMissing before after
 GotOf copy content Invalid before after = ReadsContent content FoundInvalid before after
 
--- the first copy's bytes; the second's, where the first has none or could not be read in three tries; or, where neither has
--- bytes, what the first is
+-- The first copy's bytes; the second's, where the first has none or could not be read in three tries; or, where neither has
+-- bytes, what the first is.
 abbrev pub GotOfBoth : BlocksState → BlocksState → ℕ → Got → List ℕ → List ℕ → Type 0
 GotOfBoth before after id (Bytes length from) out_before out_after =
     GotOf 1 (before.value (number_of id 0)) (Bytes length from) out_before out_after
@@ -105,7 +105,7 @@ GotOfBoth before after id Missing out_before out_after = GotOf 1 (before.value (
 GotOfBoth before after id Invalid out_before out_after = GotOf 1 (before.value (number_of id 0)) Invalid out_before out_after
     × HasNoBytes (before.value (number_of id 1))
 
--- the second copy's bytes, or, where it has none, what the first gave
+-- The second copy's bytes, or, where it has none, what the first gave.
 abbrev pub GotOfSecond : Content → Option Got → Got → List ℕ → List ℕ → Type 0
 GotOfSecond content first got before after =
     (GotOf 2 content got before after × GaveBytes got) ⊎ ((first ≡ Some got) × HasNoBytes content × (after ≡ before))

@@ -11,42 +11,42 @@ use Rattle.flt_nvm.specs.Table.{number_of}
 use Rattle.flt_nvm.specs.Tries.{Tries, Looks, ReadsAlone}
 use Rattle.flt_nvm.specs.Leaves.{FlashTakesThree, GivesInAJob, GotOf, GotOfBoth, HasNoBytes}
 
--- one job that reads a number, whatever it answers
+-- One job that reads a number, whatever it answers.
 abbrev pub LooksInAJob : {T : Type 0} → ℕ → BlocksState → BlocksState → Result T BlockFault → Type 0
 LooksInAJob number before after result = Tries 3 (Looks number) before after result
 
--- a job that reads the first copy, and one at most that reads the second
+-- A job that reads the first copy, and one at most that reads the second.
 abbrev pub LooksInTwoJobs : {T : Type 0} → ℕ → BlocksState → BlocksState → Result T BlockFault → Type 0
 LooksInTwoJobs {T} id before after result =
     LooksInAJob (number_of id 0) before after result
     ⊎ ((between : BlocksState) × (first : Result T BlockFault) × LooksInAJob (number_of id 0) before between first
     × (second : Result T BlockFault) × LooksInAJob (number_of id 1) between after second)
 
--- a job that reads a number, and one at most that gives it a content
+-- A job that reads a number, and one at most that gives it a content.
 abbrev pub MendsInTwoJobs : Type 0 → ℕ → Content → ℕ → BlocksState → BlocksState → Result (Unit {0}) BlockFault → Type 0
 MendsInTwoJobs Read number asked size before after result =
     ((found : Result Read BlockFault) × LooksInAJob number before after found)
     ⊎ ((between : BlocksState) × (found : Result Read BlockFault) × LooksInAJob number before between found
     × GivesInAJob number asked size between after result)
 
--- what a read of both copies costs at most on a driver that is not stale, where no operation failed: the pages of their bytes
+-- What a read of both copies costs at most on a driver that is not stale, where no operation failed: the pages of their bytes.
 abbrev pub ReadsBothCosts : BlocksState → BlocksState → ℕ → Type 0
 ReadsBothCosts before after id =
     IsFalse before.is_stale → NoFault before after
     → CostsAtMost (byte_pages (size_of (before.value (number_of id 0))) + byte_pages (size_of (before.value (number_of id 1)))) before after
 
--- neither copy could be read, or one could not and the other has no bytes
+-- Neither copy could be read, or one could not and the other has no bytes.
 abbrev pub IsUnreadable : BlocksState → BlocksState → ℕ → Type 0
 IsUnreadable before after id =
     HasRisenBy 6 before.device.faults after.device.faults
     ⊎ (HasRisenBy 3 before.device.faults after.device.faults × (HasNoBytes (before.value (number_of id 0)) ⊎ HasNoBytes (before.value (number_of id 1))))
 
--- a copy could be neither read nor written, or it holds other bytes and could not be written
+-- A copy could be neither read nor written, or it holds other bytes and could not be written.
 abbrev pub IsUnmended : BlocksState → BlocksState → ℕ → Content → Type 0
 IsUnmended before after number asked =
     HasRisenBy 6 before.device.faults after.device.faults ⊎ (HasRisenBy 3 before.device.faults after.device.faults × (before.value number ≢ asked))
 
--- a job that reads a number, as this copy
+-- A job that reads a number, as this copy.
 pub record ReadsNumber (copy number : ℕ) (before after : BlocksState) (out_before out_after : List ℕ) (result : Result Got BlockFault) : Type 0 where
   pub job : LooksInAJob number before after result
   pub got : IfOk result (λ got. GotOf copy (before.value number) got out_before out_after)
@@ -55,7 +55,7 @@ pub record ReadsNumber (copy number : ℕ) (before after : BlocksState) (out_bef
   pub costs : ReadCosts before after number
   pub three : FlashTakesThree before after result
 
--- one job or two that read both copies
+-- One job or two that read both copies.
 pub record ReadsCopies (id : ℕ) (before after : BlocksState) (out_before out_after : List ℕ) (result : Result Got BlockFault) : Type 0 where
   pub jobs : LooksInTwoJobs id before after result
   pub got : IfOk result (λ got. GotOfBoth before after id got out_before out_after)

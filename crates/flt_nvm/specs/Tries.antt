@@ -6,7 +6,7 @@ use Rattle.flt_flash.specs.Calls.{Calls, Changes, Costs, NeverFull, ReadCosts, S
 use Rattle.flt_flash.specs.declared.blocks.BlockFault.{BlockFault}
 use Rattle.flt_flash.specs.declared.blocks.BlockFault.TheVariants.{Flash}
 
--- a job of at most so many tries: the last one, or one that the flash did not fail, or one that it failed and then a job of one try less
+-- A job of at most so many tries: the last one, or one that the flash did not fail, or one that it failed and then a job of one try less.
 unfoldable pub Tries : {T : Type 0} → ℕ → (BlocksState → BlocksState → Result T BlockFault → Type 0) → BlocksState → BlocksState → Result T BlockFault → Type 0
 Tries zero try before after result = ⊥
 Tries (suc zero) try before after result = try before after result
@@ -14,7 +14,7 @@ Tries (suc (suc more)) try before after result =
     (try before after result × (IsErrOf result Flash → ⊥))
     ⊎ ((between : BlocksState) × try before between (Err Flash) × Tries (suc more) try between after result)
 
--- one mount
+-- One mount.
 pub record Mounts (before after : BlocksState) (result : Result (Unit {0}) BlockFault) : Type 0 where
   pub values : SameValues before after
   pub calls : Calls before after result
@@ -22,14 +22,14 @@ pub record Mounts (before after : BlocksState) (result : Result (Unit {0}) Block
   pub stale : Settles result after
   pub spent : SameSpent before after
 
--- one write or invalidate, which gives a block this content by a record of this length
+-- One write or invalidate, which gives a block this content by a record of this length.
 pub record Changing (block : ℕ) (asked : Content) (size : ℕ) (before after : BlocksState) (result : Result (Unit {0}) BlockFault) : Type 0 where
   pub changes : Changes before after block asked size result
   pub calls : Calls before after result
   pub stale : Settles result after
   pub costs : Costs before after size
 
--- a call that reads alone: no block changes, no sequence number is used, and on a driver that was not stale nothing is written
+-- A call that reads alone: no block changes, no sequence number is used, and on a driver that was not stale nothing is written.
 pub record ReadsAlone {T : Type 0} (before after : BlocksState) (result : Result T BlockFault) : Type 0 where
   pub values : SameValues before after
   pub calls : Calls before after result
@@ -39,7 +39,7 @@ pub record ReadsAlone {T : Type 0} (before after : BlocksState) (result : Result
   pub stale : IsFalse before.is_stale → IsFalse after.is_stale
   pub image : IsFalse before.is_stale → SameImage before after
 
--- one read of a block
+-- One read of a block.
 pub record Looks {T : Type 0} (block : ℕ) (before after : BlocksState) (result : Result T BlockFault) : Type 0 where
   pub reads : ReadsAlone before after result
   pub costs : ReadCosts before after block

@@ -12,7 +12,7 @@ use Rattle.flt_code.specs.Seal.{IsCodeWordOf}
 use Rattle.flt_code.proofs.Unspoiled.{programmed_or_none, programmed_unspoiled}
 use Rattle.flt_pages.specs.Append.{TornCode, Appends, TornPiece, AppendsPiece, TornErase, BeginsSector}
 
--- what a torn program of a code word leaves
+-- What a torn program of a code word leaves.
 pub torn_code : (before after : List (List (List ℕ))) (sector page : ℕ) (bytes asked : List ℕ) → sector < length before → page < length (sector_at before sector)
     → page_at before sector page ≡ blank_page → IsCodeWordOf bytes asked → IsTorn before (programmed before sector page asked) after → TornCode before sector page asked after
 torn_code before after sector page bytes asked within_image within_sector blank word tears =
@@ -75,7 +75,7 @@ torn_erase before after sector within tears =
     let in_sector = torn_sector_of before sector within (replicate (length (sector_at before sector)) blank_page) after tears in
     record { torn = in_sector.0; tears = in_sector.1; only = in_sector.2 }
 
--- a page of an erased sector
+-- A page of an erased sector.
 pub erased_page : (image : List (List (List ℕ))) (sector page : ℕ) → sector < length image → page < length (sector_at image sector) → page_at (erased image sector) sector page ≡ blank_page
 erased_page image sector page within in_sector =
     ap (λ (pages : List (List ℕ)). get_or pages page []) (get_or-set_same image sector (replicate (length (sector_at image sector)) blank_page) [] within)

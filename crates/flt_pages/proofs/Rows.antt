@@ -16,16 +16,16 @@ use Rattle.flt_pages.specs.declared.numbers.Row.{Row}
 use Rattle.flt_pages.specs.Numbers.{IsRowOf, IsIndex}
 use Rattle.flt_pages.specs.Next.{IsLeastFrom}
 
--- a row for places outside a list
+-- A row for places outside a list.
 nowhere : Row
 nowhere = record { number = 0; index = 0 }
 
 module _ (numbers : List ℕ) (rows : List Row) (index : IsIndex numbers rows) where
-  -- the row at a place names a number where it stands
+  -- The row at a place names a number where it stands.
   pub row_at : (at : ℕ) (row : Row) → at < length rows → row ≡ get_or rows at row → IsRowOf numbers row
   row_at at row within is = subst (IsRowOf numbers) (sym is) (All-get_or (IsRowOf numbers) rows at row within index.named)
 
-  -- a search that finds a row tells where the block stands among the numbers
+  -- A search that finds a row tells where the block stands among the numbers.
   pub row_found : (block at : ℕ) (row : Row) → at < length rows → row ≡ get_or rows at row → IsBinarySearchResult (λ r. nat_cmp r.number block) rows (Ok at)
       → (row.index < length numbers) × (get_or numbers row.index 0 ≡ block)
   row_found block at row within is equal =
@@ -33,7 +33,7 @@ module _ (numbers : List ℕ) (rows : List Row) (index : IsIndex numbers rows) w
       let same : row.number ≡ block = ranked row.number block _ (sym (subst (λ (r : Row). nat_cmp r.number block ≡ Equal) (sym is) (equal row))) in
       (here.within, here.is ∙ same)
 
-  -- each number has a row
+  -- Each number has a row.
   has_row : (k : ℕ) → k < length numbers → (at : ℕ) × (at < length rows) × ((get_or rows at nowhere).number ≡ get_or numbers k 0)
   has_row k within =
       let named = All-get_or (Contains (map (λ (row : Row). row.number) rows)) numbers k 0 within index.whole in
@@ -45,7 +45,7 @@ module _ (numbers : List ℕ) (rows : List Row) (index : IsIndex numbers rows) w
       let one = index.sorted i j nowhere le within in
       grind (arith, nat_tests))
 
-  -- a search that finds no row tells that the block is none of the numbers
+  -- A search that finds no row tells that the block is none of the numbers.
   pub no_row : (block at : ℕ) → IsBinarySearchResult (λ row. nat_cmp row.number block) rows (Err at) → (k : ℕ) → k < length numbers → get_or numbers k 0 ≢ block
   no_row block at parted k within same =
       let named = has_row k within in
@@ -60,7 +60,7 @@ module _ (numbers : List ℕ) (rows : List Row) (index : IsIndex numbers rows) w
       let rises = index.sorted i j d le within in
       grind (arith, nat_tests)
 
-  -- where the rows from a number on begin, the row that stands there names the least of them
+  -- Where the rows from a number on begin, the row that stands there names the least of them.
   pub next_row : (from at : ℕ) (row : Row) → (IsPartitionedBy (λ row. nat_lt row.number from) rows → IsPartitionPoint (λ row. nat_lt row.number from ≡ true) (λ row. nat_lt row.number from ≡ false) rows at)
       → at < length rows → row ≡ get_or rows at row → IsLeastFrom from numbers (Some row.number)
   next_row from at row parted within is =
@@ -85,7 +85,7 @@ module _ (numbers : List ℕ) (rows : List Row) (index : IsIndex numbers rows) w
             | inr behind ↦ let rises = index.sorted at named.0 nowhere behind named.1 in omega (arith, rises, named.2, ap (λ (r : Row). r.number) (get_or_read rows at row within is nowhere))
           ]
 
-  -- where no row is from a number on, no number is
+  -- Where no row is from a number on, no number is.
   pub no_next_row : (from at : ℕ) → (IsPartitionedBy (λ row. nat_lt row.number from) rows → IsPartitionPoint (λ row. nat_lt row.number from ≡ true) (λ row. nat_lt row.number from ≡ false) rows at)
       → length rows ≤ at → IsLeastFrom from numbers None
   no_next_row from at parted past =
@@ -98,7 +98,7 @@ module _ (numbers : List ℕ) (rows : List Row) (index : IsIndex numbers rows) w
             grind (arith, nat_tests, named.2);
       }
 
--- a block is among the numbers where an index of it was found, and not where none was
+-- A block is among the numbers where an index of it was found, and not where none was.
 pub is_among : (numbers : List ℕ) (block : ℕ) (found : Option ℕ) → IfSome found (λ index. (index < length numbers) × (get_or numbers index 0 ≡ block))
     → IfNone found ((k : ℕ) → k < length numbers → get_or numbers k 0 ≢ block) → is_some found ≡ list_any (λ number. number == block) numbers
 is_among numbers block (Some index) here none = sym (list_any_at (λ number. number == block) numbers index 0 here.0 (grind (arith, nat_tests, here.1)))

@@ -24,7 +24,7 @@ use Rattle.flt_pages.proofs.ItemCases.{item_by}
 both_true : (a b : Bool) → a ≡ true → b ≡ true → (a && b) ≡ true
 both_true a b first second = ap (λ x. x && b) first ∙ second
 
--- the page of a word is not blank
+-- The page of a word is not blank.
 written : (word : Word) → false ≡ bytes_eq (sealed (word_bytes word)) blank_page
 written word = by_test (bytes_eq (sealed (word_bytes word)) blank_page) refl
   where
@@ -35,7 +35,7 @@ written word = by_test (bytes_eq (sealed (word_bytes word)) blank_page) refl
         let none : unsealed (sealed (word_bytes word)) ≡ None = ap unsealed same ∙ unsealed_blank in
         absurd (cc (none, word_page word))
 
--- what a gate page says by its word
+-- What a gate page says by its word.
 pub gate_says : (says : Option Word → Result (Option ℕ) ℕ) (fault : ℕ) (word : Word) → IsWord word → gate_by says fault (sealed (word_bytes word)) ≡ says (Some word)
 gate_says says fault word proper =
     ap (λ b. if b then Err fault else gate_by_code says (unsealed (sealed (word_bytes word)))) (unspoiled_word (word_bytes word) (sealed (word_bytes word)) (word_code word))
@@ -60,7 +60,7 @@ valid_gates used sequence pages fits number first second =
 among : (numbers : List ℕ) (block : ℕ) → Contains numbers block → list_any (λ number. number == block) numbers ≡ true
 among numbers block (place, within, is) = list_any_at (λ number. number == block) numbers place block within (eq-eqb _ block is)
 
--- the item of a head that stands, by the page in the place of its gate
+-- The item of a head that stands, by the page in the place of its gate.
 module _ (used : ℕ) (numbers : List ℕ) (page block size : ℕ) (valid : Bool) (word : IsWord (Head block size valid page)) (number : Contains numbers block) (room : page + 2 + byte_pages size ≤ used) where
   pub item_of_head : (pages : List (List ℕ)) → get_or pages page [] ≡ sealed (word_bytes (Head block size valid page))
       → item_at used numbers pages page ≡ item_by_gate block size valid page (page + 1 + byte_pages size) (unsealed (get_or pages (page + 1 + byte_pages size) []))

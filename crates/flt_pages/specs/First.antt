@@ -7,19 +7,19 @@ use Rattle.flt_sector.specs.declared.log.Item.TheVariants.{Kept}
 use Rattle.flt_pages.specs.declared.first.Begin.{Begin}
 use Rattle.flt_pages.specs.declared.first.Begin.TheVariants.{Whole, Damaged, Record}
 
--- the item that begins so at this page
+-- The item that begins so at this page.
 abbrev pub item_begun : Begin → List (List ℕ) → ℕ → Result Item ℕ
 item_begun (Whole item) pages page = Ok item
 item_begun Damaged pages page = Err page
 item_begun (Record block length valid gate) pages page = item_by_gate block length valid page gate (unsealed (slice_index_or pages gate []))
 
--- a record's gate lies below the used pages
+-- A record's gate lies below the used pages.
 abbrev pub GateBelow : ℕ → Begin → Type 0
 GateBelow used (Whole item) = Unit {0}
 GateBelow used Damaged = Unit {0}
 GateBelow used (Record block length valid gate) = gate < used
 
--- the record that is complete or not, or a fault at its gate's page
+-- The record that is complete or not, or a fault at its gate's page.
 abbrev pub item_completed : ℕ → ℕ → Bool → ℕ → Option Bool → Result Item ℕ
 item_completed block length valid gate (Some complete) = Ok (Kept block length valid complete)
 item_completed block length valid gate None = Err gate

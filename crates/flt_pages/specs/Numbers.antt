@@ -5,21 +5,21 @@ use Rattle.std.specs.List.Sorted.{IsNonDecreasingBy}
 use Rattle.flt_pages.specs.declared.numbers.Row.{Row}
 use Rattle.flt_pages.specs.declared.numbers.Numbers.TheInside.{Inside}
 
--- the numbers in the order in which they were given
+-- The numbers in the order in which they were given.
 abbrev pub given_of : Inside → List ℕ
 given_of a = a.given.items
 
--- a row names the number that stands at its index
+-- A row names the number that stands at its index.
 pub record IsRowOf (numbers : List ℕ) (row : Row) : Type 0 where
   pub within : row.index < length numbers
   pub is : slice_index numbers row.index ≡ row.number
 
--- the rows are in ascending order of their numbers, each names a number where it stands, and each number has one
+-- The rows are in ascending order of their numbers, each names a number where it stands, and each number has one.
 pub record IsIndex (numbers : List ℕ) (rows : List Row) : Type 0 where
   pub sorted : IsNonDecreasingBy (λ row. row.number) rows
   pub named : All (IsRowOf numbers) rows
   pub whole : All (Contains (map (λ row. row.number) rows)) numbers
 
--- the rows are an index of the numbers
+-- The rows are an index of the numbers.
 abbrev pub IsIndexed : Inside → Type 0
 IsIndexed a = IsIndex a.given.items a.rows.items

@@ -20,11 +20,11 @@ use Rattle.flt_record.proofs.AtEnd.{torn_item, open_item, whole_item}
 use Rattle.flt_record.proofs.Values.{last_more, same_content}
 
 module _ (used : ℕ) (numbers : List ℕ) (pages after : List (List ℕ)) (end : ℕ) (value : ℕ → Content) (begins : 2 ≤ used) (holds : LogHolds used numbers pages end value) where
-  -- the pages behind the end that nothing touched
+  -- The pages behind the end that nothing touched.
   still_blank : (to : ℕ) → end ≤ to → KeptApart pages after end to → AreBlank after to used
   still_blank to past apart k low high = apart.behind k low ∙ blank_behind used numbers pages after holds.entries end begins holds.is (λ j low lt. apart.before j lt) k (omega arith) high
 
-  -- the records that stood
+  -- The records that stood.
   kept : (to : ℕ) → KeptApart pages after end to → (block : ℕ) → content_of after (last_complete block holds.entries) ≡ value block
   kept to apart block =
       same_content pages after end apart.size (λ j low lt. apart.before j lt) block holds.entries (all_below used numbers pages after holds.entries end begins holds.is (λ j low lt. apart.before j lt))
@@ -86,14 +86,14 @@ module _ (used : ℕ) (numbers : List ℕ) (pages after : List (List ℕ)) (end 
         by_test false same = same
         by_test true same = ap (λ (l : List ℕ). if valid then bytes l else invalid) is.holds
 
-    -- whatever a cut leaves, the log holds the old values or the new ones
+    -- Whatever a cut leaves, the log holds the old values or the new ones.
     pub left_record : RecordLeft pages after end block held valid
         → ((last : ℕ) × LogHolds used numbers after last value) ⊎ ((last : ℕ) × LogHolds used numbers after last (given block (asked_of valid held) value))
     left_record (inl torn) = inl (torn_head torn (omega arith))
     left_record (inr (inl stands)) = inl (last, open_record stands)
     left_record (inr (inr whole)) = inr (last, whole_record whole)
 
--- pages that agree from page 2 on hold the same
+-- Pages that agree from page 2 on hold the same.
 pub held_same : (used : ℕ) (numbers : List ℕ) (pages after : List (List ℕ)) (end : ℕ) (value : ℕ → Content) → 2 ≤ used → length after ≡ length pages
     → ((k : ℕ) → 2 ≤ k → get_or after k [] ≡ get_or pages k []) → LogHolds used numbers pages end value → LogHolds used numbers after end value
 held_same used numbers pages after end value begins size agree holds =

@@ -15,7 +15,7 @@ use Rattle.flt_sector.specs.declared.log.Item.TheVariants.{End, Torn, Kept}
 use Rattle.flt_record.proofs.BlankPages.{blank_from_test}
 
 module _ (used : ℕ) (numbers : List ℕ) (pages : List (List ℕ)) (page : ℕ) (below : page < used) where
-  -- a page that is not blank
+  -- A page that is not blank.
   written : is_blank (get_or pages page []) ≡ false → item_at used numbers pages page ≡ item_by_code used numbers pages page (unsealed (get_or pages page []))
   written not_blank =
       ap (λ b. if b then Ok End else if is_blank (get_or pages page []) then Ok End else item_by_code used numbers pages page (unsealed (get_or pages page []))) (ne_eqb page used (λ e. omega arith))

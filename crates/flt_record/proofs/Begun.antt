@@ -21,7 +21,7 @@ pub unspoiled_blank : is_spoiled blank_page ≡ false
 unfolding is_spoiled blank_page
 unspoiled_blank = refl
 
--- a gate page that is no code word, and one that is blank
+-- A gate page that is no code word, and one that is blank.
 gone : (says : Option Word → Result (Option ℕ) ℕ) (fault : ℕ) (page : List ℕ) → is_spoiled page ≡ false → unsealed page ≡ None → gate_by says fault page ≡ Ok None
 gone says fault page fresh none = λ i. if fresh i then Err fault else gate_by_code says (none i)
 
@@ -30,12 +30,12 @@ names says fault word proper =
     (λ i. if unspoiled_word (word_bytes word) (sealed (word_bytes word)) (word_code word) i then Err fault else gate_by_code says (word_page word i))
     ∙ ap says (word_of-word_bytes word proper)
 
--- an empty log
+-- An empty log.
 pub holds_nothing : (used : ℕ) (numbers : List ℕ) (pages : List (List ℕ)) → 2 ≤ used → AreBlank pages 2 used → LogHolds used numbers pages 2 (λ block. missing)
 holds_nothing used numbers pages least blank = record { entries = []; is = ended used numbers pages (used + 1) 2 (omega arith) least blank; gives = λ block. refl }
 
 module _ (used sequence : ℕ) (fits : used < 2 ^ 16) (counts : sequence < 2 ^ 32) where
-  -- a start gate alone, torn or not
+  -- A start gate alone, torn or not.
   pub not_valid : (pages : List (List ℕ)) → is_spoiled (get_or pages 0 []) ≡ false → (get_or pages 0 [] ≡ sealed (word_bytes (Start sequence used))) ⊎ (unsealed (get_or pages 0 []) ≡ None)
       → is_spoiled (get_or pages 1 []) ≡ false → unsealed (get_or pages 1 []) ≡ None → gates_of used pages ≡ Ok None
   not_valid pages fresh (inr none) other_fresh other =

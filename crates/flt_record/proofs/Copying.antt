@@ -21,12 +21,12 @@ use Rattle.flt_record.proofs.FillStep.{piece_failed, on_more, apart_more, more_f
 use Rattle.flt_record.proofs.PageBytes.{bytes_size, piece_behind}
 use Rattle.flt_record.proofs.Recording.{pages_on, head_failed, fill_failed, gate_laid}
 
--- the other sector stays as it was
+-- The other sector stays as it was.
 pub other_stays : (before after : FlashState) (sector other : ℕ) (pages : List (List ℕ)) → other ≢ sector → OnSector before after other pages → sector_at after.image sector ≡ sector_at before.image sector
 other_stays before after sector other pages apart on =
     ap (λ (image : List (List (List ℕ))). sector_at image sector) on.image ∙ get_or-set_other before.image other sector pages [] (λ e. apart (sym e))
 
--- one page more
+-- One page more.
 module _ (before middle now : FlashState) (shape : HasShape before) (shape_now : HasShape now) (sector other first : ℕ) (place : RecordPlace) (index : ℕ)
     (in_sector : sector < 2) (in_other : other < 2) (apart : other ≢ sector) (within : IsPlaceWithin before.pages place) (room : first + byte_pages place.length ≤ before.pages) (more : index < byte_pages place.length)
     (reads : OnlyReads middle now) (on : OnSector before middle other (sector_at middle.image other))
@@ -72,7 +72,7 @@ module _ (before middle now : FlashState) (shape : HasShape before) (shape_now :
       ⊎ ((32 * index + min 32 (place.length - 32 * index) ≡ length (bytes_at (sector_at before.image sector) place)) × (length (bytes_at (sector_at before.image sector) place) < 32 * index + 32))
   ends = elim (cases_lt (place.length - 32 * index) 32) [ inl short ↦ inr (omega (arith, long), omega (arith, long)) | inr full ↦ inl (omega arith) ]
 
-  -- the page that was read is the piece
+  -- The page that was read is the piece.
   piece : slice_range (bytes_at (sector_at before.image sector) place) (32 * index) (32 * index + min 32 (place.length - 32 * index)) ≡ take (min 32 (place.length - 32 * index)) (page_at before.image sector (place.page + 1 + index))
   piece = piece_behind (sector_at before.image sector) (shape.bytes sector in_sector) (record_at 0 place) (omega (arith, within.below, shape.pages sector in_sector)) index (min 32 (place.length - 32 * index)) (omega arith) more (omega arith)
 
@@ -95,7 +95,7 @@ module _ (before middle now : FlashState) (shape : HasShape before) (shape_now :
         now_filled = more_filled before now after shape shape_now other first bytes index (32 * index + min 32 (place.length - 32 * index)) in_other room_bytes more_bytes on_read kept_read ends fills_read laid;
       }
 
--- head, bytes and gate
+-- Head, bytes and gate.
 module _ (before : FlashState) (shape : HasShape before) (sector other page block : ℕ) (place : RecordPlace)
     (in_sector : sector < 2) (in_other : other < 2) (apart : other ≢ sector) (within : IsPlaceWithin before.pages place) (room : page + record_pages place.length ≤ before.pages)
     (blank : AreBlank (sector_at before.image other) page (page + record_pages place.length)) where
@@ -122,7 +122,7 @@ module _ (before : FlashState) (shape : HasShape before) (sector other page bloc
       → Records before after other page block source place.valid result
   copy_head_failed after failed result fails is = head_failed before shape other page block source place.valid in_other room_source blank_source after failed result fails (head_of after (Err failed) is)
 
-  -- the head stands
+  -- The head stands.
   module _ (middle : FlashState) (shape_middle : HasShape middle) (headed : Appends {T = Unit {0}} before middle other page head (Ok tt)) where
     same_source : bytes_at (sector_at middle.image sector) place ≡ bytes_at (sector_at before.image sector) place
     same_source = ap (λ (pages : List (List ℕ)). bytes_at pages place)
@@ -137,7 +137,7 @@ module _ (before : FlashState) (shape : HasShape before) (sector other page bloc
     copy_fill_failed after failed result fails is =
         fill_failed before shape other page block source place.valid in_other room_source blank_source middle shape_middle (head_of middle (Ok tt) headed) after failed result fails (fills_of after (Err failed) is)
 
-    -- the page of the gate is blank
+    -- The page of the gate is blank.
     pub gate_blank : (full : FlashState) → Fills {T = Unit {0}} middle full other (page + 1) (bytes_at (sector_at middle.image sector) place) (Ok tt) → page_at full.image other (page + 1 + byte_pages place.length) ≡ blank_page
     gate_blank full is =
         let fills = fills_of full (Ok tt) is in

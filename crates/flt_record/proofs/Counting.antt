@@ -16,16 +16,16 @@ use Rattle.flt_record.specs.Live.{held_in, current_pages}
 use Rattle.flt_record.proofs.LogOn.{end_most}
 use Rattle.flt_record.proofs.Proper.{proper_item}
 
--- the pages of a record
+-- The pages of a record.
 abbrev pub entry_pages : Entry → ℕ
 entry_pages entry = record_pages entry.length
 
--- each record is of one of the numbers
+-- Each record is of one of the numbers.
 abbrev pub AllAmong : List ℕ → List Entry → Type 0
 AllAmong numbers [] = Unit {0}
 AllAmong numbers (entry ∷ rest) = (list_any (λ number. number == entry.block) numbers ≡ true) × AllAmong numbers rest
 
--- the records from a page on take no more pages than there are up to the end, and are of the numbers
+-- The records from a page on take no more pages than there are up to the end, and are of the numbers.
 pub record Counted (numbers : List ℕ) (page : ℕ) (rest : LogFrom) : Type 0 where
   pub total : page + sum_by entry_pages rest.entries ≤ rest.end
   pub among : AllAmong numbers rest.entries
@@ -55,7 +55,7 @@ module _ (used : ℕ) (numbers : List ℕ) (pages : List (List ℕ)) where
             among = ((proper_item used numbers pages page block size valid complete (sym here)).among, on.among);
           }
 
--- a number that no record is of has no last one
+-- A number that no record is of has no last one.
 no_last : (numbers : List ℕ) (block : ℕ) (entries : List Entry) → list_any (λ number. number == block) numbers ≡ false → AllAmong numbers entries → last_complete block entries ≡ None
 no_last numbers block [] apart among = refl
 no_last numbers block (entry ∷ rest) apart among =
@@ -73,7 +73,7 @@ pub unnumbered : (used : ℕ) (numbers : List ℕ) (pages : List (List ℕ)) (bl
 unnumbered used numbers pages block least fine apart =
     no_last numbers block (log used numbers pages).entries apart (counted used numbers pages (used + 1) 2 (omega arith) least fine).among
 
--- sums over the numbers
+-- Sums over the numbers.
 sum_most : (f g h : ℕ → ℕ) → ((x : ℕ) → f x ≤ g x + h x) → (xs : List ℕ) → sum_by f xs ≤ sum_by g xs + sum_by h xs
 sum_most f g h most [] = omega arith
 sum_most f g h most (x ∷ xs) = omega (arith, sum_by-cons f x xs, sum_by-cons g x xs, sum_by-cons h x xs, most x, sum_most f g h most xs)
@@ -103,7 +103,7 @@ one_share block pages (x ∷ xs) distinct = omega (arith, sum_by-cons (share blo
         omega (arith, no_share block pages xs (λ k within same. distinct 0 (suc k) 0 (omega arith) (omega arith) (sym here ∙ same)))
     by_test most false is = omega (arith, most)
 
--- the pages of the current record of a block
+-- The pages of the current record of a block.
 abbrev pub cost : Option Entry → ℕ
 cost None = 0
 cost (Some entry) = entry_pages entry
@@ -134,7 +134,7 @@ costs numbers distinct (entry ∷ rest) = omega (
   costs numbers distinct rest,
 )
 
--- the current records lie within the log
+-- The current records lie within the log.
 pub current_at_most : (used : ℕ) (numbers : List ℕ) (pages : List (List ℕ)) → 2 ≤ used → AllPairs (λ a b. a ≢ b) numbers → (log used numbers pages).fault ≡ None
     → 2 + sum_by (λ number. cost (last_complete number (log used numbers pages).entries)) numbers ≤ (log used numbers pages).end
 current_at_most used numbers pages least distinct fine =
@@ -144,7 +144,7 @@ sum_less : (f g : ℕ → ℕ) → ((x : ℕ) → f x ≤ g x) → (xs : List �
 sum_less f g less [] = omega arith
 sum_less f g less (x ∷ xs) = omega (arith, sum_by-cons f x xs, sum_by-cons g x xs, less x, sum_less f g less xs)
 
--- what a record holds takes no more pages than the record
+-- What a record holds takes no more pages than the record.
 content_cost : (pages : List (List ℕ)) (found : Option Entry) → pages_of (content_of pages found) ≤ cost found
 content_cost pages None = omega arith
 content_cost pages (Some entry) = by_valid entry.valid
@@ -159,7 +159,7 @@ module _ (used : ℕ) (numbers : List ℕ) (pages : List (List ℕ)) (least : 2 
   log_within = end_most used numbers pages pages (log used numbers pages).entries (log used numbers pages).end least
       (λ i. record { entries = (log used numbers pages).entries; end = (log used numbers pages).end; fault = fine i }) (λ k low lt. refl)
 
-  -- what the blocks hold lies within the log
+  -- What the blocks hold lies within the log.
   pub live_within : AllPairs (λ a b. a ≢ b) numbers → 2 + current_pages used numbers pages ≤ (log used numbers pages).end
   live_within distinct =
       let records = current_at_most used numbers pages least distinct fine in
@@ -167,7 +167,7 @@ module _ (used : ℕ) (numbers : List ℕ) (pages : List (List ℕ)) (least : 2 
       (λ number. content_cost pages (last_complete number (log used numbers pages).entries)) numbers in
       omega (arith, records, less)
 
--- one number more
+-- One number more.
 pub sum_on : (f : ℕ → ℕ) (numbers : List ℕ) (index : ℕ) → index < length numbers → sum_by f (take (index + 1) numbers) ≡ sum_by f (take index numbers) + f (get_or numbers index 0)
 sum_on f numbers index within = ap (sum_by f) (take_more numbers index 0 within) ∙ sum_by_push f (take index numbers) (get_or numbers index 0)
 

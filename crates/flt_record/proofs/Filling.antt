@@ -8,7 +8,7 @@ use Rattle.std.proofs.lemmas.Grind.{flat_map-append}
 use Rattle.flt_flash.specs.Blocks.{byte_pages}
 use Rattle.flt_record.proofs.Values.{same_range}
 
--- so many pages from one on hold the first bytes, and no more while there are bytes left
+-- So many pages from one on hold the first bytes, and no more while there are bytes left.
 pub record Filled (pages : List (List ℕ)) (first : ℕ) (bytes : List ℕ) (index : ℕ) : Type 0 where
   pub rest : List ℕ
   pub is : flat_map (λ page. page) (slice_range pages first (first + index)) ≡ take (32 * index) bytes ++ rest
@@ -20,7 +20,7 @@ none_filled pages first bytes = record { rest = []; is = ap (λ n. flat_map (λ 
     nothing : first + 0 - first ≡ 0
     nothing = omega arith
 
--- the bytes of one page
+-- The bytes of one page.
 piece_is : (bytes : List ℕ) (start end : ℕ) → start ≤ length bytes → (end ≡ start + 32) ⊎ ((end ≡ length bytes) × (length bytes < start + 32)) → slice_range bytes start end ≡ take 32 (drop start bytes)
 piece_is bytes start end within (inl whole) = ap (λ n. take n (drop start bytes)) (let e : end - start ≡ 32 = omega arith in e)
 piece_is bytes start end within (inr last) =

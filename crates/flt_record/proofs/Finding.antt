@@ -17,7 +17,7 @@ use Rattle.flt_record.proofs.Items.{item_within}
 use Rattle.flt_record.proofs.Proper.{proper_item}
 use Rattle.flt_record.proofs.PageBytes.{content_pages}
 
--- a later record, or else the one found so far
+-- A later record, or else the one found so far.
 abbrev pub or_found : Option Entry → Option Entry → Option Entry
 or_found (Some later) found = Some later
 or_found None found = found
@@ -26,7 +26,7 @@ nothing_found : (later : Option Entry) → or_found later None ≡ later
 nothing_found (Some later) = refl
 nothing_found None = refl
 
--- the last record of the block in the log from a page on, or else the one found so far, is that of the whole log
+-- The last record of the block in the log from a page on, or else the one found so far, is that of the whole log.
 pub record Seeks (used : ℕ) (numbers : List ℕ) (pages : List (List ℕ)) (block page : ℕ) (found : Option RecordPlace) : Type 0 where
   pub left : ℕ
   pub enough : used < page + left
@@ -56,7 +56,7 @@ module _ (used : ℕ) (numbers : List ℕ) (pages : List (List ℕ)) (block : �
   }
 
   module _ (page : ℕ) (found : Option RecordPlace) (is : Seeks used numbers pages block page found) where
-    -- one item of the log
+    -- One item of the log.
     step : (left : ℕ) (at : Result Item ℕ) → item_at used numbers pages page ≡ at → log_from used numbers pages page (suc left) ≡ log_after used pages page (λ next. log_from used numbers pages next left) at
     unfolding log_from
     step left at here = ap (log_after used pages page (λ next. log_from used numbers pages next left)) here
@@ -69,7 +69,7 @@ module _ (used : ℕ) (numbers : List ℕ) (pages : List (List ℕ)) (block : �
         by_left zero enough last = absurd (omega (arith, is.below))
         by_left (suc left) enough last = last ∙ ap (λ (l : LogFrom). or_found (last_complete block l.entries) (record_found block found)) (step left (Ok End) here)
 
-    -- what the block holds, at the end of the log
+    -- What the block holds, at the end of the log.
     pub found_at : item_at used numbers pages page ≡ Ok End → IsAt pages page (held_in used numbers pages block) found
     found_at here = record { holds = ap (content_of pages) (found_last here) ∙ content_found found; inside = is.inside }
       where
@@ -97,7 +97,7 @@ module _ (used : ℕ) (numbers : List ℕ) (pages : List (List ℕ)) (block : �
           inside = farther (page + 1) (omega arith) found is.inside;
         }
 
-    -- a record that stands here
+    -- A record that stands here.
     module _ (of size : ℕ) (valid complete : Bool) (here : item_at used numbers pages page ≡ Ok (Kept of size valid complete)) where
       pub record_most : size ≤ 128
       record_most = length_most valid size (proper_item used numbers pages page of size valid complete here).kind
@@ -145,7 +145,7 @@ module _ (used : ℕ) (numbers : List ℕ) (pages : List (List ℕ)) (block : �
             inside = now_inside;
           }
 
--- the pages of the record that was found are those of what its block holds
+-- The pages of the record that was found are those of what its block holds.
 pub found_pages : (used : ℕ) (pages : List (List ℕ)) (sizes : ArePages pages) → used ≤ length pages → (block : ℕ) (found : Option RecordPlace) → IfSome found (λ place. IsPlaceWithin used place)
     → pages_of (content_of pages (record_found block found)) ≡ pages_found found
 found_pages used pages sizes most block None within = refl

@@ -13,24 +13,24 @@ use Rattle.flt_sector.specs.Log.{Entry, is_gate_of, item_by_gate, item_by_head, 
 use Rattle.flt_sector.specs.declared.log.Item.{Item}
 use Rattle.flt_sector.specs.declared.log.Item.TheVariants.{End, Torn, Kept}
 
--- the pages that an item takes
+-- The pages that an item takes.
 abbrev pub item_pages : Item → ℕ
 item_pages End = 0
 item_pages Torn = 1
 item_pages (Kept block length valid complete) = 2 + byte_pages length
 
--- the record that an item is
+-- The record that an item is.
 abbrev pub entry_of : ℕ → Item → List Entry
 entry_of page End = []
 entry_of page Torn = []
 entry_of page (Kept block length valid complete) = record { page = page; block = block; length = length; valid = valid; complete = complete } ∷ []
 
--- each record stands in the log and ends below a page
+-- Each record stands in the log and ends below a page.
 abbrev pub AllBelow : ℕ → List Entry → Type 0
 AllBelow bound [] = Unit {0}
 AllBelow bound (entry ∷ rest) = (2 ≤ entry.page) × (entry.page + 2 + byte_pages entry.length ≤ bound) × AllBelow bound rest
 
--- an item of a record takes the record's pages
+-- An item of a record takes the record's pages.
 gated_pages : (block length : ℕ) (valid : Bool) (head gate : ℕ) (code : Option (List ℕ)) (item : Item) → item_by_gate block length valid head gate code ≡ Ok item → item_pages item ≡ 2 + byte_pages length
 gated_pages block length valid head gate None item is = sym (ap pages is)
   where
@@ -81,7 +81,7 @@ module _ (used : ℕ) (numbers : List ℕ) (pages after : List (List ℕ)) (page
       by_tests false true told = told
       by_tests false false told = coded_same (unsealed (get_or pages page [])) within told
 
--- an item that is not the end lies within the used pages
+-- An item that is not the end lies within the used pages.
 module _ (used : ℕ) (numbers : List ℕ) (pages : List (List ℕ)) (page : ℕ) (item : Item) (goes_on : item ≢ End) (below : page ≤ used) where
   headed_within : (word : Option Word) → item_by_head used numbers pages page word ≡ Ok item → page + item_pages item ≤ used
   headed_within None is = absurd (cc is)

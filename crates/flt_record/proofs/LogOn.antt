@@ -12,14 +12,14 @@ use Rattle.flt_sector.specs.declared.log.Item.TheVariants.{End, Torn, Kept}
 use Rattle.flt_record.proofs.Items.{item_pages, entry_of, same_item, item_within, AllBelow}
 use Rattle.flt_record.proofs.BlankPages.{none_written, all_blank, is_blank-blank}
 
--- a log without a fault
+-- A log without a fault.
 abbrev pub sound : List Entry → ℕ → LogFrom
 sound entries end = record { entries = entries; end = end; fault = None }
 
 abbrev pub with_entries : List Entry → LogFrom → LogFrom
 with_entries entries rest = record { entries = entries ++ rest.entries; end = rest.end; fault = rest.fault }
 
--- the log of other pages that agree from page 2 to its end goes on from there
+-- The log of other pages that agree from page 2 to its end goes on from there.
 record Resumes (used : ℕ) (numbers : List ℕ) (pages after : List (List ℕ)) (page left : ℕ) (entries : List Entry) (end : ℕ) : Type 0 where
   pub rest : ℕ
   pub enough : used < end + rest
@@ -30,7 +30,7 @@ record Resumes (used : ℕ) (numbers : List ℕ) (pages after : List (List ℕ))
   pub below : AllBelow end entries
 
 module _ (used : ℕ) (numbers : List ℕ) (pages after : List (List ℕ)) where
-  -- behind an item that is not the end
+  -- Behind an item that is not the end.
   behind : (left page : ℕ) (entries : List Entry) (end : ℕ) (item : Item) → page < end → page + item_pages item ≤ end → ((k : ℕ) → page ≤ k → k < end → get_or after k [] ≡ get_or pages k [])
       → item_at used numbers pages page ≡ Ok item → log_from used numbers after page (suc left) ≡ log_after used after page (λ next. log_from used numbers after next left) (Ok item)
   unfolding log_from
@@ -91,7 +91,7 @@ module _ (used : ℕ) (numbers : List ℕ) (pages after : List (List ℕ)) where
             below = subst (AllBelow end) (ap (λ (l : LogFrom). l.entries) told) (in_log, omega (arith, on.least), on.below);
           }
 
--- a log that ends at a page
+-- A log that ends at a page.
 module _ (used : ℕ) (numbers : List ℕ) (after : List (List ℕ)) where
   pub end_here : (page : ℕ) → page ≤ used → AreBlank after page used → item_at used numbers after page ≡ Ok End
   end_here page below blank = elim (cases_eq page used) [
@@ -108,7 +108,7 @@ module _ (used : ℕ) (numbers : List ℕ) (after : List (List ℕ)) where
       ap (log_after used after page (λ next. log_from used numbers after next left)) (end_here page below blank)
       ∙ ap (λ (fault : Option ℕ). record { entries = []; end = page; fault = fault }) (none_written after (used - page) page used (omega arith) blank)
 
--- one item more
+-- One item more.
 module _ (used : ℕ) (numbers : List ℕ) (pages after : List (List ℕ)) (entries : List Entry) (end : ℕ) (begins : 2 ≤ used) (is : log used numbers pages ≡ sound entries end)
     (agree : (k : ℕ) → 2 ≤ k → k < end → get_or after k [] ≡ get_or pages k []) where
   whole : Resumes used numbers pages after 2 (used + 1) entries end

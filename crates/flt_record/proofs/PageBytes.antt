@@ -12,7 +12,7 @@ use Rattle.flt_code.specs.Word.{is_length}
 use Rattle.flt_sector.specs.Log.{Entry}
 use Rattle.flt_sector.specs.Blocks.{bytes_behind, content_of}
 
--- the bytes of pages, one behind the other
+-- The bytes of pages, one behind the other.
 abbrev pub flat : List (List ℕ) → List ℕ
 flat pages = flat_map (λ page. page) pages
 
@@ -55,7 +55,7 @@ take_less m n xs less = ext_get_or 0 (take m (take n xs)) (take m xs)
     let inside : k < m = omega (arith, lt, length-take m (take n xs)) in
     get_or-take m (take n xs) k 0 inside ∙ get_or-take n xs k 0 (omega arith) ∙ sym (get_or-take m xs k 0 inside))
 
--- a record that lies within the pages
+-- A record that lies within the pages.
 module _ (pages : List (List ℕ)) (sizes : ArePages pages) (entry : Entry) (within : entry.page + record_pages entry.length ≤ length pages) where
   abbrev behind : List (List ℕ)
   behind = slice_range pages (entry.page + 1) (entry.page + 1 + byte_pages entry.length)
@@ -81,7 +81,7 @@ module _ (pages : List (List ℕ)) (sizes : ArePages pages) (entry : Entry) (wit
       ∙ flat_page behind (range_pages pages (entry.page + 1) (entry.page + 1 + byte_pages entry.length) (omega arith) sizes) index (omega arith) m most
       ∙ ap (take m) (range_at pages (entry.page + 1) (entry.page + 1 + byte_pages entry.length) index (omega arith))
 
-  -- the pages of the record are those that its content takes
+  -- The pages of the record are those that its content takes.
   pub content_pages : is_length entry.valid entry.length ≡ true → pages_of (content_of pages (Some entry)) ≡ record_pages entry.length
   content_pages kind = by_valid entry.valid kind
     where

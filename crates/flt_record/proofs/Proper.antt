@@ -47,7 +47,7 @@ head_length : (bytes : List ℕ) (block length page : ℕ) (valid : Bool) → wo
 unfolding word_of
 head_length bytes block length page valid is = candidate_length bytes block length page valid (checked_is (candidate bytes) bytes (Head block length valid page) is)
 
--- a record's block is among the numbers, and its length is of its kind
+-- A record's block is among the numbers, and its length is of its kind.
 pub record IsProper (numbers : List ℕ) (block length : ℕ) (valid : Bool) : Type 0 where
   pub among : list_any (λ number. number == block) numbers ≡ true
   pub kind : is_length valid length ≡ true

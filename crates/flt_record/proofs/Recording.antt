@@ -23,11 +23,11 @@ on_sector before middle after sector first second one two = record {
   runs = runs_on one.runs two.runs;
 }
 
--- the pages of the sector after it was given them
+-- The pages of the sector after it was given them.
 pub pages_on : (before after : FlashState) (sector : ℕ) (pages : List (List ℕ)) → HasShape before → sector < 2 → OnSector before after sector pages → sector_at after.image sector ≡ pages
 pages_on before after sector pages shape within on = ap (λ (image : List (List (List ℕ))). sector_at image sector) on.image ∙ get_or-set_same before.image sector pages [] (omega (arith, shape.sectors))
 
--- an appended page, as asked or torn
+-- An appended page, as asked or torn.
 pub record Laid {T : Type 0} (before after : FlashState) (sector page : ℕ) (asked : List ℕ) (result : Result T FlashFailed) : Type 0 where
   pub laid : List ℕ
   pub on : OnSector before after sector (set (sector_at before.image sector) page laid)
@@ -64,7 +64,7 @@ module _ (before : FlashState) (shape : HasShape before) (sector page block : �
       let laid = laid_by before after sector page head (Err failed) is in
       record { pages = set pages page laid.laid; on = laid.on; done = tt; left = head_left laid.laid laid.word; cause = is.operation.cause }
 
-  -- the head stands
+  -- The head stands.
   module _ (middle : FlashState) (shape_middle : HasShape middle) (headed : Appends {T = Unit {0}} before middle sector page head (Ok tt)) where
     on_head : OnSector before middle sector (set pages page head)
     on_head = record { image = headed.done; wear = headed.wear; runs = one_run headed.operation }

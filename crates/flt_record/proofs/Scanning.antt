@@ -11,7 +11,7 @@ use Rattle.std.specs.Prelude.{IsErrAnd}
 use Rattle.flt_pages.specs.Told.{told, told_fault, TellsOrFails}
 use Rattle.flt_record.specs.Scan.{told_end}
 
--- the log ends, and has its fault, as it does from this page on
+-- The log ends, and has its fault, as it does from this page on.
 pub record GoesOn (used : ℕ) (numbers : List ℕ) (pages : List (List ℕ)) (page : ℕ) : Type 0 where
   pub left : ℕ
   pub enough : used < page + left
@@ -19,7 +19,7 @@ pub record GoesOn (used : ℕ) (numbers : List ℕ) (pages : List (List ℕ)) (p
   pub end : (log used numbers pages).end ≡ (log_from used numbers pages page left).end
   pub fault : (log used numbers pages).fault ≡ (log_from used numbers pages page left).fault
 
--- the item that was told
+-- The item that was told.
 pub item_told : (sector : ℕ) (found : Item) (at : Result Item ℕ) → TellsOrFails (Ok found) (told sector at) → at ≡ Ok found
 item_told sector found (Ok item) tells = ⊎_elim (λ no. absurd (cc no)) (λ same. sym (cc same)) tells
 item_told sector found (Err page) tells = ⊎_elim (λ no. absurd (cc no)) (λ no. absurd (cc no)) tells
@@ -29,7 +29,7 @@ module _ (used : ℕ) (numbers : List ℕ) (pages : List (List ℕ)) where
   from_start least = record { left = used + 1; enough = omega arith; below = least; end = refl; fault = refl }
 
   module _ (page : ℕ) (is : GoesOn used numbers pages page) where
-    -- one item of the log
+    -- One item of the log.
     step : (left : ℕ) (at : Result Item ℕ) → item_at used numbers pages page ≡ at → log_from used numbers pages page (suc left) ≡ log_after used pages page (λ next. log_from used numbers pages next left) at
     unfolding log_from
     step left at found = ap (log_after used pages page (λ next. log_from used numbers pages next left)) found
@@ -75,7 +75,7 @@ module _ (used : ℕ) (numbers : List ℕ) (pages : List (List ℕ)) where
         by_left zero enough fault = absurd (omega (arith, is.below))
         by_left (suc left) enough fault = fault ∙ ap (λ (l : LogFrom). l.fault) (step left (Err at) found)
 
--- an error that was handed on
+-- An error that was handed on.
 pub handed_on : {T : Type 0} (P : Result T PageFault → Type 0) (result : Result T PageFault) (fault : PageFault) → IsErrAnd result (λ e. e ≡ fault) → P (Err fault) → P result
 handed_on {T} P (Ok x) fault is holds = absurd is
 handed_on {T} P (Err e) fault is holds = subst (λ (f : PageFault). P (Err f)) (sym is) holds

@@ -12,7 +12,7 @@ use Rattle.flt_sector.specs.Blocks.{Current, current, bytes_behind, or_earlier, 
 use Rattle.flt_record.proofs.Finding.{length_most}
 use Rattle.flt_record.proofs.Proper.{proper_item}
 
--- a record of 128 bytes at most, if there is one
+-- A record of 128 bytes at most, if there is one.
 abbrev IsShortEntry : Option Entry → Type 0
 IsShortEntry None = Unit {0}
 IsShortEntry (Some entry) = entry.length ≤ 128

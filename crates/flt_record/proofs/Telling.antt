@@ -16,7 +16,7 @@ use Rattle.flt_record.specs.Record.{IsWhole}
 use Rattle.flt_record.proofs.Finding.{found_pages, length_most}
 use Rattle.flt_record.proofs.Values.{same_bytes}
 
--- a log that goes on
+-- A log that goes on.
 inside_on : (end last : ℕ) → end ≤ last → (found : Option RecordPlace) → IfSome found (λ place. IsInLog end place) → IfSome found (λ place. IsInLog last place)
 inside_on end last on None inside = tt
 inside_on end last on (Some place) inside = record { begun = inside.begun; within = record { below = omega (arith, inside.within.below); kind = inside.within.kind } }
@@ -27,7 +27,7 @@ farther_at pages end last on content found is = record { holds = is.holds; insid
 pub within_at : (pages : List (List ℕ)) (end : ℕ) (content : Content) (place : RecordPlace) → IsAt pages end content (Some place) → IsPlaceWithin end place
 within_at pages end content place is = is.inside.within
 
--- pages that agree below the end of the log
+-- Pages that agree below the end of the log.
 module _ (pages after : List (List ℕ)) (end : ℕ) (size : length after ≡ length pages) (agree : (k : ℕ) → 2 ≤ k → k < end → get_or after k [] ≡ get_or pages k []) where
   same_held : (found : Option RecordPlace) → IfSome found (λ place. IsInLog end place) → content_at after found ≡ content_at pages found
   same_held None inside = refl
@@ -39,7 +39,7 @@ module _ (pages after : List (List ℕ)) (end : ℕ) (size : length after ≡ le
   pub still_tells : (numbers : List ℕ) (places : List (Option RecordPlace)) (value : ℕ → Content) → TellsPlaces numbers places pages end value → TellsPlaces numbers places after end value
   still_tells numbers places value tells k within = still_at (value (get_or numbers k 0)) (get_or places k None) (tells k within)
 
--- a record that stands at the end of the log
+-- A record that stands at the end of the log.
 module _ (pages after : List (List ℕ)) (end block : ℕ) (held : List ℕ) (valid : Bool) (begun : 2 ≤ end) (kind : is_length valid (length held) ≡ true) (whole : IsWhole pages after end block held valid) where
   pub new_at : IsAt after (end + (2 + byte_pages (length held))) (asked_of valid held) (Some (record { page = end; length = length held; valid = valid }))
   new_at = record { holds = ap (asked_of valid) (sym whole.holds); inside = record { begun = begun; within = record { below = omega arith; kind = kind } } }
@@ -48,7 +48,7 @@ module _ (pages after : List (List ℕ)) (end block : ℕ) (held : List ℕ) (va
   old_at content found is =
       farther_at after end (end + (2 + byte_pages (length held))) (omega arith) content found (still_at pages after end whole.apart.size (λ j low lt. whole.apart.before j lt) content found is)
 
-  -- the table with the record noted
+  -- The table with the record noted.
   module _ (numbers : List ℕ) (places now : List (Option RecordPlace)) (value : ℕ → Content) (tells : TellsPlaces numbers places pages end value) (place : RecordPlace) (here : place ≡ record { page = end; length = length held; valid = valid })
       (noted : (k : ℕ) → k < length numbers → get_or now k None ≡ (if true && (block == get_or numbers k 0) then Some place else get_or places k None)) where
     by_test : (content : Content) (found : Option RecordPlace) (test : Bool) → IsAt after (end + (2 + byte_pages (length held))) content found
@@ -61,19 +61,19 @@ module _ (pages after : List (List ℕ)) (end block : ℕ) (held : List ℕ) (va
         subst (λ (found : Option RecordPlace). IsAt after (end + (2 + byte_pages (length held))) (given block (asked_of valid held) value (get_or numbers k 0)) found) (sym (noted k within))
         (by_test (value (get_or numbers k 0)) (get_or places k None) (block == get_or numbers k 0) (old_at (value (get_or numbers k 0)) (get_or places k None) (tells k within)))
 
--- an empty table, of blocks without a record
+-- An empty table, of blocks without a record.
 pub tells_nothing : (numbers : List ℕ) (places : List (Option RecordPlace)) (pages : List (List ℕ)) (end : ℕ) (value : ℕ → Content) → ((block : ℕ) → value block ≡ missing)
     → ((k : ℕ) → k < length numbers → get_or places k None ≡ None) → TellsPlaces numbers places pages end value
 tells_nothing numbers places pages end value nothing none k within =
     subst (λ (found : Option RecordPlace). IsAt pages end (value (get_or numbers k 0)) found) (sym (none k within)) (record { holds = nothing (get_or numbers k 0); inside = tt })
 
--- the place of a block
+-- The place of a block.
 pub told_place : (numbers : List ℕ) (places : List (Option RecordPlace)) (pages : List (List ℕ)) (end : ℕ) (value : ℕ → Content) (block : ℕ) (found : Option RecordPlace) → TellsPlaces numbers places pages end value
     → IsPlaceOf numbers places block found → IsAt pages end (value block) found
 told_place numbers places pages end value block found tells is =
     subst (λ (place : Option RecordPlace). IsAt pages end (value block) place) is.place (subst (λ n. IsAt pages end (value n) (get_or places is.index None)) is.number (tells is.index is.within))
 
--- the pages of the places are those of what the blocks hold
+-- The pages of the places are those of what the blocks hold.
 module _ (pages : List (List ℕ)) (sizes : ArePages pages) (end : ℕ) (most : end ≤ length pages) (value : ℕ → Content) where
   within_of : (found : Option RecordPlace) → IfSome found (λ place. IsInLog end place) → IfSome found (λ place. IsPlaceWithin end place)
   within_of None inside = tt
@@ -92,7 +92,7 @@ module _ (pages : List (List ℕ)) (sizes : ArePages pages) (end : ℕ) (most : 
       let rest : sum_by pages_found places ≡ sum_by (λ n. pages_of (value n)) numbers = live_told numbers places (omega (arith, size)) (λ k within. tells (suc k) (omega arith)) in
       omega (arith, sum_by-cons pages_found place places, sum_by-cons (λ n. pages_of (value n)) number numbers, here, rest)
 
-  -- no record is longer than a record may be
+  -- No record is longer than a record may be.
   pub lengths_told : (numbers : List ℕ) (places : List (Option RecordPlace)) → length places ≡ length numbers → TellsPlaces numbers places pages end value → All (λ (found : Option RecordPlace). ForSome found (λ place. place.length ≤ 128)) places
   lengths_told numbers places size tells = All-from_get_or (λ (found : Option RecordPlace). ForSome found (λ place. place.length ≤ 128)) places None
       (λ k within place same.

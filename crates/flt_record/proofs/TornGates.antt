@@ -19,14 +19,14 @@ module _ (says : Option Word → Result (Option ℕ) ℕ) (fault : ℕ) (page to
       by_test true spoiled told = absurd (cc told)
       by_test false spoiled told = sym spoiled
 
-  -- a gate without a fault stands, or is gone
+  -- A gate without a fault stands, or is gone.
   torn_gate : (number : Option ℕ) → gate_by says fault page ≡ Ok number → (gate_by says fault torn ≡ gate_by says fault page) ⊎ (gate_by says fault torn ≡ Ok None)
   torn_gate number is =
       let fresh = not_spoiled number is in
       ⊎_elim (λ same. inl (ap (gate_by says fault) same))
       (λ none. inr ((λ i. if erased_unspoiled page torn fresh tears i then Err fault else gate_by_code says (none i)))) (erased_or_none page torn fresh tears)
 
--- both gates without a fault, each as it was or gone
+-- Both gates without a fault, each as it was or gone.
 both_torn : (start active after_start after_active : Result (Option ℕ) ℕ) (number first second : Option ℕ) → both_gates start active ≡ Ok number → start ≡ Ok first → active ≡ Ok second
     → (after_start ≡ start) ⊎ (after_start ≡ Ok None) → (after_active ≡ active) ⊎ (after_active ≡ Ok None)
     → (both_gates after_start after_active ≡ both_gates start active) ⊎ (both_gates after_start after_active ≡ Ok None)
@@ -45,7 +45,7 @@ active_fine (Ok first) (Ok second) number is = (second, refl)
 active_fine (Ok first) (Err page) number is = absurd (cc is)
 active_fine (Err page) active number is = absurd (cc is)
 
--- a sector without a fault at its gates stays as valid as it was, or is valid no more
+-- A sector without a fault at its gates stays as valid as it was, or is valid no more.
 pub torn_gates : (used : ℕ) (pages torn : List (List ℕ)) (number : Option ℕ) → 2 ≤ length pages → gates_of used pages ≡ Ok number → IsTornSector pages (replicate (length pages) blank_page) torn
     → (gates_of used torn ≡ gates_of used pages) ⊎ (gates_of used torn ≡ Ok None)
 torn_gates used pages torn number size is tears =
@@ -68,7 +68,7 @@ the_sector (Ok (Some at)) = at.sector
 the_sector (Ok None) = 2
 the_sector (Err place) = 3
 
--- the current sector stays so while the other one is valid no more
+-- The current sector stays so while the other one is valid no more.
 pub first_alone : (first second : Result (Option ℕ) ℕ) (sequence : ℕ) → current_by first second ≡ Ok (Some record { sector = 0; sequence = sequence }) → current_by first (Ok None) ≡ Ok (Some record { sector = 0; sequence = sequence })
 first_alone (Err page) second sequence is = absurd (cc is)
 first_alone (Ok first) (Err page) sequence is = absurd (cc is)

@@ -9,7 +9,7 @@ use Rattle.std.proofs.lemmas.List.{ext_get_or, get_or-take, get_or-drop}
 use Rattle.flt_record.proofs.Items.{AllBelow}
 use Rattle.flt_sector.specs.Blocks.{or_earlier, last_complete, bytes_behind, content_of}
 
--- a record of the block or of another behind the others
+-- A record of the block or of another behind the others.
 pub last_more : (block : ℕ) (entries : List Entry) (entry : Entry) → last_complete block (entries ++ entry ∷ []) ≡ (if entry.complete && (entry.block == block) then Some entry else last_complete block entries)
 last_more block [] entry = refl
 last_more block (first ∷ rest) entry = ap (λ later. or_earlier later first block) (last_more block rest entry) ∙ by_test (entry.complete && (entry.block == block))
@@ -18,7 +18,7 @@ last_more block (first ∷ rest) entry = ap (λ later. or_earlier later first bl
     by_test true = refl
     by_test false = refl
 
--- pages that agree from one on, below a bound
+-- Pages that agree from one on, below a bound.
 module _ (pages after : List (List ℕ)) (first bound : ℕ) (size : length after ≡ length pages) (agree : (k : ℕ) → first ≤ k → k < bound → get_or after k [] ≡ get_or pages k []) where
   pub same_range : (from to : ℕ) → first ≤ from → to ≤ bound → slice_range after from to ≡ slice_range pages from to
   same_range from to low within = ext_get_or [] (slice_range after from to) (slice_range pages from to)
@@ -28,12 +28,12 @@ module _ (pages after : List (List ℕ)) (first bound : ℕ) (size : length afte
       get_or-take (to - from) (drop from after) k [] within_range ∙ get_or-drop from after k [] ∙ agree (from + k) (omega arith) (omega arith)
       ∙ sym (get_or-drop from pages k []) ∙ sym (get_or-take (to - from) (drop from pages) k [] within_range))
 
--- pages that agree from page 2 on, below a bound
+-- Pages that agree from page 2 on, below a bound.
 module _ (pages after : List (List ℕ)) (bound : ℕ) (size : length after ≡ length pages) (agree : (k : ℕ) → 2 ≤ k → k < bound → get_or after k [] ≡ get_or pages k []) where
   pub same_bytes : (entry : Entry) → 2 ≤ entry.page → entry.page + 2 + byte_pages entry.length ≤ bound → bytes_behind after entry ≡ bytes_behind pages entry
   same_bytes entry low within = ap (λ (l : List (List ℕ)). take entry.length (flat_map (λ page. page) l)) (same_range pages after 2 bound size agree (entry.page + 1) (entry.page + 1 + byte_pages entry.length) (omega arith) (omega arith))
 
-  -- the last complete record lies below the bound too
+  -- The last complete record lies below the bound too.
   last_below : (block : ℕ) (entries : List Entry) → AllBelow bound entries → content_of after (last_complete block entries) ≡ content_of pages (last_complete block entries)
   last_below block [] below = refl
   last_below block (entry ∷ rest) below = by_later (last_complete block rest) (last_below block rest below.2)

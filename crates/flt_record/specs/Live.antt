@@ -5,10 +5,10 @@ use Rattle.flt_flash.specs.Blocks.{pages_of}
 use Rattle.flt_sector.specs.Log.{log}
 use Rattle.flt_sector.specs.Blocks.{content_of, last_complete}
 
--- what a block holds by the log of a sector
+-- What a block holds by the log of a sector.
 abbrev pub held_in : ℕ → List ℕ → List (List ℕ) → ℕ → Content
 held_in used numbers pages block = content_of pages (last_complete block (log used numbers pages).entries)
 
--- the pages of the current records of all blocks
+-- The pages of the current records of all blocks.
 abbrev pub current_pages : ℕ → List ℕ → List (List ℕ) → ℕ
 current_pages used numbers pages = sum_by (λ number. pages_of (held_in used numbers pages number)) numbers

@@ -6,31 +6,31 @@ use Rattle.flt_code.specs.declared.words.Word.TheVariants.{Head, Gate}
 use Rattle.flt_flash.specs.Blocks.{byte_pages}
 use Rattle.flt_sector.specs.Blocks.{bytes_behind}
 
--- all pages but those from one to another are as they were
+-- All pages but those from one to another are as they were.
 pub record KeptApart (pages after : List (List ℕ)) (from to : ℕ) : Type 0 where
   pub size : length after ≡ length pages
   pub before : (k : ℕ) → k < from → slice_index_or after k [] ≡ slice_index_or pages k []
   pub behind : (k : ℕ) → to ≤ k → slice_index_or after k [] ≡ slice_index_or pages k []
 
--- the head is torn, and no code word
+-- The head is torn, and no code word.
 pub record IsTornAtHead (pages after : List (List ℕ)) (page : ℕ) : Type 0 where
   pub apart : KeptApart pages after page (page + 1)
   pub torn : unsealed (slice_index_or after page []) ≡ None
 
--- the head stands, and no gate
+-- The head stands, and no gate.
 pub record IsOpen (pages after : List (List ℕ)) (page block length : ℕ) (valid : Bool) : Type 0 where
   pub apart : KeptApart pages after page (page + 2 + byte_pages length)
   pub head : slice_index_or after page [] ≡ sealed (word_bytes (Head block length valid page))
   pub gate : unsealed (slice_index_or after (page + 1 + byte_pages length) []) ≡ None
 
--- head, bytes and gate stand
+-- Head, bytes and gate stand.
 pub record IsWhole (pages after : List (List ℕ)) (page block : ℕ) (bytes : List ℕ) (valid : Bool) : Type 0 where
   pub apart : KeptApart pages after page (page + 2 + byte_pages (length bytes))
   pub head : slice_index_or after page [] ≡ sealed (word_bytes (Head block (length bytes) valid page))
   pub gate : slice_index_or after (page + 1 + byte_pages (length bytes)) [] ≡ sealed (word_bytes (Gate block page))
   pub holds : bytes_behind after (record { page = page; block = block; length = length bytes; valid = valid; complete = true }) ≡ bytes
 
--- whatever a record that is being appended may leave
+-- Whatever a record that is being appended may leave.
 abbrev pub RecordLeft : List (List ℕ) → List (List ℕ) → ℕ → ℕ → List ℕ → Bool → Type 0
 RecordLeft pages after page block bytes valid = IsTornAtHead pages after page ⊎ IsOpen pages after page block (length bytes) valid
     ⊎ IsWhole pages after page block bytes valid

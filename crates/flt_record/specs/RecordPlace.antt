@@ -8,49 +8,49 @@ use Rattle.flt_sector.specs.Blocks.{bytes_behind}
 use Rattle.flt_record.specs.LogHolds.{asked_of}
 use Rattle.flt_record.specs.declared.place.RecordPlace.{RecordPlace}
 
--- the complete record of a block that stands at a place
+-- The complete record of a block that stands at a place.
 abbrev pub record_at : ℕ → RecordPlace → Entry
 record_at block place = record { page = place.page; block = block; length = place.length; valid = place.valid; complete = true }
 
--- the complete record of a block, where there is one
+-- The complete record of a block, where there is one.
 abbrev pub record_found : ℕ → Option RecordPlace → Option Entry
 record_found block None = None
 record_found block (Some place) = Some (record_at block place)
 
--- a record at this place lies below a page, and has a length of its kind
+-- A record at this place lies below a page, and has a length of its kind.
 pub record IsPlaceWithin (bound : ℕ) (place : RecordPlace) : Type 0 where
   pub below : place.page + record_pages place.length ≤ bound
   pub kind : is_length place.valid place.length ≡ true
 
--- the bytes of the record at a place
+-- The bytes of the record at a place.
 abbrev pub bytes_at : List (List ℕ) → RecordPlace → List ℕ
 bytes_at pages place = bytes_behind pages (record_at 0 place)
 
--- the pages of the record that was found
+-- The pages of the record that was found.
 abbrev pub pages_found : Option RecordPlace → ℕ
 pages_found None = 0
 pages_found (Some place) = record_pages place.length
 
--- a record at this place lies in the log that ends at a page
+-- A record at this place lies in the log that ends at a page.
 pub record IsInLog (end : ℕ) (place : RecordPlace) : Type 0 where
   pub begun : 2 ≤ place.page
   pub within : IsPlaceWithin end place
 
--- what the record at a place holds, or nothing yet
+-- What the record at a place holds, or nothing yet.
 abbrev pub content_at : List (List ℕ) → Option RecordPlace → Content
 content_at pages None = missing
 content_at pages (Some place) = asked_of place.valid (bytes_at pages place)
 
--- a block of this content has its current record at this place of the log that ends at a page, or has none
+-- A block of this content has its current record at this place of the log that ends at a page, or has none.
 pub record IsAt (pages : List (List ℕ)) (end : ℕ) (content : Content) (found : Option RecordPlace) : Type 0 where
   pub holds : content ≡ content_at pages found
   pub inside : IfSome found (λ place. IsInLog end place)
 
--- the place of each number, in the order of the numbers, tells what its block holds
+-- The place of each number, in the order of the numbers, tells what its block holds.
 abbrev pub TellsPlaces : List ℕ → List (Option RecordPlace) → List (List ℕ) → ℕ → (ℕ → Content) → Type 0
 TellsPlaces numbers places pages end value = (k : ℕ) → k < length numbers → IsAt pages end (value (slice_index_or numbers k 0)) (slice_index_or places k None)
 
--- the place of a block in the table
+-- The place of a block in the table.
 pub record IsPlaceOf (numbers : List ℕ) (places : List (Option RecordPlace)) (block : ℕ) (found : Option RecordPlace) : Type 0 where
   pub index : ℕ
   pub within : index < length numbers

@@ -7,13 +7,13 @@ use Rattle.flt_flash.specs.declared.flash.FlashFailed.{FlashFailed}
 use Rattle.flt_flash.specs.Blocks.{byte_pages}
 use Rattle.flt_record.specs.Record.{KeptApart, IsWhole, RecordLeft}
 
--- this sector has these pages, and all else of the image is as it was
+-- This sector has these pages, and all else of the image is as it was.
 pub record OnSector (before after : FlashState) (sector : ℕ) (pages : List (List ℕ)) : Type 0 where
   pub image : after.image ≡ slice_set before.image sector pages
   pub wear : after.wear ≡ before.wear
   pub runs : MakesOperations before after
 
--- the pages of plain bytes behind a head
+-- The pages of plain bytes behind a head.
 pub record Fills {T : Type 0} (before after : FlashState) (sector first : ℕ) (bytes : List ℕ) (result : Result T FlashFailed) : Type 0 where
   pub pages : List (List ℕ)
   pub on : OnSector before after sector pages
@@ -21,7 +21,7 @@ pub record Fills {T : Type 0} (before after : FlashState) (sector first : ℕ) (
   pub done : OnOk result (take (length bytes) (flat_map (λ page. page) (slice_range pages first (first + byte_pages (length bytes)))) ≡ bytes)
   pub cause : OnErr result (HasRisenBy 1 before.faults after.faults)
 
--- a record at this page: whole after Ok, and else whole, without its gate, or a torn head
+-- A record at this page: whole after Ok, and else whole, without its gate, or a torn head.
 pub record Records {T : Type 0} (before after : FlashState) (sector page block : ℕ) (bytes : List ℕ) (valid : Bool)
     (result : Result T FlashFailed) : Type 0 where
   pub pages : List (List ℕ)

@@ -18,7 +18,7 @@ use Rattle.flt_restore.specs.declared.fault.StartFault.{StartFault}
 use Rattle.flt_restore.specs.Found.{size_found}
 use Rattle.flt_restore.specs.Judging.{as_told, application_judged, beyond, beyond_of_part, beyond_of_parts, beyond_of_applications}
 
--- the first number of a range that passes a test
+-- The first number of a range that passes a test.
 first_found : (test : ℕ → Bool) (first count k : ℕ) → k < count → ((j : ℕ) → j < k → test (first + j) ≡ false) → test (first + k) ≡ true → find test (range_with_len first count) ≡ Some (first + k)
 first_found test first zero k below fails passes = absurd (omega (arith, below))
 first_found test first (suc count) zero below fails passes =
@@ -51,7 +51,7 @@ module _ (value : ℕ → Content) where
   all_fine : ((block : ℕ) → block < applications → application_judged value block ≡ Ok tt) → applications_judged value ≡ Ok tt
   all_fine judged = fine_applications value (λ block below. fine block (judged block below))
 
-  -- the first block at fault is that of all
+  -- The first block at fault is that of all.
   first_fault : (block : ℕ) → block < applications → ((before : ℕ) → before < block → application_judged value before ≡ Ok tt) → is_application (value (application_number block)) ≡ false
       → applications_judged value ≡ application_judged value block
   unfolding applications_judged
@@ -112,7 +112,7 @@ module _ (c : Config) (value : ℕ → Content) where
   unfolding beyond_of_parts
   no_parts = refl
 
-  -- the excess is the sum over the mark, the copies of the commit, the parts and the application blocks
+  -- The excess is the sum over the mark, the copies of the commit, the parts and the application blocks.
   pub excess_is : excess c value ≡ beyond c value 8 + (beyond c value 16 + beyond c value 17) + beyond_of_parts c value parts + beyond_of_applications c value applications
   unfolding numbers beyond_of_parts beyond_of_applications
   excess_is =
@@ -125,7 +125,7 @@ module _ (c : Config) (value : ℕ → Content) where
       let applications = mapped_sum f application_number 0 40 in
       omega (arith, whole, front, parts, applications)
 
--- what a read would find of a short content has 128 bytes at most
+-- What a read would find of a short content has 128 bytes at most.
 pub short_found : (content : Content) (found : Found) → found ≡ found_of content → IsShort content → size_found found ≤ 128
 short_found content found is short = subst (λ (f : Found). size_found f ≤ 128) (sym is) (by_content content short)
   where

@@ -55,7 +55,7 @@ image_unread_from c before middle after so_far same (inl mark) = inl (fails_from
 image_unread_from c before middle after so_far same (inr (inl commit)) = inr (inl (commit_unread_from before middle after so_far same commit))
 image_unread_from c before middle after so_far same (inr (inr part)) = inr (inr (part_unread_from c before middle after so_far part))
 
--- a fault that is handed on was the fault of the step
+-- A fault that is handed on was the fault of the step.
 pub was_flash : {T U : Type 0} (result : Result T StartFault) (fault : StartFault) → IsErrAnd result (λ e. e ≡ fault) → IsErrOf result Flash → IsErrOf {T = U} (Err fault) Flash
 was_flash (Ok value) fault is flash = absurd is
 was_flash (Err e) fault is flash = cc

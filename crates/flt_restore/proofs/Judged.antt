@@ -53,7 +53,7 @@ only_itself missing has = absurd has
 only_itself invalid has = absurd has
 only_itself (bytes raw) has = refl
 
--- what counts as the commit does so from an earlier state on
+-- What counts as the commit does so from an earlier state on.
 pub source_from : (start before after : BlocksState) (content : Content) (copy : ℕ) → Reads start before → IsSource before after content copy → IsSource start after content copy
 source_from start before after content copy reads source = elim source [
   | inl either ↦ inl (

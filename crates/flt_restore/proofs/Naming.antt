@@ -46,7 +46,7 @@ module _ (c : Config) (value : ℕ → Content) where
 pub read_form : (c : Config) (raw : List ℕ) (commit : Commit) → Some commit ≡ commit_in c raw → IsCommit c commit × IsBytesOfCommit commit raw
 read_form c raw commit is = (commits_are_read c raw commit).0 (sym is)
 
--- the steps of an image
+-- The steps of an image.
 module _ (c : Config) (value : ℕ → Content) (commit : Content) where
   abbrev with_excess : Generation → Unit {0} → Result Generation Fault
   with_excess g _ = excess_judged c value >>= (λ _. Ok g)

@@ -22,14 +22,14 @@ mark_is_single = subst (λ (row : Option BlockCfg). IsSomeAnd row (λ block. IsI
 pub part_is_single : (id index : ℕ) → first_part ≤ id → id < end_part → index ≤ 1 → IsSingle id index
 part_is_single id index low high small = subst (λ (row : Option BlockCfg). IsSomeAnd row (λ block. IsIndexOf block.kind index)) (sym (part_row id low high)) (omega (arith, small))
 
--- an index at which a commit names a used block
+-- An index at which a commit names a used block.
 pub named_is_single : (c : Config) (commit : Commit) → IsCommit c commit → (id : ℕ) → first_part ≤ id → id < end_part → IsTrue (is_used c id) → IsSingle id (index_in commit id)
 named_is_single c commit form id low high used = part_is_single id (index_in commit id) low high ((form.indices id low high).used used)
 
 pub application_is_single : (block : ℕ) → block < applications → IsSingle (first_application + block) 0
 application_is_single block within = subst (λ (row : Option BlockCfg). IsSomeAnd row (λ block. IsIndexOf block.kind 0)) (sym (application_row block within)) (omega arith)
 
--- a block of one copy has the place of each of its indices
+-- A block of one copy has the place of each of its indices.
 pub single_has_place : (id index : ℕ) → IsSingle id index → HasPlace block_table id index
 single_has_place id index single = by_found (block_in block_table id) single
   where
@@ -42,6 +42,6 @@ single_has_place id index single = by_found (block_in block_table id) single
     by_found None is = is
     by_found (Some block) is = by_kind block.kind is
 
--- the commit has the places of both copies
+-- The commit has the places of both copies.
 pub commit_has_place : (place : ℕ) → place ≤ 1 → HasPlace block_table commit_id place
 commit_has_place place small = subst (λ (row : Option BlockCfg). IsSomeAnd row (λ block. place < numbers_taken block.kind)) (sym commit_row) (omega (arith, small))

@@ -20,7 +20,7 @@ module _ (c : Config) (value : ℕ → Content) (commit : Commit) where
   unfolding parts_read
   one_more count out next is took = ap (λ (r : Result Persist Fault). r >>= with_named c value commit (first_part + count)) is ∙ took
 
-  -- a fault stays to the end
+  -- A fault stays to the end.
   stops : (count total : ℕ) (fault : Fault) → count ≤ total → parts_read c value commit count ≡ Err fault → parts_read c value commit total ≡ Err fault
   unfolding parts_read
   stops count zero fault within is = let none : count ≡ 0 = omega (arith, within) in subst (λ (n : ℕ). parts_read c value commit n ≡ Err fault) none is
@@ -35,7 +35,7 @@ module _ (c : Config) (value : ℕ → Content) (commit : Commit) where
   tells_all before after count (OtherConfig found wanted) within tells = (stops count parts _ within tells.0, tells.1)
   tells_all before after count SequenceSpent within tells = absurd tells
 
-  -- a fault of one part is that of all
+  -- A fault of one part is that of all.
   fault_of_all : (before after : BlocksState) (count : ℕ) (out : Persist) (fault : StartFault) → count < parts → parts_read c value commit count ≡ Ok out
       → Tells c before after (with_named c value commit (first_part + count) out) fault → Tells c before after (parts_read c value commit parts) fault
   unfolding parts_read

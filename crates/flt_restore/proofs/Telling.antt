@@ -24,7 +24,7 @@ more_reads first second third one two = record {
   spent = two.spent ∙ one.spent;
 }
 
--- reads leave one map of contents
+-- Reads leave one map of contents.
 pub same_values : (before after : BlocksState) → Reads before after → after.value ≡ before.value
 same_values before after reads = λ i block. reads.values block i
 
@@ -34,12 +34,12 @@ rises before middle after reads rose = omega (arith, reads.follows.counts, rose)
 pub stays_risen : (before middle after : BlocksState) → HasRisenBy 3 before.device.faults middle.device.faults → Reads middle after → HasRisenBy 3 before.device.faults after.device.faults
 stays_risen before middle after rose reads = omega (arith, reads.follows.counts, rose)
 
--- what is told of one fault is told of what hands it on
+-- What is told of one fault is told of what hands it on.
 pub handed_on : {T : Type 0} (P : StartFault → Type 0) (result : Result T StartFault) (fault : StartFault) → IsErrAnd result (λ e. e ≡ fault) → P fault → IfErr result P
 handed_on P (Ok value) fault is holds = absurd is
 handed_on P (Err e) fault is holds = subst P (sym is) holds
 
--- the fault of a first step is that of the whole
+-- The fault of a first step is that of the whole.
 pub tells_first : {A B : Type 0} (c : Config) (before after : BlocksState) (judged : Result A Fault) (next : A → Result B Fault) (fault : StartFault)
     → Tells c before after judged fault → Tells c before after (judged >>= next) fault
 tells_first {A} {B} c before after judged next Flash tells = tells
@@ -47,12 +47,12 @@ tells_first {A} {B} c before after judged next (Damaged place) tells = ap (λ (r
 tells_first {A} {B} c before after judged next (OtherConfig found wanted) tells = (ap (λ (r : Result A Fault). r >>= next) tells.0, tells.1)
 tells_first {A} {B} c before after judged next SequenceSpent tells = absurd tells
 
--- and that of the next one, where the first had none
+-- And that of the next one, where the first had none.
 pub tells_next : {A B : Type 0} (c : Config) (before after : BlocksState) (judged : Result A Fault) (next : A → Result B Fault) (value : A) (fault : StartFault)
     → judged ≡ Ok value → Tells c before after (next value) fault → Tells c before after (judged >>= next) fault
 tells_next {A} {B} c before after judged next value fault is tells = subst (λ (r : Result A Fault). Tells c before after (r >>= next) fault) (sym is) tells
 
--- a fault that is told later is told from the beginning
+-- A fault that is told later is told from the beginning.
 pub tells_from : {A : Type 0} (c : Config) (before middle after : BlocksState) (judged : Result A Fault) (fault : StartFault)
     → Reads before middle → Tells c middle after judged fault → Tells c before after judged fault
 tells_from c before middle after judged Flash reads tells = rises before middle after reads tells
@@ -60,7 +60,7 @@ tells_from c before middle after judged (Damaged place) reads tells = tells
 tells_from c before middle after judged (OtherConfig found wanted) reads tells = tells
 tells_from c before middle after judged SequenceSpent reads tells = absurd tells
 
--- what was judged without a read is told as it is
+-- What was judged without a read is told as it is.
 pub tells_judged : {A : Type 0} (c : Config) (before after : BlocksState) (judged : Result A Fault) (fault : StartFault) → Err fault ≡ as_told c judged → Tells c before after judged fault
 tells_judged {A} c before after (Ok value) fault is = absurd (cc)
 tells_judged {A} c before after (Err (damaged place)) fault is =
@@ -76,12 +76,12 @@ pub judged_ok : {A : Type 0} (c : Config) (judged : Result A Fault) (value : A) 
 judged_ok {A} c (Ok found) value is = cc
 judged_ok {A} c (Err fault) value is = absurd (cc)
 
--- an answer that hands on a fault is the one that has it
+-- An answer that hands on a fault is the one that has it.
 pub handed_as : {T : Type 0} (result answer : Result T StartFault) (fault : StartFault) → IsErrAnd result (λ e. e ≡ fault) → Err fault ≡ answer → result ≡ answer
 handed_as (Ok value) answer fault is same = absurd is
 handed_as {T} (Err e) answer fault is same = let the_err : StartFault → Result T StartFault = λ f. Err f in ap the_err is ∙ same
 
--- what is told of the fault of an answer is told of each fault that it is
+-- What is told of the fault of an answer is told of each fault that it is.
 pub each_fault : {T : Type 0} (P : StartFault → Type 0) (result : Result T StartFault) → IfErr result P → (fault : StartFault) → result ≡ Err fault → P fault
 each_fault P (Ok value) holds fault is = absurd (cc is)
 each_fault P (Err told) holds fault is = let same : told ≡ fault = cc is in subst P same holds

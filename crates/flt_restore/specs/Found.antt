@@ -14,25 +14,25 @@ use Rattle.flt_image.specs.Table.{block_table}
 use Rattle.flt_restore.specs.declared.content.Held.{Held}
 use Rattle.flt_restore.specs.declared.content.Held.TheVariants.{Missing, Invalid, Bytes}
 
--- what a block holds, by what was read of it
+-- What a block holds, by what was read of it.
 abbrev pub content_of : Held → Content
 content_of Missing = missing
 content_of Invalid = invalid
 content_of (Bytes raw) = bytes raw.items
 
--- the bytes that a read would find
+-- The bytes that a read would find.
 abbrev pub size_found : Found → ℕ
 size_found (FoundBytes length) = length
 size_found FoundMissing = 0
 size_found FoundInvalid = 0
 
--- a read gave no more bytes than a block has
+-- A read gave no more bytes than a block has.
 abbrev pub IsShortRead : Got → Type 0
 IsShortRead (GotBytes length copy) = length ≤ 128
 IsShortRead GotMissing = Unit {0}
 IsShortRead GotInvalid = Unit {0}
 
--- a block of one copy, and an index that it has
+-- A block of one copy, and an index that it has.
 abbrev pub IsIndexOf : Kind → ℕ → Type 0
 IsIndexOf Native index = index < 1
 IsIndexOf Redundant index = ⊥
@@ -41,7 +41,7 @@ IsIndexOf (Dataset indices) index = index < indices
 abbrev pub IsSingle : ℕ → ℕ → Type 0
 IsSingle id index = IsSomeAnd (block_in block_table id) (λ block. IsIndexOf block.kind index)
 
--- any number of reads, which change no block and use no sequence number; they leave the image of a driver that is not stale
+-- Any number of reads, which change no block and use no sequence number; they leave the image of a driver that is not stale.
 pub record Reads (before after : BlocksState) : Type 0 where
   pub values : SameValues before after
   pub follows : Follows before after

@@ -14,7 +14,7 @@ use Rattle.flt_restore.specs.Restored.{HasBytes}
 use Rattle.flt_restore.specs.declared.fault.StartFault.{StartFault}
 use Rattle.flt_restore.specs.declared.fault.StartFault.TheVariants.{Flash, Damaged, OtherConfig, SequenceSpent}
 
--- a start-up's answer for a fault of the image
+-- A start-up's answer for a fault of the image.
 abbrev pub told_as : Config → Fault → StartFault
 told_as c (damaged place) = Damaged place
 told_as c (other mark) = OtherConfig mark (mark_of c)
@@ -23,14 +23,14 @@ abbrev pub as_told : {A : Type 0} → Config → Result A Fault → Result A Sta
 as_told c (Ok value) = Ok value
 as_told c (Err fault) = Err (told_as c fault)
 
--- a step's fault by its cause: three faults of the flash, or what was judged
+-- A step's fault by its cause: three faults of the flash, or what was judged.
 abbrev pub Tells : {A : Type 0} → Config → BlocksState → BlocksState → Result A Fault → StartFault → Type 0
 Tells c before after judged Flash = HasRisenBy 3 before.device.faults after.device.faults
 Tells c before after judged (Damaged place) = judged ≡ Err (damaged place)
 Tells c before after judged (OtherConfig found wanted) = (judged ≡ Err (other found)) × (wanted ≡ mark_of c)
 Tells c before after judged SequenceSpent = ⊥
 
--- the pages that a number's record takes beyond the configuration's own
+-- The pages that a number's record takes beyond the configuration's own.
 abbrev pub beyond : Config → (ℕ → Content) → ℕ → ℕ
 beyond c value number = pages_of (value number) - own_pages c number
 
@@ -43,20 +43,20 @@ beyond_of_parts c value count = sum_by (beyond_of_part c value) (range_with_len 
 unfoldable pub beyond_of_applications : Config → (ℕ → Content) → ℕ → ℕ
 beyond_of_applications c value count = sum_by (λ block. beyond c value (application_number block)) (range_with_len 0 count)
 
--- one application block
+-- One application block.
 abbrev pub application_judged : (ℕ → Content) → ℕ → Result (Unit {0}) Fault
 application_judged value block = if is_application (value (application_number block)) then Ok tt else damaged_at (first_application + block)
 
--- a commit was read from these bytes of this copy; none where the copy is missing
+-- A commit was read from these bytes of this copy; none where the copy is missing.
 abbrev pub IsReadFrom : Content → ℕ → Option CommitCopy → Type 0
 IsReadFrom content copy None = content ≡ missing
 IsReadFrom content copy (Some found) = (found.copy ≡ copy) × (content ≡ bytes found.bytes.items) × IsBytesOfCommit found.commit found.bytes.items
 
--- the bytes are those of the copy that is told, the first or the second
+-- The bytes are those of the copy that is told, the first or the second.
 abbrev pub IsOfCopy : Content → Content → Content → ℕ → Type 0
 IsOfCopy first second content copy = (raw : List ℕ) → content ≡ bytes raw → ((copy ≡ 1) × (first ≡ bytes raw)) ⊎ ((copy ≡ 2) × (second ≡ bytes raw))
 
--- this content is that of the copy of the commit that counts; or that of the second, which has bytes, where the flash failed three times
+-- This content is that of the copy of the commit that counts; or that of the second, which has bytes, where the flash failed three times.
 abbrev pub IsSource : BlocksState → BlocksState → Content → ℕ → Type 0
 IsSource before after content copy =
     ((content ≡ either_copy (before.value first_commit) (before.value second_commit))

@@ -8,18 +8,18 @@ use Rattle.flt_generation.specs.declared.commit.Commit.{Commit}
 use Rattle.flt_generation.specs.Layout.{number_of, index_in, is_used}
 use Rattle.flt_image.specs.Blocks.{longest}
 
--- the bytes of a content that may be those of a block of a state; none where it has none or more
+-- The bytes of a content that may be those of a block of a state; none where it has none or more.
 abbrev pub part_in : Content → List ℕ
 part_in missing = []
 part_in invalid = []
 part_in (bytes held) = if nat_le (length held) longest then held else []
 
--- the bytes of a used block at the index at which the commit names it; or nothing, where the flash failed three times
+-- The bytes of a used block at the index at which the commit names it; or nothing, where the flash failed three times.
 abbrev pub IsLearned : Config → BlocksState → BlocksState → Commit → ℕ → List ℕ → Type 0
 IsLearned c before after commit id found =
     IsTrue (is_used c id)
     → (found ≡ part_in (before.value (number_of id (index_in commit id)))) ⊎ ((found ≡ []) × HasRisenBy 3 before.device.faults after.device.faults)
 
--- those of each block
+-- Those of each block.
 abbrev pub AreLearned : Config → BlocksState → BlocksState → Commit → (ℕ → List ℕ) → Type 0
 AreLearned c before after commit found = (id : ℕ) → IsLearned c before after commit id (found id)

@@ -9,7 +9,7 @@ use Rattle.flt_nvm.specs.Reads.{LooksInAJob}
 use Rattle.flt_config.specs.declared.config.Config.{Config}
 use Rattle.flt_generation.specs.Layout.{mark_number, first_commit, second_commit, number_of, is_used}
 
--- among these calls three reads of a number in a row were failed by the flash
+-- Among these calls three reads of a number in a row were failed by the flash.
 pub record FailsToRead (number : ℕ) (before after : BlocksState) : Type 0 where
   pub first : BlocksState
   pub last : BlocksState
@@ -17,14 +17,14 @@ pub record FailsToRead (number : ℕ) (before after : BlocksState) : Type 0 wher
   pub fails : LooksInAJob {T = Got} number first last (Err Flash)
   pub later : Follows last after
 
--- the first copy of the commit could not be read, and the second has no bytes or could not be read either; or the first has none, and
--- the second could not be read
+-- The first copy of the commit could not be read, and the second has no bytes or could not be read either; or the first has none, and
+-- the second could not be read.
 abbrev pub IsCommitUnread : BlocksState → BlocksState → Type 0
 IsCommitUnread before after =
     (FailsToRead first_commit before after × (HasNoBytes (before.value second_commit) ⊎ FailsToRead second_commit before after))
     ⊎ (HasNoBytes (before.value first_commit) × FailsToRead second_commit before after)
 
--- a used block could not be read
+-- A used block could not be read.
 pub record IsPartUnread (c : Config) (before after : BlocksState) : Type 0 where
   pub id : ℕ
   pub index : ℕ
@@ -32,6 +32,6 @@ pub record IsPartUnread (c : Config) (before after : BlocksState) : Type 0 where
   pub small : index ≤ 1
   pub fails : FailsToRead (number_of id index) before after
 
--- the mark, the commit or a used block could not be read
+-- The mark, the commit or a used block could not be read.
 abbrev pub IsImageUnread : Config → BlocksState → BlocksState → Type 0
 IsImageUnread c before after = FailsToRead mark_number before after ⊎ IsCommitUnread before after ⊎ IsPartUnread c before after

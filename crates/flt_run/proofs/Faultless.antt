@@ -8,11 +8,11 @@ use Rattle.flt_run.specs.declared.command.Command.{Command}
 use Rattle.flt_run.specs.declared.command.Command.TheVariants.{Run, Check, Load}
 use Rattle.flt_run.specs.Ending.{Inside, Outside, IsFaultless, StatusesHaveCauses, is_among, read_of}
 
--- a number that is among some is the first of them, or among the others
+-- A number that is among some is the first of them, or among the others.
 first_or_later : (status one : ℕ) (rest : List ℕ) → IsTrue (is_among status (one ∷ rest)) → (one ≡ status) ⊎ IsTrue (is_among status rest)
 first_or_later status one rest among = ⊎_elim (λ yes. inl (eqb-true one status yes)) (λ no. inr (rw no at among)) (cases_Bool (one == status))
 
--- the bytes are told, and are a script
+-- The bytes are told, and are a script.
 told_script : {P : Type 0} (dids : List DidUse) (left : Option (List ℕ)) → IsSomeAnd left (λ bytes. IsOk (script_of dids (read_of bytes)))
     → IfSome left (λ bytes. IsOk (script_of dids (read_of bytes)) → P) → P
 told_script dids None good then_ = absurd good

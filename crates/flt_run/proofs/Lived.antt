@@ -34,7 +34,7 @@ views_not_flash c medium arms earlier next (boot ∷ boots) [] linked = absurd l
 views_not_flash c medium arms earlier next (boot ∷ boots) (life ∷ lives) linked =
     All-cons (λ (l : LifeView). l.boot ≢ Refused Flash) life lives (not_flash c (moment_at medium boot) (moment_at medium next) _ life linked.0) (views_not_flash c medium arms earlier boot boots lives linked.1)
 
--- the same of the lives in their order
+-- The same of the lives in their order.
 pub all_of_views : (P : Boot → Type 0) (script : List (List (PartOf Step))) (lives : List Life) → All (λ (life : LifeView). P life.boot) (views_of script lives) → All (λ (life : Life). P life.boot) lives
 all_of_views P script [] all = All-nil _
 all_of_views P [] (life ∷ rest) all =
@@ -49,7 +49,7 @@ turned P [] all = all
 turned P (one ∷ rest) all =
     subst (All P) (sym (reverse-append (one ∷ []) rest)) (All-append P (reverse rest) (one ∷ []) (turned P rest (All-tail P one rest all)) (All-cons P one [] (All-head P one rest all) (All-nil P)))
 
--- what holds of how each life began, as the lives are seen, holds so of the lives
+-- What holds of how each life began, as the lives are seen, holds so of the lives.
 pub all_of_seen : (P : Boot → Type 0) (script : List (List (PartOf Step))) (lives : List Life) → All (λ (life : LifeView). P life.boot) (lives_seen script lives) → All (λ (life : Life). P life.boot) lives
 all_of_seen P script lives all =
     all_of_views P script lives (subst (All (λ (life : LifeView). P life.boot)) (reverse-reverse (views_of script lives)) (turned (λ (life : LifeView). P life.boot) (lives_seen script lives) all))
@@ -60,7 +60,7 @@ none_by_flash c medium arms earlier next boots script lives linked = all_of_seen
 
 -- ---- the lives of a script
 
--- a script that was lived has a life
+-- A script that was lived has a life.
 pub some_lives : (script : List (List (PartOf Step))) (made : Made) → lists made.script.items ≡ script → 0 < length script
 some_lives script made is =
     let size = made.script.ok.0 in

@@ -11,11 +11,11 @@ use Rattle.flt_life.specs.Answers.{Told}
 use Rattle.flt_report.specs.Answer.{step_line}
 use Rattle.flt_run.specs.Report.{block_text, parts_text}
 
--- those of the parts from an index on, where so many steps of lane 0 and so many lanes are told
+-- Those of the parts from an index on, where so many steps of lane 0 and so many lanes are told.
 abbrev pub parts_left : List Part → List Told → List (List Told) → ℕ → ℕ → ℕ → List ℕ
 parts_left parts own told index answered lanes = parts_text (lanes + 1) (parts_of (drop index parts)) (drop answered own) (drop lanes told)
 
--- the elements from an index on, as a range of them
+-- The elements from an index on, as a range of them.
 pub range_is : {A : Type 0} (n : ℕ) (xs : List A) → take (length xs - n) (drop n xs) ≡ drop n xs
 range_is n xs = let size = length-drop n xs in take_all (length xs - n) (drop n xs) (omega (arith, size))
 
@@ -26,7 +26,7 @@ next_told : (own : List Told) (answered : ℕ) → answered < length own → dro
 next_told own answered within = rw (drop-cons own answered answers.Dark within, add-one) refl
 
 module _ (parts : List Part) (own : List Told) (told : List (List Told)) (index answered lanes : ℕ) where
-  -- no part is left
+  -- No part is left.
   pub none_left : length parts ≤ index → parts_left parts own told index answered lanes ≡ []
   unfolding parts_text
   none_left past = rw (drop_of_length-le parts past) refl
@@ -35,18 +35,18 @@ module _ (parts : List Part) (own : List Told) (told : List (List Told)) (index 
     first : parts_of (drop index parts) ≡ part_of part ∷ parts_of (drop (index + 1) parts)
     first = rw (drop-cons parts index part there, sym is, add-one) refl
 
-    -- the next part is a step of lane 0 that was not answered
+    -- The next part is a step of lane 0 that was not answered.
     pub unanswered : (step : Step) → part_of part ≡ inl step → length own ≤ answered → parts_left parts own told index answered lanes ≡ []
     unfolding parts_text
     unanswered step one past = rw (first, one, drop_of_length-le own past) refl
 
-    -- the next part is a step of lane 0
+    -- The next part is a step of lane 0.
     pub one_more : (step : Step) → part_of part ≡ inl step → answered < length own
         → parts_left parts own told index answered lanes ≡ step_line step (slice_index_or own answered answers.Dark) ++ parts_left parts own told (index + 1) (answered + 1) lanes
     unfolding parts_text
     one_more step one within = rw (first, one, next_told own answered within) refl
 
-    -- the next part is a block
+    -- The next part is a block.
     pub block_more : (block : List (List Step)) → part_of part ≡ inr block
         → parts_left parts own told index answered lanes ≡ block_text (lanes + 1) block (drop lanes told) ++ parts_left parts own told (index + 1) answered (lanes + length block)
     unfolding parts_text

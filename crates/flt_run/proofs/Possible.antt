@@ -129,7 +129,7 @@ pub all_widths_same : {A : Type 0} (lives : List (Vec Part A))
     → sum_by (λ (life : Vec Part A). length life.items + widths (parts_of life.items)) lives ≡ sum_by (λ (life : Vec Part A). length life.items + lanes_of (parts_of life.items)) lives
 all_widths_same {A = A} lives = ap (λ (count : Vec Part A → ℕ). sum_by count lives) (λ i life. length life.items + widths_same (parts_of life.items) i)
 
--- each life has few lanes
+-- Each life has few lanes.
 pub each_few : {A : Type 0} (lives : List (Vec Part A)) (most : ℕ) → sum_by (λ (life : Vec Part A). length life.items + lanes_of (parts_of life.items)) lives ≤ most
     → All (λ (life : Vec Part A). widths (parts_of life.items) ≤ most) lives
 each_few [] most few = All-nil _

@@ -12,7 +12,7 @@ use Rattle.flt_life.specs.Chain.{LifeView}
 use Rattle.flt_life.specs.Lives.{lives_seen, view_of, views_of}
 use Rattle.flt_life.specs.Statuses.{status_by, status_of_lives}
 
--- a life behind others
+-- A life behind others.
 record LastView (script : List (List (PartOf Step))) (front : List Life) (life : Life) : Type 0 where
   view : LifeView
   seen : views_of script (front ++ life ∷ []) ≡ views_of script front ++ view ∷ []
@@ -28,7 +28,7 @@ last_view (parts ∷ script) (first ∷ rest) life =
     let last = last_view script rest life in
     record { view = last.view; seen = ap (λ views. view_of parts first ∷ views) last.seen; boot = last.boot }
 
--- the status of lives is that of the last
+-- The status of lives is that of the last.
 behind : (script : List (List (PartOf Step))) (front : List Life) (life : Life) → status_of_lives (lives_seen script (front ++ life ∷ [])) ≡ status_by life.boot
 behind script front life =
     let last = last_view script front life in

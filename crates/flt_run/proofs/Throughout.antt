@@ -32,14 +32,14 @@ use Rattle.flt_run.specs.declared.made.Made.{Made}
 use Rattle.flt_run.specs.Ending.{Inside, Outside, IsLivedBy, IsScriptOf, IsSoundFor, IsSoundThroughout, IsTold, IsUntouched, EndingHasCause, StaysSoundThroughout, lives_of, status_of}
 use Rattle.flt_run.proofs.Lived.{all_of_seen, some_lives, turned}
 
--- the first boot of a run stands first of its boots
+-- The first boot of a run stands first of its boots.
 first_of : (boot : PowerUp) (boots : List PowerUp) → (later : List PowerUp) × (reverse (boot ∷ boots) ≡ first_boot boot boots ∷ later)
 first_of boot [] = ([], refl)
 first_of boot (next ∷ boots) =
     let rest = first_of next boots in
     (rest.0 ++ (boot ∷ []), reverse-append (boot ∷ []) (next ∷ boots) ∙ ap (λ (all : List PowerUp). all ++ (boot ∷ [])) rest.1)
 
--- a life that was not refused as damaged or of another configuration
+-- A life that was not refused as damaged or of another configuration.
 undamaged_status : (b : Boot) → IsUndamaged b → status_by b ≢ 6
 undamaged_status (began.Started number state) holds = λ e. omega (arith, e)
 undamaged_status began.Dark holds = λ e. omega (arith, e)
@@ -52,7 +52,7 @@ undamaged_last : (lives : List LifeView) → All (λ (life : LifeView). IsUndama
 undamaged_last [] all = λ e. omega (arith, e)
 undamaged_last (life ∷ earlier) all = undamaged_status life.boot (All-head (λ (l : LifeView). IsUndamaged l.boot) life earlier all)
 
--- it came to the status that was due, or the sink failed
+-- It came to the status that was due, or the sink failed.
 abbrev pub CameTo : ℕ → ℕ → Type 0
 CameTo due status = (status ≡ due) ⊎ (status ≡ 4)
 
@@ -65,13 +65,13 @@ other_than_six due status other (inl is) = λ six. other (sym is ∙ six)
 other_than_six due status other (inr is) = λ six. omega (arith, is, six)
 
 module _ (c : Config) (arms : Option (List ArmMade)) (earlier : ℕ) (next : PowerUp) where
-  -- as many lives as a script asks for are at least one, which has its boot
+  -- As many lives as a script asks for are at least one, which has its boot.
   some_boots : (boots : List PowerUp) (lives : List LifeView) (many : ℕ) → 0 < many → AreEnded many lives → AreLinked c (sectors c) arms earlier next boots lives → 0 < length boots
   some_boots [] [] many some ended linked = absurd (omega (arith, some, ended))
   some_boots [] (life ∷ lives) many some ended linked = absurd linked
   some_boots (boot ∷ boots) lives many some ended linked = omega arith
 
--- lives between their boots, by the law of the chain
+-- Lives between their boots, by the law of the chain.
 by_boots : (c : Config) → IsGiven c → (before after : FlashState) (script : List (List (PartOf Step))) (lives : List Life) (status : ℕ) (boots : List PowerUp)
     → after.bench.boots ≡ before.bench.boots ++ reverse boots
     → AreLinked c (sectors c) (arms_between before.bench.arms after.bench.arms) (length before.bench.boots) (boot_in (device_of after)) boots (lives_seen script lives)

@@ -13,7 +13,7 @@ use Rattle.flt_sector.proofs.Items.{says_one}
 use Rattle.flt_sector.proofs.GateCases.{GatesAre, start_wrong, active_wrong, valid, not_valid, gates_are}
 use Rattle.flt_sector.proofs.Wrong.{wrong_where_told, told_where_wrong}
 
--- a sector has one number
+-- A sector has one number.
 one_number : (used : ℕ) (pages : List (List ℕ)) (first second : ℕ) → IsValidSector used pages first → IsValidSector used pages second → first ≡ second
 one_number used pages first second one two = let same : Active first ≡ Active second = says_one one.active two.active in cc
 
@@ -21,7 +21,7 @@ module _ (used : ℕ) (numbers : List ℕ) (image : List (List (List ℕ))) wher
   abbrev Wrong : Look → Type 0
   Wrong = HasDamage used numbers image
 
-  -- no gate below a rank is wrong
+  -- No gate below a rank is wrong.
   none_below : (bound : ℕ) → bound ≤ 5 → ((sector : ℕ) → sector < 2 → step_of (start_gate sector) < bound → HasWrongStart used (sector_at image sector) → ⊥)
       → ((sector : ℕ) → sector < 2 → step_of (active_gate sector) < bound → HasWrongActive used (sector_at image sector) → ⊥)
       → (4 < bound → Wrong both_numbers → ⊥) → (look : Look) → step_of look < bound → Wrong look → ⊥
@@ -30,7 +30,7 @@ module _ (used : ℕ) (numbers : List ℕ) (image : List (List (List ℕ))) wher
   none_below bound most starts actives both both_numbers below is = both below is
   none_below bound most starts actives both (log_page sector page) below is = omega (arith, below, most)
 
-  -- the sectors in turn
+  -- The sectors in turn.
   by_sector : (P : ℕ → Type 0) → P 0 → P 1 → (sector : ℕ) → sector < 2 → P sector
   by_sector P zero one sector within = elim (cases_order sector 0) [
     | inl here ↦ subst P (sym here) zero
@@ -38,7 +38,7 @@ module _ (used : ℕ) (numbers : List ℕ) (image : List (List (List ℕ))) wher
     | inr (inr above) ↦ (let last : 1 ≡ sector = omega (arith, within, above) in subst P last one)
   ]
 
-  -- what the gates of both sectors come to
+  -- What the gates of both sectors come to.
   pub data CurrentIs (found : Result (Option Current) (ℕ × ℕ)) : Type 0 where
     gates_wrong : (look : Look) → step_of look ≤ 4 → HasFirstDamage used numbers image look → found ≡ Err (place_of look) → CurrentIs found
     is_current : HasSoundGates used numbers image → (at : Current) → IsCurrent used image at.sector at.sequence → found ≡ Ok (Some at) → CurrentIs found
@@ -57,7 +57,7 @@ module _ (used : ℕ) (numbers : List ℕ) (image : List (List (List ℕ))) wher
     abbrev Valid : ℕ → ℕ → Type 0
     Valid sector sequence = IsValidSector used (sector_at image sector) sequence
 
-    -- neither is valid
+    -- Neither is valid.
     neither : ((n : ℕ) → Valid 0 n → ⊥) → ((n : ℕ) → Valid 1 n → ⊥) → CurrentIs (greater_of None None)
     neither first second =
         is_none (sound (λ both. first both.0 both.1)) (λ sector n within. by_sector (λ s. Valid s n → ⊥) (first n) (second n) sector within) refl
@@ -110,7 +110,7 @@ module _ (used : ℕ) (numbers : List ℕ) (image : List (List (List ℕ))) wher
       pub both_valid : CurrentIs (greater_of (Some n) (Some m))
       both_valid = by_equal (n == m) refl
 
-  -- a fault of the gates, where none below it is wrong
+  -- A fault of the gates, where none below it is wrong.
   wrong_start : (sector : ℕ) → sector < 2 → ((s : ℕ) → s < sector → RightStart s) → ((s : ℕ) → s < sector → RightActive s) → HasWrongStart used (sector_at image sector) → HasFirstDamage used numbers image (start_gate sector)
   wrong_start sector within starts actives is = record {
     is = (within, is);
@@ -126,7 +126,7 @@ module _ (used : ℕ) (numbers : List ℕ) (image : List (List (List ℕ))) wher
   up_to_first : (P : ℕ → Type 0) → P 0 → (s : ℕ) → s < 1 → P s
   up_to_first P zero s below = let here : 0 ≡ s = omega (arith, below) in subst P here zero
 
-  -- the gates of sector 1, where those of sector 0 are right
+  -- The gates of sector 1, where those of sector 0 are right.
   module _ (start : RightStart 0) (active : RightActive 0) (number : Option ℕ) where
     by_second : (second : Result (Option ℕ) ℕ) → GatesAre used (sector_at image 1) second
         → (RightStart 1 → RightActive 1 → (m : ℕ) → IsValidSector used (sector_at image 1) m → CurrentIs (greater_of number (Some m)))
@@ -154,7 +154,7 @@ module _ (used : ℕ) (numbers : List ℕ) (image : List (List (List ℕ))) wher
   current_is = by_gates (gates_of used (sector_at image 0)) (gates_of used (sector_at image 1)) (gates_are used (sector_at image 0)) (gates_are used (sector_at image 1))
 
   -- ---- the first fault
-  -- there is one current sector at most
+  -- There is one current sector at most.
   one_current : (first second n m : ℕ) → IsCurrent used image first n → IsCurrent used image second m → first ≡ second
   one_current first second n m one two = elim (cases_order first second) [
     | inl same ↦ same
@@ -168,13 +168,13 @@ module _ (used : ℕ) (numbers : List ℕ) (image : List (List (List ℕ))) wher
           let above = two.greatest first n one.within apart one.valid in
           omega (arith, below, above)
 
-  -- what the first fault comes to
+  -- What the first fault comes to.
   pub data FirstIs (fault : Option (ℕ × ℕ)) : Type 0 where
     has_fault : (look : Look) → HasFirstDamage used numbers image look → fault ≡ Some (place_of look) → FirstIs fault
     has_none : ((look : Look) → Wrong look → ⊥) → fault ≡ None → FirstIs fault
 
   module _ (least : 2 ≤ used) where
-    -- the log of the current sector
+    -- The log of the current sector.
     by_log : HasSoundGates used numbers image → (at : Current) → IsCurrent used image at.sector at.sequence → (fault : Option ℕ) → (log used numbers (sector_at image at.sector)).fault ≡ fault → FirstIs (place_in at.sector fault)
     by_log sound at is None told = has_none no_fault refl
       where
@@ -215,7 +215,7 @@ module _ (used : ℕ) (numbers : List ℕ) (image : List (List (List ℕ))) wher
     pub first_is : FirstIs (first_fault used numbers image)
     first_is = by_current (current used image) current_is
 
-    -- two faults of one rank are told at one place
+    -- Two faults of one rank are told at one place.
     same_place : (first second : Look) → step_of first ≡ step_of second → Wrong first → Wrong second → place_of first ≡ place_of second
     same_place (start_gate s) (start_gate t) rank one two = let same : s ≡ t = omega (arith, rank) in ap (λ (n : ℕ). (n, 0)) same
     same_place (active_gate s) (active_gate t) rank one two = let same : s ≡ t = omega (arith, rank) in ap (λ (n : ℕ). (n, 1)) same
@@ -237,7 +237,7 @@ module _ (used : ℕ) (numbers : List ℕ) (image : List (List (List ℕ))) wher
     same_place both_numbers (log_page t page) rank one two = absurd (omega (arith, rank))
     same_place (log_page t page) both_numbers rank one two = absurd (omega (arith, rank))
 
-    -- the first fault is told
+    -- The first fault is told.
     pub told_first : (look : Look) → HasFirstDamage used numbers image look → first_fault used numbers image ≡ Some (place_of look)
     told_first look is = elim first_is [
       | has_fault other also told ↦ told ∙ ap Some (elim (cases_order (step_of look) (step_of other)) [

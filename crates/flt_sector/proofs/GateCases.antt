@@ -12,14 +12,14 @@ use Rattle.flt_sector.specs.Says.{Says, SaysOther, IsNoCode}
 use Rattle.flt_sector.specs.Damage.{IsStart, IsActive, HasWrongStart, HasWrongActive, IsValidSector}
 use Rattle.flt_sector.proofs.Items.{says_one}
 
--- one gate page: wrong, no code word, or the gate of a number
+-- One gate page: wrong, no code word, or the gate of a number.
 pub data GateIs (IsMeant : Word → Type 0) (named : ℕ → Word) (fault : ℕ) (page : List ℕ) (gate : Result (Option ℕ) ℕ) : Type 0 where
   is_wrong : IsTrue (is_spoiled page) ⊎ SaysOther IsMeant page → gate ≡ Err fault → GateIs IsMeant named fault page gate
   is_none : is_spoiled page ≡ false → IsNoCode page → gate ≡ Ok None → GateIs IsMeant named fault page gate
   names : is_spoiled page ≡ false → (sequence : ℕ) → Says (named sequence) page → gate ≡ Ok (Some sequence) → GateIs IsMeant named fault page gate
 
 module _ (page code : List ℕ) (is_code : unsealed page ≡ Some code) where
-  -- a code word that is another word, or none
+  -- A code word that is another word, or none.
   wrong_word : (IsMeant : Word → Type 0) (named : ℕ → Word) (fault : ℕ) (found : Option Word) → word_of code ≡ found → ((word : Word) → found ≡ Some word → IsMeant word → ⊥) → GateIs IsMeant named fault page (Err fault)
   wrong_word IsMeant named fault found says differs = is_wrong (inr (record { code = code; is_code = is_code; other = λ word also. differs word (sym says ∙ also) })) refl
 
@@ -41,7 +41,7 @@ module _ (page code : List ℕ) (is_code : unsealed page ≡ Some code) where
   active_word unspoiled (Some (Head b l v p)) says = wrong_word IsActive Active 1 (Some (Head b l v p)) says (λ w same. let here : Head b l v p ≡ w = cc in subst (λ (x : Word). IsActive x → ⊥) here (λ no. no))
   active_word unspoiled (Some (Gate b p)) says = wrong_word IsActive Active 1 (Some (Gate b p)) says (λ w same. let here : Gate b p ≡ w = cc in subst (λ (x : Word). IsActive x → ⊥) here (λ no. no))
 
--- the gate of a page, by what its code word says
+-- The gate of a page, by what its code word says.
 gate_is : (IsMeant : Word → Type 0) (named : ℕ → Word) (says : Option Word → Result (Option ℕ) ℕ) (fault : ℕ) (page : List ℕ)
     → (is_spoiled page ≡ false → (code : List ℕ) → unsealed page ≡ Some code → GateIs IsMeant named fault page (says (word_of code))) → GateIs IsMeant named fault page (gate_by says fault page)
 gate_is IsMeant named says fault page by_word = by_tests (is_spoiled page) refl (unsealed page) refl
@@ -58,14 +58,14 @@ module _ (used : ℕ) (pages : List (List ℕ)) where
   active_is : GateIs IsActive Active 1 (get_or pages 1 []) (gate_by activated_by 1 (get_or pages 1 []))
   active_is = gate_is IsActive Active activated_by 1 (get_or pages 1 []) (λ unspoiled code is. active_word (get_or pages 1 []) code is unspoiled (word_of code) refl)
 
-  -- both gates of a sector
+  -- Both gates of a sector.
   pub data GatesAre (gates : Result (Option ℕ) ℕ) : Type 0 where
     start_wrong : HasWrongStart used pages → gates ≡ Err 0 → GatesAre gates
     active_wrong : (HasWrongStart used pages → ⊥) → HasWrongActive used pages → gates ≡ Err 1 → GatesAre gates
     valid : (HasWrongStart used pages → ⊥) → (HasWrongActive used pages → ⊥) → (sequence : ℕ) → IsValidSector used pages sequence → gates ≡ Ok (Some sequence) → GatesAre gates
     not_valid : (HasWrongStart used pages → ⊥) → (HasWrongActive used pages → ⊥) → ((sequence : ℕ) → IsValidSector used pages sequence → ⊥) → gates ≡ Ok None → GatesAre gates
 
-  -- a start gate that is none, or stands, is not wrong
+  -- A start gate that is none, or stands, is not wrong.
   no_start : is_spoiled (get_or pages 0 []) ≡ false → IsNoCode (get_or pages 0 []) → HasWrongStart used pages → ⊥
   no_start unspoiled none (inl spoiled) = cc
   no_start unspoiled none (inr differs) = let some = differs.is_code in cc
@@ -79,7 +79,7 @@ module _ (used : ℕ) (pages : List (List ℕ)) where
       let same : word_of differs.code ≡ Some (Start sequence used) = cc in
       differs.other (Start sequence used) same refl
 
-  -- an active gate that is none, or stands and names the same number, is not wrong
+  -- An active gate that is none, or stands and names the same number, is not wrong.
   no_active : is_spoiled (get_or pages 1 []) ≡ false → IsNoCode (get_or pages 1 []) → HasWrongActive used pages → ⊥
   no_active unspoiled none (inl spoiled) = cc
   no_active unspoiled none (inr (inl differs)) = let some = differs.is_code in cc

@@ -20,7 +20,7 @@ use Rattle.flt_sector.specs.Says.{Says, IsNoCode}
 use Rattle.flt_sector.specs.Reached.{IsTornHead, IsHead, IsRecord, gate_page}
 use Rattle.flt_sector.specs.Damage.{BeginsNothing, HasOtherGate}
 
--- a page says one thing
+-- A page says one thing.
 pub says_one : {first second : Word} {page : List ℕ} → Says first page → Says second page → first ≡ second
 says_one first second = let one = first.is_code in let two = second.is_code in let a = first.says in let b = second.says in cc
 
@@ -33,11 +33,11 @@ among numbers block is =
     let same : found.1 ≡ block = eqb-true found.1 block found.4 in
     (found.0, found.2, subst (λ (d : ℕ). get_or numbers found.0 d ≡ d) same found.3)
 
--- a blank page is no code word
+-- A blank page is no code word.
 pub blank_no_code : (page : List ℕ) → is_blank page ≡ true → IsNoCode page
 blank_no_code page blank = ap unsealed ((bytes_eq-Decides page blank_page).0 blank) ∙ unsealed_blank
 
--- the gate of a head, or another word
+-- The gate of a head, or another word.
 gate_found : (block head : ℕ) (word : Option Word) → is_gate_of block head word ≡ true → word ≡ Some (Gate block head)
 gate_found block head None is = absurd (cc is)
 gate_found block head (Some (Start s p)) is = absurd (cc is)
@@ -50,7 +50,7 @@ gate_found block head (Some (Gate b h)) is =
     cc
 
 module _ (used : ℕ) (numbers : List ℕ) (pages : List (List ℕ)) (page : ℕ) where
-  -- what stands at a page that the log has reached, and the item that it is
+  -- What stands at a page that the log has reached, and the item that it is.
   pub data Stands (item : Result Item ℕ) : Type 0 where
     ends : (page ≡ used) ⊎ (is_blank (get_or pages page []) ≡ true) → item ≡ Ok End → Stands item
     torn : IsTornHead used numbers pages page → item ≡ Ok Torn → Stands item
@@ -58,7 +58,7 @@ module _ (used : ℕ) (numbers : List ℕ) (pages : List (List ℕ)) (page : ℕ
     nothing : BeginsNothing used numbers pages page → item ≡ Err page → Stands item
     other : (block length : ℕ) (valid : Bool) → HasOtherGate used numbers pages page block length valid → item ≡ Err (page + 1 + byte_pages length) → Stands item
 
-  -- the record of a head
+  -- The record of a head.
   by_gate : (block size : ℕ) (valid : Bool) → IsHead used numbers pages page block size valid → (found : Option (List ℕ)) → unsealed (gate_page pages page size) ≡ found
       → Stands (item_by_gate block size valid page (page + 1 + byte_pages size) found)
   by_gate block size valid head None is = kept block size valid false (record { head = head; gate = is }) refl
@@ -76,7 +76,7 @@ module _ (used : ℕ) (numbers : List ℕ) (pages : List (List ℕ)) (page : ℕ
               cc
 
   module _ (code : List ℕ) (below : page < used) (is_code : unsealed (get_or pages page []) ≡ Some code) where
-    -- a word that is no head
+    -- A word that is no head.
     none : ((block size : ℕ) (valid : Bool) → IsHead used numbers pages page block size valid → ⊥) → Stands (Err page)
     none no_head = nothing (record { within = below; code = code; is_code = is_code; no_head = no_head }) refl
 

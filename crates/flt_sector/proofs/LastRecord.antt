@@ -14,20 +14,20 @@ use Rattle.flt_sector.proofs.Items.{ends, torn, kept, nothing, other, stands}
 use Rattle.flt_sector.proofs.Told.{at_record}
 use Rattle.flt_sector.proofs.Logged.{log_on, log_step, goes_on}
 
--- a record that stands behind others is the last one
+-- A record that stands behind others is the last one.
 last_behind : (block : ℕ) (before rest : List Entry) (entry : Entry) → last_complete block rest ≡ Some entry → last_complete block (before ++ rest) ≡ Some entry
 last_behind block [] rest entry is = is
 last_behind block (first ∷ before) rest entry is = ap (λ (later : Option Entry). or_earlier later first block) (last_behind block before rest entry is)
 
 module _ (used : ℕ) (numbers : List ℕ) (pages : List (List ℕ)) where
-  -- this entry of the log is a complete record of the block, from this page on
+  -- This entry of the log is a complete record of the block, from this page on.
   record IsEntryFrom (page block : ℕ) (entry : Entry) : Type 0 where
     from : page ≤ entry.page
     is_block : entry.block ≡ block
     is_complete : entry.complete ≡ true
     stands_there : IsCompleteAt used numbers pages block entry.page entry.length entry.valid
 
-  -- the last complete record of the log from a page on is one
+  -- The last complete record of the log from a page on is one.
   last_stands : (left page block : ℕ) (entry : Entry) → page ≤ used → IsReached used numbers pages page → last_complete block (log_from used numbers pages page left).entries ≡ Some entry → IsEntryFrom page block entry
   unfolding log_from
   last_stands zero page block entry below reached is = absurd (cc is)
@@ -73,7 +73,7 @@ module _ (used : ℕ) (numbers : List ℕ) (pages : List (List ℕ)) where
               })
 
   module _ (least : 2 ≤ used) (block : ℕ) where
-    -- the record that stands last is the last complete one
+    -- The record that stands last is the last complete one.
     last_found : (page size : ℕ) (valid : Bool) → IsLastAt used numbers pages block page size valid
         → last_complete block (log used numbers pages).entries ≡ Some record { page = page; block = block; length = size; valid = valid; complete = true }
     last_found page size valid is =

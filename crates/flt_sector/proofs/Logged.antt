@@ -13,11 +13,11 @@ use Rattle.flt_sector.proofs.Items.{ends, torn, kept, nothing, other, stands}
 use Rattle.flt_sector.proofs.Told.{at_torn, at_record}
 
 module _ (used : ℕ) (numbers : List ℕ) (pages : List (List ℕ)) where
-  -- the log with as many items as there are used pages
+  -- The log with as many items as there are used pages.
   abbrev pub log_on : ℕ → LogFrom
   log_on page = log_from used numbers pages page (used + 1)
 
-  -- an item and the log behind it, where two logs behind it are one
+  -- An item and the log behind it, where two logs behind it are one.
   after_same : (page : ℕ) (first second : ℕ → LogFrom) → page ≤ used → ((next : ℕ) → page < next → next ≤ used → first next ≡ second next)
       → log_after used pages page first (item_at used numbers pages page) ≡ log_after used pages page second (item_at used numbers pages page)
   after_same page first second below same = elim (stands used numbers pages page below) [
@@ -34,7 +34,7 @@ module _ (used : ℕ) (numbers : List ℕ) (pages : List (List ℕ)) where
           → log_after used pages page first (item_at used numbers pages page) ≡ log_after used pages page second (item_at used numbers pages page)
       by item told is = ap (log_after used pages page first) told ∙ is ∙ sym (ap (log_after used pages page second) told)
 
-  -- more fuel than there are used pages changes nothing
+  -- More fuel than there are used pages changes nothing.
   pub enough : (left more page : ℕ) → page ≤ used → used < page + left → log_from used numbers pages page (left + more) ≡ log_from used numbers pages page left
   unfolding log_from
   enough zero more page below fuel = absurd (omega (arith, below, fuel))
@@ -43,7 +43,7 @@ module _ (used : ℕ) (numbers : List ℕ) (pages : List (List ℕ)) where
       ap (log_from used numbers pages page) count
       ∙ after_same page (λ next. log_from used numbers pages next (left + more)) (λ next. log_from used numbers pages next left) below (λ next past within. enough left more next within (omega (arith, past, fuel)))
 
-  -- the log goes on behind each item
+  -- The log goes on behind each item.
   pub log_step : (page : ℕ) → page ≤ used → log_on page ≡ log_after used pages page log_on (item_at used numbers pages page)
   unfolding log_from
   log_step page below =

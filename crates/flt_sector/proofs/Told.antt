@@ -13,7 +13,7 @@ use Rattle.flt_sector.specs.Damage.{BeginsNothing, HasOtherGate}
 use Rattle.flt_sector.proofs.Items.{ends, torn, kept, nothing, other, stands, says_one, blank_no_code}
 
 module _ (used : ℕ) (numbers : List ℕ) (pages : List (List ℕ)) (page : ℕ) where
-  -- a code word within the used pages is not the end
+  -- A code word within the used pages is not the end.
   not_end : (code : List ℕ) → page < used → unsealed (get_or pages page []) ≡ Some code → (page ≡ used) ⊎ (is_blank (get_or pages page []) ≡ true) → ⊥
   not_end code below is (inl last) = omega (arith, below, last)
   not_end code below is (inr blank) = let none = blank_no_code (get_or pages page []) blank in cc
@@ -27,7 +27,7 @@ module _ (used : ℕ) (numbers : List ℕ) (pages : List (List ℕ)) (page : ℕ
     | other block size valid gate told ↦ absurd (let none = is.no_code in let some = gate.head.says.is_code in cc)
   ]
 
-  -- a head begins a record of this block, length and kind alone
+  -- A head begins a record of this block, length and kind alone.
   same_head : (block size : ℕ) (valid : Bool) (b s : ℕ) (v : Bool) → IsHead used numbers pages page block size valid → IsHead used numbers pages page b s v
       → (b ≡ block) × (s ≡ size) × (v ≡ valid)
   same_head block size valid b s v first second =
@@ -37,14 +37,14 @@ module _ (used : ℕ) (numbers : List ℕ) (pages : List (List ℕ)) (page : ℕ
   head_within : (block size : ℕ) (valid : Bool) → IsHead used numbers pages page block size valid → page < used
   head_within block size valid head = let fits = head.within in omega (arith, fits)
 
-  -- what stands in the place of its gate decides whether it is complete
+  -- What stands in the place of its gate decides whether it is complete.
   same_gate : (block size b s : ℕ) (complete c : Bool) → b ≡ block → s ≡ size → IsGated used numbers pages page block size complete → IsGated used numbers pages page b s c → c ≡ complete
   same_gate block size b s true true same_block same_size first second = refl
   same_gate block size b s false false same_block same_size first second = refl
   same_gate block size b s true false same_block same_size first second = absurd (let some = first.is_code in cc)
   same_gate block size b s false true same_block same_size first second = absurd (let some = second.is_code in cc)
 
-  -- a record has no other gate
+  -- A record has no other gate.
   no_other : (block size b s : ℕ) (complete : Bool) → b ≡ block → s ≡ size → IsGated used numbers pages page block size complete → SaysOther (λ word. word ≡ Gate b page) (gate_page pages page s) → ⊥
   no_other block size b s true same_block same_size gate differ =
       let some = gate.is_code in

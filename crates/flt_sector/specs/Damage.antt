@@ -12,25 +12,25 @@ use Rattle.flt_sector.specs.Reached.{IsHead, IsReached, gate_page}
 
 -- ---- the gates
 
--- a start gate of so many used pages
+-- A start gate of so many used pages.
 abbrev pub IsStart : ℕ → Word → Type 0
 IsStart used (Start sequence pages) = pages ≡ used
 IsStart used (Active sequence) = ⊥
 IsStart used (Head block length valid page) = ⊥
 IsStart used (Gate block page) = ⊥
 
--- an active gate
+-- An active gate.
 abbrev pub IsActive : Word → Type 0
 IsActive (Active sequence) = Unit {0}
 IsActive (Start sequence pages) = ⊥
 IsActive (Head block length valid page) = ⊥
 IsActive (Gate block page) = ⊥
 
--- page 0 is spoiled, or a code word but no start gate of the used pages
+-- Page 0 is spoiled, or a code word but no start gate of the used pages.
 abbrev pub HasWrongStart : ℕ → List (List ℕ) → Type 0
 HasWrongStart used pages = IsTrue (is_spoiled (slice_index_or pages 0 [])) ⊎ SaysOther (IsStart used) (slice_index_or pages 0 [])
 
--- the two gates name two numbers
+-- The two gates name two numbers.
 pub record NamesTwo (used : ℕ) (pages : List (List ℕ)) : Type 0 where
   pub first : ℕ
   pub second : ℕ
@@ -38,21 +38,21 @@ pub record NamesTwo (used : ℕ) (pages : List (List ℕ)) : Type 0 where
   pub active : Says (Active second) (slice_index_or pages 1 [])
   pub differ : first ≢ second
 
--- page 1 is spoiled, or a code word but no active gate, or names another number than page 0
+-- Page 1 is spoiled, or a code word but no active gate, or names another number than page 0.
 abbrev pub HasWrongActive : ℕ → List (List ℕ) → Type 0
 HasWrongActive used pages =
     IsTrue (is_spoiled (slice_index_or pages 1 [])) ⊎ SaysOther IsActive (slice_index_or pages 1 []) ⊎ NamesTwo used pages
 
--- both gates stand and name this number
+-- Both gates stand and name this number.
 pub record IsValidSector (used : ℕ) (pages : List (List ℕ)) (sequence : ℕ) : Type 0 where
   pub start : Says (Start sequence used) (slice_index_or pages 0 [])
   pub active : Says (Active sequence) (slice_index_or pages 1 [])
 
--- no sector of the two is valid
+-- No sector of the two is valid.
 abbrev pub HasNoSector : ℕ → List (List (List ℕ)) → Type 0
 HasNoSector used image = (sector sequence : ℕ) → sector < 2 → IsValidSector used (sector_at image sector) sequence → ⊥
 
--- of the two sectors this one is valid, and the other one is not or has a lesser number
+-- Of the two sectors this one is valid, and the other one is not or has a lesser number.
 pub record IsCurrent (used : ℕ) (image : List (List (List ℕ))) (sector sequence : ℕ) : Type 0 where
   pub within : sector < 2
   pub valid : IsValidSector used (sector_at image sector) sequence
@@ -61,26 +61,26 @@ pub record IsCurrent (used : ℕ) (image : List (List (List ℕ))) (sector seque
 -- ---- the log
 
 module _ (used : ℕ) (numbers : List ℕ) (pages : List (List ℕ)) where
-  -- a code word that begins no record
+  -- A code word that begins no record.
   pub record BeginsNothing (page : ℕ) : Type 0 where
     pub within : page < used
     pub code : List ℕ
     pub is_code : unsealed (slice_index_or pages page []) ≡ Some code
     pub no_head : (block length : ℕ) (valid : Bool) → IsHead used numbers pages page block length valid → ⊥
 
-  -- a record in the place of whose gate another code word stands
+  -- A record in the place of whose gate another code word stands.
   pub record HasOtherGate (page block length : ℕ) (valid : Bool) : Type 0 where
     pub head : IsHead used numbers pages page block length valid
     pub other : SaysOther (λ word. word ≡ Gate block page) (gate_page pages page length)
 
-  -- the log ends at a blank page, and this is the first one behind it that is not blank
+  -- The log ends at a blank page, and this is the first one behind it that is not blank.
   pub record IsBehindEnd (end page : ℕ) : Type 0 where
     pub behind : end < page
     pub within : page < used
     pub blank : (k : ℕ) → end ≤ k → k < page → IsTrue (is_blank (slice_index_or pages k []))
     pub written : IsFalse (is_blank (slice_index_or pages page []))
 
-  -- what is wrong at a page of the log, as far as it goes
+  -- What is wrong at a page of the log, as far as it goes.
   pub data IsWrongAt (wrong : ℕ) : Type 0 where
     begins_nothing : IsReached used numbers pages wrong → BeginsNothing wrong → IsWrongAt wrong
     other_gate : (page block length : ℕ) (valid : Bool) → IsReached used numbers pages page → HasOtherGate page block length valid
@@ -89,28 +89,28 @@ module _ (used : ℕ) (numbers : List ℕ) (pages : List (List ℕ)) where
 
 -- ---- their order
 
--- what a mount looks at: a gate of a sector, the numbers of both sectors, a page of the current sector's log
+-- What a mount looks at: a gate of a sector, the numbers of both sectors, a page of the current sector's log.
 pub data Look : Type 0 where
   start_gate : ℕ → Look
   active_gate : ℕ → Look
   both_numbers : Look
   log_page : ℕ → ℕ → Look
 
--- at which step of the mount it is looked at
+-- At which step of the mount it is looked at.
 abbrev pub step_of : Look → ℕ
 step_of (start_gate sector) = 2 * sector
 step_of (active_gate sector) = 2 * sector + 1
 step_of both_numbers = 4
 step_of (log_page sector page) = 5 + page
 
--- the sector and the page at which a fault found there is told
+-- The sector and the page at which a fault found there is told.
 abbrev pub place_of : Look → ℕ × ℕ
 place_of (start_gate sector) = (sector, 0)
 place_of (active_gate sector) = (sector, 1)
 place_of both_numbers = (1, 0)
 place_of (log_page sector page) = (sector, page)
 
--- an image is damaged there
+-- An image is damaged there.
 abbrev pub HasDamage : ℕ → List ℕ → List (List (List ℕ)) → Look → Type 0
 HasDamage used numbers image (start_gate sector) = (sector < 2) × HasWrongStart used (sector_at image sector)
 HasDamage used numbers image (active_gate sector) = (sector < 2) × HasWrongActive used (sector_at image sector)
@@ -119,11 +119,11 @@ HasDamage used numbers image both_numbers =
 HasDamage used numbers image (log_page sector page) =
     ((sequence : ℕ) × IsCurrent used image sector sequence) × IsWrongAt used numbers (sector_at image sector) page
 
--- an image is damaged there, and nowhere that a mount looks earlier
+-- An image is damaged there, and nowhere that a mount looks earlier.
 pub record HasFirstDamage (used : ℕ) (numbers : List ℕ) (image : List (List (List ℕ))) (look : Look) : Type 0 where
   pub is : HasDamage used numbers image look
   pub first : (earlier : Look) → step_of earlier < step_of look → HasDamage used numbers image earlier → ⊥
 
--- no gate is wrong, and the two sectors do not have one number
+-- No gate is wrong, and the two sectors do not have one number.
 abbrev pub HasSoundGates : ℕ → List ℕ → List (List (List ℕ)) → Type 0
 HasSoundGates used numbers image = (look : Look) → step_of look ≤ 4 → HasDamage used numbers image look → ⊥

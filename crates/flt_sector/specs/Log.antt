@@ -10,7 +10,7 @@ use Rattle.flt_sector.specs.declared.log.Item.{Item}
 use Rattle.flt_sector.specs.declared.log.Item.TheVariants.{End, Torn, Kept}
 use Rattle.flt_sector.specs.Page.{is_blank}
 
--- the gate of this head
+-- The gate of this head.
 abbrev pub is_gate_of : ℕ → ℕ → Option Word → Bool
 is_gate_of block head (Some (Gate b h)) = (b == block) && (h == head)
 is_gate_of block head (Some (Start s p)) = false
@@ -18,12 +18,12 @@ is_gate_of block head (Some (Active s)) = false
 is_gate_of block head (Some (Head b l v p)) = false
 is_gate_of block head None = false
 
--- the record of a head, by the page in the place of its gate: complete with its own gate, incomplete where no code word stands there
+-- The record of a head, by the page in the place of its gate: complete with its own gate, incomplete where no code word stands there.
 abbrev pub item_by_gate : ℕ → ℕ → Bool → ℕ → ℕ → Option (List ℕ) → Result Item ℕ
 item_by_gate block length valid head gate None = Ok (Kept block length valid false)
 item_by_gate block length valid head gate (Some code) = if is_gate_of block head (word_of code) then Ok (Kept block length valid true) else Err gate
 
--- the item that begins with this word: a head of its own page and of one of the numbers, whose record ends by the used pages
+-- The item that begins with this word: a head of its own page and of one of the numbers, whose record ends by the used pages.
 abbrev pub item_by_head : ℕ → List ℕ → List (List ℕ) → ℕ → Option Word → Result Item ℕ
 item_by_head used numbers pages page (Some (Head block length valid own)) =
     if (own == page) && list_any (λ number. number == block) numbers && nat_le (page + 2 + byte_pages length) used
@@ -34,19 +34,19 @@ item_by_head used numbers pages page (Some (Start sequence own)) = Err page
 item_by_head used numbers pages page (Some (Active sequence)) = Err page
 item_by_head used numbers pages page None = Err page
 
--- the item that begins with this code word; a page that is none is a torn head
+-- The item that begins with this code word; a page that is none is a torn head.
 abbrev pub item_by_code : ℕ → List ℕ → List (List ℕ) → ℕ → Option (List ℕ) → Result Item ℕ
 item_by_code used numbers pages page None = Ok Torn
 item_by_code used numbers pages page (Some code) = item_by_head used numbers pages page (word_of code)
 
--- the item at a page, of a sector with so many used pages and for these block numbers; a blank page is the end
+-- The item at a page, of a sector with so many used pages and for these block numbers; a blank page is the end.
 abbrev pub item_at : ℕ → List ℕ → List (List ℕ) → ℕ → Result Item ℕ
 item_at used numbers pages page =
     if (page == used) then Ok End
     else if is_blank (slice_index_or pages page []) then Ok End
     else item_by_code used numbers pages page (unsealed (slice_index_or pages page []))
 
--- a record of the log: the page of its head, and what the head says
+-- A record of the log: the page of its head, and what the head says.
 pub record Entry : Type 0 where
   pub page : ℕ
   pub block : ℕ
@@ -54,22 +54,22 @@ pub record Entry : Type 0 where
   pub valid : Bool
   pub complete : Bool
 
--- the first page from here on, of so many, that is not blank
+-- The first page from here on, of so many, that is not blank.
 abbrev pub first_written : List (List ℕ) → ℕ → ℕ → Option ℕ
 first_written pages page zero = None
 first_written pages page (suc left) = if is_blank (slice_index_or pages page []) then first_written pages (page + 1) left else Some page
 
--- the log from a page on: its records, its end, and its first fault
+-- The log from a page on: its records, its end, and its first fault.
 pub record LogFrom : Type 0 where
   pub entries : List Entry
   pub end : ℕ
   pub fault : Option ℕ
 
--- the log with one record more before it
+-- The log with one record more before it.
 abbrev pub with_entry : Entry → LogFrom → LogFrom
 with_entry entry rest = record { entries = entry ∷ rest.entries; end = rest.end; fault = rest.fault }
 
--- the log from an item on, where `onward` is the log from a later page on; behind the end every page is to be blank
+-- The log from an item on, where `onward` is the log from a later page on; behind the end every page is to be blank.
 abbrev pub log_after : ℕ → List (List ℕ) → ℕ → (ℕ → LogFrom) → Result Item ℕ → LogFrom
 log_after used pages page onward (Ok End) = record { entries = []; end = page; fault = first_written pages page (used - page) }
 log_after used pages page onward (Ok Torn) = onward (page + 1)
@@ -77,11 +77,11 @@ log_after used pages page onward (Ok (Kept block length valid complete)) =
     with_entry (record { page = page; block = block; length = length; valid = valid; complete = complete }) (onward (page + 2 + byte_pages length))
 log_after used pages page onward (Err fault) = record { entries = []; end = page; fault = Some fault }
 
--- the log from a page on, of so many items at most
+-- The log from a page on, of so many items at most.
 unfoldable pub log_from : ℕ → List ℕ → List (List ℕ) → ℕ → ℕ → LogFrom
 log_from used numbers pages page zero = record { entries = []; end = page; fault = None }
 log_from used numbers pages page (suc left) = log_after used pages page (λ next. log_from used numbers pages next left) (item_at used numbers pages page)
 
--- the whole log of a sector, behind its two gates
+-- The whole log of a sector, behind its two gates.
 abbrev pub log : ℕ → List ℕ → List (List ℕ) → LogFrom
 log used numbers pages = log_from used numbers pages 2 (used + 1)

@@ -5,34 +5,34 @@ use Rattle.flt_code.specs.declared.words.Word.TheVariants.{Head, Gate}
 use Rattle.flt_sector.specs.Page.{is_blank}
 use Rattle.flt_sector.specs.Says.{Says, IsNoCode}
 
--- the page in the place of the gate of a record
+-- The page in the place of the gate of a record.
 abbrev pub gate_page : List (List ℕ) → ℕ → ℕ → List ℕ
 gate_page pages page length = slice_index_or pages (page + 1 + byte_pages length) []
 
 module _ (used : ℕ) (numbers : List ℕ) (pages : List (List ℕ)) where
-  -- a page on which something was written, but no code word
+  -- A page on which something was written, but no code word.
   pub record IsTornHead (page : ℕ) : Type 0 where
     pub within : page < used
     pub written : IsFalse (is_blank (slice_index_or pages page []))
     pub no_code : IsNoCode (slice_index_or pages page [])
 
-  -- a head that names its own page and one of the blocks, and whose record ends within the used pages
+  -- A head that names its own page and one of the blocks, and whose record ends within the used pages.
   pub record IsHead (page block length : ℕ) (valid : Bool) : Type 0 where
     pub says : Says (Head block length valid page) (slice_index_or pages page [])
     pub known : Contains numbers block
     pub within : page + record_pages length ≤ used
 
-  -- what stands in that place: no code word, or the gate of this record, which is complete then
+  -- What stands in that place: no code word, or the gate of this record, which is complete then.
   abbrev pub IsGated : ℕ → ℕ → ℕ → Bool → Type 0
   IsGated page block length false = IsNoCode (gate_page pages page length)
   IsGated page block length true = Says (Gate block page) (gate_page pages page length)
 
-  -- a record, complete or not
+  -- A record, complete or not.
   pub record IsRecord (page block length : ℕ) (valid complete : Bool) : Type 0 where
     pub head : IsHead page block length valid
     pub gate : IsGated page block length complete
 
-  -- an item of the log begins at this page, or its end is there
+  -- An item of the log begins at this page, or its end is there.
   pub data IsReached : ℕ → Type 0 where
     begins : IsReached 2
     behind_torn : {page : ℕ} → IsReached page → IsTornHead page → IsReached (page + 1)

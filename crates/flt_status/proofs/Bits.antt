@@ -9,14 +9,14 @@ use Rattle.flt_model.specs.Byte.{byte_of, status_of, is_bit_set}
 use Rattle.flt_model.specs.declared.status.Status.{Status}
 use Rattle.flt_model.proofs.StatusLaws.{byte_tells_bits}
 
--- a bit is tested by the byte that has it alone
+-- A bit is tested by the byte that has it alone.
 test_of_bit : (n k : ℕ) → not (nat_eq (bit_and n (2 ^ k)) 0) ≡ is_bit_set n k
 test_of_bit n k =
     ⊎_elim (λ one. rw (and_pow, one) (rw (ne_eqb (1 * 2 ^ k) 0 (omega (arith, pow_pos k))) refl))
     (λ ne. let zero : bit_at n k ≡ 0 = omega arith in rw (and_pow, zero) (rw (eq-eqb (0 * 2 ^ k) 0 (omega arith)) refl))
     (cases_eq (bit_at n k) 1)
 
--- the tests of the bits of a byte
+-- The tests of the bits of a byte.
 abbrev pub tests_of : ℕ → Status
 tests_of n = record {
   test_failed = not (nat_eq (bit_and n 1) 0);

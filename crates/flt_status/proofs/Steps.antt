@@ -23,23 +23,23 @@ cleared_where true false = refl
 cleared_where false true = refl
 cleared_where false false = refl
 
--- a count that stops at a limit may stop there at each step
+-- A count that stops at a limit may stop there at each step.
 pub stopped_count : (limit n : ℕ) (counted : Bool) → min limit (cond counted (n + 1) n) ≡ min limit (cond counted (min limit n + 1) (min limit n))
 stopped_count limit n true = omega arith
 stopped_count limit n false = omega arith
 
--- a stopped count to which one is added where that is counted
+-- A stopped count to which one is added where that is counted.
 pub added_count : (limit n : ℕ) (counted : Bool) → min (min limit n + bool_byte counted) limit ≡ min limit (cond counted (n + 1) n)
 added_count limit n true = omega arith
 added_count limit n false = omega arith
 
--- a stopped count that starts again
+-- A stopped count that starts again.
 pub restarted_count : (limit n : ℕ) (restarts : Bool) → min limit (unwrap_or (cond restarts (Some 0) None) n) ≡ cond restarts 0 (min limit n)
 restarted_count limit n true = omega arith
 restarted_count limit n false = refl
 
 module _ (base : EventState) (rules : EventCfg) (marks : Past) where
-  -- the state after a mark of aging, where there is one
+  -- The state after a mark of aging, where there is one.
   pub durable_where_aged : (ages : Bool) →
       durable base rules (cond ages (Aged ∷ marks) marks) ≡ record {
         status = byte_of (record (status base rules marks) {

@@ -77,7 +77,7 @@ module _ (c : Config) (block : ℕ) (own : block < c.blocks) (within : block < a
   holds_put : (content : Content) (g : Generation) → Holds c before content g → Holds c after content g
   holds_put content g is = holds_on c before after mark_same above content g (good is.applications) (borne_on is.excess) is
 
-  -- no generation changes
+  -- No generation changes.
   pub sound_put : (h s : Generation) → IsSound c before h s → IsSound c after h s
   sound_put h s sound = record {
     holds = subst (λ (content : Content). Holds c after content h) (ap (λ (d : Content). either_copy d (before second_commit)) (sym first_same) ∙ ap (either_copy (after first_commit)) (sym second_same))
@@ -110,7 +110,7 @@ gets_bytes (bytes held) n copy before after out got is =
     let found = got.1 in
     (refl, is ∙ ap (λ (m : ℕ). take m after) found.0 ∙ ap (take (length held)) found.1 ∙ take-append_seam held (drop n before))
 
--- what is read of an application block is none invalid, and has at most 32 bytes
+-- What is read of an application block is none invalid, and has at most 32 bytes.
 pub not_invalid_application : (content : Content) (before after : List ℕ) → IsTrue (is_application content) → GotOf 1 content Invalid before after → ⊥
 not_invalid_application missing before after is got = got
 not_invalid_application invalid before after is got = cc is

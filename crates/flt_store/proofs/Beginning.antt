@@ -41,7 +41,7 @@ second_missing missing (bytes raw) is = absurd (cc is)
 second_missing invalid (bytes raw) is = absurd (cc is)
 second_missing (bytes other) (bytes raw) is = absurd (cc is)
 
--- no copy was found, and the mark was written where it was missing
+-- No copy was found, and the mark was written where it was missing.
 module _ (c : Config) (before after : ℕ → Content) (tried : IsMarkTried c before after) (others : (other : ℕ) → other ≢ mark_number → after other ≡ before other)
     (g : Generation) (begins : Begins c before None g) where
   first_still : after first_commit ≡ missing
@@ -63,14 +63,14 @@ module _ (c : Config) (before after : ℕ → Content) (tried : IsMarkTried c be
   pub none_tried : (h s : Generation) → IsSound c before h s → OldOrNew c after h s h
   none_tried h s sound = both_old c after h s h (sound_marked c before after tried others h s (either_missing (before first_commit) (before second_commit) begins.1 begins.2) begins.2 sound)
 
--- a copy that was found
+-- A copy that was found.
 pub copy_at : (value : ℕ → Content) (found : CommitCopy) → IsCopy value found → IsAt value found.bytes.items found.copy
 copy_at value found is = elim (cases_eq found.copy 1) [
   | inl one ↦ inl (one, subst (λ (k : ℕ). value (number_of commit_id (k - 1)) ≡ bytes found.bytes.items) one is.holds)
   | inr apart ↦ (let two : found.copy ≡ 2 = omega (arith, is.least, is.most, apart) in inr (two, subst (λ (k : ℕ). value (number_of commit_id (k - 1)) ≡ bytes found.bytes.items) two is.holds))
 ]
 
--- what was restored is where a start-up begins
+-- What was restored is where a start-up begins.
 begins_at : (c : Config) → IsGiven c → (before after : BlocksState) (found : Option CommitCopy) (state : Persist) → IsRestored c before after found state → Begins c before.value found (generation found state)
 begins_at c given before after None state = ⊎_elim
     (λ by_either.
@@ -99,7 +99,7 @@ begins_of c given before after found state same restored =
     let values : before.value ≡ after.value = λ i number. sym (same number) i in
     subst (λ (value : ℕ → Content). Begins c value found (generation found state)) values (begins_at c given before after found state restored)
 
--- the state from which a start-up begins fits
+-- The state from which a start-up begins fits.
 begun_fits : (c : Config) (value : ℕ → Content) (found : Option CommitCopy) (state : Persist) → Begins c value found (generation found state) → Fits c state
 begun_fits c value None state begins = subst (λ (g : Generation). Fits c g.state) (sym begins.0.names) (initial_fits c)
 begun_fits c value (Some found) state begins = begins.0.names.2.fits
@@ -114,7 +114,7 @@ found_in value (Some found) c g begins = begins.1
 pub judged_of : (c : Config) (before after : BlocksState) (found : Option CommitCopy) (state : Persist) → IsRestored c before after found state → IsJudged c before after (Ok (generation found state))
 judged_of c before after found state = ⊎_elim (λ by_either. inl by_either.0) (λ by_second. inr (by_second.0, by_second.2, by_second.3))
 
--- what was judged between a mount and the writes was judged in the whole start-up
+-- What was judged between a mount and the writes was judged in the whole start-up.
 pub judged_in : (c : Config) (first second third fourth : BlocksState) (judged : Result Generation Fault) → SameValues first second → HasRisenBy 0 first.device.faults second.device.faults
     → HasRisenBy 0 third.device.faults fourth.device.faults → IsJudged c second third judged → IsJudged c first fourth judged
 judged_in c first second third fourth judged same before after =
@@ -125,12 +125,12 @@ judged_in c first second third fourth judged same before after =
     values : second.value ≡ first.value
     values i number = same number i
 
--- the number of the generation that was restored, told of its commit
+-- The number of the generation that was restored, told of its commit.
 pub same_generation : (found : Option CommitCopy) (state : Persist) (number : ℕ) → (generation found state).number ≡ number → generation found state ≡ record { number = number; state = state }
 same_generation None state number is i = record { number = is i; state = state }
 same_generation (Some found) state number is i = record { number = is i; state = state }
 
--- a driver that is not spent was not
+-- A driver that is not spent was not.
 pub not_spent : (before after : BlocksState) → Follows before after → IsFalse after.is_spent → IsFalse before.is_spent
 not_spent before after follows later = by before.is_spent refl
   where

@@ -18,7 +18,7 @@ use Rattle.flt_generation.specs.Laws.{IsGiven}
 use Rattle.flt_generation.proofs.Pages.{borne_has_room}
 use Rattle.flt_store.specs.Cause.{FailsThrice, HasRoom, IsWithinOwn, Writes}
 
--- no write, and some writes and then more
+-- No write, and some writes and then more.
 pub no_write : (state : BlocksState) → Writes state state (Ok (tt {0}))
 no_write state = record {
   follows = no_call state;
@@ -59,7 +59,7 @@ module _ (before after : BlocksState) (result : Result (Unit {0}) BlockFault) (c
     mounted = not_mounted;
   }
 
--- the answer of another type has the same causes
+-- The answer of another type has the same causes.
 pub writes_as : {S T : Type 0} (before after : BlocksState) (fault : BlockFault) → Writes {T = S} before after (Err fault) → Writes {T = T} before after (Err fault)
 writes_as {S} {T} before after fault writes = record {
   follows = writes.follows;
@@ -72,7 +72,7 @@ writes_as {S} {T} before after fault writes = record {
     again : (other : BlockFault) → IsErrOf {T = T} (Err fault) other → IsErrOf {T = S} (Err fault) other
     again other told = let same : fault ≡ other = cc told in ap Err same
 
--- what stands and what is written stays within the bounds
+-- What stands and what is written stays within the bounds.
 pub none_written : (c : Config) (value : ℕ → Content) → IsWithinOwn c value value
 none_written c value number = inl refl
 
@@ -90,7 +90,7 @@ borne_stays c before after within borne =
     each : (number : ℕ) → pages_of (after number) - own_pages c number ≤ pages_of (before number) - own_pages c number
     each number = ⊎_elim (λ kept. (let pages : pages_of (after number) ≡ pages_of (before number) = ap pages_of kept in omega (arith, pages))) (λ small. omega (arith, small)) (within number)
 
--- there is room for one record more of up to 96 bytes
+-- There is room for one record more of up to 96 bytes.
 pub never_full : (c : Config) → IsGiven c → (before after : BlocksState) → before.numbers ≡ numbers → HasRoom c before.room → Follows before after → IsBorne c after.value
     → (size live needed : ℕ) → size ≤ 96 → IsFull after size live needed → ⊥
 never_full c given before after all room follows borne size live needed short full = by_room after.room (subst (HasRoom c) (sym follows.room) room) full.past
@@ -108,7 +108,7 @@ never_full c given before after all room follows borne size live needed short fu
         let pages : (size + 31) / 32 ≤ 3 = omega (arith, short) in
         omega (arith, bound, total, live_is, full.needed_is, past, pages, fits)
 
--- so every fault of the writes is one of the flash, or of the last sequence number
+-- So every fault of the writes is one of the flash, or of the last sequence number.
 pub resolved : {T : Type 0} (c : Config) → IsGiven c → (before after : BlocksState) (fault : BlockFault) → Writes {T = T} before after (Err fault) → before.numbers ≡ numbers → HasRoom c before.room
     → IsTrue before.has_mounted → IsBorne c after.value → (fault ≡ SequenceSpent → ⊥) → FailsThrice before after
 resolved {T} c given before after fault writes all room has borne other = by fault writes other
@@ -120,7 +120,7 @@ resolved {T} c given before after fault writes all room has borne other = by fau
     by SequenceSpent writes other = absurd (other refl)
     by (Damaged sector page) writes other = absurd (writes.mounted has sector page refl)
 
--- what is written as a commit is no longer than what the configuration may write
+-- What is written as a commit is no longer than what the configuration may write.
 pub own_first : (c : Config) → own_pages c first_commit ≡ 3
 unfolding own_pages
 own_first c = refl
@@ -129,7 +129,7 @@ pub own_second : (c : Config) → own_pages c second_commit ≡ 3
 unfolding own_pages
 own_second c = refl
 
--- one number was written with no more than the configuration may write there
+-- One number was written with no more than the configuration may write there.
 pub given_within : (c : Config) (before after : BlocksState) (number : ℕ) (asked : Content) (size : ℕ) (result : Result (Unit {0}) BlockFault) → Gives before after number asked size result
     → pages_of asked ≤ own_pages c number → IsWithinOwn c before.value after.value
 given_within c before after number asked size result gives small other = elim (cases_eq other number) [
@@ -144,7 +144,7 @@ WithinAt c before after number = (after number ≡ before number) ⊎ (pages_of 
 commit_at : (c : Config) (before after : ℕ → Content) (raw : List ℕ) (number : ℕ) → length raw ≡ 26 → own_pages c number ≡ 3 → after number ≡ bytes raw → WithinAt c before after number
 commit_at c before after raw number size own is = let pages : pages_of (after number) ≡ record_pages (length raw) = ap pages_of is in inr (omega (arith, pages, own, size))
 
--- both copies of the commit were written
+-- Both copies of the commit were written.
 pub both_within : (c : Config) (before after : BlocksState) (raw : List ℕ) (result : Result (Unit {0}) BlockFault) → length raw ≡ 26
     → GivesBoth before after commit_id (bytes raw) (length raw) result → IsWithinOwn c before.value after.value
 both_within c before after raw result size gives number = elim (cases_eq number first_commit) [

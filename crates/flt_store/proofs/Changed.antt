@@ -26,7 +26,7 @@ use Rattle.flt_store.specs.Started.{IsStarted, NamesOf}
 use Rattle.flt_store.proofs.Started.{bytes_same}
 use Rattle.flt_store.proofs.Successors.{used_of, moved_of, some_length}
 
--- the commit that a started image has is the one by which it was started
+-- The commit that a started image has is the one by which it was started.
 pub same_commit : (c : Config) (value : ℕ → Content) (started_by : Option Commit) (g : Generation) → IsStarted c value started_by g → (commit : Commit) → HasCommit c value commit → started_by ≡ Some commit
 same_commit c value None g started commit has = (let none = started.first in let some = has.1 in absurd (cc (none, some)))
 same_commit c value (Some by) g started commit has =
@@ -53,14 +53,14 @@ module _ (c : Config) (kept bytes_of : ℕ → List ℕ) (old new : Persist) (to
       subst (λ (commit : Commit). KeepsIndices c old new one commit) by_two
       (indices one next (subst (λ (commit : Option Commit). KnowsNamed c commit kept old) is knows) (subst (λ (commit : Option Commit). IsNext c commit kept bytes_of next) is follows))
 
--- what was told apart differs
+-- What was told apart differs.
 differs : (one two : List ℕ) → one ≢ two → bytes_eq one two ≡ false
 differs one two apart = elim (cases_Bool (bytes_eq one two)) [
   | inl same ↦ absurd (apart ((bytes_eq-Decides one two).0 same))
   | inr other ↦ other
 ]
 
--- a block that is written is one whose bytes changed
+-- A block that is written is one whose bytes changed.
 module _ (c : Config) (current : Option Commit) (next : Commit) (bytes_of before : ℕ → List ℕ) (state : Persist) (told : AreBlocksOf c state bytes_of)
     (changed : (id : ℕ) → IsTrue (is_written c current next id) → before id ≢ block_bytes state id) where
   each_written : (id : ℕ) → (if is_written c current next id then record_pages (length (bytes_of id)) else 0) ≤ pages_changed c before (block_bytes state) id
@@ -101,7 +101,7 @@ written_pages c (Some commit) next kept bytes_of state follows told = sum_writte
         (λ moves. moves.0 (same ∙ sym (told.bytes id used)))
         ((follows.blocks id range.0 range.1).used used)
 
--- the same, by other words for the bytes before
+-- The same, by other words for the bytes before.
 module _ (c : Config) (one two after : ℕ → List ℕ) (same : (id : ℕ) → IsTrue (is_used c id) → one id ≡ two id) where
   each_same : (id : ℕ) → pages_changed c one after id ≤ pages_changed c two after id
   each_same id = elim (cases_Bool (is_used c id)) [
@@ -119,17 +119,17 @@ module _ (c : Config) (one two after : ℕ → List ℕ) (same : (id : ℕ) → 
   pages_by None = omega arith
   pages_by (Some commit) = same_pages
 
--- a save that is not the first writes what changed
+-- A save that is not the first writes what changed.
 pub pages_of_later : (c : Config) (current : Option Commit) (before after : ℕ → List ℕ) → (number_in current ≡ 0 → ⊥) → pages_to_write c current before after ≡ changed_pages c before after
 pages_of_later c None before after later = absurd (later refl)
 pages_of_later c (Some commit) before after later = refl
 
--- a commit names no generation of number 0
+-- A commit names no generation of number 0.
 unnamed : (c : Config) (value : ℕ → Content) (commit : Option Commit) (g : Generation) → NamesOf c value commit g → g.number ≡ 0 → commit ≡ None
 unnamed c value None g names zero = refl
 unnamed c value (Some commit) g names zero = let least = names.form.least in let same = names.number in absurd (omega (arith, least, same, zero))
 
--- the first save names each used block at index 0
+-- The first save names each used block at index 0.
 pub stand_at_zero : (c : Config) (before after : ℕ → Content) (from : Option Commit) (kept bytes_of : ℕ → List ℕ) (next : Commit) (g now : Generation) → IsStarted c before from g → g.number ≡ 0
     → IsStarted c after (Some next) now → IsNext c from kept bytes_of next → StandAtZero c after
 stand_at_zero c before after from kept bytes_of next g now started zero ended follows two has_two id used =

@@ -22,7 +22,7 @@ pub met_no_error : {T E : Type 0} {P : Type 0} (result : Result T E) → OnErr r
 met_no_error (Ok x) p never = refl
 met_no_error (Err e) p never = absurd (never p)
 
--- the generation from which a save goes on has not the last number, where the held one has not and the flash did not fail three times
+-- The generation from which a save goes on has not the last number, where the held one has not and the flash did not fail three times.
 pub not_last : {Q F : Type 0} (held spare last : Generation) → held.number ≢ last_number → (F → ⊥) → (last ≡ held) ⊎ ((last ≡ spare) × Q × F) → last.number ≡ last_number → ⊥
 not_last held spare last before never is number = ⊎_elim
     (λ by_held. before (cc (ap (λ (d : Generation). d.number) by_held, number)))

@@ -20,13 +20,13 @@ use Rattle.flt_store.proofs.Causes.{borne_stays}
 use Rattle.flt_store.proofs.Started.{bytes_same}
 use Rattle.flt_store.proofs.Repairing.{content_read, held_of_first, spare_of_second, spare_is_held, sound_kept, second_tried, first_tried, but_for_copy}
 
--- the first copy has these bytes; or the second, where the first has none or could not be read in three tries
+-- The first copy has these bytes; or the second, where the first has none or could not be read in three tries.
 abbrev pub IsCopyRead : BlocksState → BlocksState → List ℕ → ℕ → Type 0
 IsCopyRead before after raw copy =
     ((copy ≡ 1) × (before.value first_commit ≡ bytes raw))
     ⊎ ((copy ≡ 2) × (before.value second_commit ≡ bytes raw) × (HasNoBytes (before.value first_commit) ⊎ FailsThrice before after))
 
--- the copy has these bytes
+-- The copy has these bytes.
 abbrev pub IsAt : (ℕ → Content) → List ℕ → ℕ → Type 0
 IsAt value raw copy = ((copy ≡ 1) × (value first_commit ≡ bytes raw)) ⊎ ((copy ≡ 2) × (value second_commit ≡ bytes raw))
 
@@ -68,7 +68,7 @@ module _ (c : Config) (before middle : BlocksState) (raw : List ℕ) (copy : ℕ
     sound_now : IsSound c middle.value h s
     sound_now = sound_kept c before.value middle.value h s same sound
 
-    -- the bytes name a generation
+    -- The bytes name a generation.
     pub some_holds : (g : Generation) × Holds c middle.value (bytes raw) g
     some_holds =
         ⊎_elim
@@ -114,7 +114,7 @@ invalid_read missing before after got = absurd got
 invalid_read invalid before after got = refl
 invalid_read (bytes held) before after got = absurd got
 
--- the commit of the bytes that were read is that of the first copy, or the flash failed three times
+-- The commit of the bytes that were read is that of the first copy, or the flash failed three times.
 module _ (c : Config) (before : BlocksState) where
   none_held : (raw : List ℕ) (content : Content) → content ≡ bytes raw → HasNoBytes content → ⊥
   none_held raw content is none = subst HasNoBytes is none

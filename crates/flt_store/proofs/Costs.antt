@@ -23,7 +23,7 @@ use Rattle.flt_store.specs.Cause.{HasRoom}
 use Rattle.flt_store.specs.Cost.{SwitchesWithin, Spends, written_sum}
 use Rattle.flt_store.proofs.Successors.{used_of}
 
--- the operations of a row of calls
+-- The operations of a row of calls.
 costs_nothing : (count : Option ℕ) → IfSome count (λ made. IsSomeAnd count (λ earlier. made ≤ earlier + 0))
 costs_nothing None = tt
 costs_nothing (Some count) = omega arith
@@ -40,7 +40,7 @@ costs_less first None one two less a = tt
 costs_less None (Some second) one two less a = a
 costs_less (Some first) (Some second) one two less a = omega (arith, less, a)
 
--- no fault in a row is none in each part
+-- No fault in a row is none in each part.
 module _ (before middle after : BlocksState) (first : Follows before middle) (then_ : Follows middle after) where
   first_unfailed : NoFault before after → NoFault before middle
   first_unfailed none rose = none (let later = then_.counts in omega (arith, rose, later))
@@ -87,11 +87,11 @@ spends_less most before after one two limit_one limit_two less lower a = record 
   at_most = λ within settled unfailed. costs_less before.device.operations after.device.operations limit_one limit_two lower (a.at_most within settled unfailed);
 }
 
--- nothing was written yet
+-- Nothing was written yet.
 pub spends_start : (most : ℕ) (state : BlocksState) (c : Config) (current : Option Commit) (next : Commit) (pages : ℕ → ℕ) → Spends most state state (written_sum c current next pages 0) (written_sum c current next (λ id. most) 0)
 spends_start most state c current next pages = spends_less most state state 0 _ 0 _ (omega arith) (omega arith) (spends_nothing most state)
 
--- one job
+-- One job.
 module _ (number : ℕ) (asked : Content) (size : ℕ) where
   follows_by : (count : ℕ) (before after : BlocksState) (result : Result (Unit {0}) BlockFault) → Tries count (Changing number asked size) before after result → Follows before after
   unfolding Tries
@@ -113,7 +113,7 @@ module _ (number : ℕ) (asked : Content) (size : ℕ) where
     at_most = λ within settled unfailed. costs_less before.device.operations after.device.operations (switch_cost before.room size) most (within size short) (changing.costs.at_most settled unfailed);
   }
 
-  -- where no operation failed there was one try
+  -- Where no operation failed there was one try.
   spends_by : (most : ℕ) → size ≤ 96 → (count : ℕ) (before after : BlocksState) (result : Result (Unit {0}) BlockFault) → Tries count (Changing number asked size) before after result
       → Spends most before after (record_pages size) most
   unfolding Tries
@@ -137,7 +137,7 @@ module _ (number : ℕ) (asked : Content) (size : ℕ) where
   pub job_fresh : (before after : BlocksState) → GivesInAJob number asked size before after (Ok tt) → IsFalse after.is_stale
   job_fresh before after job = fresh_by 3 before after job
 
--- the jobs on both copies
+-- The jobs on both copies.
 pub jobs_spend : (id : ℕ) (asked : Content) (size most : ℕ) → size ≤ 96 → (before after : BlocksState) (result : Result (Unit {0}) BlockFault) → GivesInTwoJobs id asked size before after result
     → Spends most before after (record_pages size + record_pages size) (most + most)
 jobs_spend id asked size most short before after result (inl (one, failed)) =
@@ -146,7 +146,7 @@ jobs_spend id asked size most short before after result (inr (between, one, two)
     spends_more before between after (job_follows _ asked size before between (Ok tt) one) (job_follows _ asked size between after result two) most (record_pages size) (record_pages size) most most
     (job_fresh _ asked size before between one) (job_spends _ asked size most short before between (Ok tt) one) (job_spends _ asked size most short between after result two)
 
--- sums over the blocks that are written
+-- Sums over the blocks that are written.
 module _ (c : Config) (current : Option Commit) (next : Commit) (weight : ℕ → ℕ) where
   abbrev Weighs : ℕ → ℕ
   Weighs id = if is_written c current next id then weight id else 0
@@ -169,7 +169,7 @@ module _ (c : Config) (current : Option Commit) (next : Commit) (weight : ℕ �
       let same : written_sum c current next weight (count + suc more) ≡ written_sum c current next weight (count + more + 1) = ap (written_sum c current next weight) (omega arith) in
       omega (arith, earlier, step, same)
 
--- one block more
+-- One block more.
 pub spends_through : (most : ℕ) (before middle after : BlocksState) → Follows before middle → Follows middle after → (c : Config) (current : Option Commit) (next : Commit) (pages : ℕ → ℕ) (id : ℕ) → 3 ≤ id
     → IsFalse middle.is_stale → Spends most before middle (written_sum c current next pages (id - 3)) (written_sum c current next (λ id. most) (id - 3))
     → Spends most middle after (if is_written c current next id then pages id else 0) (if is_written c current next id then most else 0)
@@ -187,7 +187,7 @@ spends_through most before middle after first then_ c current next pages id leas
         (let at : 3 + (id - 3) ≡ id = omega (arith, least) in ap (λ (n : ℕ). if is_written c current next n then weight n else 0) at) in
         omega (arith, step, count, place)
 
--- where the row ended early
+-- Where the row ended early.
 pub spends_to_the_end : (most : ℕ) (before after : BlocksState) (c : Config) (current : Option Commit) (next : Commit) (pages : ℕ → ℕ) (count : ℕ) → count ≤ parts
     → Spends most before after (written_sum c current next pages count) (written_sum c current next (λ id. most) count)
     → Spends most before after (written_sum c current next pages parts) (written_sum c current next (λ id. most) parts)
@@ -199,7 +199,7 @@ spends_to_the_end most before after c current next pages count below spends = sp
         let whole : written_sum c current next weight (count + (parts - count)) ≡ written_sum c current next weight parts = ap (written_sum c current next weight) (omega (arith, below)) in
         omega (arith, grows, whole)
 
--- at most as many blocks are written as are used
+-- At most as many blocks are written as are used.
 module _ (c : Config) (current : Option Commit) (next : Commit) (most : ℕ) where
   passed : (id : ℕ) (ids : List ℕ) → is_used c id ≡ true → length (filter (is_used c) (id ∷ ids)) ≡ length (filter (is_used c) ids) + 1
   passed id ids used = ap (λ (test : Bool). length (if test then id ∷ filter (is_used c) ids else filter (is_used c) ids)) used ∙ omega arith
@@ -241,7 +241,7 @@ module _ (c : Config) (current : Option Commit) (next : Commit) (most : ℕ) whe
   unfolding written_sum used_ids
   limit_of_used = weighs_used (range_with_len first_part parts)
 
--- a switch and a record within the pages of a sector
+-- A switch and a record within the pages of a sector.
 pub switch_within : (c : Config) → IsGiven c → (room : Option ℕ) → HasRoom c room → SwitchesWithin room (2 * c.pages + 4)
 switch_within c given None has size short = let pages = given.valid.pages in omega (arith, short, pages.0)
 switch_within c given (Some room) has size short = omega (arith, has)

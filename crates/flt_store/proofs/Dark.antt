@@ -68,7 +68,7 @@ module _ (before middle after : BlocksState) (so_far : Follows before middle) (s
   unready_from c (inl unread) = inl (image_unread_from c before middle after so_far same unread)
   unready_from c (inr unbegun) = inr (unbegun_from unbegun)
 
--- a write that failed, and not for want of a sequence number, was failed by the flash
+-- A write that failed, and not for want of a sequence number, was failed by the flash.
 pub was_flash : {T : Type 0} (c : Config) → IsGiven c → (before after : BlocksState) (fault : BlockFault) → Writes {T = T} before after (Err fault) → before.numbers ≡ numbers → HasRoom c before.room
     → IsTrue before.has_mounted → IsBorne c after.value → (fault ≡ Stuck → ⊥) → fault ≡ FlashFault
 was_flash {T} c given before after FlashFault writes all room has borne other = refl
@@ -80,16 +80,16 @@ was_flash {T} c given before after (DamagedPage sector page) writes all room has
 not_stuck : (fault : BlockFault) → told_of_write fault ≡ Flash → fault ≡ Stuck → ⊥
 not_stuck fault is stuck = let told : told_of_write Stuck ≡ Flash = subst (λ (f : BlockFault). told_of_write f ≡ Flash) stuck is in absurd (cc told)
 
--- a write that is told as a fault of the flash was failed by it
+-- A write that is told as a fault of the flash was failed by it.
 pub was_flash_of_write : {T : Type 0} (c : Config) → IsGiven c → (before after : BlocksState) (fault : BlockFault) → Writes {T = T} before after (Err fault) → before.numbers ≡ numbers → HasRoom c before.room
     → IsTrue before.has_mounted → IsBorne c after.value → told_of_write fault ≡ Flash → fault ≡ FlashFault
 was_flash_of_write {T} c given before after fault writes all room has borne is = was_flash {T = T} c given before after fault writes all room has borne (not_stuck fault is)
 
--- a fault by which one answer fails is that of another
+-- A fault by which one answer fails is that of another.
 pub err_as : {T U E : Type 0} (fault told : E) → IsErrOf {T = T} (Err fault) told → IsErrOf {T = U} (Err fault) told
 err_as fault told is = cc
 
--- a repair that failed at once
+-- A repair that failed at once.
 pub unmended_at : (before after : BlocksState) (raw : List ℕ) (copy : ℕ) → 1 ≤ copy → copy ≤ 2 → before.value (number_of commit_id (copy - 1)) ≡ bytes raw
     → IsUnmended before after (number_of commit_id (2 - copy)) (bytes raw) → IsCommitUnmended before after
 unmended_at before after raw copy least most holds unmended = record {
@@ -108,7 +108,7 @@ pub is_unsettled : (was_settled : Bool) → (IsTrue was_settled → ⊥) → IsF
 is_unsettled true never = absurd (never refl)
 is_unsettled false never = refl
 
--- no fault of a mount, nor of a write, is told as one of the blocks
+-- No fault of a mount, nor of a write, is told as one of the blocks.
 pub not_by_mount : (fault : BlockFault) → IsOfBlocks (told_of_mount fault) → ⊥
 not_by_mount FlashFault is = is
 not_by_mount (Full live needed) is = is

@@ -109,7 +109,7 @@ not_at_a_page c before after sector page =
     (λ by_second. never_page c before.value (only_bytes (before.value second_commit)) sector page by_second.0)
 
 module _ {B : Type 0} {b : Ghosts B} (c : Config) (before after : Store B b) where
-  -- a fault of the reading
+  -- A fault of the reading.
   pub refused_by_reading : (fault : StartFault) → (driver_of before).damage ≡ None → SameValues (driver_of before) (driver_of after) → Refuses c (driver_of before) (driver_of after) fault → RefusedFor c before after fault
   refused_by_reading Flash undamaged same refuses = refuses
   refused_by_reading (Damaged (Page sector page)) undamaged same refuses = absurd (not_at_a_page c (driver_of before) (driver_of after) sector page refuses)
@@ -117,7 +117,7 @@ module _ {B : Type 0} {b : Ghosts B} (c : Config) (before after : Store B b) whe
   refused_by_reading (OtherConfig found wanted) undamaged same refuses = (record { undamaged = undamaged; is = refuses.0 }, refuses.1, same)
   refused_by_reading SequenceSpent undamaged same refuses = ((refuses.0.0, record { undamaged = undamaged; is = refuses.0.1 }), refuses.1)
 
-  -- a fault of the writing
+  -- A fault of the writing.
   pub refused_by_writing : (fault : BlockFault) (g : Generation) → Judges c before after (Ok g) → (fault ≡ Stuck → IsTrue (driver_of after).is_spent) → ((fault ≡ Stuck → ⊥) → FailsThrice (driver_of before) (driver_of after))
       → RefusedFor c before after (told_of_write fault)
   refused_by_writing FlashFault g judged spent thrice = thrice (λ is. absurd (cc is))
@@ -125,7 +125,7 @@ module _ {B : Type 0} {b : Ghosts B} (c : Config) (before after : Store B b) whe
   refused_by_writing Stuck g judged spent thrice = ((g, judged), spent refl)
   refused_by_writing (DamagedPage sector page) g judged spent thrice = thrice (λ is. absurd (cc is))
 
--- what was judged behind a mount was judged in the whole start-up
+-- What was judged behind a mount was judged in the whole start-up.
 module _ {B : Type 0} {b : Ghosts B} (c : Config) (before middle after : Store B b) (follows : Follows (driver_of before) (driver_of middle)) (same : SameValues (driver_of before) (driver_of middle))
     (undamaged : (driver_of before).damage ≡ None) where
   pub judged_through : (judged : Result Generation Fault) → IsJudged c (driver_of middle) (driver_of after) judged → IsJudged c (driver_of before) (driver_of after) judged

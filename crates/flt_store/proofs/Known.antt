@@ -26,7 +26,7 @@ pub knows_named : (c : Config) (commit : Option Commit) (kept : ℕ → List ℕ
 knows_named c None kept state knows = tt
 knows_named c (Some commit) kept state knows = knows
 
--- what was read of the blocks that the commit names
+-- What was read of the blocks that the commit names.
 module _ (c : Config) (given : IsGiven c) (before after : BlocksState) (g : Generation) (found : ℕ → List ℕ) where
   learned : (commit : Commit) → CommitNames c before.value commit g → AreLearned c before after commit found → (id : ℕ) → IsTrue (is_used c id)
       → (found id ≡ block_bytes g.state id) ⊎ ((found id ≡ []) × FailsThrice before after)

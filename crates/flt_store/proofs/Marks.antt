@@ -59,7 +59,7 @@ module _ (c : Config) (before after : ℕ → Content) (tried : IsMarkTried c be
       (λ wrote. subst (λ (content : Content). MarkAllows c content missing) (sym wrote.1) refl)
       tried
 
-  -- where there is no commit, the image holds the first generation as before
+  -- Where there is no commit, the image holds the first generation as before.
   holds_marked : (content : Content) (g : Generation) → content ≡ missing → Holds c before content g → Holds c after content g
   holds_marked content g none is = subst (λ (d : Content). Holds c after d g) (sym none) (on_missing (subst (λ (d : Content). Holds c before d g) none is))
     where
@@ -81,7 +81,7 @@ module _ (c : Config) (before after : ℕ → Content) (tried : IsMarkTried c be
     same = sound.same;
   }
 
--- what is read of a mark that is allowed
+-- What is read of a mark that is allowed.
 pub mark_not_invalid : (c : Config) (content : Content) (before after : List ℕ) → MarkAllows c content missing → GotOf 1 content Invalid before after → ⊥
 mark_not_invalid c missing before after allows got = got
 mark_not_invalid c invalid before after allows got = allows

@@ -33,14 +33,14 @@ module _ (c : Config) (before middle after : BlocksState) (so_far : Follows befo
   out_of_numbers_from spent (inl last) = inl (sym spent ∙ last)
   out_of_numbers_from spent (inr stuck) = inr (begun_stuck_from stuck)
 
--- a mount is never told as want of sequence numbers
+-- A mount is never told as want of sequence numbers.
 pub not_spent_by_mount : (fault : BlockFault) → told_of_mount fault ≡ SequenceSpent → ⊥
 not_spent_by_mount FlashFault is = cc is
 not_spent_by_mount (Full live needed) is = cc is
 not_spent_by_mount Stuck is = cc is
 not_spent_by_mount (DamagedPage sector page) is = cc is
 
--- a write is told so only where it answered so
+-- A write is told so only where it answered so.
 pub was_stuck : (fault : BlockFault) → told_of_write fault ≡ SequenceSpent → fault ≡ Stuck
 was_stuck FlashFault is = absurd (cc is)
 was_stuck (Full live needed) is = absurd (cc is)

@@ -20,7 +20,7 @@ use Rattle.flt_store.specs.Started.{HasMark, IsStarted, AgreeButForCommit}
 use Rattle.flt_store.proofs.Causes.{own_first, own_second}
 use Rattle.flt_store.proofs.Started.{holds_kept, commit_names_kept, mark_kept, applications_kept}
 
--- what a read of bytes says of the content
+-- What a read of bytes says of the content.
 pub content_read : (content : Content) (n : ℕ) (before after : List ℕ) → ReadsContent content (Bytes n) before after → content ≡ bytes (take n after)
 content_read missing n before after found = absurd found
 content_read invalid n before after found = absurd found
@@ -29,7 +29,7 @@ content_read (bytes held) n before after found =
     ap bytes (sym seam)
 
 module _ (c : Config) where
-  -- a commit that bytes name is the one that is read from them
+  -- A commit that bytes name is the one that is read from them.
   pub one_commit : (value : ℕ → Content) (raw : List ℕ) (g : Generation) → Holds c value (bytes raw) g → (commit : Commit) × (commit_in c raw ≡ Some commit) × CommitNames c value commit g
   one_commit value raw g holds = let named = holds.names in (named.0, commit_read c raw named.0 named.2.form named.1, named.2)
 
@@ -39,7 +39,7 @@ module _ (c : Config) where
   mark_of_bytes value raw (bytes held) is allows = (held, is, allows)
 
   module _ (before after : ℕ → Content) (agree : AgreeButForCommit before after) (excess : IsBorne c after) where
-    -- both copies hold the bytes of a commit that names a generation
+    -- Both copies hold the bytes of a commit that names a generation.
     pub repaired : (raw : List ℕ) (commit : Commit) (g : Generation) → commit_in c raw ≡ Some commit → Holds c before (bytes raw) g
         → after first_commit ≡ bytes raw → after second_commit ≡ bytes raw → IsStarted c after (Some commit) g
     repaired raw commit g read holds first second =
@@ -55,7 +55,7 @@ module _ (c : Config) where
           excess = excess;
         })
 
-  -- what is held goes by the copies' contents alone, once they are known
+  -- What is held goes by the copies' contents alone, once they are known.
   module _ (value : ℕ → Content) where
     held_by : (content : Content) (g : Generation) → either_copy (value first_commit) (value second_commit) ≡ content → Holds c value content g → IsHeld c value g
     held_by content g is holds = subst (λ (d : Content). Holds c value d g) (sym is) holds
@@ -63,7 +63,7 @@ module _ (c : Config) where
     spare_by : (content : Content) (g : Generation) → only_bytes (value second_commit) ≡ content → Holds c value content g → IsSpare c value g
     spare_by content g is holds = subst (λ (d : Content). Holds c value d g) (sym is) holds
 
-  -- one generation in both
+  -- One generation in both.
   one_generation : (value : ℕ → Content) (h s g new : Generation) → IsHeld c value g → IsSpare c value g → (g ≡ h) ⊎ (g ≡ s) → s.number ≤ g.number → OldOrNew c value h s new
   one_generation value h s g new held spare is rises = record {
     held = g;
@@ -83,7 +83,7 @@ module _ (c : Config) where
   pub spare_of_second : (value : ℕ → Content) (raw : List ℕ) (h s : Generation) → value second_commit ≡ bytes raw → IsSound c value h s → Holds c value (bytes raw) s
   spare_of_second value raw h s is sound = subst (λ (d : Content). Holds c value (only_bytes d) s) is sound.spares
 
-  -- copy 1 has bytes, and copy 2 was tried with them
+  -- Copy 1 has bytes, and copy 2 was tried with them.
   pub second_tried : (before after : ℕ → Content) (raw : List ℕ) (h s new : Generation) → IsSound c before h s → before first_commit ≡ bytes raw → AgreeButForCommit before after → IsBorne c after
       → after first_commit ≡ before first_commit → (after second_commit ≡ before second_commit) ⊎ (after second_commit ≡ bytes raw) → OldOrNew c after h s new
   second_tried before after raw h s new sound first agree excess kept tried =
@@ -100,7 +100,7 @@ module _ (c : Config) where
       (λ equal. one_generation after h s h new now (spare_by after (bytes raw) h (ap only_bytes equal) (holds_kept c before after agree (bytes raw) h excess holds)) (inl refl) sound.order)
       tried
 
-  -- copy 2 has bytes, and copy 1 was tried with them
+  -- Copy 2 has bytes, and copy 1 was tried with them.
   pub first_tried : (before after : ℕ → Content) (raw : List ℕ) (h s new : Generation) → IsSound c before h s → before second_commit ≡ bytes raw → AgreeButForCommit before after → IsBorne c after
       → after second_commit ≡ before second_commit → (after first_commit ≡ before first_commit) ⊎ (after first_commit ≡ bytes raw) → OldOrNew c after h s new
   first_tried before after raw h s new sound second agree excess kept tried =
@@ -118,7 +118,7 @@ module _ (c : Config) where
       (λ equal. one_generation after h s s new (held_by after (bytes raw) s (ap (λ (d : Content). either_copy d (after second_commit)) equal) (holds_kept c before after agree (bytes raw) s excess holds)) now (inr refl) (omega arith))
       tried
 
-  -- reads change nothing
+  -- Reads change nothing.
   pub sound_kept : (before after : ℕ → Content) (h s : Generation) → ((number : ℕ) → after number ≡ before number) → IsSound c before h s → IsSound c after h s
   sound_kept before after h s same sound = let values : before ≡ after = λ i number. sym (same number) i in subst (λ (value : ℕ → Content). IsSound c value h s) values sound
 
@@ -134,7 +134,7 @@ module _ (c : Config) where
       let commits : one.0 ≡ two.0 = cc (first, second) in
       sym one.2.number ∙ ap (λ (d : Commit). d.generation) commits ∙ two.2.number
 
-  -- where both copies give one content, what is held is spare
+  -- Where both copies give one content, what is held is spare.
   one_of_both : (value : ℕ → Content) (h s : Generation) → IsSound c value h s → either_copy (value first_commit) (value second_commit) ≡ only_bytes (value second_commit) → s ≡ h
   one_of_both value h s sound is =
       let names : Names c value (only_bytes (value second_commit)) h = subst (λ (d : Content). Names c value d h) is sound.holds.names in
@@ -150,7 +150,7 @@ module _ (c : Config) where
   either_is_only value invalid (bytes raw) h none names = refl
   either_is_only value (bytes raw) second h none names = absurd none
 
-  -- copy 1 has no bytes, so copy 2 names the held generation
+  -- Copy 1 has no bytes, so copy 2 names the held generation.
   pub spare_is_held : (value : ℕ → Content) (h s : Generation) → IsSound c value h s → HasNoBytes (value first_commit) → s ≡ h
   spare_is_held value h s sound none = one_of_both value h s sound (either_is_only value (value first_commit) (value second_commit) h none sound.holds.names)
 
@@ -169,7 +169,7 @@ module _ (c : Config) where
   either_invalid invalid none = refl
   either_invalid (bytes raw) none = absurd none
 
-  -- neither copy was written
+  -- Neither copy was written.
   pub no_commit : (value : ℕ → Content) (h s : Generation) → IsSound c value h s → HasMark c value → value first_commit ≡ missing → HasNoBytes (value second_commit) → IsStarted c value None h
   no_commit value h s sound mark first none =
       let is : either_copy (value first_commit) (value second_commit) ≡ missing = ap (λ (d : Content). either_copy d (value second_commit)) first ∙ either_none (value second_commit) none in
@@ -182,13 +182,13 @@ module _ (c : Config) where
         excess = sound.holds.excess;
       }
 
-  -- a sound image has no invalid commit
+  -- A sound image has no invalid commit.
   pub not_invalid : (value : ℕ → Content) (h s : Generation) → IsSound c value h s → value first_commit ≡ invalid → HasNoBytes (value second_commit) → ⊥
   not_invalid value h s sound first none =
       let is : either_copy (value first_commit) (value second_commit) ≡ invalid = ap (λ (d : Content). either_copy d (value second_commit)) first ∙ either_invalid (value second_commit) none in
       subst (λ (d : Content). Names c value d h) is sound.holds.names
 
-  -- one copy was written, with no more than a commit has
+  -- One copy was written, with no more than a commit has.
   pub copy_within : (before after : ℕ → Content) (raw : List ℕ) (copy : ℕ) → 1 ≤ copy → copy ≤ 2 → length raw ≡ 26
       → (after (number_of commit_id (2 - copy)) ≡ before (number_of commit_id (2 - copy))) ⊎ (after (number_of commit_id (2 - copy)) ≡ bytes raw)
       → ((other : ℕ) → other ≢ number_of commit_id (2 - copy) → after other ≡ before other) → IsWithinOwn c before after
@@ -205,13 +205,13 @@ module _ (c : Config) where
         | inr apart ↦ (let two : copy ≡ 2 = omega (arith, least, most, apart) in subst (λ (k : ℕ). own_pages c (number_of commit_id (2 - k)) ≡ 3) (sym two) (own_first c))
       ]
 
--- bytes that are read as a commit are 26
+-- Bytes that are read as a commit are 26.
 pub bytes_of_commit : (c : Config) (raw : List ℕ) (commit : Commit) → commit_in c raw ≡ Some commit → length raw ≡ 26
 bytes_of_commit c raw commit read =
     let is = read_commit c raw commit read in
     ap (λ (held : List ℕ). length held) is.1 ∙ commit_size commit is.0.size
 
--- all but one copy agree
+-- All but one copy agree.
 pub but_for_copy : (before after : ℕ → Content) (copy : ℕ) → 1 ≤ copy → copy ≤ 2 → ((other : ℕ) → other ≢ number_of commit_id (2 - copy) → after other ≡ before other) → AgreeButForCommit before after
 but_for_copy before after copy least most others number first second =
     others number (λ same. elim (cases_eq copy 1) [ inl one ↦ second (omega (arith, same, one)) | inr apart ↦ first (omega (arith, same, least, most, apart)) ])

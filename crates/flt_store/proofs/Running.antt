@@ -20,39 +20,39 @@ err_map (Ok x) to p = tt
 err_map (Err e) to p = to p
 
 module _ (h s new : Generation) where
-  -- a save that went on from the held generation
+  -- A save that went on from the held generation.
   pub one_by_held : (g : Generation) → IsOneOf g h h new → IsOneOf g h s new
   one_by_held g = ⊎_elim (λ e. inl e) (λ more. ⊎_elim (λ e. inl e) (λ e. inr (inr e)) more)
 
-  -- a save that went on from the spare one
+  -- A save that went on from the spare one.
   pub one_by_spare : (g : Generation) → IsOneOf g s s new → IsOneOf g h s new
   one_by_spare g = ⊎_elim (λ e. inr (inl e)) (λ more. ⊎_elim (λ e. inr (inl e)) (λ e. inr (inr e)) more)
 
--- later calls leave the choice
+-- Later calls leave the choice.
 pub chosen_on : {P Q R : Type 0} (first second third : BlocksState) → Follows second third → P ⊎ (Q × R × FailsThrice first second) → P ⊎ (Q × R × FailsThrice first third)
 chosen_on first second third follows = ⊎_elim (λ p. inl p) (λ more. inr (more.0, more.1, (let rose = more.2 in let counts = follows.counts in omega (arith, rose, counts))))
 
--- later calls leave three faults, and fewer than three
+-- Later calls leave three faults, and fewer than three.
 pub failed_on : (first second third : BlocksState) → Follows second third → FailsThrice first second → FailsThrice first third
 failed_on first second third follows rose = let counts = follows.counts in omega (arith, rose, counts)
 
 pub failed_later : (first second third : BlocksState) → Follows first second → FailsThrice second third → FailsThrice first third
 failed_later first second third follows rose = let counts = follows.counts in omega (arith, rose, counts)
 
--- where a save failed before, the flash did not fail three times
+-- Where a save failed before, the flash did not fail three times.
 pub unfailed : (first second : BlocksState) (settled : Bool) → settled ≡ false → IsTrue settled ⊎ (FailsThrice first second → ⊥) → FailsThrice first second → ⊥
 unfailed first second settled failed undisturbed rose = ⊎_elim (λ settles. absurd (cc (settles, failed))) (λ never. never rose) undisturbed
 
--- what holds to the end of a call holds until a moment in it
+-- What holds to the end of a call holds until a moment in it.
 pub undisturbed_until : {P : Type 0} (first second third : BlocksState) → Follows second third → P ⊎ (FailsThrice first third → ⊥) → P ⊎ (FailsThrice first second → ⊥)
 undisturbed_until first second third follows = ⊎_elim (λ p. inl p) (λ never. inr (λ rose. never (failed_on first second third follows rose)))
 
--- an undisturbed save goes on from the held generation
+-- An undisturbed save goes on from the held generation.
 pub held_is_chosen : (first second : BlocksState) (settled : Bool) (h s chosen : Generation) → IsTrue settled ⊎ (FailsThrice first second → ⊥)
     → (chosen ≡ h) ⊎ ((chosen ≡ s) × IsFalse settled × FailsThrice first second) → chosen ≡ h
 held_is_chosen first second settled h s chosen undisturbed = ⊎_elim (λ by_held. by_held) (λ by_spare. absurd (unfailed first second settled by_spare.1 undisturbed by_spare.2))
 
--- each old generation, by the one from which a save went on
+-- Each old generation, by the one from which a save went on.
 pub one_of_chosen : {Q R : Type 0} (h s chosen new g : Generation) → (chosen ≡ h) ⊎ ((chosen ≡ s) × Q × R) → IsOneOf g chosen chosen new → IsOneOf g h s new
 one_of_chosen h s chosen new g is one =
     ⊎_elim

@@ -23,7 +23,7 @@ use Rattle.flt_store.proofs.Started.{holds_of, sound_started, numbered, names_ke
 
 module _ (c : Config) where
   module _ (current : Option Commit) (next : Commit) (bytes_of : ℕ → List ℕ) (before after : ℕ → Content) (only : OnlyNewBlocks c current next bytes_of before after) where
-    -- a number that is none of the next commit's places holds what it held
+    -- A number that is none of the next commit's places holds what it held.
     kept : (number : ℕ) → ((id : ℕ) → IsTrue (is_written c current next id) → index_in next id ≤ 1 → number ≢ number_of id (index_in next id)) → after number ≡ before number
     kept number apart = ⊎_elim (λ same. same) (λ block. absurd (apart block.0 block.1.written block.1.small block.1.place)) (only number)
 
@@ -40,7 +40,7 @@ module _ (c : Config) where
         let same_id : other ≡ id = omega (arith, old, new, same) in
         moved other written (let index : index_in commit id ≡ index_in next other = omega (arith, same, same_id) in ap (index_in commit) same_id ∙ index))
 
-    -- the generation before still stands
+    -- The generation before still stands.
     pub settled : (g : Generation) → IsWithinOwn c before after → IsStarted c before current g → IsStarted c after current g
     settled g within started = record {
       mark = (started.mark.0, kept_low mark_number (omega arith) ∙ started.mark.1, started.mark.2);
@@ -55,7 +55,7 @@ module _ (c : Config) where
         names None moved is = is
         names (Some commit) moved is = record { form = is.form; number = is.number; blocks = λ id used. kept_named commit is.form moved id used ∙ is.blocks id used; fits = is.fits }
 
-    -- the blocks of the next commit hold the state, those that were written and those that were not
+    -- The blocks of the next commit hold the state, those that were written and those that were not.
     pub blocks_hold : (kept_bytes : ℕ → List ℕ) (g : Generation) (state : Persist) → IsNext c current kept_bytes bytes_of next → AreBlocksOf c state bytes_of → AreWritten c current next bytes_of after
         → NamesOf c before current g → MayKnow c current kept_bytes g.state → BlocksHold c after next state
     blocks_hold kept_bytes g state follows told stand names known id used = elim (cases_Bool (is_moved current next id)) [
@@ -72,12 +72,12 @@ module _ (c : Config) where
             let same = unmoved c commit next kept_bytes bytes_of g.state state id used still placed known told in
             ap (λ (index : ℕ). after (number_of id index)) (sym same.0) ∙ kept_named commit names.form moved id used ∙ names.blocks id used ∙ ap bytes same.1
 
-  -- where nothing that is named was changed, both are the old one
+  -- Where nothing that is named was changed, both are the old one.
   pub still_old : (value : ℕ → Content) (current : Option Commit) (g new : Generation) → IsStarted c value current g → OldOrNew c value g g new
   still_old value current g new started = record { held = g; spare = g; sound = sound_started c value current g started; held_is = inl refl; spare_is = inl refl; rises = omega arith }
 
   module _ (before after : ℕ → Content) (agree : AgreeButForCommit before after) (excess : IsBorne c after) where
-    -- a started image whose copies of the commit were both given another commit
+    -- A started image whose copies of the commit were both given another commit.
     restarted : (current commit : Option Commit) (g h : Generation) → IsStarted c before current g → NamesOf c before commit h
         → IsContentOf commit (after first_commit) → IsContentOf commit (only_bytes (after second_commit)) → IsStarted c after commit h
     restarted current commit g h started names first second = record {
@@ -89,7 +89,7 @@ module _ (c : Config) where
       excess = excess;
     }
 
-    -- only the first copy was given the next commit
+    -- Only the first copy was given the next commit.
     half_way : (current : Option Commit) (next : Commit) (g new : Generation) → IsStarted c before current g → new.number ≡ number_in current + 1 → NamesOf c before (Some next) new
         → IsContentOf (Some next) (after first_commit) → after second_commit ≡ before second_commit → IsSound c after new g
     half_way current next g new started number names first second =
@@ -114,7 +114,7 @@ module _ (c : Config) where
       of_next : (content : Content) → content ≡ bytes (commit_bytes next) → IsContentOf (Some next) content
       of_next content is = (commit_bytes next, is, refl)
 
-      -- both copies were given the next commit
+      -- Both copies were given the next commit.
       pub committed : after first_commit ≡ bytes (commit_bytes next) → after second_commit ≡ bytes (commit_bytes next) → IsStarted c after (Some next) new
       committed first second = restarted current (Some next) g new started names (of_next (after first_commit) first) (of_next (only_bytes (after second_commit)) (ap only_bytes second))
 
@@ -133,7 +133,7 @@ module _ (c : Config) where
           still_old after current g new
           (restarted current current g g started started.names (subst (IsContentOf current) (sym first) started.first) (subst (λ (content : Content). IsContentOf current (only_bytes content)) (sym second) started.second))
 
-      -- the copies were tried one after the other
+      -- The copies were tried one after the other.
       pub interrupted : (IsTried first_commit × (after second_commit ≡ before second_commit)) ⊎ ((after first_commit ≡ bytes (commit_bytes next)) × IsTried second_commit) → OldOrNew c after g g new
       interrupted (inl (inl first, second)) = unchanged first second
       interrupted (inl (inr first, second)) = half first second

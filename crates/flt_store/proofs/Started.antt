@@ -14,7 +14,7 @@ use Rattle.flt_generation.proofs.Pages.{used_range}
 pub bytes_same : (one two : List ℕ) → bytes one ≡ bytes two → one ≡ two
 bytes_same one two same = cc same
 
--- the application blocks are good
+-- The application blocks are good.
 abbrev pub AreApplications : (ℕ → Content) → Type 0
 AreApplications value = (block : ℕ) → block < applications → IsTrue (is_application (value (application_number block)))
 
@@ -45,7 +45,7 @@ either_content first (bytes held) None one two = absurd (cc two)
 either_content first missing None one two = ap (λ (content : Content). either_copy content missing) one
 either_content first invalid None one two = ap (λ (content : Content). either_copy content invalid) one
 
--- both copies name the generation
+-- Both copies name the generation.
 pub sound_started : (c : Config) (value : ℕ → Content) (commit : Option Commit) (g : Generation) → IsStarted c value commit g → IsSound c value g g
 sound_started c value commit g started = record {
   holds = holds_of c value (either_copy (value first_commit) (value second_commit)) commit g (either_content (value first_commit) (value second_commit) commit started.first started.second) started.mark started.names started.applications started.excess;
@@ -55,7 +55,7 @@ sound_started c value commit g started = record {
   same = λ equal. refl;
 }
 
--- what stands where the mark and the used blocks are as they were
+-- What stands where the mark and the used blocks are as they were.
 module _ (c : Config) (before after : ℕ → Content) (mark_same : after mark_number ≡ before mark_number)
     (above : (id index : ℕ) → IsTrue (is_used c id) → index ≤ 1 → after (number_of id index) ≡ before (number_of id index)) where
   pub commit_names_on : (commit : Commit) (g : Generation) → CommitNames c before commit g → CommitNames c after commit g
@@ -86,7 +86,7 @@ module _ (c : Config) (before after : ℕ → Content) (mark_same : after mark_n
       names invalid is = is
       names (bytes held) is = (is.0, is.1, commit_names_on is.0 g is.2)
 
--- what stands where the two images agree but for the copies of the commit
+-- What stands where the two images agree but for the copies of the commit.
 module _ (c : Config) (before after : ℕ → Content) (agree : AgreeButForCommit before after) where
   above_commit : (id index : ℕ) → IsTrue (is_used c id) → index ≤ 1 → after (number_of id index) ≡ before (number_of id index)
   above_commit id index used small = let range = used_range c id used in agree (number_of id index) (λ same. omega (arith, range.0, same)) (λ same. omega (arith, range.0, same))
@@ -110,6 +110,6 @@ module _ (c : Config) (before after : ℕ → Content) (agree : AgreeButForCommi
   pub holds_kept : (content : Content) (g : Generation) → IsBorne c after → Holds c before content g → Holds c after content g
   holds_kept content g excess is = holds_on c before after below_commit above_commit content g (applications_kept is.applications) excess is
 
--- reads leave a started image as it is
+-- Reads leave a started image as it is.
 pub started_kept : (c : Config) (before after : ℕ → Content) → ((number : ℕ) → after number ≡ before number) → (commit : Option Commit) (g : Generation) → IsStarted c before commit g → IsStarted c after commit g
 started_kept c before after same commit g started = let values : before ≡ after = λ i number. sym (same number) i in subst (λ (value : ℕ → Content). IsStarted c value commit g) values started

@@ -14,7 +14,7 @@ use Rattle.flt_generation.proofs.Pages.{used_range}
 use Rattle.flt_image.specs.Blocks.{AreBlocksOf}
 use Rattle.flt_store.specs.Known.{MayKnow}
 
--- another index than that of the commit
+-- Another index than that of the commit.
 abbrev pub Apart : Option Commit → Commit → ℕ → Type 0
 Apart None next id = Unit {0}
 Apart (Some commit) next id = index_in commit id ≢ index_in next id
@@ -50,7 +50,7 @@ module _ (c : Config) where
   small_in (Some commit) form id used = small_index commit form id used
 
   module _ (current : Option Commit) (kept bytes_of : ℕ → List ℕ) (next : Commit) (follows : IsNext c current kept bytes_of next) where
-    -- the next commit is of the form
+    -- The next commit is of the form.
     pub next_form : number_in current + 1 < 2 ^ 32 → IfSome current (IsCommit c) → IsCommit c next
     next_form most form = record {
       least = (let number = follows.number in omega (arith, number));
@@ -72,7 +72,7 @@ module _ (c : Config) where
         within None placed apart = omega (arith, placed)
         within (Some commit) placed apart = ⊎_elim (λ stays. absurd (apart (sym stays.1))) (λ moves. moves.1) placed
 
--- a block that is not written: the commit names it at the same index, and its bytes stayed
+-- A block that is not written: the commit names it at the same index, and its bytes stayed.
 pub unmoved : (c : Config) (commit next : Commit) (kept bytes_of : ℕ → List ℕ) (old new : Persist) (id : ℕ) → IsTrue (is_used c id) → is_moved (Some commit) next id ≡ false
     → IsPlaced (Some commit) (kept id) (bytes_of id) id (index_in next id) → MayKnow c (Some commit) kept old → AreBlocksOf c new bytes_of
     → (index_in commit id ≡ index_in next id) × (block_bytes old id ≡ block_bytes new id)

@@ -9,24 +9,24 @@ use Rattle.flt_flash.specs.declared.blocks.BlockFault.TheVariants.{Flash, Full, 
 use Rattle.flt_config.specs.declared.config.Config.{Config}
 use Rattle.flt_generation.specs.Excess.{own_pages}
 
--- the flash failed three times
+-- The flash failed three times.
 abbrev pub FailsThrice : BlocksState → BlocksState → Type 0
 FailsThrice before after = HasRisenBy 3 before.device.faults after.device.faults
 
--- some record can't be written any more, since it does not fit and no sequence number is left
+-- Some record can't be written any more, since it does not fit and no sequence number is left.
 abbrev pub IsStuck : BlocksState → Type 0
 IsStuck state = (number : ℕ) × (size : ℕ) × IsTrue (state.is_stuck number size)
 
--- the driver leaves all but the two gates of a sector for records, where it limits them
+-- The driver leaves all but the two gates of a sector for records, where it limits them.
 abbrev pub HasRoom : Config → Option ℕ → Type 0
 HasRoom c None = Unit {0}
 HasRoom c (Some room) = room ≡ c.pages - 2
 
--- each number holds what it held, or a record no longer than the configuration may write there
+-- Each number holds what it held, or a record no longer than the configuration may write there.
 abbrev pub IsWithinOwn : Config → (ℕ → Content) → (ℕ → Content) → Type 0
 IsWithinOwn c before after = (number : ℕ) → (after number ≡ before number) ⊎ (pages_of (after number) ≤ own_pages c number)
 
--- calls that wrote records of at most 96 bytes, each fault of which has its cause
+-- Calls that wrote records of at most 96 bytes, each fault of which has its cause.
 pub record Writes {T : Type 0} (before after : BlocksState) (result : Result T BlockFault) : Type 0 where
   pub follows : Follows before after
   pub flash : IsErrOf result Flash → FailsThrice before after

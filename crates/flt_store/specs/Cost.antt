@@ -8,21 +8,21 @@ use Rattle.flt_generation.specs.declared.commit.Commit.{Commit}
 use Rattle.flt_generation.specs.Layout.{first_part}
 use Rattle.flt_generation.specs.Successor.{is_written, changed_pages}
 
--- a record of at most 96 bytes, with a switch of sectors before it where one is needed, costs at most so many
+-- A record of at most 96 bytes, with a switch of sectors before it where one is needed, costs at most so many.
 abbrev pub SwitchesWithin : Option ℕ → ℕ → Type 0
 SwitchesWithin room most = (size : ℕ) → size ≤ 96 → switch_cost room size ≤ most
 
--- writes on a driver that was not stale, in which no operation failed: the pages of their records, where no sector was erased, and
--- a limit in any case, where each costs at most so many
+-- Writes on a driver that was not stale, in which no operation failed: the pages of their records, where no sector was erased, and
+-- a limit in any case, where each costs at most so many.
 pub record Spends (most : ℕ) (before after : BlocksState) (pages limit : ℕ) : Type 0 where
   pub at_the_end : IsFalse before.is_stale → NoFault before after → NoErase before after → CostsAtMost pages before after
   pub at_most : SwitchesWithin before.room most → IsFalse before.is_stale → NoFault before after → CostsAtMost limit before after
 
--- a weight of each block that is written for the next commit, over so many blocks
+-- A weight of each block that is written for the next commit, over so many blocks.
 unfoldable pub written_sum : Config → Option Commit → Commit → (ℕ → ℕ) → ℕ → ℕ
 written_sum c current next weight count = sum_by (λ id. if is_written c current next id then weight id else 0) (range_with_len first_part count)
 
--- the pages of the records of the blocks that a save writes: all in the first save, else those whose bytes changed
+-- The pages of the records of the blocks that a save writes: all in the first save, else those whose bytes changed.
 abbrev pub pages_to_write : Config → Option Commit → (ℕ → List ℕ) → (ℕ → List ℕ) → ℕ
 pages_to_write c None before after = changed_pages c (λ id. []) after
 pages_to_write c (Some commit) before after = changed_pages c before after

@@ -16,7 +16,7 @@ use Rattle.flt_restore.specs.declared.fault.StartFault.TheVariants.{Flash as Sta
 use Rattle.flt_restore.specs.Unread.{FailsToRead, IsImageUnread}
 use Rattle.flt_store.specs.Cause.{FailsThrice}
 
--- among these calls three writes in a row of these bytes to a number were failed by the flash
+-- Among these calls three writes in a row of these bytes to a number were failed by the flash.
 pub record FailsToWrite (number : ℕ) (raw : List ℕ) (before after : BlocksState) : Type 0 where
   pub first : BlocksState
   pub last : BlocksState
@@ -24,12 +24,12 @@ pub record FailsToWrite (number : ℕ) (raw : List ℕ) (before after : BlocksSt
   pub fails : GivesInAJob number (bytes raw) (length raw) first last (Err Flash)
   pub later : Follows last after
 
--- the mark could not be read, or is missing and could not be written
+-- The mark could not be read, or is missing and could not be written.
 abbrev pub IsMarkUnwritten : BlocksState → BlocksState → Type 0
 IsMarkUnwritten before after =
     FailsToRead mark_number before after ⊎ ((before.value mark_number ≡ missing) × (raw : List ℕ) × FailsToWrite mark_number raw before after)
 
--- the other copy of the commit could be neither read nor written, or holds other bytes and could not be written
+-- The other copy of the commit could be neither read nor written, or holds other bytes and could not be written.
 pub record IsCommitUnmended (before after : BlocksState) : Type 0 where
   pub copy : ℕ
   pub least : 1 ≤ copy
@@ -41,26 +41,26 @@ pub record IsCommitUnmended (before after : BlocksState) : Type 0 where
   pub same : SameValues before first
   pub unmended : IsUnmended first after (number_of commit_id (2 - copy)) (bytes raw)
 
--- what a generation needs in the image could not be written
+-- What a generation needs in the image could not be written.
 abbrev pub IsUnbegun : BlocksState → BlocksState → Type 0
 IsUnbegun before after = IsMarkUnwritten before after ⊎ IsCommitUnmended before after
 
--- three mounts in a row failed; or what a start-up needs of the image could not be read, or not be written
+-- Three mounts in a row failed; or what a start-up needs of the image could not be read, or not be written.
 abbrev pub IsDark : Config → BlocksState → BlocksState → Type 0
 IsDark c before after = Tries 3 Mounts before after (Err Flash) ⊎ IsImageUnread c before after ⊎ IsUnbegun before after
 
--- of the commit neither copy could be read, or one could not and the other has no bytes; or its other copy could not be mended
+-- Of the commit neither copy could be read, or one could not and the other has no bytes; or its other copy could not be mended.
 abbrev pub IsUnrestarted : BlocksState → BlocksState → Type 0
 IsUnrestarted before after = IsUnreadable before after commit_id ⊎ IsCommitUnmended before after
 
--- a save before failed, and which generation stands could not be found out; or, from where both copies of the commit name one
--- generation, the flash failed three times
+-- A save before failed, and which generation stands could not be found out; or, from where both copies of the commit name one
+-- generation, the flash failed three times.
 abbrev pub IsUnsaved : Config → Bool → BlocksState → BlocksState → Type 0
 IsUnsaved c was_settled before after =
     (IsFalse was_settled × IsUnrestarted before after)
     ⊎ ((middle : BlocksState) × Follows before middle × (g : Generation) × IsSound c middle.value g g × FailsThrice middle after)
 
--- a fault of the blocks, which is judged behind a mount
+-- A fault of the blocks, which is judged behind a mount.
 abbrev pub IsOfBlocks : StartFault → Type 0
 IsOfBlocks StartFlash = ⊥
 IsOfBlocks (Damaged (Page sector page)) = ⊥
@@ -68,6 +68,6 @@ IsOfBlocks (Damaged (Block id)) = Unit {0}
 IsOfBlocks (OtherConfig found wanted) = Unit {0}
 IsOfBlocks SequenceSpent = ⊥
 
--- nothing was written but by a mount
+-- Nothing was written but by a mount.
 abbrev pub IsMountedAlone : BlocksState → BlocksState → Type 0
 IsMountedAlone before after = (mounted : BlocksState) × Tries 3 Mounts before mounted (Ok tt) × SameImage mounted after

@@ -10,22 +10,22 @@ use Rattle.flt_generation.specs.Reading.{commit_in}
 use Rattle.flt_generation.specs.Successor.{KeepsIndices}
 use Rattle.flt_store.specs.Cause.{FailsThrice}
 
--- the commit that is read from the first copy
+-- The commit that is read from the first copy.
 abbrev pub HasCommit : Config → (ℕ → Content) → Commit → Type 0
 HasCommit c value commit = (raw : List ℕ) × (value first_commit ≡ bytes raw) × (commit_in c raw ≡ Some commit)
 
--- this is the commit that is read from the first copy, if one is, or the flash failed three times
+-- This is the commit that is read from the first copy, if one is, or the flash failed three times.
 abbrev pub IsOfFirst : Config → BlocksState → BlocksState → Option Commit → Type 0
 IsOfFirst c before after found = (commit : Commit) → HasCommit c before.value commit → (found ≡ Some commit) ⊎ FailsThrice before after
 
--- the commit after a save names each used block whose bytes stayed at the index at which this commit did
+-- The commit after a save names each used block whose bytes stayed at the index at which this commit did.
 abbrev pub KeepsFrom : Config → Persist → Persist → Option Commit → (ℕ → Content) → Type 0
 KeepsFrom c old new from after = (current next : Commit) → from ≡ Some current → HasCommit c after next → KeepsIndices c old new current next
 
--- the commit after a save names each used block whose bytes stayed at the index at which the commit before it did
+-- The commit after a save names each used block whose bytes stayed at the index at which the commit before it did.
 abbrev pub KeepsPlaces : Config → Persist → Persist → (ℕ → Content) → (ℕ → Content) → Type 0
 KeepsPlaces c old new before after = (current next : Commit) → HasCommit c before current → HasCommit c after next → KeepsIndices c old new current next
 
--- the commit after a save names each used block at index 0
+-- The commit after a save names each used block at index 0.
 abbrev pub StandAtZero : Config → (ℕ → Content) → Type 0
 StandAtZero c after = (next : Commit) → HasCommit c after next → (id : ℕ) → IsTrue (is_used c id) → index_in next id ≡ 0

@@ -6,16 +6,16 @@ use Rattle.flt_generation.specs.declared.commit.Commit.{Commit}
 use Rattle.flt_generation.specs.Layout.{is_used}
 use Rattle.flt_generation.specs.Form.{block_bytes}
 
--- the bytes of each used block of the state
+-- The bytes of each used block of the state.
 abbrev pub Knows : Config → (ℕ → List ℕ) → Persist → Type 0
 Knows c kept state = (id : ℕ) → IsTrue (is_used c id) → kept id ≡ block_bytes state id
 
--- the same of a generation that a commit names; before the first save nothing is asked
+-- The same of a generation that a commit names; before the first save nothing is asked.
 abbrev pub KnowsNamed : Config → Option Commit → (ℕ → List ℕ) → Persist → Type 0
 KnowsNamed c None kept state = Unit {0}
 KnowsNamed c (Some commit) kept state = Knows c kept state
 
--- the same, but for blocks that could not be read
+-- The same, but for blocks that could not be read.
 abbrev pub MayKnow : Config → Option Commit → (ℕ → List ℕ) → Persist → Type 0
 MayKnow c None kept state = Unit {0}
 MayKnow c (Some commit) kept state = (id : ℕ) → IsTrue (is_used c id) → (kept id ≡ []) ⊎ (kept id ≡ block_bytes state id)

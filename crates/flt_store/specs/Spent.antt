@@ -7,12 +7,12 @@ use Rattle.flt_generation.specs.Layout.{commit_id, mark_number, number_of}
 use Rattle.flt_generation.specs.Form.{mark_of, mark_bytes}
 use Rattle.flt_store.specs.Cause.{FailsThrice}
 
--- the mark was missing, and its record can't be written any more
+-- The mark was missing, and its record can't be written any more.
 pub record IsMarkStuck (c : Config) (before after : BlocksState) : Type 0 where
   pub none : before.value mark_number ≡ missing
   pub stuck : IsTrue (after.is_stuck mark_number (length (mark_bytes (mark_of c))))
 
--- the other copy of the commit holds other bytes, or the flash failed three times, and its record can't be written any more
+-- The other copy of the commit holds other bytes, or the flash failed three times, and its record can't be written any more.
 pub record IsCommitStuck (before after : BlocksState) : Type 0 where
   pub copy : ℕ
   pub least : 1 ≤ copy
@@ -22,10 +22,10 @@ pub record IsCommitStuck (before after : BlocksState) : Type 0 where
   pub needed : (before.value (number_of commit_id (2 - copy)) ≢ bytes raw) ⊎ FailsThrice before after
   pub stuck : IsTrue (after.is_stuck (number_of commit_id (2 - copy)) (length raw))
 
--- a record that a generation needs in the image can't be written any more
+-- A record that a generation needs in the image can't be written any more.
 abbrev pub IsBegunStuck : Config → BlocksState → BlocksState → Type 0
 IsBegunStuck c before after = IsMarkStuck c before after ⊎ IsCommitStuck before after
 
--- the last sequence number was in use before, or a record that the start-up had to write can't be written any more
+-- The last sequence number was in use before, or a record that the start-up had to write can't be written any more.
 abbrev pub IsOutOfNumbers : Config → BlocksState → BlocksState → Type 0
 IsOutOfNumbers c before after = IsTrue before.is_spent ⊎ IsBegunStuck c before after

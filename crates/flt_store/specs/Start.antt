@@ -19,24 +19,24 @@ use Rattle.flt_store.specs.declared.store.Store.{Store}
 use Rattle.flt_store.specs.Cause.{FailsThrice}
 use Rattle.flt_store.specs.Store.{driver_of, is_settled, numbered, IsRunning}
 
--- a generation and the copy of the commit by which an image holds it; none where neither copy has bytes
+-- A generation and the copy of the commit by which an image holds it; none where neither copy has bytes.
 abbrev pub Begins : Config → (ℕ → Content) → Option CommitCopy → Generation → Type 0
 Begins c value None g = Holds c value missing g × (value first_commit ≡ missing) × (only_bytes (value second_commit) ≡ missing)
 Begins c value (Some found) g = Holds c value (bytes found.bytes.items) g × IsCopy value found
 
--- the copy that was found stands in the image
+-- The copy that was found stands in the image.
 abbrev pub IsFoundIn : (ℕ → Content) → Option CommitCopy → Type 0
 IsFoundIn value None = Unit {0}
 IsFoundIn value (Some found) = IsCopy value found
 
--- what a start-up answers to a fault of its mount; want of room and of sequence numbers are none
+-- What a start-up answers to a fault of its mount; want of room and of sequence numbers are none.
 abbrev pub told_of_mount : BlockFault → StartFault
 told_of_mount FlashFault = Flash
 told_of_mount (Full live needed) = Flash
 told_of_mount Stuck = Flash
 told_of_mount (DamagedPage sector page) = Damaged (Page sector page)
 
--- what it answers to a fault of its writes; want of room and damage are none
+-- What it answers to a fault of its writes; want of room and damage are none.
 abbrev pub told_of_write : BlockFault → StartFault
 told_of_write FlashFault = Flash
 told_of_write (Full live needed) = Flash
@@ -44,8 +44,8 @@ told_of_write Stuck = SequenceSpent
 told_of_write (DamagedPage sector page) = Flash
 
 module _ {B : Type 0} {b : Ghosts B} where
-  -- a start-up that answered this number: the image had no fault and a sequence number left, and what was judged is the state under
-  -- the number, which both copies of the commit now name
+  -- A start-up that answered this number: the image had no fault and a sequence number left, and what was judged is the state under
+  -- the number, which both copies of the commit now name.
   pub record Starts (c : Config) (number : ℕ) (state : Persist) (before after : Store B b) : Type 0 where
     pub undamaged : (driver_of before).damage ≡ None
     pub judged : IsJudged c (driver_of before) (driver_of after) (Ok (numbered number state))
@@ -53,13 +53,13 @@ module _ {B : Type 0} {b : Ghosts B} where
     pub running : IsRunning c (numbered number state) (numbered number state) after
     pub settled : IsTrue (is_settled after)
 
-  -- a start-up judged this of an image without a fault of the driver
+  -- A start-up judged this of an image without a fault of the driver.
   pub record Judges (c : Config) (before after : Store B b) (judged : Result Generation Fault) : Type 0 where
     pub undamaged : (driver_of before).damage ≡ None
     pub is : IsJudged c (driver_of before) (driver_of after) judged
 
-  -- a fault comes by its cause: three faults of the flash, a fault of the driver's image, what was judged, or the last sequence number
-  -- in use where a generation was judged
+  -- A fault comes by its cause: three faults of the flash, a fault of the driver's image, what was judged, or the last sequence number
+  -- in use where a generation was judged.
   abbrev pub RefusedFor : Config → Store B b → Store B b → StartFault → Type 0
   RefusedFor c before after Flash = FailsThrice (driver_of before) (driver_of after)
   RefusedFor c before after (Damaged (Page sector page)) = ((driver_of before).damage ≡ Some (sector, page)) × IsFalse (driver_of before).has_mounted

@@ -12,16 +12,16 @@ use Rattle.flt_generation.specs.Holding.{Generation, first_generation, CommitNam
 use Rattle.flt_generation.specs.Successor.{IsContentOf, number_in}
 use Rattle.flt_store.specs.Cause.{FailsThrice}
 
--- the mark of the configuration stands in the image
+-- The mark of the configuration stands in the image.
 abbrev pub HasMark : Config → (ℕ → Content) → Type 0
 HasMark c value = (raw : List ℕ) × (value mark_number ≡ bytes raw) × IsBytesOfMark (mark_of c) raw
 
--- the generation that a commit names; none names the first
+-- The generation that a commit names; none names the first.
 abbrev pub NamesOf : Config → (ℕ → Content) → Option Commit → Generation → Type 0
 NamesOf c value None g = g ≡ first_generation c
 NamesOf c value (Some commit) g = CommitNames c value commit g
 
--- the mark stands, and both copies of the commit, or neither before the first save, name the generation
+-- The mark stands, and both copies of the commit, or neither before the first save, name the generation.
 pub record IsStarted (c : Config) (value : ℕ → Content) (commit : Option Commit) (g : Generation) : Type 0 where
   pub mark : HasMark c value
   pub first : IsContentOf commit (value first_commit)
@@ -30,20 +30,20 @@ pub record IsStarted (c : Config) (value : ℕ → Content) (commit : Option Com
   pub applications : (block : ℕ) → block < applications → IsTrue (is_application (value (application_number block)))
   pub excess : IsBorne c value
 
--- the generation that a save of this state makes
+-- The generation that a save of this state makes.
 abbrev pub next_generation : Option Commit → Persist → Generation
 next_generation commit state = record { number = number_in commit + 1; state = state }
 
--- the two agree but for the copies of the commit
+-- The two agree but for the copies of the commit.
 abbrev pub AgreeButForCommit : (ℕ → Content) → (ℕ → Content) → Type 0
 AgreeButForCommit before after = (number : ℕ) → number ≢ first_commit → number ≢ second_commit → after number ≡ before number
 
--- the held generation was started, or the spare one, where the flash failed three times
+-- The held generation was started, or the spare one, where the flash failed three times.
 abbrev pub StartsEither : Config → BlocksState → BlocksState → Option Commit → Generation → Generation → Type 0
 StartsEither c before after commit held spare =
     IsStarted c after.value commit held ⊎ (IsStarted c after.value commit spare × FailsThrice before after)
 
--- the mark is as it was, or stands where it was missing
+-- The mark is as it was, or stands where it was missing.
 abbrev pub IsMarkTried : Config → (ℕ → Content) → (ℕ → Content) → Type 0
 IsMarkTried c before after =
     (after mark_number ≡ before mark_number)

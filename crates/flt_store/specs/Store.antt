@@ -16,41 +16,41 @@ use Rattle.flt_store.specs.Known.{Knows, KnowsNamed, MayKnow}
 use Rattle.flt_store.specs.Keeping.{HasCommit}
 use Rattle.flt_image.specs.Blocks.{bytes_at}
 
--- the state under this number
+-- The state under this number.
 abbrev pub numbered : ℕ → Persist → Generation
 numbered number state = record { number = number; state = state }
 
--- what a read of an application block gives
+-- What a read of an application block gives.
 abbrev pub Gets : Content → Bool → List ℕ → Type 0
 Gets missing found out = IsFalse found × (out ≡ [])
 Gets invalid found out = ⊥
 Gets (bytes held) found out = IsTrue found × (out ≡ held)
 
--- the driver was mounted, and leaves a valid configuration its room
+-- The driver was mounted, and leaves a valid configuration its room.
 pub record IsServed (c : Config) (driver : BlocksState) : Type 0 where
   pub given : IsGiven c
   pub room : HasRoom c driver.room
   pub mounted : IsTrue driver.has_mounted
 
 module _ {B : Type 0} {b : Ghosts B} where
-  -- the driver beneath
+  -- The driver beneath.
   abbrev pub driver_of : Store B b → BlocksState
   driver_of store = driver_beneath store.nvm
 
-  -- the commit that the store keeps
+  -- The commit that the store keeps.
   abbrev pub commit_of : Store B b → Option Commit
   commit_of store = store.commit
 
-  -- the bytes of the used blocks that the store keeps, by identifier
+  -- The bytes of the used blocks that the store keeps, by identifier.
   abbrev pub kept_of : Store B b → ℕ → List ℕ
   kept_of store = bytes_at store.saved
 
-  -- the last start-up and every save since then answered Ok
+  -- The last start-up and every save since then answered Ok.
   abbrev pub is_settled : Store B b → Bool
   is_settled store = store.is_settled
 
-  -- the last start-up answered Ok under this configuration: the image holds these two generations, the second by the second copy
-  -- of its commit; while the store is settled, both copies name the first, and the store keeps its bytes
+  -- The last start-up answered Ok under this configuration: the image holds these two generations, the second by the second copy
+  -- of its commit; while the store is settled, both copies name the first, and the store keeps its bytes.
   pub record IsRunning (c : Config) (held spare : Generation) (store : Store B b) : Type 0 where
     pub served : IsServed c (driver_of store)
     pub mark : HasMark c (driver_of store).value
@@ -58,50 +58,50 @@ module _ {B : Type 0} {b : Ghosts B} where
     pub settled : IsTrue (is_settled store) → IsStarted c (driver_of store).value (commit_of store) held
     pub known : IsTrue (is_settled store) → Knows c (kept_of store) held.state
 
-  -- a fact of the two generations that the image of a running store holds
+  -- A fact of the two generations that the image of a running store holds.
   abbrev pub WhileRunning : Config → Store B b → (Generation → Generation → Type 0) → Type 0
   WhileRunning c store fact = (held spare : Generation) → IsRunning c held spare store → fact held spare
 
-  -- both copies name the generation from which a save goes on, of which the store keeps what it knows
+  -- Both copies name the generation from which a save goes on, of which the store keeps what it knows.
   pub record IsReady (c : Config) (g : Generation) (store : Store B b) : Type 0 where
     pub served : IsServed c (driver_of store)
     pub started : IsStarted c (driver_of store).value (commit_of store) g
     pub known : MayKnow c (commit_of store) (kept_of store) g.state
 
-  -- a save goes on from the held generation; or from the spare one, where a save failed before and the flash failed three times
+  -- A save goes on from the held generation; or from the spare one, where a save failed before and the flash failed three times.
   abbrev pub IsChosen : (held spare : Generation) → Generation → Store B b → Store B b → Type 0
   IsChosen held spare chosen before after =
       (chosen ≡ held) ⊎ ((chosen ≡ spare) × IsFalse (is_settled before) × FailsThrice (driver_of before) (driver_of after))
 
-  -- a call before which no save failed, or in which the flash did not fail three times
+  -- A call before which no save failed, or in which the flash did not fail three times.
   abbrev pub IsUndisturbed : Store B b → Store B b → Type 0
   IsUndisturbed before after = IsTrue (is_settled before) ⊎ (FailsThrice (driver_of before) (driver_of after) → ⊥)
 
-  -- a call in which the flash failed less than three times, and after which a sequence number is left
+  -- A call in which the flash failed less than three times, and after which a sequence number is left.
   pub record IsUnhindered (before after : Store B b) : Type 0 where
     pub tries : FailsThrice (driver_of before) (driver_of after) → ⊥
     pub numbers : IsFalse (driver_of after).is_spent
 
-  -- the store keeps the commit that the first copy had, and the bytes of the held generation, which it names
+  -- The store keeps the commit that the first copy had, and the bytes of the held generation, which it names.
   pub record Learns (c : Config) (held : Generation) (before after : Store B b) : Type 0 where
     pub commit : (commit : Commit) → HasCommit c (driver_of before).value commit → commit_of after ≡ Some commit
     pub known : KnowsNamed c (commit_of after) (kept_of after) held.state
 
-  -- a start-up after a save that failed chose the generation from which the next save goes on: both copies name it
+  -- A start-up after a save that failed chose the generation from which the next save goes on: both copies name it.
   pub record Chooses (c : Config) (held spare : Generation) (before after : Store B b) : Type 0 where
     pub chosen : Generation
     pub is : IsChosen held spare chosen before after
     pub ready : IsReady c chosen after
     pub learns : IsUndisturbed before after → Learns c held before after
 
-  -- a save that answered this number, one more than that of the generation from which it went on: both copies name the state under it
+  -- A save that answered this number, one more than that of the generation from which it went on: both copies name the state under it.
   pub record Saves (c : Config) (held spare : Generation) (state : Persist) (number : ℕ) (before after : Store B b) : Type 0 where
     pub chosen : Generation
     pub is : IsChosen held spare chosen before after
     pub next : number ≡ chosen.number + 1
     pub running : IsRunning c (numbered number state) (numbered number state) after
 
-  -- a save that failed: each generation is one of the old two or the new one, and the spare one's number did not fall
+  -- A save that failed: each generation is one of the old two or the new one, and the spare one's number did not fall.
   pub record MayHaveSaved (c : Config) (held spare : Generation) (state : Persist) (before after : Store B b) : Type 0 where
     pub chosen : Generation
     pub is : IsChosen held spare chosen before after
@@ -112,7 +112,7 @@ module _ {B : Type 0} {b : Ghosts B} where
     pub spare_is : IsOneOf now_spare held spare (numbered (chosen.number + 1) state)
     pub rises : spare.number ≤ now_spare.number
 
-  -- the generation from which the save went on has the last number, and both copies name it
+  -- The generation from which the save went on has the last number, and both copies name it.
   pub record IsLast (c : Config) (held spare : Generation) (before after : Store B b) : Type 0 where
     pub last : Generation
     pub is : IsChosen held spare last before after

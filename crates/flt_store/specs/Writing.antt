@@ -7,11 +7,11 @@ use Rattle.flt_generation.specs.Layout.{number_of, index_in, is_used, part_of}
 use Rattle.flt_generation.specs.Form.{part_length}
 use Rattle.flt_generation.specs.Successor.{is_written}
 
--- each used block has as many bytes as its part
+-- Each used block has as many bytes as its part.
 abbrev pub AreSized : Config → (ℕ → List ℕ) → Type 0
 AreSized c bytes_of = (id : ℕ) → IsTrue (is_used c id) → length (bytes_of id) ≡ part_length (part_of id)
 
--- the blocks that are written for the next commit stand where it names them
+-- The blocks that are written for the next commit stand where it names them.
 abbrev pub AreWritten : Config → Option Commit → Commit → (ℕ → List ℕ) → (ℕ → Content) → Type 0
 AreWritten c current next bytes_of value =
     (id : ℕ) → IsTrue (is_written c current next id) → value (number_of id (index_in next id)) ≡ bytes (bytes_of id)

@@ -7,10 +7,10 @@ use Rattle.flt_store.specs.Cause.{HasRoom}
 use Rattle.flt_store.specs.Store.{driver_of}
 
 module _ {B : Type 0} {b : Ghosts B} where
-  -- the driver leaves the configuration its room
+  -- The driver leaves the configuration its room.
   abbrev pub IsRoomy : Config → Store B b → Type 0
   IsRoomy c store = HasRoom c (driver_of store).room
 
-  -- the room is as it was
+  -- The room is as it was.
   abbrev pub SameRoom : Store B b → Store B b → Type 0
   SameRoom before after = (driver_of after).room ≡ (driver_of before).room

@@ -8,7 +8,7 @@ use Rattle.flt_stub.specs.declared.Cell.TheVariants.{Missing}
 use Rattle.flt_stub.specs.Cells.{content_of}
 use Rattle.flt_stub.specs.declared.BlocksMem.{BlocksMem}
 
--- the driver as the layers above see it
+-- The driver as the layers above see it.
 abbrev pub state_of : BlocksMem → BlocksState
 state_of driver = record {
   numbers = range_with_len 0 (length driver.cells.items);
@@ -28,7 +28,7 @@ state_of driver = record {
   };
 }
 
--- a driver that was just made of so many blocks, whose power may come back so often
+-- A driver that was just made of so many blocks, whose power may come back so often.
 pub record IsBlank (blocks times : ℕ) (state : BlocksState) : Type 0 where
   pub numbers : state.numbers ≡ range_with_len 0 blocks
   pub stale : IsTrue state.is_stale
@@ -37,6 +37,6 @@ pub record IsBlank (blocks times : ℕ) (state : BlocksState) : Type 0 where
   pub boots : state.device.bench.boots ≡ []
   pub boots_left : state.device.bench.boots_left ≡ times
 
--- no cell was written
+-- No cell was written.
 abbrev pub AllMissing : List Cell → Type 0
 AllMissing cells = (block : ℕ) → slice_index_or cells block Missing ≡ Missing

@@ -27,14 +27,14 @@ module _ {M S O R B : Type 0} {m : Ghosts M S O R B} (start : S) (room : ℕ)
   pub one_bearer : bearers v.number s.views h.tally.joined ≡ 1
   one_bearer = h.named.one_each v.number is_child
 
-  -- another seat has another number
+  -- Another seat has another number.
   pub others_number : (j : ℕ) (u : View S O) → j ≢ id → get_elem? s.views j ≡ some u → is_spent u.stage ≡ false → v.number ≢ u.number
   others_number j u apart there seated same =
       let both = two_le (sits v.number) s.views id j v u apart at there in
       let theirs : sits v.number u ≡ 1 = ap (λ b. one_if (not b && eqb u.number v.number)) seated ∙ ap one_if (eq-eqb u.number v.number (sym same)) in
       omega (arith, both, theirs, sits_here, one_bearer)
 
-  -- a step after which the seat has its number as before
+  -- A step after which the seat has its number as before.
   module _ (w : View S O) (number_is : w.number ≡ v.number) (seated : is_spent w.stage ≡ false) where
     as_spent : is_spent w.stage ≡ is_spent v.stage
     as_spent = seated ∙ sym unspent
@@ -47,6 +47,6 @@ module _ {M S O R B : Type 0} {m : Ghosts M S O R B} (start : S) (room : ℕ)
     pub seats_same : total present (set s.views id w) + length h.tally.joined ≡ h.tally.children + 1
     seats_same = let same = total-same present s.views id v w at (ap (λ b. one_if (not b)) as_spent) in let p = h.sums.seats in omega arith
 
-    -- and its calls
+    -- And its calls.
     pub lengths_same : w.mine ≡ v.mine → total calls_made (set s.views id w) + total (λ seat. length seat.1) h.tally.joined ≡ h.tally.served
     lengths_same mine_is = let same = total-same calls_made s.views id v w at (λ i. cond (as_spent i) 0 (length (mine_is i))) in let p = h.sums.lengths in omega arith

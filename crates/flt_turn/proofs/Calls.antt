@@ -14,7 +14,7 @@ use Rattle.flt_turn.specs.Views.{drawn, turned, done}
 use Rattle.flt_turn.proofs.Journals.{calls_of-append, nothing_more, take_front}
 
 module _ {M S O R B : Type 0} {m : Ghosts M S O R B} where
-  -- the view of a seat that has the turn
+  -- The view of a seat that has the turn.
   abbrev pub at_turn : ℕ → VaultOf m → View S O → View S O
   at_turn ticket found v = turned ticket (journal_of found) (drawn ticket v)
 
@@ -30,7 +30,7 @@ module _ {M S O R B : Type 0} {m : Ghosts M S O R B} where
     allowed = allowed;
   }
 
-  -- what a call tells, of a seat that showed this before it, and has this view and these slots after it
+  -- What a call tells, of a seat that showed this before it, and has this view and these slots after it.
   pub record Called (shown : Seated S O) (lock : TableId) (v : View S O) (after : Me (Option (VaultOf m)) (View S O)) (found given : VaultOf m) (op : O) (ticket : ℕ) : Type 0 where
     pub view : after.0 ≡ done (journal_of given) op (at_turn ticket found v)
     pub empty : after.1 ≡ []

@@ -23,7 +23,7 @@ module _ {X : Type 0} (p f : X → ℕ) (only : (x : X) → p x ≡ 0 → f x �
   total_none [] none = refl
   total_none (x ∷ xs) none = omega (arith, only x (omega arith), total_none xs (omega arith))
 
-  -- where p counts one place alone, f has nothing elsewhere
+  -- Where p counts one place alone, f has nothing elsewhere.
   total_only : (xs : List X) (i : ℕ) (v : X) → get_elem? xs i ≡ some v → p v ≡ 1 → total p xs ≡ 1 → total f xs ≡ f v
   total_only [] i v at one all = absurd (some-ne-none v (sym at))
   total_only (x ∷ xs) zero v at one all =
@@ -72,7 +72,7 @@ module _ {S O : Type 0} where
       by_case false e = absurd (omega arith)
 
 module _ {M S O R B : Type 0} {m : Ghosts M S O R B} (start : S) (room : ℕ) where
-  -- what the main seat knows of the vault that comes back
+  -- What the main seat knows of the vault that comes back.
   pub record Comes (main : Seated S O) (vault : VaultOf m) : Type 0 where
     pub start_is : start_of vault ≡ main.start
     pub seen : IsPrefix main.seen (journal_of vault)
@@ -144,7 +144,7 @@ module _ {M S O R B : Type 0} {m : Ghosts M S O R B} (start : S) (room : ℕ) wh
       let home = at_home f.0 h id v at idle main whole in
       (home.vault, f.4 0 (Some home.vault) home.there, comes f.0 h id v at idle main whole lock home)
 
-  -- the same, of what the seat shows and of what is then taken out
+  -- The same, of what the seat shows and of what is then taken out.
   pub closes_shown : (lock : TableId) (id : ℕ) (v : View S O) (words : List ℕ) (slots : List (Option (VaultOf m))) (shown : Seated S O) (taken : Option (VaultOf m)) → seated lock v ≡ shown → v.stage ≡ Idle → shown.number ≡ 0
       → length shown.ended ≡ shown.children → Final (Seen (Orderly start room) id v) words slots → get_elem? slots 0 ≡ some taken → (vault : VaultOf m) × (taken ≡ Some vault) × Comes shown vault
   closes_shown lock id v words slots shown taken is idle main whole f found =

@@ -87,7 +87,7 @@ module _ {M S O R B : Type 0} {m : Ghosts M S O R B} (start : S) (room : ℕ) wh
         refl,
       )
 
-  -- the same, of any seat that is idle
+  -- The same, of any seat that is idle.
   pub draws_empty : (slots id : ℕ) (me : Me (Option (VaultOf m)) (View S O)) → me.0.stage ≡ Idle → 0 < me.0.left
       → Allows (Orderly start room) slots id me 0 (λ n. (n + 1) % 2 ^ 64) (λ n after. after ≡ (drawn n me.0, me.1))
   draws_empty slots id me idle some_left = draws_ticket slots id me.0 me.1 idle some_left

@@ -25,7 +25,7 @@ module _ {M S O R B : Type 0} {m : Ghosts M S O R B} (start : S) (room : ℕ) wh
   abbrev Found : ℕ → View S O → VaultOf m → Type 0
   Found = IsTakenOut
 
-  -- a look that changes nothing
+  -- A look that changes nothing.
   unchanged : (s : State (Option (VaultOf m)) (View S O)) (id : ℕ) (v : View S O) (held : List (ℕ × Option (VaultOf m))) → Orderly start room s → get_elem? s.views id ≡ some v
       → Orderly start room (stepped s 1 (get_or s.words 1 0) id held v keeps)
   unchanged s id v held h at = subst (λ (x : List ℕ × List (View S O)). Orderly start room record { words = x.0; homes = s.homes; views = x.1 })
@@ -175,7 +175,7 @@ module _ {M S O R B : Type 0} {m : Ghosts M S O R B} (start : S) (room : ℕ) wh
         λ t is. ((λ _. refl), (λ same. absurd (other (sym served ∙ same ∙ sym (same_ticket t is))))),
       ))
 
-  -- the same, of a seat that holds no slot
+  -- The same, of a seat that holds no slot.
   pub looks_empty : (slots id : ℕ) (me : Me (Option (VaultOf m)) (View S O)) (st : Step (Option (VaultOf m))) (ticket : ℕ) → me.1 ≡ [] → me.0.stage ≡ Waiting ticket
       → Allows (Orderly start room) slots id me 1 (λ n. n) (looks st me)
   looks_empty slots id me st ticket empty waiting =

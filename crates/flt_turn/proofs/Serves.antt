@@ -71,7 +71,7 @@ module _ {M S O R B : Type 0} {m : Ghosts M S O R B} (start : S) (room : ℕ) wh
     holders_none : holders ticket (set s.views id w) ≡ 0
     holders_none = omega (arith, waits_same ticket, serves_none, one_holder, serving_here)
 
-    -- no other seat has the turn
+    -- No other seat has the turn.
     others_turn : (j : ℕ) (u : View S O) → j ≢ id → get_elem? s.views j ≡ some u → (t : ℕ) → u.stage ≢ Serving t
     others_turn j u apart there t turn =
         let theirs : serves t u ≡ 1 = ap (serves_at t) turn ∙ ap one_if (eq-eqb t t refl) in
@@ -192,7 +192,7 @@ module _ {M S O R B : Type 0} {m : Ghosts M S O R B} (start : S) (room : ℕ) wh
         λ i. (done (one_journal i) (one_op i) v, []),
   )
 
-  -- the same, of a seat that holds the vault to give back
+  -- The same, of a seat that holds the vault to give back.
   pub serves_held : (slots id : ℕ) (me : Me (Option (VaultOf m)) (View S O)) (st : Step (Option (VaultOf m))) (v : View S O) (vault : VaultOf m) → me ≡ (v, (0, Some vault) ∷ []) → IsTurn v vault
       → Allows (Orderly start room) slots id me 1 (λ n. (n + 1) % 2 ^ 64) (serves_next st me)
   serves_held slots id me st v vault is turn =

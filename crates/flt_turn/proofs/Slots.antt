@@ -14,7 +14,7 @@ module _ {W : Type 0} where
   first_or w [] = w
   first_or w (x ∷ xs) = value_or w x.1
 
-  -- a seat holds one value there
+  -- A seat holds one value there.
   pub one_value : (held xs ys : List (ℕ × Option W)) (a b : W) → held ≡ (0, Some a) ∷ xs → held ≡ (0, Some b) ∷ ys → a ≡ b
   one_value held xs ys a b is_a is_b = ap (first_or a) (sym is_a ∙ is_b)
 

@@ -10,16 +10,16 @@ use Rattle.flt_turn.specs.Vaults.{VaultOf, journal_of, start_of, room_of}
 use Rattle.flt_turn.specs.Views.{drawn, turned, done}
 
 module _ {W S O : Type 0} where
-  -- the seat has the ticket that it found
+  -- The seat has the ticket that it found.
   abbrev pub draws : Step (Option W) → Me (Option W) (View S O) → ℕ → Me (Option W) (View S O) → Type 0
   draws st before found after = after ≡ (drawn found before.0, before.1)
 
-  -- nothing changes, and the main seat learns that its counts are small
+  -- Nothing changes, and the main seat learns that its counts are small.
   abbrev pub counts : Step (Option W) → Me (Option W) (View S O) → ℕ → Me (Option W) (View S O) → Type 0
   counts st before found after = (after ≡ before) × (before.0.left < 2 ^ 32) × (before.0.number ≡ 0 → length before.0.ended ≤ before.0.children)
 
 module _ {M S O R B : Type 0} {m : Ghosts M S O R B} where
-  -- the vault that a seat takes out at the turn of this ticket
+  -- The vault that a seat takes out at the turn of this ticket.
   pub record IsTakenOut (ticket : ℕ) (v : View S O) (vault : VaultOf m) : Type 0 where
     pub start_is : start_of vault ≡ v.start
     pub roomy : (length (journal_of vault) < v.room) × (v.room ≤ room_of vault)
@@ -31,7 +31,7 @@ module _ {M S O R B : Type 0} {m : Ghosts M S O R B} where
     pub own : calls_of v.number v.seen ≡ v.mine
     pub admitted : All (λ e. m.admits v.start e.op) (journal_of vault)
 
-  -- the seat has the turn, and the vault that it will give back has one call more in its journal, which is the seat's
+  -- The seat has the turn, and the vault that it will give back has one call more in its journal, which is the seat's.
   pub record IsTurn (v : View S O) (vault : VaultOf m) : Type 0 where
     pub ticket : ℕ
     pub op : O
@@ -41,14 +41,14 @@ module _ {M S O R B : Type 0} {m : Ghosts M S O R B} where
     pub roomy : v.room ≤ room_of vault
     pub allowed : m.admits v.start op
 
-  -- where its ticket is served the seat takes the vault out, and knows its journal
+  -- Where its ticket is served the seat takes the vault out, and knows its journal.
   abbrev pub looks : Step (Option (VaultOf m)) → Me (Option (VaultOf m)) (View S O) → ℕ → Me (Option (VaultOf m)) (View S O) → Type 0
   looks st before found after = (ticket : ℕ) → before.0.stage ≡ Waiting ticket
       → (found ≢ ticket → after ≡ before)
       × (found ≡ ticket → (vault : VaultOf m) × (after ≡ (turned ticket (journal_of vault) before.0, (0, Some vault) ∷ before.1))
       × IsTakenOut ticket before.0 vault)
 
-  -- the seat gives the vault back, with one call more in its journal
+  -- The seat gives the vault back, with one call more in its journal.
   abbrev pub serves_next : Step (Option (VaultOf m)) → Me (Option (VaultOf m)) (View S O) → ℕ → Me (Option (VaultOf m)) (View S O) → Type 0
   serves_next st before found after = (vault : VaultOf m) (op : O) → before.1 ≡ (0, Some vault) ∷ []
       → journal_of vault ≡ before.0.seen ++ entry before.0.number op ∷ []

@@ -7,27 +7,27 @@ use Rattle.flt_turn.specs.declared.view.Stage.TheVariants.{Idle}
 use Rattle.flt_turn.specs.declared.view.View.{View}
 use Rattle.flt_turn.specs.Journal.{entry, ops_of, calls_of}
 
--- what contracts see of a seat
+-- What contracts see of a seat.
 pub record Seated (S O : Type 0) : Type 0 where
-  -- the lock that it belongs to
+  -- The lock that it belongs to.
   pub lock : TableId
   pub number : ℕ
   pub start : S
-  -- how many calls are left to it, and how many seats were split from it
+  -- How many calls are left to it, and how many seats were split from it.
   pub left : ℕ
   pub children : ℕ
-  -- the beginning of the journal that it knows, and its own operations in it
+  -- The beginning of the journal that it knows, and its own operations in it.
   pub seen : List (Entry O)
   pub mine : List O
-  -- beginnings that joined seats knew, and the operations of each joined seat by its number
+  -- Beginnings that joined seats knew, and the operations of each joined seat by its number.
   pub olds : List (List (Entry O))
   pub ended : List (ℕ × List O)
 
--- the lock made the seat
+-- The lock made the seat.
 abbrev pub IsSeatOf : {S O : Type 0} → TableId → Seated S O → Type 0
 IsSeatOf lock seat = seat.lock ≡ lock
 
--- what a seat of this lock shows of its view
+-- What a seat of this lock shows of its view.
 abbrev pub seated : {S O : Type 0} → TableId → View S O → Seated S O
 seated lock v = record {
   lock = lock;
@@ -41,7 +41,7 @@ seated lock v = record {
   ended = v.ended;
 }
 
--- between two calls a seat holds no slot, and the counts that it keeps are those of its view
+-- Between two calls a seat holds no slot, and the counts that it keeps are those of its view.
 pub record FitsView {H S O : Type 0} (v : View S O) (held : List H) (number left children waiting : ℕ) : Type 0 where
   pub idle : v.stage ≡ Idle
   pub empty : held ≡ []
@@ -50,18 +50,18 @@ pub record FitsView {H S O : Type 0} (v : View S O) (held : List H) (number left
   pub children_is : v.children ≡ children
   pub waiting_is : waiting + length v.ended ≡ children
 
--- the operations that stand in the journal before a place
+-- The operations that stand in the journal before a place.
 abbrev pub ops_before : {O : Type 0} → ℕ → List (Entry O) → List O
 ops_before place journal = ops_of (take place journal)
 
--- one call of a seat, at a place of the journal
+-- One call of a seat, at a place of the journal.
 pub record Extends {S O : Type 0} (before after : Seated S O) (op : O) (place : ℕ) : Type 0 where
-  -- what other seats did since it last saw the journal
+  -- What other seats did since it last saw the journal.
   pub between : List (Entry O)
   pub seen : after.seen ≡ (before.seen ++ between) ++ entry before.number op ∷ []
   pub others : calls_of before.number between ≡ []
   pub place_is : length (before.seen ++ between) ≡ place
-  -- what joined seats knew stands before the call, and there the seat's operations are all that have its number
+  -- What joined seats knew stands before the call, and there the seat's operations are all that have its number.
   pub olds : All (λ old. IsPrefix old (before.seen ++ between)) before.olds
   pub own : calls_of before.number (before.seen ++ between) ≡ before.mine
   pub mine : after.mine ≡ before.mine ++ op ∷ []
@@ -70,15 +70,15 @@ pub record Extends {S O : Type 0} (before after : Seated S O) (op : O) (place : 
   pub rest : (after.number ≡ before.number) × (after.start ≡ before.start) × (after.children ≡ before.children) × (after.olds ≡ before.olds)
       × (after.ended ≡ before.ended)
 
--- a main seat that has made no call
+-- A main seat that has made no call.
 abbrev pub main_seat : {S O : Type 0} → TableId → S → ℕ → Seated S O
 main_seat lock start room = record { lock = lock; number = 0; start = start; left = room; children = 0; seen = []; mine = []; olds = []; ended = [] }
 
--- the main seat, when a seat with these calls is split from it
+-- The main seat, when a seat with these calls is split from it.
 abbrev pub split_off : {S O : Type 0} → ℕ → Seated S O → Seated S O
 split_off calls main = record main { left = main.left - calls; children = main.children + 1 }
 
--- and that seat
+-- And that seat.
 abbrev pub split_seat : {S O : Type 0} → ℕ → Seated S O → Seated S O
 split_seat calls main = record {
   lock = main.lock;
@@ -92,7 +92,7 @@ split_seat calls main = record {
   ended = [];
 }
 
--- the main seat, when it has taken in another
+-- The main seat, when it has taken in another.
 abbrev pub joined_seat : {S O : Type 0} → Seated S O → Seated S O → Seated S O
 joined_seat main other = record main {
   left = main.left + other.left;

@@ -5,19 +5,19 @@ use Rattle.flt_turn.specs.declared.machine.Machine.{Ghosts}
 use Rattle.flt_turn.specs.declared.vault.Entry.{Entry}
 use Rattle.flt_turn.specs.declared.vault.Vault.{Vault}
 
--- the vaults of the machines with these meanings
+-- The vaults of the machines with these meanings.
 abbrev pub VaultOf : {M S O R B : Type 0} → Ghosts M S O R B → Type 0
 VaultOf {M} {S} {O} {R} {B} m = Vault M S O R B m
 
 module _ {M S O R B : Type 0} {m : Ghosts M S O R B} where
-  -- the operations that its machine took, in order, each with the number of its seat
+  -- The operations that its machine took, in order, each with the number of its seat.
   abbrev pub journal_of : VaultOf m → List (Entry O)
   journal_of vault = vault.journal.items
 
-  -- what its machine began with
+  -- What its machine began with.
   abbrev pub start_of : VaultOf m → S
   start_of vault = m.start vault.machine
 
-  -- how many entries its journal has room for
+  -- How many entries its journal has room for.
   abbrev pub room_of : VaultOf m → ℕ
   room_of vault = vec_capacity vault.journal

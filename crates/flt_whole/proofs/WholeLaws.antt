@@ -16,11 +16,11 @@ use Rattle.flt_whole.specs.Whole.{unless_damaged}
 use Rattle.flt_whole.specs.Image.{image_damage, image_blocks}
 use Rattle.flt_whole.specs.Laws.{HasImageFault, HasFirstImageFault, TellsFirstImageFault, HeldStandsInImage, SpareStandsInImage, SoundImageHoldsBoth, HoldsFirst, UnwrittenHoldsFirst, BlankHoldsFirst}
 
--- a configuration has pages for two gates
+-- A configuration has pages for two gates.
 least_of : (c : Config) → IsGiven c → 2 ≤ c.pages
 least_of c given = omega (arith, given.valid.pages.0)
 
--- each fault of the blocks comes behind those of the pages
+-- Each fault of the blocks comes behind those of the pages.
 behind_pages : (c : Config) (value : ℕ → Content) (commit : Content) (fault : Fault) → HasFault c value commit fault → 0 < judging_order fault
 behind_pages c value commit (damaged (Page sector page)) is = absurd is
 behind_pages c value commit (damaged (Block zero)) is = omega arith
@@ -28,7 +28,7 @@ behind_pages c value commit (damaged (Block (suc k))) is = omega arith
 behind_pages c value commit (other mark) is = omega arith
 
 module _ (c : Config) (given : IsGiven c) (image : List (List (List ℕ))) (commit : Content) where
-  -- the blocks are at fault
+  -- The blocks are at fault.
   of_blocks : (fault : Fault) → HasFault c (image_blocks c image) commit fault → HasImageFault c image commit fault
   of_blocks (damaged (Page sector page)) is = absurd is
   of_blocks (damaged (Block id)) is = is
@@ -39,7 +39,7 @@ module _ (c : Config) (given : IsGiven c) (image : List (List (List ℕ))) (comm
   to_blocks none (damaged (Block id)) is = is
   to_blocks none (other mark) is = is
 
-  -- the pages are at fault
+  -- The pages are at fault.
   of_page : (place : ℕ × ℕ) → image_damage c image ≡ Some place → HasImageFault c image commit (damaged (Page place.0 place.1))
   of_page place is = first.where_told c.pages numbers image (least_of c given) place is
 
@@ -81,7 +81,7 @@ pub tells_first : (commit_of : (ℕ → Content) → Content) → TellsFirstImag
 tells_first commit_of c given image fault =
     by_damage c given image (commit_of (image_blocks c image)) (image_damage c image) refl fault (laws.first_fault_is_told commit_of c given (image_blocks c image) fault)
 
--- a generation is held where no page is at fault
+-- A generation is held where no page is at fault.
 held_of : (damage : Option (ℕ × ℕ)) (judged : Result Generation Fault) (g : Generation) → (unless_damaged damage judged ≡ Ok g) ↔ ((damage ≡ None) × (judged ≡ Ok g))
 held_of None judged g = (λ is. (refl, is), λ is. is.1)
 held_of (Some place) judged g = (λ is. absurd (cc is), λ is. absurd (cc is.0))
@@ -107,7 +107,7 @@ sound_image_holds_both c given image one two =
       λ is. (let by_first = first_law.0 is.0 in let by_second = second_law.0 is.1 in record { undamaged = by_first.0; sound = sound_law.1 (by_first.1, by_second.1, is.2) }),
     )
 
--- where each block is missing
+-- Where each block is missing.
 holds_first : (c : Config) → IsGiven c → (image : List (List (List ℕ))) → image_damage c image ≡ None → ((number : ℕ) → image_blocks c image number ≡ missing) → HoldsFirst c image
 holds_first c given image undamaged empty = record { sound = record { undamaged = undamaged; sound = laws.blank_is_sound c given (image_blocks c image) empty }; empty = empty }
 

@@ -7,26 +7,26 @@ use Rattle.flt_generation.specs.Layout.{numbers, application_number}
 use Rattle.flt_generation.specs.Holding.{Generation, Fault}
 use Rattle.flt_whole.specs.Whole.{whole_held, whole_spare, IsSoundWhole}
 
--- the first fault of its pages, by sector and page
+-- The first fault of its pages, by sector and page.
 abbrev pub image_damage : Config → List (List (List ℕ)) → Option (ℕ × ℕ)
 image_damage c image = first_fault c.pages numbers image
 
--- what it holds under each number
+-- What it holds under each number.
 abbrev pub image_blocks : Config → List (List (List ℕ)) → ℕ → Content
 image_blocks c image = block_value c.pages numbers image
 
--- the generation that it holds, or its first fault: that of its pages before any of its blocks
+-- The generation that it holds, or its first fault: that of its pages before any of its blocks.
 abbrev pub image_held : Config → List (List (List ℕ)) → Result Generation Fault
 image_held c image = whole_held c (image_damage c image) (image_blocks c image)
 
--- the generation that it holds where the first copy of its commit can't be read
+-- The generation that it holds where the first copy of its commit can't be read.
 abbrev pub image_spare : Config → List (List (List ℕ)) → Result Generation Fault
 image_spare c image = whole_spare c (image_damage c image) (image_blocks c image)
 
--- an application block of it
+-- An application block of it.
 abbrev pub image_application : Config → List (List (List ℕ)) → ℕ → Content
 image_application c image block = image_blocks c image (application_number block)
 
--- it has no fault, and holds these two generations, which are one or follow each other
+-- It has no fault, and holds these two generations, which are one or follow each other.
 abbrev pub IsSoundImage : Config → List (List (List ℕ)) → Generation → Generation → Type 0
 IsSoundImage c image = IsSoundWhole c (image_damage c image) (image_blocks c image)

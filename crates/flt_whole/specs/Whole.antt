@@ -5,21 +5,21 @@ use Rattle.flt_config.specs.declared.config.Config.{Config}
 use Rattle.flt_generation.specs.declared.place.Place.TheVariants.{Page}
 use Rattle.flt_generation.specs.Holding.{Generation, Fault, damaged, held, spare, IsSound}
 
--- a fault of the pages is told at its sector and page, and the blocks are not judged
+-- A fault of the pages is told at its sector and page, and the blocks are not judged.
 abbrev pub unless_damaged : Option (ℕ × ℕ) → Result Generation Fault → Result Generation Fault
 unless_damaged None judged = judged
 unless_damaged (Some place) judged = Err (damaged (Page place.0 place.1))
 
 module _ (c : Config) (damage : Option (ℕ × ℕ)) (value : ℕ → Content) where
-  -- the generation that is held
+  -- The generation that is held.
   abbrev pub whole_held : Result Generation Fault
   whole_held = unless_damaged damage (held c value)
 
-  -- the generation that is held where the first copy of the commit can't be read
+  -- The generation that is held where the first copy of the commit can't be read.
   abbrev pub whole_spare : Result Generation Fault
   whole_spare = unless_damaged damage (spare c value)
 
-  -- no page is at fault, and the two generations are one or follow each other
+  -- No page is at fault, and the two generations are one or follow each other.
   pub record IsSoundWhole (held_now spare_now : Generation) : Type 0 where
     pub undamaged : damage ≡ None
     pub sound : IsSound c value held_now spare_now

@@ -6,7 +6,7 @@ use Rattle.flt_generation.proofs.States.{with_states_more, no_states_set}
 use Rattle.flt_image.proofs.Takings.{block_state_at}
 use Rattle.flt_image.proofs.states.set_states.Goals as goal
 
--- the state where there is none
+-- The state where there is none.
 abbrev none : EventState
 none = record { status = 0; failed = 0; clean = 0; lit = false }
 

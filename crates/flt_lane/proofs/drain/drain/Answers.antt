@@ -41,7 +41,7 @@ pub returns-in_default-clause-leaves : goal.returns-in_default-clause-leaves
 returns-in_default-clause-leaves g c =
     short_leaves c.args.config.now c.args.seat.now c.loop-job.seat c.take_job.new.seat c.loop-job.written c.loop-job.failed c.loop-job._job c.args.store.now c.loop-job.store c.take_job.new.store c.loop-job.invariant.drained c.in_default.ensures.looks
 
--- it took 32 jobs
+-- It took 32 jobs.
 all_taken : (job : ℕ) → job ≡ 32 → job ≡ 32
 all_taken job is = is
 

@@ -13,12 +13,12 @@ use Rattle.flt_turn.specs.Sums.{one_if}
 use Rattle.flt_lane.specs.Draining.{WritesJob}
 use Rattle.flt_lane.proofs.drain.write_job.Goals as goal
 
--- what was put, where that was answered
+-- What was put, where that was answered.
 on_ok : {T E : Type 0} (result : Result T E) (P : Type 0) → OnOk result P → is_ok result ≡ true → P
 on_ok (Ok value) P holds is = holds
 on_ok (Err fault) P holds is = absurd (false≢true is)
 
--- where the last sequence number is not in use, a job that could not be written met three faults
+-- Where the last sequence number is not in use, a job that could not be written met three faults.
 rose_by : (result : Result (Unit {0}) PutFault) (before after : ℕ) (spent : Bool) → (result ≡ Err faults.Flash → HasRisenBy 3 before after) → (result ≡ Err faults.SequenceSpent → IsTrue spent) → HasRisenBy 0 before after → IsFalse spent
     → HasRisenBy (3 * one_if (not (is_ok result))) before after
 rose_by (Ok value) before after spent flash sequence counts unspent = omega (arith, counts)

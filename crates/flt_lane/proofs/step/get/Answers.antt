@@ -24,7 +24,7 @@ use Rattle.flt_lane.proofs.Keeping.{IsNoSave}
 use Rattle.flt_lane.proofs.Leaving.{leaves_by_calls}
 use Rattle.flt_lane.proofs.step.get.Goals as goal
 
--- what a read carries on, by its answer
+-- What a read carries on, by its answer.
 read_carries : {B : Type 0} {b : Ghosts B} (c : Config) (seat : Seat) (jobs : QueueSeat) (earlier : List Deed) (block : ℕ) (told : Told) (store now : Store B b) → SameValues (driver_of store) (driver_of now)
     → ((held spare : Generation) → IsRunning c held spare store → IsRunning c held spare now) → IsNoSave told → saves_by told ≡ 0 → drains_by told ≡ 0 → jobs_told (told ∷ answers_of earlier) ≡ jobs_told (answers_of earlier)
     → ((begun : ℕ) → IsCaused c begun (answers_of earlier) store → IsCaused c begun (told ∷ answers_of earlier) now)
@@ -37,7 +37,7 @@ read_carries c seat jobs earlier block told store now same runs no_save no_saves
   holds = λ alive first holds. holds_deed first jobs earlier (steps.Get block, told) (driver_of store).value (driver_of now).value (λ number below. same (application_number number)) no_drain no_job (gets alive first) holds;
 }
 
--- the block holds this by the drains before
+-- The block holds this by the drains before.
 held_by : (first : ℕ → Content) (past : History) (earlier : List Deed) (values : ℕ → Content) (block : ℕ) (content : Content) → block < applications → values (application_number block) ≡ content → AreHeld first past (jobs_told (answers_of earlier)) earlier values
     → MayHold block (first (application_number block)) (up_to_done (jobs_told (answers_of earlier)) past) content
 held_by first past earlier values block content below is held = subst (MayHold block (first (application_number block)) (up_to_done (jobs_told (answers_of earlier)) past)) is (held.held block below)

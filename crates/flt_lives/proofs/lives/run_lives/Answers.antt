@@ -19,7 +19,7 @@ use Rattle.flt_lives.proofs.Giving.{none_given, given_further, all_given}
 use Rattle.flt_lives.proofs.Linking.{links_none, links_more, linked_of}
 use Rattle.flt_lives.proofs.lives.run_lives.Goals as goal
 
--- one life more, and the parts that it has
+-- One life more, and the parts that it has.
 views_more : {A : Type 0} (script : List (Vec Part A)) (lived : List Life) (item : Vec Part A) (life : Life) → length lived < length script → item ≡ get_or script (length lived) item
     → views_of (lists script) (lived ++ life ∷ []) ≡ views_of (lists script) lived ++ view_of (parts_of item.items) life ∷ []
 views_more [] lived item life within is = absurd (omega (arith, within))
@@ -36,14 +36,14 @@ module _ {A : Type 0} (script : List (Vec Part A)) (index : ℕ) (item : Vec Par
       ∙ reverse-append (views_of (lists script) lived) (view_of (parts_of item.items) life ∷ [])
       ∙ ap (λ items. view_of (parts_of items) life ∷ lives_seen (lists script) lived) (sym parts_are)
 
-  -- one life has no more of anything than all
+  -- One life has no more of anything than all.
   one_of_many : (count : List Part → ℕ) → count item.items ≤ sum_by (λ (life : Vec Part A). count life.items) script
   one_of_many count =
       let most = sum_by_more_le (λ (life : Vec Part A). count life.items) script index item within in
       let same = ap (λ (life : Vec Part A). count life.items) is in
       omega (arith, most, same)
 
--- as many are seen as were lived
+-- As many are seen as were lived.
 views_count : (script : List (List (PartOf Step))) (lived : List Life) → length (views_of script lived) ≡ length lived
 views_count script [] = refl
 views_count [] (life ∷ lived) = ap suc (views_count [] lived)

@@ -8,7 +8,7 @@ use Rattle.flt_script.specs.Step.{steps_of}
 use Rattle.flt_run.proofs.Counted.{sum_mapped}
 use Rattle.flt_run.proofs.line.step_count.Goals as goal
 
--- how many steps a life has
+-- How many steps a life has.
 abbrev size : Vec Part Global → ℕ
 size life = steps_of (parts_of life.items)
 

@@ -8,7 +8,7 @@ use Rattle.flt_script.specs.Step.{steps_of_part}
 use Rattle.flt_run.proofs.Counted.{sum_mapped}
 use Rattle.flt_run.proofs.line.steps_of.Goals as goal
 
--- how many steps a part has
+-- How many steps a part has.
 abbrev size : Part → ℕ
 size part = steps_of_part (part_of part)
 

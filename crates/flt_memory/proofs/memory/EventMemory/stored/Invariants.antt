@@ -4,7 +4,7 @@ use Rattle.std.specs.Prelude.{is_some}
 use Rattle.flt_config.specs.Durable.{is_of_event}
 use Rattle.flt_memory.proofs.memory.EventMemory.stored.Given as goal
 
--- the events of the entries that were passed are marked, and the others stand behind
+-- The events of the entries that were passed are marked, and the others stand behind.
 abbrev pub invariant-loop-entry : goal.invariant-loop-entry
 invariant-loop-entry l = record {
   size : length l.stored ≡ 64;
