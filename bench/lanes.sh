@@ -1,7 +1,9 @@
 #!/bin/sh
 # bench/lanes.sh: what a load of 60,000 reports costs in four lanes beside one lane after the other: wall time (the best of five) and
-# peak memory, and whether both print the same; and the peak memory of scripts of 65,536 steps, the most that a script has.
+# peak memory, and whether both print the same; and the peak memory of scripts of 65,536 steps, the most that a script has, over 64
+# events or as many as the first word says.
 set -eu
+events=${1:-64}
 cd "$(dirname "$0")/.."
 ./faultmem check </dev/null >/dev/null
 program=crates/faultmem/out/faultmem
@@ -32,7 +34,7 @@ for kind in plain lanes; do
 done
 cmp "$reports/plain" "$reports/lanes"
 for generator in make_steps.sh make_requests.sh make_jobs.sh; do
-    sh "bench/$generator" 65536 >"$reports/script"
+    sh "bench/$generator" 65536 "$events" >"$reports/script"
     echo "65536 steps of $generator"
     peak "$reports/script" run
 done

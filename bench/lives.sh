@@ -1,7 +1,8 @@
 #!/bin/sh
-# bench/lives.sh: what a run of 200 lives with 400 saves costs beside one of 20: wall time (the best of five) and, where valgrind is
-# there, instructions.
+# bench/lives.sh [EVENTS]: what a run of 200 lives with 400 saves over so many events (16) costs beside one of 20: wall time (the best of
+# five) and, where valgrind is there, instructions.
 set -eu
+events=${1:-16}
 cd "$(dirname "$0")/.."
 ./faultmem check </dev/null >/dev/null
 program=crates/faultmem/out/faultmem
@@ -9,7 +10,7 @@ scripts=$(mktemp -d)
 trap 'rm -rf "$scripts"' EXIT
 for lives in 20 200; do
     script=$scripts/$lives.script
-    sh bench/make_lives.sh "$lives" >"$script"
+    sh bench/make_lives.sh "$lives" "$events" >"$script"
     best=
     for _ in 1 2 3 4 5; do
         from=$(date +%s%N)

@@ -1,15 +1,16 @@
 #!/bin/sh
-# bench/make_lives.sh LIVES: a script of so many lives over 16 events, each with two saves; 200 by default.
+# make_lives.sh [LIVES [EVENTS]]: a script of so many lives (200) over so many events (16), each with two saves, on standard output.
 lives=${1:-200}
+events=${2:-16}
 echo "config 1"
 event=0
-while [ "$event" -lt 16 ]; do
+while [ "$event" -lt "$events" ]; do
     printf 'event %d dtc %06X\n' "$event" $((0x100 + event))
     event=$((event + 1))
 done
 life=0
 while [ "$life" -lt "$lives" ]; do
     [ "$life" -eq 0 ] || echo power
-    printf 'cycle 0\nfail %d\nsave\npass %d\nsave\n' $((life % 16)) $((life % 16))
+    printf 'cycle 0\nfail %d\nsave\npass %d\nsave\n' $((life % events)) $((life % events))
     life=$((life + 1))
 done

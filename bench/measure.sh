@@ -1,10 +1,12 @@
 #!/bin/sh
-# bench/measure.sh GENERATOR UNIT: what a run of a script of 65,536 units that GENERATOR makes costs beside one of 4,096: wall time
-# (the best of five), time a unit, peak memory, write calls, and instructions where valgrind is there.
+# bench/measure.sh GENERATOR UNIT [EVENTS]: what a run of a script of 65,536 units that GENERATOR makes, over so many events where that
+# is given, costs beside one of 4,096: wall time (the best of five), time a unit, peak memory, write calls, and instructions where
+# valgrind is there.
 set -eu
 cd "$(dirname "$0")/.."
 generator=$1
 unit=$2
+events=${3:-}
 ./faultmem check </dev/null >/dev/null
 program=crates/faultmem/out/faultmem
 scripts=$(mktemp -d)
@@ -32,7 +34,7 @@ instructions() {
 
 for units in 4096 65536; do
     script=$scripts/$units.script
-    sh "bench/$generator" "$units" >"$script"
+    sh "bench/$generator" "$units" $events >"$script"
     took=$(shortest "$script")
     echo "$units ${unit}s: $took microseconds, $((took * 1000 / units)) nanoseconds a $unit"
     echo "  report: $(wc -c <"$scripts/report") bytes"

@@ -19,7 +19,7 @@ use std::thread::Threads;
 use std::{fs, io};
 
 /// The scripts by their names, each with the status that it ends with.
-const EXAMPLES: [(&str, u8); 26] = [
+const EXAMPLES: [(&str, u8); 28] = [
     ("cut", 0),
     ("cut_all", 0),
     ("cycles", 0),
@@ -28,12 +28,14 @@ const EXAMPLES: [(&str, u8); 26] = [
     ("did_wide", 2),
     ("displaced", 0),
     ("drain_cut", 0),
+    ("enable", 0),
     ("events", 0),
     ("first", 0),
     ("jobs", 0),
     ("jobs_full", 0),
     ("lanes", 0),
     ("lives", 0),
+    ("many_events", 0),
     ("profile", 0),
     ("refused_room", 2),
     ("refused_store_lanes", 2),

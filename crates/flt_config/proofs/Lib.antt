@@ -3,4 +3,5 @@ pub mod DistinctLemmas
 pub mod InRange
 pub mod WithinRange
 pub mod CheckLaws
+pub mod FieldLaws
 pub mod InitialFits

@@ -3,3 +3,5 @@ pub mod Validity
 pub mod Check
 pub mod Durable
 pub mod Laws
+pub mod FieldLaws
+pub mod RangeExamples

@@ -73,6 +73,8 @@ pub struct EventCfg {
     pub age: u8,
     /// Whether a confirmed failure lights the warning indicator.
     pub indicator: bool,
+    /// Which of the eight enable conditions the event needs: bit c for condition c.
+    pub needs: u8,
     /// How its reports are debounced.
     pub debounce: Debounce,
     /// What its frames hold, in this order; together at most 32 bytes wide.

@@ -3,11 +3,8 @@ ghost use Rattle.std.specs.Prelude.{◌≡◌, ◌↔◌, ◌<◌, ◌≤◌, le
 ghost use Rattle.flt_config.specs.Durable.{initial_state, start_state, Fits, IsStateOf, IsEntryOf, IsOfOtherEvent, IsNoted, AreStatesOf, is_of_event};
 ghost use Rattle.flt_config.specs.Ranges.{frame_width};
 
-use crate::{DIDS, DidUse, EntryState, EventCfg, EventState, Persist, ValidConfig};
+use crate::{DIDS, DidUse, EntryState, EventCfg, EventState, Persist, UNTESTED, ValidConfig};
 use arrayvec::ArrayVec;
-
-/// The status of an event that was not tested since it was cleared.
-const NOT_TESTED: u8 = 0x50;
 
 /// The state of a controller that never saved one: each event as after a clear, no entry, no noted event.
 pub fn initial(config: &ValidConfig) -> Persist
@@ -17,12 +14,7 @@ pub fn initial(config: &ValidConfig) -> Persist
     let mut events = ArrayVec::new();
     let count = config.config().events.len();
     for _made in 0..count {
-        events.push(EventState {
-            status: NOT_TESTED,
-            failed: 0,
-            clean: 0,
-            lit: false,
-        });
+        events.push(UNTESTED);
     }
     Persist {
         events,

@@ -12,14 +12,15 @@ mod persist;
 mod ranges;
 mod setting;
 mod valid_config;
+pub mod worked;
 
 pub use config::{CfgFault, Config, Debounce, DidUse, EventCfg, Field};
 pub use durable::{are_states_of, fits, initial, is_entry_of, is_noted, place_of};
-pub use persist::{EntryState, EventState, Frame, Persist};
+pub use persist::{EntryState, EventState, Frame, Persist, UNTESTED};
 pub use valid_config::{ValidConfig, check, needed_pages};
 
 /// The most events of a configuration.
-pub const EVENTS: usize = 64;
+pub const EVENTS: usize = 256;
 
 /// The most entries of the fault memory.
 pub const ENTRIES: usize = 16;

@@ -18,6 +18,14 @@ pub struct EventState {
     pub lit: bool,
 }
 
+/// The state of an event that was not tested since it was cleared: bits 4 and 6 of its status alone (ISO 14229-1).
+pub const UNTESTED: EventState = EventState {
+    status: 0x50,
+    failed: 0,
+    clean: 0,
+    lit: false,
+};
+
 /// One entry of the fault memory.
 #[derive(Clone, Drop, PartialEq, Eq, Debug, Default)]
 pub struct EntryState {

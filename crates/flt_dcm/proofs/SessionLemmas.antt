@@ -232,6 +232,7 @@ IsOther _ = Unit {0}
 
 pub sessions_kept : (past : History) (op : Op) (sessions : List Session) → IsOther op → SessionsStand past sessions → SessionsStand (op ∷ past) sessions
 sessions_kept past (ops.Signal index value) sessions other s tester h = let own = s tester h in record { extended = own.extended; hold = own.hold; silent = own.silent }
+sessions_kept past (ops.Enable condition fulfilled) sessions other s tester h = let own = s tester h in record { extended = own.extended; hold = own.hold; silent = own.silent }
 sessions_kept past (ops.Report event report) sessions other s tester h = let own = s tester h in record { extended = own.extended; hold = own.hold; silent = own.silent }
 sessions_kept past (ops.Cycle cycle) sessions other s tester h = let own = s tester h in record { extended = own.extended; hold = own.hold; silent = own.silent }
 sessions_kept past (ops.Show event) sessions other s tester h = let own = s tester h in record { extended = own.extended; hold = own.hold; silent = own.silent }

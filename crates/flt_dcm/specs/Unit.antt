@@ -41,10 +41,11 @@ pub record Stands (life : Life) (past : History) (unit : UnitView) : Type 0 wher
   pub sessions : SessionsStand past unit.sessions
   pub base : unit.base ≡ life.base
 
--- A call whose numbers are in their ranges: a signal of the eight, a configured event, one of the four cycles, and a
--- request of at least one byte from one of the four testers.
+-- A call whose numbers are in their ranges: a signal or an enable condition of the eight, a configured event, one of the
+-- four cycles, and a request of at least one byte from one of the four testers.
 abbrev pub IsAdmitted : Config → Op → Type 0
 IsAdmitted config (ops.Signal index value) = index < 8
+IsAdmitted config (ops.Enable condition fulfilled) = condition < 8
 IsAdmitted config (ops.Report event report) = event < length config.events.items
 IsAdmitted config (ops.Tick ticks) = Unit {0}
 IsAdmitted config (ops.Cycle cycle) = cycle < 4
@@ -69,6 +70,11 @@ IsReading _ = ⊥
 abbrev pub IsTesterCall : Op → Type 0
 IsTesterCall (ops.Request tester bytes) = Unit {0}
 IsTesterCall _ = ⊥
+
+-- The answer to a report that is ignored.
+abbrev pub IsIgnored : Reply → Type 0
+IsIgnored (replies.Ignored cause) = Unit {0}
+IsIgnored _ = ⊥
 
 -- A negative response.
 abbrev pub IsNegative : Reply → Type 0

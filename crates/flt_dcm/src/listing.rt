@@ -8,7 +8,7 @@ ghost use Rattle.flt_dcm.specs.Listing.{listed, head_of};
 use arrayvec::ArrayVec;
 use flt_config::{ENTRIES, EVENTS};
 use flt_dem::DemState;
-use flt_uds::{RESPONSE, put_bytes, put_dtc};
+use flt_uds::{RESPONSE, put_bytes, put_dtc_with};
 
 /// The status bits that this server supports: all of them (DTCStatusAvailabilityMask).
 pub(crate) const AVAILABILITY_MASK: u8 = 0xFF;
@@ -56,7 +56,7 @@ pub(crate) fn put_status(dem: &DemState, event: u16, out: &mut ArrayVec<u8, RESP
     requires room { length out.old.items + 4 ≤ RESPONSE }
     ensures { out.new.items ≡ out.old.items ++ with_status (event_seen dem.now event) }
 {
-    put_dtc(dtc_of(dem, event), dem.state(event).status, out);
+    put_dtc_with(dtc_of(dem, event), dem.state(event).status, out);
 }
 
 /// Appends the two snapshot record numbers of an event, where it has an entry.
@@ -68,8 +68,8 @@ fn put_records(dem: &DemState, event: u16, has_entry: bool, out: &mut ArrayVec<u
 {
     if has_entry {
         let dtc = dtc_of(dem, event);
-        put_dtc(dtc, 0x01, out);
-        put_dtc(dtc, 0x02, out);
+        put_dtc_with(dtc, 0x01, out);
+        put_dtc_with(dtc, 0x02, out);
     }
 }
 
@@ -81,7 +81,7 @@ fn put_counter(dem: &DemState, event: u16, out: &mut ArrayVec<u8, RESPONSE>)
 {
     let counter = dem.detection_counter(event);
     if 0 < counter && counter < 127 {
-        put_dtc(dtc_of(dem, event), counter.unsigned_abs(), out);
+        put_dtc_with(dtc_of(dem, event), counter.unsigned_abs(), out);
     }
 }
 

@@ -1,7 +1,7 @@
 //! The answer to a call with the bytes of a response beside it.
 ghost use Rattle.std.specs.Prelude.{◌≡◌, ℕ, List};
 ghost use Rattle.flt_model.specs.Response.{unless_silent};
-ghost use Rattle.flt_dem.specs.Manager.{report_reply as cause_reply};
+ghost use Rattle.flt_model.specs.Answer.{report_reply as cause_reply};
 
 use arrayvec::ArrayVec;
 use flt_model::{Cause, RESPONSE, Reply, Shown};

@@ -19,7 +19,7 @@ use flt_uds::{RESPONSE, Request, put_bytes};
 pub(crate) const ALL_DTCS: u32 = 0xFFFFFF;
 
 /// No event has the DTC.
-#[derive(Clone, Copy, PartialEq, Eq, Debug)]
+#[derive(Clone, Copy)]
 pub(crate) struct UnknownDtc;
 
 /// The event that has a DTC.

@@ -9,7 +9,7 @@ use flt_model::Request;
 const SESSION_TIMEOUT: u16 = 500;
 
 /// The diagnostic session of a tester.
-#[derive(Clone, Copy, PartialEq, Eq, Debug)]
+#[derive(Clone, Copy)]
 pub(crate) enum Session {
     /// The default session.
     Default,

@@ -1,5 +1,5 @@
 //! The whole status machine without the functions of its table of data identifiers.
-ghost use Rattle.std.specs.Prelude.{◌≡◌, ◌≢◌, ◌<◌, [], ◌∷◌, map, length, Some};
+ghost use Rattle.std.specs.Prelude.{◌≡◌, ◌≢◌, ◌<◌, [], ◌∷◌, map, length, Some, IfSome};
 ghost use Rattle.std.specs.List.{list_any};
 ghost use Rattle.flt_config.specs.Durable.{Fits};
 ghost use Rattle.flt_model.specs.Life.{Life, History, fresh};
@@ -11,12 +11,12 @@ ghost use Rattle.flt_model.specs.declared.call.Op.TheVariants as ops;
 ghost use Rattle.flt_model.specs.declared.call.Reply.TheVariants as replies;
 ghost use Rattle.flt_did.specs.Table.{dids_of};
 ghost use Rattle.flt_did.specs.Serves.{Serves};
-ghost use Rattle.flt_dem.specs.Manager.{report_reply as cause_reply};
+ghost use Rattle.flt_model.specs.Answer.{report_reply as cause_reply};
 ghost use Rattle.flt_dem.specs.View.{view_of};
 ghost use Rattle.flt_dcm.specs.Session.{is_extended_one, has_hold, heard, after, after_asked, ticked};
 ghost use Rattle.flt_dcm.specs.Standard.{SaysStandard};
 ghost use Rattle.flt_dcm.specs.Requests.{TakesClearOf, TakesBytes};
-ghost use Rattle.flt_dcm.specs.Unit.{Stands, Takes, Answers, IsAdmitted, IsReading, IsNegative, IsTesterCall, OnlyHearsWhereNegative, written, with_heard};
+ghost use Rattle.flt_dcm.specs.Unit.{Stands, Takes, Answers, IsAdmitted, IsIgnored, IsReading, IsNegative, IsTesterCall, OnlyHearsWhereNegative, written, with_heard};
 ghost use Rattle.flt_dcm.specs.ReplyKind.{reply_with};
 
 use crate::reply_kind::ReplyKind;
@@ -209,8 +209,18 @@ impl UnitState {
         self.dem.signal(index, value);
     }
 
-    /// Takes a monitor's report of an event. The answer tells why it is ignored, where it is: a tester holds the DTC setting off, or
-    /// else the event's operation cycle was not started since power-up.
+    /// Notes whether an enable condition, of the number 0 to 7, is fulfilled.
+    fn enable(&mut self, condition: u8, fulfilled: bool)
+        requires { condition < 8 }
+        ensures config { self.new.dem.faults.config ≡ self.old.dem.faults.config }
+        ensures base { self.new.base ≡ self.old.base }
+        ensures stands { Takes (ops.Enable condition fulfilled) self.old self.new }
+    {
+        self.dem.enable(condition, fulfilled);
+    }
+
+    /// Takes a monitor's report of an event. The answer tells why it is ignored, where it is: a tester holds the DTC setting off,
+    /// else the event's operation cycle was not started since power-up, or else an enable condition that it needs is not fulfilled.
     fn report(&mut self, dids: &DidTable<DID_ROWS>, event: u16, report: Report) -> Option<Cause>
         requires served { Serves (dids_of dids.now) self.old.dem.faults.config.events.items }
         requires configured { event < length self.old.dem.faults.config.events.items }
@@ -218,6 +228,7 @@ impl UnitState {
         ensures base { self.new.base ≡ self.old.base }
         ensures stands { Takes (ops.Report event report) self.old self.new }
         ensures answer { Answers (ops.Report event report) self.old (cause_reply result) }
+        ensures ignored { IfSome result (λ _. self.new ≡ self.old) }
     {
         let setting = !is_setting_off(&self.sessions);
         self.dem.report(dids, event, report, setting)
@@ -293,11 +304,19 @@ impl UnitState {
         ensures answer { Answers op.now self.old (reply_with result response.new.items) }
         ensures unsent { ¬ IsTesterCall op.now → response.new ≡ response.old }
         ensures reading { IsReading op.now → self.new ≡ self.old }
+        ensures ignored { IsIgnored (reply_with result response.new.items) → self.new ≡ self.old }
         ensures negative { OnlyHearsWhereNegative op.now (reply_with result response.new.items) self.old self.new }
     {
         match op {
             Op::Signal { index, value } => {
                 self.signal(*index, *value);
+                ReplyKind::Taken
+            }
+            Op::Enable {
+                condition,
+                fulfilled,
+            } => {
+                self.enable(*condition, *fulfilled);
                 ReplyKind::Taken
             }
             Op::Report { event, report } => {
@@ -338,6 +357,7 @@ impl UnitState {
         ensures written { (life : Life) (past : History) → Stands life past self.old → out.new ≡ written life past op.now out.old }
         ensures kept { op.now ≢ ops.Snapshot → out.new ≡ out.old }
         ensures reading { IsReading op.now → self.new ≡ self.old }
+        ensures ignored { IsIgnored (reply_with result response.new.items) → self.new ≡ self.old }
         ensures negative { OnlyHearsWhereNegative op.now (reply_with result response.new.items) self.old self.new }
     {
         match op {
@@ -366,6 +386,7 @@ impl UnitState {
         ensures written { (life : Life) (past : History) → Stands life past self.old → out.new ≡ written life past op.now out.old }
         ensures kept { op.now ≢ ops.Snapshot → out.new ≡ out.old }
         ensures reading { IsReading op.now → self.new ≡ self.old }
+        ensures ignored { IsIgnored (reply_with result response.new.items) → self.new ≡ self.old }
         ensures negative { OnlyHearsWhereNegative op.now (reply_with result response.new.items) self.old self.new }
         ensures standard { (life : Life) (past : History) → Stands life past self.old → SaysStandard life (op.now ∷ past) self.new.dem }
     {
@@ -383,6 +404,7 @@ impl UnitState {
         ensures written { (life : Life) (past : History) → Stands life past self.old → out.new ≡ written life past op.now out.old }
         ensures kept { op.now ≢ ops.Snapshot → out.new ≡ out.old }
         ensures reading { IsReading op.now → self.new ≡ self.old }
+        ensures ignored { IsIgnored result → self.new ≡ self.old }
         ensures negative { OnlyHearsWhereNegative op.now result self.old self.new }
         ensures standard { (life : Life) (past : History) → Stands life past self.old → SaysStandard life (op.now ∷ past) self.new.dem }
     {

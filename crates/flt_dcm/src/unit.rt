@@ -9,7 +9,7 @@ ghost use Rattle.flt_did.specs.Table.{dids_of};
 ghost use Rattle.flt_did.specs.Serves.{Serves};
 ghost use Rattle.flt_dem.specs.Dem.{config_of as dem_config, table_of as dem_table};
 ghost use Rattle.flt_dcm.specs.Standard.{SaysStandard};
-ghost use Rattle.flt_dcm.specs.Unit.{Stands, Takes, Answers, IsAdmitted, IsReading, IsTesterCall, OnlyHearsWhereNegative, written};
+ghost use Rattle.flt_dcm.specs.Unit.{Stands, Takes, Answers, IsAdmitted, IsIgnored, IsReading, IsTesterCall, OnlyHearsWhereNegative, written};
 ghost use Rattle.flt_dcm.specs.ReplyKind.{reply_with};
 
 use crate::reply_kind::ReplyKind;
@@ -84,6 +84,7 @@ impl Unit {
         ensures written { (life : Life) (past : History) → Stands life past (state_of self.old) → out.new ≡ written life past op.now out.old }
         ensures kept { op.now ≢ ops.Snapshot → out.new ≡ out.old }
         ensures reading { IsReading op.now → state_of self.new ≡ state_of self.old }
+        ensures ignored { IsIgnored (reply_with result response.new.items) → state_of self.new ≡ state_of self.old }
         ensures negative { OnlyHearsWhereNegative op.now (reply_with result response.new.items) (state_of self.old) (state_of self.new) }
         ensures standard { (life : Life) (past : History) → Stands life past (state_of self.old) → SaysStandard life (op.now ∷ past) (state_of self.new).dem }
     {
@@ -101,6 +102,7 @@ impl Unit {
         ensures written { (life : Life) (past : History) → Stands life past (state_of self.old) → out.new ≡ written life past op.now out.old }
         ensures kept { op.now ≢ ops.Snapshot → out.new ≡ out.old }
         ensures reading { IsReading op.now → state_of self.new ≡ state_of self.old }
+        ensures ignored { IsIgnored result → state_of self.new ≡ state_of self.old }
         ensures negative { OnlyHearsWhereNegative op.now result (state_of self.old) (state_of self.new) }
         ensures standard { (life : Life) (past : History) → Stands life past (state_of self.old) → SaysStandard life (op.now ∷ past) (state_of self.new).dem }
     {

@@ -81,6 +81,3 @@ pub fn tick(rules: &Debounce, state: &mut DebState, ticks: u16) -> Option<Qualif
         }
     }
 }
-
-#[cfg(test)]
-mod tests;

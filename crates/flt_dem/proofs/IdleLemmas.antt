@@ -25,6 +25,7 @@ module _ (life : Life) where
 
   pub stands_idle : (past : History) (manager : Manager) (op : Op) → IsIdle life op → StandsFor life past manager → StandsFor life (op ∷ past) manager
   stands_idle past manager (ops.Signal index value) idle s = absurd idle
+  stands_idle past manager (ops.Enable condition fulfilled) idle s = absurd idle
   stands_idle past manager (ops.Report event report) idle s = absurd idle
   stands_idle past manager (ops.Tick ticks) idle s = absurd idle
   stands_idle past manager (ops.Cycle cycle) idle s = absurd idle
@@ -34,21 +35,25 @@ module _ (life : Life) where
         (λ event within. clears_no_event (cleared_dtc (ops.Request tester bytes)) event within idle) s.events;
     started = s.started;
     signals = s.signals;
+    conditions = s.conditions;
   }
   stands_idle past manager (ops.Show event) idle s = record {
     events = stands_none life past (ops.Show event) (events_of manager) (λ marks. refl) (λ other within. refl) s.events;
     started = s.started;
     signals = s.signals;
+    conditions = s.conditions;
   }
   stands_idle past manager ops.Snapshot idle s = record {
     events = stands_none life past ops.Snapshot (events_of manager) (λ marks. refl) (λ other within. refl) s.events;
     started = s.started;
     signals = s.signals;
+    conditions = s.conditions;
   }
   stands_idle past manager (ops.Saved generation) idle s = record {
     events = stands_none life past (ops.Saved generation) (events_of manager) (λ marks. refl) (λ other within. refl) s.events;
     started = s.started;
     signals = s.signals;
+    conditions = s.conditions;
   }
 
 -- ---- the setting without requests
@@ -60,6 +65,7 @@ held_row false before off = refl
 holds_nothing : (tester : ℕ) (past : History) → HasNoRequest past → holds_off tester past ≡ false
 holds_nothing tester [] none = refl
 holds_nothing tester (ops.Signal index value ∷ past) none = holds_nothing tester past none
+holds_nothing tester (ops.Enable condition fulfilled ∷ past) none = holds_nothing tester past none
 holds_nothing tester (ops.Report event report ∷ past) none = holds_nothing tester past none
 holds_nothing tester (ops.Tick ticks ∷ past) none = held_row (is_extended tester (ops.Tick ticks ∷ past)) (holds_off tester past) (holds_nothing tester past none)
 holds_nothing tester (ops.Cycle cycle ∷ past) none = holds_nothing tester past none

@@ -6,6 +6,7 @@ pub mod KeptLemmas
 pub mod FailureLemmas
 pub mod NoteLemmas
 pub mod EndLemmas
+pub mod ConditionLemmas
 pub mod OrderLemmas
 pub mod CallLemmas
 pub mod PartLemmas

@@ -1,17 +1,17 @@
 -- What a call does to the started cycles, to the signals and to events at rest.
 use Rattle.std.proofs.Common.{◌≡◌, ◌∙◌, ℕ, zero, suc, ◌<◌, Bool, true, false, not, ◌&&◌, cond, List, [], ◌∷◌, map, length, get_or, Option, Some, None, unwrap_or, arith, refl, sym, ap, subst, eq-eqb, ⊎_elim}
 use Rattle.std.proofs.lemmas.Bool.{cases_eq, ne_eqb}
-use Rattle.std.proofs.lemmas.List.{length-map, get_or_default}
+use Rattle.std.proofs.lemmas.List.{length-map}
 use Rattle.std.proofs.lemmas.Option.{get_or_from_slice_get, slice_get_read, slice_get-get_or, slice_get-map, slice_get_within, unwrap_or-slice_get}
-use Rattle.std.specs.Prelude.{slice_get, slice_set, option_map}
+use Rattle.std.specs.Prelude.{slice_get, slice_set, option_map, is_none}
 use Rattle.flt_config.specs.declared.config.Config.{Config}
 use Rattle.flt_config.specs.declared.config.EventCfg.{EventCfg}
 use Rattle.flt_config.specs.Validity.{IsValid, IsDebounceInRange}
 use Rattle.flt_model.specs.Life.{Life, History, event_of, no_event}
 use Rattle.flt_model.specs.Debounce.{IsOfKind, debounced}
-use Rattle.flt_model.specs.Happening.{is_started, signals, counts_report}
+use Rattle.flt_model.specs.Happening.{Readiness, readiness, cause_of, is_started, signals, are_met, is_enabled, counts_report}
 use Rattle.flt_model.specs.Session.{is_setting_off}
-use Rattle.flt_model.specs.Answer.{answer, answer_report}
+use Rattle.flt_model.specs.Answer.{answer, report_reply}
 use Rattle.flt_model.specs.declared.call.Cause.{Cause}
 use Rattle.flt_model.specs.declared.call.DebState.{DebState}
 use Rattle.flt_model.specs.declared.call.Op.TheVariants as ops
@@ -20,7 +20,7 @@ use Rattle.flt_model.proofs.Common.{slice_get-set_same, slice_get-set_other}
 use Rattle.flt_model.proofs.RangeLaws.{debouncing_stays_in_range}
 use Rattle.flt_dem.specs.Debounces.{DebouncesStand, AreOfKind}
 use Rattle.flt_dem.specs.Events.{IsOfConfig}
-use Rattle.flt_dem.specs.Manager.{Manager, StandsFor, events_of, is_cycle_started, cause_of, report_reply}
+use Rattle.flt_dem.specs.Manager.{Manager, StandsFor, events_of, is_cycle_started, is_event_enabled, readiness_at}
 use Rattle.flt_dem.proofs.CallLemmas.{stands_none}
 use Rattle.flt_dem.proofs.PartLemmas.{ignored_report}
 
@@ -107,44 +107,62 @@ cycle_below config event valid within =
     rw (unwrap_or-slice_get config.events.items event no_event) (omega (arith, below))
 
 -- Whether the cycle of an event was started is read where the event's cycle stands.
-pub cycle_read : (manager : Manager) (event : ℕ) (rules : EventCfg) (d : Bool) → event < length manager.faults.config.events.items →
-    rules ≡ get_or manager.faults.config.events.items event rules → rules.cycle < length manager.started →
-    is_cycle_started manager event ≡ get_or manager.started rules.cycle d
-cycle_read manager event rules d within is below =
-    let events = manager.faults.config.events.items in
-    let found = slice_get_read events (length events) event rules refl within is in
-    ap (λ e. unwrap_or (slice_get manager.started (unwrap_or e no_event).cycle) false) found
-    ∙ unwrap_or-slice_get manager.started rules.cycle false
-    ∙ get_or_default manager.started rules.cycle false d below
+cycle_read : (manager : Manager) (event : ℕ) (rules : EventCfg) → slice_get manager.faults.config.events.items event ≡ Some rules →
+    is_cycle_started manager event ≡ get_or manager.started rules.cycle false
+cycle_read manager event rules found =
+    ap (λ e. unwrap_or (slice_get manager.started (unwrap_or e no_event).cycle) false) found ∙ unwrap_or-slice_get manager.started rules.cycle false
 
 -- And is what the calls so far say.
-pub cycle_stands : (life : Life) (past : History) (manager : Manager) (event : ℕ) → IsValid manager.faults.config → event < length manager.faults.config.events.items →
+cycle_stands : (life : Life) (past : History) (manager : Manager) (event : ℕ) → IsValid manager.faults.config → event < length manager.faults.config.events.items →
     StandsFor life past manager → is_cycle_started manager event ≡ is_started (event_of life event).cycle past
 cycle_stands life past manager event valid within s =
     let cycle = (unwrap_or (slice_get manager.faults.config.events.items event) no_event).cycle in
     ap (λ o. unwrap_or o false) (s.started cycle (cycle_below manager.faults.config event valid within))
     ∙ ap (λ k. is_started (unwrap_or (slice_get k.events.items event) no_event).cycle past) (sym s.events.faults_stand.config)
 
-cause_answers : (off started : Bool) → report_reply (cause_of (not off) started) ≡ answer_report off started
-cause_answers true started = refl
-cause_answers false true = refl
-cause_answers false false = refl
+-- What is seen of an event.
+abbrev pub seen : Bool → Bool → Bool → Readiness
+seen setting started enabled = record { setting = setting; started = started; enabled = enabled }
+
+-- Why a report is ignored is read where the event's cycle and what it needs stand.
+pub cause_read : (manager : Manager) (event : ℕ) (rules : EventCfg) (setting met : Bool) → event < length manager.faults.config.events.items →
+    rules ≡ get_or manager.faults.config.events.items event rules → met ≡ are_met rules.needs manager.conditions →
+    cause_of (readiness_at setting manager event) ≡ cause_of (seen setting (get_or manager.started rules.cycle false) met)
+cause_read manager event rules setting met within is met_is =
+    let events = manager.faults.config.events.items in
+    let found = slice_get_read events (length events) event rules refl within is in
+    ap (λ started. cause_of (seen setting started (is_event_enabled manager event))) (cycle_read manager event rules found)
+    ∙ ap (λ enabled. cause_of (seen setting (get_or manager.started rules.cycle false) enabled))
+    (ap (λ e. are_met (unwrap_or e no_event).needs manager.conditions) found ∙ sym met_is)
+
+-- Whether the event is enabled is what the calls so far say.
+enabled_stands : (life : Life) (past : History) (manager : Manager) (event : ℕ) → StandsFor life past manager →
+    is_event_enabled manager event ≡ is_enabled life event past
+enabled_stands life past manager event s =
+    ap (λ k. are_met (unwrap_or (slice_get k.events.items event) no_event).needs manager.conditions) (sym s.events.faults_stand.config)
+    ∙ ap (are_met (event_of life event).needs) s.conditions
+
+-- What is seen of the event is what the calls so far say.
+readiness_stands : (life : Life) (past : History) (manager : Manager) (event : ℕ) (setting : Bool) → IsValid manager.faults.config → event < length manager.faults.config.events.items →
+    setting ≡ not (is_setting_off past) → StandsFor life past manager → readiness_at setting manager event ≡ readiness life event past
+readiness_stands life past manager event setting valid within setting_is s =
+    ap (λ on. seen on (is_cycle_started manager event) (is_event_enabled manager event)) setting_is
+    ∙ ap (λ started. seen (not (is_setting_off past)) started (is_event_enabled manager event)) (cycle_stands life past manager event valid within s)
+    ∙ ap (seen (not (is_setting_off past)) (is_started (event_of life event).cycle past)) (enabled_stands life past manager event s)
 
 -- Why a report is ignored decides what is answered.
 pub cause_is_answer : (life : Life) (past : History) (manager : Manager) (event : ℕ) (report : Report) (setting : Bool) (cause : Option Cause) →
     IsValid manager.faults.config → event < length manager.faults.config.events.items → setting ≡ not (is_setting_off past) → StandsFor life past manager →
-    cause ≡ cause_of setting (is_cycle_started manager event) → report_reply cause ≡ answer life past (ops.Report event report)
+    cause ≡ cause_of (readiness_at setting manager event) → report_reply cause ≡ answer life past (ops.Report event report)
 cause_is_answer life past manager event report setting cause valid within setting_is s is =
-    ap (λ c. report_reply c) is
-    ∙ ap (λ b. report_reply (cause_of b (is_cycle_started manager event))) setting_is
-    ∙ ap (λ b. report_reply (cause_of (not (is_setting_off past)) b)) (cycle_stands life past manager event valid within s)
-    ∙ cause_answers (is_setting_off past) (is_started (event_of life event).cycle past)
+    ap report_reply (is ∙ ap cause_of (readiness_stands life past manager event setting valid within setting_is s))
 
--- A report counts where neither the setting nor its cycle is in the way.
-pub counts_where : (life : Life) (past : History) (event : ℕ) (on started : Bool) → on ≡ not (is_setting_off past) → started ≡ is_started (event_of life event).cycle past →
-    counts_report life event past ≡ (on && started)
-counts_where life past event on started on_is started_is =
-    sym (ap (λ b. b && started) on_is ∙ ap (λ b. not (is_setting_off past) && b) started_is)
+-- A report counts where there is no cause to ignore it.
+pub counts_where : (life : Life) (past : History) (manager : Manager) (event : ℕ) (setting : Bool) (cause : Option Cause) →
+    IsValid manager.faults.config → event < length manager.faults.config.events.items → setting ≡ not (is_setting_off past) → StandsFor life past manager →
+    cause ≡ cause_of (readiness_at setting manager event) → is_none cause ≡ counts_report life event past
+counts_where life past manager event setting cause valid within setting_is s is =
+    ap is_none (is ∙ ap cause_of (readiness_stands life past manager event setting valid within setting_is s))
 
 -- A report that does not count changes nothing.
 pub stands_ignored : (life : Life) (past : History) (manager : Manager) (event : ℕ) (report : Report) → counts_report life event past ≡ false →
@@ -153,4 +171,5 @@ stands_ignored life past manager event report ignored s = record {
   events = stands_none life past (ops.Report event report) (events_of manager) (λ marks. refl) (λ other within. ignored_report life past event other report ignored) s.events;
   started = s.started;
   signals = s.signals;
+  conditions = s.conditions;
 }

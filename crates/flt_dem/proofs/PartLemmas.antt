@@ -1,5 +1,5 @@
 -- The part that one event takes of a report, of ticks and of the end of a cycle.
-use Rattle.std.proofs.Common.{◌≡◌, ◌≢◌, ◌∙◌, ℕ, ◌<◌, length, get_or, true, false, cond, List, ◌∷◌, Option, Some, None, refl, sym, ap, subst, eq-eqb, ⊎_elim}
+use Rattle.std.proofs.Common.{◌≡◌, ◌≢◌, ◌∙◌, ℕ, ◌<◌, length, get_or, Bool, true, false, not, ◌&&◌, cond, List, ◌∷◌, Option, Some, None, refl, sym, ap, subst, eq-eqb, ⊎_elim}
 use Rattle.std.proofs.lemmas.Bool.{cases_eq, ne_eqb}
 use Rattle.std.proofs.lemmas.Option.{slice_get_read}
 use Rattle.arrayvec.specs.ArrayVec.{ArrayVec}
@@ -9,7 +9,7 @@ use Rattle.flt_model.specs.Life.{Life, History, event_of}
 use Rattle.flt_model.specs.Mark.{Trace, Of}
 use Rattle.flt_model.specs.Mark.Mark.{Clear}
 use Rattle.flt_model.specs.Debounce.{Happening, Happenings, Reported, Ticked, Ended, Cleared, qualified}
-use Rattle.flt_model.specs.Happening.{happening_of, happenings, signals as signals_after, own_report, reported_where, counts_report, cleared_dtc, happening_of_clear, cleared_where, reaches}
+use Rattle.flt_model.specs.Happening.{happening_of, happenings, signals as signals_after, own_report, reported_where, conditions, are_met, is_enabled, counts_report, counts_ticks, cleared_dtc, happening_of_clear, cleared_where, reaches}
 use Rattle.flt_model.specs.Session.{is_setting_off}
 use Rattle.flt_model.specs.Trace.{event_part, with_marks, with_result, with_cycle}
 use Rattle.flt_model.specs.declared.call.Op.{Op}
@@ -22,6 +22,13 @@ use Rattle.flt_dem.specs.Debounces.{DebouncesStand, and_then}
 use Rattle.flt_dem.specs.Calls.{StandsWith}
 use Rattle.flt_dem.specs.Manager.{IsOfOtherCycle}
 use Rattle.flt_dem.proofs.CallLemmas.{debounces_same, and_then-own, and_then-other}
+
+-- Whether ticks count for an event, with the setting on, is whether the conditions are met that it needs.
+pub ticks_count : (life : Life) (past : History) (event : ℕ) (rules : EventCfg) (fulfilled : List Bool) (met : Bool) → is_setting_off past ≡ false →
+    rules ≡ event_of life event → fulfilled ≡ conditions past → met ≡ are_met rules.needs fulfilled → counts_ticks life event past ≡ met
+ticks_count life past event rules fulfilled met on rules_are fulfilled_are is =
+    ap (λ off. not off && is_enabled life event past) on
+    ∙ sym (is ∙ ap (λ k. are_met k.needs fulfilled) rules_are ∙ ap (are_met (event_of life event).needs) fulfilled_are)
 
 -- The happening that a call is for an event decides its part.
 part_of : (life : Life) (past : History) (op : Op) (event : ℕ) (happening : Option Happening) (items : ℕ → Happenings) (marks : Trace) (events : EventsView) →
@@ -42,13 +49,27 @@ module _ (life : Life) (past : History) (event : ℕ) (items : ℕ → Happening
       (outcome_is ∙ ap (λ before. qualified (event_of life event).debounce before happening) own)
       (subst (λ values. FaultsStand life (with_result life values event outcome marks) events.faults) signals_are f)
 
-  pub part_of_ticks : (ticks : ℕ) (signals : List ℕ) (outcome : Option Qualified) → is_setting_off past ≡ false → signals ≡ signals_after past →
+  -- A call that is nothing for the event.
+  part_of_none : (op : Op) → happening_of life event past op ≡ None → StandsWith life items marks events →
+      StandsWith life (and_then event (happening_of life event past op) items) (event_part life past op event marks) events
+  part_of_none op is s =
+      part_of life past op event None items marks events is
+      (debounces_same life items (and_then event None items) events.debounces (λ other h.
+      ⊎_elim (λ same. subst (λ x. items x ≡ and_then event None items x) same (sym (and_then-own event None items)))
+      (λ apart. sym (and_then-other event other None items apart)) (cases_eq event other)) s.debounces_stand)
+      s.faults_stand
+
+  pub part_of_ticks : (ticks : ℕ) (signals : List ℕ) (outcome : Option Qualified) → counts_ticks life event past ≡ true → signals ≡ signals_after past →
       outcome ≡ qualified (event_of life event).debounce (items event) (Ticked ticks) → DebouncesStand life (and_then event (Some (Ticked ticks)) items) events.debounces →
       FaultsStand life (with_result life signals event outcome marks) events.faults →
       StandsWith life (and_then event (happening_of life event past (ops.Tick ticks)) items) (event_part life past (ops.Tick ticks) event marks) events
-  part_of_ticks ticks signals outcome on signals_are outcome_is d f =
-      let is : happening_of life event past (ops.Tick ticks) ≡ Some (Ticked ticks) = ap (λ b. cond b None (Some (Ticked ticks))) on in
+  part_of_ticks ticks signals outcome counts signals_are outcome_is d f =
+      let is : happening_of life event past (ops.Tick ticks) ≡ Some (Ticked ticks) = ap (λ b. cond b (Some (Ticked ticks)) None) counts in
       part_of life past (ops.Tick ticks) event (Some (Ticked ticks)) items marks events is d (result_is (Ticked ticks) signals outcome signals_are outcome_is f)
+
+  pub part_of_no_ticks : (ticks : ℕ) → counts_ticks life event past ≡ false → StandsWith life items marks events →
+      StandsWith life (and_then event (happening_of life event past (ops.Tick ticks)) items) (event_part life past (ops.Tick ticks) event marks) events
+  part_of_no_ticks ticks counts s = part_of_none (ops.Tick ticks) (ap (λ b. cond b (Some (Ticked ticks)) None) counts) s
 
   pub part_of_report : (report : Report) (signals : List ℕ) (outcome : Option Qualified) → counts_report life event past ≡ true → signals ≡ signals_after past →
       outcome ≡ qualified (event_of life event).debounce (items event) (Reported report) → DebouncesStand life (and_then event (Some (Reported report)) items) events.debounces →
@@ -70,12 +91,7 @@ module _ (life : Life) (past : History) (event : ℕ) (items : ℕ → Happening
   pub part_of_other_cycle : (cycle : ℕ) → (event_of life event).cycle ≢ cycle → StandsWith life items marks events →
       StandsWith life (and_then event (happening_of life event past (ops.Cycle cycle)) items) (event_part life past (ops.Cycle cycle) event marks) events
   part_of_other_cycle cycle ne s =
-      let is : happening_of life event past (ops.Cycle cycle) ≡ None = ap (λ b. cond b (Some Ended) None) (ne_eqb cycle (event_of life event).cycle (λ d. ne (sym d))) in
-      part_of life past (ops.Cycle cycle) event None items marks events is
-      (debounces_same life items (and_then event None items) events.debounces (λ other h.
-      ⊎_elim (λ same. subst (λ x. items x ≡ and_then event None items x) same (sym (and_then-own event None items)))
-      (λ apart. sym (and_then-other event other None items apart)) (cases_eq event other)) s.debounces_stand)
-      s.faults_stand
+      part_of_none (ops.Cycle cycle) (ap (λ b. cond b (Some Ended) None) (ne_eqb cycle (event_of life event).cycle (λ d. ne (sym d)))) s
 
 -- A report of one event is none of another's.
 pub other_report : (life : Life) (past : History) (event other : ℕ) (report : Report) → other ≢ event → happening_of life other past (ops.Report event report) ≡ None

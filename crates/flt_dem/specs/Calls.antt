@@ -1,9 +1,9 @@
 -- A call of which each event takes its part, in order of number.
-use Rattle.std.specs.Prelude.{◌≡◌, ℕ, nat_lt, true, false, Some, if◌then◌else◌, List, ◌∷◌}
+use Rattle.std.specs.Prelude.{◌≡◌, ℕ, nat_lt, Bool, true, false, Some, if◌then◌else◌, List, ◌∷◌}
 use Rattle.flt_model.specs.Life.{Life, History}
 use Rattle.flt_model.specs.Mark.{Trace}
 use Rattle.flt_model.specs.Debounce.{Happenings}
-use Rattle.flt_model.specs.Happening.{happening_of, happenings, signals, counts_report, cleared_dtc, all_dtcs, reaches}
+use Rattle.flt_model.specs.Happening.{happening_of, happenings, signals, conditions, counts_report, cleared_dtc, all_dtcs, reaches}
 use Rattle.flt_model.specs.Session.{is_setting_off}
 use Rattle.flt_model.specs.Request.{RequestBytes}
 use Rattle.flt_model.specs.Trace.{trace, in_order, event_part}
@@ -50,15 +50,16 @@ TakeReport event report values old new =
     (life : Life) (past : History) → counts_report life event past ≡ true → values ≡ signals past →
     StandsAfter life past old → StandsAfter life (ops.Report event report ∷ past) new
 
--- Ticks go by at these signals, with the setting on: for one event, and for all.
-module _ (ticks : ℕ) (values : List ℕ) where
+-- Ticks go by at these signals and enable conditions, with the setting on: for one event, and for all.
+module _ (ticks : ℕ) (values : List ℕ) (fulfilled : List Bool) where
   abbrev pub TakesPartOfTicks : ℕ → EventsView → EventsView → Type 0
   TakesPartOfTicks event old new =
-      (life : Life) (past : History) → is_setting_off past ≡ false → values ≡ signals past → TakesPart life past (ops.Tick ticks) event old new
+      (life : Life) (past : History) → is_setting_off past ≡ false → values ≡ signals past → fulfilled ≡ conditions past →
+      TakesPart life past (ops.Tick ticks) event old new
 
   abbrev pub TakeTicks : EventsView → EventsView → Type 0
   TakeTicks old new =
-      (life : Life) (past : History) → is_setting_off past ≡ false → values ≡ signals past →
+      (life : Life) (past : History) → is_setting_off past ≡ false → values ≡ signals past → fulfilled ≡ conditions past →
       StandsAfter life past old → StandsAfter life (ops.Tick ticks ∷ past) new
 
 -- An operation cycle ends: for one event, and for all.

@@ -2,6 +2,7 @@ pub mod Notes
 pub mod Faults
 pub mod Standing
 pub mod Debounces
+pub mod Conditions
 pub mod Events
 pub mod Calls
 pub mod Manager

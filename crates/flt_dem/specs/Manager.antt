@@ -4,7 +4,7 @@ use Rattle.flt_config.specs.declared.config.Config.{Config}
 use Rattle.flt_config.specs.declared.persist.EntryState.{EntryState}
 use Rattle.flt_config.specs.Durable.{is_of_event}
 use Rattle.flt_model.specs.Life.{Life, History, no_event}
-use Rattle.flt_model.specs.Happening.{is_started, signals, cleared_dtc}
+use Rattle.flt_model.specs.Happening.{Readiness, is_started, signals, conditions, are_met, cleared_dtc}
 use Rattle.flt_model.specs.Session.{is_setting_off}
 use Rattle.flt_model.specs.Request.{RequestBytes}
 use Rattle.flt_model.specs.Entry.{has_entry}
@@ -13,10 +13,7 @@ use Rattle.flt_model.specs.Answer.{answer, entry_where}
 use Rattle.flt_model.specs.declared.call.Op.{Op}
 use Rattle.flt_model.specs.declared.call.Op.TheVariants as ops
 use Rattle.flt_model.specs.declared.call.DebState.{DebState}
-use Rattle.flt_model.specs.declared.call.Cause.{Cause}
-use Rattle.flt_model.specs.declared.call.Cause.TheVariants.{SettingOff, NotStarted}
 use Rattle.flt_model.specs.declared.call.Reply.{Reply}
-use Rattle.flt_model.specs.declared.call.Reply.TheVariants as replies
 use Rattle.flt_dem.specs.declared.notes.Which.{Which}
 use Rattle.flt_dem.specs.Notes.{noted_by}
 use Rattle.flt_dem.specs.Faults.{FaultsView}
@@ -24,12 +21,13 @@ use Rattle.flt_dem.specs.Standing.{notes_of}
 use Rattle.flt_dem.specs.Events.{EventsView}
 use Rattle.flt_dem.specs.Calls.{StandsAfter}
 
--- The durable part, the debouncing of each event, which cycles are started, and the signals.
+-- The durable part, the debouncing of each event, which cycles are started, the signals, and which enable conditions are fulfilled.
 pub record Manager : Type 0 where
   pub faults : FaultsView
   pub debounces : List DebState
   pub started : List Bool
   pub signals : List ℕ
+  pub conditions : List Bool
 
 -- What it has of the events.
 abbrev pub events_of : Manager → EventsView
@@ -40,22 +38,25 @@ pub record StandsFor (life : Life) (past : History) (manager : Manager) : Type 0
   pub events : StandsAfter life past (events_of manager)
   pub started : (cycle : ℕ) → cycle < 4 → slice_get manager.started cycle ≡ Some (is_started cycle past)
   pub signals : manager.signals ≡ signals past
+  pub conditions : manager.conditions ≡ conditions past
 
 -- Whether the cycle of the event was started.
 abbrev pub is_cycle_started : Manager → ℕ → Bool
 is_cycle_started manager event =
     unwrap_or (slice_get manager.started (unwrap_or (slice_get manager.faults.config.events.items event) no_event).cycle) false
 
--- Why a report is ignored: the setting comes first.
-abbrev pub cause_of : Bool → Bool → Option Cause
-cause_of false started = Some SettingOff
-cause_of true false = Some NotStarted
-cause_of true true = None
+-- Whether each condition is fulfilled that the event needs.
+abbrev pub is_event_enabled : Manager → ℕ → Bool
+is_event_enabled manager event =
+    are_met (unwrap_or (slice_get manager.faults.config.events.items event) no_event).needs manager.conditions
 
--- The answer to a report, by why it is ignored.
-abbrev pub report_reply : Option Cause → Reply
-report_reply None = replies.Taken
-report_reply (Some cause) = replies.Ignored cause
+-- What is seen of an event before a report, where the setting is on or off.
+abbrev pub readiness_at : Bool → Manager → ℕ → Readiness
+readiness_at setting manager event = record {
+  setting = setting;
+  started = is_cycle_started manager event;
+  enabled = is_event_enabled manager event;
+}
 
 -- The debouncing and the state of an event are as before.
 pub record KeepsEvent (event : ℕ) (before now : Manager) : Type 0 where

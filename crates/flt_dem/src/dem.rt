@@ -5,14 +5,15 @@ ghost use Rattle.std.proofs.Props.{props};
 ghost use Rattle.flt_config.specs.Durable.{Fits, is_of_event};
 ghost use Rattle.flt_config.specs.Validity.{has_dtc};
 ghost use Rattle.flt_model.specs.Life.{event_of, fresh};
-ghost use Rattle.flt_model.specs.Happening.{all_dtcs};
+ghost use Rattle.flt_model.specs.Happening.{all_dtcs, cause_of};
+ghost use Rattle.flt_model.specs.Answer.{report_reply};
 ghost use Rattle.flt_model.specs.Durable.{saved_after};
 ghost use Rattle.flt_model.specs.declared.call.Op.TheVariants as ops;
 ghost use Rattle.flt_model.specs.declared.call.Reply.TheVariants as replies;
 ghost use Rattle.flt_did.specs.Table.{dids_of};
 ghost use Rattle.flt_did.specs.Serves.{Serves};
 ghost use Rattle.flt_dem.specs.Faults.{KeepsOthers};
-ghost use Rattle.flt_dem.specs.Manager.{StandsFor, KeepsEvent, IsOfOtherCycle, is_cycle_started, cause_of, report_reply};
+ghost use Rattle.flt_dem.specs.Manager.{StandsFor, KeepsEvent, IsOfOtherCycle, readiness_at};
 ghost use Rattle.flt_dem.specs.Manager.{Takes, TakesUnder, TakesClear, IsValueOf, Answers, AnswersUnder, LeavesOthers, entry_after, noted_after};
 
 use crate::notes::Which;
@@ -37,7 +38,8 @@ impl Dem {
     ghost use Rattle.flt_dem.specs.Dem.{state_of, config_of, table_of};
 
     /// A manager with nothing saved, to which no call was made: no event was tested, there is no entry,
-    /// every debouncing is at rest, no cycle is started and each signal is 0.
+    /// every debouncing is at rest, no cycle is started, each signal is 0 and each enable condition is
+    /// fulfilled.
     pub fn make(config: ValidConfig, dids: DidTable<DID_ROWS>) -> Dem
         requires { Serves (dids_of dids) config.events.items }
         ensures config { config_of result ≡ config }
@@ -85,14 +87,25 @@ impl Dem {
         self.state.signal(index, value);
     }
 
+    /// Notes whether an enable condition, of the number 0 to 7, is fulfilled.
+    pub fn enable(&mut self, condition: u8, fulfilled: bool)
+        requires { condition < 8 }
+        ensures dids { table_of self.new ≡ table_of self.old }
+        ensures value { state_of self.new ≡ record (state_of self.old) { conditions = slice_set (state_of self.old).conditions condition fulfilled } }
+        ensures stands { Takes (ops.Enable condition fulfilled) (state_of self.old) (state_of self.new) }
+    {
+        self.state.enable(condition, fulfilled);
+    }
+
     /// Takes a monitor's report of an event, in view of whether the setting is on. The answer tells why
-    /// it is ignored: the setting is off, or else the event's cycle was not started since power-up; then
-    /// nothing changes. A result that it qualifies changes the event's state, the entries and the notes.
+    /// it is ignored: the setting is off, else the event's cycle was not started since power-up, or else
+    /// an enable condition that the event needs is not fulfilled; then nothing changes. A result that it
+    /// qualifies changes the event's state, the entries and the notes.
     pub fn report(&mut self, event: u16, report: Report, setting: bool) -> Option<Cause>
         requires configured { event < length (config_of self.old).events.items }
         ensures config { config_of self.new ≡ config_of self.old }
         ensures dids { table_of self.new ≡ table_of self.old }
-        ensures ignored { result ≡ cause_of setting (is_cycle_started (state_of self.old) event) }
+        ensures ignored { result ≡ cause_of (readiness_at setting (state_of self.old) event) }
         ensures unchanged { IfSome result (λ _. state_of self.new ≡ state_of self.old) }
         ensures debouncing { KeepsOthers event (state_of self.old).debounces (state_of self.new).debounces }
         ensures others { LeavesOthers event (state_of self.old) (state_of self.new) }
@@ -103,7 +116,7 @@ impl Dem {
     }
 
     /// Lets ticks of 10 ms go by, in view of whether the setting is on: with the setting off
-    /// nothing changes, and else each event ticks, in order of number.
+    /// nothing changes, and else each event ticks that is enabled, in order of number.
     pub fn tick(&mut self, ticks: u16, setting: bool)
         ensures config { config_of self.new ≡ config_of self.old }
         ensures dids { table_of self.new ≡ table_of self.old }

@@ -14,6 +14,7 @@ ghost use Rattle.flt_dem.specs.Calls.{TakesPartOfClear, TakesPartOfAnyClear, Tak
 ghost use Rattle.flt_dem.specs.Events.{counter_at};
 ghost use Rattle.flt_dem.specs.Manager.{KeepsOtherCycles};
 
+use crate::conditions::Conditions;
 use crate::faults::Faults;
 use arrayvec::ArrayVec;
 use flt_config::{Config, EVENTS, Persist, ValidConfig};
@@ -89,7 +90,7 @@ impl Events {
         flt_debounce::fdc(&rules.debounce, &self.debounces[event as usize])
     }
 
-    /// Takes a report of one event, with the setting on and the event's cycle started.
+    /// Takes a report of one event, with the setting on and the event's cycle started, of an event that is enabled.
     pub fn report(
         &mut self,
         dids: &DidTable<DID_ROWS>,
@@ -113,30 +114,45 @@ impl Events {
         self.faults.take(dids, signals, event, qualified);
     }
 
-    /// Lets ticks go by for one event, with the setting on.
-    fn tick_one(&mut self, dids: &DidTable<DID_ROWS>, signals: &Signals, event: u16, ticks: u16)
+    /// Lets ticks go by for one event, with the setting on. An event that needs a condition that is not fulfilled stands still.
+    fn tick_one(
+        &mut self,
+        dids: &DidTable<DID_ROWS>,
+        signals: &Signals,
+        conditions: &Conditions,
+        event: u16,
+        ticks: u16,
+    )
         requires configured { event < length self.old.faults.config.events.items }
         requires served { Serves (dids_of dids.now) self.old.faults.config.events.items }
         ensures config { self.new.faults.config ≡ self.old.faults.config }
-        ensures part { TakesPartOfTicks ticks signals.now.values event self.old self.new }
+        ensures part { TakesPartOfTicks ticks signals.now.values conditions.now event self.old self.new }
     {
         let rules = &self.faults.config().events[event as usize];
-        let qualified = flt_debounce::tick(
-            &rules.debounce,
-            &mut self.debounces[event as usize],
-            ticks,
-        );
-        self.faults.take(dids, signals, event, qualified);
+        if conditions.meet(rules.needs) {
+            let qualified = flt_debounce::tick(
+                &rules.debounce,
+                &mut self.debounces[event as usize],
+                ticks,
+            );
+            self.faults.take(dids, signals, event, qualified);
+        }
     }
 
-    /// Lets ticks go by for each event, with the setting on.
-    pub fn tick(&mut self, dids: &DidTable<DID_ROWS>, signals: &Signals, ticks: u16)
+    /// Lets ticks go by for each event that is enabled, with the setting on.
+    pub fn tick(
+        &mut self,
+        dids: &DidTable<DID_ROWS>,
+        signals: &Signals,
+        conditions: &Conditions,
+        ticks: u16,
+    )
         requires served { Serves (dids_of dids.now) self.old.faults.config.events.items }
         ensures config { self.new.faults.config ≡ self.old.faults.config }
-        ensures stands { TakeTicks ticks signals.now.values self.old self.new }
+        ensures stands { TakeTicks ticks signals.now.values conditions.now self.old self.new }
     {
         for event in 0..self.faults.count() {
-            self.tick_one(dids, signals, event, ticks);
+            self.tick_one(dids, signals, conditions, event, ticks);
         }
     }
 

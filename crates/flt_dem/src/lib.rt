@@ -5,6 +5,7 @@
 //! for them and one call more, and gives the answer that is written down. Read `specs/Manager` first.
 #![tactic(auto)]
 
+mod conditions;
 mod copies;
 mod dem;
 mod events;

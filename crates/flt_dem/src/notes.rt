@@ -16,7 +16,7 @@ pub enum Which {
 }
 
 /// The four noted events, each of which may be none.
-#[derive(Clone, Copy, PartialEq, Eq, Debug, Default)]
+#[derive(Clone, Copy)]
 pub struct Notes {
     pub first_failed: Option<u16>,
     pub first_confirmed: Option<u16>,

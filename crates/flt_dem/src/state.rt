@@ -2,9 +2,10 @@
 
 ghost use Rattle.std.specs.Prelude.{◌≡◌, ◌≢◌, ◌<◌, ◌≤◌, ℕ, [], length, slice_get, slice_set, find, position, option_copied, is_some, slice_index_or, Some, None, IfSome, false};
 ghost use Rattle.flt_config.specs.Durable.{Fits, is_of_event};
-ghost use Rattle.flt_config.specs.Validity.{has_dtc};
+ghost use Rattle.flt_config.specs.Validity.{IsValid, has_dtc};
 ghost use Rattle.flt_model.specs.Life.{event_of, fresh};
-ghost use Rattle.flt_model.specs.Happening.{all_dtcs};
+ghost use Rattle.flt_model.specs.Happening.{all_dtcs, cause_of};
+ghost use Rattle.flt_model.specs.Answer.{report_reply};
 ghost use Rattle.flt_model.specs.Durable.{saved_after};
 ghost use Rattle.flt_model.specs.declared.call.Op.TheVariants as ops;
 ghost use Rattle.flt_model.specs.declared.call.Reply.TheVariants as replies;
@@ -12,9 +13,10 @@ ghost use Rattle.flt_did.specs.Table.{dids_of};
 ghost use Rattle.flt_did.specs.Serves.{Serves};
 ghost use Rattle.flt_dem.specs.View.{counter_of};
 ghost use Rattle.flt_dem.specs.Faults.{KeepsOthers};
-ghost use Rattle.flt_dem.specs.Manager.{StandsFor, KeepsEvent, IsOfOtherCycle, is_cycle_started, cause_of, report_reply};
+ghost use Rattle.flt_dem.specs.Manager.{StandsFor, KeepsEvent, IsOfOtherCycle, readiness_at};
 ghost use Rattle.flt_dem.specs.Manager.{Takes, TakesUnder, TakesClear, IsValueOf, Answers, AnswersUnder, LeavesOthers, entry_after, noted_after};
 
+use crate::conditions::Conditions;
 use crate::events::Events;
 use crate::notes::Which;
 use flt_config::{EVENTS, EntryState, EventState, Persist, ValidConfig};
@@ -26,12 +28,13 @@ use std::marker::Model;
 const CYCLES: usize = 4;
 
 /// The event manager without its table of data identifiers: the events, which operation cycles are
-/// started, and the signals.
+/// started, the signals, and which enable conditions are fulfilled.
 #[derive(Drop)]
 pub struct DemState {
     events: Events,
     started: [bool; CYCLES],
     signals: Signals,
+    conditions: Conditions,
 }
 
 impl Model for DemState {
@@ -39,14 +42,15 @@ impl Model for DemState {
 
     ghost Value = { Manager };
 
-    ghost view = { λ d. record { faults = d.events.faults; debounces = d.events.debounces; started = d.started; signals = d.signals.values } };
+    ghost view = { λ d. record { faults = d.events.faults; debounces = d.events.debounces; started = d.started; signals = d.signals.values; conditions = d.conditions } };
 }
 
 impl DemState {
     ghost use Rattle.flt_dem.specs.Notes.{noted_by};
 
     /// A manager with nothing saved, to which no call was made: no event was tested, there is no entry,
-    /// every debouncing is at rest, no cycle is started and each signal is 0.
+    /// every debouncing is at rest, no cycle is started, each signal is 0 and each enable condition is
+    /// fulfilled.
     pub fn make(config: ValidConfig) -> DemState
         ensures config { result.faults.config ≡ config }
         ensures stands { StandsFor (fresh config) [] result }
@@ -55,6 +59,7 @@ impl DemState {
             events: Events::new(config),
             started: [false; CYCLES],
             signals: Signals::zero(),
+            conditions: Conditions::fulfilled(),
         }
     }
 
@@ -67,6 +72,7 @@ impl DemState {
         self.events.restore(base);
         self.started = [false; CYCLES];
         self.signals = Signals::zero();
+        self.conditions = Conditions::fulfilled();
     }
 
     /// Writes the durable state: what is to be saved. That changes nothing.
@@ -94,9 +100,37 @@ impl DemState {
         self.signals.set(index, value);
     }
 
+    /// Notes whether an enable condition, of the number 0 to 7, is fulfilled.
+    pub fn enable(&mut self, condition: u8, fulfilled: bool)
+        requires { condition < 8 }
+        ensures value { self.new ≡ record self.old { conditions = slice_set self.old.conditions condition fulfilled } }
+        ensures stands { Takes (ops.Enable condition fulfilled) self.old self.new }
+    {
+        self.conditions.set(condition, fulfilled);
+    }
+
+    /// Why a report of an event is ignored, in view of whether the setting is on.
+    fn cause(&self, event: u16, setting: bool) -> Option<Cause>
+        requires { event < length self.now.faults.config.events.items }
+        ensures valid { IsValid self.now.faults.config }
+        ensures cause { result ≡ cause_of (readiness_at setting self.now event) }
+    {
+        let rules = &self.events.faults().config().events[event as usize];
+        if !setting {
+            Some(Cause::SettingOff)
+        } else if !self.started[rules.cycle as usize] {
+            Some(Cause::NotStarted)
+        } else if !self.conditions.meet(rules.needs) {
+            Some(Cause::NotEnabled)
+        } else {
+            None
+        }
+    }
+
     /// Takes a monitor's report of an event, in view of whether the setting is on. The answer tells why
-    /// it is ignored: the setting is off, or else the event's cycle was not started since power-up; then
-    /// nothing changes. A result that it qualifies changes the event's state, the entries and the notes.
+    /// it is ignored: the setting is off, else the event's cycle was not started since power-up, or else
+    /// an enable condition that the event needs is not fulfilled; then nothing changes. A result that it
+    /// qualifies changes the event's state, the entries and the notes.
     pub fn report(
         &mut self,
         dids: &DidTable<DID_ROWS>,
@@ -107,26 +141,24 @@ impl DemState {
         requires configured { event < length self.old.faults.config.events.items }
         requires served { Serves (dids_of dids.now) self.old.faults.config.events.items }
         ensures config { self.new.faults.config ≡ self.old.faults.config }
-        ensures ignored { result ≡ cause_of setting (is_cycle_started self.old event) }
+        ensures ignored { result ≡ cause_of (readiness_at setting self.old event) }
         ensures unchanged { IfSome result (λ _. self.new ≡ self.old) }
         ensures debouncing { KeepsOthers event self.old.debounces self.new.debounces }
         ensures others { LeavesOthers event self.old self.new }
         ensures stands { TakesUnder setting (ops.Report event report) self.old self.new }
         ensures answer { AnswersUnder setting (ops.Report event report) self.old (report_reply result) }
     {
-        if !setting {
-            return Some(Cause::SettingOff);
+        match self.cause(event, setting) {
+            Some(cause) => Some(cause),
+            None => {
+                self.events.report(dids, &self.signals, event, report);
+                None
+            }
         }
-        let cycle = self.events.faults().config().events[event as usize].cycle;
-        if !self.started[cycle as usize] {
-            return Some(Cause::NotStarted);
-        }
-        self.events.report(dids, &self.signals, event, report);
-        None
     }
 
     /// Lets ticks of 10 ms go by, in view of whether the setting is on: with the setting off
-    /// nothing changes, and else each event ticks, in order of number.
+    /// nothing changes, and else each event ticks that is enabled, in order of number.
     pub fn tick(&mut self, dids: &DidTable<DID_ROWS>, ticks: u16, setting: bool)
         requires served { Serves (dids_of dids.now) self.old.faults.config.events.items }
         ensures config { self.new.faults.config ≡ self.old.faults.config }
@@ -134,7 +166,8 @@ impl DemState {
         ensures stands { TakesUnder setting (ops.Tick ticks) self.old self.new }
     {
         if setting {
-            self.events.tick(dids, &self.signals, ticks);
+            self.events
+                .tick(dids, &self.signals, &self.conditions, ticks);
         }
     }
 

@@ -16,6 +16,3 @@ pub use table::{DidTable, TableFault};
 
 /// The rows of the program's table of data identifiers.
 pub const DID_ROWS: usize = 16;
-
-#[cfg(test)]
-mod tests;

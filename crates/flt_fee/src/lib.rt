@@ -11,3 +11,4 @@ mod set_up;
 mod switch;
 
 pub use fee::Fee;
+pub use place::{CurrentSector, current_sector};

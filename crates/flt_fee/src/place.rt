@@ -8,11 +8,11 @@ ghost use Rattle.flt_fee.specs.Place.{told_current};
 use flt_flash::Flash;
 use flt_pages::{PageFault, gates};
 
-// A valid sector with its sequence number.
+/// A valid sector with its sequence number.
 #[derive(Clone, Copy, Debug, PartialEq, Eq)]
-pub(crate) struct CurrentSector {
-    pub(crate) sector: u8,
-    pub(crate) sequence: u32,
+pub struct CurrentSector {
+    pub sector: u8,
+    pub sequence: u32,
 }
 
 // The valid sector of the greater number.
@@ -47,8 +47,9 @@ fn greater(first: Option<u32>, second: Option<u32>) -> Result<Option<CurrentSect
     }
 }
 
-// The valid sector of the greatest number; `None` where no sector is valid.
-pub(crate) fn current_sector<F: Flash>(
+/// The valid sector of the greatest number; `None` where no sector is valid. It reads the four gates, and changes nothing. `Damaged` is
+/// the first fault of the gates.
+pub fn current_sector<F: Flash>(
     flash: &mut F,
     used: u16,
 ) -> Result<Option<CurrentSector>, PageFault>

@@ -1,7 +1,9 @@
 -- Calls of a driver in a row.
-use Rattle.std.proofs.Common.{ℕ, Option, Some, None, refl, ◌∙◌, arith}
+use Rattle.std.proofs.Common.{◌≡◌, ℕ, Bool, true, false, Option, Some, None, Result, Ok, Err, refl, sym, ◌∙◌, arith}
+use Rattle.std.specs.Prelude.{OnOk, IsTrue, IsFalse}
 use Rattle.flt_flash.specs.Blocks.{BlocksState}
-use Rattle.flt_flash.specs.Calls.{Follows, NeverFalls}
+use Rattle.flt_flash.specs.Calls.{Follows, Calls, NeverFalls}
+use Rattle.flt_flash.specs.declared.blocks.BlockFault.{BlockFault}
 use Rattle.flt_flash.proofs.Following.{bench_kept, bench_on}
 
 told_stands : (count : Option ℕ) → NeverFalls count count
@@ -43,3 +45,32 @@ more_calls first second third one two = record {
   erases = told_on first.device.erases second.device.erases third.device.erases one.erases two.erases;
   bench = bench_on one.bench two.bench;
 }
+
+unmounted_before : (before after : Bool) → (IsTrue before → IsTrue after) → IsFalse after → IsFalse before
+unmounted_before true after keeps unset = absurd (cc (keeps refl, unset))
+unmounted_before false after keeps unset = refl
+
+-- The image had the fault before too.
+damage_before : (before after : Option (ℕ × ℕ)) (place : ℕ × ℕ) → ((p : ℕ × ℕ) → before ≡ Some p → after ≡ Some p) → (before ≡ None → after ≡ None) → after ≡ Some place → before ≡ Some place
+damage_before None after place stays none found = absurd (cc (none refl, found))
+damage_before (Some p) after place stays none found = sym (stays p refl) ∙ found
+
+no_damage_before : (before after : Option (ℕ × ℕ)) → ((p : ℕ × ℕ) → before ≡ Some p → after ≡ Some p) → after ≡ None → before ≡ None
+no_damage_before None after stays none = refl
+no_damage_before (Some p) after stays none = absurd (cc (stays p refl, none))
+
+-- The last of several calls tells how they ended.
+pub calls_after : {T : Type 0} (first second third : BlocksState) (result : Result T BlockFault) → Follows first second → Calls second third result → Calls first third result
+calls_after {T} first second third result one two = record {
+  follows = more_calls first second third one two.follows;
+  flash = λ told. (let rose = two.flash told in omega (arith, one.counts, rose));
+  damaged = λ sector page told. (let found = two.damaged sector page told in (
+    damage_before first.damage second.damage (sector, page) (λ p e. (one.damage_stays p e).0) one.no_new_damage found.0,
+    unmounted_before first.has_mounted second.has_mounted one.once_mounted found.1,
+  ));
+  refuses_damage = refuses result two.refuses_damage;
+}
+  where
+    refuses : (result : Result T BlockFault) → OnOk result (second.damage ≡ None) → OnOk result (first.damage ≡ None)
+    refuses (Ok x) none = no_damage_before first.damage second.damage (λ p e. (one.damage_stays p e).0) none
+    refuses (Err e) none = tt

@@ -19,4 +19,5 @@ pub use arm::{Arm, ArmMade, Pattern};
 pub use blocks::{BlockFault, Blocks, Found, Refused, calls_follow};
 pub use flash::{Bench, Flash, FlashFailed};
 pub use memory::FlashMem;
-pub use torn::BLANK_PAGE;
+pub use power::Power;
+pub use torn::{BLANK_PAGE, tear_page};

@@ -8,13 +8,13 @@ use crate::standing::{count_read, count_write};
 use crate::{Arm, Pattern};
 use arrayvec::ArrayVec;
 
-/// Whether the flash is off, its counts of faults and of operations, and the arms that stand.
+/// Whether a device in memory is off, its counts of faults and of operations, and the arms that stand.
 #[derive(Drop)]
-pub(crate) struct Power {
-    pub(crate) is_off: bool,
-    pub(crate) faults: u64,
-    pub(crate) operations: u64,
-    pub(crate) standing: ArrayVec<Arm, 64>,
+pub struct Power {
+    pub is_off: bool,
+    pub faults: u64,
+    pub operations: u64,
+    pub standing: ArrayVec<Arm, 64>,
 }
 
 impl Power {
@@ -27,7 +27,7 @@ impl Power {
     }
 
     /// Counts a program or erase, and says by which pattern it fails, if it does.
-    pub(crate) fn count_write(&mut self) -> Option<Pattern>
+    pub fn count_write(&mut self) -> Option<Pattern>
         ensures fails { result ≡ failing_by (power_state self.old) }
         ensures off { self.new.is_off ≡ (self.old.is_off || cuts (next_arm (power_state self.old))) }
         ensures faults { self.new.faults ≡ (if is_some result then counted self.old.faults else self.old.faults) }
@@ -55,7 +55,7 @@ impl Power {
     }
 
     /// Counts a read of a page, and says whether it fails.
-    pub(crate) fn count_read(&mut self, sector: u8, page: u16) -> bool
+    pub fn count_read(&mut self, sector: u8, page: u16) -> bool
         ensures fails { result ≡ read_fails sector page (power_state self.old) }
         ensures off { self.new.is_off ≡ self.old.is_off }
         ensures faults { self.new.faults ≡ (if result then counted self.old.faults else self.old.faults) }

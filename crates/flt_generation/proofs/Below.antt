@@ -12,18 +12,18 @@ use Rattle.flt_config.specs.Durable.{IsEntryOf}
 use Rattle.flt_generation.specs.declared.commit.Commit.{Commit}
 use Rattle.flt_generation.specs.declared.part.Part.{Part}
 use Rattle.flt_generation.specs.declared.part.Part.TheVariants.{Summary, States, Entry}
-use Rattle.flt_generation.specs.Layout.{part_of, is_used}
+use Rattle.flt_generation.specs.Layout.{part_of, is_used, parts, later_states_id, first_later_event, states_per_block}
 use Rattle.flt_generation.specs.Fit.{entry_fits_at, is_alone, place_fits, part_fits}
 use Rattle.flt_generation.specs.Holding.{parts_read}
 use Rattle.flt_generation.specs.Faults.{HoldBelow}
 use Rattle.flt_generation.proofs.Fitting.{test_of_entry, alone_by}
 use Rattle.flt_generation.proofs.Parts.{states_pass}
-use Rattle.flt_generation.proofs.Steps.{is_summary, are_states, is_entry, kind_of}
+use Rattle.flt_generation.proofs.Steps.{is_summary, are_states, is_entry, are_later, kind_of}
 use Rattle.flt_generation.proofs.Sofar.{Sofar, sofar}
 use Rattle.flt_generation.proofs.Short.{HasSizes}
 use Rattle.flt_generation.proofs.Whole.{blocks_read}
 
-module _ (c : Config) (sizes : HasSizes c) (value : ℕ → Content) (commit : Commit) (count : ℕ) (most : count ≤ 21) where
+module _ (c : Config) (sizes : HasSizes c) (value : ℕ → Content) (commit : Commit) (count : ℕ) (most : count ≤ parts) where
   module _ (p : Persist) (known : Sofar c value commit count p) where
     -- An entry that was read fits beside the others.
     entry_fits : (place : ℕ) → place + 5 < count → (entry : EntryState) → place < length p.entries.items → slice_index_or p.entries.items place entry ≡ entry
@@ -51,7 +51,8 @@ module _ (c : Config) (sizes : HasSizes c) (value : ℕ → Content) (commit : C
     part_fits_at id low below = elim (kind_of id low) [
       | is_summary at of ↦ fits_as Summary of (known.summary_is (omega (arith, below, low)))
       | are_states from high of ↦ fits_as (States (16 * (id - 4))) of (states_pass c.events.items p.events.items (16 * (id - 4)) 16 known.states_are)
-      | is_entry from of ↦ fits_as (Entry (id - 8)) of (entry_at (id - 8) (omega (arith, below, from)))
+      | are_later from of ↦ fits_as (States (first_later_event + states_per_block * (id - later_states_id))) of (states_pass c.events.items p.events.items (first_later_event + states_per_block * (id - later_states_id)) 16 known.states_are)
+      | is_entry from high of ↦ fits_as (Entry (id - 8)) of (entry_at (id - 8) (omega (arith, below, from)))
     ]
       where
         fits_as : (part : Part) → part_of id ≡ part → part_fits c p part ≡ true → part_fits c p (part_of id) ≡ true

@@ -10,8 +10,8 @@ use Rattle.flt_config.specs.Durable.{Fits}
 use Rattle.flt_config.specs.Validity.{needed_pages}
 use Rattle.flt_generation.specs.declared.mark.Mark.{Mark}
 use Rattle.flt_generation.specs.declared.commit.Commit.{Commit}
-use Rattle.flt_generation.specs.Layout.{mark_number, application_number}
-use Rattle.flt_generation.specs.Form.{mark_of, commit_bytes, IsMark}
+use Rattle.flt_generation.specs.Layout.{mark_number, application_number, parts}
+use Rattle.flt_generation.specs.Form.{mark_of, IsMark, IsBytesOfCommit}
 use Rattle.flt_generation.specs.Reading.{mark_in, commit_in}
 use Rattle.flt_generation.specs.Excess.{excess, IsBorne}
 use Rattle.flt_generation.specs.Holding.{Generation, first_generation, Fault, ◌>>=◌, is_same_mark, judged_mark, marked, parts_read, generation_of, named, is_application, application_fault, applications_judged, excess_judged, held_by, MarkAllows, BlocksHold, CommitNames, Names, Holds}
@@ -66,12 +66,12 @@ allows_marked c (bytes held) commit own allows = own_judged c (mark_in held) (ma
 
 -- ---- the commit and its blocks
 named_by : (c : Config) (value : ℕ → Content) (held : List ℕ) (g : Generation) (o : Option Commit) → c.memory ≤ 16 → commit_in c held ≡ o → generation_of c value o ≡ Ok g
-    → (commit : Commit) × (held ≡ commit_bytes commit) × CommitNames c value commit g
+    → (commit : Commit) × IsBytesOfCommit commit held × CommitNames c value commit g
 named_by c value held g None memory is gives = absurd (cc)
 named_by c value held g (Some commit) memory is gives =
     let found = read_commit c held commit is in
-    let steps = both_ok (parts_read c value commit 21) (λ state. Ok (record { number = commit.generation; state = state })) g gives in
-    let known = sofar c value commit 21 steps.0 (omega arith) steps.1 in
+    let steps = both_ok (parts_read c value commit parts) (λ state. Ok (record { number = commit.generation; state = state })) g gives in
+    let known = sofar c value commit parts steps.0 (omega arith) steps.1 in
     let same : record { number = commit.generation; state = steps.0 } ≡ g = cc in (
       commit,
       found.1,
@@ -97,7 +97,7 @@ names_named c value (bytes held) g sizes is =
     let commit = is.0 in
     let names = is.2 in
     let found : commit_in c held ≡ Some commit = commit_read c held commit names.form is.1 in
-    let state : parts_read c value commit 21 ≡ Ok g.state = whole_read c sizes value commit g.state names.fits names.blocks in
+    let state : parts_read c value commit parts ≡ Ok g.state = whole_read c sizes value commit g.state names.fits names.blocks in
     let number = names.number in
     ap (generation_of c value) found
     ∙ ap (λ (r : Result Persist Fault). r >>= (λ state. Ok (record { number = commit.generation; state = state }))) state

@@ -1,5 +1,5 @@
 -- What each step of judging comes to.
-use Rattle.std.proofs.Common.{◌≡◌, ◌≢◌, ℕ, zero, suc, ◌+◌, ◌<◌, ◌≤◌, Bool, true, false, not, List, refl, sym, ◌∙◌, ap, subst, arith, inl, inr}
+use Rattle.std.proofs.Common.{◌≡◌, ◌≢◌, ℕ, zero, suc, ◌+◌, ◌<◌, ◌≤◌, Bool, true, false, not, List, refl, ◌∙◌, ap, subst, arith, inl, inr}
 use Rattle.std.specs.Prelude.{nat_le, find, Option, Some, None, Result, Ok, Err, IsTrue, if◌then◌else◌}
 use Rattle.std.specs.List.{range_with_len}
 use Rattle.std.proofs.lemmas.Bool.{cases_eq, not-true, not-false, leb-true, leb-false}
@@ -11,7 +11,7 @@ use Rattle.flt_generation.specs.declared.mark.Mark.{Mark}
 use Rattle.flt_generation.specs.declared.commit.Commit.{Commit}
 use Rattle.flt_generation.specs.declared.place.Place.TheVariants.{Block}
 use Rattle.flt_generation.specs.Layout.{mark_id, number_of, application_number, part_of, is_used, index_in}
-use Rattle.flt_generation.specs.Form.{mark_of, IsCommit, IsBytesOfCommit}
+use Rattle.flt_generation.specs.Form.{mark_of, IsCommit, IsBytesOfMark, IsBytesOfCommit}
 use Rattle.flt_generation.specs.Reading.{mark_in, commit_in, taken}
 use Rattle.flt_generation.specs.Excess.{excess, IsBorne}
 use Rattle.flt_generation.specs.Holding.{Fault, damaged, other, ◌>>=◌, is_same_mark, judged_mark, marked, or_damaged, with_content, with_named, parts_read, is_application, application_fault, applications_judged, excess_judged}
@@ -35,14 +35,14 @@ module _ (c : Config) (mark commit : Content) where
   read_fine held is found read (no_mark raw same none) =
       let equal : held ≡ raw = cc in
       let form = read_mark held found read in
-      none found form.0 (sym equal ∙ form.1)
+      none found form.0 (subst (IsBytesOfMark found) equal form.1)
 
   -- And are that mark alone.
   read_alone : (held : List ℕ) → mark ≡ bytes held → (found : Mark) → mark_in held ≡ Some found → (m : Mark) → IsOthers c mark m → m ≡ found
   read_alone held is found read m others =
       let content = others.is in
       let equal : others.held ≡ held = cc in
-      let again : mark_in held ≡ Some m = mark_read held m others.form (sym equal ∙ others.reads) in
+      let again : mark_in held ≡ Some m = mark_read held m others.form (subst (IsBytesOfMark m) equal others.reads) in
       cc
 
   by_own : (held : List ℕ) → mark ≡ bytes held → (found : Mark) → mark_in held ≡ Some found → (own : Bool) → is_same_mark found (mark_of c) ≡ own
@@ -92,14 +92,14 @@ commit_fine c content held is commit read (commit_invalid none) = cc
 commit_fine c content held is commit read (no_commit raw same none) =
     let equal : held ≡ raw = cc in
     let form = read_commit c held commit read in
-    none commit form.0 (sym equal ∙ form.1)
+    none commit form.0 (subst (IsBytesOfCommit commit) equal form.1)
 
 -- A commit that is named is the one that is read.
 pub named_alone : (c : Config) (content : Content) (held : List ℕ) → content ≡ bytes held → (commit : Commit) → commit_in c held ≡ Some commit
     → (raw : List ℕ) → content ≡ bytes raw → (named : Commit) → IsCommit c named → IsBytesOfCommit named raw → named ≡ commit
 named_alone c content held is commit read raw same named form reads =
     let equal : raw ≡ held = cc in
-    let again : commit_in c held ≡ Some named = commit_read c held named form (sym equal ∙ reads) in
+    let again : commit_in c held ≡ Some named = commit_read c held named form (subst (IsBytesOfCommit named) equal reads) in
     cc
 
 -- ---- the blocks that it names

@@ -8,7 +8,8 @@ use Rattle.flt_config.specs.declared.persist.Persist.{Persist}
 use Rattle.flt_generation.specs.declared.mark.Mark.{Mark}
 use Rattle.flt_generation.specs.declared.commit.Commit.{Commit}
 use Rattle.flt_generation.specs.declared.place.Place.TheVariants.{Page, Block}
-use Rattle.flt_generation.specs.Layout.{mark_id, commit_id, mark_number, is_used}
+use Rattle.flt_generation.specs.Layout.{mark_id, commit_id, mark_number, is_used, parts, end_part}
+use Rattle.flt_generation.specs.Form.{IsBytesOfMark}
 use Rattle.flt_generation.specs.Reading.{mark_in, commit_in}
 use Rattle.flt_generation.specs.Excess.{IsBorne}
 use Rattle.flt_generation.specs.Holding.{Generation, first_generation, Fault, damaged, other, ◌>>=◌, marked, parts_read, generation_of, named, applications_judged, excess_judged, held_by}
@@ -20,8 +21,8 @@ use Rattle.flt_generation.proofs.Below.{read_below, below_read}
 use Rattle.flt_generation.proofs.FaultCases.{MarkIs, mark_fine, mark_damaged, mark_others, mark_is, CommitIs, is_first, commit_damaged, is_commit_of, commit_is, first_fine, commit_fine, named_alone, PartsAre, all_read, failed, parts_are, ApplicationsAre, all_fine, one_damaged, applications_are, ExcessIs, is_borne, too_great, excess_is}
 
 -- The used blocks are those of the parts.
-part_within : (c : Config) (id : ℕ) → IsTrue (is_used c id) → (3 ≤ id) × (id < 24)
-part_within c id used = let range = and_parts _ _ (and_parts _ _ used).0 in (leb-true 3 id range.0, ltb-true id 24 range.1)
+part_within : (c : Config) (id : ℕ) → IsTrue (is_used c id) → (3 ≤ id) × (id < end_part)
+part_within c id used = let range = and_parts _ _ (and_parts _ _ used).0 in (leb-true 3 id range.0, ltb-true id end_part range.1)
 
 -- A block is judged by its identifier.
 rank_at : (id : ℕ) → 0 < id → judging_order (damaged (Block id)) ≡ 2 * id
@@ -134,7 +135,7 @@ module _ (c : Config) (value : ℕ → Content) (commit : Content) where
     }
 
     -- Where the commit is a commit, the parts before one that was read are fine.
-    part_before : HasSizes c → (held : List ℕ) → commit ≡ bytes held → (form : Commit) → commit_in c held ≡ Some form → (count : ℕ) → count ≤ 21 → (p : Persist) → parts_read c value form count ≡ Ok p
+    part_before : HasSizes c → (held : List ℕ) → commit ≡ bytes held → (form : Commit) → commit_in c held ≡ Some form → (count : ℕ) → count ≤ parts → (p : Persist) → parts_read c value form count ≡ Ok p
         → (id : ℕ) → id < 3 + count → IsPartDamaged c value commit id → ⊥
     part_before sizes held is form read count most p whole id below part =
         let same : part.named ≡ form = named_alone c commit held is form read part.held part.is part.named part.form part.reads in
@@ -142,7 +143,7 @@ module _ (c : Config) (value : ℕ → Content) (commit : Content) where
         part.none p (subst (λ (k : Commit). HoldBelow c value k (id + 1) p) (sym same)
         (record { one_each = stands.one_each; blocks = λ other used low. stands.blocks other used (omega (arith, low, below)); fits = λ other used low. stands.fits other used (omega (arith, low, below)) }))
 
-    by_parts : HasSizes c → (held : List ℕ) → commit ≡ bytes held → (form : Commit) → commit_in c held ≡ Some form → PartsAre c value form 21
+    by_parts : HasSizes c → (held : List ℕ) → commit ≡ bytes held → (form : Commit) → commit_in c held ≡ Some form → PartsAre c value form parts
         → HeldIs (judged_on (generation_of c value (Some form)))
     by_parts sizes held is form read (all_read p whole) =
         let g : Generation = record { number = form.generation; state = p } in
@@ -150,7 +151,7 @@ module _ (c : Config) (value : ℕ → Content) (commit : Content) where
           mark = mark;
           own = own;
           commit_ = commit_fine c commit held is form read;
-          parts = λ id part. part_before sizes held is form read 21 (omega arith) p whole id (part_within c id part.used).1 part;
+          parts = λ id part. part_before sizes held is form read parts (omega arith) p whole id (part_within c id part.used).1 part;
         } in
         subst (λ (r : Result Persist Fault). HeldIs (judged_on (r >>= (λ state. Ok (record { number = form.generation; state = state }))))) (sym whole)
         (by_applications g fine (applications_judged value) (applications_are value))
@@ -182,7 +183,7 @@ module _ (c : Config) (value : ℕ → Content) (commit : Content) where
         has (damaged (Block commit_id)) (has_low commit_id (omega arith) (omega arith) (inr (inl (refl, is))) (λ low. absurd (omega (arith, low))) (λ k low part. omega (arith, low, (part_within c k part.used).0)))
         (ap judged_on (named_none c value commit some none))
     by_commit sizes (is_commit_of held is form read) =
-        subst (λ (r : Result Generation Fault). HeldIs (judged_on r)) (sym (named_form c value commit held is form read)) (by_parts sizes held is form read (parts_are c value form 21))
+        subst (λ (r : Result Generation Fault). HeldIs (judged_on r)) (sym (named_form c value commit held is form read)) (by_parts sizes held is form read (parts_are c value form parts))
 
   by_mark : HasSizes c → (result : Result (Unit {0}) Fault) → MarkIs c (value mark_number) commit result
       → HeldIs (result >>= (λ _. named c value commit >>= (λ g. applications_judged value >>= (λ _. excess_judged c value >>= (λ _. Ok g)))))
@@ -229,7 +230,7 @@ module _ (c : Config) (value : ℕ → Content) (commit : Content) where
       let b = two.is in
       let equal : one.held ≡ two.held = cc in
       let read : mark_in one.held ≡ Some first = mark_read one.held first one.form one.reads in
-      let also : mark_in one.held ≡ Some second = mark_read one.held second two.form (equal ∙ two.reads) in
+      let also : mark_in one.held ≡ Some second = mark_read one.held second two.form (subst (IsBytesOfMark second) (sym equal) two.reads) in
       cc
 
   -- The identifiers of faults end before the last rank.

@@ -7,7 +7,7 @@ use Rattle.flt_flash.specs.Content.{Content, missing, bytes, invalid}
 use Rattle.flt_config.specs.declared.config.Config.{Config}
 use Rattle.flt_config.specs.declared.persist.Persist.{Persist}
 use Rattle.flt_generation.specs.declared.commit.Commit.{Commit}
-use Rattle.flt_generation.specs.Layout.{numbers, is_used, first_commit, second_commit}
+use Rattle.flt_generation.specs.Layout.{numbers, is_used, first_commit, second_commit, parts, end_part}
 use Rattle.flt_generation.specs.Form.{IsMark, mark_of, block_bytes}
 use Rattle.flt_generation.specs.Excess.{own_pages}
 use Rattle.flt_generation.specs.Holding.{first_generation, parts_read, BlocksHold, Holds, IsSound, either_copy, only_bytes, Generation, held_by, IsHeld, IsSpare}
@@ -46,7 +46,7 @@ parts_are_taken c given part held before after one_each = (taken_as c part held 
 
 -- ---- an image made of the blocks of a state
 zeros : Commit
-zeros = record { generation = 1; index = replicate 21 0 }
+zeros = record { generation = 1; index = replicate parts 0 }
 
 blocks_of : Persist → ℕ → Content
 blocks_of p number = bytes (block_bytes p (number / 8))
@@ -56,15 +56,15 @@ unfolding zeros blocks_of
 stands c p q same = λ id used.
     let range = and_parts _ _ (and_parts _ _ used).0 in
     let low : 3 ≤ id = leb-true 3 id range.0 in
-    let high : id < 24 = ltb-true id 24 range.1 in
-    let index : slice_index (replicate 21 0) (id - 3) ≡ 0 = get_or-replicate 21 (id - 3) 0 0 (omega (arith, low, high)) in
+    let high : id < end_part = ltb-true id end_part range.1 in
+    let index : slice_index (replicate parts 0) (id - 3) ≡ 0 = get_or-replicate parts (id - 3) 0 0 (omega (arith, low, high)) in
     let back : (id * 8 + 0) / 8 ≡ id = omega arith in
     ap (λ (n : ℕ). bytes (block_bytes p ((id * 8 + n) / 8))) index ∙ ap (λ (n : ℕ). bytes (block_bytes p n)) back ∙ ap bytes (same id used)
 
 pub blocks_determine_state : BlocksDetermineState
 blocks_determine_state c given first second fits_first fits_second same =
-    let one : parts_read c (blocks_of first) zeros 21 ≡ Ok first = whole_read c (sizes_of c given) (blocks_of first) zeros first fits_first (stands c first first (λ id used. refl)) in
-    let two : parts_read c (blocks_of first) zeros 21 ≡ Ok second = whole_read c (sizes_of c given) (blocks_of first) zeros second fits_second (stands c first second same) in
+    let one : parts_read c (blocks_of first) zeros parts ≡ Ok first = whole_read c (sizes_of c given) (blocks_of first) zeros first fits_first (stands c first first (λ id used. refl)) in
+    let two : parts_read c (blocks_of first) zeros parts ≡ Ok second = whole_read c (sizes_of c given) (blocks_of first) zeros second fits_second (stands c first second same) in
     let both : Ok first ≡ Ok second = sym one ∙ two in
     cc
 

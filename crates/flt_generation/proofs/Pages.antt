@@ -10,12 +10,12 @@ use Rattle.flt_config.specs.declared.config.Config.{Config}
 use Rattle.flt_config.specs.Validity.{state_blocks, needed_pages}
 use Rattle.flt_generation.specs.declared.part.Part.{Part}
 use Rattle.flt_generation.specs.declared.part.Part.TheVariants.{States, Entry}
-use Rattle.flt_generation.specs.Layout.{numbers, number_of, both_indices, application_number, part_of, has_part, is_used}
+use Rattle.flt_generation.specs.Layout.{numbers, number_of, both_indices, application_number, part_of, has_part, is_used, parts, end_part, later_states_id, later_states_blocks, first_later_event, states_per_block, entries, states_blocks}
 use Rattle.flt_generation.specs.Form.{part_length}
 use Rattle.flt_generation.specs.Excess.{is_own_part, is_own_application, own_pages, IsBorne}
 use Rattle.flt_generation.specs.Laws.{IsGiven}
 use Rattle.flt_generation.proofs.Choices.{chosen, not_chosen}
-use Rattle.flt_generation.proofs.Steps.{is_summary, are_states, is_entry, kind_of}
+use Rattle.flt_generation.proofs.Steps.{is_summary, are_states, is_entry, are_later, kind_of}
 
 -- The sum of one more in front.
 pub sum_more : {X : Type 0} (f : X → ℕ) (x : X) (xs : List X) → sum_by f (x ∷ xs) ≡ f x + sum_by f xs
@@ -92,9 +92,9 @@ split_sum f first (suc one) two =
     ∙ ap (λ (n : ℕ). f first + n) (split_sum f (first + 1) one two ∙ ap (λ (n : ℕ). sum_by f (range_with_len (first + 1) one) + sum_by f (range_with_len n two)) at)
     ∙ omega (arith, here)
 
-add_up : (whole left right mark pairs three rest states entries s m b : ℕ) → whole ≡ left + right → left ≡ mark + pairs → mark ≡ 9 → pairs ≡ three + rest → three ≡ 6
-    → rest ≡ states + entries → states ≡ 8 * min s 4 → entries ≡ 10 * min m 16 → right ≡ 3 * min b 40 → s ≤ 4 → m ≤ 16 → b ≤ 40 → whole + 7 ≡ 22 + 8 * s + 10 * m + 3 * b
-add_up whole left right mark pairs three rest states entries s m b a1 a2 a3 a4 a5 a6 a7 a8 a9 few small low = omega (arith, a1, a2, a3, a4, a5, a6, a7, a8, a9, few, small, low)
+add_up : (whole left right mark pairs three rest states behind entries later s m b : ℕ) → whole ≡ left + right → left ≡ mark + pairs → mark ≡ 9 → pairs ≡ three + rest → three ≡ 6
+    → rest ≡ states + behind → behind ≡ entries + later → states ≡ 8 * min s states_blocks → entries ≡ 10 * min m 16 → later ≡ 8 * min (s - states_blocks) later_states_blocks → right ≡ 3 * min b 40 → s ≤ states_blocks + later_states_blocks → m ≤ 16 → b ≤ 40 → whole + 7 ≡ 22 + 8 * s + 10 * m + 3 * b
+add_up whole left right mark pairs three rest states behind entries later s m b a1 a2 a3 a4 a5 a6 a7 a8 a9 a10 a11 few small low = omega (arith, a1, a2, a3, a4, a5, a6, a7, a8, a9, a10, a11, few, small, low)
 
 module _ (c : Config) where
   abbrev for_application : ℕ → ℕ
@@ -110,16 +110,16 @@ module _ (c : Config) where
       not_chosen (number == 8) (record_pages 8) _ (ne_eqb number 8 (λ e. omega (arith, e, high)))
       ∙ not_chosen ((number == 16) || (number == 17)) (record_pages 26) _ (or_from (number == 16) (number == 17) (ne_eqb number 16 (λ e. omega (arith, e, high))) (ne_eqb number 17 (λ e. omega (arith, e, high))))
 
-  pub used_is : (id : ℕ) → 3 ≤ id → id < 24 → is_used c id ≡ has_part c (part_of id)
+  pub used_is : (id : ℕ) → 3 ≤ id → id < end_part → is_used c id ≡ has_part c (part_of id)
   used_is id low high =
-      ap (λ (b : Bool). b && nat_lt id 24 && has_part c (part_of id)) (le-leb 3 id low) ∙ ap (λ (b : Bool). true && b && has_part c (part_of id)) (lt-ltb id 24 high)
+      ap (λ (b : Bool). b && nat_lt id end_part && has_part c (part_of id)) (le-leb 3 id low) ∙ ap (λ (b : Bool). true && b && has_part c (part_of id)) (lt-ltb id end_part high)
 
   and_true : (b : Bool) → (b && true) ≡ b
   and_true true = refl
   and_true false = refl
 
   -- The pages of an index of a part.
-  pub of_part : (id index : ℕ) → 3 ≤ id → id < 24 → index ≤ 1 → own_pages c (number_of id index) ≡ (if has_part c (part_of id) then record_pages (part_length (part_of id)) else 0)
+  pub of_part : (id index : ℕ) → 3 ≤ id → id < end_part → index ≤ 1 → own_pages c (number_of id index) ≡ (if has_part c (part_of id) then record_pages (part_length (part_of id)) else 0)
   of_part id index low high small =
       let number = number_of id index in
       let at : number / 8 ≡ id = omega (arith, small) in
@@ -142,19 +142,20 @@ module _ (c : Config) where
   twice true n = refl
   twice false n = refl
 
-  both_of : (id : ℕ) → 3 ≤ id → id < 24 → both id ≡ (if has_part c (part_of id) then record_pages (part_length (part_of id)) + record_pages (part_length (part_of id)) else 0)
+  both_of : (id : ℕ) → 3 ≤ id → id < end_part → both id ≡ (if has_part c (part_of id) then record_pages (part_length (part_of id)) + record_pages (part_length (part_of id)) else 0)
   both_of id low high =
       ap (λ (n : ℕ). n + own_pages c (number_of id 1)) (of_part id 0 low high (omega arith))
       ∙ ap (λ (n : ℕ). (if has_part c (part_of id) then record_pages (part_length (part_of id)) else 0) + n) (of_part id 1 low high (omega arith))
       ∙ twice (has_part c (part_of id)) (record_pages (part_length (part_of id)))
 
-  by_part : (id : ℕ) (part : Part) → 3 ≤ id → id < 24 → part_of id ≡ part → both id ≡ (if has_part c part then record_pages (part_length part) + record_pages (part_length part) else 0)
+  by_part : (id : ℕ) (part : Part) → 3 ≤ id → id < end_part → part_of id ≡ part → both id ≡ (if has_part c part then record_pages (part_length part) + record_pages (part_length part) else 0)
   by_part id part low high is = both_of id low high ∙ ap (λ (x : Part). if has_part c x then record_pages (part_length x) + record_pages (part_length x) else 0) is
 
   states_of : (k : ℕ) → k < 4 → both (4 + k) ≡ (if nat_lt k (state_blocks (length c.events.items)) then 8 else 0)
   states_of k below = elim (kind_of (4 + k) (omega arith)) [
     | is_summary at of ↦ absurd (omega (arith, at))
-    | is_entry low of ↦ absurd (omega (arith, low, below))
+    | is_entry low high of ↦ absurd (omega (arith, low, below))
+    | are_later low of ↦ absurd (omega (arith, low, below))
     | are_states low high of ↦
         by_part (4 + k) (States (16 * (4 + k - 4))) (omega arith) (omega (arith, below)) of
         ∙ ap (λ (b : Bool). if b then 8 else 0) (elim (cases_lt k (state_blocks (length c.events.items))) [
@@ -167,10 +168,24 @@ module _ (c : Config) where
   entries_of k below = elim (kind_of (8 + k) (omega arith)) [
     | is_summary at of ↦ absurd (omega (arith, at))
     | are_states low high of ↦ absurd (omega (arith, high))
-    | is_entry low of ↦
+    | are_later low of ↦ absurd (omega (arith, low, below))
+    | is_entry low high of ↦
         let place : 8 + k - 8 ≡ k = omega arith in
         by_part (8 + k) (Entry (8 + k - 8)) (omega arith) (omega (arith, below)) of
         ∙ ap (λ (n : ℕ). if nat_lt n c.memory then 10 else 0) place
+  ]
+
+  later_of : (k : ℕ) → k < later_states_blocks → both (later_states_id + k) ≡ (if nat_lt k (state_blocks (length c.events.items) - 4) then 8 else 0)
+  later_of k below = elim (kind_of (later_states_id + k) (omega arith)) [
+    | is_summary at of ↦ absurd (omega (arith, at))
+    | are_states low high of ↦ absurd (omega (arith, high))
+    | is_entry low high of ↦ absurd (omega (arith, high))
+    | are_later low of ↦
+        by_part (later_states_id + k) (States (first_later_event + states_per_block * (later_states_id + k - later_states_id))) (omega arith) (omega (arith, below)) of
+        ∙ ap (λ (b : Bool). if b then 8 else 0) (elim (cases_lt k (state_blocks (length c.events.items) - 4)) [
+          | inl within ↦ lt-ltb (first_later_event + states_per_block * (later_states_id + k - later_states_id)) (length c.events.items) (omega (arith, within)) ∙ sym (lt-ltb k (state_blocks (length c.events.items) - 4) within)
+          | inr past ↦ le-ltb (first_later_event + states_per_block * (later_states_id + k - later_states_id)) (length c.events.items) (omega (arith, past)) ∙ sym (le-ltb k (state_blocks (length c.events.items) - 4) past)
+        ])
   ]
 
   pub applications_of : (k : ℕ) → k < 40 → own_pages c (application_number (0 + k)) ≡ (if nat_lt k c.blocks then 3 else 0)
@@ -179,8 +194,8 @@ module _ (c : Config) where
       let at : number / 8 ≡ 64 + k = omega arith in
       let no_part : is_own_part c number ≡ false =
       and_left (is_used c (number / 8)) (nat_le (number % 8) 1)
-      (and_left (nat_le 3 (number / 8) && nat_lt (number / 8) 24) (has_part c (part_of (number / 8)))
-      (and_right (nat_le 3 (number / 8)) (nat_lt (number / 8) 24) (le-ltb (number / 8) 24 (omega (arith, at))))) in
+      (and_left (nat_le 3 (number / 8) && nat_lt (number / 8) end_part) (has_part c (part_of (number / 8)))
+      (and_right (nat_le 3 (number / 8)) (nat_lt (number / 8) end_part) (le-ltb (number / 8) end_part (omega (arith, at))))) in
       let own : is_own_application c number ≡ nat_lt k c.blocks =
       ap (λ (b : Bool). b && nat_le 64 (number / 8) && nat_lt (number / 8) (64 + c.blocks)) (eq-eqb (number % 8) 0 (omega arith))
       ∙ ap (λ (b : Bool). true && b && nat_lt (number / 8) (64 + c.blocks)) (le-leb 64 (number / 8) (omega (arith, at)))
@@ -203,16 +218,17 @@ module _ (c : Config) where
   pub own_sum : IsGiven c → sum_by (own_pages c) numbers + 7 ≡ needed_pages c
   unfolding numbers
   own_sum given =
-      let pairs = flat_map both_indices (range_with_len 3 21) in
+      let pairs = flat_map both_indices (range_with_len 3 parts) in
       let blocks = map application_number (range_with_len 0 40) in
       add_up (sum_by (own_pages c) numbers) (sum_by (own_pages c) ((8 ∷ 16 ∷ 17 ∷ []) ++ pairs)) (sum_by (own_pages c) blocks)
-      (sum_by (own_pages c) (8 ∷ 16 ∷ 17 ∷ [])) (sum_by (own_pages c) pairs) (both 3) (sum_by both (range_with_len 4 20))
-      (sum_by both (range_with_len 4 4)) (sum_by both (range_with_len 8 16)) (state_blocks (length c.events.items)) c.memory c.blocks
+      (sum_by (own_pages c) (8 ∷ 16 ∷ 17 ∷ [])) (sum_by (own_pages c) pairs) (both 3) (sum_by both (range_with_len 4 (parts - 1)))
+      (sum_by both (range_with_len 4 4)) (sum_by both (range_with_len 8 (entries + later_states_blocks))) (sum_by both (range_with_len 8 entries)) (sum_by both (range_with_len later_states_id later_states_blocks)) (state_blocks (length c.events.items)) c.memory c.blocks
       (sum_by-append (own_pages c) ((8 ∷ 16 ∷ 17 ∷ []) ++ pairs) blocks)
       (sum_by-append (own_pages c) (8 ∷ 16 ∷ 17 ∷ []) pairs)
-      mark_and_commit (both_sum (own_pages c) 3 21 ∙ sum_more both 3 (range_with_len 4 20)) summary_of_both (split_sum both 4 4 16)
+      mark_and_commit (both_sum (own_pages c) 3 parts ∙ sum_more both 3 (range_with_len 4 (parts - 1))) summary_of_both (split_sum both 4 4 (entries + later_states_blocks)) (split_sum both 8 entries later_states_blocks)
       (below_sum both 8 (λ n. omega arith) (omega arith) (state_blocks (length c.events.items)) 4 4 states_of)
       (below_sum both 10 (λ n. omega arith) (omega arith) c.memory 8 16 entries_of)
+      (below_sum both 8 (λ n. omega arith) (omega arith) (state_blocks (length c.events.items) - 4) later_states_id later_states_blocks later_of)
       (mapped_sum (own_pages c) application_number 0 40
       ∙ below_sum (λ n. own_pages c (application_number n)) 3 (λ n. omega arith) (omega arith) c.blocks 0 40 applications_of)
       (omega (arith, given.events)) given.valid.memory.1 given.valid.blocks
@@ -232,11 +248,11 @@ borne_has_room c given value borne =
     omega (arith, most_sum (λ number. pages_of (value number)) (own_pages c) numbers, own_sum c given, borne)
 
 -- The used blocks lie between the commit and the application blocks, and are parts of the configuration.
-pub used_range : (c : Config) (id : ℕ) → IsTrue (is_used c id) → (3 ≤ id) × (id < 24) × IsTrue (has_part c (part_of id))
+pub used_range : (c : Config) (id : ℕ) → IsTrue (is_used c id) → (3 ≤ id) × (id < end_part) × IsTrue (has_part c (part_of id))
 used_range c id used =
-    let both = and_parts (nat_le 3 id && nat_lt id 24) (has_part c (part_of id)) used in
-    let range = and_parts (nat_le 3 id) (nat_lt id 24) both.0 in
-    (leb-true 3 id range.0, ltb-true id 24 range.1, both.1)
+    let both = and_parts (nat_le 3 id && nat_lt id end_part) (has_part c (part_of id)) used in
+    let range = and_parts (nat_le 3 id) (nat_lt id end_part) both.0 in
+    (leb-true 3 id range.0, ltb-true id end_part range.1, both.1)
 
 -- A used block is as long as its part.
 pub own_part : (c : Config) (id index : ℕ) → IsTrue (is_used c id) → index ≤ 1 → own_pages c (number_of id index) ≡ record_pages (part_length (part_of id))

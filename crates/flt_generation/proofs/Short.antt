@@ -2,6 +2,7 @@
 use Rattle.std.proofs.Common.{◌≡◌, ℕ, ◌+◌, ◌<◌, ◌≤◌, true, List, length, sym, ◌∙◌, arith, inl, inr}
 use Rattle.std.specs.Prelude.{slice_index_or, Option, Some, None, IfSome}
 use Rattle.std.proofs.lemmas.Option.{slice_get_cases}
+use Rattle.flt_config.specs.declared.TheConstants.{EVENTS}
 use Rattle.flt_config.specs.declared.config.Config.{Config}
 use Rattle.flt_config.specs.declared.config.EventCfg.{EventCfg}
 use Rattle.flt_config.specs.declared.persist.Persist.{Persist}
@@ -18,7 +19,7 @@ use Rattle.flt_generation.proofs.Sofar.{notes_of, room_of}
 -- What the calls on a configuration keep of its sizes.
 pub record HasSizes (c : Config) : Type 0 where
   pub memory : c.memory ≤ 16
-  pub events : length c.events.items ≤ 64
+  pub events : length c.events.items ≤ EVENTS
   pub frames : (k : ℕ) (event : EventCfg) → k < length c.events.items → frame_width (slice_index_or c.events.items k event).dids.items ≤ 32
 
 -- A noted event is within two bytes.

@@ -1,5 +1,5 @@
 -- What the blocks that were read so far say of the state that they gave.
-use Rattle.std.proofs.Common.{◌≡◌, ℕ, zero, suc, ◌+◌, ◌-◌, ◌*◌, ◌<◌, ◌≤◌, ◌==◌, ◌&&◌, true, false, List, length, refl, sym, ◌∙◌, ap, subst, arith, inl, inr, set, take, drop, position, length-set, length-take, min}
+use Rattle.std.proofs.Common.{◌≡◌, ◌⊎◌, ⊎_elim, ℕ, zero, suc, ◌+◌, ◌-◌, ◌*◌, ◌<◌, ◌≤◌, ◌==◌, ◌&&◌, true, false, List, length, refl, sym, ◌∙◌, ap, subst, arith, inl, inr, set, take, drop, position, length-set, length-take, min}
 use Rattle.std.specs.Prelude.{slice_index_or, slice_get, nat_lt, nat_le, is_none, Option, Some, None, Ok, IsTrue, slice_index}
 use Rattle.std.proofs.lemmas.Bool.{cases_lt, cases_eq, cases_Bool, and_parts, and_from, leb-true, le-leb, lt-ltb, ltb-true, eqb-false}
 use Rattle.std.proofs.lemmas.List.{get_or-set_same, get_or-set_other, get_or-take, length-replicate, get_or-replicate}
@@ -13,19 +13,19 @@ use Rattle.flt_config.proofs.DistinctLemmas.{position-None}
 use Rattle.flt_generation.specs.declared.commit.Commit.{Commit}
 use Rattle.flt_generation.specs.declared.part.Part.{Part}
 use Rattle.flt_generation.specs.declared.part.Part.TheVariants.{Summary, States, Entry}
-use Rattle.flt_generation.specs.Layout.{number_of, part_of, has_part, is_used, index_in}
-use Rattle.flt_generation.specs.Form.{part_bytes, part_length}
+use Rattle.flt_generation.specs.Layout.{number_of, part_of, has_part, is_used, index_in, parts, end_part, later_states_id, first_later_event, states_per_block}
+use Rattle.flt_generation.specs.Form.{part_bytes, part_length, parts_1}
 use Rattle.flt_generation.specs.Fit.{states_fit, entry_fits_at, is_alone, place_fits, note_fits, summary_fits, part_fits}
 use Rattle.flt_generation.specs.Reading.{with_part, with_summary, entry_from, with_states, taken, untaken_entry}
 use Rattle.flt_generation.specs.Holding.{with_named, parts_read, BlocksHold}
 use Rattle.flt_generation.proofs.Fitting.{entry_by_test, noted_by_test}
 use Rattle.flt_generation.proofs.Parts.{set_states_fit}
 use Rattle.flt_generation.proofs.Sizes.{taken_holds, set_here, candidate_size}
-use Rattle.flt_generation.proofs.Steps.{gave, both_ok, is_summary, are_states, is_entry, kind_of, bytes_kept}
+use Rattle.flt_generation.proofs.Steps.{gave, both_ok, is_summary, are_states, is_entry, are_later, kind_of, bytes_kept}
 
 -- A used block, by its part.
-pub used_from : (c : Config) (id : ℕ) → 3 ≤ id → id < 24 → has_part c (part_of id) ≡ true → IsTrue (is_used c id)
-used_from c id low high has = and_from _ _ (and_from _ _ (le-leb 3 id low) (lt-ltb id 24 high)) has
+pub used_from : (c : Config) (id : ℕ) → 3 ≤ id → id < end_part → has_part c (part_of id) ≡ true → IsTrue (is_used c id)
+used_from c id low high has = and_from _ _ (and_from _ _ (le-leb 3 id low) (lt-ltb id end_part high)) has
 
 pub none_from : (o : Option ℕ) → is_none o ≡ true → o ≡ None
 none_from None is = refl
@@ -36,6 +36,7 @@ pub record Sofar (c : Config) (value : ℕ → Content) (commit : Commit) (count
   pub contents : (id : ℕ) → 3 ≤ id → id < 3 + count → IsTrue (is_used c id) → value (number_of id (index_in commit id)) ≡ bytes (part_bytes p (part_of id))
   pub states_are : AreStatesOf c.events.items p.events.items
   pub summary_is : 0 < count → summary_fits c p ≡ true
+  pub few : length p.entries.items ≤ 16
   pub entries_are : (k : ℕ) (d : EntryState) → k + 5 < count → k < length p.entries.items → IsEntryOf c.events.items (slice_index_or p.entries.items k d)
   pub distinct : (i j : ℕ) (d : EntryState) → i < j → j + 5 < count → j < length p.entries.items → IsOfOtherEvent (slice_index_or p.entries.items i d) (slice_index_or p.entries.items j d)
   pub untaken : (k : ℕ) (d : EntryState) → 0 < count → count ≤ k + 5 → k < length p.entries.items → slice_index_or p.entries.items k d ≡ untaken_entry
@@ -74,24 +75,29 @@ module _ (c : Config) (value : ℕ → Content) (commit : Commit) (count : ℕ) 
     contents = contents;
     states_are = known.states_are;
     summary_is = λ _. fits;
+    few = omega (arith, length-replicate (min (slice_index held 2) 16) untaken_entry);
     entries_are = λ k d below within. absurd (omega (arith, below, at));
     distinct = λ i j d order below within. absurd (omega (arith, below, at));
     untaken = λ k d some past within. get_or-replicate (min (slice_index held 2) 16) k untaken_entry d (omega (arith, within, length-replicate (min (slice_index held 2) 16) untaken_entry));
   }
 
-  -- States of sixteen events.
-  by_states : (held : List ℕ) (first : ℕ) → 0 < count → count < 5 → states_fit c.events.items (with_states held first 16 p.events.items) first 16 ≡ true
+  -- States of sixteen events: no entry is read before the first ones, and each before the later ones.
+  by_states : (held : List ℕ) (first : ℕ) → 0 < count → (count < 5) ⊎ (parts_1 ≤ count) → states_fit c.events.items (with_states held first 16 p.events.items) first 16 ≡ true
       → ((id : ℕ) → 3 ≤ id → id < 3 + (count + 1) → IsTrue (is_used c id) → value (number_of id (index_in commit id)) ≡ bytes (part_bytes (with_part (States first) held p) (part_of id)))
       → Sofar c value commit (count + 1) (with_part (States first) held p)
   unfolding with_part
-  by_states held first some few fits contents = record {
+  by_states held first some apart fits contents = record {
     contents = contents;
     states_are = set_states_fit c.events.items held first p.events.items known.states_are fits;
     summary_is = λ _. known.summary_is some;
-    entries_are = λ k d below within. absurd (omega (arith, below, few));
-    distinct = λ i j d order below within. absurd (omega (arith, below, few));
+    few = known.few;
+    entries_are = λ k d below within. known.entries_are k d (earlier k below within) within;
+    distinct = λ i j d order below within. known.distinct i j d order (earlier j below within) within;
     untaken = λ k d _ past within. known.untaken k d some (omega (arith, past)) within;
   }
+    where
+      earlier : (k : ℕ) → k + 5 < count + 1 → k < length p.entries.items → k + 5 < count
+      earlier k below within = ⊎_elim (λ first_ones. omega (arith, below, first_ones)) (λ later. omega (arith, later, within, known.few)) apart
 
   -- An entry.
   by_entry : (held : List ℕ) (place : ℕ) → place + 5 ≡ count
@@ -105,6 +111,7 @@ module _ (c : Config) (value : ℕ → Content) (commit : Commit) (count : ℕ) 
     summary_is = λ _.
         subst (λ (n : ℕ). (nat_le n c.memory && note_fits c.events.items p.first_failed && note_fits c.events.items p.first_confirmed && note_fits c.events.items p.recent_failed && note_fits c.events.items p.recent_confirmed) ≡ true)
         (sym (length-set p.entries.items place e)) (known.summary_is (omega (arith, at)));
+    few = omega (arith, length-set p.entries.items place e, known.few);
     entries_are = λ k d below within. elim (cases_eq k place) [
       | inl same ↦ subst (λ (n : ℕ). IsEntryOf c.events.items (slice_index_or after n d)) (sym same) (here d (omega (arith, length-set p.entries.items place e, within, same)))
       | inr other ↦
@@ -174,21 +181,22 @@ module _ (c : Config) (value : ℕ → Content) (commit : Commit) (count : ℕ) 
       elim (kind_of (3 + count) (omega arith)) [
         | is_summary at of ↦ finish Summary of held t.0 t.1 t.2 content (λ fits contents. by_summary c value commit count p known held (omega (arith, at)) fits contents)
         | are_states low high of ↦ finish (States (16 * (3 + count - 4))) of held t.0 t.1 t.2 content
-            (λ fits contents. by_states c value commit count p known held (16 * (3 + count - 4)) (omega (arith, low)) (omega (arith, high)) (states_test held fits) contents)
-        | is_entry low of ↦ finish (Entry (3 + count - 8)) of held t.0 t.1 t.2 content
+            (λ fits contents. by_states c value commit count p known held (16 * (3 + count - 4)) (omega (arith, low)) (inl (omega (arith, high))) (states_test held (16 * (3 + count - 4)) fits) contents)
+        | are_later low of ↦ finish (States (first_later_event + states_per_block * (3 + count - later_states_id))) of held t.0 t.1 t.2 content
+            (λ fits contents. by_states c value commit count p known held (first_later_event + states_per_block * (3 + count - later_states_id)) (omega (arith, low)) (inr (omega (arith, low))) (states_test held (first_later_event + states_per_block * (3 + count - later_states_id)) fits) contents)
+        | is_entry low high of ↦ finish (Entry (3 + count - 8)) of held t.0 t.1 t.2 content
             (λ fits contents. by_entry c value commit count p known held (3 + count - 8) (omega (arith, low)) (entry_test held fits) contents)
       ]
     where
-      states_test : (held : List ℕ) → part_fits c (with_part (States (16 * (3 + count - 4))) held p) (States (16 * (3 + count - 4))) ≡ true
-          → states_fit c.events.items (with_states held (16 * (3 + count - 4)) 16 p.events.items) (16 * (3 + count - 4)) 16 ≡ true
-      states_test held fits = fits
+      states_test : (held : List ℕ) (first : ℕ) → part_fits c (with_part (States first) held p) (States first) ≡ true → states_fit c.events.items (with_states held first 16 p.events.items) first 16 ≡ true
+      states_test held first fits = fits
 
       entry_test : (held : List ℕ) → part_fits c (with_part (Entry (3 + count - 8)) held p) (Entry (3 + count - 8)) ≡ true
           → place_fits c.events.items (set p.entries.items (3 + count - 8) (entry_from held)) (3 + count - 8) (slice_get (set p.entries.items (3 + count - 8) (entry_from held)) (3 + count - 8)) ≡ true
       entry_test held fits = fits
 
   -- A block that is not used.
-  unused_step : is_used c (3 + count) ≡ false → count < 21 → Sofar c value commit (count + 1) p
+  unused_step : is_used c (3 + count) ≡ false → count < parts → Sofar c value commit (count + 1) p
   unused_step unused below = record {
     contents = λ id low high used. elim (cases_lt id (3 + count)) [
       | inl before ↦ known.contents id low before used
@@ -196,6 +204,7 @@ module _ (c : Config) (value : ℕ → Content) (commit : Commit) (count : ℕ) 
     ];
     states_are = known.states_are;
     summary_is = λ _. known.summary_is some;
+    few = known.few;
     entries_are = λ k d before within. known.entries_are k d (earlier k before within) within;
     distinct = λ i j d order before within. known.distinct i j d order (earlier j before within) within;
     untaken = λ k d _ past within. known.untaken k d some (omega (arith, past)) within;
@@ -213,7 +222,8 @@ module _ (c : Config) (value : ℕ → Content) (commit : Commit) (count : ℕ) 
         | inl here ↦ elim (kind_of (3 + count) (omega arith)) [
           | is_summary at of ↦ absurd (omega (arith, at, here))
           | are_states low high of ↦ absurd (omega (arith, high, here))
-          | is_entry low of ↦ absurd (
+          | are_later low of ↦ absurd (omega (arith, low, here, within, known.few))
+          | is_entry low high of ↦ absurd (
               let room : k < c.memory = omega (arith, within, room_of c p (known.summary_is some)) in
               let place : 3 + count - 8 ≡ k = omega (arith, here) in
               let has : has_part c (part_of (3 + count)) ≡ true =
@@ -222,7 +232,7 @@ module _ (c : Config) (value : ℕ → Content) (commit : Commit) (count : ℕ) 
         ]
       ]
 
-  pub one_block : count < 21 → with_named c value commit (3 + count) p ≡ Ok q → Sofar c value commit (count + 1) q
+  pub one_block : count < parts → with_named c value commit (3 + count) p ≡ Ok q → Sofar c value commit (count + 1) q
   one_block below is =
       let g = gave c value commit (3 + count) p q is in
       elim (cases_Bool (is_used c (3 + count))) [
@@ -237,12 +247,13 @@ at_start c value commit = record {
   contents = λ id low high used. absurd (omega (arith, low, high));
   states_are = initial_states c;
   summary_is = λ some. absurd (omega (arith, some));
+  few = omega arith;
   entries_are = λ k d before within. absurd (omega (arith, before));
   distinct = λ i j d order before within. absurd (omega (arith, before));
   untaken = λ k d some past within. absurd (omega (arith, some));
 }
 
-pub sofar : (c : Config) (value : ℕ → Content) (commit : Commit) (count : ℕ) (p : Persist) → count ≤ 21 → parts_read c value commit count ≡ Ok p → Sofar c value commit count p
+pub sofar : (c : Config) (value : ℕ → Content) (commit : Commit) (count : ℕ) (p : Persist) → count ≤ parts → parts_read c value commit count ≡ Ok p → Sofar c value commit count p
 unfolding parts_read
 sofar c value commit zero p most is = let same : initial_state c ≡ p = cc in subst (Sofar c value commit 0) same (at_start c value commit)
 sofar c value commit (suc count) p most is =
@@ -252,7 +263,7 @@ sofar c value commit (suc count) p most is =
     (one_block c value commit count before.0 p (sofar c value commit count before.0 (omega (arith, most)) before.1) (omega (arith, most)) before.2)
 
 -- The state that was read fits, and stands in the blocks.
-pub read_fits : (c : Config) (value : ℕ → Content) (commit : Commit) (p : Persist) → c.memory ≤ 16 → Sofar c value commit 21 p → Fits c p
+pub read_fits : (c : Config) (value : ℕ → Content) (commit : Commit) (p : Persist) → c.memory ≤ 16 → Sofar c value commit parts p → Fits c p
 read_fits c value commit p memory known =
     let fits = known.summary_is (omega arith) in
     let room = room_of c p fits in
@@ -267,10 +278,10 @@ read_fits c value commit p memory known =
       recent_confirmed = noted_by_test c.events.items p.recent_confirmed (notes_of c p fits).3;
     }
 
-pub read_blocks : (c : Config) (value : ℕ → Content) (commit : Commit) (p : Persist) → Sofar c value commit 21 p → BlocksHold c value commit p
+pub read_blocks : (c : Config) (value : ℕ → Content) (commit : Commit) (p : Persist) → Sofar c value commit parts p → BlocksHold c value commit p
 read_blocks c value commit p known = λ id used.
     let range = (and_parts _ _ used).0 in
-    known.contents id (leb-true 3 id (and_parts _ _ range).0) (ltb-true id 24 (and_parts _ _ range).1) used
+    known.contents id (leb-true 3 id (and_parts _ _ range).0) (ltb-true id end_part (and_parts _ _ range).1) used
 
 -- Each block that a commit names has the bytes of its part.
 pub record HasSize (value : ℕ → Content) (commit : Commit) (id : ℕ) : Type 0 where

@@ -12,7 +12,7 @@ use Rattle.flt_config.specs.Durable.{start_state}
 use Rattle.flt_generation.specs.declared.commit.Commit.{Commit}
 use Rattle.flt_generation.specs.declared.part.Part.{Part}
 use Rattle.flt_generation.specs.declared.part.Part.TheVariants.{Summary, States, Entry}
-use Rattle.flt_generation.specs.Layout.{number_of, part_of, is_used, index_in}
+use Rattle.flt_generation.specs.Layout.{number_of, part_of, is_used, index_in, later_states_id, first_later_event, states_per_block}
 use Rattle.flt_generation.specs.Form.{summary_bytes, place_bytes, part_bytes}
 use Rattle.flt_generation.specs.Reading.{with_states, entry_from, with_part, taken}
 use Rattle.flt_generation.specs.Holding.{Fault, ◌>>=◌, or_damaged, with_content, with_named}
@@ -48,16 +48,29 @@ gave c value commit id p q is = record {
 pub data Kind (id : ℕ) : Type 0 where
   is_summary : id ≡ 3 → part_of id ≡ Summary → Kind id
   are_states : 4 ≤ id → id < 8 → part_of id ≡ States (16 * (id - 4)) → Kind id
-  is_entry : 8 ≤ id → part_of id ≡ Entry (id - 8) → Kind id
+  is_entry : 8 ≤ id → id < later_states_id → part_of id ≡ Entry (id - 8) → Kind id
+  are_later : later_states_id ≤ id → part_of id ≡ States (first_later_event + states_per_block * (id - later_states_id)) → Kind id
+
+-- The part of a block behind the first states, and behind the summary.
+abbrev behind_states : ℕ → Part
+behind_states id = if nat_lt id later_states_id then Entry (id - 8) else States (first_later_event + states_per_block * (id - later_states_id))
+
+abbrev behind_summary : ℕ → Part
+behind_summary id = if nat_lt id 8 then States (16 * (id - 4)) else behind_states id
 
 pub kind_of : (id : ℕ) → 3 ≤ id → Kind id
 kind_of id low = elim (cases_eq id 3) [
-  | inl same ↦ is_summary same (chosen (id == 3) Summary (if nat_lt id 8 then States (16 * (id - 4)) else Entry (id - 8)) (eq-eqb id 3 same))
+  | inl same ↦ is_summary same (chosen (id == 3) Summary (behind_summary id) (eq-eqb id 3 same))
   | inr other ↦
-      let past : part_of id ≡ (if nat_lt id 8 then States (16 * (id - 4)) else Entry (id - 8)) = not_chosen (id == 3) Summary (if nat_lt id 8 then States (16 * (id - 4)) else Entry (id - 8)) (ne_eqb id 3 other) in
+      let past : part_of id ≡ behind_summary id = not_chosen (id == 3) Summary (behind_summary id) (ne_eqb id 3 other) in
       elim (cases_lt id 8) [
-        | inl below ↦ are_states (omega (arith, low, other)) below (past ∙ chosen (nat_lt id 8) (States (16 * (id - 4))) (Entry (id - 8)) (lt-ltb id 8 below))
-        | inr above ↦ is_entry above (past ∙ not_chosen (nat_lt id 8) (States (16 * (id - 4))) (Entry (id - 8)) (le-ltb id 8 above))
+        | inl below ↦ are_states (omega (arith, low, other)) below (past ∙ chosen (nat_lt id 8) (States (16 * (id - 4))) (behind_states id) (lt-ltb id 8 below))
+        | inr above ↦
+            let behind : part_of id ≡ behind_states id = past ∙ not_chosen (nat_lt id 8) (States (16 * (id - 4))) (behind_states id) (le-ltb id 8 above) in
+            elim (cases_lt id later_states_id) [
+              | inl entry ↦ is_entry above entry (behind ∙ chosen (nat_lt id later_states_id) (Entry (id - 8)) (States (first_later_event + states_per_block * (id - later_states_id))) (lt-ltb id later_states_id entry))
+              | inr later ↦ are_later later (behind ∙ not_chosen (nat_lt id later_states_id) (Entry (id - 8)) (States (first_later_event + states_per_block * (id - later_states_id))) (le-ltb id later_states_id later))
+            ]
       ]
 ]
 
@@ -90,6 +103,10 @@ module _ (held : List ℕ) (p : Persist) where
   unfolding with_part
   states_by_entry place first = refl
 
+  entry_by_states : (first place : ℕ) → part_bytes (with_part (States first) held p) (Entry place) ≡ part_bytes p (Entry place)
+  unfolding with_part
+  entry_by_states first place = refl
+
   entry_by_entry : (place before : ℕ) → before < place → part_bytes (with_part (Entry place) held p) (Entry before) ≡ part_bytes p (Entry before)
   unfolding with_part
   entry_by_entry place before apart = ap place_bytes (get_other p.entries.items place before (entry_from held) (λ e. omega (arith, apart, e)))
@@ -100,20 +117,33 @@ bytes_kept held p now id low before =
     elim (kind_of now (omega (arith, low, before))) [
       | is_summary at is ↦ absurd (omega (arith, low, before, at))
       | are_states from below is ↦
-          let P : Part → Type 0 = λ part. part_bytes (with_part part held p) (part_of id) ≡ part_bytes p (part_of id) in
-          subst P (sym is) (elim (kind_of id low) [
-            | is_summary at of ↦ by (States (16 * (now - 4))) Summary of (summary_by_states held p (16 * (now - 4)))
-            | are_states low' below' of ↦ by (States (16 * (now - 4))) (States (16 * (id - 4))) of (states_by_states held p (16 * (now - 4)) (16 * (id - 4)) (omega (arith, before, low')))
-            | is_entry high of ↦ absurd (omega (arith, high, before, below))
+          let states = States (16 * (now - 4)) in
+          of_now states is (elim (kind_of id low) [
+            | is_summary at of ↦ by states Summary of (summary_by_states held p (16 * (now - 4)))
+            | are_states low' below' of ↦ by states (States (16 * (id - 4))) of (states_by_states held p (16 * (now - 4)) (16 * (id - 4)) (omega (arith, before, low')))
+            | is_entry high _ of ↦ absurd (omega (arith, high, before, below))
+            | are_later high of ↦ absurd (omega (arith, high, before, below))
           ])
-      | is_entry from is ↦
-          let P : Part → Type 0 = λ part. part_bytes (with_part part held p) (part_of id) ≡ part_bytes p (part_of id) in
-          subst P (sym is) (elim (kind_of id low) [
-            | is_summary at of ↦ by (Entry (now - 8)) Summary of (summary_by_entry held p (now - 8))
-            | are_states low' below' of ↦ by (Entry (now - 8)) (States (16 * (id - 4))) of (states_by_entry held p (now - 8) (16 * (id - 4)))
-            | is_entry high of ↦ by (Entry (now - 8)) (Entry (id - 8)) of (entry_by_entry held p (now - 8) (id - 8) (omega (arith, before, high)))
+      | is_entry from below is ↦
+          let entry = Entry (now - 8) in
+          of_now entry is (elim (kind_of id low) [
+            | is_summary at of ↦ by entry Summary of (summary_by_entry held p (now - 8))
+            | are_states low' below' of ↦ by entry (States (16 * (id - 4))) of (states_by_entry held p (now - 8) (16 * (id - 4)))
+            | is_entry high _ of ↦ by entry (Entry (id - 8)) of (entry_by_entry held p (now - 8) (id - 8) (omega (arith, before, high)))
+            | are_later high of ↦ absurd (omega (arith, high, before, below))
+          ])
+      | are_later from is ↦
+          let states = States (first_later_event + states_per_block * (now - later_states_id)) in
+          of_now states is (elim (kind_of id low) [
+            | is_summary at of ↦ by states Summary of (summary_by_states held p (first_later_event + states_per_block * (now - later_states_id)))
+            | are_states low' below' of ↦ by states (States (16 * (id - 4))) of (states_by_states held p (first_later_event + states_per_block * (now - later_states_id)) (16 * (id - 4)) (omega (arith, from, below')))
+            | is_entry high _ of ↦ by states (Entry (id - 8)) of (entry_by_states held p (first_later_event + states_per_block * (now - later_states_id)) (id - 8))
+            | are_later high of ↦ by states (States (first_later_event + states_per_block * (id - later_states_id))) of (states_by_states held p (first_later_event + states_per_block * (now - later_states_id)) (first_later_event + states_per_block * (id - later_states_id)) (omega (arith, before, high)))
           ])
     ]
   where
+    of_now : (part : Part) → part_of now ≡ part → part_bytes (with_part part held p) (part_of id) ≡ part_bytes p (part_of id) → part_bytes (with_part (part_of now) held p) (part_of id) ≡ part_bytes p (part_of id)
+    of_now part is kept = subst (λ (x : Part). part_bytes (with_part x held p) (part_of id) ≡ part_bytes p (part_of id)) (sym is) kept
+
     by : (taken_part part : Part) → part_of id ≡ part → part_bytes (with_part taken_part held p) part ≡ part_bytes p part → part_bytes (with_part taken_part held p) (part_of id) ≡ part_bytes p (part_of id)
     by taken_part part of same = subst (λ (x : Part). part_bytes (with_part taken_part held p) x ≡ part_bytes p x) (sym of) same

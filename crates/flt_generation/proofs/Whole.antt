@@ -1,5 +1,5 @@
 -- The blocks of a state that fits are read as that state.
-use Rattle.std.proofs.Common.{◌≡◌, ℕ, zero, suc, ◌+◌, ◌-◌, ◌*◌, ◌<◌, ◌≤◌, true, false, List, length, refl, sym, ◌∙◌, ap, subst, arith, inl, inr, set, take, drop, position, replicate, length-set, length-take, length-drop, ◌&&◌}
+use Rattle.std.proofs.Common.{◌≡◌, ℕ, zero, suc, ◌+◌, ◌-◌, ◌*◌, ◌<◌, ◌≤◌, true, false, List, length, refl, sym, ◌∙◌, ap, subst, arith, ◌⊎◌, ⊎_elim, inl, inr, min, set, take, drop, position, replicate, length-set, length-take, length-drop, ◌&&◌}
 use Rattle.std.specs.Prelude.{slice_index_or, slice_get, is_none, Option, Some, None, Result, Ok, nat_le}
 use Rattle.std.proofs.lemmas.Bool.{cases_lt, cases_eq, cases_Bool, and_from, lt-ltb, ne_eqb, and_parts}
 use Rattle.std.proofs.lemmas.List.{get_or-set_same, get_or-set_other, get_or_default, get_or_past, get_or-take, get_or-drop, set_past, length-replicate, get_or-replicate, same_lists}
@@ -14,8 +14,8 @@ use Rattle.flt_config.specs.Durable.{Fits, IsEntryOf, initial_state, is_of_event
 use Rattle.flt_generation.specs.declared.commit.Commit.{Commit}
 use Rattle.flt_generation.specs.declared.part.Part.{Part}
 use Rattle.flt_generation.specs.declared.part.Part.TheVariants.{Summary, States, Entry}
-use Rattle.flt_generation.specs.Layout.{number_of, part_of, has_part, is_used, index_in}
-use Rattle.flt_generation.specs.Form.{summary_bytes, states_bytes, entry_bytes, place_bytes, part_bytes}
+use Rattle.flt_generation.specs.Layout.{number_of, part_of, has_part, is_used, index_in, parts, end_part, later_states_id, first_later_event, states_per_block}
+use Rattle.flt_generation.specs.Form.{summary_bytes, states_bytes, entry_bytes, place_bytes, part_bytes, parts_1}
 use Rattle.flt_generation.specs.Fit.{is_alone, place_fits, summary_fits, states_fit, entry_fits_at, note_fits, part_fits}
 use Rattle.flt_generation.specs.Reading.{with_part, with_summary, entry_from, with_states, untaken_entry, taken, if_holds}
 use Rattle.flt_generation.specs.Holding.{Fault, ◌>>=◌, or_damaged, with_content, with_named, parts_read, BlocksHold}
@@ -25,23 +25,49 @@ use Rattle.flt_generation.proofs.States.{state_set, state_kept, length-with_stat
 use Rattle.flt_generation.proofs.Sizes.{accepted, set_here, none_here}
 use Rattle.flt_generation.proofs.Parts.{part_of_fitting}
 use Rattle.flt_generation.proofs.Decoding.{summary_of, summary_read, state_read, entry_read}
-use Rattle.flt_generation.proofs.Steps.{is_summary, are_states, is_entry, kind_of}
+use Rattle.flt_generation.proofs.Steps.{is_summary, are_states, is_entry, are_later, kind_of}
 use Rattle.flt_generation.proofs.Sofar.{used_from, room_of, none_from}
 use Rattle.flt_config.proofs.DistinctLemmas.{position-None}
 use Rattle.flt_generation.specs.Faults.{HoldBelow}
 use Rattle.flt_generation.proofs.Short.{HasSizes, entry_sizes, short_summary, clean_short}
+use Rattle.flt_config.specs.declared.TheConstants.{EVENTS}
+
+-- The events whose states the first blocks hold, so many of them: none in the summary and the entries.
+abbrev pub states_before : ℕ → ℕ
+states_before count = 16 * (min (count - 1) 4 + (count - parts_1))
+
+none_before_first : states_before 0 ≡ 0
+none_before_first = refl
+
+none_by_summary : states_before 1 ≡ 0
+none_by_summary = refl
+
+first_states_before : (count : ℕ) → 0 < count → count < 6 → states_before count ≡ 16 * (count - 1)
+first_states_before count some few = omega (arith, some, few)
+
+later_states_before : (count : ℕ) → parts_1 ≤ count → states_before count ≡ first_later_event + states_per_block * (count - parts_1)
+later_states_before count later = omega (arith, later)
+
+one_first : (count : ℕ) → 0 < count → count < 5 → states_before (count + 1) ≡ states_before count + 16
+one_first count some few = omega (arith, some, few)
+
+one_later : (count : ℕ) → parts_1 ≤ count → states_before (count + 1) ≡ states_before count + 16
+one_later count later = omega (arith, later)
+
+none_by_entry : (count : ℕ) → 5 ≤ count → count < parts_1 → states_before (count + 1) ≡ states_before count
+none_by_entry count some few = omega (arith, some, few)
 
 -- The parts that were read so far are those of a state, and the others are still those of none.
 pub record Agrees (count : ℕ) (q p : Persist) : Type 0 where
   pub summary_same : 0 < count → (q.overflow ≡ p.overflow) × (q.first_failed ≡ p.first_failed) × (q.first_confirmed ≡ p.first_confirmed) × (q.recent_failed ≡ p.recent_failed) × (q.recent_confirmed ≡ p.recent_confirmed)
   pub entries_count : 0 < count → length q.entries.items ≡ length p.entries.items
   pub states_count : length q.events.items ≡ length p.events.items
-  pub states_same : (k : ℕ) (d : EventState) → k < 16 * (count - 1) → k < length p.events.items → slice_index_or q.events.items k d ≡ slice_index_or p.events.items k d
+  pub states_same : (k : ℕ) (d : EventState) → k < states_before count → k < length p.events.items → slice_index_or q.events.items k d ≡ slice_index_or p.events.items k d
   pub entries_same : (k : ℕ) (d : EntryState) → k + 5 < count → k < length p.entries.items → slice_index_or q.entries.items k d ≡ slice_index_or p.entries.items k d
   pub untaken : (k : ℕ) (d : EntryState) → 0 < count → count ≤ k + 5 → k < length p.entries.items → slice_index_or q.entries.items k d ≡ untaken_entry
 
 module _ (c : Config) (sizes : HasSizes c) (p : Persist) (one_each : length p.events.items ≡ length c.events.items) where
-  few_states : length p.events.items ≤ 64
+  few_states : length p.events.items ≤ EVENTS
   few_states = omega (arith, one_each, sizes.events)
 
   -- ---- the summary
@@ -72,7 +98,7 @@ module _ (c : Config) (sizes : HasSizes c) (p : Persist) (one_each : length p.ev
     summary_same = λ _. (refl, refl, refl, refl, refl);
     entries_count = λ _. length-replicate (length p.entries.items) untaken_entry;
     states_count = agrees.states_count;
-    states_same = λ k d low within. absurd (omega (arith, low));
+    states_same = λ k d low within. absurd (omega (arith, low, none_by_summary));
     entries_same = λ k d low within. absurd (omega (arith, low));
     untaken = λ k d some high within. get_or-replicate (length p.entries.items) k untaken_entry d within;
   }
@@ -102,26 +128,37 @@ module _ (c : Config) (sizes : HasSizes c) (p : Persist) (one_each : length p.ev
         ((bytes_eq-Decides own (states_bytes after first)).1 (same_states p.events.items after first 16 (λ place below. sym (block_same place below))))
         (pass_together c.events.items p.events.items after first 16 (λ place below. sym (block_same place below)) fits)
 
-    pub states_agree : (count : ℕ) → first ≡ 16 * (count - 1) → 0 < count → count < 5 → Agrees count q p → Agrees (count + 1) (record q { events = record { items = after } }) p
-    states_agree count at some few agrees = record {
+    pub states_agree : (count : ℕ) → first ≡ states_before count → 0 < count → (count < 5) ⊎ ((parts_1 ≤ count) × (length p.entries.items ≤ 16)) → Agrees count q p → Agrees (count + 1) (record q { events = record { items = after } }) p
+    states_agree count at some apart agrees = record {
       summary_same = λ _. agrees.summary_same some;
       entries_count = λ _. agrees.entries_count some;
       states_count = length-with_states own first q.events.items 16 ∙ size;
       states_same = λ k d low within. elim (cases_lt k first) [
-        | inl before ↦ state_kept own first q.events.items 16 k d (inl before) ∙ agrees.states_same k d (omega (arith, before, at)) within
+        | inl before ↦ state_kept own first q.events.items 16 k d (inl before) ∙ agrees.states_same k d (subst (λ (n : ℕ). k < n) at before) within
         | inr from ↦
             let place : first + (k - first) ≡ k = omega (arith, from) in
             let in_after : k < length after = omega (arith, length-with_states own first q.events.items 16, size, within) in
             get_or_default after k d start_state in_after
-            ∙ subst (λ (n : ℕ). slice_index_or after n start_state ≡ slice_index_or p.events.items n start_state) place (block_same (k - first) (omega (arith, low, at, from, some)))
+            ∙ subst (λ (n : ℕ). slice_index_or after n start_state ≡ slice_index_or p.events.items n start_state) place (block_same (k - first) (omega (arith, low, more_states, at, from)))
             ∙ get_or_default p.events.items k start_state d within
       ];
-      entries_same = λ k d low within. absurd (omega (arith, low, few));
+      entries_same = λ k d low within. agrees.entries_same k d (earlier k low within) within;
       untaken = λ k d _ from within. agrees.untaken k d some (omega (arith, from)) within;
     }
+      where
+        -- No entry is read before the first states, and each before the later ones.
+        earlier : (k : ℕ) → k + 5 < count + 1 → k < length p.entries.items → k + 5 < count
+        earlier k low within = ⊎_elim (λ first_ones. omega (arith, low, first_ones)) (λ later. omega (arith, later.0, later.1, within)) apart
+
+        more_states : states_before (count + 1) ≡ states_before count + 16
+        more_states = ⊎_elim (λ first_ones. one_first count some first_ones) (λ later. one_later count later.0) apart
 
   -- ---- an entry
-  module _ (q : Persist) (count place : ℕ) (at : place + 5 ≡ count) (agrees : Agrees count q p) where
+  module _ (q : Persist) (count place : ℕ) (at : place + 5 ≡ count) (few : place < 16) (agrees : Agrees count q p) where
+    -- An entry is no block of states.
+    by_entry_states : (k : ℕ) → k < states_before (count + 1) → k < states_before count
+    by_entry_states k low = let same = none_by_entry count (omega (arith, at)) (omega (arith, at, few)) in omega (arith, same, low)
+
     same_count : length q.entries.items ≡ length p.entries.items
     same_count = agrees.entries_count (omega (arith, at))
 
@@ -180,7 +217,7 @@ module _ (c : Config) (sizes : HasSizes c) (p : Persist) (one_each : length p.ev
         summary_same = λ _. agrees.summary_same (omega (arith, at));
         entries_count = λ _. length-set q.entries.items place (entry_from (entry_bytes entry)) ∙ same_count;
         states_count = agrees.states_count;
-        states_same = λ k d low inside. agrees.states_same k d (omega (arith, inside, few_states, at)) inside;
+        states_same = λ k d low inside. agrees.states_same k d (by_entry_states k low) inside;
         entries_same = λ k d low inside. elim (cases_eq k place) [
           | inl same ↦
               ap (λ (n : ℕ). slice_index_or after_entry n d) same
@@ -211,13 +248,13 @@ module _ (c : Config) (sizes : HasSizes c) (p : Persist) (one_each : length p.ev
         summary_same = λ _. agrees.summary_same (omega (arith, at));
         entries_count = λ _. same_count;
         states_count = agrees.states_count;
-        states_same = λ k d low inside. agrees.states_same k d (omega (arith, inside, few_states, at)) inside;
+        states_same = λ k d low inside. agrees.states_same k d (by_entry_states k low) inside;
         entries_same = λ k d low inside. agrees.entries_same k d (omega (arith, inside, past, at)) inside;
         untaken = λ k d some from inside. absurd (omega (arith, inside, past, from, at));
       }
 
   -- ---- a block that is not used
-  pub unused_agrees : (count : ℕ) (q : Persist) → count < 21 → is_used c (3 + count) ≡ false → (0 < count → length p.entries.items ≤ c.memory) → Agrees count q p → Agrees (count + 1) q p
+  pub unused_agrees : (count : ℕ) (q : Persist) → count < parts → is_used c (3 + count) ≡ false → (0 < count → length p.entries.items ≤ c.memory) → Agrees count q p → Agrees (count + 1) q p
   unused_agrees count q below unused room agrees = elim (kind_of (3 + count) (omega arith)) [
     | is_summary at of ↦ absurd (let here : count ≡ 0 = omega (arith, at) in let no = subst (λ (n : ℕ). is_used c (3 + n) ≡ false) here unused in cc)
     | are_states low high of ↦
@@ -231,11 +268,26 @@ module _ (c : Config) (sizes : HasSizes c) (p : Persist) (one_each : length p.ev
           summary_same = λ _. agrees.summary_same (omega (arith, low));
           entries_count = λ _. agrees.entries_count (omega (arith, low));
           states_count = agrees.states_count;
-          states_same = λ k d _ inside. agrees.states_same k d (omega (arith, inside, one_each, last, low)) inside;
+          states_same = λ k d _ inside. agrees.states_same k d (let count_is = first_states_before count (omega (arith, low)) (omega (arith, high)) in omega (arith, inside, one_each, last, low, count_is)) inside;
           entries_same = λ k d before inside. absurd (omega (arith, before, high));
           untaken = λ k d some from inside. agrees.untaken k d (omega (arith, low)) (omega (arith, from)) inside;
         }
-    | is_entry low of ↦
+    | are_later low of ↦
+        let last : length c.events.items ≤ first_later_event + states_per_block * (3 + count - later_states_id) = elim (cases_lt (first_later_event + states_per_block * (3 + count - later_states_id)) (length c.events.items)) [
+          | inl within ↦ absurd (
+              let has : has_part c (part_of (3 + count)) ≡ true = subst (λ (x : Part). has_part c x ≡ true) (sym of) (lt-ltb (first_later_event + states_per_block * (3 + count - later_states_id)) (length c.events.items) within) in
+              let yes = used_from c (3 + count) (omega arith) (omega (arith, below)) has in cc)
+          | inr past ↦ past
+        ] in
+        record {
+          summary_same = λ _. agrees.summary_same (omega (arith, low));
+          entries_count = λ _. agrees.entries_count (omega (arith, low));
+          states_count = agrees.states_count;
+          states_same = λ k d _ inside. agrees.states_same k d (let count_is = later_states_before count (omega (arith, low)) in omega (arith, inside, one_each, last, low, count_is)) inside;
+          entries_same = λ k d before inside. agrees.entries_same k d (let most = room (omega (arith, low)) in omega (arith, low, inside, most, sizes.memory)) inside;
+          untaken = λ k d some from inside. agrees.untaken k d (omega (arith, low)) (omega (arith, from)) inside;
+        }
+    | is_entry low high of ↦
         let last : c.memory ≤ 3 + count - 8 = elim (cases_lt (3 + count - 8) c.memory) [
           | inl within ↦ absurd (
               let has : has_part c (part_of (3 + count)) ≡ true = subst (λ (x : Part). has_part c x ≡ true) (sym of) (lt-ltb (3 + count - 8) c.memory within) in
@@ -246,16 +298,16 @@ module _ (c : Config) (sizes : HasSizes c) (p : Persist) (one_each : length p.ev
           summary_same = λ _. agrees.summary_same (omega (arith, low));
           entries_count = λ _. agrees.entries_count (omega (arith, low));
           states_count = agrees.states_count;
-          states_same = λ k d _ inside. agrees.states_same k d (omega (arith, inside, few_states, low)) inside;
+          states_same = λ k d before inside. agrees.states_same k d (let same = none_by_entry count (omega (arith, low)) (omega (arith, high)) in omega (arith, same, before)) inside;
           entries_same = λ k d before inside. agrees.entries_same k d (omega (arith, inside, room (omega (arith, low)), last, low)) inside;
           untaken = λ k d some from inside. agrees.untaken k d (omega (arith, low)) (omega (arith, from)) inside;
         }
   ]
 
   -- ---- a block that holds its bytes of the state
-  pub block_given : (count : ℕ) (q : Persist) → count < 21 → part_fits c p (part_of (3 + count)) ≡ true → Agrees count q p
+  pub block_given : (count : ℕ) (q : Persist) → count < parts → (0 < count → length p.entries.items ≤ 16) → part_fits c p (part_of (3 + count)) ≡ true → Agrees count q p
       → (r : Persist) × (taken c (part_of (3 + count)) (part_bytes p (part_of (3 + count))) q ≡ Some r) × Agrees (count + 1) r p
-  block_given count q below fits agrees = elim (kind_of (3 + count) (omega arith)) [
+  block_given count q below short fits agrees = elim (kind_of (3 + count) (omega arith)) [
     | is_summary at of ↦
         let here : count ≡ 0 = omega (arith, at) in (
           summary_of p q,
@@ -267,9 +319,17 @@ module _ (c : Config) (sizes : HasSizes c) (p : Persist) (one_each : length p.ev
         let r = record q { events = record { items = with_states (states_bytes p.events.items first) first 16 q.events.items } } in (
           r,
           of_part (States first) r of (states_given q first agrees.states_count (fits_of (States first) of)),
-          states_agree q first agrees.states_count (fits_of (States first) of) count (omega (arith, low)) (omega (arith, low)) (omega (arith, high)) agrees,
+          states_agree q first agrees.states_count (fits_of (States first) of) count (let count_is = first_states_before count (omega (arith, low)) (omega (arith, high)) in omega (arith, low, count_is)) (omega (arith, low)) (inl (omega (arith, high))) agrees,
         )
-    | is_entry low of ↦
+    | are_later low of ↦
+        let first = first_later_event + states_per_block * (3 + count - later_states_id) in
+        let r = record q { events = record { items = with_states (states_bytes p.events.items first) first 16 q.events.items } } in (
+          r,
+          of_part (States first) r of (states_given q first agrees.states_count (fits_of (States first) of)),
+          states_agree q first agrees.states_count (fits_of (States first) of) count (let count_is = later_states_before count (omega (arith, low)) in omega (arith, low, count_is)) (omega (arith, low))
+              (inr (omega (arith, low), short (omega (arith, low)))) agrees,
+        )
+    | is_entry low high of ↦
         let place = 3 + count - 8 in
         let at : place + 5 ≡ count = omega (arith, low) in
         elim (slice_get_cases p.entries.items place).1 [
@@ -277,13 +337,13 @@ module _ (c : Config) (sizes : HasSizes c) (p : Persist) (one_each : length p.ev
               let r = record q { entries = record { items = set q.entries.items place (entry_from (entry_bytes found.0)) } } in (
                 r,
                 of_part (Entry place) r of
-                    (subst (λ (o : Option EntryState). taken c (Entry place) (place_bytes o) q ≡ Some r) (sym found.2) (entry_given q count place at agrees found.0 found.1 found.3 (entry_fit place found.0 found.2 of))),
-                entry_agrees q count place at agrees found.0 found.1 found.3 (entry_fit place found.0 found.2 of),
+                    (subst (λ (o : Option EntryState). taken c (Entry place) (place_bytes o) q ≡ Some r) (sym found.2) (entry_given q count place at (omega (arith, high, low)) agrees found.0 found.1 found.3 (entry_fit place found.0 found.2 of))),
+                entry_agrees q count place at (omega (arith, high, low)) agrees found.0 found.1 found.3 (entry_fit place found.0 found.2 of),
               )
           | inr past ↦ (
             q,
-            of_part (Entry place) q of (none_given q count place at agrees past.0 (place_bytes (slice_get p.entries.items place)) (ap place_bytes past.1)),
-            none_agrees q count place at agrees past.0,
+            of_part (Entry place) q of (none_given q count place at (omega (arith, high, low)) agrees past.0 (place_bytes (slice_get p.entries.items place)) (ap place_bytes past.1)),
+            none_agrees q count place at (omega (arith, high, low)) agrees past.0,
           )
         ]
   ]
@@ -298,7 +358,7 @@ module _ (c : Config) (sizes : HasSizes c) (p : Persist) (one_each : length p.ev
           → (entry_fits_at (slice_get c.events.items entry.event) entry && is_alone p.entries.items place entry.event) ≡ true
       entry_fit place entry found of = subst (λ (o : Option EntryState). place_fits c.events.items p.entries.items place o ≡ true) found (fits_of (Entry place) of)
 
-  module _ (value : ℕ → Content) (commit : Commit) (bound : ℕ) (most : bound ≤ 24) (stands : HoldBelow c value commit bound p) where
+  module _ (value : ℕ → Content) (commit : Commit) (bound : ℕ) (most : bound ≤ end_part) (stands : HoldBelow c value commit bound p) where
     -- The entries have room, once the summary was read.
     room : 3 < bound → length p.entries.items ≤ c.memory
     room some = room_of c p (stands.fits 3 refl some)
@@ -306,7 +366,7 @@ module _ (c : Config) (sizes : HasSizes c) (p : Persist) (one_each : length p.ev
     one_given : (count : ℕ) (q : Persist) → 3 + count < bound → Agrees count q p → (r : Persist) × (with_named c value commit (3 + count) q ≡ Ok r) × Agrees (count + 1) r p
     one_given count q below agrees = elim (cases_Bool (is_used c (3 + count))) [
       | inl used ↦
-          let given = block_given count q (omega (arith, below, most)) (stands.fits (3 + count) used below) agrees in
+          let given = block_given count q (omega (arith, below, most)) (λ some. (let few = room (omega (arith, some, below)) in omega (arith, few, sizes.memory))) (stands.fits (3 + count) used below) agrees in
           let id = 3 + count in (
             given.0,
             chosen (is_used c id) (with_content c id (value (number_of id (index_in commit id))) q) (Ok q) used
@@ -326,7 +386,7 @@ module _ (c : Config) (sizes : HasSizes c) (p : Persist) (one_each : length p.ev
       summary_same = λ some. absurd (omega (arith, some));
       entries_count = λ some. absurd (omega (arith, some));
       states_count = length-replicate (length c.events.items) start_state ∙ sym one_each;
-      states_same = λ k d low within. absurd (omega (arith, low));
+      states_same = λ k d low within. absurd (omega (arith, low, none_before_first));
       entries_same = λ k d low within. absurd (omega (arith, low));
       untaken = λ k d some from within. absurd (omega (arith, some));
     }
@@ -341,11 +401,11 @@ module _ (c : Config) (sizes : HasSizes c) (p : Persist) (one_each : length p.ev
         (given.0, ap (λ (r : Result Persist Fault). r >>= with_named c value commit (3 + count)) before.1 ∙ given.1, subst (λ (n : ℕ). Agrees n given.0 p) more given.2)
 
   -- A state whose parts were all read.
-  all_agree : (q : Persist) → length p.entries.items ≤ c.memory → Agrees 21 q p → q ≡ p
+  all_agree : (q : Persist) → length p.entries.items ≤ c.memory → Agrees parts q p → q ≡ p
   all_agree q room agrees =
       let s = agrees.summary_same (omega arith) in
       let events = same_lists q.events.items p.events.items agrees.states_count (λ k d below.
-      agrees.states_same k d (omega (arith, below, agrees.states_count, few_states)) (omega (arith, below, agrees.states_count))) in
+      agrees.states_same k d (all_before k (omega (arith, below, agrees.states_count, few_states))) (omega (arith, below, agrees.states_count))) in
       let count = agrees.entries_count (omega arith) in
       let entries = same_lists q.entries.items p.entries.items count (λ k d below.
       agrees.entries_same k d (omega (arith, below, count, room, sizes.memory)) (omega (arith, below, count))) in
@@ -358,14 +418,17 @@ module _ (c : Config) (sizes : HasSizes c) (p : Persist) (one_each : length p.ev
         recent_failed = s.3 i;
         recent_confirmed = s.4 i;
       }
+    where
+      all_before : (k : ℕ) → k < EVENTS → k < states_before parts
+      all_before k below = below
 
 -- The blocks of a state that fits are read as that state.
-pub whole_read : (c : Config) → HasSizes c → (value : ℕ → Content) (commit : Commit) (p : Persist) → Fits c p → BlocksHold c value commit p → parts_read c value commit 21 ≡ Ok p
+pub whole_read : (c : Config) → HasSizes c → (value : ℕ → Content) (commit : Commit) (p : Persist) → Fits c p → BlocksHold c value commit p → parts_read c value commit parts ≡ Ok p
 whole_read c sizes value commit p fits blocks =
-    let stands : HoldBelow c value commit 24 p = record {
+    let stands : HoldBelow c value commit end_part p = record {
       one_each = fits.states.one_each;
       blocks = λ id used below. blocks id used;
       fits = λ id used below. part_of_fitting c p fits (part_of id);
     } in
-    let whole = blocks_read c sizes p fits.states.one_each value commit 24 (omega arith) stands 21 (omega arith) in
+    let whole = blocks_read c sizes p fits.states.one_each value commit end_part (omega arith) stands parts (omega arith) in
     whole.1 ∙ ap Ok (all_agree c sizes p fits.states.one_each whole.0 fits.room whole.2)

@@ -1,45 +1,54 @@
--- How a worked map of blocks is written: a configuration of one event, and the bytes of two of its generations.
+-- How a worked map of blocks is written: a configuration of one event, and the bytes of two of its generations; and one of 65 events.
 use Rattle.std.specs.Prelude.{◌≡◌, ℕ, pos, negsuc, false, List, [], ◌∷◌, ◌++◌, map, replicate, ◌==◌, if◌then◌else◌, None, Some, Result}
 use Rattle.std.specs.List.{concat}
 use Rattle.flt_flash.specs.Content.{Content, missing, bytes}
 use Rattle.flt_config.specs.declared.config.Config.{Config}
 use Rattle.flt_config.specs.declared.config.Debounce.TheVariants as kinds
+use Rattle.flt_config.specs.declared.config.EventCfg.{EventCfg}
 use Rattle.flt_config.specs.declared.persist.Persist.{Persist}
 use Rattle.flt_generation.specs.Layout.{number_of}
 use Rattle.flt_generation.specs.Holding.{Generation, Fault, held, spare}
 
--- Configuration 7 has one event, whose frames have two bytes, room for one entry, no application block and 64 pages.
-abbrev pub small : Config
-small = record {
-  id = 7;
-  memory = 1;
-  pages = 64;
-  blocks = 0;
-  events = record {
-    items = record {
-      dtc = 0x000100;
-      priority = 1;
-      cycle = 0;
-      confirm = 1;
-      heal = 3;
-      age = 40;
-      indicator = false;
-      debounce = kinds.Counter (pos 1) (negsuc 0) (pos 1) (pos 1) None None;
-      dids = record { items = record { id = 0x0101; width = 2 } ∷ [] };
-    } ∷ [];
-  };
+-- An event whose frames have two bytes.
+abbrev pub event : EventCfg
+event = record {
+  dtc = 0x000100;
+  priority = 1;
+  cycle = 0;
+  confirm = 1;
+  heal = 3;
+  age = 40;
+  indicator = false;
+  needs = 0;
+  debounce = kinds.Counter (pos 1) (negsuc 0) (pos 1) (pos 1) None None;
+  dids = record { items = record { id = 0x0101; width = 2 } ∷ [] };
 }
 
--- Its mark, and the mark of configuration 8.
+-- Configuration 7 has one event, room for one entry, no application block and 64 pages.
+abbrev pub small : Config
+small = record { id = 7; memory = 1; pages = 64; blocks = 0; events = record { items = event ∷ [] } }
+
+-- It has 65 events and 96 pages.
+abbrev pub many : Config
+many = record { id = 7; memory = 1; pages = 96; blocks = 0; events = record { items = replicate 65 event } }
+
+-- Its mark, in version 2 and in version 1, and the mark of configuration 8.
 abbrev pub own_mark : Content
-own_mark = bytes (0x01 ∷ 0x00 ∷ 0x07 ∷ 0x00 ∷ 0x01 ∷ 0x01 ∷ 0x00 ∷ 0x00 ∷ [])
+own_mark = bytes (0x02 ∷ 0x00 ∷ 0x07 ∷ 0x00 ∷ 0x01 ∷ 0x01 ∷ 0x00 ∷ 0x00 ∷ [])
+
+abbrev pub old_mark : Content
+old_mark = bytes (0x01 ∷ 0x00 ∷ 0x07 ∷ 0x00 ∷ 0x01 ∷ 0x01 ∷ 0x00 ∷ 0x00 ∷ [])
 
 abbrev pub other_mark : Content
-other_mark = bytes (0x01 ∷ 0x00 ∷ 0x08 ∷ 0x00 ∷ 0x01 ∷ 0x01 ∷ 0x00 ∷ 0x00 ∷ [])
+other_mark = bytes (0x02 ∷ 0x00 ∷ 0x08 ∷ 0x00 ∷ 0x01 ∷ 0x01 ∷ 0x00 ∷ 0x00 ∷ [])
 
--- The commit of a generation whose blocks 3, 4 and 8 stand at these indices.
-abbrev pub commit : ℕ → ℕ → ℕ → ℕ → Content
-commit generation summary states entry =
+-- The commit of a generation, with these bits for the blocks 3 to 10: its blocks are 3, 4 and 8, of the bits 01, 02 and 20.
+abbrev pub commit : ℕ → ℕ → Content
+commit generation bits = bytes (0x02 ∷ 0x00 ∷ 0x00 ∷ 0x00 ∷ generation ∷ bits ∷ 0x00 ∷ 0x00 ∷ 0x00 ∷ 0x00 ∷ [])
+
+-- The same in version 1, with the indices of those blocks.
+abbrev pub old_commit : ℕ → ℕ → ℕ → ℕ → Content
+old_commit generation summary states entry =
     bytes (0x01 ∷ 0x00 ∷ 0x00 ∷ 0x00 ∷ generation ∷ summary ∷ states ∷ 0xFF ∷ 0xFF ∷ 0xFF ∷ entry ∷ replicate 15 0xFF)
 
 -- A summary with one entry, and with the event in each note.

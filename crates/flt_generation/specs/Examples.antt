@@ -1,9 +1,11 @@
 -- Worked maps of blocks.
-use Rattle.std.specs.Prelude.{List, [], ◌∷◌, replicate, Ok, Err, map}
+use Rattle.std.specs.Prelude.{ℕ, false, List, [], ◌∷◌, ◌++◌, replicate, Some, Ok, Err, map}
+use Rattle.std.specs.List.{concat}
 use Rattle.flt_flash.specs.Content.{Content, missing, invalid, bytes}
+use Rattle.flt_config.specs.Durable.{start_state}
 use Rattle.flt_generation.specs.declared.place.Place.TheVariants.{Block}
 use Rattle.flt_generation.specs.Holding.{Generation, Fault, damaged, other, first_generation}
-use Rattle.flt_generation.specs.Example.{small, own_mark, other_mark, commit, summary, states, entry, failed_state, Kept, block, Judged, judged, AreJudged}
+use Rattle.flt_generation.specs.Example.{small, many, own_mark, old_mark, other_mark, commit, old_commit, summary, states, entry, failed_state, Kept, block, Judged, judged, AreJudged}
 
 -- The event failed once in generation 1, and twice in generation 2.
 abbrev pub first : Generation
@@ -27,10 +29,10 @@ abbrev pub with_copies : Content → Content → List Kept
 with_copies copy_1 copy_2 = block 2 0 copy_1 ∷ block 2 1 copy_2 ∷ blocks
 
 abbrev pub first_commit : Content
-first_commit = commit 1 0 0 0
+first_commit = commit 1 0x00
 
 abbrev pub second_commit : Content
-second_commit = commit 2 0 0 1
+second_commit = commit 2 0x20
 
 -- Which generation the two copies of the commit name: before and after each step of a save, and where a copy has no bytes. Nothing
 -- stands in an image that was never saved.
@@ -76,11 +78,11 @@ FaultsInOrder =
     AreJudged small
     (faulty (standing missing (bytes []) missing missing missing bad_applications) (damaged (Block 1))
     ∷ faulty (standing invalid (bytes []) missing missing missing bad_applications) (damaged (Block 1))
-    ∷ faulty (standing (bytes (0x02 ∷ [])) (bytes []) missing missing missing bad_applications) (damaged (Block 1))
+    ∷ faulty (standing (bytes (0x03 ∷ 0x00 ∷ 0x07 ∷ 0x00 ∷ 0x01 ∷ 0x01 ∷ 0x00 ∷ 0x00 ∷ [])) (bytes []) missing missing missing bad_applications) (damaged (Block 1))
     ∷ faulty (standing other_mark (bytes []) missing missing missing bad_applications) (other (record { id = 8; events = 1; entries = 1 }))
     ∷ faulty (standing own_mark (bytes []) missing missing missing bad_applications) (damaged (Block 2))
-    ∷ faulty (standing own_mark (commit 0 0 0 0) missing missing missing bad_applications) (damaged (Block 2))
-    ∷ faulty (standing own_mark (commit 1 0 0 2) missing missing missing bad_applications) (damaged (Block 2))
+    ∷ faulty (standing own_mark (commit 0 0x00) missing missing missing bad_applications) (damaged (Block 2))
+    ∷ faulty (standing own_mark (commit 1 0x04) missing missing missing bad_applications) (damaged (Block 2))
     ∷ faulty (standing own_mark first_commit missing missing missing bad_applications) (damaged (Block 3))
     ∷ faulty (standing own_mark first_commit summary invalid missing bad_applications) (damaged (Block 4))
     ∷ faulty (standing own_mark first_commit summary (states 0xAF) missing bad_applications) (damaged (Block 4))
@@ -90,4 +92,88 @@ FaultsInOrder =
     ∷ faulty (standing own_mark first_commit summary (states 0x2F) first_entry (block 64 0 missing ∷ bad_applications)) (damaged (Block 65))
     ∷ faulty (standing own_mark first_commit summary (states 0x2F) first_entry much_beyond) (damaged (Block 0))
     ∷ judged (standing own_mark first_commit summary (states 0x2F) first_entry beyond) (Ok first) (Ok first)
+    ∷ [])
+
+-- Generation 1 as an image of version 1 has it: each byte of an index is as the block stands.
+abbrev pub old_first_commit : Content
+old_first_commit = old_commit 1 0 0 0
+
+abbrev pub old_second_commit : Content
+old_second_commit = old_commit 2 0 0 1
+
+-- The blocks beside a mark of version 1.
+abbrev pub old_blocks : Content → Content → List Kept
+old_blocks copy_1 copy_2 = block 1 0 old_mark ∷ with_copies copy_1 copy_2
+
+-- Both copies of the commit have these bytes.
+abbrev pub twice : List ℕ → List Kept
+twice held = with_copies (bytes held) (bytes held)
+
+-- What copy 1 and copy 2 name where they are of version 1 (old) or 2. An image of version 1, before its first save, in it and behind it, in
+-- a second one; the same with its mark written anew. A save in version 2 that was cut between the copies; the same where copy 1 has no bytes
+-- any more, and where the start-up behind it wrote copy 2 over copy 1, or copy 1 over copy 2. Copies of one commit in two versions, and a
+-- mark of version 1 beside a commit of version 2. Bytes that are of neither version: a number 0, an index 2, a used block without an index,
+-- one that is not used with an index, the length of the other version, and version 3.
+abbrev pub OldImages : Type 0
+OldImages =
+    AreJudged small
+    (judged (old_blocks missing missing) (Ok (first_generation small)) (Ok (first_generation small))
+    ∷ judged (old_blocks old_first_commit missing) (Ok first) (Ok (first_generation small))
+    ∷ judged (old_blocks old_first_commit old_first_commit) (Ok first) (Ok first)
+    ∷ judged (old_blocks old_second_commit old_first_commit) (Ok second) (Ok first)
+    ∷ judged (with_copies old_first_commit old_first_commit) (Ok first) (Ok first)
+    ∷ judged (with_copies second_commit old_first_commit) (Ok second) (Ok first)
+    ∷ judged (with_copies invalid old_first_commit) (Ok first) (Ok first)
+    ∷ judged (with_copies second_commit second_commit) (Ok second) (Ok second)
+    ∷ judged (with_copies old_first_commit first_commit) (Ok first) (Ok first)
+    ∷ judged (with_copies first_commit old_first_commit) (Ok first) (Ok first)
+    ∷ judged (old_blocks first_commit first_commit) (Ok first) (Ok first)
+    ∷ faulty (with_copies (old_commit 0 0 0 0) (old_commit 0 0 0 0)) (damaged (Block 2))
+    ∷ faulty (with_copies (old_commit 1 0 0 2) (old_commit 1 0 0 2)) (damaged (Block 2))
+    ∷ faulty (with_copies (old_commit 1 0 0xFF 0) (old_commit 1 0 0xFF 0)) (damaged (Block 2))
+    ∷ faulty (twice (0x01 ∷ 0x00 ∷ 0x00 ∷ 0x00 ∷ 0x01 ∷ 0x00 ∷ 0x00 ∷ 0x00 ∷ replicate 2 0xFF ++ 0x00 ∷ replicate 15 0xFF)) (damaged (Block 2))
+    ∷ faulty (twice (0x01 ∷ 0x00 ∷ 0x00 ∷ 0x00 ∷ 0x01 ∷ 0x00 ∷ 0x00 ∷ 0x00 ∷ 0x00 ∷ 0x00 ∷ [])) (damaged (Block 2))
+    ∷ faulty (twice (0x02 ∷ 0x00 ∷ 0x00 ∷ 0x00 ∷ 0x01 ∷ 0x00 ∷ 0x00 ∷ replicate 3 0xFF ++ 0x00 ∷ replicate 15 0xFF)) (damaged (Block 2))
+    ∷ faulty (twice (0x03 ∷ 0x00 ∷ 0x00 ∷ 0x00 ∷ 0x01 ∷ 0x00 ∷ 0x00 ∷ 0x00 ∷ 0x00 ∷ 0x00 ∷ [])) (damaged (Block 2))
+    ∷ [])
+
+-- The last of 65 events failed once: its state is the first of the block 24, which the commit names at index 1.
+abbrev pub last_failed : Generation
+last_failed = record {
+  number = 1;
+  state = record {
+    events = record { items = replicate 64 start_state ++ record { status = 0x2F; failed = 1; clean = 0; lit = false } ∷ [] };
+    entries = record {
+      items = record { event = 64; occurrence = 1; first = record { items = 0x01 ∷ 0x02 ∷ [] }; recent = record { items = 0x01 ∷ 0x02 ∷ [] } } ∷ [];
+    };
+    overflow = false;
+    first_failed = Some 64;
+    first_confirmed = Some 64;
+    recent_failed = Some 64;
+    recent_confirmed = Some 64;
+  };
+}
+
+-- Sixteen states of events that never failed.
+abbrev pub start_states : Content
+start_states = bytes (concat (replicate 16 (0x50 ∷ 0x00 ∷ 0x00 ∷ 0x00 ∷ [])))
+
+-- Its blocks beside both copies of a commit and what stands in the block 24 at index 1.
+abbrev pub of_many : List ℕ → Content → List Kept
+of_many both later =
+    block 1 0 (bytes (0x02 ∷ 0x00 ∷ 0x07 ∷ 0x00 ∷ 0x41 ∷ 0x01 ∷ 0x00 ∷ 0x00 ∷ []))
+    ∷ block 2 0 (bytes both) ∷ block 2 1 (bytes both)
+    ∷ block 3 0 (bytes (0x01 ∷ 0x00 ∷ 0x01 ∷ 0x00 ∷ 0x00 ∷ 0x40 ∷ 0x00 ∷ 0x40 ∷ 0x00 ∷ 0x40 ∷ 0x00 ∷ 0x40 ∷ replicate 20 0x00))
+    ∷ map (λ id. block id 0 start_states) (4 ∷ 5 ∷ 6 ∷ 7 ∷ [])
+    ++ block 8 0 (entry 0x40 1 (0x01 ∷ 0x02 ∷ [])) ∷ block 24 1 later ∷ []
+
+-- The commit names the block 24 at index 1; the block 25, which is not used, has no index; and version 1 has none for the block 24.
+abbrev pub ManyEvents : Type 0
+ManyEvents =
+    AreJudged many
+    (judged (of_many (0x02 ∷ 0x00 ∷ 0x00 ∷ 0x00 ∷ 0x01 ∷ 0x00 ∷ 0x00 ∷ 0x20 ∷ 0x00 ∷ 0x00 ∷ []) (states 0x2F)) (Ok last_failed) (Ok last_failed)
+    ∷ faulty (of_many (0x02 ∷ 0x00 ∷ 0x00 ∷ 0x00 ∷ 0x01 ∷ 0x00 ∷ 0x00 ∷ 0x20 ∷ 0x00 ∷ 0x00 ∷ []) missing) (damaged (Block 24))
+    ∷ faulty (of_many (0x02 ∷ 0x00 ∷ 0x00 ∷ 0x00 ∷ 0x01 ∷ 0x00 ∷ 0x00 ∷ 0x60 ∷ 0x00 ∷ 0x00 ∷ []) (states 0x2F)) (damaged (Block 2))
+    ∷ faulty (of_many (0x02 ∷ 0x00 ∷ 0x00 ∷ 0x00 ∷ 0x01 ∷ 0x00 ∷ 0x00 ∷ 0x20 ∷ 0x00 ∷ 0x02 ∷ []) (states 0x2F)) (damaged (Block 2))
+    ∷ faulty (of_many (0x01 ∷ 0x00 ∷ 0x00 ∷ 0x00 ∷ 0x01 ∷ replicate 6 0x00 ++ replicate 15 0xFF) (states 0x2F)) (damaged (Block 2))
     ∷ [])

@@ -1,5 +1,5 @@
 -- The bytes of the mark, of a commit and of each part of a generation.
-use Rattle.std.specs.Prelude.{◌≡◌, ℕ, ◌+◌, ◌-◌, ◌*◌, ◌^◌, ◌≤◌, ◌<◌, Bool, true, false, List, [], ◌∷◌, ◌++◌, length, map, replicate, slice_index_or, slice_get, Option, Some, None, IsTrue, IsFalse}
+use Rattle.std.specs.Prelude.{◌≡◌, ◌⊎◌, ℕ, ◌+◌, ◌-◌, ◌*◌, ◌^◌, ◌≤◌, ◌<◌, ◌==◌, Bool, true, false, List, [], ◌∷◌, ◌++◌, length, map, take, drop, replicate, slice_index, slice_index_or, slice_get, Option, Some, None, IsTrue, IsFalse}
 use Rattle.std.specs.List.{concat, range_with_len}
 use Rattle.std.specs.Int.{to_be_bytes, w16, w32}
 use Rattle.flt_config.specs.declared.config.Config.{Config}
@@ -11,7 +11,7 @@ use Rattle.flt_generation.specs.declared.mark.Mark.{Mark}
 use Rattle.flt_generation.specs.declared.commit.Commit.{Commit}
 use Rattle.flt_generation.specs.declared.part.Part.{Part}
 use Rattle.flt_generation.specs.declared.part.Part.TheVariants.{Summary, States, Entry}
-use Rattle.flt_generation.specs.Layout.{first_part, end_part, parts, states_per_block, part_of, is_used, index_in}
+use Rattle.flt_generation.specs.Layout.{first_part, end_part, parts, later_states_id, later_states_blocks, states_per_block, part_of, is_used, index_in}
 
 abbrev pub be16 : ℕ → List ℕ
 be16 = to_be_bytes w16
@@ -29,9 +29,16 @@ pub record IsMark (mark : Mark) : Type 0 where
   pub events : mark.events < 2 ^ 16
   pub entries : mark.entries < 2 ^ 8
 
--- Version 1, the configuration, its events, its entries, 00 00.
+-- The version, the configuration, its events, its entries, 00 00.
+abbrev pub versioned_mark : ℕ → Mark → List ℕ
+versioned_mark version mark = version ∷ be16 mark.id ++ be16 mark.events ++ mark.entries ∷ 0 ∷ 0 ∷ []
+
+-- A mark in version 2, which is written, and in version 1.
 unfoldable pub mark_bytes : Mark → List ℕ
-mark_bytes mark = 1 ∷ be16 mark.id ++ be16 mark.events ++ mark.entries ∷ 0 ∷ 0 ∷ []
+mark_bytes mark = versioned_mark 2 mark
+
+unfoldable pub mark_bytes_1 : Mark → List ℕ
+mark_bytes_1 mark = versioned_mark 1 mark
 
 -- An index of 0 or 1 for a used block, and FF for another.
 pub record IsBlockIndex (c : Config) (id index : ℕ) : Type 0 where
@@ -45,17 +52,45 @@ pub record IsCommit (c : Config) (commit : Commit) : Type 0 where
   pub size : length commit.index ≡ parts
   pub indices : (id : ℕ) → first_part ≤ id → id < end_part → IsBlockIndex c id (index_in commit id)
 
--- Version 1, the number of the generation, the index of each block.
+-- 01 for true, 00 for false.
+abbrev pub flag : Bool → ℕ
+flag true = 1
+flag false = 0
+
+-- 1 for a block that is named at index 1; 0 at index 0, and for a block that is not used.
+abbrev pub index_bit : List ℕ → ℕ → ℕ
+index_bit index place = flag (slice_index index place == 1)
+
+-- Those of eight blocks from this one on, the first in the lowest bit.
+abbrev pub packed : List ℕ → ℕ → ℕ
+packed index place =
+    index_bit index place + 2 * index_bit index (place + 1) + 4 * index_bit index (place + 2) + 8 * index_bit index (place + 3)
+    + 16 * index_bit index (place + 4) + 32 * index_bit index (place + 5) + 64 * index_bit index (place + 6) + 128 * index_bit index (place + 7)
+
+-- A commit in version 2, which is written: the number of the generation, and a bit for each block.
 unfoldable pub commit_bytes : Commit → List ℕ
-commit_bytes commit = 1 ∷ be32 commit.generation ++ commit.index
+commit_bytes commit =
+    2 ∷ be32 commit.generation
+    ++ packed commit.index 0 ∷ packed commit.index 8 ∷ packed commit.index 16 ∷ packed commit.index 24 ∷ packed commit.index 32 ∷ []
+
+-- Version 1 has no later blocks of states: the number of the generation, and a byte for the index of each block.
+abbrev pub parts_1 : ℕ
+parts_1 = later_states_id - first_part
+
+unfoldable pub commit_bytes_1 : Commit → List ℕ
+commit_bytes_1 commit = 1 ∷ be32 commit.generation ++ take parts_1 commit.index
+
+-- A commit names no later block of states.
+abbrev pub HasNoLater : Commit → Type 0
+HasNoLater commit = drop parts_1 commit.index ≡ replicate later_states_blocks 0xFF
 
 -- These are bytes of this commit, in a version that is read.
 abbrev pub IsBytesOfCommit : Commit → List ℕ → Type 0
-IsBytesOfCommit commit held = held ≡ commit_bytes commit
+IsBytesOfCommit commit held = (held ≡ commit_bytes commit) ⊎ (HasNoLater commit × (held ≡ commit_bytes_1 commit))
 
 -- These are bytes of this mark, in a version that is read.
 abbrev pub IsBytesOfMark : Mark → List ℕ → Type 0
-IsBytesOfMark mark held = held ≡ mark_bytes mark
+IsBytesOfMark mark held = (held ≡ mark_bytes mark) ⊎ (held ≡ mark_bytes_1 mark)
 
 -- A noted event, or FFFF for none.
 abbrev pub note_word : Option ℕ → ℕ
@@ -64,11 +99,6 @@ note_word (Some event) = event
 
 abbrev pub note_bytes : Option ℕ → List ℕ
 note_bytes note = be16 (note_word note)
-
--- 01 for true, 00 for false.
-abbrev pub flag : Bool → ℕ
-flag true = 1
-flag false = 0
 
 -- Version 1, the overflow flag, the number of entries, 00, the noted events, 20 bytes 00.
 unfoldable pub summary_bytes : Persist → List ℕ
@@ -118,12 +148,16 @@ part_bytes p (Entry place) = place_bytes (slice_get p.entries.items place)
 abbrev pub block_bytes : Persist → ℕ → List ℕ
 block_bytes p id = part_bytes p (part_of id)
 
--- How many bytes the mark, a commit, the summary, a block of states and an entry have, and how many an application block may have.
+-- How many bytes the mark, the summary, a block of states and an entry have, how many a commit may have and has in version 2, and how many
+-- an application block may have.
 abbrev pub mark_length : ℕ
 mark_length = 8
 
 abbrev pub commit_length : ℕ
 commit_length = 26
+
+abbrev pub commit_length_2 : ℕ
+commit_length_2 = 10
 
 abbrev pub summary_length : ℕ
 summary_length = 32

@@ -2,6 +2,7 @@
 use Rattle.std.specs.Prelude.{max, sum_by, ◌≡◌, ◌≢◌, ◌↔◌, ◌⊎◌, ℕ, ◌+◌, ◌≤◌, ◌<◌, ◌^◌, List, length, replicate, slice_index_or, Some, Ok, IsTrue, true, Err, Result, IsOk}
 use Rattle.flt_flash.specs.Content.{Content, missing, bytes}
 use Rattle.flt_flash.specs.Blocks.{pages_of}
+use Rattle.flt_config.specs.declared.TheConstants.{EVENTS}
 use Rattle.flt_config.specs.declared.config.Config.{Config}
 use Rattle.flt_config.specs.declared.persist.Persist.{Persist}
 use Rattle.flt_config.specs.declared.persist.EventState.{EventState}
@@ -12,8 +13,8 @@ use Rattle.flt_generation.specs.declared.mark.Mark.{Mark}
 use Rattle.flt_generation.specs.declared.commit.Commit.{Commit}
 use Rattle.flt_generation.specs.declared.part.Part.{Part}
 use Rattle.flt_generation.specs.declared.part.Part.TheVariants.{Summary, States, Entry}
-use Rattle.flt_generation.specs.Layout.{numbers, is_used, first_commit, second_commit}
-use Rattle.flt_generation.specs.Form.{IsMark, IsCommit, IsBytesOfMark, IsBytesOfCommit, part_bytes, block_bytes}
+use Rattle.flt_generation.specs.Layout.{numbers, is_used, first_commit, second_commit, first_later_event}
+use Rattle.flt_generation.specs.Form.{IsMark, IsCommit, HasNoLater, IsBytesOfMark, IsBytesOfCommit, part_bytes, block_bytes}
 use Rattle.flt_generation.specs.Fit.{part_fits}
 use Rattle.flt_generation.specs.Reading.{mark_in, commit_in, untaken_entry, taken}
 use Rattle.flt_generation.specs.Excess.{own_pages, IsBorne}
@@ -24,7 +25,7 @@ use Rattle.flt_generation.specs.Faults.{HasFirstFault, HasFault}
 pub record IsGiven (c : Config) : Type 0 where
   pub valid : IsValid c
   pub id : c.id < 2 ^ 16
-  pub events : length c.events.items ≤ 64
+  pub events : length c.events.items ≤ EVENTS
 
 -- Exactly the bytes of a mark are read, and as that mark.
 abbrev pub MarksAreRead : Type 0
@@ -34,6 +35,10 @@ MarksAreRead = (raw : List ℕ) (mark : Mark) → (mark_in raw ≡ Some mark) �
 abbrev pub CommitsAreRead : Type 0
 CommitsAreRead =
     (c : Config) (raw : List ℕ) (commit : Commit) → (commit_in c raw ≡ Some commit) ↔ (IsCommit c commit × IsBytesOfCommit commit raw)
+
+-- Version 1 has no commit of a configuration with later blocks of states.
+abbrev pub FirstVersionIsOfFewEvents : Type 0
+FirstVersionIsOfFewEvents = (c : Config) (commit : Commit) → IsCommit c commit → HasNoLater commit → length c.events.items ≤ first_later_event
 
 -- A state differs from another in one part alone; a new summary has entries that are still to be taken.
 abbrev pub KeepsRest : Part → Persist → Persist → Type 0

@@ -16,13 +16,7 @@ commit_id = 2
 abbrev pub first_part : ℕ
 first_part = 3
 
-abbrev pub parts : ℕ
-parts = 21
-
-abbrev pub end_part : ℕ
-end_part = first_part + parts
-
--- Among the parts: the summary, then the blocks of states, and the entries.
+-- Among the parts: the summary, then the first blocks of states, the entries, and the later blocks of states.
 abbrev pub summary_id : ℕ
 summary_id = 3
 
@@ -38,9 +32,25 @@ first_entry_id = 8
 abbrev pub entries : ℕ
 entries = 16
 
--- How many events have their states in one block.
+abbrev pub later_states_id : ℕ
+later_states_id = first_entry_id + entries
+
+abbrev pub later_states_blocks : ℕ
+later_states_blocks = 12
+
+-- Behind the last part, and how many there are.
+abbrev pub end_part : ℕ
+end_part = later_states_id + later_states_blocks
+
+abbrev pub parts : ℕ
+parts = end_part - first_part
+
+-- How many events have their states in one block, and the first event of the later blocks.
 abbrev pub states_per_block : ℕ
 states_per_block = 16
+
+abbrev pub first_later_event : ℕ
+first_later_event = states_per_block * states_blocks
 
 abbrev pub first_application : ℕ
 first_application = 64
@@ -91,7 +101,8 @@ abbrev pub part_of : ℕ → Part
 part_of id =
     if id == summary_id then Summary
     else if nat_lt id first_entry_id then States (states_per_block * (id - first_states_id))
-    else Entry (id - first_entry_id)
+    else if nat_lt id later_states_id then Entry (id - first_entry_id)
+    else States (first_later_event + states_per_block * (id - later_states_id))
 
 -- A part that each generation of this configuration has.
 abbrev pub has_part : Config → Part → Bool

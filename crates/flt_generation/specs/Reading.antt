@@ -1,5 +1,5 @@
 -- What bytes are read as: a mark, a commit, and a part of a state beside the parts that were taken before.
-use Rattle.std.specs.Prelude.{ℕ, zero, suc, ◌+◌, ◌*◌, ◌%◌, Bool, ◌&&◌, ◌==◌, nat_lt, nat_le, min, if◌then◌else◌, List, [], ◌∷◌, length, take, drop, replicate, bytes_eq, slice_index, slice_set, slice_range, Option, Some, None}
+use Rattle.std.specs.Prelude.{ℕ, zero, suc, ◌+◌, ◌-◌, ◌*◌, ◌/◌, ◌%◌, ◌^◌, Bool, ◌&&◌, ◌||◌, ◌==◌, nat_lt, nat_le, min, if◌then◌else◌, List, [], ◌∷◌, ◌++◌, length, map, take, drop, replicate, bytes_eq, slice_index, slice_set, slice_range, Option, Some, None}
 use Rattle.std.specs.List.{list_all, range_with_len}
 use Rattle.std.specs.Int.{from_be_bytes, w16, w32}
 use Rattle.flt_config.specs.declared.config.Config.{Config}
@@ -10,8 +10,8 @@ use Rattle.flt_generation.specs.declared.mark.Mark.{Mark}
 use Rattle.flt_generation.specs.declared.commit.Commit.{Commit}
 use Rattle.flt_generation.specs.declared.part.Part.{Part}
 use Rattle.flt_generation.specs.declared.part.Part.TheVariants.{Summary, States, Entry}
-use Rattle.flt_generation.specs.Layout.{first_part, parts, is_used, index_in}
-use Rattle.flt_generation.specs.Form.{mark_bytes, commit_bytes, part_bytes}
+use Rattle.flt_generation.specs.Layout.{first_part, parts, later_states_blocks, is_used, index_in}
+use Rattle.flt_generation.specs.Form.{mark_bytes, mark_bytes_1, commit_bytes, commit_bytes_1, part_bytes}
 use Rattle.flt_generation.specs.Fit.{part_fits}
 
 -- The number in two bytes.
@@ -22,13 +22,30 @@ word_at held at = from_be_bytes w16 (slice_index held at ∷ slice_index held (a
 unfoldable pub mark_from : List ℕ → Mark
 mark_from held = record { id = word_at held 1; events = word_at held 3; entries = slice_index held 5 }
 
+-- These are bytes of a mark, in one of the two versions.
+abbrev pub are_bytes_of_mark : List ℕ → Mark → Bool
+are_bytes_of_mark held mark = bytes_eq held (mark_bytes mark) || bytes_eq held (mark_bytes_1 mark)
+
 -- The mark of which these are the bytes, if they are those of one.
 unfoldable pub mark_in : List ℕ → Option Mark
-mark_in held = if bytes_eq held (mark_bytes (mark_from held)) && nat_lt (mark_from held).entries 256 then Some (mark_from held) else None
+mark_in held = if are_bytes_of_mark held (mark_from held) && nat_lt (mark_from held).entries 256 then Some (mark_from held) else None
 
--- The commit whose numbers stand in these bytes.
-unfoldable pub commit_from : List ℕ → Commit
-commit_from held = record { generation = from_be_bytes w32 (slice_range held 1 5); index = drop 5 held }
+-- The number of a generation, and the indices of its blocks in version 1.
+unfoldable pub commit_from_1 : List ℕ → Commit
+commit_from_1 held =
+    record { generation = from_be_bytes w32 (slice_range held 1 5); index = drop 5 held ++ replicate later_states_blocks 0xFF }
+
+-- The bit of a block in version 2.
+abbrev pub bit_in : List ℕ → ℕ → ℕ
+bit_in held place = slice_index held (5 + place / 8) / 2 ^ (place % 8) % 2
+
+-- The index of a block by its bit: FF where it is not used.
+abbrev pub index_by_bit : Config → List ℕ → ℕ → ℕ
+index_by_bit c held id = if is_used c id then bit_in held (id - first_part) else 0xFF
+
+-- The same in version 2.
+unfoldable pub commit_from : Config → List ℕ → Commit
+commit_from c held = record { generation = from_be_bytes w32 (slice_range held 1 5); index = map (index_by_bit c held) (range_with_len first_part parts) }
 
 -- 0 or 1 for a used block, FF for another.
 abbrev pub is_index : Config → ℕ → ℕ → Bool
@@ -40,9 +57,15 @@ is_commit c commit =
     nat_le 1 commit.generation && (length commit.index == parts)
     && list_all (λ id. is_index c id (index_in commit id)) (range_with_len first_part parts)
 
--- The commit of this configuration of which these are the bytes, if they are those of one.
+-- A commit, where it is one of this configuration and has these bytes.
+abbrev pub if_commit : Config → List ℕ → List ℕ → Commit → Option Commit
+if_commit c held own commit = if bytes_eq held own && is_commit c commit then Some commit else None
+
+-- The commit of this configuration of which these are the bytes, if they are those of one; the first byte tells the version.
 unfoldable pub commit_in : Config → List ℕ → Option Commit
-commit_in c held = if bytes_eq held (commit_bytes (commit_from held)) && is_commit c (commit_from held) then Some (commit_from held) else None
+commit_in c held =
+    if slice_index held 0 == 1 then if_commit c held (commit_bytes_1 (commit_from_1 held)) (commit_from_1 held)
+    else if_commit c held (commit_bytes (commit_from c held)) (commit_from c held)
 
 -- The noted event in two bytes.
 abbrev pub note_at : List ℕ → ℕ → Option ℕ

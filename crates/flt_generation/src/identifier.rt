@@ -12,14 +12,20 @@ pub const FIRST_PART: u16 = 3;
 /// The first block of states.
 pub const FIRST_STATES: u16 = 4;
 
-/// How many blocks of states the driver keeps.
+/// How many blocks of states stand before the entries: those of the events up to 63.
 pub const STATES_BLOCKS: u16 = 4;
 
 /// The first block of an entry.
 pub const FIRST_ENTRY: u16 = 8;
 
+/// The first block of states behind the entries: those of the events from 64 on.
+pub const LATER_STATES: u16 = 24;
+
+/// How many blocks of states stand behind the entries.
+pub const LATER_STATES_BLOCKS: u16 = 12;
+
 /// The identifier behind the last part's.
-pub const END_PART: u16 = 24;
+pub const END_PART: u16 = LATER_STATES + LATER_STATES_BLOCKS;
 
 /// The first application block.
 pub const FIRST_APPLICATION: u16 = 64;

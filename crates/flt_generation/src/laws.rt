@@ -1,14 +1,16 @@
 //! What the definitions of a stored generation come to.
-ghost use Rattle.flt_generation.specs.Laws.{MarksAreRead, CommitsAreRead, PartsAreTaken, BlocksDetermineState, HeldStands, SpareStands, HeldTellsFirstFault, SpareTellsFirstFault, HeldWithoutFault, SpareWithoutFault, EitherCopyCounts, OnlyBytesCount, SoundIsOneOrNext, BorneHasRoom, BlankIsSound};
+ghost use Rattle.flt_generation.specs.Laws.{MarksAreRead, CommitsAreRead, FirstVersionIsOfFewEvents, PartsAreTaken, BlocksDetermineState, HeldStands, SpareStands, HeldTellsFirstFault, SpareTellsFirstFault, HeldWithoutFault, SpareWithoutFault, EitherCopyCounts, OnlyBytesCount, SoundIsOneOrNext, BorneHasRoom, BlankIsSound};
 
 /// Exactly the bytes of a mark are read, and as that mark.
 pub fn marks_are_read()
     ensures { MarksAreRead }
 {}
 
-/// Exactly the bytes of a commit of a configuration are read, and as that commit.
+/// Exactly the bytes of a commit of a configuration are read, and as that commit. Those of version 1 are none of a configuration of
+/// more than 64 events.
 pub fn commits_are_read()
-    ensures { CommitsAreRead }
+    ensures read { CommitsAreRead }
+    ensures few { FirstVersionIsOfFewEvents }
 {}
 
 /// A part is taken exactly where its bytes are those of a state that fits in that part, beside the rest, and differs in it alone.

@@ -3,8 +3,11 @@
 /// The bytes of the mark.
 pub const MARK_LENGTH: usize = 8;
 
-/// The bytes of a commit.
+/// The most bytes of a commit: those of one in version 1.
 pub const COMMIT_LENGTH: usize = 26;
+
+/// The bytes of a commit in version 2.
+pub const COMMIT_LENGTH_2: usize = 10;
 
 /// The bytes of the summary.
 pub const SUMMARY_LENGTH: usize = 32;

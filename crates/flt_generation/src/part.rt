@@ -1,4 +1,8 @@
 // The parts of a generation.
+ghost use Rattle.std.specs.Prelude.{◌≡◌, ◌≤◌};
+ghost use Rattle.flt_generation.specs.Form.{part_length};
+
+use crate::length::{ENTRY_LENGTH, STATES_LENGTH, SUMMARY_LENGTH};
 
 /// Which part of a durable state a block of a generation holds.
 #[derive(Clone, Copy, Debug, PartialEq, Eq)]
@@ -9,4 +13,18 @@ pub enum Part {
     States { first: u16 },
     /// The entry at `place` of the list, from 0.
     Entry { place: u16 },
+}
+
+impl Part {
+    /// How many bytes the part has; an entry has the most.
+    pub fn byte_length(self) -> usize
+        ensures value { result ≡ part_length self }
+        ensures most { result ≤ ENTRY_LENGTH }
+    {
+        match self {
+            Part::Summary => SUMMARY_LENGTH,
+            Part::States { .. } => STATES_LENGTH,
+            Part::Entry { .. } => ENTRY_LENGTH,
+        }
+    }
 }

@@ -1,5 +1,5 @@
 //! Worked examples, which the check computes.
-ghost use Rattle.flt_generation.specs.Examples.{CopiesOfCommit, FaultsInOrder};
+ghost use Rattle.flt_generation.specs.Examples.{CopiesOfCommit, FaultsInOrder, OldImages, ManyEvents};
 
 /// Which generations the copies of a commit name, before, in and after a save, and where a copy has no bytes.
 pub fn copies_of_commit()
@@ -9,4 +9,14 @@ pub fn copies_of_commit()
 /// Where each block is wrong, the first is told, and the next one once that is mended.
 pub fn faults_in_order()
     ensures { FaultsInOrder }
+{}
+
+/// Which generations the copies of a commit name where one of them or both are of version 1, and which bytes are of no version.
+pub fn old_images()
+    ensures { OldImages }
+{}
+
+/// What a configuration of more than 64 events reads of the two versions.
+pub fn many_events()
+    ensures { ManyEvents }
 {}

@@ -1,4 +1,5 @@
 pub mod Ranges
+pub mod Indices
 pub mod Takings
 pub mod Rows
 pub mod TableRows

@@ -4,7 +4,7 @@ use Rattle.std.specs.List.{range_with_len}
 use Rattle.flt_nvm.specs.declared.table.Kind.{Kind}
 use Rattle.flt_nvm.specs.declared.table.Kind.TheVariants.{Native, Redundant, Dataset}
 use Rattle.flt_nvm.specs.declared.table.BlockCfg.{BlockCfg}
-use Rattle.flt_generation.specs.Layout.{mark_id, commit_id, summary_id, first_states_id, states_blocks, first_entry_id, entries, first_application, applications}
+use Rattle.flt_generation.specs.Layout.{mark_id, commit_id, summary_id, first_states_id, states_blocks, first_entry_id, entries, later_states_id, later_states_blocks, first_application, applications}
 use Rattle.flt_generation.specs.Form.{mark_length, commit_length, summary_length, states_length, entry_length, application_length}
 
 -- A block of this kind that holds so many bytes.
@@ -19,7 +19,7 @@ rows kind length first count = map (row kind length) (range_with_len first count
 abbrev pub part : Kind
 part = Dataset 2
 
--- The mark, the commit, the summary, the states, the entries, and the application blocks.
+-- The mark, the commit, the summary, the first states, the entries, the later states, and the application blocks.
 unfoldable pub block_table : List BlockCfg
 block_table =
     rows Native mark_length mark_id 1
@@ -27,4 +27,5 @@ block_table =
     ++ rows part summary_length summary_id 1
     ++ rows part states_length first_states_id states_blocks
     ++ rows part entry_length first_entry_id entries
+    ++ rows part states_length later_states_id later_states_blocks
     ++ rows Native application_length first_application applications

@@ -12,7 +12,7 @@ use crate::pushing::{BlockBytes, push_all};
 use crate::states::{put_states, take_states};
 use crate::summary::{summary_bytes, take_summary};
 use flt_config::{Persist, ValidConfig};
-use flt_generation::{ENTRY_LENGTH, Part, STATES_LENGTH, SUMMARY_LENGTH};
+use flt_generation::Part;
 
 /// Puts the bytes of a used block of a state that fits in place of what `out` held: those of the summary, of the states of
 /// some events, or of an entry.
@@ -30,16 +30,6 @@ pub fn put_block(config: &ValidConfig, state: &Persist, id: u16, out: &mut Block
     }
 }
 
-fn part_length(part: Part) -> usize
-    ensures { result ≡ part_length part }
-{
-    match part {
-        Part::Summary => SUMMARY_LENGTH,
-        Part::States { .. } => STATES_LENGTH,
-        Part::Entry { .. } => ENTRY_LENGTH,
-    }
-}
-
 /// Takes a used block of a state from its bytes, beside what `into` holds from the blocks that were taken before; `into` has
 /// one state for each event.
 ///
@@ -53,7 +43,7 @@ pub fn get_block(config: &ValidConfig, id: u16, bytes: &[u8], into: &mut Persist
     ensures states { length into.new.events.items ≡ length into.old.events.items }
 {
     let part = part_of(id);
-    if bytes.len() != part_length(part) {
+    if bytes.len() != part.byte_length() {
         return false;
     }
     match part {

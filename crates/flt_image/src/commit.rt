@@ -1,31 +1,83 @@
 // The record that names the blocks of a generation.
-ghost use Rattle.std.specs.Prelude.{◌≡◌, ◌≢◌, ℕ, ◌<◌, ◌≤◌, ◌+◌, IfSome, Some, List, length, bytes_eq, IsTrue, IsFalse};
+ghost use Rattle.std.specs.Prelude.{◌≡◌, ◌≢◌, ℕ, ◌<◌, ◌≤◌, ◌+◌, ◌==◌, IfSome, Some, List, length, bytes_eq, slice_index, slice_range, IsTrue, IsFalse};
+ghost use Rattle.std.specs.Int.{from_be_bytes, w32};
 ghost use Rattle.std.specs.List.{list_all, range_with_len};
-ghost use Rattle.flt_generation.specs.Form.{commit_length, commit_bytes};
+ghost use Rattle.flt_generation.specs.Form.{commit_length, commit_length_2, index_bit, packed, commit_bytes, commit_bytes_1, HasNoLater};
 ghost use Rattle.flt_generation.specs.Holding.{last_number};
 ghost use Rattle.flt_generation.specs.Layout.{first_part, parts, end_part, index_in};
-ghost use Rattle.flt_generation.specs.Reading.{commit_from, commit_in, is_index, is_commit};
+ghost use Rattle.flt_generation.specs.Reading.{commit_from, commit_from_1, bit_in, index_by_bit, if_commit, commit_in, is_index, is_commit};
 ghost use Rattle.flt_generation.specs.Successor.{IsNext, IsNextIndex, number_in};
 ghost use Rattle.flt_image.specs.Blocks.{bytes_at};
 
 use crate::blocks::StateBlocks;
 use crate::layout::is_used;
 use flt_config::ValidConfig;
-use flt_generation::{COMMIT_LENGTH, Commit, END_PART, FIRST_PART, INDICES};
+use flt_generation::{
+    COMMIT_LENGTH, COMMIT_LENGTH_2, Commit, END_PART, FIRST_INDICES, FIRST_PART, INDICES,
+};
 
 /// What a commit has for a block that is not used.
 const UNUSED: u8 = 0xFF;
 
-/// The bytes of a commit: 01, the number of the generation in four bytes, big-endian, and the index of each block.
+// 1 for a block that is named at index 1, else 0.
+fn index_bit(index: &[u8; INDICES], place: usize) -> u8
+    ensures bit { result ≡ index_bit index.now place }
+    ensures small { result ≤ 1 }
+{
+    (index.get(place).copied().unwrap_or(0) == 1) as u8
+}
+
+// Those of eight blocks, the first in the lowest bit.
+fn packed(index: &[u8; INDICES], place: usize) -> u8
+    requires { place ≤ parts }
+    ensures { result ≡ packed index.now place }
+{
+    index_bit(index, place)
+        + 2 * index_bit(index, place + 1)
+        + 4 * index_bit(index, place + 2)
+        + 8 * index_bit(index, place + 3)
+        + 16 * index_bit(index, place + 4)
+        + 32 * index_bit(index, place + 5)
+        + 64 * index_bit(index, place + 6)
+        + 128 * index_bit(index, place + 7)
+}
+
+/// The bytes of a commit in version 2, which is written: 02, the number of the generation in four bytes, big-endian, and 40 bits. Bit
+/// `i`, of byte `i / 8` of the five, from the lowest on, is 1 where the block `3 + i` is named at index 1; the bits 33 to 39 are 0.
 #[tactic(auto, unfolding(flt_generation::specs::Form::commit_bytes))]
-pub fn put_commit(commit: &Commit) -> [u8; COMMIT_LENGTH]
+pub fn put_commit(commit: &Commit) -> [u8; COMMIT_LENGTH_2]
     ensures { result ≡ commit_bytes commit.now }
+{
+    let [a, b, c, d] = commit.generation.to_be_bytes();
+    let index = &commit.index;
+    let bits = [
+        packed(index, 0),
+        packed(index, 8),
+        packed(index, 16),
+        packed(index, 24),
+        packed(index, 32),
+    ];
+    [2, a, b, c, d, bits[0], bits[1], bits[2], bits[3], bits[4]]
+}
+
+#[tactic(auto, unfolding(flt_generation::specs::Form::commit_bytes_1))]
+fn first_version(commit: &Commit) -> [u8; COMMIT_LENGTH]
+    ensures { result ≡ commit_bytes_1 commit.now }
 {
     let mut bytes = [0; COMMIT_LENGTH];
     bytes[0] = 1;
     bytes[1..5].copy_from_slice(&commit.generation.to_be_bytes());
-    bytes[5..].copy_from_slice(&commit.index);
+    bytes[5..].copy_from_slice(&commit.index[..FIRST_INDICES]);
     bytes
+}
+
+/// The bytes of a commit in version 1: 01, the number of the generation in four bytes, big-endian, and the index of each block from 3 to
+/// 23. The commit names no later block: it has 0xFF for each.
+pub fn put_commit_1(commit: &Commit) -> [u8; COMMIT_LENGTH]
+    requires { HasNoLater commit.now }
+    ensures { result ≡ commit_bytes_1 commit.now }
+{
+    first_version(commit)
 }
 
 /// The commit after this one, or the first: the next number, and each used block at 0 in the first; else, where its bytes before and
@@ -73,7 +125,7 @@ fn next_index(
     }
     match current {
         None => 0,
-        Some(commit) => other_index(commit.index[(id - FIRST_PART) as usize], before == after),
+        Some(commit) => other_index(commit.index_of(id), before == after),
     }
 }
 
@@ -106,7 +158,7 @@ fn has_indices(config: &ValidConfig, commit: &Commit) -> bool
     ensures { result ≡ list_all (λ id. is_index config.now id (index_in commit.now id)) (range_with_len first_part parts) }
 {
     for id in FIRST_PART..END_PART {
-        if !is_index(config, id, commit.index[(id - FIRST_PART) as usize]) {
+        if !is_index(config, id, commit.index_of(id)) {
             return false;
         }
     }
@@ -120,37 +172,114 @@ fn is_commit(config: &ValidConfig, commit: &Commit) -> bool
     1 <= commit.generation && has_indices(config, commit)
 }
 
-// The commit whose numbers stand in these bytes.
-#[tactic(auto, unfolding(flt_generation::specs::Reading::commit_from))]
-fn commit_from(bytes: &[u8]) -> Commit
-    requires { length bytes.now ≡ commit_length }
-    ensures { result ≡ commit_from bytes.now }
+// The number of a generation in these bytes of a commit.
+fn generation_in(bytes: &[u8]) -> u32
+    requires { 5 ≤ length bytes.now }
+    ensures { result ≡ from_be_bytes w32 (slice_range bytes.now 1 5) }
 {
     let mut generation = [0; 4];
     generation.copy_from_slice(&bytes[1..5]);
-    let mut index = [0; INDICES];
-    index.copy_from_slice(&bytes[5..]);
+    u32::from_be_bytes(generation)
+}
+
+// The commit whose numbers stand in these bytes of version 1.
+#[tactic(auto, unfolding(flt_generation::specs::Reading::commit_from_1))]
+fn commit_from_1(bytes: &[u8]) -> Commit
+    requires { length bytes.now ≡ commit_length }
+    ensures { result ≡ commit_from_1 bytes.now }
+{
+    let mut index = [UNUSED; INDICES];
+    index[..FIRST_INDICES].copy_from_slice(&bytes[5..]);
     Commit {
-        generation: u32::from_be_bytes(generation),
+        generation: generation_in(bytes),
         index,
     }
 }
 
-/// The commit of which these are the bytes, and none exactly where they are those of no commit of this configuration: its
-/// number is at least 1, and each used block has the index 0 or 1, each other one 0xFF.
-pub fn get_commit(config: &ValidConfig, bytes: &[u8]) -> Option<Commit>
-    ensures { result ≡ commit_in config.now bytes.now }
+// The bit of a block in these bytes of version 2.
+fn bit_in(bytes: &[u8], place: usize) -> u8
+    requires size { length bytes.now ≡ commit_length_2 }
+    requires place { place < parts }
+    ensures { result ≡ bit_in bytes.now place }
+{
+    (bytes[5 + place / 8] >> (place % 8)) % 2
+}
+
+// The index of a block by its bit.
+fn index_by_bit(config: &ValidConfig, bytes: &[u8], id: u16) -> u8
+    requires size { length bytes.now ≡ commit_length_2 }
+    requires first { first_part ≤ id }
+    requires end { id < end_part }
+    ensures { result ≡ index_by_bit config.now bytes.now id }
+{
+    if is_used(config, id) {
+        bit_in(bytes, (id - FIRST_PART) as usize)
+    } else {
+        UNUSED
+    }
+}
+
+// The commit whose numbers stand in these bytes of version 2.
+#[tactic(auto, unfolding(flt_generation::specs::Reading::commit_from))]
+fn commit_from(config: &ValidConfig, bytes: &[u8]) -> Commit
+    requires { length bytes.now ≡ commit_length_2 }
+    ensures { result ≡ commit_from config.now bytes.now }
+{
+    let mut index = [UNUSED; INDICES];
+    for id in FIRST_PART..END_PART {
+        index[(id - FIRST_PART) as usize] = index_by_bit(config, bytes, id);
+    }
+    Commit {
+        generation: generation_in(bytes),
+        index,
+    }
+}
+
+fn get_commit_1(config: &ValidConfig, bytes: &[u8]) -> Option<Commit>
+    ensures { result ≡ if_commit config.now bytes.now (commit_bytes_1 (commit_from_1 bytes.now)) (commit_from_1 bytes.now) }
 {
     if bytes.len() != COMMIT_LENGTH {
         return None;
     }
-    let commit = commit_from(bytes);
-    if !is_commit(config, &commit) {
-        return None;
-    }
-    if bytes == &put_commit(&commit)[..] {
+    let commit = commit_from_1(bytes);
+    if bytes == &first_version(&commit)[..] && is_commit(config, &commit) {
         Some(commit)
     } else {
         None
+    }
+}
+
+fn get_commit_2(config: &ValidConfig, bytes: &[u8]) -> Option<Commit>
+    ensures { result ≡ if_commit config.now bytes.now (commit_bytes (commit_from config.now bytes.now)) (commit_from config.now bytes.now) }
+{
+    if bytes.len() != COMMIT_LENGTH_2 {
+        return None;
+    }
+    let commit = commit_from(config, bytes);
+    if bytes == &put_commit(&commit)[..] && is_commit(config, &commit) {
+        Some(commit)
+    } else {
+        None
+    }
+}
+
+// The first byte tells version 1.
+fn is_version_1(bytes: &[u8]) -> bool
+    ensures { result ≡ (slice_index bytes.now 0 == 1) }
+{
+    bytes.first().copied().unwrap_or(0) == 1
+}
+
+/// The commit of which these are the bytes in one of the two versions, and none exactly where they are those of no commit of this
+/// configuration: its number is at least 1, and each used block has the index 0 or 1, each other one 0xFF. A configuration of more than
+/// 64 events has none of version 1.
+#[tactic(auto, unfolding(flt_generation::specs::Reading::commit_in))]
+pub fn get_commit(config: &ValidConfig, bytes: &[u8]) -> Option<Commit>
+    ensures { result ≡ commit_in config.now bytes.now }
+{
+    if is_version_1(bytes) {
+        get_commit_1(config, bytes)
+    } else {
+        get_commit_2(config, bytes)
     }
 }

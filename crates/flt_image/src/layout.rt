@@ -1,27 +1,39 @@
 // Which blocks a configuration has, and which part of a generation each of them holds.
 ghost use Rattle.std.specs.Prelude.{◌≡◌, ◌<◌, ◌≤◌, ◌+◌, ◌++◌, [], ◌∷◌, if◌then◌else◌, length};
-ghost use Rattle.flt_generation.specs.Layout.{first_part, part_of, parts, has_part, is_used, used_ids};
+ghost use Rattle.flt_generation.specs.Layout.{first_part, end_part, part_of, parts, has_part, is_used, used_ids};
 
 use arrayvec::ArrayVec;
 use flt_config::ValidConfig;
 use flt_generation::{
-    END_PART, FIRST_ENTRY, FIRST_PART, FIRST_STATES, INDICES, Part, STATES_PER_BLOCK,
+    END_PART, FIRST_ENTRY, FIRST_PART, FIRST_STATES, INDICES, LATER_STATES, Part, STATES_BLOCKS,
+    STATES_PER_BLOCK,
 };
 
+/// How many events have their states in one block.
+const PER_BLOCK: u16 = STATES_PER_BLOCK as u16;
+
+/// The first event whose state stands behind the entries.
+const LATER_EVENT: u16 = STATES_BLOCKS * PER_BLOCK;
+
 /// The part of a generation that a block holds.
-pub(crate) fn part_of(id: u16) -> Part
-    requires { first_part ≤ id }
+pub fn part_of(id: u16) -> Part
+    requires least { first_part ≤ id }
+    requires end { id < end_part }
     ensures { result ≡ part_of id }
 {
     if id == FIRST_PART {
         Part::Summary
     } else if id < FIRST_ENTRY {
         Part::States {
-            first: (id - FIRST_STATES) * STATES_PER_BLOCK as u16,
+            first: (id - FIRST_STATES) * PER_BLOCK,
         }
-    } else {
+    } else if id < LATER_STATES {
         Part::Entry {
             place: id - FIRST_ENTRY,
+        }
+    } else {
+        Part::States {
+            first: LATER_EVENT + (id - LATER_STATES) * PER_BLOCK,
         }
     }
 }
@@ -45,7 +57,8 @@ pub fn is_used(config: &ValidConfig, id: u16) -> bool
 }
 
 /// The blocks that each generation of this configuration has, in ascending order: the summary (3), a block of states for each
-/// 16 events or part of them (from 4 on), and one for each entry that the memory has room for (from 8 on).
+/// 16 events or part of them up to event 63 (from 4 on), one for each entry that the memory has room for (from 8 on), and the blocks of
+/// states of the events from 64 on (from 24 on).
 pub fn used_ids(config: &ValidConfig) -> ArrayVec<u16, INDICES>
     ensures { result.items ≡ used_ids config.now }
 {

@@ -20,10 +20,10 @@ mod table;
 
 pub use block::{get_block, put_block};
 pub use blocks::{LONGEST, StateBlocks};
-pub use commit::{get_commit, next_commit, put_commit};
+pub use commit::{get_commit, next_commit, put_commit, put_commit_1};
 pub use flt_generation::{Commit, Mark};
-pub use layout::{is_used, used_ids};
-pub use mark::{get_mark, mark_of, put_mark};
+pub use layout::{is_used, part_of, used_ids};
+pub use mark::{get_mark, mark_of, put_mark, put_mark_1};
 pub use numbers::fee_numbers;
 pub use pushing::BlockBytes;
 pub use table::block_table;

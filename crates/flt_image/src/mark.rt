@@ -1,7 +1,7 @@
 // The mark of a configuration.
 ghost use Rattle.std.specs.Prelude.{◌≡◌, length};
-ghost use Rattle.flt_generation.specs.Form.{mark_length, mark_of, mark_bytes, IsMark};
-ghost use Rattle.flt_generation.specs.Reading.{mark_from, mark_in};
+ghost use Rattle.flt_generation.specs.Form.{mark_length, mark_of, mark_bytes, mark_bytes_1, versioned_mark, IsMark};
+ghost use Rattle.flt_generation.specs.Reading.{mark_from, mark_in, are_bytes_of_mark};
 ghost use Rattle.flt_generation.specs.Laws.{IsGiven};
 
 use crate::pushing::word_at;
@@ -29,14 +29,37 @@ fn mark_with(id: u16, events: u16, entries: u8) -> Mark
     }
 }
 
-/// The bytes of a mark: 01, the configuration, its events, its entries, 00 00; numbers of two bytes are big-endian.
+// The version, the configuration, its events, its entries, 00 00; numbers of two bytes are big-endian.
+fn versioned(version: u8, mark: &Mark) -> [u8; MARK_LENGTH]
+    ensures { result ≡ versioned_mark version mark.now }
+{
+    let [a, b] = mark.id.to_be_bytes();
+    let [c, d] = mark.events.to_be_bytes();
+    [version, a, b, c, d, mark.entries, 0, 0]
+}
+
+/// The bytes of a mark in version 2, which is written: 02, the configuration, its events, its entries, 00 00; numbers of two bytes are
+/// big-endian.
 #[tactic(auto, unfolding(flt_generation::specs::Form::mark_bytes))]
 pub fn put_mark(mark: &Mark) -> [u8; MARK_LENGTH]
     ensures { result ≡ mark_bytes mark.now }
 {
-    let [a, b] = mark.id.to_be_bytes();
-    let [c, d] = mark.events.to_be_bytes();
-    [1, a, b, c, d, mark.entries, 0, 0]
+    versioned(2, mark)
+}
+
+/// The bytes of a mark in version 1: the same with 01 first.
+#[tactic(auto, unfolding(flt_generation::specs::Form::mark_bytes_1))]
+pub fn put_mark_1(mark: &Mark) -> [u8; MARK_LENGTH]
+    ensures { result ≡ mark_bytes_1 mark.now }
+{
+    versioned(1, mark)
+}
+
+// These are bytes of this mark, in one of the two versions.
+fn are_bytes_of(bytes: &[u8], mark: &Mark) -> bool
+    ensures { result ≡ are_bytes_of_mark bytes.now mark.now }
+{
+    bytes == &put_mark(mark)[..] || bytes == &put_mark_1(mark)[..]
 }
 
 // The mark whose numbers stand in these bytes.
@@ -49,7 +72,7 @@ fn mark_from(bytes: &[u8]) -> Mark
     mark_with(word_at(bytes, 1), word_at(bytes, 3), bytes[5])
 }
 
-/// The mark of which these are the bytes, and none exactly where they are the bytes of no mark.
+/// The mark of which these are the bytes in one of the two versions, and none exactly where they are the bytes of no mark.
 pub fn get_mark(bytes: &[u8]) -> Option<Mark>
     ensures { result ≡ mark_in bytes.now }
 {
@@ -57,8 +80,7 @@ pub fn get_mark(bytes: &[u8]) -> Option<Mark>
         return None;
     }
     let mark = mark_from(bytes);
-    let written = put_mark(&mark);
-    if bytes == &written[..] {
+    if are_bytes_of(bytes, &mark) {
         Some(mark)
     } else {
         None

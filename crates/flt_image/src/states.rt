@@ -9,16 +9,8 @@ ghost use Rattle.flt_image.specs.Taking.{TakesIn, HaveShortCounts, block_states}
 
 use crate::pushing::{BlockBytes, push_all, word_at};
 use arrayvec::ArrayVec;
-use flt_config::{EVENTS, EventState, Persist, ValidConfig, are_states_of};
+use flt_config::{EVENTS, EventState, Persist, UNTESTED, ValidConfig, are_states_of};
 use flt_generation::STATES_PER_BLOCK;
-
-/// An event that was not tested since it was cleared.
-const START: EventState = EventState {
-    status: 0x50,
-    failed: 0,
-    clean: 0,
-    lit: false,
-};
 
 /// What is set beside the clean count of an event that is lit.
 const LIT: u16 = 0x8000;
@@ -37,7 +29,7 @@ fn put_state(state: EventState, out: &mut BlockBytes)
 fn state_at(states: &[EventState], event: usize) -> EventState
     ensures { result ≡ slice_index_or states.now event start_state }
 {
-    states.get(event).copied().unwrap_or(START)
+    states.get(event).copied().unwrap_or(UNTESTED)
 }
 
 /// Puts the states of sixteen events from `first` on; those past the last event are start states.

@@ -5,8 +5,8 @@ ghost use Rattle.flt_image.specs.Table.{rows, block_table};
 use flt_config::ENTRIES;
 use flt_generation::{
     APPLICATION_LENGTH, APPLICATIONS, COMMIT_ID, COMMIT_LENGTH, ENTRY_LENGTH, FIRST_APPLICATION,
-    FIRST_ENTRY, FIRST_PART, FIRST_STATES, MARK_ID, MARK_LENGTH, STATES_BLOCKS, STATES_LENGTH,
-    SUMMARY_LENGTH,
+    FIRST_ENTRY, FIRST_PART, FIRST_STATES, LATER_STATES, LATER_STATES_BLOCKS, MARK_ID, MARK_LENGTH,
+    STATES_BLOCKS, STATES_LENGTH, SUMMARY_LENGTH,
 };
 use flt_nvm::{BlockCfg, Kind};
 use std::alloc::{AllocError, Global};
@@ -64,6 +64,13 @@ pub fn block_table(alloc: Global) -> Result<Vec<BlockCfg>, AllocError>
         ENTRY_LENGTH as u8,
         FIRST_ENTRY,
         ENTRIES as u16,
+    )?;
+    push_rows(
+        &mut table,
+        PART,
+        STATES_LENGTH as u8,
+        LATER_STATES,
+        LATER_STATES_BLOCKS,
     )?;
     push_rows(
         &mut table,

@@ -2,17 +2,20 @@
 //!
 //! It stands on std alone. The crates above use two traits: `Source`, whose `pull` moves the next bytes, and `Sink`, whose
 //! `push` takes a whole piece or fails behind a front of it; a failure comes only where the object's count of faults rose.
+//! `read_front` reads a source to its end, or so many bytes.
 //! `MemSource` and `MemSink` are in memory and fail where they are told to; `ReadSource` and `WriteSink` are over std's
 //! readers and writers. Read `specs/Fault.antt` first, then `specs/Sink.antt`.
 #![tactic(auto)]
 
 mod failing;
+mod front;
 mod mem_sink;
 mod mem_source;
 mod read_source;
 mod stream;
 mod write_sink;
 
+pub use front::{ReadFault, read_front};
 pub use mem_sink::MemSink;
 pub use mem_source::MemSource;
 pub use read_source::ReadSource;
@@ -21,6 +24,3 @@ pub use write_sink::WriteSink;
 
 /// How often an interrupted read or write is made, at most, before it is taken as a fault.
 const TRIES: u32 = 16;
-
-#[cfg(test)]
-mod tests;

@@ -122,6 +122,7 @@ module _ (first : ℕ → Content) where
   gets_more op past earlier (steps.Cycle cycle) told few gets = tt
   gets_more op past earlier (steps.Tick ticks) told few gets = tt
   gets_more op past earlier (steps.Signal index value) told few gets = tt
+  gets_more op past earlier (steps.Enable condition fulfilled) told few gets = tt
   gets_more op past earlier (steps.Request tester bytes) told few gets = tt
   gets_more op past earlier steps.Save told few gets = tt
   gets_more op past earlier (steps.Post urgent block bytes) told few gets = tt

@@ -57,6 +57,7 @@ saves_most (steps.Show event) told calls made = let is = ap (λ (l : List (Call 
 saves_most (steps.Cycle cycle) told calls made = let is = ap (λ (l : List (Call Op Reply)). weigh_ops save_call (ops_asked l)) made.2 in omega (arith, is)
 saves_most (steps.Tick ticks) told calls made = let is = ap (λ (l : List (Call Op Reply)). weigh_ops save_call (ops_asked l)) made.2 in omega (arith, is)
 saves_most (steps.Signal index value) told calls made = let is = ap (λ (l : List (Call Op Reply)). weigh_ops save_call (ops_asked l)) made.2 in omega (arith, is)
+saves_most (steps.Enable condition fulfilled) told calls made = let is = ap (λ (l : List (Call Op Reply)). weigh_ops save_call (ops_asked l)) made.2 in omega (arith, is)
 saves_most (steps.Request tester bytes) told calls made = let is = ap (λ (l : List (Call Op Reply)). weigh_ops save_call (ops_asked l)) made.2 in omega (arith, is)
 saves_most steps.Save told calls made = save_most told calls made
 saves_most (steps.Post urgent block bytes) told calls made = no_calls (steps.Post urgent block bytes) told calls made
@@ -153,6 +154,7 @@ drains_most (steps.Show event) told calls made = no_queue_calls (steps.Show even
 drains_most (steps.Cycle cycle) told calls made = no_queue_calls (steps.Cycle cycle) told calls made
 drains_most (steps.Tick ticks) told calls made = no_queue_calls (steps.Tick ticks) told calls made
 drains_most (steps.Signal index value) told calls made = no_queue_calls (steps.Signal index value) told calls made
+drains_most (steps.Enable condition fulfilled) told calls made = no_queue_calls (steps.Enable condition fulfilled) told calls made
 drains_most (steps.Request tester bytes) told calls made = no_queue_calls (steps.Request tester bytes) told calls made
 drains_most steps.Save told calls made = no_queue_calls steps.Save told calls made
 drains_most (steps.Post urgent block bytes) told calls made = let is = ap weigh_calls made.2 in omega (arith, is)

@@ -24,6 +24,7 @@ use Rattle.flt_lives.specs.Living.{IsKeptSince}
 
 acknowledged_call : (start : Life) (lane : ℕ) (earlier : Journal) (op : Op) (g : Generation) (before : Type 0) → IsStepCall op → before → AcknowledgesBy start lane earlier op g before
 acknowledged_call start lane earlier (ops.Signal index value) g before is was = was
+acknowledged_call start lane earlier (ops.Enable condition fulfilled) g before is was = was
 acknowledged_call start lane earlier (ops.Report event report) g before is was = was
 acknowledged_call start lane earlier (ops.Tick ticks) g before is was = was
 acknowledged_call start lane earlier (ops.Cycle cycle) g before is was = was
@@ -34,6 +35,7 @@ acknowledged_call start lane earlier (ops.Saved number) g before is was = absurd
 
 taken_call : (start : Life) (earlier : Journal) (op : Op) (state : Persist) (before : Type 0) → IsStepCall op → before → TakesBy start earlier op state before
 taken_call start earlier (ops.Signal index value) state before is was = was
+taken_call start earlier (ops.Enable condition fulfilled) state before is was = was
 taken_call start earlier (ops.Report event report) state before is was = was
 taken_call start earlier (ops.Tick ticks) state before is was = was
 taken_call start earlier (ops.Cycle cycle) state before is was = was
@@ -44,6 +46,7 @@ taken_call start earlier (ops.Saved number) state before is was = absurd is
 
 snapshot_call : (start : Life) (lane number : ℕ) (earlier : Journal) (op : Op) → IsStepCall op → snapshot_of start number (entry lane op ∷ earlier) ≡ snapshot_of start number earlier
 snapshot_call start lane number earlier (ops.Signal index value) is = refl
+snapshot_call start lane number earlier (ops.Enable condition fulfilled) is = refl
 snapshot_call start lane number earlier (ops.Report event report) is = refl
 snapshot_call start lane number earlier (ops.Tick ticks) is = refl
 snapshot_call start lane number earlier (ops.Cycle cycle) is = refl

@@ -36,6 +36,7 @@ saves-append (e ∷ journal) more = let rest = saves-append journal more in omeg
 
 step_call : (op : Op) → save_call op ≡ 0 → IsStepCall op
 step_call (ops.Signal index value) is = tt
+step_call (ops.Enable condition fulfilled) is = tt
 step_call (ops.Report event report) is = tt
 step_call (ops.Tick ticks) is = tt
 step_call (ops.Cycle cycle) is = tt

@@ -10,8 +10,9 @@ use Rattle.flt_config.specs.Validity.{IsValid}
 use Rattle.flt_dcm.specs.ReplyKind.{reply_with}
 use Rattle.flt_dcm.specs.declared.reply_kind.ReplyKind.{ReplyKind}
 use Rattle.flt_dcm.specs.declared.reply_kind.ReplyKind.TheVariants as kinds
+use Rattle.flt_model.specs.declared.TheConstants.{RESPONSE}
 use Rattle.flt_model.specs.Life.{Life, History}
-use Rattle.flt_model.specs.Answer.{answer, answer_report}
+use Rattle.flt_model.specs.Answer.{answer}
 use Rattle.flt_model.specs.Durable.{saved_after}
 use Rattle.flt_model.proofs.SavedFits.{saved_states_fit}
 use Rattle.flt_model.specs.declared.call.Op.{Op}
@@ -36,6 +37,7 @@ use Rattle.flt_life.specs.Draining.{calls_for_all, take_at}
 use Rattle.flt_life.specs.Parts.{IsPossibleInLane}
 use Rattle.flt_life.specs.Played.{ActionMakes, ActionQueues, StepMakes, StepQueues}
 use Rattle.flt_life.specs.declared.action.Action.TheVariants as action
+use Rattle.flt_lives.proofs.Rooms.{answer_size}
 use Rattle.flt_life.specs.declared.answer.StepAnswer.TheVariants as answers
 use Rattle.flt_lane.specs.Chain.{Chain}
 use Rattle.flt_lane.specs.Draining.{FindsNone, HasDrained}
@@ -84,29 +86,18 @@ taken_fits c start past state same valid fits is =
 
 -- ---- a response is an answer to a request alone
 
-report_size : (off started : Bool) → reply_size (answer_report off started) ≡ 0
-report_size true started = refl
-report_size false true = refl
-report_size false false = refl
-
-pub size_of_answer : (start : Life) (past : History) (op : Op) (reply : Reply) → reply ≡ answer start past op → reply_size reply ≤ 512 → reply_size reply ≤ response_size (action.Call op)
+pub size_of_answer : (start : Life) (past : History) (op : Op) (reply : Reply) → reply ≡ answer start past op → reply_size reply ≤ RESPONSE → reply_size reply ≤ response_size (action.Call op)
 size_of_answer start past (ops.Request tester bytes) reply is most = most
-size_of_answer start past (ops.Report event report) reply is most = let size = ap reply_size is ∙ report_size _ _ in omega (arith, size)
-size_of_answer start past (ops.Signal index value) reply is most = let size = ap reply_size is in omega (arith, size)
-size_of_answer start past (ops.Tick ticks) reply is most = let size = ap reply_size is in omega (arith, size)
-size_of_answer start past (ops.Cycle cycle) reply is most = let size = ap reply_size is in omega (arith, size)
-size_of_answer start past (ops.Show event) reply is most = let size = ap reply_size is in omega (arith, size)
-size_of_answer start past ops.Snapshot reply is most = let size = ap reply_size is in omega (arith, size)
-size_of_answer start past (ops.Saved number) reply is most = let size = ap reply_size is in omega (arith, size)
+size_of_answer start past op reply is most = let size = ap reply_size is ∙ answer_size start past op (λ tester. tester) in omega (arith, size)
 
-size_with : (kind : ReplyKind) (bytes : List ℕ) → length bytes ≤ 512 → reply_size (reply_with kind bytes) ≤ 512
+size_with : (kind : ReplyKind) (bytes : List ℕ) → length bytes ≤ RESPONSE → reply_size (reply_with kind bytes) ≤ RESPONSE
 size_with kinds.Taken bytes most = omega arith
 size_with (kinds.Ignored cause) bytes most = omega arith
 size_with (kinds.Shown shown) bytes most = omega arith
 size_with kinds.Response bytes most = most
 size_with kinds.Silent bytes most = omega arith
 
-pub size_of_told : (start : Life) (past : History) (op : Op) (kind : ReplyKind) (bytes : List ℕ) → reply_with kind bytes ≡ answer start past op → length bytes ≤ 512 → reply_size (reply_with kind bytes) ≤ response_size (action.Call op)
+pub size_of_told : (start : Life) (past : History) (op : Op) (kind : ReplyKind) (bytes : List ℕ) → reply_with kind bytes ≡ answer start past op → length bytes ≤ RESPONSE → reply_size (reply_with kind bytes) ≤ response_size (action.Call op)
 size_of_told start past op kind bytes is most = size_of_answer start past op (reply_with kind bytes) is (size_with kind bytes most)
 
 -- ---- calls of the queue
@@ -171,6 +162,7 @@ no_queue c (steps.Show event) told is none post ask = refl
 no_queue c (steps.Cycle cycle) told is none post ask = refl
 no_queue c (steps.Tick ticks) told is none post ask = refl
 no_queue c (steps.Signal index value) told is none post ask = refl
+no_queue c (steps.Enable condition fulfilled) told is none post ask = refl
 no_queue c (steps.Request tester bytes) told is none post ask = refl
 no_queue c steps.Save told is none post ask = absurd (true≢false none)
 no_queue c (steps.Post urgent block bytes) told is none post ask = absurd (post urgent block bytes refl)
@@ -198,6 +190,7 @@ call_step (steps.Show event) save drain get arming post ask = record { lane = re
 call_step (steps.Cycle cycle) save drain get arming post ask = record { lane = refl; no_store = refl; one = (_, refl); calls = refl; no_queue = λ told. refl; no_arms = refl }
 call_step (steps.Tick ticks) save drain get arming post ask = record { lane = refl; no_store = refl; one = (_, refl); calls = refl; no_queue = λ told. refl; no_arms = refl }
 call_step (steps.Signal index value) save drain get arming post ask = record { lane = refl; no_store = refl; one = (_, refl); calls = refl; no_queue = λ told. refl; no_arms = refl }
+call_step (steps.Enable condition fulfilled) save drain get arming post ask = record { lane = refl; no_store = refl; one = (_, refl); calls = refl; no_queue = λ told. refl; no_arms = refl }
 call_step (steps.Request tester bytes) save drain get arming post ask = record { lane = refl; no_store = refl; one = (_, refl); calls = refl; no_queue = λ told. refl; no_arms = refl }
 call_step steps.Save save drain get arming post ask = absurd (save refl)
 call_step (steps.Post urgent block bytes) save drain get arming post ask = absurd (post urgent block bytes refl)
@@ -225,6 +218,7 @@ no_store_step (steps.Show event) save drain get = refl
 no_store_step (steps.Cycle cycle) save drain get = refl
 no_store_step (steps.Tick ticks) save drain get = refl
 no_store_step (steps.Signal index value) save drain get = refl
+no_store_step (steps.Enable condition fulfilled) save drain get = refl
 no_store_step (steps.Request tester bytes) save drain get = refl
 no_store_step steps.Save save drain get = absurd (save refl)
 no_store_step (steps.Post urgent block bytes) save drain get = refl
@@ -240,6 +234,7 @@ no_arms (steps.Show event) arming = refl
 no_arms (steps.Cycle cycle) arming = refl
 no_arms (steps.Tick ticks) arming = refl
 no_arms (steps.Signal index value) arming = refl
+no_arms (steps.Enable condition fulfilled) arming = refl
 no_arms (steps.Request tester bytes) arming = refl
 no_arms steps.Save arming = refl
 no_arms (steps.Post urgent block bytes) arming = refl

@@ -40,6 +40,7 @@ module _ {B : Type 0} {b : Ghosts B} where
   leaves_step (steps.Cycle cycle) store now is goes given armed = record { goes_on = goes; given = given; armed = omega (arith, armed) }
   leaves_step (steps.Tick ticks) store now is goes given armed = record { goes_on = goes; given = given; armed = omega (arith, armed) }
   leaves_step (steps.Signal index value) store now is goes given armed = record { goes_on = goes; given = given; armed = omega (arith, armed) }
+  leaves_step (steps.Enable condition fulfilled) store now is goes given armed = record { goes_on = goes; given = given; armed = omega (arith, armed) }
   leaves_step (steps.Request tester bytes) store now is goes given armed = record { goes_on = goes; given = given; armed = omega (arith, armed) }
   leaves_step steps.Save store now is goes given armed = record { goes_on = goes; given = given; armed = omega (arith, armed) }
   leaves_step (steps.Post urgent block bytes) store now is goes given armed = record { goes_on = goes; given = given; armed = omega (arith, armed) }
@@ -55,6 +56,7 @@ no_arm (steps.Show event) is = refl
 no_arm (steps.Cycle cycle) is = refl
 no_arm (steps.Tick ticks) is = refl
 no_arm (steps.Signal index value) is = refl
+no_arm (steps.Enable condition fulfilled) is = refl
 no_arm (steps.Request tester bytes) is = refl
 no_arm steps.Save is = refl
 no_arm (steps.Post urgent block bytes) is = refl

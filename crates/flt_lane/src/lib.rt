@@ -7,9 +7,9 @@
 //! `specs/Block.antt`; `specs/Chain.antt` and `Lived.antt` are stated over any machine.
 #![tactic(auto)]
 
-mod bench;
 mod beside;
 mod block;
+mod device;
 mod drain;
 mod engine;
 mod gate;
@@ -20,7 +20,7 @@ mod locks;
 mod room;
 mod step;
 
-pub use bench::run_in_lanes;
+pub use device::run_in_lanes;
 pub use engine::LockEngine;
 pub use gate::{Gate, OpenGate, SharedGate};
 pub use lane::{LaneWork, run_block};

@@ -6,3 +6,4 @@ pub mod Mixings
 pub mod EachPossible
 pub mod Sizes
 pub mod Rising
+pub mod Older

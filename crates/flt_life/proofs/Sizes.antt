@@ -4,6 +4,7 @@ use Rattle.std.specs.Prelude.{sum_by}
 use Rattle.std.proofs.lemmas.List.{append-nil, append_assoc, length-append, map_more, map-append, take-map, take-append-drop}
 use Rattle.std.proofs.lemmas.List.Sums.{sum_by-cons, sum_by_push, sum_by-take-le}
 use Rattle.std.proofs.lemmas.List.Elements.{All-nil, All-cons, All-weaker}
+use Rattle.flt_model.specs.declared.TheConstants.{RESPONSE}
 use Rattle.flt_model.specs.declared.call.Op.TheVariants as ops
 use Rattle.flt_script.specs.declared.step.Step.{Step}
 use Rattle.flt_script.specs.declared.step.Part.{Part}
@@ -16,8 +17,9 @@ use Rattle.flt_life.specs.Parts.{own_steps, lanes_in, steps_in, width, widths}
 use Rattle.flt_life.specs.Room.{sizes_of}
 use Rattle.flt_life.proofs.Makings.{widths_more}
 
-pub response_most : (action : Action) → response_size action ≤ 512
+pub response_most : (action : Action) → response_size action ≤ RESPONSE
 response_most (Call (ops.Signal index value)) = omega arith
+response_most (Call (ops.Enable condition fulfilled)) = omega arith
 response_most (Call (ops.Report event report)) = omega arith
 response_most (Call (ops.Tick ticks)) = omega arith
 response_most (Call (ops.Cycle cycle)) = omega arith
@@ -36,7 +38,7 @@ response_most (Arm arm) = omega arith
 pub sizes-cons : (step : Step) (steps : List Step) → sizes_of (step ∷ steps) ≡ response_size (action_of step) + sizes_of steps
 sizes-cons step steps = sum_by-cons response_size (action_of step) (map action_of steps)
 
-pub sizes_most : (steps : List Step) → sizes_of steps ≤ length steps * 512
+pub sizes_most : (steps : List Step) → sizes_of steps ≤ length steps * RESPONSE
 sizes_most [] = omega arith
 sizes_most (step ∷ steps) =
     let rest = sizes_most steps in

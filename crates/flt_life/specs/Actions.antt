@@ -3,6 +3,7 @@ use Rattle.std.specs.Prelude.{ℕ, ◌<◌, List, [], ◌∷◌, ◌++◌}
 use Rattle.flt_flash.specs.State.{CanArm}
 use Rattle.flt_flash.specs.declared.arm.Arm.{Arm as Arming}
 use Rattle.flt_config.specs.declared.config.Config.{Config}
+use Rattle.flt_model.specs.declared.TheConstants.{RESPONSE}
 use Rattle.flt_model.specs.declared.call.Op.{Op}
 use Rattle.flt_model.specs.declared.call.Op.TheVariants as ops
 use Rattle.flt_dcm.specs.Unit.{IsAdmitted}
@@ -21,6 +22,7 @@ action_of (steps.Show event) = Call (ops.Show event)
 action_of (steps.Cycle cycle) = Call (ops.Cycle cycle)
 action_of (steps.Tick ticks) = Call (ops.Tick ticks)
 action_of (steps.Signal index value) = Call (ops.Signal index value)
+action_of (steps.Enable condition fulfilled) = Call (ops.Enable condition fulfilled)
 action_of (steps.Request tester bytes) = Call (ops.Request tester bytes)
 action_of steps.Save = Save
 action_of (steps.Post urgent block bytes) = Queue (queue.Post urgent (record { block = block; bytes = bytes }))
@@ -85,5 +87,5 @@ queue_count _ = 0
 
 -- The bytes of the longest response to a step: a request has one.
 abbrev pub response_size : Action → ℕ
-response_size (Call (ops.Request tester bytes)) = 512
+response_size (Call (ops.Request tester bytes)) = RESPONSE
 response_size _ = 0

@@ -56,6 +56,13 @@ pub fn action_of(step: &Step) -> Action
             index: *index,
             value: *value,
         }),
+        Step::Enable {
+            condition,
+            fulfilled,
+        } => Action::Call(Op::Enable {
+            condition: *condition,
+            fulfilled: *fulfilled,
+        }),
         Step::Request { tester, bytes } => Action::Call(Op::Request {
             tester: *tester,
             bytes: copy_of(bytes),
@@ -89,6 +96,7 @@ pub fn call_count(step: &Step) -> usize
         | Step::Cycle { .. }
         | Step::Tick { .. }
         | Step::Signal { .. }
+        | Step::Enable { .. }
         | Step::Request { .. } => 1,
         Step::Save => 2,
         Step::Post { .. } | Step::Drain | Step::Get { .. } | Step::Ask { .. } | Step::Arming(_) =>

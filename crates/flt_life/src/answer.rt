@@ -16,7 +16,7 @@ pub enum KeptReply {
     Ignored(Cause),
     /// What is shown of the event.
     Shown(Shown),
-    /// The response to a tester, 1 to 512 bytes, from this one on.
+    /// The response to a tester, 1 to 1,040 bytes, from this one on.
     Response { from: usize, length: usize },
     /// The request suppressed its positive response.
     Silent,

@@ -1,5 +1,5 @@
 //! What the chain of lives comes to.
-ghost use Rattle.flt_life.specs.Laws.{SoundRunsStaySound};
+ghost use Rattle.flt_life.specs.Laws.{AcknowledgedIsNeverLost, SoundRunsStaySound};
 ghost use Rattle.flt_life.specs.Statuses.{EachStatusHasCause};
 
 /// Where the first image of a run is sound, each image is, also at the end, and no life is refused as damaged or of another
@@ -11,4 +11,10 @@ pub fn sound_runs_stay_sound()
 /// The status of a run, which follows from how its last life began, has its cause.
 pub fn statuses_have_causes()
     ensures { EachStatusHasCause }
+{}
+
+/// Where the first image of a run is sound, each life that is started begins with a generation no older than the one that was acknowledged
+/// last in all lives before it.
+pub fn acknowledged_is_never_lost()
+    ensures { AcknowledgedIsNeverLost }
 {}

@@ -31,6 +31,7 @@ fn is_possible_step(config: &Config, step: &Step) -> bool
         Step::Cycle { cycle } => *cycle < 4,
         Step::Tick { .. } => true,
         Step::Signal { index, .. } => *index < 8,
+        Step::Enable { condition, .. } => *condition < 8,
         Step::Request { tester, bytes } => *tester < 4 && 0 < bytes.len(),
         Step::Save => true,
         Step::Post { block, bytes, .. } => *block < config.blocks && 0 < bytes.len(),

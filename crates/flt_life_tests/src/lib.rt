@@ -1,6 +1,7 @@
-//! Tests of which parts are possible, of what a life keeps of its answers, and of the room that it takes for its calls.
+//! Tests of which parts are possible, of what a life keeps of its answers, of the room that it takes for its calls, and of the lines of
+//! the report.
 //!
-//! It stands on `flt_lives` and has nothing for the crates above.
+//! It stands on `flt_lives` and `flt_report` and has nothing for the crates above.
 #![tactic(auto)]
 
 #[cfg(test)]

@@ -1,4 +1,5 @@
-// Answers, possible parts, and room for calls.
+// Answers, possible parts, room for calls, and the lines of the report.
 mod answers;
+mod lines;
 mod possible;
 mod room;

@@ -59,6 +59,7 @@ answer_added (steps.Show event) told deeds = deed_none deeds
 answer_added (steps.Cycle cycle) told deeds = deed_none deeds
 answer_added (steps.Tick ticks) told deeds = deed_none deeds
 answer_added (steps.Signal index value) told deeds = deed_none deeds
+answer_added (steps.Enable condition fulfilled) told deeds = deed_none deeds
 answer_added (steps.Request tester bytes) told deeds = deed_none deeds
 answer_added steps.Save told deeds = deed_added steps.Save told deeds
 answer_added (steps.Post urgent block bytes) told deeds = deed_none deeds
@@ -128,6 +129,7 @@ module _ (first : ℕ → Content) (queue : History) where
   gets_none earlier (steps.Cycle cycle) told plain = tt
   gets_none earlier (steps.Tick ticks) told plain = tt
   gets_none earlier (steps.Signal index value) told plain = tt
+  gets_none earlier (steps.Enable condition fulfilled) told plain = tt
   gets_none earlier (steps.Request tester bytes) told plain = tt
   gets_none earlier steps.Save told plain = tt
   gets_none earlier (steps.Post urgent block bytes) told plain = tt
@@ -178,6 +180,7 @@ module _ (c : Config) (valid : IsValid c) (before after : ℕ → Content) (same
   gets_before earlier (steps.Cycle cycle) told possible gets = tt
   gets_before earlier (steps.Tick ticks) told possible gets = tt
   gets_before earlier (steps.Signal index value) told possible gets = tt
+  gets_before earlier (steps.Enable condition fulfilled) told possible gets = tt
   gets_before earlier (steps.Request tester bytes) told possible gets = tt
   gets_before earlier steps.Save told possible gets = tt
   gets_before earlier (steps.Post urgent block bytes) told possible gets = tt

@@ -21,6 +21,7 @@ use Rattle.flt_lives.specs.Living.{IsKeptSince}
 
 acknowledged_call : (start : Life) (earlier : Journal) (op : Op) (g : Generation) (before : Type 0) → IsStepCall op → before → AcknowledgesBy start 0 earlier op g before
 acknowledged_call start earlier (ops.Signal index value) g before is was = was
+acknowledged_call start earlier (ops.Enable condition fulfilled) g before is was = was
 acknowledged_call start earlier (ops.Report event report) g before is was = was
 acknowledged_call start earlier (ops.Tick ticks) g before is was = was
 acknowledged_call start earlier (ops.Cycle cycle) g before is was = was
@@ -31,6 +32,7 @@ acknowledged_call start earlier (ops.Saved number) g before is was = absurd is
 
 taken_call : (start : Life) (earlier : Journal) (op : Op) (state : Persist) (before : Type 0) → IsStepCall op → before → TakesBy start earlier op state before
 taken_call start earlier (ops.Signal index value) state before is was = was
+taken_call start earlier (ops.Enable condition fulfilled) state before is was = was
 taken_call start earlier (ops.Report event report) state before is was = was
 taken_call start earlier (ops.Tick ticks) state before is was = was
 taken_call start earlier (ops.Cycle cycle) state before is was = was

@@ -5,4 +5,5 @@ pub mod Dark
 pub mod Going
 pub mod Living
 pub mod Linked
-pub mod Sectors
+pub mod Media
+pub mod Devices

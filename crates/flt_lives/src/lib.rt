@@ -2,15 +2,17 @@
 //! lock; the engine of lanes under the lock stands above.
 //!
 //! It stands on `flt_store` for the image, on `flt_dcm` for the machine, and on `flt_life`, whose definitions its clauses cite.
-//! The layer above calls `run_on_bench`, over any bench; `run_lives` and `run_life` are the same over any driver of blocks. Memory
-//! is taken before the first step of a life, and in none of its steps. Read `Played`, `Chain` and `Lives` of `flt_life` first.
+//! The layer above calls `run_on_device` with a `Driver`, over a flash or over an EEPROM; `run_lives` and `run_life` are the same over any
+//! driver of blocks. Memory is taken before the first step of a life, and in none of its steps. Read `Played`, `Chain` and `Lives` of
+//! `flt_life` first, then `specs/Devices.antt`.
 #![tactic(auto)]
 
 mod account;
 mod accounting;
-mod bench;
 mod buffers;
 mod dark;
+mod device;
+mod driver;
 mod engine;
 mod lives;
 mod living;
@@ -18,8 +20,9 @@ mod plain;
 mod step;
 
 pub use accounting::CallRoom;
-pub use bench::{Run, run_alone, run_on_bench};
 pub use buffers::Buffers;
+pub use device::{Run, run_alone, run_on_device};
+pub use driver::Driver;
 pub use engine::{Engine, Lived};
 pub use lives::run_lives;
 pub use living::run_life;

@@ -26,7 +26,7 @@ use flt_config::ValidConfig;
 use flt_dcm::{ReplyKind, Unit};
 use flt_flash::Blocks;
 use flt_life::{Action, Answer, Entry, StepAnswer};
-use flt_model::Op;
+use flt_model::{Op, RESPONSE};
 use flt_store::Store;
 
 // Makes a call of the machine that is neither a snapshot nor a save.
@@ -133,7 +133,7 @@ pub(crate) fn make_step<D: Blocks + Drop>(
     ensures carried { (first : Generation) → Stands (start_from config.now first.state) (calls_of (reverse journal.old.items)) (state_of unit.old)
         → IsCarriedOut (start_from config.now first.state) (reverse journal.old.items) action (reverse journal.new.items)
         (told_with buffers.new.response.items result) }
-    ensures size { length buffers.new.response.items ≤ 512 → response_length result buffers.new.response.items ≤ response_size action }
+    ensures size { length buffers.new.response.items ≤ RESPONSE → response_length result buffers.new.response.items ≤ response_size action }
     ensures calls { vec_len journal.new ≤ vec_len journal.old + call_count action }
     ensures room { vec_capacity journal.new ≡ vec_capacity journal.old }
     ensures applications { SameApplications (driver_of store.old).value (driver_of store.new).value }

@@ -150,6 +150,7 @@ pub clear_is_about_its_event : ClearIsAboutItsEvent
 clear_is_about_its_event life past (ops.Request tester bytes) event distinct within not_all e other within_other ne =
     ap (happening_of_clear life other) e ∙ unreached life other (event_of life event).dtc not_all (other_dtc life event other distinct within within_other ne)
 clear_is_about_its_event life past (ops.Signal index value) event distinct within not_all e other within_other ne = absurd (cc)
+clear_is_about_its_event life past (ops.Enable condition fulfilled) event distinct within not_all e other within_other ne = absurd (cc)
 clear_is_about_its_event life past (ops.Report of report) event distinct within not_all e other within_other ne = absurd (cc)
 clear_is_about_its_event life past (ops.Tick ticks) event distinct within not_all e other within_other ne = absurd (cc)
 clear_is_about_its_event life past (ops.Cycle cycle) event distinct within not_all e other within_other ne = absurd (cc)

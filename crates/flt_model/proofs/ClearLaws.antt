@@ -262,6 +262,7 @@ map_below-replicate f state (suc n) each =
 clear_part : (life : Life) (past : History) (op : Op) (event : ℕ) (marks : Trace) → cleared_dtc op ≡ Some all_dtcs → event_part life past op event marks ≡ Of event Clear (signals past) ∷ marks
 clear_part life past (ops.Request from bytes) event marks e = rw e refl
 clear_part life past (ops.Signal index value) event marks e = absurd (cc)
+clear_part life past (ops.Enable condition fulfilled) event marks e = absurd (cc)
 clear_part life past (ops.Report of report) event marks e = absurd (cc)
 clear_part life past (ops.Tick ticks) event marks e = absurd (cc)
 clear_part life past (ops.Cycle cycle) event marks e = absurd (cc)

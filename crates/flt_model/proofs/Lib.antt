@@ -8,7 +8,9 @@ pub mod RangeLaws
 pub mod RankLemmas
 pub mod WorstLemmas
 pub mod EntryLemmas
+pub mod KeptByCalls
 pub mod RoomLaws
+pub mod OrderLaws
 pub mod AloneLaws
 pub mod ClearLaws
 pub mod EventFits
@@ -18,4 +20,6 @@ pub mod SavedFits
 pub mod RecentLaws
 pub mod FirstLaws
 pub mod SessionLaws
+pub mod EnableLaws
+pub mod ConditionLaws
 pub mod TickLaws

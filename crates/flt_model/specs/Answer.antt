@@ -5,8 +5,8 @@ use Rattle.flt_config.specs.declared.persist.EntryState.{EntryState}
 use Rattle.flt_model.specs.Life.{Life, History, count, event_of}
 use Rattle.flt_model.specs.Mark.{Trace}
 use Rattle.flt_model.specs.Debounce.{debounced, detection_counter}
-use Rattle.flt_model.specs.Happening.{happenings, is_started}
-use Rattle.flt_model.specs.Session.{is_extended, is_setting_off}
+use Rattle.flt_model.specs.Happening.{Readiness, readiness, cause_of, happenings}
+use Rattle.flt_model.specs.Session.{is_extended}
 use Rattle.flt_model.specs.Entry.{has_entry, entry_of, overflow}
 use Rattle.flt_model.specs.Trace.{trace}
 use Rattle.flt_model.specs.Durable.{below, state_at, saved}
@@ -16,7 +16,7 @@ use Rattle.flt_model.specs.declared.call.Op.TheVariants as ops
 use Rattle.flt_model.specs.declared.call.Shown.{Shown}
 use Rattle.flt_model.specs.declared.call.Reply.{Reply}
 use Rattle.flt_model.specs.declared.call.Reply.TheVariants as replies
-use Rattle.flt_model.specs.declared.call.Cause.TheVariants.{SettingOff, NotStarted}
+use Rattle.flt_model.specs.declared.call.Cause.{Cause}
 
 -- ---- what is seen of the events
 
@@ -63,15 +63,18 @@ shown event overflow = record {
 
 -- ---- the answer
 
--- A report is ignored while the setting is off, and else while the cycle of its event was not started.
-abbrev pub answer_report : Bool → Bool → Reply
-answer_report true started = replies.Ignored SettingOff
-answer_report false true = replies.Taken
-answer_report false false = replies.Ignored NotStarted
+-- A report is ignored for a cause, and else taken.
+abbrev pub report_reply : Option Cause → Reply
+report_reply None = replies.Taken
+report_reply (Some cause) = replies.Ignored cause
+
+-- The answer to a report, by what is seen of its event before it.
+abbrev pub answer_report : Readiness → Reply
+answer_report seen = report_reply (cause_of seen)
 
 -- The answer to a call, in view of what the life began with and the calls before it.
 abbrev pub answer : Life → History → Op → Reply
-answer life past (ops.Report event report) = answer_report (is_setting_off past) (is_started (event_of life event).cycle past)
+answer life past (ops.Report event report) = answer_report (readiness life event past)
 answer life past (ops.Show event) = replies.Shown (shown (event_view life past (trace life past) event) (overflow life (trace life past)))
 answer life past (ops.Request tester bytes) = response (view life past (trace life past)) (is_extended tester past) bytes.items
 answer life past _ = replies.Taken

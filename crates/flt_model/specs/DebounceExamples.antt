@@ -2,7 +2,7 @@
 use Rattle.std.specs.Prelude.{true, false, [], ◌∷◌, map, pos, negsuc, None, Some}
 use Rattle.flt_config.specs.declared.config.Debounce.TheVariants as kinds
 use Rattle.flt_model.specs.Life.{fresh}
-use Rattle.flt_model.specs.declared.call.Op.TheVariants.{Tick, Cycle, Show}
+use Rattle.flt_model.specs.declared.call.Op.TheVariants.{Tick, Cycle, Enable, Show}
 use Rattle.flt_model.specs.declared.call.Reply.TheVariants.{Taken}
 use Rattle.flt_model.specs.Example.{event, configured, ◌⇒◌, Replays, fail, pass, prefail, prepass, asks, responds, minus, shows, extended}
 
@@ -160,4 +160,63 @@ SilentTicksDoNotCount =
     ∷ Show 0 ⇒ shows 0x50 (pos 114) 0 0 0 false
     ∷ Tick 1 ⇒ Taken
     ∷ Show 0 ⇒ shows 0x2F (pos 127) 1 0 1 false
+    ∷ [])
+
+-- A timer stands still while a condition that its event needs is not fulfilled, and then goes on where it stood.
+abbrev pub DisabledTimerStandsStill : Type 0
+DisabledTimerStandsStill =
+    Replays (fresh (configured 16 (record (event 0x000001) { debounce = kinds.Time 10 5; needs = 4 } ∷ [])))
+    (Cycle 0 ⇒ Taken
+    ∷ prefail 0 ⇒ Taken
+    ∷ Tick 6 ⇒ Taken
+    ∷ Enable 2 false ⇒ Taken
+    ∷ Tick 50 ⇒ Taken
+    ∷ Show 0 ⇒ shows 0x50 (pos 76) 0 0 0 false
+    ∷ Enable 2 true ⇒ Taken
+    ∷ Tick 4 ⇒ Taken
+    ∷ Show 0 ⇒ shows 0x2F (pos 127) 1 0 1 false
+    ∷ [])
+
+-- A report that leaves a counter or a timer at its threshold qualifies each time: an event that was displaced is confirmed anew, and
+-- gets no entry, since its testFailed did not change.
+abbrev pub RepeatedFailureQualifies : Type 0
+RepeatedFailureQualifies =
+    Replays (fresh (configured 1 (record (event 0x000001) { priority = 5 }
+    ∷ record (event 0x000002) { priority = 4; debounce = kinds.Time 10 5 } ∷ event 0x000003 ∷ [])))
+    (Cycle 0 ⇒ Taken
+    ∷ fail 0 ⇒ Taken
+    ∷ fail 1 ⇒ Taken
+    ∷ Show 0 ⇒ shows 0x27 (pos 127) 1 0 0 true
+    ∷ fail 0 ⇒ Taken
+    ∷ Show 0 ⇒ shows 0x2F (pos 127) 1 0 0 true
+    ∷ fail 2 ⇒ Taken
+    ∷ Show 1 ⇒ shows 0x27 (pos 127) 1 0 0 true
+    ∷ fail 1 ⇒ Taken
+    ∷ Show 1 ⇒ shows 0x2F (pos 127) 1 0 0 true
+    ∷ [])
+
+-- The fault detection counters that are listed go from 1 to 126.
+abbrev pub EndsOfTheCounterList : Type 0
+EndsOfTheCounterList =
+    Replays (fresh (configured 16 (record (event 0x000001) { debounce = kinds.Counter (pos 127) (negsuc 0) (pos 1) (pos 1) None None }
+    ∷ record (event 0x000002) { debounce = kinds.Counter (pos 127) (negsuc 0) (pos 1) (pos 1) (Some (pos 125)) None } ∷ [])))
+    (Cycle 0 ⇒ Taken
+    ∷ prefail 0 ⇒ Taken
+    ∷ prefail 1 ⇒ Taken
+    ∷ asks 0 (0x19 ∷ 0x14 ∷ []) ⇒ responds (0x59 ∷ 0x14 ∷ 0x00 ∷ 0x00 ∷ 0x01 ∷ 0x01 ∷ 0x00 ∷ 0x00 ∷ 0x02 ∷ 0x7E ∷ [])
+    ∷ [])
+
+-- A timer that a definite report brought to its threshold stays there under tending reports of that direction.
+abbrev pub TimerStaysAtItsThreshold : Type 0
+TimerStaysAtItsThreshold =
+    Replays (fresh (configured 16 (record (event 0x000001) { debounce = kinds.Time 10 5 } ∷ [])))
+    (Cycle 0 ⇒ Taken
+    ∷ fail 0 ⇒ Taken
+    ∷ prefail 0 ⇒ Taken
+    ∷ Tick 1 ⇒ Taken
+    ∷ Show 0 ⇒ shows 0x2F (pos 127) 1 0 1 false
+    ∷ pass 0 ⇒ Taken
+    ∷ prepass 0 ⇒ Taken
+    ∷ Tick 1 ⇒ Taken
+    ∷ Show 0 ⇒ shows 0x2E (minus 128) 1 0 1 false
     ∷ [])

@@ -24,6 +24,7 @@ event dtc = record {
   heal = 3;
   age = 40;
   indicator = false;
+  needs = 0;
   debounce = kinds.Counter (pos 1) (negsuc 0) (pos 1) (pos 1) None None;
   dids = record { items = [] };
 }

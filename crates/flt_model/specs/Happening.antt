@@ -1,12 +1,16 @@
--- What the calls mean for each event: started cycles, signals, and what happened to the event (AUTOSAR Dem, in outline).
-use Rattle.std.specs.Prelude.{ℕ, ◌==◌, Bool, true, false, not, ◌&&◌, ◌||◌, if◌then◌else◌, List, [], ◌∷◌, Option, Some, None, Result, Ok, Err}
+-- What the calls mean for each event: started cycles, signals, enable conditions, and what happened to the event (AUTOSAR Dem, in outline).
+use Rattle.std.specs.Prelude.{ℕ, ◌==◌, Bool, true, false, not, ◌&&◌, ◌||◌, if◌then◌else◌, List, [], ◌∷◌, slice_index_or, Option, Some, None, is_none, Result, Ok, Err}
+use Rattle.std.specs.List.{list_all}
 use Rattle.flt_model.specs.Life.{Life, History, event_of}
 use Rattle.flt_model.specs.Mark.{decided}
+use Rattle.flt_model.specs.Byte.{is_bit_set}
 use Rattle.flt_model.specs.Debounce.{Happening, Happenings, Reported, Ticked, Ended, Cleared}
 use Rattle.flt_model.specs.Request.{asked}
 use Rattle.flt_model.specs.Session.{is_setting_off}
 use Rattle.flt_model.specs.declared.call.Op.{Op}
 use Rattle.flt_model.specs.declared.call.Op.TheVariants as ops
+use Rattle.flt_model.specs.declared.call.Cause.{Cause}
+use Rattle.flt_model.specs.declared.call.Cause.TheVariants.{SettingOff, NotStarted, NotEnabled}
 use Rattle.flt_model.specs.declared.request.Request.{Request}
 use Rattle.flt_model.specs.declared.request.Request.TheVariants.{Clear}
 use Rattle.flt_model.specs.declared.request.Asked.{Asked}
@@ -39,6 +43,31 @@ abbrev pub signals : History → List ℕ
 signals past =
     signal 0 past ∷ signal 1 past ∷ signal 2 past ∷ signal 3 past
     ∷ signal 4 past ∷ signal 5 past ∷ signal 6 past ∷ signal 7 past ∷ []
+
+-- ---- enable conditions
+
+-- An enable condition is fulfilled or not as the last call on it says.
+abbrev pub fulfilled_row : ℕ → History → Op → Option Bool
+fulfilled_row condition past (ops.Enable other fulfilled) = if other == condition then Some fulfilled else None
+fulfilled_row condition past _ = None
+
+-- A condition is fulfilled, as each is at power-up.
+abbrev pub is_fulfilled : ℕ → History → Bool
+is_fulfilled condition past = decided (fulfilled_row condition) true past
+
+-- Which of the eight conditions are fulfilled.
+abbrev pub conditions : History → List Bool
+conditions past =
+    is_fulfilled 0 past ∷ is_fulfilled 1 past ∷ is_fulfilled 2 past ∷ is_fulfilled 3 past
+    ∷ is_fulfilled 4 past ∷ is_fulfilled 5 past ∷ is_fulfilled 6 past ∷ is_fulfilled 7 past ∷ []
+
+-- Each condition is fulfilled whose bit is set in the byte.
+abbrev pub are_met : ℕ → List Bool → Bool
+are_met needs fulfilled = list_all (λ c. not (is_bit_set needs c) || slice_index_or fulfilled c true) (0 ∷ 1 ∷ 2 ∷ 3 ∷ 4 ∷ 5 ∷ 6 ∷ 7 ∷ [])
+
+-- An event is enabled while every condition that it needs is fulfilled.
+abbrev pub is_enabled : Life → ℕ → History → Bool
+is_enabled life event past = are_met (event_of life event).needs (conditions past)
 
 -- ---- clears
 
@@ -77,9 +106,38 @@ happening_of_clear life event (Some dtc) = cleared_where (reaches life event dtc
 
 -- ---- what happened to an event
 
--- A report counts with the setting on, in a started cycle.
+-- What is seen of an event before a report on it.
+pub record Readiness : Type 0 where
+  -- The DTC setting is on.
+  pub setting : Bool
+  -- The event's operation cycle was started since power-up.
+  pub started : Bool
+  -- Every enable condition that the event needs is fulfilled.
+  pub enabled : Bool
+
+-- What is seen of an event after a past.
+abbrev pub readiness : Life → ℕ → History → Readiness
+readiness life event past = record {
+  setting = not (is_setting_off past);
+  started = is_started (event_of life event).cycle past;
+  enabled = is_enabled life event past;
+}
+
+-- A report is ignored while the setting is off, else while the cycle of its event was not started, and else while its event is not enabled.
+abbrev pub cause_of : Readiness → Option Cause
+cause_of seen =
+    if not seen.setting then Some SettingOff
+    else if not seen.started then Some NotStarted
+    else if not seen.enabled then Some NotEnabled
+    else None
+
+-- A report counts where there is no cause to ignore it.
 abbrev pub counts_report : Life → ℕ → History → Bool
-counts_report life event past = not (is_setting_off past) && is_started (event_of life event).cycle past
+counts_report life event past = is_none (cause_of (readiness life event past))
+
+-- Ticks count with the setting on, for an event that is enabled.
+abbrev pub counts_ticks : Life → ℕ → History → Bool
+counts_ticks life event past = not (is_setting_off past) && is_enabled life event past
 
 -- A report on the event itself.
 abbrev pub own_report : Life → ℕ → History → Bool → Option Bool
@@ -96,7 +154,7 @@ reported_where None report = None
 abbrev pub happening_of : Life → ℕ → History → Op → Option Happening
 happening_of life event past (ops.Report other report) =
     reported_where (own_report life event past (other == event)) (Reported report)
-happening_of life event past (ops.Tick ticks) = if is_setting_off past then None else Some (Ticked ticks)
+happening_of life event past (ops.Tick ticks) = if counts_ticks life event past then Some (Ticked ticks) else None
 happening_of life event past (ops.Cycle cycle) = if cycle == (event_of life event).cycle then Some Ended else None
 happening_of life event past (ops.Request tester bytes) = happening_of_clear life event (cleared_dtc (ops.Request tester bytes))
 happening_of life event past _ = None

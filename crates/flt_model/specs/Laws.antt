@@ -1,10 +1,11 @@
 -- What holds of the entries and of the saved state after every list of calls.
-use Rattle.std.specs.Prelude.{◌≡◌, ℕ, ◌<◌, ◌⊎◌, slice_index, ◌≤◌, false, List, [], ◌∷◌, length, Some}
+use Rattle.std.specs.Prelude.{◌≡◌, ℕ, ◌<◌, ◌⊎◌, ◌↔◌, slice_index, ◌≤◌, ◌==◌, Bool, true, false, if◌then◌else◌, IsTrue, List, [], ◌∷◌, length, map, AllPairs, Option, Some, None}
 use Rattle.flt_config.specs.Validity.{IsValid}
 use Rattle.flt_config.specs.Durable.{Fits}
 use Rattle.flt_model.specs.Life.{Life, History}
-use Rattle.flt_model.specs.Mark.{Trace}
-use Rattle.flt_model.specs.Entry.{has_entry, holders, is_among, worst, IsWorse}
+use Rattle.flt_model.specs.Mark.{decided, Traced, Trace, Of}
+use Rattle.flt_model.specs.Mark.Mark.{Added}
+use Rattle.flt_model.specs.Entry.{has_entry, holders, is_among, worst, is_worse, IsWorse, gives_way}
 use Rattle.flt_model.specs.declared.status.Rank.{Rank}
 use Rattle.flt_model.specs.Trace.{trace}
 use Rattle.flt_model.specs.Durable.{saved_after}
@@ -13,6 +14,8 @@ use Rattle.flt_model.specs.Durable.{saved_after}
 abbrev pub HoldersHaveEntries : Type 0
 HoldersHaveEntries = (life : Life) (trace : Trace) (event : ℕ) →
     is_among event (holders life trace) ≡ has_entry life event trace
+
+-- ---- which entry gives way
 
 -- An entry is worse than another by its rank, or of the same rank and older.
 abbrev pub IsWorseEntry : (ℕ → Rank) → List ℕ → ℕ → ℕ → Type 0
@@ -24,6 +27,46 @@ IsWorseEntry rank events i j =
 abbrev pub WorstIsUnique : Type 0
 WorstIsUnique = (rank : ℕ → Rank) (events : List ℕ) (place : ℕ) → place < length events →
     ((k : ℕ) → k < length events → ¬ IsWorseEntry rank events k place) → worst rank events ≡ Some (slice_index events place)
+
+-- An event of this priority number takes the place of an entry of this rank.
+abbrev pub GivesWay : Rank → ℕ → Type 0
+GivesWay rank priority = (priority < rank.priority) ⊎ ((priority ≡ rank.priority) × IsTrue rank.passive)
+
+-- A rank is worse than another exactly where its number is greater, or equal and it alone is passive; and it gives way to an event exactly
+-- where the event's number is smaller, or equal and it is passive.
+pub record AreCompared (rank other : Rank) (priority : ℕ) : Type 0 where
+  pub worse : (is_worse rank other ≡ true) ↔ IsWorse rank other
+  pub gives_way : (gives_way rank priority ≡ true) ↔ GivesWay rank priority
+
+abbrev pub RanksAreCompared : Type 0
+RanksAreCompared = (rank other : Rank) (priority : ℕ) → AreCompared rank other priority
+
+-- ---- in which order the entries stand
+
+-- Of two events the one that is added goes behind the other.
+abbrev pub behind_row : ℕ → ℕ → Trace → Traced → Option Bool
+behind_row first second trace (Of event Added signals) =
+    if event == second then Some true else if event == first then Some false else None
+behind_row first second trace _ = None
+
+-- The second of two events stands behind the first in a list.
+abbrev pub is_behind : ℕ → ℕ → List ℕ → Bool
+is_behind first second [] = false
+is_behind first second (event ∷ events) = if event == first then is_among second events else is_behind first second events
+
+-- The second event was added after the first, or stood behind it at power-up where neither was added since.
+abbrev pub was_added_later : Life → Trace → ℕ → ℕ → Bool
+was_added_later life trace first second =
+    decided (behind_row first second) (is_behind first second (map (λ entry. entry.event) life.base.entries.items)) trace
+
+-- The entries stand in the order in which they were added last.
+abbrev pub AreInOrder : Life → Trace → Type 0
+AreInOrder life trace = AllPairs (λ first second. was_added_later life trace first second ≡ true) (holders life trace)
+
+abbrev pub EntriesStandAsAdded : Type 0
+EntriesStandAsAdded = (life : Life) (past : History) → Fits life.config life.base → AreInOrder life (trace life past)
+
+-- ---- how many they are
 
 -- Each event once.
 abbrev pub Distinct : List ℕ → Type 0

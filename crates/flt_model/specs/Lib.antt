@@ -24,5 +24,6 @@ pub mod DebounceLaws
 pub mod CodeLaws
 pub mod CallLaws
 pub mod SessionLaws
+pub mod EnableLaws
 pub mod NoteLaws
 pub mod Laws

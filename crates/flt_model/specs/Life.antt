@@ -30,6 +30,7 @@ no_event = record {
   heal = 0;
   age = 0;
   indicator = false;
+  needs = 0;
   debounce = Counter (pos 1) (negsuc 0) (pos 1) (pos 1) None None;
   dids = record { items = [] };
 }

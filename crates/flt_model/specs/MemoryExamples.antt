@@ -1,7 +1,8 @@
 -- Worked examples of entries, frames and noted events.
-use Rattle.std.specs.Prelude.{◌≡◌, ℕ, ◌+◌, ◌++◌, map, reverse, replicate, true, false, List, [], ◌∷◌, pos}
+use Rattle.std.specs.Prelude.{◌≡◌, ℕ, ◌+◌, ◌++◌, map, reverse, replicate, true, false, List, [], ◌∷◌, pos, Some}
 use Rattle.flt_config.specs.declared.config.EventCfg.{EventCfg}
 use Rattle.flt_config.specs.declared.config.Debounce.TheVariants as kinds
+use Rattle.flt_config.specs.Durable.{initial_state}
 use Rattle.flt_model.specs.Answer.{answers}
 use Rattle.flt_model.specs.Life.{History, fresh}
 use Rattle.flt_model.specs.Durable.{below}
@@ -211,3 +212,76 @@ DriveGoesOn =
     ∷ responds (0x54 ∷ [])
     ∷ responds (0x59 ∷ 0x01 ∷ 0xFF ∷ 0x01 ∷ 0x00 ∷ 0x00 ∷ [])
     ∷ []
+
+-- A passive entry of a smaller priority number stays, and the number comes before passiveness.
+abbrev pub NumberComesFirst : Type 0
+NumberComesFirst =
+    Replays (fresh (configured 2 (record (event 0x000001) { priority = 5 } ∷ event 0x000002 ∷ record (event 0x000003) { priority = 3 }
+    ∷ record (event 0x000004) { priority = 4 } ∷ [])))
+    (Cycle 0 ⇒ Taken
+    ∷ fail 0 ⇒ Taken
+    ∷ fail 1 ⇒ Taken
+    ∷ pass 1 ⇒ Taken
+    ∷ fail 2 ⇒ Taken
+    ∷ Show 0 ⇒ shows 0x27 (pos 127) 1 0 0 true
+    ∷ Show 1 ⇒ shows 0x2E (minus 128) 1 0 1 true
+    ∷ pass 2 ⇒ Taken
+    ∷ fail 3 ⇒ Taken
+    ∷ Show 2 ⇒ shows 0x2E (minus 128) 1 0 1 true
+    ∷ Show 3 ⇒ shows 0x2F (pos 127) 1 0 0 true
+    ∷ [])
+
+-- An entry that is updated keeps its place: it is still the oldest. The snapshot records of unconfirmed DTCs are listed too.
+abbrev pub UpdateKeepsThePlace : Type 0
+UpdateKeepsThePlace =
+    Replays (fresh (configured 2 (event 0x000001 ∷ event 0x000002 ∷ record (event 0x000003) { confirm = 2 } ∷ [])))
+    (Cycle 0 ⇒ Taken
+    ∷ fail 0 ⇒ Taken
+    ∷ fail 1 ⇒ Taken
+    ∷ pass 0 ⇒ Taken
+    ∷ fail 0 ⇒ Taken
+    ∷ pass 0 ⇒ Taken
+    ∷ pass 1 ⇒ Taken
+    ∷ fail 2 ⇒ Taken
+    ∷ Show 0 ⇒ shows 0x26 (minus 128) 1 0 0 true
+    ∷ Show 1 ⇒ shows 0x2E (minus 128) 1 0 1 true
+    ∷ asks 0 (0x19 ∷ 0x03 ∷ []) ⇒ responds (0x59 ∷ 0x03 ∷ 0x00 ∷ 0x00 ∷ 0x02 ∷ 0x01 ∷ 0x00 ∷ 0x00 ∷ 0x02 ∷ 0x02
+    ∷ 0x00 ∷ 0x00 ∷ 0x03 ∷ 0x01 ∷ 0x00 ∷ 0x00 ∷ 0x03 ∷ 0x02 ∷ [])
+    ∷ [])
+
+-- A further failure of a confirmed event is no confirmation; each active signal is its own bit of data identifier 0105; a DTC is compared in all its bytes.
+abbrev pub ConfirmedOnce : Type 0
+ConfirmedOnce =
+    Replays (fresh (configured 16 (recording 0x000001 (did 0x0105 1 ∷ []) ∷ event 0x010001 ∷ [])))
+    (Cycle 0 ⇒ Taken
+    ∷ Signal 1 1 ⇒ Taken
+    ∷ fail 0 ⇒ Taken
+    ∷ fail 1 ⇒ Taken
+    ∷ pass 0 ⇒ Taken
+    ∷ Signal 1 0 ⇒ Taken
+    ∷ Signal 7 1 ⇒ Taken
+    ∷ fail 0 ⇒ Taken
+    ∷ asks 0 (0x19 ∷ 0x0D ∷ []) ⇒ responds (0x59 ∷ 0x0D ∷ 0xFF ∷ 0x00 ∷ 0x00 ∷ 0x01 ∷ 0x2F ∷ [])
+    ∷ asks 0 (0x19 ∷ 0x0E ∷ []) ⇒ responds (0x59 ∷ 0x0E ∷ 0xFF ∷ 0x01 ∷ 0x00 ∷ 0x01 ∷ 0x2F ∷ [])
+    ∷ asks 0 (0x19 ∷ 0x04 ∷ 0x00 ∷ 0x00 ∷ 0x01 ∷ 0xFF ∷ []) ⇒ responds (0x59 ∷ 0x04 ∷ 0x00 ∷ 0x00 ∷ 0x01 ∷ 0x2F
+    ∷ 0x01 ∷ 0x01 ∷ 0x01 ∷ 0x05 ∷ 0x02 ∷ 0x02 ∷ 0x01 ∷ 0x01 ∷ 0x05 ∷ 0x80 ∷ [])
+    ∷ asks 0 (0x19 ∷ 0x06 ∷ 0x01 ∷ 0x00 ∷ 0x01 ∷ 0x01 ∷ []) ⇒ responds (0x59 ∷ 0x06 ∷ 0x01 ∷ 0x00 ∷ 0x01 ∷ 0x2F ∷ 0x01 ∷ 0x01 ∷ [])
+    ∷ [])
+
+-- A DTC that was saved as noted is told with its status of now, whatever that says.
+abbrev pub NotedAsSaved : Type 0
+NotedAsSaved =
+    Replays (record {
+      config = configured 16 (event 0x000001 ∷ []);
+      base = record (initial_state (configured 16 (event 0x000001 ∷ []))) { first_failed = Some 0 };
+    })
+    (asks 0 (0x19 ∷ 0x0B ∷ []) ⇒ responds (0x59 ∷ 0x0B ∷ 0xFF ∷ 0x00 ∷ 0x00 ∷ 0x01 ∷ 0x50 ∷ [])
+    ∷ asks 0 (0x19 ∷ 0x0D ∷ []) ⇒ responds (0x59 ∷ 0x0D ∷ 0xFF ∷ [])
+    ∷ [])
+
+-- The number of selected DTCs has two bytes, the high one first.
+abbrev pub CountOfManyDtcs : Type 0
+CountOfManyDtcs =
+    Replays (fresh (configured 16 (number_events 256)))
+    (asks 0 (0x19 ∷ 0x01 ∷ 0x10 ∷ []) ⇒ responds (0x59 ∷ 0x01 ∷ 0xFF ∷ 0x01 ∷ 0x01 ∷ 0x00 ∷ [])
+    ∷ [])

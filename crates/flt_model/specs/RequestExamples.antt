@@ -1,10 +1,11 @@
 -- Worked examples of requests and sessions.
-use Rattle.std.specs.Prelude.{false, [], ◌∷◌, pos}
+use Rattle.std.specs.Prelude.{true, false, [], ◌∷◌, pos}
 use Rattle.flt_model.specs.Life.{fresh}
 use Rattle.flt_model.specs.declared.call.Op.TheVariants.{Tick, Cycle, Show}
+use Rattle.flt_model.specs.declared.call.Reply.{Reply}
 use Rattle.flt_model.specs.declared.call.Reply.TheVariants.{Taken, Ignored, Silent}
 use Rattle.flt_model.specs.declared.call.Cause.TheVariants.{SettingOff}
-use Rattle.flt_model.specs.Example.{event, configured, ◌⇒◌, Replays, fail, asks, responds, shows, extended, default_session}
+use Rattle.flt_model.specs.Example.{event, configured, ◌⇒◌, Replays, fail, pass, asks, responds, shows, extended, default_session}
 
 -- A clear of an unknown DTC, of wrong length, and of all.
 abbrev pub ClearRequests : Type 0
@@ -163,4 +164,62 @@ ListsInOrder =
     ∷ asks 0 (0x19 ∷ 0x03 ∷ []) ⇒ responds (0x59 ∷ 0x03 ∷ 0x12 ∷ 0x34 ∷ 0x56 ∷ 0x01 ∷ 0x12 ∷ 0x34 ∷ 0x56 ∷ 0x02 ∷ [])
     ∷ Show 1 ⇒ shows 0x50 (pos 0) 0 0 0 false
     ∷ Show 0 ⇒ shows 0x2F (pos 127) 1 0 1 false
+    ∷ [])
+
+-- Silence of 5000 ms ends the extended session, and for good what the tester held in it; a request whose response is suppressed is heard.
+abbrev pub SilenceEndsSessionAndHold : Type 0
+SilenceEndsSessionAndHold =
+    Replays (fresh (configured 16 (event 0x000001 ∷ [])))
+    (Cycle 0 ⇒ Taken
+    ∷ asks 0 (0x10 ∷ 0x03 ∷ []) ⇒ extended
+    ∷ asks 0 (0x85 ∷ 0x02 ∷ []) ⇒ responds (0xC5 ∷ 0x02 ∷ [])
+    ∷ Tick 300 ⇒ Taken
+    ∷ asks 0 (0x3E ∷ 0x80 ∷ []) ⇒ Silent
+    ∷ Tick 499 ⇒ Taken
+    ∷ fail 0 ⇒ Ignored SettingOff
+    ∷ Tick 1 ⇒ Taken
+    ∷ asks 0 (0x85 ∷ 0x02 ∷ []) ⇒ responds (0x7F ∷ 0x85 ∷ 0x7F ∷ [])
+    ∷ asks 0 (0x10 ∷ 0x03 ∷ []) ⇒ extended
+    ∷ fail 0 ⇒ Taken
+    ∷ [])
+
+-- A mask of several bits selects the DTCs whose status has one of them; a snapshot record without data identifiers has its number and none.
+abbrev pub MaskOfSeveralBits : Type 0
+MaskOfSeveralBits =
+    Replays (fresh (configured 16 (event 0x000001 ∷ event 0x000002 ∷ [])))
+    (Cycle 0 ⇒ Taken
+    ∷ fail 0 ⇒ Taken
+    ∷ asks 0 (0x19 ∷ 0x02 ∷ 0x91 ∷ []) ⇒ responds (0x59 ∷ 0x02 ∷ 0xFF ∷ 0x00 ∷ 0x00 ∷ 0x01 ∷ 0x2F ∷ 0x00 ∷ 0x00 ∷ 0x02 ∷ 0x50 ∷ [])
+    ∷ asks 0 (0x19 ∷ 0x04 ∷ 0x00 ∷ 0x00 ∷ 0x01 ∷ 0xFF ∷ []) ⇒ responds (0x59 ∷ 0x04 ∷ 0x00 ∷ 0x00 ∷ 0x01 ∷ 0x2F ∷ 0x01 ∷ 0x00 ∷ 0x02 ∷ 0x00 ∷ [])
+    ∷ [])
+
+-- All DTCs are supported, also one whose status is 0; no mask selects that one.
+abbrev pub SupportedDtcs : Type 0
+SupportedDtcs =
+    Replays (fresh (configured 16 (event 0x000001 ∷ event 0x000002 ∷ [])))
+    (Cycle 0 ⇒ Taken
+    ∷ pass 0 ⇒ Taken
+    ∷ asks 0 (0x19 ∷ 0x0A ∷ []) ⇒ responds (0x59 ∷ 0x0A ∷ 0xFF ∷ 0x00 ∷ 0x00 ∷ 0x01 ∷ 0x00 ∷ 0x00 ∷ 0x00 ∷ 0x02 ∷ 0x50 ∷ [])
+    ∷ asks 0 (0x19 ∷ 0x02 ∷ 0xFF ∷ []) ⇒ responds (0x59 ∷ 0x02 ∷ 0xFF ∷ 0x00 ∷ 0x00 ∷ 0x02 ∷ 0x50 ∷ [])
+    ∷ [])
+
+-- The first DTC alone.
+abbrev pub first_selected : Reply
+first_selected = responds (0x59 ∷ 0x02 ∷ 0xFF ∷ 0x00 ∷ 0x00 ∷ 0x01 ∷ 0xAF ∷ [])
+
+-- Each bit of a mask selects by itself: of two DTCs one has bits 4 and 6, and the other has the rest.
+abbrev pub EachBitOfAMask : Type 0
+EachBitOfAMask =
+    Replays (fresh (configured 16 (record (event 0x000001) { indicator = true } ∷ event 0x000002 ∷ [])))
+    (Cycle 0 ⇒ Taken
+    ∷ fail 0 ⇒ Taken
+    ∷ asks 0 (0x19 ∷ 0x02 ∷ 0x01 ∷ []) ⇒ first_selected
+    ∷ asks 0 (0x19 ∷ 0x02 ∷ 0x02 ∷ []) ⇒ first_selected
+    ∷ asks 0 (0x19 ∷ 0x02 ∷ 0x04 ∷ []) ⇒ first_selected
+    ∷ asks 0 (0x19 ∷ 0x02 ∷ 0x08 ∷ []) ⇒ first_selected
+    ∷ asks 0 (0x19 ∷ 0x02 ∷ 0x10 ∷ []) ⇒ responds (0x59 ∷ 0x02 ∷ 0xFF ∷ 0x00 ∷ 0x00 ∷ 0x02 ∷ 0x50 ∷ [])
+    ∷ asks 0 (0x19 ∷ 0x02 ∷ 0x20 ∷ []) ⇒ first_selected
+    ∷ asks 0 (0x19 ∷ 0x02 ∷ 0x40 ∷ []) ⇒ responds (0x59 ∷ 0x02 ∷ 0xFF ∷ 0x00 ∷ 0x00 ∷ 0x02 ∷ 0x50 ∷ [])
+    ∷ asks 0 (0x19 ∷ 0x02 ∷ 0x80 ∷ []) ⇒ first_selected
+    ∷ asks 0 (0x19 ∷ 0x01 ∷ 0x80 ∷ []) ⇒ responds (0x59 ∷ 0x01 ∷ 0xFF ∷ 0x01 ∷ 0x00 ∷ 0x01 ∷ [])
     ∷ [])

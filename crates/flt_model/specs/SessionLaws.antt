@@ -1,9 +1,12 @@
--- What holds of the testers' sessions (ISO 14229-1, services 0x10 and 0x85).
-use Rattle.std.specs.Prelude.{◌≡◌, ◌≢◌, ℕ, ◌∷◌}
+-- What holds of the testers' sessions (ISO 14229-1, services 0x10 and 0x85; ISO 14229-2, S3).
+use Rattle.std.specs.Prelude.{◌≡◌, ◌≢◌, ◌↔◌, ℕ, ◌<◌, ◌%◌, ◌==◌, Bool, true, false, not, ◌&&◌, ◌||◌, List, [], ◌∷◌, ◌++◌, sum_by, take_while}
 use Rattle.flt_model.specs.Life.{History}
 use Rattle.flt_model.specs.Request.{RequestBytes}
 use Rattle.flt_model.specs.Session.{is_extended, silence, holds_off}
+use Rattle.flt_model.specs.declared.call.Op.{Op}
 use Rattle.flt_model.specs.declared.call.Op.TheVariants as ops
+
+-- ---- one tester and another
 
 -- A tester's session, its silent time and what it holds are as before.
 pub record IsTesterLeft (tester : ℕ) (before after : History) : Type 0 where
@@ -15,3 +18,51 @@ pub record IsTesterLeft (tester : ℕ) (before after : History) : Type 0 where
 abbrev pub RequestLeavesOtherTesters : Type 0
 RequestLeavesOtherTesters = (past : History) (tester other : ℕ) (bytes : RequestBytes) → tester ≢ other →
     IsTesterLeft other past (ops.Request tester bytes ∷ past)
+
+-- ---- which session a tester is in
+
+-- A request for a session that is accepted: service 0x10 with this sub-function, whose bit 7 is no part of it, and nothing behind it.
+abbrev pub asks_session : ℕ → List ℕ → Bool
+asks_session sub_function (service ∷ second ∷ []) = (service == 0x10) && (second % 128 == sub_function)
+asks_session sub_function _ = false
+
+-- A call is a request of the tester.
+abbrev pub is_from : ℕ → Op → Bool
+is_from tester (ops.Request other bytes) = other == tester
+is_from tester _ = false
+
+-- It is one for the default or the extended session.
+abbrev pub is_session_request : ℕ → Op → Bool
+is_session_request tester (ops.Request other bytes) = (other == tester) && (asks_session 0x01 bytes.items || asks_session 0x03 bytes.items)
+is_session_request tester _ = false
+
+-- The ticks that a call lets go by.
+abbrev pub ticks_of : Op → ℕ
+ticks_of (ops.Tick ticks) = ticks
+ticks_of _ = 0
+
+-- The ticks behind the last of these calls that is a request of the tester, answered or not.
+abbrev pub unheard : ℕ → History → ℕ
+unheard tester calls = sum_by ticks_of (take_while (λ op. not (is_from tester op)) calls)
+
+-- Through these calls the tester asks for no session, and at no moment 500 ticks went by since it was heard.
+abbrev pub StaysInSession : ℕ → History → Type 0
+StaysInSession tester [] = Unit {0}
+StaysInSession tester (op ∷ later) = (is_session_request tester op ≡ false) × (unheard tester (op ∷ later) < 500) × StaysInSession tester later
+
+-- The last accepted session request of the tester was 10 03, and no silence since came to 500 ticks.
+pub record AskedForExtended (tester : ℕ) (past : History) : Type 0 where
+  pub later : History
+  pub bytes : RequestBytes
+  pub earlier : History
+  pub is : past ≡ later ++ ops.Request tester bytes ∷ earlier
+  pub extended : asks_session 0x03 bytes.items ≡ true
+  pub stays : StaysInSession tester later
+
+-- Exactly then it is in the extended session.
+abbrev pub ExtendedWhereAsked : Type 0
+ExtendedWhereAsked = (tester : ℕ) (past : History) → (is_extended tester past ≡ true) ↔ AskedForExtended tester past
+
+-- In the default session it holds nothing.
+abbrev pub DefaultHoldsNothing : Type 0
+DefaultHoldsNothing = (tester : ℕ) (past : History) → is_extended tester past ≡ false → holds_off tester past ≡ false

@@ -2,9 +2,9 @@
 use Rattle.std.specs.Prelude.{ℕ, true, false, [], ◌∷◌, pos}
 use Rattle.flt_config.specs.Durable.{initial_state}
 use Rattle.flt_model.specs.Life.{Life, fresh}
-use Rattle.flt_model.specs.declared.call.Op.TheVariants.{Cycle, Show}
+use Rattle.flt_model.specs.declared.call.Op.TheVariants.{Cycle, Enable, Show}
 use Rattle.flt_model.specs.declared.call.Reply.TheVariants.{Taken, Ignored}
-use Rattle.flt_model.specs.declared.call.Cause.TheVariants.{SettingOff, NotStarted}
+use Rattle.flt_model.specs.declared.call.Cause.TheVariants.{SettingOff, NotStarted, NotEnabled}
 use Rattle.flt_model.specs.Example.{event, configured, restarted, ◌⇒◌, Replays, fail, pass, asks, responds, minus, shows, extended}
 
 -- An event fails, passes and heals.
@@ -118,6 +118,40 @@ ReportsAreIgnored =
     ∷ Show 0 ⇒ shows 0x2F (pos 127) 1 0 1 false
     ∷ [])
 
+-- A report is ignored for its cycle first, and then for a condition that its event needs.
+abbrev pub DisabledReportsAreIgnored : Type 0
+DisabledReportsAreIgnored =
+    Replays (fresh (configured 16 (record (event 0x000001) { needs = 4 } ∷ [])))
+    (Enable 2 false ⇒ Taken
+    ∷ fail 0 ⇒ Ignored NotStarted
+    ∷ Cycle 0 ⇒ Taken
+    ∷ fail 0 ⇒ Ignored NotEnabled
+    ∷ asks 0 (0x10 ∷ 0x03 ∷ []) ⇒ extended
+    ∷ asks 0 (0x85 ∷ 0x02 ∷ []) ⇒ responds (0xC5 ∷ 0x02 ∷ [])
+    ∷ fail 0 ⇒ Ignored SettingOff
+    ∷ asks 0 (0x85 ∷ 0x01 ∷ []) ⇒ responds (0xC5 ∷ 0x01 ∷ [])
+    ∷ Enable 2 true ⇒ Taken
+    ∷ fail 0 ⇒ Taken
+    ∷ [])
+
+-- Only the conditions whose bits are set are needed, and each of them; at power-up all are fulfilled.
+abbrev pub EachNeededConditionCounts : Type 0
+EachNeededConditionCounts =
+    Replays (fresh (configured 16 (record (event 0x000001) { needs = 0x81 } ∷ event 0x000002 ∷ [])))
+    (Cycle 0 ⇒ Taken
+    ∷ pass 0 ⇒ Taken
+    ∷ Enable 1 false ⇒ Taken
+    ∷ pass 0 ⇒ Taken
+    ∷ Enable 7 false ⇒ Taken
+    ∷ pass 0 ⇒ Ignored NotEnabled
+    ∷ pass 1 ⇒ Taken
+    ∷ Enable 0 false ⇒ Taken
+    ∷ Enable 7 true ⇒ Taken
+    ∷ pass 0 ⇒ Ignored NotEnabled
+    ∷ Enable 0 true ⇒ Taken
+    ∷ pass 0 ⇒ Taken
+    ∷ [])
+
 -- What is saved goes on in the next life, and what is volatile does not.
 abbrev pub NextLife : Type 0
 NextLife =
@@ -171,4 +205,71 @@ CleanCyclesStopAtMost =
     ∷ pass 0 ⇒ Taken
     ∷ Cycle 0 ⇒ Taken
     ∷ Show 0 ⇒ shows 0x60 (pos 0) 0 510 0 false
+    ∷ [])
+
+-- An event whose indicator is not lit ages at its own threshold, also where it has an indicator.
+abbrev pub UnlitEventAges : Type 0
+UnlitEventAges =
+    Replays (fresh (configured 16 (record (event 0x000001) { indicator = true; confirm = 2; heal = 2; age = 1 } ∷ [])))
+    (Cycle 0 ⇒ Taken
+    ∷ fail 0 ⇒ Taken
+    ∷ Cycle 0 ⇒ Taken
+    ∷ pass 0 ⇒ Taken
+    ∷ Cycle 0 ⇒ Taken
+    ∷ Show 0 ⇒ shows 0x60 (pos 0) 0 1 0 false
+    ∷ [])
+
+-- A displacement leaves the clean count, and the bits but for confirmedDTC and warningIndicatorRequested.
+abbrev pub DisplacementKeepsCleanCount : Type 0
+DisplacementKeepsCleanCount =
+    Replays (fresh (configured 1 (event 0x000001 ∷ event 0x000002 ∷ [])))
+    (Cycle 0 ⇒ Taken
+    ∷ fail 0 ⇒ Taken
+    ∷ Cycle 0 ⇒ Taken
+    ∷ pass 0 ⇒ Taken
+    ∷ Cycle 0 ⇒ Taken
+    ∷ fail 1 ⇒ Taken
+    ∷ Show 0 ⇒ shows 0x60 (pos 0) 0 1 0 true
+    ∷ [])
+
+-- An operation cycle ends while the DTC setting is off, too, and a clear is carried out then.
+abbrev pub CycleEndsWithSettingOff : Type 0
+CycleEndsWithSettingOff =
+    Replays (fresh (configured 16 (event 0x000001 ∷ [])))
+    (Cycle 0 ⇒ Taken
+    ∷ fail 0 ⇒ Taken
+    ∷ asks 0 (0x10 ∷ 0x03 ∷ []) ⇒ extended
+    ∷ asks 0 (0x85 ∷ 0x02 ∷ []) ⇒ responds (0xC5 ∷ 0x02 ∷ [])
+    ∷ Cycle 0 ⇒ Taken
+    ∷ Show 0 ⇒ shows 0x6D (pos 0) 1 0 1 false
+    ∷ asks 0 (0x14 ∷ 0x00 ∷ 0x00 ∷ 0x01 ∷ []) ⇒ responds (0x54 ∷ [])
+    ∷ Show 0 ⇒ shows 0x50 (pos 0) 0 0 0 false
+    ∷ [])
+
+-- An entry ages out also where its event is not confirmed.
+abbrev pub UnconfirmedEntryAges : Type 0
+UnconfirmedEntryAges =
+    Replays (fresh (configured 16 (record (event 0x000001) { confirm = 2; age = 1 } ∷ [])))
+    (Cycle 0 ⇒ Taken
+    ∷ fail 0 ⇒ Taken
+    ∷ Show 0 ⇒ shows 0x27 (pos 127) 1 0 1 false
+    ∷ Cycle 0 ⇒ Taken
+    ∷ pass 0 ⇒ Taken
+    ∷ Cycle 0 ⇒ Taken
+    ∷ Show 0 ⇒ shows 0x60 (pos 0) 0 1 0 false
+    ∷ [])
+
+-- A displaced event whose failed count is above its threshold is confirmed anew by a failure, and gets no entry, since its testFailed did not change.
+abbrev pub ConfirmedAnew : Type 0
+ConfirmedAnew =
+    Replays (fresh (configured 1 (record (event 0x000001) { priority = 5 } ∷ event 0x000002 ∷ [])))
+    (Cycle 0 ⇒ Taken
+    ∷ fail 0 ⇒ Taken
+    ∷ Cycle 0 ⇒ Taken
+    ∷ fail 0 ⇒ Taken
+    ∷ fail 1 ⇒ Taken
+    ∷ Show 0 ⇒ shows 0x27 (pos 127) 2 0 0 true
+    ∷ asks 0 (0x14 ∷ 0x00 ∷ 0x00 ∷ 0x02 ∷ []) ⇒ responds (0x54 ∷ [])
+    ∷ fail 0 ⇒ Taken
+    ∷ Show 0 ⇒ shows 0x2F (pos 127) 2 0 0 true
     ∷ [])

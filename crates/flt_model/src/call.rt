@@ -58,6 +58,11 @@ pub enum Op {
         index: u8,
         value: u16,
     },
+    /// The enable condition of this index (0 to 7) is fulfilled from now on, or is not.
+    Enable {
+        condition: u8,
+        fulfilled: bool,
+    },
     /// The monitor of an event reports.
     Report {
         event: u16,
@@ -95,6 +100,8 @@ pub enum Cause {
     SettingOff,
     /// The setting is on, and the event's operation cycle was not started since power-up.
     NotStarted,
+    /// The setting is on and the cycle was started, and an enable condition that the event needs is not fulfilled.
+    NotEnabled,
 }
 
 /// What is shown of an event.

@@ -4,9 +4,10 @@ ghost use Rattle.flt_model.specs.StatusLaws.{ByteTellsBits, LitIsConfirmed, Indi
 ghost use Rattle.flt_model.specs.DebounceLaws.{DebouncingStaysInRange, DetectionCounterTellsThresholds, TicksQualifyOnce};
 ghost use Rattle.flt_model.specs.CodeLaws.{CodesComeInOrder, SilentWhereAsked};
 ghost use Rattle.flt_model.specs.CallLaws.{ClearOfAllLeavesFirstState, ReportIsAboutItsEvent, ClearIsAboutItsEvent, OthersAreLeftAlone, DisplacementLeavesOtherBits};
-ghost use Rattle.flt_model.specs.SessionLaws.{RequestLeavesOtherTesters};
+ghost use Rattle.flt_model.specs.SessionLaws.{RequestLeavesOtherTesters, ExtendedWhereAsked, DefaultHoldsNothing};
+ghost use Rattle.flt_model.specs.EnableLaws.{CausesComeInOrder, DisabledEventsAreLeft, DisabledEventsGoOnWhereTheyStood, EventsWithoutNeedsAreEnabled, EventsAreEnabledAtFirst, ConditionsThatNobodyNeeds};
 ghost use Rattle.flt_model.specs.NoteLaws.{NotedIsNotCleared, FirstIsNotCleared, RecentIsOfLastFailure, RecentIsOfBase, FirstIsHolder};
-ghost use Rattle.flt_model.specs.Laws.{HoldersHaveEntries, WorstIsUnique, FittingBaseHasRoom, EntriesKeepRoom, SavedStatesFit};
+ghost use Rattle.flt_model.specs.Laws.{HoldersHaveEntries, RanksAreCompared, WorstIsUnique, EntriesStandAsAdded, FittingBaseHasRoom, EntriesKeepRoom, SavedStatesFit};
 
 /// The bits of a status byte are read as they were put there.
 pub fn byte_tells_bits()
@@ -53,6 +54,34 @@ pub fn request_leaves_other_testers()
     ensures { RequestLeavesOtherTesters }
 {}
 
+/// A tester is in the extended session exactly where its last accepted session request was 10 03 and no silence since came to
+/// 500 ticks. In the default session it holds nothing.
+pub fn sessions_are_asked_for()
+    ensures extended { ExtendedWhereAsked }
+    ensures default { DefaultHoldsNothing }
+{}
+
+/// A report is ignored exactly for the first of these that holds: the setting is off, the cycle of its event was not started, an
+/// enable condition that the event needs is not fulfilled.
+pub fn causes_come_in_order()
+    ensures { CausesComeInOrder }
+{}
+
+/// While an event is disabled, reports and ticks are nothing to it; once it is enabled again, its debouncing goes on where it
+/// stood.
+pub fn disabled_events_stand_still()
+    ensures left { DisabledEventsAreLeft }
+    ensures goes_on { DisabledEventsGoOnWhereTheyStood }
+{}
+
+/// An event that needs no condition is enabled, and so is each event as long as there is no call on a condition. Where no event
+/// needs one, each call is answered, and the state left, as if no call on a condition had been made.
+pub fn conditions_matter_where_needed()
+    ensures needs { EventsWithoutNeedsAreEnabled }
+    ensures first { EventsAreEnabledAtFirst }
+    ensures nobody { ConditionsThatNobodyNeeds }
+{}
+
 /// No clear stands behind a noted event.
 pub fn noted_is_not_cleared()
     ensures recent { NotedIsNotCleared }
@@ -77,9 +106,20 @@ pub fn holders_have_entries()
     ensures { HoldersHaveEntries }
 {}
 
+/// A rank is worse than another exactly where its number is greater, or equal and it alone is passive. An entry gives way to an
+/// event exactly where the event's number is smaller, or equal and the entry is passive.
+pub fn ranks_are_compared()
+    ensures { RanksAreCompared }
+{}
+
 /// The worst of the events is the one than which no other is worse.
 pub fn worst_is_unique()
     ensures { WorstIsUnique }
+{}
+
+/// The entries stand in the order in which they were added last, those of power-up first, as they stood there.
+pub fn entries_stand_as_added()
+    ensures { EntriesStandAsAdded }
 {}
 
 /// The entries stay of distinct events, and at most as many as the memory has room for.

@@ -22,4 +22,4 @@ pub use status::{Rank, Status};
 pub const REQUEST: usize = 16;
 
 /// The most bytes of a response.
-pub const RESPONSE: usize = 512;
+pub const RESPONSE: usize = 1_040;

@@ -1,9 +1,9 @@
 //! Worked examples, which the check computes.
 
-ghost use Rattle.flt_model.specs.StatusExamples.{OneEventLife, UntestedCycle, UntestedCycleKeepsPending, HealAndAge, CleanCountBeginsAnew, ReportsAreIgnored, NextLife, FailuresStopAtMost, CleanCyclesStopAtMost};
-ghost use Rattle.flt_model.specs.DebounceExamples.{CounterWithJump, CounterJumpsDown, CountersOnTheirWay, TimerQualifiesOnce, TimerAtItsThreshold, TimerIsPassedAtOnce, RestStopsTimers, TimerTurnsBack, SettingOffStopsTimers, SilentTicksDoNotCount};
-ghost use Rattle.flt_model.specs.MemoryExamples.{PassiveGivesWay, GreaterNumberGivesWay, OldestGivesWay, NotedEvents, ClearOfAnotherEvent, TimersComeDueInOrder, Snapshots, FrameOfIdentifiers, SavedMemoryGoesOn, Drive, DriveGoesOn};
-ghost use Rattle.flt_model.specs.RequestExamples.{ClearRequests, SettingOffUntilSilence, TwoTestersHold, RepeatedSessionKeepsTheHold, OthersDoNotBreakSilence, RefusedRequestIsHeard, LastTestersHold, NegativeCodes, MaskedLists, ListsInOrder};
+ghost use Rattle.flt_model.specs.StatusExamples.{OneEventLife, UntestedCycle, UntestedCycleKeepsPending, HealAndAge, CleanCountBeginsAnew, ReportsAreIgnored, DisabledReportsAreIgnored, EachNeededConditionCounts, NextLife, FailuresStopAtMost, CleanCyclesStopAtMost, UnlitEventAges, DisplacementKeepsCleanCount, CycleEndsWithSettingOff, UnconfirmedEntryAges, ConfirmedAnew};
+ghost use Rattle.flt_model.specs.DebounceExamples.{CounterWithJump, CounterJumpsDown, CountersOnTheirWay, TimerQualifiesOnce, TimerAtItsThreshold, TimerIsPassedAtOnce, RestStopsTimers, TimerTurnsBack, SettingOffStopsTimers, SilentTicksDoNotCount, DisabledTimerStandsStill, RepeatedFailureQualifies, EndsOfTheCounterList, TimerStaysAtItsThreshold};
+ghost use Rattle.flt_model.specs.MemoryExamples.{PassiveGivesWay, GreaterNumberGivesWay, OldestGivesWay, NotedEvents, ClearOfAnotherEvent, TimersComeDueInOrder, Snapshots, FrameOfIdentifiers, SavedMemoryGoesOn, Drive, DriveGoesOn, NumberComesFirst, UpdateKeepsThePlace, ConfirmedOnce, NotedAsSaved, CountOfManyDtcs};
+ghost use Rattle.flt_model.specs.RequestExamples.{ClearRequests, SettingOffUntilSilence, TwoTestersHold, RepeatedSessionKeepsTheHold, OthersDoNotBreakSilence, RefusedRequestIsHeard, LastTestersHold, NegativeCodes, MaskedLists, ListsInOrder, SilenceEndsSessionAndHold, MaskOfSeveralBits, SupportedDtcs, EachBitOfAMask};
 
 /// An event fails, passes and heals.
 pub fn one_event_life()
@@ -35,6 +35,16 @@ pub fn reports_are_ignored()
     ensures { ReportsAreIgnored }
 {}
 
+/// A report is ignored for its cycle first, and then for a condition that its event needs.
+pub fn disabled_reports_are_ignored()
+    ensures { DisabledReportsAreIgnored }
+{}
+
+/// Only the conditions whose bits are set are needed, and each of them; at power-up all are fulfilled.
+pub fn each_needed_condition_counts()
+    ensures { EachNeededConditionCounts }
+{}
+
 /// What is saved goes on in the next life, and what is volatile does not.
 pub fn next_life()
     ensures { NextLife }
@@ -48,6 +58,32 @@ pub fn failures_stop_at_most()
 /// The clean count is told up to 255, and ages and stops at 510.
 pub fn clean_cycles_stop_at_most()
     ensures { CleanCyclesStopAtMost }
+{}
+
+/// An event whose indicator is not lit ages at its own threshold, also where it has an indicator.
+pub fn unlit_event_ages()
+    ensures { UnlitEventAges }
+{}
+
+/// A displacement leaves the clean count, and the bits but for confirmedDTC and warningIndicatorRequested.
+pub fn displacement_keeps_clean_count()
+    ensures { DisplacementKeepsCleanCount }
+{}
+
+/// An operation cycle ends while the DTC setting is off, too, and a clear is carried out then.
+pub fn cycle_ends_with_setting_off()
+    ensures { CycleEndsWithSettingOff }
+{}
+
+/// An entry ages out also where its event is not confirmed.
+pub fn unconfirmed_entry_ages()
+    ensures { UnconfirmedEntryAges }
+{}
+
+/// A displaced event whose failed count is above its threshold is confirmed anew by a failure, and gets no entry, since its
+/// testFailed did not change.
+pub fn confirmed_anew()
+    ensures { ConfirmedAnew }
 {}
 
 /// A counter jumps up, clamps at its threshold and steps down.
@@ -98,6 +134,27 @@ pub fn setting_off_stops_timers()
 /// Ticks that end the session which holds the setting off do not count for a timer.
 pub fn silent_ticks_do_not_count()
     ensures { SilentTicksDoNotCount }
+{}
+
+/// A timer stands still while a condition that its event needs is not fulfilled, and then goes on where it stood.
+pub fn disabled_timer_stands_still()
+    ensures { DisabledTimerStandsStill }
+{}
+
+/// A report that leaves a counter or a timer at its threshold qualifies each time: an event that was displaced is confirmed
+/// anew, and gets no entry, since its testFailed did not change.
+pub fn repeated_failure_qualifies()
+    ensures { RepeatedFailureQualifies }
+{}
+
+/// The fault detection counters that are listed go from 1 to 126.
+pub fn ends_of_the_counter_list()
+    ensures { EndsOfTheCounterList }
+{}
+
+/// A timer that a definite report brought to its threshold stays there under tending reports of that direction.
+pub fn timer_stays_at_its_threshold()
+    ensures { TimerStaysAtItsThreshold }
 {}
 
 /// A full memory keeps active entries and gives up a passive one.
@@ -155,6 +212,33 @@ pub fn drive_goes_on()
     ensures { DriveGoesOn }
 {}
 
+/// A passive entry of a smaller priority number stays, and the number comes before passiveness.
+pub fn number_comes_first()
+    ensures { NumberComesFirst }
+{}
+
+/// An entry that is updated keeps its place: it is still the oldest. The snapshot records of unconfirmed DTCs are listed
+/// too.
+pub fn update_keeps_the_place()
+    ensures { UpdateKeepsThePlace }
+{}
+
+/// A further failure of a confirmed event is no confirmation; each active signal is its own bit of data identifier 0105; a
+/// DTC is compared in all its bytes.
+pub fn confirmed_once()
+    ensures { ConfirmedOnce }
+{}
+
+/// A DTC that was saved as noted is told with its status of now, whatever that says.
+pub fn noted_as_saved()
+    ensures { NotedAsSaved }
+{}
+
+/// The number of selected DTCs has two bytes, the high one first.
+pub fn count_of_many_dtcs()
+    ensures { CountOfManyDtcs }
+{}
+
 /// A clear of an unknown DTC, of wrong length, and of all.
 pub fn clear_requests()
     ensures { ClearRequests }
@@ -203,4 +287,26 @@ pub fn masked_lists()
 /// Lists come in the order of the events, and a clear of one DTC leaves the other.
 pub fn lists_in_order()
     ensures { ListsInOrder }
+{}
+
+/// Silence of 5000 ms ends the extended session, and for good what the tester held in it; a request whose response is
+/// suppressed is heard.
+pub fn silence_ends_session_and_hold()
+    ensures { SilenceEndsSessionAndHold }
+{}
+
+/// A mask of several bits selects the DTCs whose status has one of them; a snapshot record without data identifiers has its
+/// number and none.
+pub fn mask_of_several_bits()
+    ensures { MaskOfSeveralBits }
+{}
+
+/// All DTCs are supported, also one whose status is 0; no mask selects that one.
+pub fn supported_dtcs()
+    ensures { SupportedDtcs }
+{}
+
+/// Each bit of a mask selects by itself: of two DTCs one has bits 4 and 6, and the other has the rest.
+pub fn each_bit_of_a_mask()
+    ensures { EachBitOfAMask }
 {}

@@ -52,8 +52,8 @@ pub fn append_gate<F: Flash>(
     flash.program(sector, page, &seal(&put_word(&word)))
 }
 
-// The bytes, with ones behind them.
-fn fill_up(bytes: &[u8]) -> [u8; 32]
+/// The bytes, with ones behind them.
+pub fn fill_up(bytes: &[u8]) -> [u8; 32]
     requires { length bytes.now ≤ 32 }
     ensures { result ≡ filled bytes.now }
 {

@@ -11,7 +11,7 @@ use flt_flash::BLANK_PAGE;
 use flt_sector::Item;
 
 /// An item as its first page tells it.
-#[derive(Clone, Copy, Debug, PartialEq, Eq)]
+#[derive(Clone, Copy)]
 pub(crate) enum Begin {
     /// The page is the whole item.
     Whole(Item),

@@ -14,7 +14,7 @@ mod items;
 mod law;
 mod numbers;
 
-pub use append::{activate, append_gate, append_head, append_piece, begin};
+pub use append::{activate, append_gate, append_head, append_piece, begin, fill_up};
 pub use fault::PageFault;
 pub use flt_sector::Item;
 pub use gate_pages::gates;

@@ -57,6 +57,14 @@ impl Numbers {
         self.given.len()
     }
 
+    /// The number that stands at this index.
+    pub fn at(&self, index: usize) -> u16
+        requires { index < length self.now }
+        ensures { result ≡ slice_index_or self.now index 0 }
+    {
+        self.given[index]
+    }
+
     /// The index of a block among the numbers.
     pub fn index_of(&self, block: u16) -> Option<usize>
         ensures found { IfSome result (λ index. (index < length self.now) × (slice_index_or self.now index 0 ≡ block)) }

@@ -7,7 +7,7 @@ use crate::job::{BLOCKS, Job, LastResult, QueueOp, QueueReply, WAITING};
 use arrayvec::ArrayVec;
 
 /// What is kept of a block.
-#[derive(Clone, Copy, PartialEq, Eq, Debug)]
+#[derive(Clone, Copy)]
 pub struct BlockState {
     /// A job of the block was accepted, and is not done.
     pub pending: bool,

@@ -2,7 +2,7 @@
 use Rattle.std.specs.Prelude.{ℕ, List, [], ◌∷◌, ◌++◌, Bool, true, false, codes}
 use Rattle.std.specs.Fmt.{decimal, signed_decimal}
 use Rattle.flt_model.specs.declared.call.Cause.{Cause}
-use Rattle.flt_model.specs.declared.call.Cause.TheVariants.{SettingOff, NotStarted}
+use Rattle.flt_model.specs.declared.call.Cause.TheVariants.{SettingOff, NotStarted, NotEnabled}
 use Rattle.flt_model.specs.declared.call.Shown.{Shown as Event}
 use Rattle.flt_model.specs.declared.call.Reply.{Reply}
 use Rattle.flt_model.specs.declared.call.Reply.TheVariants.{Taken, Ignored, Shown, Response, Silent}
@@ -35,6 +35,7 @@ shown_text shown =
 abbrev pub ignored_text : Cause → List ℕ
 ignored_text SettingOff = codes "ignored setting"
 ignored_text NotStarted = codes "ignored cycle"
+ignored_text NotEnabled = codes "ignored enable"
 
 -- The status machine's reply.
 abbrev pub reply_text : Reply → List ℕ

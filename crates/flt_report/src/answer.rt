@@ -1,12 +1,14 @@
 // The answer to a step.
 ghost use Rattle.std.specs.Prelude.{◌≡◌, ◌≤◌, ◌+◌, ◌++◌, ◌∷◌, [], OnOk, OnErr, IfSome, length, vec_len};
 ghost use Rattle.std.specs.Vec.{vec_capacity};
+ghost use Rattle.flt_dcm.specs.ReplyKind.{reply_with};
 ghost use Rattle.flt_life.specs.Answers.{IsReplyWithin, IsAnswerWithin, reply_in, with_reply};
 ghost use Rattle.flt_report.specs.Room.{reply_room, answer_room};
 ghost use Rattle.flt_report.specs.Answer.{flag_text, shown_text, ignored_text, reply_text, save_fault_text};
 ghost use Rattle.flt_report.specs.Answer.{last_text, queue_text, drained_text, answer_text, answer_part};
 
 use crate::digits::{put_byte, put_bytes, put_number, put_signed, put_text};
+use flt_dcm::ReplyKind;
 use flt_life::{Answer, KeptReply, StepAnswer};
 use flt_model::{Cause, Shown};
 use flt_queue::{LastResult, QueueReply};
@@ -72,6 +74,7 @@ fn put_ignored(cause: Cause, out: &mut Vec<u8>)
     match cause {
         Cause::SettingOff => put_text(b"ignored setting", out),
         Cause::NotStarted => put_text(b"ignored cycle", out),
+        Cause::NotEnabled => put_text(b"ignored enable", out),
     }
 }
 
@@ -134,8 +137,8 @@ fn put_drained(written: u16, failed: u16, out: &mut Vec<u8>)
     put_number(u32::from(failed), out);
 }
 
-/// Puts a reply.
-fn put_reply(reply: &KeptReply, responses: &[u8], out: &mut Vec<u8>)
+/// Puts a reply as it is kept.
+fn put_kept(reply: &KeptReply, responses: &[u8], out: &mut Vec<u8>)
     requires within { IsReplyWithin (length responses.now) reply.now }
     requires room { vec_len out.old + reply_room reply.now ≤ vec_capacity out.old }
     ensures items { out.new.items ≡ out.old.items ++ reply_text (reply_in responses.now reply.now) }
@@ -153,6 +156,38 @@ fn put_reply(reply: &KeptReply, responses: &[u8], out: &mut Vec<u8>)
     }
 }
 
+/// The reply of this kind as it is kept beside its response.
+fn kept_beside(kind: ReplyKind, response: &[u8]) -> KeptReply
+    ensures reply { reply_in response.now result ≡ reply_with kind response.now }
+    ensures within { IsReplyWithin (length response.now) result }
+{
+    match kind {
+        ReplyKind::Taken => KeptReply::Taken,
+        ReplyKind::Ignored(cause) => KeptReply::Ignored(cause),
+        ReplyKind::Shown(shown) => KeptReply::Shown(shown),
+        ReplyKind::Response => KeptReply::Response {
+            from: 0,
+            length: response.len(),
+        },
+        ReplyKind::Silent => KeptReply::Silent,
+    }
+}
+
+/// Puts the text of a reply of this kind, whose response stands beside it. Where memory is short it puts nothing.
+pub fn put_reply(kind: ReplyKind, response: &[u8], out: &mut Vec<u8>) -> Result<(), AllocError>
+    ensures ok { OnOk result (out.new.items ≡ out.old.items ++ reply_text (reply_with kind response.now)) }
+    ensures err { OnErr result (out.new.items ≡ out.old.items) }
+{
+    let reply = kept_beside(kind, response);
+    let room = match reply {
+        KeptReply::Response { length, .. } => length.checked_mul(3).ok_or(AllocError)?,
+        _ => ANSWER_ROOM,
+    };
+    out.reserve(room)?;
+    put_kept(&reply, response, out);
+    Ok(())
+}
+
 /// Puts an answer.
 fn put_told(answer: &StepAnswer<KeptReply>, responses: &[u8], out: &mut Vec<u8>)
     requires within { IsAnswerWithin (length responses.now) answer.now }
@@ -162,7 +197,7 @@ fn put_told(answer: &StepAnswer<KeptReply>, responses: &[u8], out: &mut Vec<u8>)
     ensures room { vec_capacity out.old ≤ vec_capacity out.new }
 {
     match answer {
-        StepAnswer::Dem(told) => put_reply(&told.reply, responses, out),
+        StepAnswer::Dem(told) => put_kept(&told.reply, responses, out),
         StepAnswer::Saved(generation) => put_number(*generation, out),
         StepAnswer::SaveFailed(fault) => put_save_fault(*fault, out),
         StepAnswer::Queue(told) => put_queue_reply(&told.reply, out),

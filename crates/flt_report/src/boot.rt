@@ -70,6 +70,19 @@ fn put_refusal(fault: &StartFault, out: &mut Vec<u8>)
     }
 }
 
+/// Puts the line that an image holds nothing for this reason. Where memory is short it puts nothing.
+pub fn put_refused(fault: &StartFault, out: &mut Vec<u8>) -> Result<(), AllocError>
+    requires { fault.now ≢ faults.Flash }
+    ensures ok { OnOk result (out.new.items ≡ out.old.items ++ boot_text (Boot.Refused fault.now) ++ 10 ∷ []) }
+    ensures err { OnErr result (out.new.items ≡ out.old.items) }
+{
+    out.reserve(BOOT_ROOM)?;
+    put_text(b"refused ", out);
+    put_refusal(fault, out);
+    put_text(b"\n", out);
+    Ok(())
+}
+
 /// Puts what a power-up came to, in at most 124 bytes.
 fn put_start(boot: &Boot, out: &mut Vec<u8>)
     requires refused { boot.now ≢ Boot.Refused faults.Flash }

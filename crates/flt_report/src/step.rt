@@ -49,6 +49,19 @@ fn put_signal(index: u8, value: u16, out: &mut Vec<u8>)
     put_number(u32::from(value), out);
 }
 
+/// Puts the words of an enable condition, in at most 28 bytes.
+fn put_enable(condition: u8, fulfilled: bool, out: &mut Vec<u8>)
+    requires { vec_len out.old + 28 ≤ vec_capacity out.old }
+    ensures items { out.new.items ≡ out.old.items ++ step_text (Step.Enable condition fulfilled) }
+    ensures len { vec_len out.new ≤ vec_len out.old + 28 }
+    ensures room { vec_capacity out.old ≤ vec_capacity out.new }
+{
+    put_text(b"enable ", out);
+    put_number(u32::from(condition), out);
+    put_text(b" ", out);
+    put_number(u32::from(fulfilled), out);
+}
+
 /// Puts the words of a request, in at most 52 bytes.
 fn put_request(tester: u8, bytes: &ArrayVec<u8, REQUEST>, out: &mut Vec<u8>)
     requires { vec_len out.old + 52 ≤ vec_capacity out.old }
@@ -100,7 +113,7 @@ fn put_printed(step: &Step, out: &mut Vec<u8>) -> Result<(), AllocError>
 }
 
 /// Puts the words of a step. Where memory is short it puts nothing.
-fn put_words(step: &Step, out: &mut Vec<u8>) -> Result<(), AllocError>
+pub fn put_words(step: &Step, out: &mut Vec<u8>) -> Result<(), AllocError>
     ensures ok { OnOk result (out.new.items ≡ out.old.items ++ step_text step.now) }
     ensures err { OnErr result (out.new.items ≡ out.old.items) }
 {
@@ -120,6 +133,10 @@ fn put_words(step: &Step, out: &mut Vec<u8>) -> Result<(), AllocError>
             put_number(u32::from(*ticks), out);
         }
         Step::Signal { index, value } => put_signal(*index, *value, out),
+        Step::Enable {
+            condition,
+            fulfilled,
+        } => put_enable(*condition, *fulfilled, out),
         Step::Request { tester, bytes } => put_request(*tester, bytes, out),
         Step::Save => put_text(b"save", out),
         Step::Post {

@@ -117,13 +117,13 @@ module _ (c : Config) (value : ℕ → Content) where
   unfolding numbers beyond_of_parts beyond_of_applications
   excess_is =
       let f : ℕ → ℕ = beyond c value in
-      let pairs = flat_map both_indices (range_with_len 3 21) in
+      let pairs = flat_map both_indices (range_with_len first_part parts) in
       let blocks = map application_number (range_with_len 0 40) in
       let whole = sum_by-append f ((8 ∷ 16 ∷ 17 ∷ []) ++ pairs) blocks in
       let front = sum_by-append f (8 ∷ 16 ∷ 17 ∷ []) pairs in
-      let parts = both_sum f 3 21 in
+      let pair_sum = both_sum f first_part parts in
       let applications = mapped_sum f application_number 0 40 in
-      omega (arith, whole, front, parts, applications)
+      omega (arith, whole, front, pair_sum, applications)
 
 -- What a read would find of a short content has 128 bytes at most.
 pub short_found : (content : Content) (found : Found) → found ≡ found_of content → IsShort content → size_found found ≤ 128

@@ -1,5 +1,5 @@
 -- What is answered of an image that was judged by one copy of its commit or the other.
-use Rattle.std.proofs.Common.{◌≡◌, ◌⊎◌, ℕ, ◌-◌, List, refl, sym, ◌∙◌, ap, subst, arith, inl, inr}
+use Rattle.std.proofs.Common.{◌≡◌, ◌⊎◌, ℕ, ◌-◌, List, refl, sym, ◌∙◌, ap, subst, arith, inl, inr, ⊎_elim}
 use Rattle.std.specs.Prelude.{Option, Some, None, Result, Ok, IsTrue}
 use Rattle.flt_flash.specs.Content.{Content, missing, invalid, bytes}
 use Rattle.flt_flash.specs.State.{HasRisenBy}
@@ -97,3 +97,7 @@ module _ (c : Config) (start before after : BlocksState) (values : before.value 
       omega (arith, counts, second.3),
     )
   ]
+
+-- What was restored was judged.
+pub judged_of : (c : Config) (before after : BlocksState) (found : Option CommitCopy) (state : Persist) → IsRestored c before after found state → IsJudged c before after (Ok (generation found state))
+judged_of c before after found state = ⊎_elim (λ by_either. inl by_either.0) (λ by_second. inr (by_second.0, by_second.2, by_second.3))

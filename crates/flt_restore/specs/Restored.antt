@@ -5,8 +5,9 @@ use Rattle.flt_flash.specs.State.{HasRisenBy}
 use Rattle.flt_flash.specs.Blocks.{BlocksState}
 use Rattle.flt_config.specs.declared.config.Config.{Config}
 use Rattle.flt_config.specs.declared.persist.Persist.{Persist}
+use Rattle.flt_generation.specs.declared.mark.Mark.{Mark}
 use Rattle.flt_generation.specs.Layout.{commit_id, number_of, first_commit, second_commit}
-use Rattle.flt_generation.specs.Form.{mark_of, IsBytesOfCommit}
+use Rattle.flt_generation.specs.Form.{mark_of, IsBytesOfCommit, mark_bytes_1}
 use Rattle.flt_generation.specs.Holding.{Generation, Fault, damaged, other, held, spare, either_copy, only_bytes}
 use Rattle.flt_restore.specs.declared.commit.CommitCopy.{CommitCopy}
 use Rattle.flt_restore.specs.declared.fault.StartFault.{StartFault}
@@ -49,6 +50,10 @@ IsRestored c before after commit state =
     × IsCommitOf before.value (either_copy (before.value first_commit) (before.value second_commit)) commit)
     ⊎ ((spare c before.value ≡ Ok (generation commit state)) × IsCommitOf before.value (only_bytes (before.value second_commit)) commit
     × HasBytes (before.value second_commit) × HasRisenBy 3 before.device.faults after.device.faults)
+
+-- A mark that has to be written: it is missing, or stands in version 1.
+abbrev pub IsMarkDue : Mark → Content → Type 0
+IsMarkDue mark content = (content ≡ missing) ⊎ (content ≡ bytes (mark_bytes_1 mark))
 
 -- The generation that was judged, by its commit, and sequence numbers left.
 pub record Restores (c : Config) (before after : BlocksState) (commit : Option CommitCopy) (state : Persist) : Type 0 where

@@ -1,4 +1,4 @@
-//! The commit that a copy gives.
+//! What a start-up finds.
 
 use flt_generation::Commit;
 use flt_image::BlockBytes;
@@ -11,4 +11,13 @@ pub struct CommitCopy {
     pub copy: u8,
     /// The bytes that it has, in a version of the commit's form that is read.
     pub bytes: BlockBytes,
+}
+
+/// What a start-up finds in an image that holds a generation of the configuration.
+#[derive(Drop)]
+pub struct Restored {
+    /// The commit by which the image was judged; none in the first generation.
+    pub commit: Option<CommitCopy>,
+    /// Whether the mark has to be written: it is missing, or stands in version 1.
+    pub is_mark_due: bool,
 }

@@ -48,7 +48,7 @@ fn read_part<B: Blocks + Drop>(
     if !is_used(config, id) {
         return Ok(());
     }
-    match read_content(nvm, id, commit.index[(id - FIRST_PART) as usize])? {
+    match read_content(nvm, id, commit.index_of(id))? {
         Held::Missing => Err(damaged(id)),
         Held::Invalid => Err(damaged(id)),
         Held::Bytes(bytes) => {

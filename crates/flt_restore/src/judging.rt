@@ -1,17 +1,19 @@
 //! What is judged of contents that were read.
-ghost use Rattle.std.specs.Prelude.{◌≡◌, ◌≤◌, ◌<◌, ℕ};
+ghost use Rattle.std.specs.Prelude.{◌≡◌, ◌≤◌, ◌<◌, ℕ, ◌↔◌, IsTrue};
 ghost use Rattle.flt_flash.specs.Calls.{found_of};
 ghost use Rattle.flt_flash.specs.Content.{Content};
 ghost use Rattle.flt_generation.specs.Holding.{is_same_mark, judged_mark, marked, is_application};
 ghost use Rattle.flt_restore.specs.Found.{content_of};
 ghost use Rattle.flt_restore.specs.Judging.{as_told};
+ghost use Rattle.flt_generation.specs.Form.{mark_of};
+ghost use Rattle.flt_restore.specs.Restored.{IsMarkDue};
 
 use crate::content::Held;
 use crate::fault::StartFault;
 use flt_config::ValidConfig;
 use flt_flash::Found;
 use flt_generation::{APPLICATION_LENGTH, MARK_ID, Mark, Place};
-use flt_image::{get_mark, mark_of};
+use flt_image::{get_mark, mark_of, put_mark_1};
 
 /// The fault of a block.
 pub(crate) fn damaged(id: u16) -> StartFault
@@ -51,6 +53,17 @@ pub(crate) fn judge_mark(config: &ValidConfig, mark: &Held, commit: &Held) -> Re
             Held::Invalid => Err(damaged(MARK_ID)),
             Held::Bytes(_) => Err(damaged(MARK_ID)),
         },
+    }
+}
+
+/// Whether the mark that was read has to be written.
+pub(crate) fn is_mark_due(config: &ValidConfig, mark: &Held) -> bool
+    ensures { IsTrue result ↔ IsMarkDue (mark_of config.now) (content_of mark.now) }
+{
+    match mark {
+        Held::Missing => true,
+        Held::Invalid => false,
+        Held::Bytes(bytes) => &bytes[..] == &put_mark_1(&mark_of(config))[..],
     }
 }
 

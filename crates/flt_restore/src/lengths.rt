@@ -1,5 +1,5 @@
 //! What is judged of an image by the lengths of its records alone: the application blocks, and the excess. Nothing is read.
-ghost use Rattle.std.specs.Prelude.{◌≡◌, ◌≤◌, ◌<◌, ◌+◌, IsFalse};
+ghost use Rattle.std.specs.Prelude.{◌≡◌, ◌≤◌, ◌<◌, ◌+◌, ◌*◌, IsFalse};
 ghost use Rattle.flt_nvm.specs.Driver.{driver_of, table_of};
 ghost use Rattle.flt_nvm.specs.Table.{HasPlace};
 ghost use Rattle.flt_image.specs.Table.{block_table};
@@ -81,7 +81,7 @@ fn pages_beyond_of_parts<B: Blocks + Drop>(nvm: &Nvm<B>, config: &ValidConfig) -
     requires table { table_of nvm.now ≡ block_table }
     requires settled { IsFalse (driver_of nvm.now).is_stale }
     ensures pages { result ≡ beyond_of_parts config.now (driver_of nvm.now).value parts }
-    ensures most { result ≤ 252 }
+    ensures most { result ≤ 12 * parts }
 {
     let mut pages = 0;
     for id in FIRST_PART..END_PART {
@@ -95,7 +95,7 @@ fn pages_beyond_of_applications<B: Blocks + Drop>(nvm: &Nvm<B>, config: &ValidCo
     requires table { table_of nvm.now ≡ block_table }
     requires settled { IsFalse (driver_of nvm.now).is_stale }
     ensures pages { result ≡ beyond_of_applications config.now (driver_of nvm.now).value applications }
-    ensures most { result ≤ 240 }
+    ensures most { result ≤ 6 * applications }
 {
     let mut pages = 0;
     for block in 0..APPLICATIONS {
@@ -109,7 +109,7 @@ fn excess<B: Blocks + Drop>(nvm: &Nvm<B>, config: &ValidConfig) -> u32
     requires table { table_of nvm.now ≡ block_table }
     requires settled { IsFalse (driver_of nvm.now).is_stale }
     ensures pages { result ≡ excess config.now (driver_of nvm.now).value }
-    ensures most { result ≤ 510 }
+    ensures most { result ≤ 18 + 12 * parts + 6 * applications }
 {
     let mark = pages_beyond(nvm, config, MARK_ID, 0);
     let copies = pages_beyond(nvm, config, COMMIT_ID, 0) + pages_beyond(nvm, config, COMMIT_ID, 1);

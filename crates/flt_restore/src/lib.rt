@@ -2,7 +2,7 @@
 //!
 //! It stands on `flt_nvm`, whose reads it makes, and on the definitions of `flt_generation`, by which it judges. The store
 //! above starts up by `restore`, whose contract is in `specs/Restored`: what is answered is what the image holds, or where
-//! the first copy of the commit can't be read, what it holds by the second. After a save that failed the store learns by
+//! the first copy of the commit can't be read, what it holds by the second. `judge` is the same whatever the sequence number. After a save that failed the store learns by
 //! `read_blocks` (`specs/Learning`) what the blocks have that a commit names. Nothing here writes a block.
 #![tactic(auto)]
 
@@ -17,7 +17,7 @@ mod pages;
 mod reading;
 mod restoring;
 
-pub use commit::CommitCopy;
+pub use commit::{CommitCopy, Restored};
 pub use fault::StartFault;
 pub use named::read_blocks;
-pub use restoring::restore;
+pub use restoring::{judge, restore};

@@ -49,7 +49,7 @@ fn read_block<B: Blocks + Drop>(
     if !is_used(config, id) {
         return;
     }
-    match read_content(nvm, id, commit.index[(id - FIRST_PART) as usize]) {
+    match read_content(nvm, id, commit.index_of(id)) {
         Ok(held) => blocks.set(id, part_in(&held)),
         Err(_) => blocks.set(id, &[]),
     }

@@ -4,18 +4,16 @@ ghost use Rattle.flt_flash.specs.Blocks.{pages_of, record_pages};
 ghost use Rattle.flt_flash.specs.Calls.{found_of};
 ghost use Rattle.flt_flash.specs.Content.{Content};
 ghost use Rattle.flt_generation.specs.Excess.{is_own_part, is_own_application, own_pages};
-ghost use Rattle.flt_generation.specs.Form.{part_length};
-ghost use Rattle.flt_generation.specs.Layout.{id_of, index_of, part_of};
+ghost use Rattle.flt_generation.specs.Layout.{id_of, index_of};
 ghost use Rattle.flt_restore.specs.Found.{size_found};
 
 use flt_config::ValidConfig;
 use flt_flash::Found;
 use flt_generation::{
-    APPLICATION_LENGTH, COMMIT_LENGTH, ENTRY_LENGTH, FIRST_APPLICATION, FIRST_COMMIT, FIRST_ENTRY,
-    FIRST_PART, MARK_LENGTH, MARK_NUMBER, NUMBERS_PER_BLOCK, SECOND_COMMIT, STATES_LENGTH,
-    SUMMARY_LENGTH,
+    APPLICATION_LENGTH, COMMIT_LENGTH, FIRST_APPLICATION, FIRST_COMMIT, MARK_LENGTH, MARK_NUMBER,
+    NUMBERS_PER_BLOCK, SECOND_COMMIT,
 };
-use flt_image::is_used;
+use flt_image::{is_used, part_of};
 
 // The pages of a record of so many bytes.
 fn record_pages(length: usize) -> u32
@@ -35,20 +33,6 @@ pub(crate) fn found_pages(found: Found) -> u32
         Found::Missing => 0,
         Found::Invalid => 2,
         Found::Bytes(length) => record_pages(length),
-    }
-}
-
-// The bytes of a part: the summary, the states of some events, or an entry.
-fn part_length(id: u16) -> usize
-    ensures length { result ≡ part_length (part_of id) }
-    ensures most { result ≤ 128 }
-{
-    if id == FIRST_PART {
-        SUMMARY_LENGTH
-    } else if id < FIRST_ENTRY {
-        STATES_LENGTH
-    } else {
-        ENTRY_LENGTH
     }
 }
 
@@ -90,7 +74,7 @@ pub(crate) fn own_pages(config: &ValidConfig, number: u16) -> u32
     } else if number == FIRST_COMMIT || number == SECOND_COMMIT {
         record_pages(COMMIT_LENGTH)
     } else if is_own_part(config, number) {
-        record_pages(part_length(id_of(number)))
+        record_pages(part_of(id_of(number)).byte_length())
     } else if is_own_application(config, number) {
         record_pages(APPLICATION_LENGTH)
     } else {

@@ -1,15 +1,18 @@
 // Start-up's reading: the image is judged block by block, in the order of its definition.
-ghost use Rattle.std.specs.Prelude.{◌≡◌, IfOk, IfErr, OnOk, Err, IsErrOf, IsTrue, IsFalse};
+ghost use Rattle.std.specs.Prelude.{◌≡◌, IfOk, IfErr, OnOk, Err, IsErrOf, IsTrue, IsFalse, ◌↔◌};
 ghost use Rattle.flt_flash.specs.Calls.{Follows, SameImage, SameSpent, SameValues};
 ghost use Rattle.flt_nvm.specs.Driver.{driver_of, table_of};
 ghost use Rattle.flt_image.specs.Table.{block_table};
 ghost use Rattle.flt_restore.specs.declared.fault.StartFault.TheVariants.{Flash, SequenceSpent};
 ghost use Rattle.flt_restore.specs.Unread.{IsImageUnread};
-ghost use Rattle.flt_restore.specs.Restored.{Restores, Refuses};
+ghost use Rattle.flt_restore.specs.Restored.{IsRestored, Restores, Refuses, IsMarkDue};
+ghost use Rattle.flt_generation.specs.Form.{mark_of};
+ghost use Rattle.flt_generation.specs.Layout.{mark_number};
 
-use crate::commit::CommitCopy;
+use crate::commit::Restored;
 use crate::fault::StartFault;
 use crate::generation::read_image;
+use crate::judging::is_mark_due;
 use crate::reading::{read_commit, read_content};
 use flt_config::{Persist, ValidConfig};
 use flt_flash::Blocks;
@@ -30,20 +33,23 @@ fn check_sequence<B: Blocks + Drop>(nvm: &Nvm<B>) -> Result<(), StartFault>
 }
 
 /// Finds out what the image of a driver that is not stale holds: the commit by which it was judged, with its state in `out`, or none
-/// in the first generation. It judges by copy 1 of the commit, or by copy 2 where copy 1 can't be read in three tries.
+/// in the first generation; and whether its mark has to be written. It judges by copy 1 of the commit, or by copy 2 where copy 1 can't be read in three tries. Which sequence
+/// number the driver is at is no matter.
 ///
 /// It reads the mark, one copy of the commit and the blocks that it names, and goes by the lengths of all other records. Nothing is
 /// written. After an error `out` holds anything that fits its type.
-pub fn restore<B: Blocks + Drop>(
+pub fn judge<B: Blocks + Drop>(
     nvm: &mut Nvm<B>,
     config: &ValidConfig,
     out: &mut Persist,
-) -> Result<Option<CommitCopy>, StartFault>
+) -> Result<Restored, StartFault>
     requires table { table_of nvm.old ≡ block_table }
     requires mounted { IsTrue (driver_of nvm.old).has_mounted }
     requires settled { IsFalse (driver_of nvm.old).is_stale }
-    ensures restored { IfOk result (λ commit. Restores config.now (driver_of nvm.old) (driver_of nvm.new) commit out.new) }
+    ensures restored { IfOk result (λ found. IsRestored config.now (driver_of nvm.old) (driver_of nvm.new) found.commit out.new) }
+    ensures mark { IfOk result (λ found. IsTrue found.is_mark_due ↔ IsMarkDue (mark_of config.now) ((driver_of nvm.old).value mark_number)) }
     ensures refused { (fault : StartFault) → result ≡ Err fault → Refuses config.now (driver_of nvm.old) (driver_of nvm.new) fault }
+    ensures unspent { ¬ IsErrOf result SequenceSpent }
     ensures unread { IsErrOf result Flash → IsImageUnread config.now (driver_of nvm.old) (driver_of nvm.new) }
     ensures stays { IsFalse (driver_of nvm.new).is_stale }
     ensures values { SameValues (driver_of nvm.old) (driver_of nvm.new) }
@@ -54,7 +60,37 @@ pub fn restore<B: Blocks + Drop>(
 {
     let mark = read_content(nvm, MARK_ID, 0)?;
     let source = read_commit(nvm)?;
-    let commit = read_image(nvm, config, &mark, source, out)?;
+    match read_image(nvm, config, &mark, source, out) {
+        Ok(commit) => Ok(Restored {
+            commit,
+            is_mark_due: is_mark_due(config, &mark),
+        }),
+        Err(fault) => Err(fault),
+    }
+}
+
+/// Finds out what the image of a driver that is not stale holds, as `judge` does, and that a sequence number is left for the records
+/// to come.
+pub fn restore<B: Blocks + Drop>(
+    nvm: &mut Nvm<B>,
+    config: &ValidConfig,
+    out: &mut Persist,
+) -> Result<Restored, StartFault>
+    requires table { table_of nvm.old ≡ block_table }
+    requires mounted { IsTrue (driver_of nvm.old).has_mounted }
+    requires settled { IsFalse (driver_of nvm.old).is_stale }
+    ensures restored { IfOk result (λ found. Restores config.now (driver_of nvm.old) (driver_of nvm.new) found.commit out.new) }
+    ensures mark { IfOk result (λ found. IsTrue found.is_mark_due ↔ IsMarkDue (mark_of config.now) ((driver_of nvm.old).value mark_number)) }
+    ensures refused { (fault : StartFault) → result ≡ Err fault → Refuses config.now (driver_of nvm.old) (driver_of nvm.new) fault }
+    ensures unread { IsErrOf result Flash → IsImageUnread config.now (driver_of nvm.old) (driver_of nvm.new) }
+    ensures stays { IsFalse (driver_of nvm.new).is_stale }
+    ensures values { SameValues (driver_of nvm.old) (driver_of nvm.new) }
+    ensures image { SameImage (driver_of nvm.old) (driver_of nvm.new) }
+    ensures spent { SameSpent (driver_of nvm.old) (driver_of nvm.new) }
+    ensures follows { Follows (driver_of nvm.old) (driver_of nvm.new) }
+    ensures table { table_of nvm.new ≡ table_of nvm.old }
+{
+    let found = judge(nvm, config, out)?;
     check_sequence(nvm)?;
-    Ok(commit)
+    Ok(found)
 }

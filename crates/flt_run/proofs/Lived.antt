@@ -14,7 +14,7 @@ use Rattle.flt_life.specs.declared.life.Life.{Life}
 use Rattle.flt_life.specs.Chain.{LifeView, IsLifeBegunBy, AreLinked}
 use Rattle.flt_life.specs.Lives.{AreEnded, AreGiven, ArePlayed, arms_given, lists, lives_seen, view_of, views_of}
 use Rattle.flt_life.specs.Moment.{Moment, Medium, moment_at}
-use Rattle.flt_lives.specs.Sectors.{IsRunOf}
+use Rattle.flt_lives.specs.Devices.{IsRunOn}
 use Rattle.flt_script.specs.declared.script.Script.{Script}
 use Rattle.flt_script.specs.declared.step.Part.{Part}
 use Rattle.flt_script.specs.declared.step.Step.{Step}
@@ -73,15 +73,15 @@ pub if_some : {A : Type 0} {P Q : A → Type 0} (o : Option A) → ((x : A) → 
 if_some None weaker holds = tt
 if_some (Some x) weaker holds = weaker x holds
 
-pub lived_by : (script : Script) (lives : List (Vec Part Global)) (is : lives ≡ script.lives.items) (before after : FlashState) (run : Option (Vec Life Global)) (made : Made)
+pub lived_by : (media : Config → Medium) (script : Script) (lives : List (Vec Part Global)) (is : lives ≡ script.lives.items) (before after : FlashState) (run : Option (Vec Life Global)) (made : Made)
     → IsGiven script.config
     → lists made.script.items ≡ lists script.lives.items → run ≡ Some made.lives
-    → IfSome run (λ lived. IsRunOf script.config before after (lives_seen (lists lives) lived.items))
+    → IfSome run (λ lived. IsRunOn (media script.config) script.config before after (lives_seen (lists lives) lived.items))
     → IfSome run (λ lived. ArePlayed script.config (lives_seen (lists lives) lived.items))
     → IfSome run (λ lived. AreEnded (length lives) (lives_seen (lists lives) lived.items))
     → IfSome run (λ lived. AreGiven (arms_given (lives_seen (lists lives) lived.items)) before.bench.arms after.bench.arms)
-    → IsLivedBy (content script) before after made
-lived_by script lives is before after run made valid script_is ran linked played ended given =
+    → IsLivedBy media (content script) before after made
+lived_by media script lives is before after run made valid script_is ran linked played ended given =
     let seen : lives_seen (lists lives) made.lives.items ≡ lives_seen (lists script.lives.items) made.lives.items = λ i. lives_seen (lists (is i)) made.lives.items in
     record {
       script_is = script_is;
@@ -90,7 +90,7 @@ lived_by script lives is before after run made valid script_is ran linked played
         played = subst (ArePlayed script.config) seen (subst (λ run. IfSome run (λ lived. ArePlayed script.config (lives_seen (lists lives) lived.items))) ran played);
         ended = subst (λ many. AreEnded many (lives_seen (lists script.lives.items) made.lives.items)) (ap length is ∙ sym (length-map script.lives.items (λ (life : Vec Part Global). parts_of life.items)))
             (subst (AreEnded (length lives)) seen (subst (λ run. IfSome run (λ lived. AreEnded (length lives) (lives_seen (lists lives) lived.items))) ran ended));
-        linked = subst (IsRunOf script.config before after) seen (subst (λ run. IfSome run (λ lived. IsRunOf script.config before after (lives_seen (lists lives) lived.items))) ran linked);
+        linked = subst (IsRunOn (media script.config) script.config before after) seen (subst (λ run. IfSome run (λ lived. IsRunOn (media script.config) script.config before after (lives_seen (lists lives) lived.items))) ran linked);
         given = subst (λ lives. AreGiven (arms_given lives) before.bench.arms after.bench.arms) seen
             (subst (λ run. IfSome run (λ lived. AreGiven (arms_given (lives_seen (lists lives) lived.items)) before.bench.arms after.bench.arms)) ran given);
       };

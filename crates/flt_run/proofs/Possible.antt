@@ -30,6 +30,7 @@ possible_step config (steps.Show event) is = (tt, ltb-true event (length config.
 possible_step config (steps.Cycle cycle) is = let most = leb-true cycle 3 is in (tt, omega (arith, most))
 possible_step config (steps.Tick ticks) is = (tt, tt)
 possible_step config (steps.Signal index value) is = let most = leb-true index 7 (and_parts (leb index 7) (leb value 65535) is).0 in (tt, omega (arith, most))
+possible_step config (steps.Enable condition fulfilled) is = let most = leb-true condition 7 is in (tt, omega (arith, most))
 possible_step config (steps.Request tester bytes) is =
     let parts = and_parts (leb tester 3) (ltb 0 (length bytes.items)) is in
     let most = leb-true tester 3 parts.0 in
@@ -91,6 +92,7 @@ same_arm (steps.Show event) = refl
 same_arm (steps.Cycle cycle) = refl
 same_arm (steps.Tick ticks) = refl
 same_arm (steps.Signal index value) = refl
+same_arm (steps.Enable condition fulfilled) = refl
 same_arm (steps.Request tester bytes) = refl
 same_arm steps.Save = refl
 same_arm (steps.Post urgent block bytes) = refl

@@ -21,10 +21,9 @@ use Rattle.flt_life.specs.declared.life.Life.{Life}
 use Rattle.flt_life.specs.Chain.{LifeView, AreLinked, arms_between}
 use Rattle.flt_life.specs.Laws.{IsUndamaged, first_boot}
 use Rattle.flt_life.specs.Lives.{AreEnded, lists, lives_seen}
-use Rattle.flt_life.specs.Moment.{boot_in}
+use Rattle.flt_life.specs.Moment.{Medium, boot_in}
 use Rattle.flt_life.specs.Statuses.{status_by, status_of_lives}
 use Rattle.flt_life.proofs.Soundness.{stays_sound}
-use Rattle.flt_lives.specs.Sectors.{sectors}
 use Rattle.flt_run.specs.declared.command.Command.{Command}
 use Rattle.flt_run.specs.declared.ending.Ending.{Ending}
 use Rattle.flt_run.specs.declared.ending.Ending.TheVariants.{Usage, Unreadable, Refused, Accepted, Ran, Loaded}
@@ -64,38 +63,38 @@ other_than_six : (due status : ℕ) → due ≢ 6 → CameTo due status → stat
 other_than_six due status other (inl is) = λ six. other (sym is ∙ six)
 other_than_six due status other (inr is) = λ six. omega (arith, is, six)
 
-module _ (c : Config) (arms : Option (List ArmMade)) (earlier : ℕ) (next : PowerUp) where
+module _ (medium : Medium) (c : Config) (arms : Option (List ArmMade)) (earlier : ℕ) (next : PowerUp) where
   -- As many lives as a script asks for are at least one, which has its boot.
-  some_boots : (boots : List PowerUp) (lives : List LifeView) (many : ℕ) → 0 < many → AreEnded many lives → AreLinked c (sectors c) arms earlier next boots lives → 0 < length boots
+  some_boots : (boots : List PowerUp) (lives : List LifeView) (many : ℕ) → 0 < many → AreEnded many lives → AreLinked c medium arms earlier next boots lives → 0 < length boots
   some_boots [] [] many some ended linked = absurd (omega (arith, some, ended))
   some_boots [] (life ∷ lives) many some ended linked = absurd linked
   some_boots (boot ∷ boots) lives many some ended linked = omega arith
 
 -- Lives between their boots, by the law of the chain.
-by_boots : (c : Config) → IsGiven c → (before after : FlashState) (script : List (List (PartOf Step))) (lives : List Life) (status : ℕ) (boots : List PowerUp)
+by_boots : (medium : Medium) (c : Config) → IsGiven c → (before after : FlashState) (script : List (List (PartOf Step))) (lives : List Life) (status : ℕ) (boots : List PowerUp)
     → after.bench.boots ≡ before.bench.boots ++ reverse boots
-    → AreLinked c (sectors c) (arms_between before.bench.arms after.bench.arms) (length before.bench.boots) (boot_in (device_of after)) boots (lives_seen script lives)
-    → 0 < length boots → CameTo (status_of_lives (lives_seen script lives)) status → IsSoundThroughout c before after status lives
-by_boots c given before after script lives status [] is linked some came = absurd (omega (arith, some))
-by_boots c given before after script lives status (boot ∷ boots) is linked some came =
+    → AreLinked c medium (arms_between before.bench.arms after.bench.arms) (length before.bench.boots) (boot_in (device_of after)) boots (lives_seen script lives)
+    → 0 < length boots → CameTo (status_of_lives (lives_seen script lives)) status → IsSoundThroughout medium c before after status lives
+by_boots medium c given before after script lives status [] is linked some came = absurd (omega (arith, some))
+by_boots medium c given before after script lives status (boot ∷ boots) is linked some came =
     let order = first_of boot boots in
-    let law = stays_sound held_stands spare_stands c given (sectors c) (arms_between before.bench.arms after.bench.arms) (length before.bench.boots) (boot_in (device_of after)) (boot ∷ boots) (lives_seen script lives) linked in
+    let law = stays_sound held_stands spare_stands c given medium (arms_between before.bench.arms after.bench.arms) (length before.bench.boots) (boot_in (device_of after)) (boot ∷ boots) (lives_seen script lives) linked in
     record {
       first = first_boot boot boots;
       later = order.0;
       are = is ∙ ap (λ (all : List PowerUp). before.bench.boots ++ all) order.1;
-      boots = λ sound. All-tail (IsSoundFor c) (first_boot boot boots) order.0 (subst (All (IsSoundFor c)) order.1 (turned (IsSoundFor c) (boot ∷ boots) (law sound).1));
+      boots = λ sound. All-tail (IsSoundFor medium c) (first_boot boot boots) order.0 (subst (All (IsSoundFor medium c)) order.1 (turned (IsSoundFor medium c) (boot ∷ boots) (law sound).1));
       end = λ sound. (law sound).0;
       unrefused = λ sound. all_of_seen IsUndamaged script lives (law sound).2;
       not_six = λ sound. other_than_six (status_of_lives (lives_seen script lives)) status (undamaged_last (lives_seen script lives) (law sound).2) came;
     }
 
-made_throughout : (script : ScriptContent) (before after : FlashState) (made : Made) (status : ℕ) → IsLivedBy script before after made → CameTo (status_of_lives (lives_seen (lists made.script.items) made.lives.items)) status
-    → IsSoundThroughout script.config before after status made.lives.items
-made_throughout script before after made status lived came =
+made_throughout : (media : Config → Medium) (script : ScriptContent) (before after : FlashState) (made : Made) (status : ℕ) → IsLivedBy media script before after made → CameTo (status_of_lives (lives_seen (lists made.script.items) made.lives.items)) status
+    → IsSoundThroughout (media script.config) script.config before after status made.lives.items
+made_throughout media script before after made status lived came =
     let linked = lived.lived.linked in
-    by_boots script.config lived.lived.valid before after script.lives made.lives.items status linked.boots linked.is linked.linked
-    (some_boots script.config _ _ _ linked.boots (lives_seen script.lives made.lives.items) (length script.lives) (some_lives script.lives made lived.script_is) lived.lived.ended linked.linked)
+    by_boots (media script.config) script.config lived.lived.valid before after script.lives made.lives.items status linked.boots linked.is linked.linked
+    (some_boots (media script.config) script.config _ _ _ linked.boots (lives_seen script.lives made.lives.items) (length script.lives) (some_lives script.lives made lived.script_is) lived.lived.ended linked.linked)
     (subst (λ lives. CameTo (status_of_lives (lives_seen lives made.lives.items)) status) lived.script_is came)
 
 module _ (dids : List DidUse) (inside : Inside) (command : Option Command) where
@@ -112,9 +111,9 @@ module _ (dids : List DidUse) (inside : Inside) (command : Option Command) where
       let run = cause.0 in
       let script : ScriptContent = cause.2.0 in
       let of : IsScriptOf dids inside command script = subst (λ c. IsScriptOf dids inside c script) (sym run) cause.2.1 in
-      inr (inr (script, of, subst (IsSoundThroughout script.config inside.flash inside.flash_after status) (sym is) (made_throughout script inside.flash inside.flash_after made status cause.2.2 came)))
+      inr (inr (script, of, subst (IsSoundThroughout (inside.media script.config) script.config inside.device inside.device_after status) (sym is) (made_throughout inside.media script inside.device inside.device_after made status cause.2.2 came)))
   throughout status lives (Loaded made) cause came is =
       let load = cause.2 in
       let script : ScriptContent = load_script cause.0 cause.1 in
       let of : IsScriptOf dids inside command script = subst (λ c. IsScriptOf dids inside c script) (sym load) refl in
-      inr (inr (script, of, subst (IsSoundThroughout script.config inside.flash inside.flash_after status) (sym is) (made_throughout script inside.flash inside.flash_after made status cause.4 came)))
+      inr (inr (script, of, subst (IsSoundThroughout (inside.media script.config) script.config inside.device inside.device_after status) (sym is) (made_throughout inside.media script inside.device inside.device_after made status cause.4 came)))

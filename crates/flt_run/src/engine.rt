@@ -1,4 +1,4 @@
-// The lives of a script over a bench.
+// The lives of a script over a device.
 ghost use Rattle.std.specs.Prelude.{◌≡◌, ◌≢◌, ◌≤◌, Some, All, IfSome};
 ghost use Rattle.flt_did.specs.Serves.{Serves};
 ghost use Rattle.flt_did.specs.Table.{dids_of};
@@ -10,7 +10,7 @@ ghost use Rattle.flt_restore.specs.declared.fault.StartFault.TheVariants.{Flash}
 ghost use Rattle.flt_life.specs.declared.life.Boot.TheVariants.{Refused};
 ghost use Rattle.flt_life.specs.Lives.{lists};
 ghost use Rattle.flt_lives.specs.Alone.{AreAlone};
-ghost use Rattle.flt_lives.specs.Sectors.{FlashStaysSound};
+ghost use Rattle.flt_lives.specs.Devices.{DeviceStaysSound, ServesAll};
 ghost use Rattle.flt_run.specs.Ending.{IsLivedBy};
 
 use crate::made::Made;
@@ -18,20 +18,19 @@ use flt_config::ValidConfig;
 use flt_dcm::Unit;
 use flt_dem::Dem;
 use flt_did::{DID_ROWS, DidTable};
-use flt_flash::Bench;
 use flt_lane::{SharedGate, run_in_lanes};
-use flt_lives::{Run, run_alone};
+use flt_lives::{Driver, Run, run_alone};
 use flt_script::Script;
 use std::alloc::Global;
 use std::marker::Sync;
 use std::sync::Wait;
 use std::thread::Threads;
 
-/// The lives that were made, or none for want of memory, and the bench as they left it.
+/// The lives that were made, or none for want of memory, and the device as they left it.
 #[derive(Drop)]
-pub(crate) struct Lived<B> {
+pub(crate) struct MadeOn<D> {
     pub(crate) made: Option<Made>,
-    pub(crate) bench: B,
+    pub(crate) device: D,
 }
 
 /// The machine of a script.
@@ -52,61 +51,61 @@ fn look_at_config(config: &ValidConfig)
 }
 
 /// The lives of a script, as they were made.
-fn made_of<B: Drop>(script: Script, run: Run<B>) -> Lived<B>
+fn made_of<D: Drop>(script: Script, run: Run<D>) -> MadeOn<D>
     requires { IfSome run.lives (λ lives. All (λ life. life.boot ≢ Refused Flash) lives.items) }
-    ensures bench { result.bench ≡ run.bench }
+    ensures device { result.device ≡ run.device }
     ensures made { IfSome result.made (λ made. (lists made.script.items ≡ lists script.lives.items) × (run.lives ≡ Some made.lives)) }
 {
     let Script { lives: script, .. } = script;
-    let Run { lives, bench } = run;
+    let Run { lives, device } = run;
     match lives {
-        Some(lives) => Lived {
+        Some(lives) => MadeOn {
             made: Some(Made { script, lives }),
-            bench,
+            device,
         },
-        None => Lived { made: None, bench },
+        None => MadeOn { made: None, device },
     }
 }
 
 /// Makes the lives of a script without blocks of lanes, one after the other, up to the first that is refused, on a machine without a
 /// lock.
-pub(crate) fn live_alone<B: Bench + Drop>(
+pub(crate) fn live_alone<D: Driver>(
     alloc: Global,
     unit: Unit,
-    bench: B,
+    device: D::Device,
     script: Script,
-) -> Lived<B>
+) -> MadeOn<D::Device>
     requires same { config_of unit ≡ script.config }
     requires alone { All (λ life. AreAlone (parts_of life.items)) script.lives.items }
-    requires pages { (B.state bench).pages ≡ 1024 }
-    requires boots { 256 ≤ (B.state bench).bench.boots_left }
-    requires unarmed { (B.state bench).bench.armed ≡ 0 }
-    ensures lived { IfSome result.made (IsLivedBy (content script) (B.state bench) (B.state result.bench)) }
-    ensures sound { FlashStaysSound script.config (B.state bench) (B.state result.bench) }
+    requires serves { ServesAll D.serves (D.device_state device) }
+    requires boots { 256 ≤ (D.device_state device).bench.boots_left }
+    requires unarmed { (D.device_state device).bench.armed ≡ 0 }
+    ensures lived { IfSome result.made (IsLivedBy D.medium (content script) (D.device_state device) (D.device_state result.device)) }
+    ensures sound { DeviceStaysSound (D.medium script.config) script.config (D.device_state device) (D.device_state result.device) }
 {
     look_at_config(&script.config);
-    let run = run_alone(alloc, unit, bench, &script.config, &script.lives);
+    let run = run_alone::<D>(alloc, unit, device, &script.config, &script.lives);
     made_of(script, run)
 }
 
 /// Makes the lives of a script one after the other, up to the first that is refused, all calls of a life under two locks, of the status
 /// machine and of the queue, and the lanes of a block at the same time. Each step is made between the two calls of the gate.
-pub(crate) fn live_in_lanes<R: Threads + Wait + Sync, G: SharedGate, B: Bench + Drop>(
+pub(crate) fn live_in_lanes<R: Threads + Wait + Sync, G: SharedGate, D: Driver>(
     rt: &R,
     gate: &G,
     alloc: Global,
     unit: Unit,
-    bench: B,
+    device: D::Device,
     script: Script,
-) -> Lived<B>
+) -> MadeOn<D::Device>
     requires same { config_of unit ≡ script.config }
-    requires pages { (B.state bench).pages ≡ 1024 }
-    requires boots { 256 ≤ (B.state bench).bench.boots_left }
-    requires unarmed { (B.state bench).bench.armed ≡ 0 }
-    ensures lived { IfSome result.made (IsLivedBy (content script) (B.state bench) (B.state result.bench)) }
-    ensures sound { FlashStaysSound script.config (B.state bench) (B.state result.bench) }
+    requires serves { ServesAll D.serves (D.device_state device) }
+    requires boots { 256 ≤ (D.device_state device).bench.boots_left }
+    requires unarmed { (D.device_state device).bench.armed ≡ 0 }
+    ensures lived { IfSome result.made (IsLivedBy D.medium (content script) (D.device_state device) (D.device_state result.device)) }
+    ensures sound { DeviceStaysSound (D.medium script.config) script.config (D.device_state device) (D.device_state result.device) }
 {
     look_at_config(&script.config);
-    let run = run_in_lanes(rt, gate, alloc, unit, bench, &script.config, &script.lives);
+    let run = run_in_lanes::<R, G, D>(rt, gate, alloc, unit, device, &script.config, &script.lives);
     made_of(script, run)
 }

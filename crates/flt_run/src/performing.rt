@@ -4,51 +4,54 @@ ghost use Rattle.flt_flash.specs.State.{FlashState};
 ghost use Rattle.flt_did.specs.Table.{dids_of};
 ghost use Rattle.flt_run.specs.Command.{IsInRange, plain_of};
 ghost use Rattle.flt_script.specs.Load.{load_config, load_script};
-ghost use Rattle.flt_lives.specs.Sectors.{FlashStaysSound};
+ghost use Rattle.flt_config.specs.declared.config.Config.{Config};
+ghost use Rattle.flt_life.specs.Moment.{Medium};
+ghost use Rattle.flt_lives.specs.Devices.{DeviceStaysSound, ServesAll};
 ghost use Rattle.flt_run.specs.declared.command.Command.TheVariants.{Check, Run};
 ghost use Rattle.flt_run.specs.declared.ending.Ending.TheVariants.{Usage};
 ghost use Rattle.flt_run.specs.Ending.{EndingHasCause, IsLeftSound, IsLivedBy};
 
 use crate::command::Command;
 use crate::ending::Ending;
-use crate::engine::{Lived, live_alone, live_in_lanes, unit_of};
+use crate::engine::{MadeOn, live_alone, live_in_lanes, unit_of};
 use crate::reading::{Fetched, fetch};
 use flt_did::{DID_ROWS, DidTable};
-use flt_flash::Bench;
 use flt_io::Source;
 use flt_lane::SharedGate;
+use flt_lives::Driver;
 use flt_script::load;
 use std::alloc::Global;
 use std::marker::Sync;
 use std::sync::Wait;
 use std::thread::Threads;
 
-/// What a run came to, or nothing for want of memory, and the bench as it left it.
+/// What a run came to, or nothing for want of memory, and the device as it left it.
 #[derive(Drop)]
-pub(crate) struct Performed<B> {
+pub(crate) struct Performed<D> {
     pub(crate) ending: Option<Ending>,
-    pub(crate) bench: B,
+    pub(crate) device: D,
 }
 
 /// The words are not those of a command.
-fn usage<B: Drop>(bench: B) -> Performed<B>
-    ensures { result ≡ record { ending = Some Usage; bench = bench } }
+fn usage<D: Drop>(device: D) -> Performed<D>
+    ensures { result ≡ record { ending = Some Usage; device = device } }
 {
     Performed {
         ending: Some(Ending::Usage),
-        bench,
+        device,
     }
 }
 
 /// Reads the script, and makes none of its steps.
 fn check<S: Source>(alloc: Global, source: &mut S, dids: &DidTable<DID_ROWS>) -> Option<Ending>
-    ensures { (flash : FlashState) → IfSome result (EndingHasCause (dids_of dids.now) (record {
+    ensures { (media : Config → Medium) (device : FlashState) → IfSome result (EndingHasCause (dids_of dids.now) (record {
       left = S.left source.old;
       left_after = S.left source.new;
       read_faults = S.faults source.old;
       read_faults_after = S.faults source.new;
-      flash = flash;
-      flash_after = flash;
+      media = media;
+      device = device;
+      device_after = device;
     }) (Some Check)) }
 {
     match fetch(alloc, source, dids) {
@@ -60,206 +63,216 @@ fn check<S: Source>(alloc: Global, source: &mut S, dids: &DidTable<DID_ROWS>) ->
 }
 
 /// Makes the lives of a load without lanes.
-fn load_plain<B: Bench + Drop>(
+fn load_plain<D: Driver>(
     alloc: Global,
     count: u32,
-    bench: B,
+    device: D::Device,
     dids: DidTable<DID_ROWS>,
-) -> Lived<B>
+) -> MadeOn<D::Device>
     requires some { 1 ≤ count }
     requires few { count ≤ 60000 }
-    requires pages { (B.state bench).pages ≡ 1024 }
-    requires boots { 256 ≤ (B.state bench).bench.boots_left }
-    requires unarmed { (B.state bench).bench.armed ≡ 0 }
-    ensures lived { IfSome result.made (IsLivedBy (load_script count false) (B.state bench) (B.state result.bench)) }
-    ensures sound { FlashStaysSound load_config (B.state bench) (B.state result.bench) }
+    requires serves { ServesAll D.serves (D.device_state device) }
+    requires boots { 256 ≤ (D.device_state device).bench.boots_left }
+    requires unarmed { (D.device_state device).bench.armed ≡ 0 }
+    ensures lived { IfSome result.made (IsLivedBy D.medium (load_script count false) (D.device_state device) (D.device_state result.device)) }
+    ensures sound { DeviceStaysSound (D.medium load_config) load_config (D.device_state device) (D.device_state result.device) }
 {
     match load(alloc, count, false) {
         Ok(script) => {
             let unit = unit_of(&script.config, dids);
-            live_alone(alloc, unit, bench, script)
+            live_alone::<D>(alloc, unit, device, script)
         }
-        Err(_) => Lived { made: None, bench },
+        Err(_) => MadeOn { made: None, device },
     }
 }
 
 /// Carries out a command that needs no lock; each other command is answered as words that are none.
-pub(crate) fn perform_plain<S: Source, B: Bench + Drop>(
+pub(crate) fn perform_plain<S: Source, D: Driver>(
     alloc: Global,
     command: Option<Command>,
     source: &mut S,
-    bench: B,
+    device: D::Device,
     dids: DidTable<DID_ROWS>,
-) -> Performed<B>
+) -> Performed<D::Device>
     requires range { IsInRange command }
-    requires pages { (B.state bench).pages ≡ 1024 }
-    requires boots { 256 ≤ (B.state bench).bench.boots_left }
-    requires unarmed { (B.state bench).bench.armed ≡ 0 }
+    requires serves { ServesAll D.serves (D.device_state device) }
+    requires boots { 256 ≤ (D.device_state device).bench.boots_left }
+    requires unarmed { (D.device_state device).bench.armed ≡ 0 }
     ensures comes { IfSome result.ending (EndingHasCause (dids_of dids) (record {
       left = S.left source.old;
       left_after = S.left source.new;
       read_faults = S.faults source.old;
       read_faults_after = S.faults source.new;
-      flash = B.state bench;
-      flash_after = B.state result.bench;
+      media = D.medium;
+      device = D.device_state device;
+      device_after = D.device_state result.device;
     }) (plain_of command)) }
     ensures sound { IsLeftSound (dids_of dids) (record {
       left = S.left source.old;
       left_after = S.left source.new;
       read_faults = S.faults source.old;
       read_faults_after = S.faults source.new;
-      flash = B.state bench;
-      flash_after = B.state result.bench;
+      media = D.medium;
+      device = D.device_state device;
+      device_after = D.device_state result.device;
     }) (plain_of command) }
 {
     let Some(command) = command else {
-        return usage(bench);
+        return usage(device);
     };
     match command {
         Command::Check => Performed {
             ending: check(alloc, source, &dids),
-            bench,
+            device,
         },
         Command::Load { count, lanes } => {
             if lanes {
-                return usage(bench);
+                return usage(device);
             }
-            let Lived { made, bench } = load_plain(alloc, count, bench, dids);
+            let MadeOn { made, device } = load_plain::<D>(alloc, count, device, dids);
             Performed {
                 ending: made.map(|made| Ending::Loaded(made)),
-                bench,
+                device,
             }
         }
-        Command::Run => usage(bench),
+        Command::Run => usage(device),
     }
 }
 
 /// Makes the lives of a load in lanes.
-fn load_in_lanes<R: Threads + Wait + Sync, G: SharedGate, B: Bench + Drop>(
+fn load_in_lanes<R: Threads + Wait + Sync, G: SharedGate, D: Driver>(
     rt: &R,
     gate: &G,
     alloc: Global,
     count: u32,
-    bench: B,
+    device: D::Device,
     dids: DidTable<DID_ROWS>,
-) -> Lived<B>
+) -> MadeOn<D::Device>
     requires some { 1 ≤ count }
     requires few { count ≤ 60000 }
-    requires pages { (B.state bench).pages ≡ 1024 }
-    requires boots { 256 ≤ (B.state bench).bench.boots_left }
-    requires unarmed { (B.state bench).bench.armed ≡ 0 }
-    ensures lived { IfSome result.made (IsLivedBy (load_script count true) (B.state bench) (B.state result.bench)) }
-    ensures sound { FlashStaysSound load_config (B.state bench) (B.state result.bench) }
+    requires serves { ServesAll D.serves (D.device_state device) }
+    requires boots { 256 ≤ (D.device_state device).bench.boots_left }
+    requires unarmed { (D.device_state device).bench.armed ≡ 0 }
+    ensures lived { IfSome result.made (IsLivedBy D.medium (load_script count true) (D.device_state device) (D.device_state result.device)) }
+    ensures sound { DeviceStaysSound (D.medium load_config) load_config (D.device_state device) (D.device_state result.device) }
 {
     match load(alloc, count, true) {
         Ok(script) => {
             let unit = unit_of(&script.config, dids);
-            live_in_lanes(rt, gate, alloc, unit, bench, script)
+            live_in_lanes::<R, G, D>(rt, gate, alloc, unit, device, script)
         }
-        Err(_) => Lived { made: None, bench },
+        Err(_) => MadeOn { made: None, device },
     }
 }
 
 /// Reads the script, and makes its lives.
-fn run_script<R: Threads + Wait + Sync, G: SharedGate, S: Source, B: Bench + Drop>(
+fn run_script<R: Threads + Wait + Sync, G: SharedGate, S: Source, D: Driver>(
     rt: &R,
     gate: &G,
     alloc: Global,
     source: &mut S,
-    bench: B,
+    device: D::Device,
     dids: DidTable<DID_ROWS>,
-) -> Performed<B>
-    requires pages { (B.state bench).pages ≡ 1024 }
-    requires boots { 256 ≤ (B.state bench).bench.boots_left }
-    requires unarmed { (B.state bench).bench.armed ≡ 0 }
+) -> Performed<D::Device>
+    requires serves { ServesAll D.serves (D.device_state device) }
+    requires boots { 256 ≤ (D.device_state device).bench.boots_left }
+    requires unarmed { (D.device_state device).bench.armed ≡ 0 }
     ensures comes { IfSome result.ending (EndingHasCause (dids_of dids) (record {
       left = S.left source.old;
       left_after = S.left source.new;
       read_faults = S.faults source.old;
       read_faults_after = S.faults source.new;
-      flash = B.state bench;
-      flash_after = B.state result.bench;
+      media = D.medium;
+      device = D.device_state device;
+      device_after = D.device_state result.device;
     }) (Some Run)) }
     ensures sound { IsLeftSound (dids_of dids) (record {
       left = S.left source.old;
       left_after = S.left source.new;
       read_faults = S.faults source.old;
       read_faults_after = S.faults source.new;
-      flash = B.state bench;
-      flash_after = B.state result.bench;
+      media = D.medium;
+      device = D.device_state device;
+      device_after = D.device_state result.device;
     }) (Some Run) }
 {
     match fetch(alloc, source, &dids) {
         Fetched::Script(script) => {
             let unit = unit_of(&script.config, dids);
-            let Lived { made, bench } = live_in_lanes(rt, gate, alloc, unit, bench, script);
+            let MadeOn { made, device } = live_in_lanes::<R, G, D>(
+                rt, gate, alloc, unit, device, script,
+            );
             Performed {
                 ending: made.map(|made| Ending::Ran(made)),
-                bench,
+                device,
             }
         }
         Fetched::Refused(fault) => Performed {
             ending: Some(Ending::Refused(fault)),
-            bench,
+            device,
         },
         Fetched::Failed => Performed {
             ending: Some(Ending::Unreadable),
-            bench,
+            device,
         },
         Fetched::Memory => Performed {
             ending: None,
-            bench,
+            device,
         },
     }
 }
 
 /// Carries out a command; no command is answered as words that are none.
-pub(crate) fn perform<R: Threads + Wait + Sync, G: SharedGate, S: Source, B: Bench + Drop>(
+pub(crate) fn perform<R: Threads + Wait + Sync, G: SharedGate, S: Source, D: Driver>(
     rt: &R,
     gate: &G,
     alloc: Global,
     command: Option<Command>,
     source: &mut S,
-    bench: B,
+    device: D::Device,
     dids: DidTable<DID_ROWS>,
-) -> Performed<B>
+) -> Performed<D::Device>
     requires range { IsInRange command }
-    requires pages { (B.state bench).pages ≡ 1024 }
-    requires boots { 256 ≤ (B.state bench).bench.boots_left }
-    requires unarmed { (B.state bench).bench.armed ≡ 0 }
+    requires serves { ServesAll D.serves (D.device_state device) }
+    requires boots { 256 ≤ (D.device_state device).bench.boots_left }
+    requires unarmed { (D.device_state device).bench.armed ≡ 0 }
     ensures comes { IfSome result.ending (EndingHasCause (dids_of dids) (record {
       left = S.left source.old;
       left_after = S.left source.new;
       read_faults = S.faults source.old;
       read_faults_after = S.faults source.new;
-      flash = B.state bench;
-      flash_after = B.state result.bench;
+      media = D.medium;
+      device = D.device_state device;
+      device_after = D.device_state result.device;
     }) command) }
     ensures sound { IsLeftSound (dids_of dids) (record {
       left = S.left source.old;
       left_after = S.left source.new;
       read_faults = S.faults source.old;
       read_faults_after = S.faults source.new;
-      flash = B.state bench;
-      flash_after = B.state result.bench;
+      media = D.medium;
+      device = D.device_state device;
+      device_after = D.device_state result.device;
     }) command }
 {
     let Some(word) = command else {
-        return usage(bench);
+        return usage(device);
     };
     match word {
-        Command::Run => run_script(rt, gate, alloc, source, bench, dids),
+        Command::Run => run_script::<R, G, S, D>(rt, gate, alloc, source, device, dids),
         Command::Load { count, lanes } => {
             if lanes {
-                let Lived { made, bench } = load_in_lanes(rt, gate, alloc, count, bench, dids);
+                let MadeOn { made, device } = load_in_lanes::<R, G, D>(
+                    rt, gate, alloc, count, device, dids,
+                );
                 Performed {
                     ending: made.map(|made| Ending::Loaded(made)),
-                    bench,
+                    device,
                 }
             } else {
-                perform_plain(alloc, command, source, bench, dids)
+                perform_plain::<S, D>(alloc, command, source, device, dids)
             }
         }
-        Command::Check => perform_plain(alloc, command, source, bench, dids),
+        Command::Check => perform_plain::<S, D>(alloc, command, source, device, dids),
     }
 }

@@ -3,6 +3,7 @@ use Rattle.std.proofs.Common.{◌≡◌, ℕ, ◌+◌, ◌<◌, List, [], ◌∷
 use Rattle.std.specs.Prelude.{count_by, find, is_some, is_none, not, ◌==◌, option_map, option_to_list, slice_get}
 use Rattle.std.proofs.lemmas.Bool.{lt-ltb}
 use Rattle.std.proofs.lemmas.List.Sums.{sum_by-cons}
+use Rattle.flt_config.specs.declared.TheConstants.{EVENTS}
 use Rattle.flt_config.specs.declared.config.DidUse.{DidUse}
 use Rattle.flt_did.specs.Rows.{is_did}
 use Rattle.flt_script.specs.declared.event.EventLine.{EventLine}
@@ -11,7 +12,7 @@ use Rattle.flt_script.specs.declared.fault.LineCause.TheVariants as cause
 use Rattle.flt_script.specs.Said.{Line}
 use Rattle.flt_script.specs.Said as line
 use Rattle.flt_script.specs.declared.line.StepLine.{StepLine}
-use Rattle.flt_script.specs.declared.line.StepLine.TheVariants.{Report, Show, Cycle, Tick, Signal, Request, Save, Post, Drain, Get, Ask, Arming}
+use Rattle.flt_script.specs.declared.line.StepLine.TheVariants.{Report, Show, Cycle, Tick, Signal, Enable, Request, Save, Post, Drain, Get, Ask, Arming}
 use Rattle.flt_script.specs.declared.step.Step.{Step}
 use Rattle.flt_script.specs.Behind.{Behind, added, behind, event_count, has_begun, lane_count, has_lane, in_last_lane, with_step, step_of, arms_with, drains_with}
 use Rattle.flt_script.specs.Causes.{arms_written, drains_written}
@@ -56,7 +57,7 @@ event_adds : (b : Behind) (event : EventLine) → event_refusal b event ≡ None
 unfolding event_refusal
 event_adds b event e =
     let held = one_held (event_held event) (second_is_false (has_begun b || not (event.number == event_count b)) (is_none (event_held event)) cause.Order cause.Range
-    (cond (leb 64 (event_count b)) (Some cause.Many) None) e) in
+    (cond (leb EVENTS (event_count b)) (Some cause.Many) None) e) in
     length-append b.config.events.items (option_to_list (event_held event)) ∙ ap (λ n. event_count b + n) held
 
 step_read : (b : Behind) (s : StepLine) → step_refusal b s ≡ None → is_none (step_of b.config s) ≡ false
@@ -109,6 +110,7 @@ arming_line (Show event) = refl
 arming_line (Cycle cycle) = refl
 arming_line (Tick ticks) = refl
 arming_line (Signal index value) = refl
+arming_line (Enable condition value) = refl
 arming_line (Request tester bytes) = refl
 arming_line Save = refl
 arming_line (Post urgent block bytes) = refl
@@ -123,6 +125,7 @@ drain_line (Show event) = refl
 drain_line (Cycle cycle) = refl
 drain_line (Tick ticks) = refl
 drain_line (Signal index value) = refl
+drain_line (Enable condition value) = refl
 drain_line (Request tester bytes) = refl
 drain_line Save = refl
 drain_line (Post urgent block bytes) = refl

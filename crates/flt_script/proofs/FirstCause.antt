@@ -100,9 +100,9 @@ debounce_kept (Counter thresholds up down) =
     ∙ rw (jump_kept up, jump_kept down) refl
 debounce_kept (Time fail pass) = times_in (leb fail 65535) (leb pass 65535) fail pass
 
-event_in : (dtc : ℕ) (p c f h a l : Bool) (priority cycle confirm heal age lamp : ℕ) (debounce : Option Debounce) → is_some {T = EventCfg} (
+event_in : (dtc : ℕ) (p c f h a l n : Bool) (priority cycle confirm heal age lamp needs : ℕ) (debounce : Option Debounce) → is_some {T = EventCfg} (
     kept p priority ⇒ λ priority. kept c cycle ⇒ λ cycle. kept f confirm ⇒ λ confirm. kept h heal ⇒ λ heal. kept a age ⇒ λ age.
-    kept l lamp ⇒ λ lamp. debounce ⇒ λ debounce.
+    kept l lamp ⇒ λ lamp. kept n needs ⇒ λ needs. debounce ⇒ λ debounce.
     Some (record {
       dtc = dtc;
       priority = priority;
@@ -111,25 +111,27 @@ event_in : (dtc : ℕ) (p c f h a l : Bool) (priority cycle confirm heal age lam
       heal = heal;
       age = age;
       indicator = lamp == 1;
+      needs = needs;
       debounce = debounce;
       dids = record { items = [] };
-    })) ≡ (p && c && f && h && a && l && is_some debounce)
-event_in dtc false c f h a l priority cycle confirm heal age lamp debounce = refl
-event_in dtc true false f h a l priority cycle confirm heal age lamp debounce = refl
-event_in dtc true true false h a l priority cycle confirm heal age lamp debounce = refl
-event_in dtc true true true false a l priority cycle confirm heal age lamp debounce = refl
-event_in dtc true true true true false l priority cycle confirm heal age lamp debounce = refl
-event_in dtc true true true true true false priority cycle confirm heal age lamp debounce = refl
-event_in dtc true true true true true true priority cycle confirm heal age lamp None = refl
-event_in dtc true true true true true true priority cycle confirm heal age lamp (Some debounce) = refl
+    })) ≡ (p && c && f && h && a && l && n && is_some debounce)
+event_in dtc false c f h a l n priority cycle confirm heal age lamp needs debounce = refl
+event_in dtc true false f h a l n priority cycle confirm heal age lamp needs debounce = refl
+event_in dtc true true false h a l n priority cycle confirm heal age lamp needs debounce = refl
+event_in dtc true true true false a l n priority cycle confirm heal age lamp needs debounce = refl
+event_in dtc true true true true false l n priority cycle confirm heal age lamp needs debounce = refl
+event_in dtc true true true true true false n priority cycle confirm heal age lamp needs debounce = refl
+event_in dtc true true true true true true false priority cycle confirm heal age lamp needs debounce = refl
+event_in dtc true true true true true true true priority cycle confirm heal age lamp needs None = refl
+event_in dtc true true true true true true true priority cycle confirm heal age lamp needs (Some debounce) = refl
 
 event_kept : (event : EventLine) → is_none (event_held event) ≡ not (is_event_kept event)
 unfolding event_held
 event_kept event =
     let n = event.numbers in
     none_is_not_some _ ∙ ap not (
-    event_in event.dtc (leb n.priority 255) (leb n.cycle 255) (leb n.confirm 255) (leb n.heal 255) (leb n.age 255) (leb n.lamp 1)
-    n.priority n.cycle n.confirm n.heal n.age n.lamp (debounce_held event.debounce)
+    event_in event.dtc (leb n.priority 255) (leb n.cycle 255) (leb n.confirm 255) (leb n.heal 255) (leb n.age 255) (leb n.lamp 1) (leb n.needs 255)
+    n.priority n.cycle n.confirm n.heal n.age n.lamp n.needs (debounce_held event.debounce)
     ∙ rw (debounce_kept event.debounce) refl)
 
 -- ---- steps

@@ -4,6 +4,7 @@ use Rattle.std.specs.Prelude.{◌≢◌, ◌↔◌, ℤ, pos, ◌≤ℤ◌, All,
 use Rattle.std.proofs.lemmas.Bool.{leb-false}
 use Rattle.std.proofs.lemmas.Int.{ints}
 use Rattle.std.proofs.lemmas.List.Elements.{All-append}
+use Rattle.flt_config.specs.declared.TheConstants.{EVENTS}
 use Rattle.flt_config.specs.declared.setting.Setting.{Setting}
 use Rattle.flt_config.specs.declared.config.Config.{Config}
 use Rattle.flt_config.specs.declared.config.CfgFault.{CfgFault}
@@ -48,7 +49,7 @@ IsPlaced (Some number) value default = 0 < number
 
 pub record IsSound (b : Behind) : Type 0 where
   pub placed : length b.config.events.items ≤ length b.places.events.items
-  pub few : length b.config.events.items ≤ 64
+  pub few : length b.config.events.items ≤ EVENTS
   pub events : All (λ number. 0 < number) b.places.events.items
   pub memory : IsPlaced b.places.memory b.config.memory 16
   pub pages : IsPlaced b.places.flash b.config.pages 512
@@ -78,10 +79,10 @@ third_is_false false true c x y z e = absurd cc
 third_is_false false false true x y z e = absurd cc
 third_is_false false false false x y z e = refl
 
-room_for_event : (b : Behind) (event : EventLine) → event_refusal b event ≡ None → event_count b < 64
+room_for_event : (b : Behind) (event : EventLine) → event_refusal b event ≡ None → event_count b < EVENTS
 unfolding event_refusal
-room_for_event b event e = leb-false 64 (event_count b)
-    (third_is_false (has_begun b || not (event.number == event_count b)) (is_none (event_held event)) (leb 64 (event_count b)) cause.Order cause.Range cause.Many e)
+room_for_event b event e = leb-false EVENTS (event_count b)
+    (third_is_false (has_begun b || not (event.number == event_count b)) (is_none (event_held event)) (leb EVENTS (event_count b)) cause.Order cause.Range cause.Many e)
 
 sound_added : (dids : List DidUse) (number : ℕ) (b : Behind) (l : Line) → IsSound b → 0 < number → refusal dids b l ≡ None → IsSound (added dids number b l)
 unfolding added refusal

@@ -140,6 +140,7 @@ no_arm (step.Show event) may = refl
 no_arm (step.Cycle cycle) may = refl
 no_arm (step.Tick ticks) may = refl
 no_arm (step.Signal index value) may = refl
+no_arm (step.Enable condition fulfilled) may = refl
 no_arm (step.Request tester bytes) may = refl
 no_arm step.Save may = refl
 no_arm (step.Post urgent block bytes) may = refl

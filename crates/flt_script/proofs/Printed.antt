@@ -1,8 +1,9 @@
 -- What a step prints is read again.
-use Rattle.std.proofs.Common.{◌≡◌, ℕ, ◌<◌, ◌≤◌, ◌^◌, length, true, ◌&&◌, Ok, refl, ◌∙◌, arith, ltb, leb, lit<, lit≤}
+use Rattle.std.proofs.Common.{◌≡◌, ℕ, ◌<◌, ◌≤◌, ◌^◌, length, true, false, ◌&&◌, Ok, refl, ◌∙◌, arith, ltb, leb, lit<, lit≤}
 use Rattle.std.specs.Prelude.{codes}
 use Rattle.std.specs.Fmt.{decimal}
 use Rattle.std.proofs.lemmas.Bool.{ltb-true, leb-true}
+use Rattle.flt_config.specs.declared.TheConstants.{EVENTS}
 use Rattle.flt_model.specs.declared.call.Report.TheVariants.{Passed, Failed, PrePassed, PreFailed}
 use Rattle.flt_script.specs.declared.keyword.Keyword.TheVariants as keyword
 use Rattle.flt_script.specs.Said as line
@@ -17,7 +18,7 @@ use Rattle.flt_script.proofs.PrintedNumber.{few_digits, number-decimal, words_of
 use Rattle.flt_script.proofs.PrintedPost.{post_is_read}
 use Rattle.flt_script.proofs.PrintedRequest.{request_is_read}
 
-few_events : (events event : ℕ) → events ≤ 64 → ltb event events ≡ true → event < 10 ^ 10
+few_events : (events event : ℕ) → events ≤ EVENTS → ltb event events ≡ true → event < 10 ^ 10
 few_events events event few among = let below = ltb-true event events among in omega arith
 
 few_blocks : (block : ℕ) → ltb block 256 ≡ true → block < 10 ^ 10
@@ -88,6 +89,26 @@ printed_step_is_read_again config (step.Signal index value) few among held =
       with_more (codes "sig") refl (lit< tt) (lit≤ tt) index small_index (decimal value) few_of_value (plain_digits value small_value) keyword.Signal refl refl
           ∙ rw (words_of-decimal value small_value, number-decimal index small_index, number-decimal value small_value) refl,
       rw (parts.0, parts.1) refl,
+    )
+printed_step_is_read_again config (step.Enable condition false) few among held =
+    let low = leb-true condition 7 among in
+    let small : condition < 10 ^ 10 = omega arith in
+    let digit : 0 < 10 ^ 10 = omega arith in
+    let few_of_value : length (decimal 0) ≤ 100 = omega (arith, few_digits 0 digit) in (
+      written.Enable condition 0,
+      with_more (codes "enable") refl (lit< tt) (lit≤ tt) condition small (decimal 0) few_of_value (plain_digits 0 digit) keyword.Enable refl refl
+          ∙ rw (words_of-decimal 0 digit, number-decimal condition small, number-decimal 0 digit) refl,
+      rw among refl,
+    )
+printed_step_is_read_again config (step.Enable condition true) few among held =
+    let low = leb-true condition 7 among in
+    let small : condition < 10 ^ 10 = omega arith in
+    let digit : 1 < 10 ^ 10 = omega arith in
+    let few_of_value : length (decimal 1) ≤ 100 = omega (arith, few_digits 1 digit) in (
+      written.Enable condition 1,
+      with_more (codes "enable") refl (lit< tt) (lit≤ tt) condition small (decimal 1) few_of_value (plain_digits 1 digit) keyword.Enable refl refl
+          ∙ rw (words_of-decimal 1 digit, number-decimal condition small, number-decimal 1 digit) refl,
+      rw among refl,
     )
 printed_step_is_read_again config (step.Request tester bytes) few among held =
     let parts = both_true (leb tester 3) (ltb 0 (length bytes.items)) among in

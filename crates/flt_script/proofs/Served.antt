@@ -61,8 +61,8 @@ abbrev UsesNone : EventCfg → Type 0
 UsesNone event = event.dids.items ≡ []
 
 -- An event line uses none.
-made_of : (dtc : ℕ) (p c f h a l : Option ℕ) (d : Option Debounce) → IfSome (
-    p ⇒ λ priority. c ⇒ λ cycle. f ⇒ λ confirm. h ⇒ λ heal. a ⇒ λ age. l ⇒ λ lamp. d ⇒ λ debounce. Some (record {
+made_of : (dtc : ℕ) (p c f h a l n : Option ℕ) (d : Option Debounce) → IfSome (
+    p ⇒ λ priority. c ⇒ λ cycle. f ⇒ λ confirm. h ⇒ λ heal. a ⇒ λ age. l ⇒ λ lamp. n ⇒ λ needs. d ⇒ λ debounce. Some (record {
       dtc = dtc;
       priority = priority;
       cycle = cycle;
@@ -70,22 +70,25 @@ made_of : (dtc : ℕ) (p c f h a l : Option ℕ) (d : Option Debounce) → IfSom
       heal = heal;
       age = age;
       indicator = lamp == 1;
+      needs = needs;
       debounce = debounce;
       dids = record { items = [] };
     })) UsesNone
-made_of dtc None c f h a l d = tt
-made_of dtc (Some priority) None f h a l d = tt
-made_of dtc (Some priority) (Some cycle) None h a l d = tt
-made_of dtc (Some priority) (Some cycle) (Some confirm) None a l d = tt
-made_of dtc (Some priority) (Some cycle) (Some confirm) (Some heal) None l d = tt
-made_of dtc (Some priority) (Some cycle) (Some confirm) (Some heal) (Some age) None d = tt
-made_of dtc (Some priority) (Some cycle) (Some confirm) (Some heal) (Some age) (Some lamp) None = tt
-made_of dtc (Some priority) (Some cycle) (Some confirm) (Some heal) (Some age) (Some lamp) (Some debounce) = refl
+made_of dtc None c f h a l n d = tt
+made_of dtc (Some priority) None f h a l n d = tt
+made_of dtc (Some priority) (Some cycle) None h a l n d = tt
+made_of dtc (Some priority) (Some cycle) (Some confirm) None a l n d = tt
+made_of dtc (Some priority) (Some cycle) (Some confirm) (Some heal) None l n d = tt
+made_of dtc (Some priority) (Some cycle) (Some confirm) (Some heal) (Some age) None n d = tt
+made_of dtc (Some priority) (Some cycle) (Some confirm) (Some heal) (Some age) (Some lamp) None d = tt
+made_of dtc (Some priority) (Some cycle) (Some confirm) (Some heal) (Some age) (Some lamp) (Some needs) None = tt
+made_of dtc (Some priority) (Some cycle) (Some confirm) (Some heal) (Some age) (Some lamp) (Some needs) (Some debounce) = refl
 
 event_uses_none : (event : EventLine) → IfSome (event_held event) UsesNone
 unfolding event_held
 event_uses_none event = made_of event.dtc (up_to 255 event.numbers.priority) (up_to 255 event.numbers.cycle) (up_to 255 event.numbers.confirm)
-    (up_to 255 event.numbers.heal) (up_to 255 event.numbers.age) (up_to 1 event.numbers.lamp) (debounce_held event.debounce)
+    (up_to 255 event.numbers.heal) (up_to 255 event.numbers.age) (up_to 1 event.numbers.lamp) (up_to 255 event.numbers.needs)
+    (debounce_held event.debounce)
 
 serves_new : (dids : List DidUse) (held : Option EventCfg) → IfSome held UsesNone → Serves dids (option_to_list held)
 serves_new dids None none = all-nil (AreServed dids)

@@ -1,11 +1,11 @@
 -- A step that was read is as its line says.
 use Rattle.std.proofs.Common.{◌≡◌, ℕ, length, Bool, true, false, ◌&&◌, ltb, leb, Option, Some, None, refl, sym, ◌∙◌}
-use Rattle.std.specs.Prelude.{IfSome, is_some, is_none, not, option_map}
+use Rattle.std.specs.Prelude.{IfSome, is_some, is_none, not, option_map, ◌==◌}
 use Rattle.flt_config.specs.declared.config.Config.{Config}
 use Rattle.flt_flash.specs.declared.arm.Arm.TheVariants as arm
 use Rattle.flt_script.specs.declared.arm.ArmLine.TheVariants.{Cut, Fault, Mute}
 use Rattle.flt_script.specs.declared.line.StepLine.{StepLine}
-use Rattle.flt_script.specs.declared.line.StepLine.TheVariants.{Report, Show, Cycle, Tick, Signal, Request, Save, Post, Drain, Get, Ask, Arming}
+use Rattle.flt_script.specs.declared.line.StepLine.TheVariants.{Report, Show, Cycle, Tick, Signal, Enable, Request, Save, Post, Drain, Get, Ask, Arming}
 use Rattle.flt_script.specs.declared.step.Step.{Step}
 use Rattle.flt_script.specs.declared.step.Step.TheVariants as step
 use Rattle.flt_script.specs.Behind.{arm_of, step_of}
@@ -46,6 +46,16 @@ module _ (config : Config) (w : StepLine) (s : Step) (said : IsSaid config w s) 
   by_three true false v read some third second first e = rw second record { some = sym e; said = tt }
   by_three false u v read some third second first e = rw first record { some = sym e; said = tt }
 
+-- A condition is said by 0 or 1.
+enable_read : (config : Config) (condition value : ℕ) (t u : Bool) → leb condition 7 ≡ t → leb value 1 ≡ u
+    → IsRead config (Enable condition value) (kept t condition ⇒ λ condition. kept u value ⇒ λ value. Some (step.Enable condition (value == 1)))
+enable_read config condition value true true e f = record {
+  some = rw (e, f) refl;
+  said = record { within = rw (e, f) refl; arms = refl; drains = refl; no_lane = refl; one_lane = refl };
+}
+enable_read config condition value true false e f = record { some = rw (e, f) refl; said = tt }
+enable_read config condition value false u e f = record { some = rw e refl; said = tt }
+
 module _ (config : Config) where
   pub is_read : (w : StepLine) → IsRead config w (step_of config w)
   unfolding arm_of
@@ -64,6 +74,7 @@ module _ (config : Config) where
   is_read (Signal index value) =
       by_two config (Signal index value) (step.Signal index value) record { within = refl; arms = refl; drains = refl; no_lane = refl; one_lane = refl }
       (leb index 7) (leb value 65535) (λ t u. kept t index ⇒ λ index. kept u value ⇒ λ value. Some (step.Signal index value)) refl refl refl refl
+  is_read (Enable condition value) = enable_read config condition value (leb condition 7) (leb value 1) refl refl
   is_read (Request tester bytes) =
       by_one config (Request tester bytes) (step.Request tester bytes) record { within = refl; arms = refl; drains = refl; no_lane = refl; one_lane = refl }
       (leb tester 3 && ltb 0 (length bytes.items)) (λ t. kept t (step.Request tester bytes)) refl refl refl

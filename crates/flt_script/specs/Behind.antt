@@ -1,5 +1,5 @@
 -- What the lines before a line gave, none of which was refused: nothing at first, and then what each line adds.
-use Rattle.std.specs.Prelude.{ℕ, ◌+◌, List, [], ◌∷◌, ◌++◌, length, Bool, true, false, Option, Some, None, is_some, option_map, option_to_list, nat_lt, nat_le, ◌&&◌, ◌||◌, if◌then◌else◌, find, slice_get, slice_set}
+use Rattle.std.specs.Prelude.{ℕ, ◌+◌, List, [], ◌∷◌, ◌++◌, length, Bool, true, false, Option, Some, None, is_some, option_map, option_to_list, nat_lt, nat_le, ◌==◌, ◌&&◌, ◌||◌, if◌then◌else◌, find, slice_get, slice_set}
 use Rattle.std.proofs.Common.{inl, inr}
 use Rattle.std.specs.List.{list_any}
 use Rattle.flt_config.specs.declared.config.Config.{Config}
@@ -11,7 +11,7 @@ use Rattle.flt_flash.specs.declared.arm.Arm.TheVariants as arm
 use Rattle.flt_script.specs.declared.arm.ArmLine.{ArmLine}
 use Rattle.flt_script.specs.declared.arm.ArmLine.TheVariants.{Cut, Fault, Mute}
 use Rattle.flt_script.specs.declared.line.StepLine.{StepLine}
-use Rattle.flt_script.specs.declared.line.StepLine.TheVariants.{Report, Show, Cycle, Tick, Signal, Request, Save, Post, Drain, Get, Ask, Arming}
+use Rattle.flt_script.specs.declared.line.StepLine.TheVariants.{Report, Show, Cycle, Tick, Signal, Enable, Request, Save, Post, Drain, Get, Ask, Arming}
 use Rattle.flt_script.specs.Said.{Line}
 use Rattle.flt_script.specs.Said as line
 use Rattle.flt_script.specs.declared.places.Places.{Places}
@@ -106,6 +106,7 @@ step_of config (Show event) = option_map step.Show (below (length config.events.
 step_of config (Cycle cycle) = option_map step.Cycle (up_to 3 cycle)
 step_of config (Tick ticks) = option_map step.Tick (from_to 1 65535 ticks)
 step_of config (Signal index value) = up_to 7 index ⇒ λ index. up_to 65535 value ⇒ λ value. Some (step.Signal index value)
+step_of config (Enable condition value) = up_to 7 condition ⇒ λ condition. up_to 1 value ⇒ λ value. Some (step.Enable condition (value == 1))
 step_of config (Request tester bytes) = if nat_le tester 3 && nat_lt 0 (length bytes.items) then Some (step.Request tester bytes) else None
 step_of config Save = Some step.Save
 step_of config (Post urgent block bytes) =

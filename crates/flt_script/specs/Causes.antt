@@ -3,6 +3,7 @@
 use Rattle.std.specs.Prelude.{ℕ, ◌+◌, ℤ, pos, negsuc, int_lt, List, [], ◌∷◌, length, Bool, true, false, not, ◌==◌, ◌&&◌, ◌||◌, nat_lt, nat_le, is_some, is_none, Option, Some, None, Result, Ok, Err, if◌then◌else◌}
 use Rattle.std.specs.List.{list_any}
 use Rattle.std.specs.Str.{bytes_eq}
+use Rattle.flt_config.specs.declared.TheConstants.{EVENTS}
 use Rattle.flt_config.specs.declared.config.Config.{Config}
 use Rattle.flt_config.specs.declared.config.DidUse.{DidUse}
 use Rattle.flt_did.specs.Rows.{is_did}
@@ -16,7 +17,7 @@ use Rattle.flt_script.specs.declared.fault.LineCause.TheVariants.{Long, Byte, Wo
 use Rattle.flt_script.specs.Said.{Line}
 use Rattle.flt_script.specs.Said as line
 use Rattle.flt_script.specs.declared.line.StepLine.{StepLine}
-use Rattle.flt_script.specs.declared.line.StepLine.TheVariants.{Report, Show, Cycle, Tick, Signal, Request, Save, Post, Drain, Get, Ask, Arming}
+use Rattle.flt_script.specs.declared.line.StepLine.TheVariants.{Report, Show, Cycle, Tick, Signal, Enable, Request, Save, Post, Drain, Get, Ask, Arming}
 use Rattle.flt_script.specs.Behind.{Behind, event_count, has_begun, lane_count, has_lane, is_store_taken, uses_of}
 use Rattle.flt_script.specs.Gives.{◌⇒◌}
 use Rattle.flt_script.specs.Line.{spelling, keywords, keyword_of, line_with, is_comment}
@@ -80,7 +81,8 @@ is_debounce_kept (Time fail pass) = nat_le fail 65535 && nat_le pass 65535
 abbrev pub is_event_kept : EventLine → Bool
 is_event_kept event =
     nat_le event.numbers.priority 255 && nat_le event.numbers.cycle 255 && nat_le event.numbers.confirm 255
-    && nat_le event.numbers.heal 255 && nat_le event.numbers.age 255 && nat_le event.numbers.lamp 1 && is_debounce_kept event.debounce
+    && nat_le event.numbers.heal 255 && nat_le event.numbers.age 255 && nat_le event.numbers.lamp 1 && nat_le event.numbers.needs 255
+    && is_debounce_kept event.debounce
 
 -- The numbers of a line that arms are in their ranges.
 abbrev pub is_arm_written : ArmLine → Bool
@@ -95,6 +97,7 @@ is_step_written config (Show event) = nat_lt event (length config.events.items)
 is_step_written config (Cycle cycle) = nat_le cycle 3
 is_step_written config (Tick ticks) = nat_le 1 ticks && nat_le ticks 65535
 is_step_written config (Signal index value) = nat_le index 7 && nat_le value 65535
+is_step_written config (Enable condition value) = nat_le condition 7 && nat_le value 1
 is_step_written config (Request tester bytes) = nat_le tester 3 && nat_lt 0 (length bytes.items)
 is_step_written config Save = true
 is_step_written config (Post urgent block bytes) = nat_lt block config.blocks && nat_lt 0 (length bytes.items) && nat_le (length bytes.items) 32
@@ -123,10 +126,10 @@ abbrev pub drains_written : StepLine → ℕ
 drains_written Drain = 1
 drains_written _ = 0
 
--- It is the 65th event, the ninth data identifier of an event, the ninth lane of a block, the 65,537th step, the 65th of cut,
+-- It is the 257th event, the ninth data identifier of an event, the ninth lane of a block, the 65,537th step, the 65th of cut,
 -- fault and mute, the 1,025th drain, or the end of the 256th life.
 abbrev pub is_one_too_many : Behind → Line → Bool
-is_one_too_many b (line.Event event) = nat_le 64 (event_count b)
+is_one_too_many b (line.Event event) = nat_le EVENTS (event_count b)
 is_one_too_many b (line.Did event id) = nat_le 8 (length (uses_of event b.config.events.items))
 is_one_too_many b (line.Step step) =
     nat_le 65536 b.steps || nat_lt 64 (b.arms + arms_written step) || nat_lt 1024 (b.drains + drains_written step)

@@ -4,7 +4,7 @@ use Rattle.flt_config.specs.declared.config.Debounce.{Debounce}
 use Rattle.flt_config.specs.declared.config.Debounce.TheVariants as rules
 use Rattle.flt_config.specs.declared.config.EventCfg.{EventCfg}
 use Rattle.flt_script.specs.declared.pair.Key.{Key}
-use Rattle.flt_script.specs.declared.pair.Key.TheVariants.{Dtc, Priority, Cycle, Confirm, Heal, Age, Lamp, Count, JumpUp, JumpDown, Time}
+use Rattle.flt_script.specs.declared.pair.Key.TheVariants.{Dtc, Priority, Cycle, Confirm, Heal, Age, Lamp, Needs, Count, JumpUp, JumpDown, Time}
 use Rattle.flt_script.specs.declared.event.Thresholds.{Thresholds}
 use Rattle.flt_script.specs.declared.event.Numbers.{Numbers}
 use Rattle.flt_script.specs.declared.event.EventLine.{EventLine}
@@ -69,7 +69,8 @@ unfoldable pub numbers_of : List (List ℕ) → Option Numbers
 numbers_of pairs =
     number_or 1 Priority pairs ⇒ λ priority. number_or 0 Cycle pairs ⇒ λ cycle. number_or 1 Confirm pairs ⇒ λ confirm.
     number_or 3 Heal pairs ⇒ λ heal. number_or 40 Age pairs ⇒ λ age. number_or 0 Lamp pairs ⇒ λ lamp.
-    Some (record { priority = priority; cycle = cycle; confirm = confirm; heal = heal; age = age; lamp = lamp })
+    number_or 0 Needs pairs ⇒ λ needs.
+    Some (record { priority = priority; cycle = cycle; confirm = confirm; heal = heal; age = age; lamp = lamp; needs = needs })
 
 -- The one word of dtc, which must stand: six hexadecimal digits.
 unfoldable pub dtc_of : List (List ℕ) → Option ℕ
@@ -106,7 +107,7 @@ unfoldable pub event_held : EventLine → Option EventCfg
 event_held event =
     up_to 255 event.numbers.priority ⇒ λ priority. up_to 255 event.numbers.cycle ⇒ λ cycle.
     up_to 255 event.numbers.confirm ⇒ λ confirm. up_to 255 event.numbers.heal ⇒ λ heal. up_to 255 event.numbers.age ⇒ λ age.
-    up_to 1 event.numbers.lamp ⇒ λ lamp. debounce_held event.debounce ⇒ λ debounce.
+    up_to 1 event.numbers.lamp ⇒ λ lamp. up_to 255 event.numbers.needs ⇒ λ needs. debounce_held event.debounce ⇒ λ debounce.
     Some (record {
       dtc = event.dtc;
       priority = priority;
@@ -115,6 +116,7 @@ event_held event =
       heal = heal;
       age = age;
       indicator = lamp == 1;
+      needs = needs;
       debounce = debounce;
       dids = record { items = [] };
     })

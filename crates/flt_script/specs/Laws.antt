@@ -1,6 +1,7 @@
 -- What the definitions come to.
 use Rattle.std.specs.Prelude.{◌≡◌, ◌↔◌, map, ℕ, ◌/◌, ◌%◌, ◌^◌, ◌<◌, ◌≤◌, ◌⊎◌, List, [], ◌∷◌, ◌++◌, length, codes, Bool, true, false, ◌&&◌, ◌||◌, nat_le, nat_lt, Some, None, Ok, Err}
 use Rattle.std.specs.List.{find, list_all}
+use Rattle.flt_config.specs.declared.TheConstants.{EVENTS}
 use Rattle.flt_config.specs.declared.config.Config.{Config}
 use Rattle.flt_config.specs.declared.config.DidUse.{DidUse}
 use Rattle.flt_flash.specs.declared.arm.Arm.{Arm}
@@ -65,7 +66,7 @@ is_held _ = true
 -- What a step prints is read again as that step.
 abbrev pub PrintedStepIsReadAgain : Type 0
 PrintedStepIsReadAgain =
-    (config : Config) (step : Step) → length config.events.items ≤ 64 → is_step_in config step ≡ true → is_held step ≡ true
+    (config : Config) (step : Step) → length config.events.items ≤ EVENTS → is_step_in config step ≡ true → is_held step ≡ true
     → IsReadAs (step_text step) config step
 
 -- What a step of a script arms is what a bench can be told.

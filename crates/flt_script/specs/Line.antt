@@ -31,6 +31,7 @@ spelling keyword.Show = codes "show"
 spelling keyword.Cycle = codes "cycle"
 spelling keyword.Tick = codes "tick"
 spelling keyword.Signal = codes "sig"
+spelling keyword.Enable = codes "enable"
 spelling keyword.Request = codes "t"
 spelling keyword.Event = codes "event"
 spelling keyword.Did = codes "did"
@@ -55,7 +56,7 @@ spelling keyword.End = codes "end"
 -- The table of lines.
 abbrev pub keywords : List Keyword
 keywords = keyword.Pass ∷ keyword.Fail ∷ keyword.PrePass ∷ keyword.PreFail ∷ keyword.Show ∷ keyword.Cycle ∷ keyword.Tick
-    ∷ keyword.Signal ∷ keyword.Request ∷ keyword.Event ∷ keyword.Did ∷ keyword.Config ∷ keyword.Memory ∷ keyword.Blocks ∷ keyword.Flash
+    ∷ keyword.Signal ∷ keyword.Enable ∷ keyword.Request ∷ keyword.Event ∷ keyword.Did ∷ keyword.Config ∷ keyword.Memory ∷ keyword.Blocks ∷ keyword.Flash
     ∷ keyword.Save ∷ keyword.Post ∷ keyword.Urge ∷ keyword.Drain ∷ keyword.Get ∷ keyword.Ask
     ∷ keyword.Power ∷ keyword.Cut ∷ keyword.Fault ∷ keyword.Mute ∷ keyword.Par ∷ keyword.Lane ∷ keyword.End ∷ []
 
@@ -114,6 +115,7 @@ line_with keyword.Show words = option_map (λ event. line.Step (step.Show event)
 line_with keyword.Cycle words = option_map (λ cycle. line.Step (step.Cycle cycle)) (only number words)
 line_with keyword.Tick words = option_map (λ ticks. line.Step (step.Tick ticks)) (only number words)
 line_with keyword.Signal words = option_map (λ numbers. line.Step (step.Signal numbers.0 numbers.1)) (two_numbers words)
+line_with keyword.Enable words = option_map (λ numbers. line.Step (step.Enable numbers.0 numbers.1)) (two_numbers words)
 line_with keyword.Request words = request_with words
 line_with keyword.Event words = option_map line.Event (event_of words)
 line_with keyword.Did words = did_with words

@@ -22,6 +22,7 @@ load_event number = record {
   heal = 3;
   age = 40;
   indicator = false;
+  needs = 0;
   debounce = Counter (pos 1) (negsuc 0) (pos 1) (pos 1) None None;
   dids = record { items = [] };
 }

@@ -3,7 +3,7 @@ use Rattle.std.specs.Prelude.{ℕ, ◌+◌, List, [], ◌∷◌, take, drop, Boo
 use Rattle.std.specs.List.{position, count_by, list_any}
 use Rattle.std.specs.Str.{bytes_eq}
 use Rattle.flt_script.specs.declared.pair.Key.{Key}
-use Rattle.flt_script.specs.declared.pair.Key.TheVariants.{Dtc, Priority, Cycle, Confirm, Heal, Age, Lamp, Count, JumpUp, JumpDown, Time}
+use Rattle.flt_script.specs.declared.pair.Key.TheVariants.{Dtc, Priority, Cycle, Confirm, Heal, Age, Lamp, Needs, Count, JumpUp, JumpDown, Time}
 
 -- The words that begin the pairs.
 abbrev pub spelling : Key → List ℕ
@@ -14,6 +14,7 @@ spelling Confirm = codes "confirm"
 spelling Heal = codes "heal"
 spelling Age = codes "age"
 spelling Lamp = codes "lamp"
+spelling Needs = codes "needs"
 spelling Count = codes "count"
 spelling JumpUp = codes "jumpup"
 spelling JumpDown = codes "jumpdown"
@@ -21,7 +22,7 @@ spelling Time = codes "time"
 
 -- All of them.
 abbrev pub keys : List Key
-keys = Dtc ∷ Priority ∷ Cycle ∷ Confirm ∷ Heal ∷ Age ∷ Lamp ∷ Count ∷ JumpUp ∷ JumpDown ∷ Time ∷ []
+keys = Dtc ∷ Priority ∷ Cycle ∷ Confirm ∷ Heal ∷ Age ∷ Lamp ∷ Needs ∷ Count ∷ JumpUp ∷ JumpDown ∷ Time ∷ []
 
 -- The word begins this pair.
 abbrev pub spells : Key → List ℕ → Bool

@@ -1,5 +1,6 @@
 -- A line against the lines before it: why it may not stand there.
 use Rattle.std.specs.Prelude.{ℕ, ◌+◌, List, [], ◌∷◌, length, find, Bool, true, false, ◌==◌, ◌&&◌, ◌||◌, nat_lt, nat_le, not, is_some, is_none, Option, Some, None, Result, Ok, Err, if◌then◌else◌}
+use Rattle.flt_config.specs.declared.TheConstants.{EVENTS}
 use Rattle.flt_config.specs.declared.config.DidUse.{DidUse}
 use Rattle.flt_did.specs.Rows.{is_did}
 use Rattle.flt_script.specs.declared.fault.LineCause.{LineCause}
@@ -32,12 +33,12 @@ flash_refusal b sectors pages = first_cause (
     (has_begun b || is_some b.places.flash, Order) ∷
     (not (sectors == 2) || nat_lt 65535 pages, Range) ∷ [])
 
--- An event, whose number is the next, of at most 64.
+-- An event, whose number is the next, of at most 256.
 unfoldable pub event_refusal : Behind → EventLine → Option LineCause
 event_refusal b event = first_cause (
     (has_begun b || not (event.number == event_count b), Order) ∷
     (is_none (event_held event), Range) ∷
-    (nat_le 64 (event_count b), Many) ∷ [])
+    (nat_le EVENTS (event_count b), Many) ∷ [])
 
 -- A data identifier that the table has, of at most 8 for an event that is there.
 unfoldable pub did_refusal : List DidUse → Behind → ℕ → ℕ → Option LineCause

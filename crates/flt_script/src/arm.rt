@@ -7,7 +7,7 @@ use flt_flash::{Arm, Pattern};
 use std::fmt;
 
 /// A fault to be armed, with its numbers as they are written.
-#[derive(Clone, Copy, Debug, PartialEq, Eq)]
+#[derive(Clone, Copy)]
 pub(crate) enum ArmLine {
     Cut { after: u64, pattern: Pattern },
     Fault { after: u64, pattern: Pattern },
@@ -80,7 +80,7 @@ pub(crate) fn read_pattern(word: &[u8]) -> Option<Pattern>
 }
 
 /// A fault to be armed, which is printed as the words of its line.
-#[derive(Clone, Copy, Debug)]
+#[derive(Clone, Copy)]
 pub(crate) struct ArmWords(pub(crate) Arm);
 
 impl fmt::Display for ArmWords {

@@ -23,7 +23,7 @@ impl fmt::Display for HexByte {
 }
 
 /// Bytes, each of which is printed behind a space.
-#[derive(Clone, Copy, Debug)]
+#[derive(Clone, Copy)]
 struct Spaced<'a>(&'a [u8]);
 
 impl fmt::Display for Spaced<'_> {

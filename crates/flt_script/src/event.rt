@@ -11,7 +11,7 @@ use arrayvec::ArrayVec;
 use flt_config::{Debounce, EventCfg};
 
 /// The numbers of a counter that debounces, as they are written.
-#[derive(Clone, Copy, Debug, PartialEq, Eq)]
+#[derive(Clone, Copy)]
 pub(crate) struct Thresholds {
     pub fail: u64,
     pub pass: u64,
@@ -20,7 +20,7 @@ pub(crate) struct Thresholds {
 }
 
 /// How an event is debounced, with its numbers as they are written.
-#[derive(Clone, Copy, Debug, PartialEq, Eq)]
+#[derive(Clone, Copy)]
 pub(crate) enum DebounceLine {
     Counter {
         thresholds: Thresholds,
@@ -34,7 +34,7 @@ pub(crate) enum DebounceLine {
 }
 
 /// The plain numbers of an event, as they are written.
-#[derive(Clone, Copy, Debug, PartialEq, Eq)]
+#[derive(Clone, Copy)]
 pub(crate) struct Numbers {
     pub priority: u64,
     pub cycle: u64,
@@ -42,10 +42,11 @@ pub(crate) struct Numbers {
     pub heal: u64,
     pub age: u64,
     pub lamp: u64,
+    pub needs: u64,
 }
 
 /// What an event line says, with its numbers as they are written.
-#[derive(Clone, Copy, Debug, PartialEq, Eq)]
+#[derive(Clone, Copy)]
 pub(crate) struct EventLine {
     pub number: u64,
     pub dtc: u32,
@@ -175,6 +176,7 @@ fn numbers_of(pairs: &[&[u8]]) -> Option<Numbers>
         heal: number_or(3, Key::Heal, pairs)?,
         age: number_or(40, Key::Age, pairs)?,
         lamp: number_or(0, Key::Lamp, pairs)?,
+        needs: number_or(0, Key::Needs, pairs)?,
     })
 }
 
@@ -222,6 +224,7 @@ impl EventLine {
             heal: held_byte(numbers.heal)?,
             age: held_byte(numbers.age)?,
             indicator: held_flag(numbers.lamp)?,
+            needs: held_byte(numbers.needs)?,
             debounce: self.debounce.held()?,
             dids: ArrayVec::new(),
         })

@@ -26,7 +26,7 @@ pub enum LineCause {
     Order,
     /// A number of a step is out of its range, or one that configures is too large for its type.
     Range,
-    /// It is the 65th event, the ninth data identifier of an event, the ninth lane of a block, or the 65,537th step, it begins
+    /// It is the 257th event, the ninth data identifier of an event, the ninth lane of a block, or the 65,537th step, it begins
     /// the 257th life, or it is the 65th of `cut`, `fault` and `mute` together or the 1,025th `drain`.
     Many,
     /// It is a `lane` or an `end` outside a block, an `end` of a block without a lane, a step between `par` and the first `lane`,
@@ -117,7 +117,7 @@ impl fmt::Display for ParseFault {
 impl Error for ParseFault {}
 
 /// Why a line could not be read.
-#[derive(Clone, Copy, Debug, PartialEq, Eq)]
+#[derive(Clone, Copy)]
 pub(crate) enum LineFault {
     Memory,
     Cause(LineCause),

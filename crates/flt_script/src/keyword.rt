@@ -2,7 +2,7 @@ ghost use Rattle.std.specs.Prelude.{◌≡◌};
 ghost use Rattle.flt_script.specs.Line.{keyword_of};
 
 /// The first word of a line.
-#[derive(Clone, Copy, Debug, PartialEq, Eq)]
+#[derive(Clone, Copy)]
 pub(crate) enum Keyword {
     Pass,
     Fail,
@@ -12,6 +12,7 @@ pub(crate) enum Keyword {
     Cycle,
     Tick,
     Signal,
+    Enable,
     Request,
     Event,
     Did,
@@ -48,6 +49,7 @@ pub(crate) fn read_keyword(word: &[u8]) -> Option<Keyword>
         b"cycle" => Keyword::Cycle,
         b"tick" => Keyword::Tick,
         b"sig" => Keyword::Signal,
+        b"enable" => Keyword::Enable,
         b"t" => Keyword::Request,
         b"event" => Keyword::Event,
         b"did" => Keyword::Did,

@@ -1,4 +1,4 @@
-ghost use Rattle.std.specs.Prelude.{◌≡◌, IfOk, IfSome, IsTrue, option_map};
+ghost use Rattle.std.specs.Prelude.{◌≡◌, None, IfOk, IfSome, IsFalse, IsTrue, option_map};
 ghost use Rattle.flt_script.specs.declared.line.StepLine.{StepLine};
 ghost use Rattle.flt_script.specs.Said.{Line};
 ghost use Rattle.flt_script.specs.Said as line;
@@ -25,7 +25,7 @@ use flt_model::{REQUEST, Report};
 use std::alloc::{AllocError, Global};
 
 /// A step, with its numbers as they are written.
-#[derive(Clone, Drop, Debug, PartialEq, Eq)]
+#[derive(Drop)]
 pub(crate) enum StepLine {
     Report {
         event: u64,
@@ -42,6 +42,10 @@ pub(crate) enum StepLine {
     },
     Signal {
         index: u64,
+        value: u64,
+    },
+    Enable {
+        condition: u64,
         value: u64,
     },
     Request {
@@ -76,6 +80,9 @@ const LAST_SIGNAL: u64 = 7;
 /// The greatest value of a signal.
 const SIGNAL_VALUE: u64 = 65_535;
 
+/// The greatest number of an enable condition.
+const LAST_CONDITION: u64 = 7;
+
 impl StepLine {
     /// The step under this configuration, or nothing where a number is out of its range.
     #[inline(always)]
@@ -101,6 +108,12 @@ impl StepLine {
                 Some(Step::Signal {
                     index: index as u8,
                     value: value as u16,
+                })
+            }
+            StepLine::Enable { condition, value } if condition <= LAST_CONDITION && value <= 1 => {
+                Some(Step::Enable {
+                    condition: condition as u8,
+                    fulfilled: value == 1,
                 })
             }
             StepLine::Request { tester, bytes } if tester <= LAST_TESTER && !bytes.is_empty() => {
@@ -251,7 +264,8 @@ fn post_with(urgent: bool, mut words: Words<'_>) -> Option<StepLine>
 #[tactic(auto, unfolding(crate::specs::Line::line_with, crate::specs::Line::report_with))]
 #[inline(always)]
 pub(crate) fn step_with(keyword: Keyword, words: Words<'_>) -> Option<StepLine>
-    ensures { IsTrue (begins_step keyword) → option_map line.Step result ≡ line_with keyword words.entry }
+    ensures said { IsTrue (begins_step keyword) → option_map line.Step result ≡ line_with keyword words.entry }
+    ensures none { IsFalse (begins_step keyword) → result ≡ None }
 {
     let step = match keyword {
         Keyword::Pass => StepLine::Report {
@@ -282,6 +296,10 @@ pub(crate) fn step_with(keyword: Keyword, words: Words<'_>) -> Option<StepLine>
         Keyword::Signal => {
             let (index, value) = two_numbers(words)?;
             StepLine::Signal { index, value }
+        }
+        Keyword::Enable => {
+            let (condition, value) = two_numbers(words)?;
+            StepLine::Enable { condition, value }
         }
         Keyword::Request => request_with(words)?,
         Keyword::Save => {

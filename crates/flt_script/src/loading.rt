@@ -49,6 +49,7 @@ fn load_event(number: u16) -> EventCfg
         heal: 3,
         age: 40,
         indicator: false,
+        needs: 0,
         debounce: Debounce::default(),
         dids: ArrayVec::new(),
     }

@@ -6,7 +6,7 @@ use arrayvec::ArrayVec;
 use flt_config::{CfgFault, EVENTS, Field};
 
 /// The numbers of the lines that configure, counted from 1.
-#[derive(Debug, Drop)]
+#[derive(Drop)]
 pub(crate) struct Places {
     pub(crate) config: Option<u32>,
     pub(crate) memory: Option<u32>,

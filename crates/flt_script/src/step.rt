@@ -1,4 +1,5 @@
 ghost use Rattle.std.specs.Prelude.{◌≡◌};
+ghost use Rattle.flt_model.specs.Byte.{value_of};
 ghost use Rattle.flt_script.specs.Bytes.{letter_of};
 ghost use Rattle.flt_script.specs.Step.{arm_count, drain_count, is_lane_step, is_store_step};
 
@@ -37,6 +38,11 @@ pub enum Step {
     Signal {
         index: u8,
         value: u16,
+    },
+    /// `enable`: the enable condition of this number, 0 to 7, is fulfilled from now on (1), or is not (0).
+    Enable {
+        condition: u8,
+        fulfilled: bool,
     },
     /// `t`: the tester of this number, 0 to 3 for A to D, sends a request of these bytes, 1 to 16.
     Request {
@@ -84,6 +90,13 @@ fn letter_of(tester: u8) -> char
     ensures { result ≡ letter_of tester }
 {
     char::from(b'A' + tester.min(LAST_TESTER))
+}
+
+/// The number by which a line says whether a condition is fulfilled: 1 or 0.
+fn value_of(fulfilled: bool) -> u8
+    ensures { result ≡ value_of fulfilled }
+{
+    u8::from(fulfilled)
 }
 
 impl Step {
@@ -150,6 +163,13 @@ impl fmt::Display for Step {
             Step::Cycle { cycle } => write!(f, "cycle {cycle}"),
             Step::Tick { ticks } => write!(f, "tick {ticks}"),
             Step::Signal { index, value } => write!(f, "sig {index} {value}"),
+            Step::Enable {
+                condition,
+                fulfilled,
+            } => {
+                let value = value_of(fulfilled);
+                write!(f, "enable {condition} {value}")
+            }
             Step::Request { tester, ref bytes } => {
                 let letter = letter_of(tester);
                 let bytes = HexBytes(bytes);

@@ -1,6 +1,7 @@
 use flt_did::{DID_ROWS, DidTable, did_0101, did_0103, did_0107};
 use flt_script::*;
 use std::alloc::{AllocError, Global};
+use std::process::Abort;
 use std::test::Fail;
 
 mod blocks;
@@ -59,8 +60,8 @@ fn outcome(alloc: Global, bytes: &[u8]) -> Result<String, AllocError> {
     }
 }
 
-/// Scripts, and what is told of each.
-static CASES: [(&str, &str); 184] = [
+/// Scripts of steps, and what is told of each.
+static STEPS: [(&str, &str); 112] = [
     ("", ""),
     ("event 0 dtc 123456\r\ncycle 0", "cycle 0."),
     (
@@ -177,6 +178,14 @@ static CASES: [(&str, &str); 184] = [
     ("sig 0", "script line 1 form"),
     ("sig 0 0 0", "script line 1 form"),
     ("sig 0 -1", "script line 1 form"),
+    ("enable 0 0\nenable 7 01", "enable 0 0.enable 7 1."),
+    ("enable 8 0", "script line 1 range"),
+    ("enable 0 2", "script line 1 range"),
+    ("enable 0", "script line 1 form"),
+    ("enable 0 0 0", "script line 1 form"),
+    ("event 0 dtc 000001 needs 256", "script line 1 range"),
+    ("event 0 dtc 000001 needs 1 needs 1", "script line 1 form"),
+    ("event 0 dtc 000001 needs", "script line 1 form"),
     (
         "t A 3E 00\nt D 19 82 fF\n\tt \t C  0a",
         "t A 3E 00.t D 19 82 FF.t C 0A.",
@@ -201,6 +210,10 @@ static CASES: [(&str, &str); 184] = [
     ("t A 3E 0G", "script line 1 form"),
     ("t 3E 00", "script line 1 form"),
     ("T A 3E 00", "script line 1 word"),
+];
+
+/// Scripts of settings, events and data identifiers, and what is told of each.
+static SETTINGS: [(&str, &str); 80] = [
     ("did 0 0101", "script line 1 order"),
     ("event 0 dtc 000001\ndid 1 0101", "script line 2 order"),
     (
@@ -328,13 +341,23 @@ static CASES: [(&str, &str); 184] = [
     ),
 ];
 
-#[test]
-fn first_faults(rt: HostRuntime) -> Result<(), Fail> {
-    for case in &CASES {
-        let told = outcome(rt.alloc(), case.0.as_bytes())?;
+/// Each script is told as its case says.
+fn all_are_told(rt: &impl Abort, alloc: Global, cases: &[(&str, &str)]) -> Result<(), Fail> {
+    for case in cases {
+        let told = outcome(alloc, case.0.as_bytes())?;
         assert_eq!(rt; told.as_str(), case.1, "{:?}", case.0);
     }
     Ok(())
+}
+
+#[test]
+fn first_faults_of_steps(rt: HostRuntime) -> Result<(), Fail> {
+    all_are_told(&rt, rt.alloc(), &STEPS)
+}
+
+#[test]
+fn first_faults_of_settings(rt: HostRuntime) -> Result<(), Fail> {
+    all_are_told(&rt, rt.alloc(), &SETTINGS)
 }
 
 #[test]

@@ -7,6 +7,7 @@
 
 mod boxed;
 mod guarded;
+pub mod laws;
 mod lock;
 
 pub use boxed::BoxedUnit;

@@ -88,7 +88,7 @@ impl DemLock {
     }
 
     /// Makes a call when its turn comes. The answer has the kind of the reply, and the bytes of a response are written in place of what
-    /// `response` holds, so that no reply of 512 bytes is moved. Where the answer is no response, `response` holds anything. A snapshot writes nothing here.
+    /// `response` holds, so that no reply of `RESPONSE` bytes is moved. Where the answer is no response, `response` holds anything. A snapshot writes nothing here.
     #[inline(always)]
     pub fn call_into<R: Wait>(
         &self,
@@ -132,6 +132,30 @@ impl DemLock {
         ensures call { IfOk result (IsCall seat.old seat.new (ops.Signal index value)) }
     {
         self.call(rt, seat, Op::Signal { index, value })
+    }
+
+    /// Notes whether an enable condition, of the number 0 to 7, is fulfilled.
+    pub fn enable<R: Wait>(
+        &self,
+        rt: &R,
+        seat: &mut DemSeat,
+        condition: u8,
+        fulfilled: bool,
+    ) -> DemAnswer
+        requires lock { IsSeatOf self.now seat.old }
+        requires condition { condition < 8 }
+        ensures full { IsErr result ↔ (seat.old.left ≡ 0) }
+        ensures refused { IfErr result (IsRefusal seat.old seat.new (ops.Enable condition fulfilled)) }
+        ensures call { IfOk result (IsCall seat.old seat.new (ops.Enable condition fulfilled)) }
+    {
+        self.call(
+            rt,
+            seat,
+            Op::Enable {
+                condition,
+                fulfilled,
+            },
+        )
     }
 
     /// Reports an event's result.

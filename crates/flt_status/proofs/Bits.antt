@@ -1,5 +1,5 @@
 -- The bits of a byte that is a sum of bits.
-use Rattle.std.proofs.Common.{◌≡◌, ◌∙◌, ℕ, ◌*◌, ◌^◌, not, refl, arith, ⊎_elim}
+use Rattle.std.proofs.Common.{◌≡◌, ◌∙◌, ℕ, ◌*◌, ◌^◌, not, refl, ap, arith, ⊎_elim}
 use Rattle.std.proofs.lemmas.Bool.{ne_eqb, eq-eqb, cases_eq}
 use Rattle.std.proofs.lemmas.Nat.Bits.{and_pow}
 use Rattle.std.proofs.lemmas.Nat.{pow_pos}
@@ -29,7 +29,7 @@ tests_of n = record {
   indicator_requested = not (nat_eq (bit_and n 128) 0);
 }
 
-tests_are : (n : ℕ) → tests_of n ≡ status_of n
+pub tests_are : (n : ℕ) → tests_of n ≡ status_of n
 tests_are n =
     let t0 = test_of_bit n 0 in
     let t1 = test_of_bit n 1 in
@@ -49,6 +49,10 @@ tests_are n =
       not_completed_this_cycle = t6 i;
       indicator_requested = t7 i;
     }
+
+-- The bits that are read from a byte, where it was made of bits.
+pub bits_told : (byte : ℕ) (s : Status) → byte ≡ byte_of s → status_of byte ≡ s
+bits_told byte s e = ap status_of e ∙ byte_tells_bits s
 
 pub tests_of_byte : (s : Status) → tests_of (byte_of s) ≡ s
 tests_of_byte s = tests_are (byte_of s) ∙ byte_tells_bits s

@@ -9,6 +9,3 @@ mod step;
 
 pub use flt_config::{EventCfg, EventState};
 pub use step::{FailedMark, clear, cycle, displaced, failed, passed};
-
-#[cfg(test)]
-mod tests;

@@ -3,14 +3,14 @@
 ghost use Rattle.std.specs.Prelude.{◌≡◌, ◌+◌, ◌∷◌, min, if◌then◌else◌};
 ghost use Rattle.flt_model.specs.Mark.{Past};
 ghost use Rattle.flt_model.specs.Mark.Mark.{Failed, Passed, Cycle, Clear, Displaced};
-ghost use Rattle.flt_model.specs.Byte.{byte_of};
+ghost use Rattle.flt_model.specs.Byte.{byte_of, status_of};
 ghost use Rattle.flt_model.specs.Status.{enters, confirms, ages};
-ghost use Rattle.flt_model.specs.declared.status.Status.{Status};
 ghost use Rattle.flt_config.specs.declared.config.EventCfg.{EventCfg};
 ghost use Rattle.flt_config.specs.declared.persist.EventState.{EventState};
 ghost use Rattle.flt_status.specs.Standing.{IsDecidedBy, with_cycle_end};
+ghost use Rattle.flt_status.specs.Step.{after_passed, after_displaced, after_failed, failed_mark, after_cycle, ages_now};
 
-use flt_config::{EventCfg, EventState};
+use flt_config::{EventCfg, EventState, UNTESTED};
 use flt_model::Status;
 
 /// What a failure changed besides the state, for the entries and the noted events.
@@ -24,7 +24,7 @@ pub struct FailedMark {
 
 /// The bits of the byte.
 fn unpack(byte: u8) -> Status
-    ensures { (status : Status) → byte ≡ byte_of status → result ≡ status }
+    ensures { result ≡ status_of byte }
 {
     Status {
         test_failed: byte & 0x01 != 0,
@@ -54,7 +54,9 @@ fn pack(status: Status) -> u8
 
 /// The test passed: bits 0, 4 and 6 become 0.
 pub fn passed(state: &mut EventState)
-    ensures { (rules : EventCfg) (base : EventState) (past : Past) → IsDecidedBy rules base past state.old → IsDecidedBy rules base (Passed ∷ past) state.new }
+    ensures step { state.new ≡ after_passed state.old }
+    ensures marked { (rules : EventCfg) (base : EventState) (past : Past) → IsDecidedBy rules base past state.old
+        → IsDecidedBy rules base (Passed ∷ past) state.new }
 {
     let status = unpack(state.status);
     state.status = pack(Status {
@@ -69,17 +71,13 @@ pub fn passed(state: &mut EventState)
 pub fn clear(state: &mut EventState)
     ensures { (rules : EventCfg) (base : EventState) (past : Past) → IsDecidedBy rules base (Clear ∷ past) state.new }
 {
-    *state = EventState {
-        status: 0x50,
-        failed: 0,
-        clean: 0,
-        lit: false,
-    };
+    *state = UNTESTED;
 }
 
 /// The event's entry gave way to another's: the event is no longer confirmed, and lights no indicator.
 pub fn displaced(state: &mut EventState)
-    ensures { (rules : EventCfg) (base : EventState) (past : Past) → IsDecidedBy rules base past state.old
+    ensures step { state.new ≡ after_displaced state.old }
+    ensures marked { (rules : EventCfg) (base : EventState) (past : Past) → IsDecidedBy rules base past state.old
         → IsDecidedBy rules base (Displaced ∷ past) state.new }
 {
     let status = unpack(state.status);
@@ -124,6 +122,8 @@ fn aging_threshold(rules: &EventCfg, lit: bool) -> u16
 /// `confirm` failed cycles the event is confirmed, and lights the indicator where it has one. The
 /// clean count begins anew.
 pub fn failed(rules: &EventCfg, state: &mut EventState) -> FailedMark
+    ensures step { state.new ≡ after_failed rules.now state.old }
+    ensures answer { result ≡ failed_mark rules.now state.old }
     ensures marked { (base : EventState) (past : Past) → IsDecidedBy rules.now base past state.old → IsDecidedBy rules.now base (Failed ∷ past) state.new }
     ensures entered { (base : EventState) (past : Past) → IsDecidedBy rules.now base past state.old → result.entered ≡ enters base past }
     ensures confirmed { (base : EventState) (past : Past) → IsDecidedBy rules.now base past state.old → result.confirmed ≡ confirms base rules.now past }
@@ -160,6 +160,8 @@ pub fn failed(rules: &EventCfg, state: &mut EventState) -> FailedMark
 /// The answer tells whether the event aged: whether the clean count came to `age`, or to `heal + age`
 /// where the event was lit. Then it is no longer confirmed, and its entry is to be removed.
 pub fn cycle(rules: &EventCfg, state: &mut EventState) -> bool
+    ensures step { state.new ≡ after_cycle rules.now state.old }
+    ensures answer { result ≡ ages_now rules.now state.old }
     ensures marked { (base : EventState) (past : Past) → IsDecidedBy rules.now base past state.old
         → IsDecidedBy rules.now base (with_cycle_end rules.now base past) state.new }
     ensures aged { (base : EventState) (past : Past) → IsDecidedBy rules.now base past state.old → result ≡ ages base rules.now past }

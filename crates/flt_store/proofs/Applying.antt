@@ -93,7 +93,7 @@ module _ (c : Config) (block : ℕ) (own : block < c.blocks) (within : block < a
     mark = mark_put started.mark;
     first = subst (IsContentOf commit) (sym first_same) started.first;
     second = subst (λ (content : Content). IsContentOf commit (only_bytes content)) (sym second_same) started.second;
-    names = names_on c before after mark_same above commit g started.names;
+    names = names_on c before after above commit g started.names;
     applications = good started.applications;
     excess = borne_on started.excess;
   }

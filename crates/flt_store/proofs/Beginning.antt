@@ -10,22 +10,17 @@ use Rattle.flt_config.specs.declared.config.Config.{Config}
 use Rattle.flt_config.specs.declared.persist.Persist.{Persist}
 use Rattle.flt_config.specs.Durable.{Fits}
 use Rattle.flt_generation.specs.Layout.{commit_id, number_of, mark_number, first_commit, second_commit}
+use Rattle.flt_generation.specs.Excess.{IsBorne}
 use Rattle.flt_generation.specs.Laws.{IsGiven}
-use Rattle.flt_generation.specs.Holding.{Generation, Fault, Holds, IsSound, OldOrNew, either_copy, only_bytes, held, spare}
+use Rattle.flt_generation.specs.Holding.{Generation, Fault, Holds, MarkAllows, either_copy, only_bytes, held, spare}
 use Rattle.flt_config.proofs.InitialFits.{initial_fits}
 use Rattle.flt_generation.proofs.ImageLaws.{held_stands, spare_stands}
 use Rattle.flt_restore.specs.declared.commit.CommitCopy.{CommitCopy}
 use Rattle.flt_restore.specs.Restored.{HasBytes, IsJudged, IsCopy, IsRestored, generation}
 use Rattle.flt_store.specs.Started.{HasMark, IsStarted, IsMarkTried}
 use Rattle.flt_store.specs.Start.{Begins, IsFoundIn}
-use Rattle.flt_store.proofs.Repairing.{both_old}
 use Rattle.flt_store.proofs.Copies.{IsAt}
-use Rattle.flt_store.proofs.Marks.{borne_marked, good_marked, sound_marked}
-
-either_missing : (first second : Content) → first ≡ missing → only_bytes second ≡ missing → either_copy first second ≡ missing
-either_missing first (bytes raw) one two = absurd (cc two)
-either_missing first missing one two = ap (λ (d : Content). either_copy d missing) one
-either_missing first invalid one two = ap (λ (d : Content). either_copy d invalid) one
+use Rattle.flt_store.proofs.Marks.{holds_marked}
 
 first_missing : (first second : Content) → either_copy first second ≡ missing → first ≡ missing
 first_missing missing second is = refl
@@ -41,27 +36,47 @@ second_missing missing (bytes raw) is = absurd (cc is)
 second_missing invalid (bytes raw) is = absurd (cc is)
 second_missing (bytes other) (bytes raw) is = absurd (cc is)
 
--- No copy was found, and the mark was written where it was missing.
-module _ (c : Config) (before after : ℕ → Content) (tried : IsMarkTried c before after) (others : (other : ℕ) → other ≢ mark_number → after other ≡ before other)
-    (g : Generation) (begins : Begins c before None g) where
-  first_still : after first_commit ≡ missing
-  first_still = others first_commit (λ same. omega (arith, same)) ∙ begins.1
+-- No copy was found, and the mark stands.
+pub none_started : (c : Config) (value : ℕ → Content) (g : Generation) → HasMark c value → Begins c value None g → IsStarted c value None g
+none_started c value g mark begins = record {
+  mark = mark;
+  first = begins.1;
+  second = begins.2;
+  names = begins.0.names;
+  applications = begins.0.applications;
+  excess = begins.0.excess;
+}
 
-  second_still : only_bytes (after second_commit) ≡ missing
-  second_still = ap only_bytes (others second_commit (λ same. omega (arith, same))) ∙ begins.2
-
-  pub none_started : HasMark c after → IsStarted c after None g
-  none_started mark = record {
-    mark = mark;
-    first = first_still;
-    second = second_still;
-    names = begins.0.names;
-    applications = good_marked c before after tried others begins.0.applications;
-    excess = borne_marked c before after tried others begins.0.excess;
+-- What a generation begins with stays, where the mark alone was written.
+module _ (c : Config) (before after : ℕ → Content) (tried : IsMarkTried c before after) (others : (other : ℕ) → other ≢ mark_number → after other ≡ before other) where
+  copy_marked : (found : CommitCopy) → IsCopy before found → IsCopy after found
+  copy_marked found is = record {
+    least = is.least;
+    most = is.most;
+    holds = others (number_of commit_id (found.copy - 1)) (λ same. omega (arith, same)) ∙ is.holds;
+    form = is.form;
   }
 
-  pub none_tried : (h s : Generation) → IsSound c before h s → OldOrNew c after h s h
-  none_tried h s sound = both_old c after h s h (sound_marked c before after tried others h s (either_missing (before first_commit) (before second_commit) begins.1 begins.2) begins.2 sound)
+  pub begins_marked : (found : Option CommitCopy) (g : Generation) → Begins c before found g → Begins c after found g
+  begins_marked None g begins = (
+    holds_marked c before after tried others missing g begins.0,
+    others first_commit (λ same. omega (arith, same)) ∙ begins.1,
+    ap only_bytes (others second_commit (λ same. omega (arith, same))) ∙ begins.2,
+  )
+  begins_marked (Some found) g begins = (holds_marked c before after tried others (bytes found.bytes.items) g begins.0, copy_marked found begins.1)
+
+  pub found_marked : (found : Option CommitCopy) → IsFoundIn before found → IsFoundIn after found
+  found_marked None is = tt
+  found_marked (Some found) is = copy_marked found is
+
+-- What is known of the mark and of the excess, by either way to begin.
+pub allows_of : (c : Config) (value : ℕ → Content) (found : Option CommitCopy) (g : Generation) → Begins c value found g → (commit : Content) × MarkAllows c (value mark_number) commit
+allows_of c value None g begins = (missing, begins.0.mark)
+allows_of c value (Some found) g begins = (bytes found.bytes.items, begins.0.mark)
+
+pub borne_of : (c : Config) (value : ℕ → Content) (found : Option CommitCopy) (g : Generation) → Begins c value found g → IsBorne c value
+borne_of c value None g begins = begins.0.excess
+borne_of c value (Some found) g begins = begins.0.excess
 
 -- A copy that was found.
 pub copy_at : (value : ℕ → Content) (found : CommitCopy) → IsCopy value found → IsAt value found.bytes.items found.copy
@@ -110,9 +125,6 @@ restored_fits c given before after found state same restored = begun_fits c afte
 pub found_in : (value : ℕ → Content) (found : Option CommitCopy) (c : Config) (g : Generation) → Begins c value found g → IsFoundIn value found
 found_in value None c g begins = tt
 found_in value (Some found) c g begins = begins.1
-
-pub judged_of : (c : Config) (before after : BlocksState) (found : Option CommitCopy) (state : Persist) → IsRestored c before after found state → IsJudged c before after (Ok (generation found state))
-judged_of c before after found state = ⊎_elim (λ by_either. inl by_either.0) (λ by_second. inr (by_second.0, by_second.2, by_second.3))
 
 -- What was judged between a mount and the writes was judged in the whole start-up.
 pub judged_in : (c : Config) (first second third fourth : BlocksState) (judged : Result Generation Fault) → SameValues first second → HasRisenBy 0 first.device.faults second.device.faults

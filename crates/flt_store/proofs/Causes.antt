@@ -16,6 +16,7 @@ use Rattle.flt_generation.specs.Layout.{numbers, commit_id, first_commit, second
 use Rattle.flt_generation.specs.Excess.{own_pages, excess, IsBorne}
 use Rattle.flt_generation.specs.Laws.{IsGiven}
 use Rattle.flt_generation.proofs.Pages.{borne_has_room}
+use Rattle.flt_generation.specs.Form.{commit_length}
 use Rattle.flt_store.specs.Cause.{FailsThrice, HasRoom, IsWithinOwn, Writes}
 
 -- No write, and some writes and then more.
@@ -141,11 +142,11 @@ given_within c before after number asked size result gives small other = elim (c
 abbrev WithinAt : Config → (ℕ → Content) → (ℕ → Content) → ℕ → Type 0
 WithinAt c before after number = (after number ≡ before number) ⊎ (pages_of (after number) ≤ own_pages c number)
 
-commit_at : (c : Config) (before after : ℕ → Content) (raw : List ℕ) (number : ℕ) → length raw ≡ 26 → own_pages c number ≡ 3 → after number ≡ bytes raw → WithinAt c before after number
+commit_at : (c : Config) (before after : ℕ → Content) (raw : List ℕ) (number : ℕ) → length raw ≤ commit_length → own_pages c number ≡ 3 → after number ≡ bytes raw → WithinAt c before after number
 commit_at c before after raw number size own is = let pages : pages_of (after number) ≡ record_pages (length raw) = ap pages_of is in inr (omega (arith, pages, own, size))
 
 -- Both copies of the commit were written.
-pub both_within : (c : Config) (before after : BlocksState) (raw : List ℕ) (result : Result (Unit {0}) BlockFault) → length raw ≡ 26
+pub both_within : (c : Config) (before after : BlocksState) (raw : List ℕ) (result : Result (Unit {0}) BlockFault) → length raw ≤ commit_length
     → GivesBoth before after commit_id (bytes raw) (length raw) result → IsWithinOwn c before.value after.value
 both_within c before after raw result size gives number = elim (cases_eq number first_commit) [
   | inl same ↦

@@ -34,7 +34,7 @@ same_commit c value (Some by) g started commit has =
     let read : commit_in c started.first.0 ≡ Some by = commit_read c started.first.0 by started.names.form started.first.2 in
     sym read ∙ ap (commit_in c) raw ∙ has.2
 
-some_same : (x y : Commit) → Some x ≡ Some y → x ≡ y
+pub some_same : (x y : Commit) → Some x ≡ Some y → x ≡ y
 some_same x y same = cc same
 
 module _ (c : Config) (kept bytes_of : ℕ → List ℕ) (old new : Persist) (told : AreBlocksOf c new bytes_of) where

@@ -1,72 +1,68 @@
 -- What failed behind a mount, told of the whole start-up.
-use Rattle.std.proofs.Common.{◌≡◌, ◌⊎◌, inl, inr, ℕ, ◌-◌, ◌≤◌, Bool, true, false, List, length, Err, ◌∙◌, refl, sym, subst}
+use Rattle.std.proofs.Common.{◌≡◌, ◌⊎◌, inl, inr, ℕ, ◌-◌, ◌≤◌, Bool, true, false, List, length, Err, ◌∙◌, refl, sym, subst, arith}
 use Rattle.std.specs.Prelude.{IsTrue, IsFalse, IsErrOf}
 use Rattle.flt_flash.specs.Content.{bytes}
 use Rattle.flt_flash.specs.Blocks.{BlocksState}
-use Rattle.flt_flash.specs.Calls.{Follows, SameValues}
+use Rattle.flt_flash.specs.Calls.{Follows, OthersKept, SameValues}
 use Rattle.flt_flash.specs.declared.blocks.BlockFault.{BlockFault}
 use Rattle.flt_flash.specs.declared.blocks.BlockFault.TheVariants.{Flash as FlashFault, Full, SequenceSpent as Stuck, Damaged as DamagedPage}
 use Rattle.flt_flash.proofs.CallsInARow.{no_call, more_calls}
-use Rattle.flt_nvm.specs.declared.got.Got.{Got}
 use Rattle.flt_nvm.specs.Leaves.{GivesInAJob}
-use Rattle.flt_nvm.specs.Reads.{LooksInAJob, IsUnmended}
+use Rattle.flt_nvm.specs.Reads.{IsUnmended}
 use Rattle.flt_config.specs.declared.config.Config.{Config}
 use Rattle.flt_generation.specs.Laws.{IsGiven}
 use Rattle.flt_generation.specs.Layout.{commit_id, mark_number, number_of, numbers}
 use Rattle.flt_generation.specs.Excess.{IsBorne}
+use Rattle.flt_generation.specs.Form.{mark_of}
 use Rattle.flt_restore.specs.declared.fault.StartFault.TheVariants.{Flash}
-use Rattle.flt_restore.specs.Unread.{FailsToRead, IsImageUnread}
-use Rattle.flt_restore.proofs.Failing.{fails_from, image_unread_from}
+use Rattle.flt_restore.specs.Unread.{IsImageUnread}
+use Rattle.flt_restore.proofs.Failing.{image_unread_from}
 use Rattle.flt_store.specs.Cause.{HasRoom, Writes}
 use Rattle.flt_store.specs.Start.{told_of_mount, told_of_write}
 use Rattle.flt_store.specs.Dark.{IsOfBlocks, FailsToWrite, IsMarkUnwritten, IsCommitUnmended, IsUnbegun, IsUnrestarted}
 use Rattle.flt_store.proofs.Causes.{never_full}
+use Rattle.flt_restore.specs.Restored.{IsMarkDue}
 
-pub read_at_once : (number : ℕ) (before after : BlocksState) → LooksInAJob {T = Got} number before after (Err FlashFault) → FailsToRead number before after
-read_at_once number before after fails = record { first = before; last = after; earlier = no_call before; fails = fails; later = no_call after }
+pub write_at_once : (number : ℕ) (raw : List ℕ) (before after : BlocksState) → GivesInAJob number (bytes raw) (length raw) before after (Err FlashFault) → FailsToWrite number raw before after
+write_at_once number raw before after fails = record { first = before; last = after; earlier = no_call before; fails = fails; later = no_call after }
 
-pub write_behind : (number : ℕ) (raw : List ℕ) (before middle after : BlocksState) → Follows before middle → GivesInAJob number (bytes raw) (length raw) middle after (Err FlashFault) → FailsToWrite number raw before after
-write_behind number raw before middle after so_far fails = record { first = middle; last = after; earlier = so_far; fails = fails; later = no_call after }
+-- Where nothing but the mark was written before it.
+pub commit_from : (before middle after : BlocksState) → Follows before middle → OthersKept mark_number before middle → IsCommitUnmended middle after → IsCommitUnmended before after
+commit_from before middle after so_far same unmended = record {
+  copy = unmended.copy;
+  least = unmended.least;
+  most = unmended.most;
+  raw = unmended.raw;
+  holds = sym (same _ (λ mark. omega (arith, mark))) ∙ unmended.holds;
+  first = unmended.first;
+  earlier = more_calls before middle unmended.first so_far unmended.earlier;
+  same = λ other apart. unmended.same other apart ∙ same other apart;
+  unmended = unmended.unmended;
+}
 
 module _ (before middle after : BlocksState) (so_far : Follows before middle) (same : SameValues before middle) where
-  mark_from : IsMarkUnwritten middle after → IsMarkUnwritten before after
-  mark_from (inl unread) = inl (fails_from mark_number before middle after so_far unread)
-  mark_from (inr (missing, raw, unwritten)) =
-      inr (
-        sym (same mark_number) ∙ missing,
-        raw,
-        record {
-          first = unwritten.first;
-          last = unwritten.last;
-          earlier = more_calls before middle unwritten.first so_far unwritten.earlier;
-          fails = unwritten.fails;
-          later = unwritten.later;
-        },
-      )
-
-  commit_from : IsCommitUnmended middle after → IsCommitUnmended before after
-  commit_from unmended = record {
-    copy = unmended.copy;
-    least = unmended.least;
-    most = unmended.most;
-    raw = unmended.raw;
-    holds = sym (same _) ∙ unmended.holds;
-    first = unmended.first;
-    earlier = more_calls before middle unmended.first so_far unmended.earlier;
-    same = λ number. unmended.same number ∙ same number;
-    unmended = unmended.unmended;
-  }
+  mark_from : (c : Config) → IsMarkUnwritten c middle after → IsMarkUnwritten c before after
+  mark_from c (due, unwritten) = (
+    subst (IsMarkDue (mark_of c)) (same mark_number) due,
+    record {
+      first = unwritten.first;
+      last = unwritten.last;
+      earlier = more_calls before middle unwritten.first so_far unwritten.earlier;
+      fails = unwritten.fails;
+      later = unwritten.later;
+    },
+  )
 
   pub unrestarted_from : IsCommitUnmended middle after → IsUnrestarted before after
-  unrestarted_from commit = inr (commit_from commit)
+  unrestarted_from commit = inr (commit_from before middle after so_far (λ other apart. same other) commit)
 
-  pub unbegun_from : IsUnbegun middle after → IsUnbegun before after
-  unbegun_from (inl mark) = inl (mark_from mark)
-  unbegun_from (inr commit) = inr (commit_from commit)
+  pub unbegun_from : (c : Config) → IsUnbegun c middle after → IsUnbegun c before after
+  unbegun_from c (inl mark) = inl (mark_from c mark)
+  unbegun_from c (inr commit) = inr (commit_from before middle after so_far (λ other apart. same other) commit)
 
-  pub unready_from : (c : Config) → IsImageUnread c middle after ⊎ IsUnbegun middle after → IsImageUnread c before after ⊎ IsUnbegun before after
+  pub unready_from : (c : Config) → IsImageUnread c middle after ⊎ IsUnbegun c middle after → IsImageUnread c before after ⊎ IsUnbegun c before after
   unready_from c (inl unread) = inl (image_unread_from c before middle after so_far same unread)
-  unready_from c (inr unbegun) = inr (unbegun_from unbegun)
+  unready_from c (inr unbegun) = inr (unbegun_from c unbegun)
 
 -- A write that failed, and not for want of a sequence number, was failed by the flash.
 pub was_flash : {T : Type 0} (c : Config) → IsGiven c → (before after : BlocksState) (fault : BlockFault) → Writes {T = T} before after (Err fault) → before.numbers ≡ numbers → HasRoom c before.room
@@ -100,7 +96,7 @@ unmended_at before after raw copy least most holds unmended = record {
   holds = holds;
   first = before;
   earlier = no_call before;
-  same = λ number. refl;
+  same = λ other apart. refl;
   unmended = unmended;
 }
 

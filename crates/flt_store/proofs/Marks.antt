@@ -1,26 +1,22 @@
--- The mark of the configuration was read, and written where it was missing.
-use Rattle.std.proofs.Common.{◌≡◌, ◌≢◌, ◌⊎◌, inl, inr, ⊎_elim, ℕ, ◌≤◌, List, length, refl, sym, ◌∙◌, ap, subst, arith}
-use Rattle.std.specs.Prelude.{IsTrue}
+-- The mark of the configuration was read, and written where it was missing or of version 1.
+use Rattle.std.proofs.Common.{◌≡◌, ◌≢◌, ◌⊎◌, ◌↔◌, inl, inr, ⊎_elim, ℕ, ◌≤◌, Bool, true, false, List, length, take, refl, sym, ◌∙◌, ap, subst, arith}
+use Rattle.std.specs.Prelude.{IsTrue, bytes_eq}
 use Rattle.std.proofs.lemmas.Bool.{cases_eq}
 use Rattle.flt_flash.specs.Content.{Content, missing, invalid, bytes}
 use Rattle.flt_flash.specs.Blocks.{pages_of, record_pages}
 use Rattle.flt_config.specs.declared.config.Config.{Config}
-use Rattle.flt_nvm.specs.declared.got.Got.TheVariants.{Bytes, Missing, Invalid}
-use Rattle.flt_nvm.specs.Leaves.{GotOf}
-use Rattle.flt_generation.specs.Layout.{mark_number, first_commit, second_commit, application_number}
-use Rattle.flt_generation.specs.Form.{mark_of, mark_bytes, IsBytesOfMark}
+use Rattle.flt_generation.specs.declared.mark.Mark.{Mark}
+use Rattle.flt_generation.specs.Layout.{mark_number, number_of, first_commit, second_commit, application_number, is_used}
+use Rattle.flt_generation.specs.Form.{mark_of, mark_bytes, mark_bytes_1}
 use Rattle.flt_generation.specs.Excess.{IsBorne, own_pages}
 use Rattle.flt_generation.specs.Holding.{Generation, Holds, IsSound, MarkAllows, either_copy, only_bytes, is_application}
 use Rattle.flt_generation.proofs.Marks.{mark_size}
+use Rattle.flt_generation.proofs.Pages.{used_range}
 use Rattle.flt_store.specs.Cause.{IsWithinOwn}
-use Rattle.flt_store.specs.Started.{IsMarkTried}
+use Rattle.flt_store.specs.Started.{HasMark, IsMarkTried}
 use Rattle.flt_store.proofs.Causes.{borne_stays}
-use Rattle.flt_store.proofs.Started.{AreApplications}
-
-pub missing_mark : (content : Content) (before after : List ℕ) → GotOf 1 content Missing before after → content ≡ missing
-missing_mark missing before after got = refl
-missing_mark invalid before after got = absurd got
-missing_mark (bytes held) before after got = absurd got
+use Rattle.flt_store.proofs.Started.{AreApplications, content_names_on}
+use Rattle.flt_restore.specs.Restored.{IsMarkDue}
 
 module _ (c : Config) (before after : ℕ → Content) (tried : IsMarkTried c before after) (others : (other : ℕ) → other ≢ mark_number → after other ≡ before other) where
   own_mark : own_pages c mark_number ≡ 3
@@ -52,43 +48,37 @@ module _ (c : Config) (before after : ℕ → Content) (tried : IsMarkTried c be
   good_marked are block below =
       subst (λ (content : Content). IsTrue (is_application content)) (sym (others (application_number block) (λ same. omega (arith, same)))) (are block below)
 
-  mark_by : (mark : Content) → before mark_number ≡ mark → MarkAllows c mark missing → MarkAllows c (after mark_number) missing
-  mark_by mark is allows =
+  mark_by : (commit : Content) → MarkAllows c (before mark_number) commit → MarkAllows c (after mark_number) commit
+  mark_by commit allows =
       ⊎_elim
-      (λ kept. subst (λ (content : Content). MarkAllows c content missing) (sym (kept ∙ is)) allows)
-      (λ wrote. subst (λ (content : Content). MarkAllows c content missing) (sym wrote.1) refl)
+      (λ kept. subst (λ (mark : Content). MarkAllows c mark commit) (sym kept) allows)
+      (λ wrote. subst (λ (mark : Content). MarkAllows c mark commit) (sym wrote.1) (inl refl))
       tried
 
-  -- Where there is no commit, the image holds the first generation as before.
-  holds_marked : (content : Content) (g : Generation) → content ≡ missing → Holds c before content g → Holds c after content g
-  holds_marked content g none is = subst (λ (d : Content). Holds c after d g) (sym none) (on_missing (subst (λ (d : Content). Holds c before d g) none is))
-    where
-      on_missing : Holds c before missing g → Holds c after missing g
-      on_missing is = record {
-        mark = mark_by (before mark_number) refl is.mark;
-        names = is.names;
-        applications = good_marked is.applications;
-        excess = borne_marked is.excess;
-      }
+  above : (id index : ℕ) → IsTrue (is_used c id) → index ≤ 1 → after (number_of id index) ≡ before (number_of id index)
+  above id index used small = let range = used_range c id used in others (number_of id index) (λ same. omega (arith, range.0, same))
 
-  pub sound_marked : (h s : Generation) → either_copy (before first_commit) (before second_commit) ≡ missing → only_bytes (before second_commit) ≡ missing → IsSound c before h s → IsSound c after h s
-  sound_marked h s none none_second sound = record {
+  -- What the image holds it holds with the mark written anew.
+  pub holds_marked : (content : Content) (g : Generation) → Holds c before content g → Holds c after content g
+  holds_marked content g is = record {
+    mark = mark_by content is.mark;
+    names = content_names_on c before after above content g is.names;
+    applications = good_marked is.applications;
+    excess = borne_marked is.excess;
+  }
+
+  pub sound_marked : (h s : Generation) → IsSound c before h s → IsSound c after h s
+  sound_marked h s sound = record {
     holds = subst (λ (content : Content). Holds c after content h) (ap (λ (d : Content). either_copy d (before second_commit)) (sym first_same) ∙ ap (either_copy (after first_commit)) (sym second_same))
-        (holds_marked (either_copy (before first_commit) (before second_commit)) h none sound.holds);
-    spares = subst (λ (content : Content). Holds c after content s) (ap only_bytes (sym second_same)) (holds_marked (only_bytes (before second_commit)) s none_second sound.spares);
+        (holds_marked (either_copy (before first_commit) (before second_commit)) h sound.holds);
+    spares = subst (λ (content : Content). Holds c after content s) (ap only_bytes (sym second_same)) (holds_marked (only_bytes (before second_commit)) s sound.spares);
     order = sound.order;
     step = sound.step;
     same = sound.same;
   }
 
--- What is read of a mark that is allowed.
-pub mark_not_invalid : (c : Config) (content : Content) (before after : List ℕ) → MarkAllows c content missing → GotOf 1 content Invalid before after → ⊥
-mark_not_invalid c missing before after allows got = got
-mark_not_invalid c invalid before after allows got = allows
-mark_not_invalid c (bytes raw) before after allows got = got
-
-pub mark_found : (c : Config) (content : Content) (n copy : ℕ) (before after : List ℕ) → MarkAllows c content missing → GotOf 1 content (Bytes n copy) before after
-    → (raw : List ℕ) × (content ≡ bytes raw) × IsBytesOfMark (mark_of c) raw
-mark_found c missing n copy before after allows got = absurd got.1
-mark_found c invalid n copy before after allows got = absurd got.1
-mark_found c (bytes raw) n copy before after allows got = (raw, refl, allows)
+-- A mark that is allowed and has not to be written stands in the version that is written.
+pub stands_anew : (c : Config) (content commit : Content) → MarkAllows c content commit → (IsMarkDue (mark_of c) content → ⊥) → content ≡ bytes (mark_bytes (mark_of c))
+stands_anew c missing commit allows never = absurd (never (inl refl))
+stands_anew c invalid commit allows never = absurd allows
+stands_anew c (bytes held) commit allows never = ⊎_elim (λ new. ap bytes new) (λ old. absurd (never (inr (ap bytes old)))) allows

@@ -14,7 +14,8 @@ use Rattle.flt_generation.specs.Layout.{commit_id, number_of, first_commit, seco
 use Rattle.flt_generation.specs.Reading.{commit_in}
 use Rattle.flt_generation.specs.Excess.{IsBorne, own_pages}
 use Rattle.flt_generation.specs.Holding.{Generation, CommitNames, Names, MarkAllows, Holds, IsHeld, IsSpare, IsSound, either_copy, only_bytes, OldOrNew}
-use Rattle.flt_generation.proofs.Commits.{commit_size, commit_read, read_commit}
+use Rattle.flt_generation.proofs.Commits.{bytes_of_commit_size, commit_read, read_commit}
+use Rattle.flt_generation.specs.Form.{commit_length}
 use Rattle.flt_store.specs.Cause.{IsWithinOwn}
 use Rattle.flt_store.specs.Started.{HasMark, IsStarted, AgreeButForCommit}
 use Rattle.flt_store.proofs.Causes.{own_first, own_second}
@@ -33,21 +34,16 @@ module _ (c : Config) where
   pub one_commit : (value : ℕ → Content) (raw : List ℕ) (g : Generation) → Holds c value (bytes raw) g → (commit : Commit) × (commit_in c raw ≡ Some commit) × CommitNames c value commit g
   one_commit value raw g holds = let named = holds.names in (named.0, commit_read c raw named.0 named.2.form named.1, named.2)
 
-  mark_of_bytes : (value : ℕ → Content) (raw : List ℕ) (mark : Content) → value 8 ≡ mark → MarkAllows c mark (bytes raw) → HasMark c value
-  mark_of_bytes value raw missing is allows = absurd (cc allows)
-  mark_of_bytes value raw invalid is allows = absurd allows
-  mark_of_bytes value raw (bytes held) is allows = (held, is, allows)
-
   module _ (before after : ℕ → Content) (agree : AgreeButForCommit before after) (excess : IsBorne c after) where
     -- Both copies hold the bytes of a commit that names a generation.
-    pub repaired : (raw : List ℕ) (commit : Commit) (g : Generation) → commit_in c raw ≡ Some commit → Holds c before (bytes raw) g
+    pub repaired : (raw : List ℕ) (commit : Commit) (g : Generation) → HasMark c before → commit_in c raw ≡ Some commit → Holds c before (bytes raw) g
         → after first_commit ≡ bytes raw → after second_commit ≡ bytes raw → IsStarted c after (Some commit) g
-    repaired raw commit g read holds first second =
+    repaired raw commit g mark read holds first second =
         let form = holds.names in
         let found = commit_read c raw form.0 form.2.form form.1 in
         let same : form.0 ≡ commit = cc (read, found) in
         subst (λ (d : Commit). IsStarted c after (Some d) g) same (record {
-          mark = mark_kept c before after agree (mark_of_bytes before raw (before 8) refl holds.mark);
+          mark = mark_kept c before after agree mark;
           first = (raw, first, form.1);
           second = (raw, ap only_bytes second, form.1);
           names = commit_names_kept c before after agree form.0 g form.2;
@@ -123,7 +119,7 @@ module _ (c : Config) where
   sound_kept before after h s same sound = let values : before ≡ after = λ i number. sym (same number) i in subst (λ (value : ℕ → Content). IsSound c value h s) values sound
 
   pub mark_stays : (before after : ℕ → Content) → ((number : ℕ) → after number ≡ before number) → HasMark c before → HasMark c after
-  mark_stays before after same mark = (mark.0, same 8 ∙ mark.1, mark.2)
+  mark_stays before after same mark = same 8 ∙ mark
 
   one_number : (value : ℕ → Content) (content : Content) (h s : Generation) → Names c value content h → Names c value content s → h.number ≡ s.number
   one_number value missing h s one two = ap (λ (g : Generation). g.number) (one ∙ sym two)
@@ -189,7 +185,7 @@ module _ (c : Config) where
       subst (λ (d : Content). Names c value d h) is sound.holds.names
 
   -- One copy was written, with no more than a commit has.
-  pub copy_within : (before after : ℕ → Content) (raw : List ℕ) (copy : ℕ) → 1 ≤ copy → copy ≤ 2 → length raw ≡ 26
+  pub copy_within : (before after : ℕ → Content) (raw : List ℕ) (copy : ℕ) → 1 ≤ copy → copy ≤ 2 → length raw ≤ commit_length
       → (after (number_of commit_id (2 - copy)) ≡ before (number_of commit_id (2 - copy))) ⊎ (after (number_of commit_id (2 - copy)) ≡ bytes raw)
       → ((other : ℕ) → other ≢ number_of commit_id (2 - copy) → after other ≡ before other) → IsWithinOwn c before after
   copy_within before after raw copy least most size either others other = elim (cases_eq other (number_of commit_id (2 - copy))) [
@@ -205,11 +201,9 @@ module _ (c : Config) where
         | inr apart ↦ (let two : copy ≡ 2 = omega (arith, least, most, apart) in subst (λ (k : ℕ). own_pages c (number_of commit_id (2 - k)) ≡ 3) (sym two) (own_first c))
       ]
 
--- Bytes that are read as a commit are 26.
-pub bytes_of_commit : (c : Config) (raw : List ℕ) (commit : Commit) → commit_in c raw ≡ Some commit → length raw ≡ 26
-bytes_of_commit c raw commit read =
-    let is = read_commit c raw commit read in
-    ap (λ (held : List ℕ). length held) is.1 ∙ commit_size commit is.0.size
+-- Bytes that are read as a commit are some, and no more than a commit may have.
+pub bytes_of_commit : (c : Config) (raw : List ℕ) (commit : Commit) → commit_in c raw ≡ Some commit → (1 ≤ length raw) × (length raw ≤ commit_length)
+bytes_of_commit c raw commit read = let is = read_commit c raw commit read in bytes_of_commit_size c raw commit is.0 is.1
 
 -- All but one copy agree.
 pub but_for_copy : (before after : ℕ → Content) (copy : ℕ) → 1 ≤ copy → copy ≤ 2 → ((other : ℕ) → other ≢ number_of commit_id (2 - copy) → after other ≡ before other) → AgreeButForCommit before after

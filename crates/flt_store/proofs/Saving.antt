@@ -43,7 +43,7 @@ module _ (c : Config) where
     -- The generation before still stands.
     pub settled : (g : Generation) → IsWithinOwn c before after → IsStarted c before current g → IsStarted c after current g
     settled g within started = record {
-      mark = (started.mark.0, kept_low mark_number (omega arith) ∙ started.mark.1, started.mark.2);
+      mark = kept_low mark_number (omega arith) ∙ started.mark;
       first = subst (IsContentOf current) (sym (kept_low first_commit (omega arith))) started.first;
       second = subst (λ (content : Content). IsContentOf current (only_bytes content)) (sym (kept_low second_commit (omega arith))) started.second;
       names = names current (λ id written. moved_of c current next id written) started.names;
@@ -112,7 +112,7 @@ module _ (c : Config) where
       IsTried copy = (after copy ≡ before copy) ⊎ (after copy ≡ bytes (commit_bytes next))
 
       of_next : (content : Content) → content ≡ bytes (commit_bytes next) → IsContentOf (Some next) content
-      of_next content is = (commit_bytes next, is, refl)
+      of_next content is = (commit_bytes next, is, inl refl)
 
       -- Both copies were given the next commit.
       pub committed : after first_commit ≡ bytes (commit_bytes next) → after second_commit ≡ bytes (commit_bytes next) → IsStarted c after (Some next) new

@@ -1,5 +1,5 @@
 -- What a started image holds, and what leaves it so.
-use Rattle.std.proofs.Common.{◌≡◌, ℕ, ◌<◌, ◌≤◌, List, Option, Some, None, refl, sym, ◌∙◌, ap, subst, arith}
+use Rattle.std.proofs.Common.{◌≡◌, inl, ℕ, ◌<◌, ◌≤◌, List, Option, Some, None, refl, sym, ◌∙◌, ap, subst, arith}
 use Rattle.std.specs.Prelude.{IsTrue}
 use Rattle.flt_flash.specs.Content.{Content, missing, invalid, bytes}
 use Rattle.flt_config.specs.declared.config.Config.{Config}
@@ -24,7 +24,7 @@ module _ (c : Config) (value : ℕ → Content) where
   names_content (Some commit) content g is names = subst (λ (held : Content). Names c value held g) (sym is.1) (commit, is.2, names)
 
   mark_allows : (content : Content) → HasMark c value → MarkAllows c (value mark_number) content
-  mark_allows content mark = subst (λ (held : Content). MarkAllows c held content) (sym mark.1) mark.2
+  mark_allows content mark = subst (λ (held : Content). MarkAllows c held content) (sym mark) (inl refl)
 
   pub holds_of : (content : Content) (commit : Option Commit) (g : Generation) → IsContentOf commit content → HasMark c value → NamesOf c value commit g → AreApplications value → IsBorne c value
       → Holds c value content g
@@ -55,9 +55,8 @@ sound_started c value commit g started = record {
   same = λ equal. refl;
 }
 
--- What stands where the mark and the used blocks are as they were.
-module _ (c : Config) (before after : ℕ → Content) (mark_same : after mark_number ≡ before mark_number)
-    (above : (id index : ℕ) → IsTrue (is_used c id) → index ≤ 1 → after (number_of id index) ≡ before (number_of id index)) where
+-- What is named where the used blocks are as they were.
+module _ (c : Config) (before after : ℕ → Content) (above : (id index : ℕ) → IsTrue (is_used c id) → index ≤ 1 → after (number_of id index) ≡ before (number_of id index)) where
   pub commit_names_on : (commit : Commit) (g : Generation) → CommitNames c before commit g → CommitNames c after commit g
   commit_names_on commit g is = record {
     form = is.form;
@@ -70,21 +69,24 @@ module _ (c : Config) (before after : ℕ → Content) (mark_same : after mark_n
   names_on None g is = is
   names_on (Some commit) g is = commit_names_on commit g is
 
+  pub content_names_on : (content : Content) (g : Generation) → Names c before content g → Names c after content g
+  content_names_on missing g is = is
+  content_names_on invalid g is = is
+  content_names_on (bytes held) g is = (is.0, is.1, commit_names_on is.0 g is.2)
+
+-- What stands where the mark is as it was too.
+module _ (c : Config) (before after : ℕ → Content) (mark_same : after mark_number ≡ before mark_number)
+    (above : (id index : ℕ) → IsTrue (is_used c id) → index ≤ 1 → after (number_of id index) ≡ before (number_of id index)) where
   pub mark_on : HasMark c before → HasMark c after
-  mark_on mark = (mark.0, mark_same ∙ mark.1, mark.2)
+  mark_on mark = mark_same ∙ mark
 
   pub holds_on : (content : Content) (g : Generation) → AreApplications after → IsBorne c after → Holds c before content g → Holds c after content g
   holds_on content g applications excess is = record {
     mark = subst (λ (mark : Content). MarkAllows c mark content) (sym mark_same) is.mark;
-    names = names content is.names;
+    names = content_names_on c before after above content g is.names;
     applications = applications;
     excess = excess;
   }
-    where
-      names : (content : Content) → Names c before content g → Names c after content g
-      names missing is = is
-      names invalid is = is
-      names (bytes held) is = (is.0, is.1, commit_names_on is.0 g is.2)
 
 -- What stands where the two images agree but for the copies of the commit.
 module _ (c : Config) (before after : ℕ → Content) (agree : AgreeButForCommit before after) where
@@ -95,10 +97,10 @@ module _ (c : Config) (before after : ℕ → Content) (agree : AgreeButForCommi
   below_commit = agree mark_number (λ same. omega (arith, same)) (λ same. omega (arith, same))
 
   pub commit_names_kept : (commit : Commit) (g : Generation) → CommitNames c before commit g → CommitNames c after commit g
-  commit_names_kept = commit_names_on c before after below_commit above_commit
+  commit_names_kept = commit_names_on c before after above_commit
 
   pub names_kept : (commit : Option Commit) (g : Generation) → NamesOf c before commit g → NamesOf c after commit g
-  names_kept = names_on c before after below_commit above_commit
+  names_kept = names_on c before after above_commit
 
   pub mark_kept : HasMark c before → HasMark c after
   mark_kept = mark_on c before after below_commit above_commit

@@ -6,7 +6,7 @@ use Rattle.flt_nvm.specs.declared.table.Kind.TheVariants.{Native, Redundant, Dat
 use Rattle.flt_nvm.specs.declared.table.BlockCfg.{BlockCfg}
 use Rattle.flt_nvm.specs.Table.{block_in, indices_of, ByKind, AsKept, HasIndex, FitsBlock, IsRedundant}
 use Rattle.flt_generation.specs.Layout.{mark_id, commit_id, first_part, end_part, first_application, applications, part_of}
-use Rattle.flt_generation.specs.Form.{part_length}
+use Rattle.flt_generation.specs.Form.{part_length, commit_length}
 use Rattle.flt_image.specs.Table.{row, block_table}
 use Rattle.flt_image.proofs.TableRows.{mark_row, commit_row, part_row, application_row}
 
@@ -33,16 +33,16 @@ module _ (table : List BlockCfg) (is : table ≡ block_table) where
   mark_alone Single Both fact = kept_as mark_id 8 Native Single Both mark_row fact
 
   pub commit_index : HasIndex table commit_id 0
-  commit_index = has_index commit_id 0 26 Redundant commit_row (omega arith)
+  commit_index = has_index commit_id 0 commit_length Redundant commit_row (omega arith)
 
   pub commit_twice : IsRedundant table commit_id
-  commit_twice = subst (λ (found : Option BlockCfg). IsSomeAnd found (λ block. block.kind ≡ Redundant)) (row_in commit_id (Some (row Redundant 26 commit_id)) commit_row) refl
+  commit_twice = subst (λ (found : Option BlockCfg). IsSomeAnd found (λ block. block.kind ≡ Redundant)) (row_in commit_id (Some (row Redundant commit_length commit_id)) commit_row) refl
 
-  pub commit_fits : (size : ℕ) → size ≤ 26 → FitsBlock table commit_id size
-  commit_fits size within = holds commit_id size 26 Redundant commit_row within
+  pub commit_fits : (size : ℕ) → size ≤ commit_length → FitsBlock table commit_id size
+  commit_fits size within = holds commit_id size commit_length Redundant commit_row within
 
   pub commit_both : (Single Both : Type 0) → AsKept table commit_id Single Both → Both
-  commit_both Single Both fact = kept_as commit_id 26 Redundant Single Both commit_row fact
+  commit_both Single Both fact = kept_as commit_id commit_length Redundant Single Both commit_row fact
 
   module _ (id : ℕ) (low : first_part ≤ id) (high : id < end_part) where
     pub part_index : (index : ℕ) → index ≤ 1 → HasIndex table id index

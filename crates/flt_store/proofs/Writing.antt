@@ -11,7 +11,7 @@ use Rattle.flt_config.specs.Durable.{Fits}
 use Rattle.flt_nvm.specs.Leaves.{GivesBoth}
 use Rattle.flt_generation.specs.declared.commit.Commit.{Commit}
 use Rattle.flt_generation.specs.Layout.{commit_id, number_of, mark_number, application_number, index_in}
-use Rattle.flt_generation.specs.Form.{commit_bytes, IsCommit}
+use Rattle.flt_generation.specs.Form.{commit_bytes, IsCommit, commit_length_2}
 use Rattle.flt_generation.specs.Excess.{IsBorne}
 use Rattle.flt_generation.specs.Holding.{Generation, OldOrNew, SameApplications}
 use Rattle.flt_generation.specs.Successor.{IsNext, IsNewBlock, OnlyNewBlock, OnlyNewBlocks, WritesWithin, is_written, number_in}
@@ -63,11 +63,11 @@ form_of c value (Some commit) g names = names.form
 module _ (c : Config) (state : Persist) (current : Option Commit) (kept_bytes bytes_of : ℕ → List ℕ) (next : Commit) (follows : IsNext c current kept_bytes bytes_of next) (most : number_in current + 1 < 2 ^ 32)
     (fits : Fits c state) (told : AreBlocksOf c state bytes_of) (before middle after : BlocksState) (only : OnlyNewBlocks c current next bytes_of before.value middle.value) (within : IsWithinOwn c before.value middle.value)
     (stand : AreWritten c current next bytes_of middle.value) (raw : List ℕ) (is : raw ≡ commit_bytes next) (result : Result (Unit {0}) BlockFault) (gives : GivesBoth middle after commit_id (bytes raw) (length raw) result) where
-  size : length raw ≡ 26
-  size = ap (λ (held : List ℕ). length held) is ∙ commit_size next follows.size
+  size : length raw ≡ commit_length_2
+  size = ap (λ (held : List ℕ). length held) is ∙ commit_size next
 
   within_commit : IsWithinOwn c middle.value after.value
-  within_commit = both_within c middle after raw result size gives
+  within_commit = both_within c middle after raw result (omega (arith, size)) gives
 
   given : GivesBoth middle after commit_id (bytes (commit_bytes next)) (length raw) result
   given = subst (λ (held : List ℕ). GivesBoth middle after commit_id (bytes held) (length raw) result) is gives

@@ -1,20 +1,22 @@
 -- What failed where a start-up, or a save, answers that the flash failed it, and what a start-up writes of an image that it refuses.
 use Rattle.std.specs.Prelude.{◌≡◌, ◌⊎◌, ℕ, ◌-◌, ◌≤◌, Bool, List, length, Ok, Err, IsFalse}
-use Rattle.flt_flash.specs.Content.{missing, bytes}
+use Rattle.flt_flash.specs.Content.{bytes}
 use Rattle.flt_flash.specs.Blocks.{BlocksState}
-use Rattle.flt_flash.specs.Calls.{Follows, SameImage, SameValues}
+use Rattle.flt_flash.specs.Calls.{Follows, OthersKept, SameImage}
 use Rattle.flt_flash.specs.declared.blocks.BlockFault.TheVariants.{Flash}
 use Rattle.flt_nvm.specs.Tries.{Tries, Mounts}
 use Rattle.flt_nvm.specs.Leaves.{GivesInAJob}
 use Rattle.flt_nvm.specs.Reads.{IsUnmended, IsUnreadable}
 use Rattle.flt_config.specs.declared.config.Config.{Config}
 use Rattle.flt_generation.specs.Layout.{commit_id, mark_number, number_of}
+use Rattle.flt_generation.specs.Form.{mark_of, mark_bytes}
 use Rattle.flt_generation.specs.Holding.{Generation, IsSound}
 use Rattle.flt_generation.specs.declared.place.Place.TheVariants.{Page, Block}
 use Rattle.flt_restore.specs.declared.fault.StartFault.{StartFault}
 use Rattle.flt_restore.specs.declared.fault.StartFault.TheVariants.{Flash as StartFlash, Damaged, OtherConfig, SequenceSpent}
-use Rattle.flt_restore.specs.Unread.{FailsToRead, IsImageUnread}
+use Rattle.flt_restore.specs.Unread.{IsImageUnread}
 use Rattle.flt_store.specs.Cause.{FailsThrice}
+use Rattle.flt_restore.specs.Restored.{IsMarkDue}
 
 -- Among these calls three writes in a row of these bytes to a number were failed by the flash.
 pub record FailsToWrite (number : ℕ) (raw : List ℕ) (before after : BlocksState) : Type 0 where
@@ -24,12 +26,12 @@ pub record FailsToWrite (number : ℕ) (raw : List ℕ) (before after : BlocksSt
   pub fails : GivesInAJob number (bytes raw) (length raw) first last (Err Flash)
   pub later : Follows last after
 
--- The mark could not be read, or is missing and could not be written.
-abbrev pub IsMarkUnwritten : BlocksState → BlocksState → Type 0
-IsMarkUnwritten before after =
-    FailsToRead mark_number before after ⊎ ((before.value mark_number ≡ missing) × (raw : List ℕ) × FailsToWrite mark_number raw before after)
+-- The mark had to be written, and could not be.
+abbrev pub IsMarkUnwritten : Config → BlocksState → BlocksState → Type 0
+IsMarkUnwritten c before after = IsMarkDue (mark_of c) (before.value mark_number) × FailsToWrite mark_number (mark_bytes (mark_of c)) before after
 
--- The other copy of the commit could be neither read nor written, or holds other bytes and could not be written.
+-- The other copy of the commit could be neither read nor written, or holds other bytes and could not be written; before that nothing was
+-- written but the mark.
 pub record IsCommitUnmended (before after : BlocksState) : Type 0 where
   pub copy : ℕ
   pub least : 1 ≤ copy
@@ -38,16 +40,16 @@ pub record IsCommitUnmended (before after : BlocksState) : Type 0 where
   pub holds : before.value (number_of commit_id (copy - 1)) ≡ bytes raw
   pub first : BlocksState
   pub earlier : Follows before first
-  pub same : SameValues before first
+  pub same : OthersKept mark_number before first
   pub unmended : IsUnmended first after (number_of commit_id (2 - copy)) (bytes raw)
 
 -- What a generation needs in the image could not be written.
-abbrev pub IsUnbegun : BlocksState → BlocksState → Type 0
-IsUnbegun before after = IsMarkUnwritten before after ⊎ IsCommitUnmended before after
+abbrev pub IsUnbegun : Config → BlocksState → BlocksState → Type 0
+IsUnbegun c before after = IsMarkUnwritten c before after ⊎ IsCommitUnmended before after
 
 -- Three mounts in a row failed; or what a start-up needs of the image could not be read, or not be written.
 abbrev pub IsDark : Config → BlocksState → BlocksState → Type 0
-IsDark c before after = Tries 3 Mounts before after (Err Flash) ⊎ IsImageUnread c before after ⊎ IsUnbegun before after
+IsDark c before after = Tries 3 Mounts before after (Err Flash) ⊎ IsImageUnread c before after ⊎ IsUnbegun c before after
 
 -- Of the commit neither copy could be read, or one could not and the other has no bytes; or its other copy could not be mended.
 abbrev pub IsUnrestarted : BlocksState → BlocksState → Type 0

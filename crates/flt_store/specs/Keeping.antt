@@ -9,6 +9,7 @@ use Rattle.flt_generation.specs.Layout.{first_commit, is_used, index_in}
 use Rattle.flt_generation.specs.Reading.{commit_in}
 use Rattle.flt_generation.specs.Successor.{KeepsIndices}
 use Rattle.flt_store.specs.Cause.{FailsThrice}
+use Rattle.flt_store.specs.Writing.{AreCopiesOf}
 
 -- The commit that is read from the first copy.
 abbrev pub HasCommit : Config → (ℕ → Content) → Commit → Type 0
@@ -25,6 +26,10 @@ KeepsFrom c old new from after = (current next : Commit) → from ≡ Some curre
 -- The commit after a save names each used block whose bytes stayed at the index at which the commit before it did.
 abbrev pub KeepsPlaces : Config → Persist → Persist → (ℕ → Content) → (ℕ → Content) → Type 0
 KeepsPlaces c old new before after = (current next : Commit) → HasCommit c before current → HasCommit c after next → KeepsIndices c old new current next
+
+-- Both copies have the commit after a save in the version that is written.
+abbrev pub AreRewritten : Config → (ℕ → Content) → Type 0
+AreRewritten c after = (commit : Commit) → HasCommit c after commit → AreCopiesOf commit after
 
 -- The commit after a save names each used block at index 0.
 abbrev pub StandAtZero : Config → (ℕ → Content) → Type 0

@@ -1,15 +1,16 @@
 -- Why a start-up answers that no sequence number is left.
 use Rattle.std.specs.Prelude.{◌≡◌, ◌≢◌, ◌⊎◌, ℕ, ◌-◌, ◌≤◌, List, length, IsTrue}
-use Rattle.flt_flash.specs.Content.{missing, bytes}
+use Rattle.flt_flash.specs.Content.{bytes}
 use Rattle.flt_flash.specs.Blocks.{BlocksState}
 use Rattle.flt_config.specs.declared.config.Config.{Config}
 use Rattle.flt_generation.specs.Layout.{commit_id, mark_number, number_of}
 use Rattle.flt_generation.specs.Form.{mark_of, mark_bytes}
 use Rattle.flt_store.specs.Cause.{FailsThrice}
+use Rattle.flt_restore.specs.Restored.{IsMarkDue}
 
--- The mark was missing, and its record can't be written any more.
+-- The mark had to be written, and its record can't be written any more.
 pub record IsMarkStuck (c : Config) (before after : BlocksState) : Type 0 where
-  pub none : before.value mark_number ≡ missing
+  pub due : IsMarkDue (mark_of c) (before.value mark_number)
   pub stuck : IsTrue (after.is_stuck mark_number (length (mark_bytes (mark_of c))))
 
 -- The other copy of the commit holds other bytes, or the flash failed three times, and its record can't be written any more.

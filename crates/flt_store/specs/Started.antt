@@ -1,20 +1,21 @@
 -- An image after a start-up or a save that answered Ok: both copies of the commit name one generation.
 use Rattle.std.specs.Prelude.{◌≡◌, ◌≢◌, ◌⊎◌, ℕ, ◌<◌, ◌+◌, List, Option, Some, None, IsTrue}
-use Rattle.flt_flash.specs.Content.{Content, missing, bytes}
+use Rattle.flt_flash.specs.Content.{Content, bytes}
 use Rattle.flt_flash.specs.Blocks.{BlocksState}
 use Rattle.flt_config.specs.declared.config.Config.{Config}
 use Rattle.flt_config.specs.declared.persist.Persist.{Persist}
 use Rattle.flt_generation.specs.declared.commit.Commit.{Commit}
 use Rattle.flt_generation.specs.Layout.{applications, mark_number, first_commit, second_commit, application_number}
-use Rattle.flt_generation.specs.Form.{mark_of, mark_bytes, IsBytesOfMark}
+use Rattle.flt_generation.specs.Form.{mark_of, mark_bytes}
 use Rattle.flt_generation.specs.Excess.{IsBorne}
 use Rattle.flt_generation.specs.Holding.{Generation, first_generation, CommitNames, only_bytes, is_application}
 use Rattle.flt_generation.specs.Successor.{IsContentOf, number_in}
 use Rattle.flt_store.specs.Cause.{FailsThrice}
+use Rattle.flt_restore.specs.Restored.{IsMarkDue}
 
--- The mark of the configuration stands in the image.
+-- The mark of the configuration stands in the image, in the version that is written.
 abbrev pub HasMark : Config → (ℕ → Content) → Type 0
-HasMark c value = (raw : List ℕ) × (value mark_number ≡ bytes raw) × IsBytesOfMark (mark_of c) raw
+HasMark c value = value mark_number ≡ bytes (mark_bytes (mark_of c))
 
 -- The generation that a commit names; none names the first.
 abbrev pub NamesOf : Config → (ℕ → Content) → Option Commit → Generation → Type 0
@@ -43,8 +44,6 @@ abbrev pub StartsEither : Config → BlocksState → BlocksState → Option Comm
 StartsEither c before after commit held spare =
     IsStarted c after.value commit held ⊎ (IsStarted c after.value commit spare × FailsThrice before after)
 
--- The mark is as it was, or stands where it was missing.
+-- The mark is as it was, or stands anew where it had to be written.
 abbrev pub IsMarkTried : Config → (ℕ → Content) → (ℕ → Content) → Type 0
-IsMarkTried c before after =
-    (after mark_number ≡ before mark_number)
-    ⊎ ((before mark_number ≡ missing) × (after mark_number ≡ bytes (mark_bytes (mark_of c))))
+IsMarkTried c before after = (after mark_number ≡ before mark_number) ⊎ (IsMarkDue (mark_of c) (before mark_number) × HasMark c after)

@@ -3,9 +3,13 @@ use Rattle.std.specs.Prelude.{◌≡◌, ℕ, List, length, Option, IsTrue}
 use Rattle.flt_flash.specs.Content.{Content, bytes}
 use Rattle.flt_config.specs.declared.config.Config.{Config}
 use Rattle.flt_generation.specs.declared.commit.Commit.{Commit}
-use Rattle.flt_generation.specs.Layout.{number_of, index_in, is_used, part_of}
-use Rattle.flt_generation.specs.Form.{part_length}
+use Rattle.flt_generation.specs.Layout.{first_commit, second_commit, number_of, index_in, is_used, part_of}
+use Rattle.flt_generation.specs.Form.{commit_bytes, part_length}
 use Rattle.flt_generation.specs.Successor.{is_written}
+
+-- Both copies have the bytes of this commit in the version that is written.
+abbrev pub AreCopiesOf : Commit → (ℕ → Content) → Type 0
+AreCopiesOf commit value = (value first_commit ≡ bytes (commit_bytes commit)) × (value second_commit ≡ bytes (commit_bytes commit))
 
 -- Each used block has as many bytes as its part.
 abbrev pub AreSized : Config → (ℕ → List ℕ) → Type 0

@@ -16,7 +16,7 @@ ghost use Rattle.flt_store.specs.Cause.{IsWithinOwn, Writes};
 ghost use Rattle.flt_store.specs.Cost.{Spends, pages_to_write, written_sum};
 ghost use Rattle.flt_store.specs.Known.{MayKnow};
 ghost use Rattle.flt_store.specs.Started.{IsStarted, next_generation};
-ghost use Rattle.flt_store.specs.Writing.{AreSized, AreWritten};
+ghost use Rattle.flt_store.specs.Writing.{AreCopiesOf, AreSized, AreWritten};
 
 use flt_config::{Persist, ValidConfig};
 use flt_flash::{BlockFault, Blocks};
@@ -53,10 +53,7 @@ fn is_moved(current: &Option<Commit>, next: &Commit, id: u16) -> bool
 {
     match current {
         None => true,
-        Some(commit) => {
-            let place = (id - FIRST_PART) as usize;
-            commit.index[place] != next.index[place]
-        }
+        Some(commit) => commit.index_of(id) != next.index_of(id),
     }
 }
 
@@ -94,12 +91,7 @@ fn write_moved<B: Blocks + Drop>(
     ensures table { table_of nvm.new ≡ table_of nvm.old }
 {
     if is_written(config, current, next, id) {
-        write_block(
-            nvm,
-            id,
-            next.index[(id - FIRST_PART) as usize],
-            blocks.get(id),
-        )
+        write_block(nvm, id, next.index_of(id), blocks.get(id))
     } else {
         Ok(())
     }
@@ -161,6 +153,7 @@ pub(crate) fn write_generation<B: Blocks + Drop>(
     ensures fresh { OnOk result (IsFalse (driver_of nvm.new).is_stale) }
     ensures next { IfOk result (λ written. IsNext config.now current.now (bytes_at saved.now) (bytes_at written.saved) written.commit) }
     ensures encodes { IfOk result (λ written. AreBlocksOf config.now state.now (bytes_at written.saved)) }
+    ensures rewritten { IfOk result (λ written. AreCopiesOf written.commit (driver_of nvm.new).value) }
     ensures applications { SameApplications (driver_of nvm.old).value (driver_of nvm.new).value }
     ensures mark { (driver_of nvm.new).value mark_number ≡ (driver_of nvm.old).value mark_number }
     ensures writes { Writes (driver_of nvm.old) (driver_of nvm.new) result }

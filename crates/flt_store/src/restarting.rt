@@ -67,7 +67,7 @@ pub(crate) fn repair_by<B: Blocks + Drop>(
     requires least { 1 ≤ copy }
     requires most { copy ≤ 2 }
     requires held { (driver_of nvm.old).value (number_of commit_id (copy - 1)) ≡ holding bytes.now }
-    ensures started { (g : Generation) → Holds config.now (driver_of nvm.old).value (holding bytes.now) g
+    ensures started { (g : Generation) → HasMark config.now (driver_of nvm.old).value → Holds config.now (driver_of nvm.old).value (holding bytes.now) g
         → IfOk result (λ commit. IsStarted config.now (driver_of nvm.new).value (Some commit) g) }
     ensures read { IfOk result (λ commit. commit_in config.now bytes.now ≡ Some commit) }
     ensures form { IfOk result (IsCommit config.now) }

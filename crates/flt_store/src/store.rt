@@ -11,7 +11,7 @@ ghost use Rattle.flt_generation.specs.Successor.{changed_pages, number_in};
 ghost use Rattle.flt_image.specs.Table.{block_table};
 ghost use Rattle.flt_store.specs.Cause.{FailsThrice, IsStuck};
 ghost use Rattle.flt_store.specs.Cost.{Spends, pages_to_write};
-ghost use Rattle.flt_store.specs.Keeping.{KeepsFrom, KeepsPlaces, StandAtZero};
+ghost use Rattle.flt_store.specs.Keeping.{AreRewritten, KeepsFrom, KeepsPlaces, StandAtZero};
 ghost use Rattle.flt_store.specs.Known.{Knows, KnowsNamed};
 ghost use Rattle.flt_store.specs.Dark.{IsUnrestarted, IsUnsaved};
 ghost use Rattle.flt_store.specs.Started.{HasMark, IsStarted};
@@ -122,6 +122,7 @@ impl<B: Blocks + Drop> Store<B> {
         ensures places { (g : Generation) → IsReady config.now g self.old → KnowsNamed config.now (commit_of self.old) (kept_of self.old) g.state
             → OnOk result (KeepsFrom config.now g.state state.now (commit_of self.old) (driver_of self.new).value) }
         ensures first { (g : Generation) → IsReady config.now g self.old → g.number ≡ 0 → OnOk result (StandAtZero config.now (driver_of self.new).value) }
+        ensures rewritten { (g : Generation) → IsReady config.now g self.old → OnOk result (AreRewritten config.now (driver_of self.new).value) }
         ensures spends { (g : Generation) (most : ℕ) → Knows config.now (kept_of self.old) g.state → IsFalse (driver_of self.old).is_stale
             → Spends most (driver_of self.old) (driver_of self.new)
             (6 + pages_to_write config.now (commit_of self.old) (block_bytes g.state) (block_bytes state.now)) ((length (used_ids config.now) + 2) * most) }
@@ -175,6 +176,9 @@ impl<B: Blocks + Drop> Store<B> {
         ensures places { WhileRunning config.now self.old (λ held spare. IsUndisturbed self.old self.new
             → OnOk result (KeepsPlaces config.now held.state state.now (driver_of self.old).value (driver_of self.new).value)) }
         ensures first { WhileRunning config.now self.old (λ held spare. held.number ≡ 0 → OnOk result (StandAtZero config.now (driver_of self.new).value)) }
+
+        // The commit is written in version 2, also where that before it stood in version 1.
+        ensures rewritten { WhileRunning config.now self.old (λ held spare. OnOk result (AreRewritten config.now (driver_of self.new).value)) }
 
         // What a save costs that follows no failed one.
         ensures by_changes { WhileRunning config.now self.old (λ held spare. IsTrue (is_settled self.old) → held.number ≢ 0

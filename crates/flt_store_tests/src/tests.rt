@@ -1,6 +1,7 @@
-// The store over a flash in memory: worked examples, changed images, and each operation of a job cut and made to fail.
+// The store over a flash in memory, and over an EEPROM in memory: worked examples, changed images, and each operation of a job cut and made to fail.
 ghost use Rattle.std.specs.Prelude.{◌≡◌, IfOk, IsTrue};
 ghost use Rattle.flt_flash.specs.State.{CanArm};
+ghost use Rattle.flt_config.specs.declared.config.Config.{Config};
 ghost use Rattle.flt_nvm.specs.Driver.{driver_of as driver_beneath, table_of};
 ghost use Rattle.flt_generation.specs.Layout.{numbers};
 ghost use Rattle.flt_image.specs.Table.{block_table};
@@ -17,6 +18,7 @@ use flt_code::{Word, get_word, put_word, seal, unseal};
 use flt_config::{
     Config, EntryState, EventCfg, EventState, Frame, Persist, ValidConfig, check, fits, initial,
 };
+use flt_ea::{Ea, EepromMem};
 use flt_fee::Fee;
 use flt_flash::{Arm, BLANK_PAGE, Blocks, Flash, FlashMem, Pattern};
 use flt_generation::COMMIT_ID;
@@ -29,6 +31,9 @@ use std::test::Fail;
 
 // The pages of each sector.
 const PAGES: u16 = 64;
+
+// The units of an EEPROM.
+const UNITS: u16 = 1090;
 
 // The status of an event that was never tested.
 const NOT_TESTED: u8 = 0x50;
@@ -47,6 +52,7 @@ fn event(dtc: u32) -> EventCfg {
         heal: 3,
         age: 40,
         indicator: false,
+        needs: 0,
         debounce: Default::default(),
         dids: ArrayVec::new(),
     }
@@ -156,6 +162,19 @@ fn blank_store(alloc: Global, config: &ValidConfig) -> Result<Store<Fee<FlashMem
 {
     let flash = FlashMem::blank(alloc, PAGES, 2)?;
     store_over(alloc, flash, config)
+}
+
+// A store over a blank EEPROM whose power may come back twice.
+fn units_store(alloc: Global) -> Result<Store<Ea<EepromMem>>, Fail>
+    ensures { (c : Config) → IfOk result (λ store. IsRoomy c store) }
+{
+    let device = EepromMem::blank(alloc, UNITS, 2)?;
+    laws::numbers_are_distinct();
+    laws::numbers_serve_table();
+    match Ea::make(alloc, device, fee_numbers(alloc)?) {
+        Ok(ea) => Ok(Store::make(Nvm::make(ea, block_table(alloc)?))),
+        Err(_) => Err(Fail::from("no memory")),
+    }
 }
 
 // Starts up: the number of the generation and its state.

@@ -167,6 +167,3 @@ impl Blocks for BlocksMem {
         self.boots += 1;
     }
 }
-
-#[cfg(test)]
-mod tests;

@@ -1,4 +1,5 @@
-// The layers above a driver, over the driver in memory.
+// The driver in memory, and the layers above a driver over it.
 mod bytes;
+mod driver;
 mod kinds;
 mod restored;

@@ -6,3 +6,4 @@ pub mod Seats
 pub mod Sums
 pub mod Vaults
 pub mod Views
+pub mod Laws

@@ -7,6 +7,7 @@
 #![tactic(auto)]
 
 mod answer;
+pub mod laws;
 mod machine;
 mod rule;
 mod seat;

@@ -14,8 +14,5 @@ pub use code::{
     SERVICE_NOT_SUPPORTED_IN_SESSION, SUB_FUNCTION_NOT_SUPPORTED,
 };
 pub use flt_model::{Asked, Negative, REQUEST, RESPONSE, Request};
-pub use put::{NEGATIVE_RESPONSE, put_bytes, put_dtc, put_negative};
+pub use put::{NEGATIVE_RESPONSE, put_bytes, put_dtc, put_dtc_with, put_negative};
 pub use reading::read;
-
-#[cfg(test)]
-mod tests;

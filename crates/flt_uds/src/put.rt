@@ -16,13 +16,31 @@ pub fn put_bytes(bytes: &[u8], out: &mut ArrayVec<u8, RESPONSE>)
     out.try_extend_from_slice(bytes).unwrap();
 }
 
-/// Appends a DTC in three bytes, big-endian, and the byte that is told of it, which have room.
-pub fn put_dtc(dtc: u32, told: u8, out: &mut ArrayVec<u8, RESPONSE>)
+/// The three bytes of a DTC, big-endian.
+fn bytes_of(dtc: u32) -> [u8; 3]
+    requires { dtc < 2 ^ 24 }
+    ensures { result ≡ dtc_bytes dtc }
+{
+    let [_, high, middle, low] = dtc.to_be_bytes();
+    [high, middle, low]
+}
+
+/// Appends a DTC in three bytes, big-endian, which have room.
+pub fn put_dtc(dtc: u32, out: &mut ArrayVec<u8, RESPONSE>)
+    requires three { dtc < 2 ^ 24 }
+    requires room { length out.old.items + 3 ≤ RESPONSE }
+    ensures { out.new.items ≡ out.old.items ++ dtc_bytes dtc }
+{
+    put_bytes(&bytes_of(dtc), out);
+}
+
+/// Appends a DTC as `put_dtc` does, and the byte that is told of it, at once: the four bytes have room.
+pub fn put_dtc_with(dtc: u32, told: u8, out: &mut ArrayVec<u8, RESPONSE>)
     requires three { dtc < 2 ^ 24 }
     requires room { length out.old.items + 4 ≤ RESPONSE }
     ensures { out.new.items ≡ out.old.items ++ dtc_bytes dtc ++ told ∷ [] }
 {
-    let [_, high, middle, low] = dtc.to_be_bytes();
+    let [high, middle, low] = bytes_of(dtc);
     put_bytes(&[high, middle, low, told], out);
 }
 

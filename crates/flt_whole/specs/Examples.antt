@@ -3,8 +3,8 @@ use Rattle.std.specs.Prelude.{ℕ, List, [], ◌∷◌, ◌++◌, Ok, Err}
 use Rattle.flt_sector.specs.Example.{torn, sector_of, valid_sector, image_of}
 use Rattle.flt_generation.specs.declared.place.Place.TheVariants.{Page, Block}
 use Rattle.flt_generation.specs.Holding.{first_generation, damaged, other, Fault}
-use Rattle.flt_generation.specs.Example.{small, own_mark, summary, states, entry, Kept, block, other_mark}
-use Rattle.flt_generation.specs.Examples.{first, second, first_entry, first_commit, second_commit}
+use Rattle.flt_generation.specs.Example.{small, own_mark, old_mark, summary, states, entry, Kept, block, other_mark}
+use Rattle.flt_generation.specs.Examples.{first, second, first_entry, first_commit, second_commit, old_first_commit}
 use Rattle.flt_whole.specs.Example.{records, judged, AreJudged, Judged}
 use Rattle.flt_flash.specs.Image.{blank_page}
 
@@ -62,4 +62,28 @@ PagesBeforeBlocks =
     ∷ faulty (saved (block 1 0 other_mark ∷ [])) (other (record { id = 8; events = 1; entries = 1 }))
     ∷ faulty (image_of (valid_sector 64 1 (records 2 first_copies)) (valid_sector 64 1 [])) (damaged (Page 1 0))
     ∷ faulty (saved first_copies) (damaged (Block 1))
+    ∷ [])
+
+-- What version 1 left behind a save.
+abbrev pub old_save : List Kept
+old_save =
+    block 1 0 old_mark ∷ block 3 0 summary ∷ block 4 0 (states 0x2F) ∷ block 8 0 first_entry
+    ∷ block 2 0 old_first_commit ∷ block 2 1 old_first_commit ∷ []
+
+-- A start-up writes the mark anew, and the next save the entry at index 1 and then both copies of the commit, all in version 2.
+abbrev pub started_up : List Kept
+started_up = old_save ++ block 1 0 own_mark ∷ block 8 1 (entry 0 2 (0x03 ∷ 0x04 ∷ [])) ∷ []
+
+-- Before and behind its first save in version 1, after the mark was written anew, after the entry, after each copy of the commit; and where a
+-- save was cut between the copies, and the start-up behind it could not read copy 1 and wrote copy 2, of version 1, over it.
+abbrev pub OldSave : Type 0
+OldSave =
+    AreJudged small
+    (judged (saved (block 1 0 old_mark ∷ [])) (Ok (first_generation small)) (Ok (first_generation small))
+    ∷ judged (saved old_save) (Ok first) (Ok first)
+    ∷ judged (saved (old_save ++ block 1 0 own_mark ∷ [])) (Ok first) (Ok first)
+    ∷ judged (saved started_up) (Ok first) (Ok first)
+    ∷ judged (saved (started_up ++ block 2 0 second_commit ∷ [])) (Ok second) (Ok first)
+    ∷ judged (saved (started_up ++ second_copies)) (Ok second) (Ok second)
+    ∷ judged (saved (started_up ++ block 2 0 second_commit ∷ block 2 0 old_first_commit ∷ [])) (Ok first) (Ok first)
     ∷ [])

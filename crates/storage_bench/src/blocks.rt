@@ -1,13 +1,10 @@
-//! Calls on a driver of blocks whose log is full.
-ghost use Rattle.std.specs.Prelude.{◌≡◌, ◌<◌, length, Contains, IfSome};
-ghost use Rattle.flt_flash.specs.Memory.{state_of as flash_state};
-ghost use Rattle.flt_fee.specs.Fee.{state_of};
-ghost use Rattle.flt_generation.specs.Layout.{numbers};
+//! Calls on a driver of blocks that has written.
+ghost use Rattle.std.specs.Prelude.{◌≡◌, ◌<◌, length, Contains};
 
-use crate::PAGES;
-use flt_fee::Fee;
-use flt_flash::{BlockFault, Blocks, FlashMem};
+use flt_config::ValidConfig;
+use flt_flash::{BlockFault, Blocks};
 use flt_image::{fee_numbers, laws};
+use flt_lives::Driver;
 use std::alloc::Global;
 
 // One of the numbers, in turn.
@@ -48,7 +45,7 @@ fn write_in_turn<B: Blocks>(driver: &mut B, numbers: &[u16], times: u16) -> Resu
     Ok(())
 }
 
-// Fills the log of a driver over a blank flash, with four records of each of its 85 blocks, and then makes the calls that the word
+// Writes 340 records of three pages, one block after the other, which fill the log of a flash, and then makes the calls that the word
 // names.
 fn call<B: Blocks>(
     driver: &mut B,
@@ -67,27 +64,25 @@ fn call<B: Blocks>(
     }
 }
 
-// A driver of the store's blocks over a blank flash.
-fn blank_driver(alloc: Global) -> Option<Fee<FlashMem>>
-    ensures { IfSome result (λ driver. (state_of flash_state driver).numbers ≡ numbers) }
+/// Makes the calls that the word names on a driver that has written 340 records: over a flash its log is full
+/// then. The device comes back.
+pub fn run_blocks<D: Driver>(
+    alloc: Global,
+    device: D::Device,
+    config: &ValidConfig,
+    what: &str,
+    times: u16,
+) -> Option<D::Device>
+    requires { D.serves config.now (D.device_state device) }
 {
-    let flash = FlashMem::blank(alloc, PAGES, 1).ok()?;
-    laws::numbers_are_distinct();
-    match Fee::make(alloc, flash, PAGES, fee_numbers(alloc).ok()?) {
-        Ok(driver) => Some(driver),
-        Err(_) => None,
-    }
-}
-
-/// Makes the calls that the word names on a driver whose log is full. The flash comes back.
-pub fn run_blocks(alloc: Global, what: &str, times: u16) -> Option<FlashMem> {
     let Ok(numbers) = fee_numbers(alloc) else {
         return None;
     };
     if numbers.is_empty() {
         return None;
     }
-    let mut driver = blank_driver(alloc)?;
+    laws::numbers_are_distinct();
+    let mut driver = D::open(alloc, device, config, fee_numbers(alloc).ok()?).ok()?;
     call(&mut driver, &numbers, what, times).ok()?;
-    Some(driver.retire())
+    Some(driver.close())
 }

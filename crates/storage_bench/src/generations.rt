@@ -1,17 +1,14 @@
-//! Saves and start-ups of a state of 64 events and a full memory.
-ghost use Rattle.std.specs.Prelude.{◌≡◌, IfSome};
-ghost use Rattle.flt_nvm.specs.Driver.{driver_of as driver_beneath, table_of};
-ghost use Rattle.flt_generation.specs.Layout.{numbers};
-ghost use Rattle.flt_image.specs.Table.{block_table};
+//! Saves and start-ups of a state of so many events and a full memory.
+ghost use Rattle.std.specs.Prelude.{IfSome};
 ghost use Rattle.flt_store.specs.Cause.{HasRoom};
 ghost use Rattle.flt_store.specs.Store.{driver_of};
 
 use crate::PAGES;
 use arrayvec::ArrayVec;
 use flt_config::{Config, EntryState, EventCfg, Frame, Persist, ValidConfig, check, fits, initial};
-use flt_fee::Fee;
-use flt_flash::{Blocks, FlashMem};
+use flt_flash::Blocks;
 use flt_image::{block_table, fee_numbers, laws};
+use flt_lives::Driver;
 use flt_nvm::Nvm;
 use flt_store::Store;
 use std::alloc::Global;
@@ -24,19 +21,20 @@ enum Changed {
     All,
 }
 
-// 64 events, room for 16 entries, and no application block.
-fn config() -> Option<ValidConfig> {
+/// So many events, room for 16 entries, and no application block.
+pub fn config(count: u16) -> Option<ValidConfig> {
     let mut events = ArrayVec::new();
-    for number in 0..64 {
+    for number in 0..count {
         if !events.is_full() {
             events.push(EventCfg {
-                dtc: 1 + number,
+                dtc: 1 + number as u32,
                 priority: 1,
                 cycle: 0,
                 confirm: 1,
                 heal: 3,
                 age: 40,
                 indicator: false,
+                needs: 0,
                 debounce: Default::default(),
                 dids: ArrayVec::new(),
             });
@@ -133,43 +131,62 @@ fn start_again<B: Blocks + Drop>(
     Some(())
 }
 
-// Blocks by identifier over a blank flash whose sectors have the configuration's pages.
-fn blocks_over(alloc: Global, config: &ValidConfig) -> Option<Nvm<Fee<FlashMem>>>
-    ensures numbers { IfSome result (λ nvm. (driver_beneath nvm).numbers ≡ numbers) }
-    ensures table { IfSome result (λ nvm. table_of nvm ≡ block_table) }
-    ensures room { IfSome result (λ nvm. HasRoom config.now (driver_beneath nvm).room) }
+// A store over a device.
+fn store_over<D: Driver>(alloc: Global, device: D::Device, config: &ValidConfig) -> Option<Store<D>>
+    requires { D.serves config.now (D.device_state device) }
+    ensures { IfSome result (λ store. HasRoom config.now (driver_of store).room) }
 {
-    let used = config.config().pages;
-    let flash = FlashMem::blank(alloc, PAGES, 1).ok()?;
-    if used > PAGES {
-        return None;
-    }
     laws::numbers_are_distinct();
     laws::numbers_serve_table();
-    match Fee::make(alloc, flash, used, fee_numbers(alloc).ok()?) {
-        Ok(driver) => Some(Nvm::make(driver, block_table(alloc).ok()?)),
-        Err(_) => None,
-    }
+    let driver = D::open(alloc, device, config, fee_numbers(alloc).ok()?).ok()?;
+    Some(Store::make(Nvm::make(driver, block_table(alloc).ok()?)))
 }
 
-/// Starts up on a blank flash, saves a state whose every block is new, and then starts up again as often as asked.
-pub fn run_start_ups(alloc: Global, times: u16) -> Option<FlashMem> {
-    let config = config()?;
-    let mut store = Store::make(blocks_over(alloc, &config)?);
-    start_again(&mut store, &config, times)?;
-    Some(store.retire().retire())
+/// Starts up on a blank device, and no more.
+pub fn run_first_start_up<D: Driver>(
+    alloc: Global,
+    device: D::Device,
+    config: &ValidConfig,
+) -> Option<D::Device>
+    requires { D.serves config.now (D.device_state device) }
+{
+    let mut store: Store<D> = store_over(alloc, device, config)?;
+    let mut found = initial(config);
+    store.start_up(config, &mut found).ok()?;
+    Some(store.retire().close())
 }
 
-/// Starts up on a blank flash, saves a state whose every block is new, and then saves as often as asked what the word names.
-pub fn run_saves(alloc: Global, what: &str, times: u16) -> Option<FlashMem> {
+/// Starts up on a blank device, saves a state whose every block is new, and then starts up again as often as asked.
+pub fn run_start_ups<D: Driver>(
+    alloc: Global,
+    device: D::Device,
+    config: &ValidConfig,
+    times: u16,
+) -> Option<D::Device>
+    requires { D.serves config.now (D.device_state device) }
+{
+    let mut store: Store<D> = store_over(alloc, device, config)?;
+    start_again(&mut store, config, times)?;
+    Some(store.retire().close())
+}
+
+/// Starts up on a blank device, saves a state whose every block is new, and then saves as often as asked what the word names.
+pub fn run_saves<D: Driver>(
+    alloc: Global,
+    device: D::Device,
+    config: &ValidConfig,
+    what: &str,
+    times: u16,
+) -> Option<D::Device>
+    requires { D.serves config.now (D.device_state device) }
+{
     let changed = match what {
         "saves-of-nothing" => Changed::Nothing,
         "saves-of-one" => Changed::One,
         "saves-of-all" => Changed::All,
         _ => return None,
     };
-    let config = config()?;
-    let mut store = Store::make(blocks_over(alloc, &config)?);
-    save_again(&mut store, &config, changed, times)?;
-    Some(store.retire().retire())
+    let mut store: Store<D> = store_over(alloc, device, config)?;
+    save_again(&mut store, config, changed, times)?;
+    Some(store.retire().close())
 }

@@ -1,22 +1,35 @@
-//! Makes mounts, reads, writes, start-ups or saves on the flash in memory, and prints how many operations of the flash and how many
-//! erases they took. `bench/storage.sh` takes the time and the instructions.
+//! Makes mounts, reads, writes, start-ups or saves on the flash or on the EEPROM in memory, and prints how many operations of the device
+//! and how many erases they took. `bench/storage.sh` takes the time and the instructions.
 //!
-//! The words are `mounts`, `reads`, `writes`, `start-ups`, `saves-of-nothing`, `saves-of-one` or `saves-of-all`, and how often. It
-//! stands on `flt_fee` and `flt_store`, and keeps no contract of its own.
+//! The words are `flash` or `eeprom`; `mounts`, `reads`, `writes`, `first-start-up`, `start-ups`, `saves-of-nothing`, `saves-of-one` or
+//! `saves-of-all`; how often; and of how many events, 64 where that is left out. It stands on `flt_store` and on `Driver` of `flt_lives`,
+//! and keeps no contract of its own.
 #![tactic(auto)]
+
+ghost use Rattle.flt_lives.specs.Devices.{ServesAll};
 
 mod blocks;
 mod generations;
 
 use blocks::run_blocks;
+use flt_ea::{Ea, Eeprom, EepromMem};
+use flt_fee::Fee;
 use flt_flash::{Flash, FlashMem};
-use generations::{run_saves, run_start_ups};
+use flt_lives::Driver;
+use generations::{config, run_first_start_up, run_saves, run_start_ups};
+use std::alloc::Global;
 use std::process::ExitCode;
 use std::rt::Env;
 use std::{env, io};
 
-/// The pages of a sector.
+/// The pages of a sector of the flash.
 pub const PAGES: u16 = 1024;
+
+/// The units of the EEPROM.
+const UNITS: u16 = 1090;
+
+/// How many events a state has where no word says it.
+const FEW_EVENTS: u16 = 64;
 
 // The words behind the program's name.
 fn words(rt: &(impl Env + AllocGlobal)) -> io::Result<Vec<String>> {
@@ -27,17 +40,46 @@ fn words(rt: &(impl Env + AllocGlobal)) -> io::Result<Vec<String>> {
     Ok(words)
 }
 
-// The flash after what the words ask for.
-fn run(rt: &impl AllocGlobal, words: &[String]) -> Option<FlashMem> {
-    let [what, times] = words else {
-        return None;
+// Makes the calls that the word names, for a configuration of so many events, over a blank device, which comes back.
+fn run_on<D: Driver>(
+    alloc: Global,
+    device: D::Device,
+    what: &str,
+    times: u16,
+    events: u16,
+) -> Option<D::Device>
+    requires { ServesAll D.serves (D.device_state device) }
+{
+    let config = config(events)?;
+    match what {
+        "mounts" | "reads" | "writes" => run_blocks::<D>(alloc, device, &config, what, times),
+        "first-start-up" => run_first_start_up::<D>(alloc, device, &config),
+        "start-ups" => run_start_ups::<D>(alloc, device, &config, times),
+        _ => run_saves::<D>(alloc, device, &config, what, times),
+    }
+}
+
+// The operations and the erases that the words ask for.
+fn run(rt: &impl AllocGlobal, words: &[String]) -> Option<(u64, u64)> {
+    let (device, what, times, events) = match words {
+        [device, what, times] => (device, what, times, FEW_EVENTS),
+        [device, what, times, events] => (device, what, times, events.parse().ok()?),
+        _ => return None,
     };
     let times: u16 = times.parse().ok()?;
-    let what = what.as_str();
-    match what {
-        "mounts" | "reads" | "writes" => run_blocks(rt.alloc(), what, times),
-        "start-ups" => run_start_ups(rt.alloc(), times),
-        _ => run_saves(rt.alloc(), what, times),
+    match device.as_str() {
+        "flash" => {
+            let flash = FlashMem::blank(rt.alloc(), PAGES, 1).ok()?;
+            let flash = run_on::<Fee<FlashMem>>(rt.alloc(), flash, what, times, events)?;
+            let erases = flash.wear(0).saturating_add(flash.wear(1));
+            Some((flash.operations(), erases))
+        }
+        "eeprom" => {
+            let device = EepromMem::blank(rt.alloc(), UNITS, 1).ok()?;
+            let device = run_on::<Ea<EepromMem>>(rt.alloc(), device, what, times, events)?;
+            Some((device.operations(), 0))
+        }
+        _ => None,
     }
 }
 
@@ -45,11 +87,10 @@ fn main(rt: HostRuntime) -> ExitCode {
     let Ok(words) = words(&rt) else {
         return ExitCode::FAILURE;
     };
-    let Some(flash) = run(&rt, &words) else {
+    let Some((operations, erases)) = run(&rt, &words) else {
         return ExitCode::FAILURE;
     };
-    let erases = flash.wear(0).saturating_add(flash.wear(1));
-    if println!(rt; "{} operations, {erases} erases", flash.operations()).is_err() {
+    if println!(rt; "{operations} operations, {erases} erases").is_err() {
         return ExitCode::FAILURE;
     }
     ExitCode::SUCCESS

@@ -38,6 +38,13 @@ fn cut(after: u32) -> Step {
     })
 }
 
+fn enable(condition: u8) -> Step {
+    Step::Enable {
+        condition,
+        fulfilled: true,
+    }
+}
+
 #[test]
 fn possible_steps_are_told(rt: HostRuntime) {
     let config = small();
@@ -48,6 +55,8 @@ fn possible_steps_are_told(rt: HostRuntime) {
         (Step::Cycle { cycle: 4 }, false),
         (Step::Signal { index: 7, value: 1 }, true),
         (Step::Signal { index: 8, value: 1 }, false),
+        (enable(7), true),
+        (enable(8), false),
         (Step::Get { block: 1 }, true),
         (Step::Get { block: 2 }, false),
         (cut(1), true),

@@ -16,6 +16,7 @@ fn event(dtc: u32) -> EventCfg
         heal: 3,
         age: 40,
         indicator: false,
+        needs: 0,
         debounce: Default::default(),
         dids: ArrayVec::new(),
     }
@@ -42,7 +43,7 @@ fn a_full_configuration_is_accepted(rt: HostRuntime) {
     match check(config(512, events)) {
         Ok(valid) => {
             assert!(&rt; valid.config().events.len() == EVENTS);
-            assert!(&rt; needed_pages(valid.config()) == 238);
+            assert!(&rt; needed_pages(valid.config()) == 334);
             let twin = valid.twin();
             let state = initial(&twin);
             assert!(&rt; fits(&valid, &state));

@@ -11,6 +11,7 @@ use flt_model::{Report, Shown};
 #[derive(Clone, Copy)]
 enum Step {
     Signal(u8, u16),
+    Enable(u8, bool),
     Report(u16, Report),
     Tick(u16),
     Cycle(u8),
@@ -67,6 +68,7 @@ fn event(dtc: u32) -> EventCfg {
         heal: 3,
         age: 40,
         indicator: false,
+        needs: 0,
         debounce: Debounce::default(),
         dids: ArrayVec::new(),
     }
@@ -125,6 +127,12 @@ fn agrees(dem: &mut Dem, step: Step) -> bool {
                 dem.signal(index, value);
             }
             index < 8
+        }
+        Step::Enable(condition, fulfilled) => {
+            if condition < 8 {
+                dem.enable(condition, fulfilled);
+            }
+            condition < 8
         }
         Step::Report(event, report) => reports(dem, event, report),
         Step::Tick(ticks) => {
@@ -371,4 +379,40 @@ fn frames_are_taken_at_the_first_and_the_last_failure(rt: HostRuntime) {
     assert_eq!(rt; dem.noted(Which::RecentFailed), None);
     assert!(&rt; dem.entry(0).is_none());
     assert_eq!(rt; saved.entries.len(), 1);
+}
+
+#[test]
+fn a_disabled_event_stands_still(rt: HostRuntime) {
+    let timed = EventCfg {
+        debounce: Debounce::Time { fail: 10, pass: 5 },
+        needs: 4,
+        ..event(0x000001)
+    };
+    let mut dem = manager(one(16, timed), DidTable::new()).expect(
+        &rt,
+        "the configuration is valid",
+    );
+    for step in [
+        Step::Cycle(0),
+        prefail(0),
+        Step::Tick(6),
+        Step::Enable(2, false),
+        Step::Tick(50),
+        show(0, 0x50, 76, 0, 0, 0),
+    ] {
+        assert!(&rt; agrees(&mut dem, step));
+    }
+    if has_event(&dem, 0) {
+        assert_eq!(rt;
+            dem.report(0, Report::Failed, true),
+            Some(Cause::NotEnabled)
+        );
+    }
+    for step in [
+        Step::Enable(2, true),
+        Step::Tick(4),
+        show(0, 0x2F, 127, 1, 0, 1),
+    ] {
+        assert!(&rt; agrees(&mut dem, step));
+    }
 }

@@ -18,7 +18,8 @@ enum Step<'a> {
     Fail(u16),
     Pass(u16),
     PreFail(u16),
-    Ignored(u16),
+    Enable(u8, bool),
+    Ignored(u16, Cause),
     Tick(u16),
     Cycle(u8),
     Ask(u8, &'a [u8], &'a [u8]),
@@ -35,6 +36,7 @@ fn event(dtc: u32) -> EventCfg {
         heal: 3,
         age: 40,
         indicator: false,
+        needs: 0,
         debounce: Debounce::default(),
         dids: ArrayVec::new(),
     }
@@ -143,9 +145,19 @@ impl Server {
             Step::Fail(event) => self.reports(event, Report::Failed, Reply::Taken),
             Step::Pass(event) => self.reports(event, Report::Passed, Reply::Taken),
             Step::PreFail(event) => self.reports(event, Report::PreFailed, Reply::Taken),
-            Step::Ignored(event) => {
-                let ignored = Reply::Ignored(Cause::SettingOff);
-                self.reports(event, Report::Failed, ignored)
+            Step::Enable(condition, fulfilled) => {
+                if condition < 8 {
+                    let op = Op::Enable {
+                        condition,
+                        fulfilled,
+                    };
+                    self.unit.apply(&op, &mut self.saved) == Reply::Taken
+                } else {
+                    false
+                }
+            }
+            Step::Ignored(event, cause) => {
+                self.reports(event, Report::Failed, Reply::Ignored(cause))
             }
             Step::Tick(ticks) => {
                 self.unit.apply(&Op::Tick { ticks }, &mut self.saved) == Reply::Taken
@@ -257,9 +269,9 @@ fn the_setting_is_off_while_a_tester_holds_it(rt: HostRuntime) {
         Step::Ask(0, &[0x10, 0x03], &[0x50, 0x03, 0x00, 0x32, 0x01, 0xF4]),
         Step::Ask(0, &[0x85, 0x02], &[0xC5, 0x02]),
         Step::Ask(0, &[0x85, 0x82], &[]),
-        Step::Ignored(0),
+        Step::Ignored(0, Cause::SettingOff),
         Step::Tick(499),
-        Step::Ignored(0),
+        Step::Ignored(0, Cause::SettingOff),
         Step::Tick(1),
         Step::Fail(0),
         Step::Ask(0, &[0x85, 0x82], &[0x7F, 0x85, 0x7F]),
@@ -281,7 +293,7 @@ fn the_setting_is_off_while_a_tester_holds_it(rt: HostRuntime) {
         Step::Ask(0, &[0x85, 0x02], &[0xC5, 0x02]),
         Step::Ask(1, &[0x85, 0x02], &[0xC5, 0x02]),
         Step::Ask(0, &[0x10, 0x01], &[0x50, 0x01, 0x00, 0x32, 0x01, 0xF4]),
-        Step::Ignored(0),
+        Step::Ignored(0, Cause::SettingOff),
         Step::Ask(1, &[0x3E, 0x80], &[]),
         Step::Ask(1, &[0x10, 0x01], &[0x50, 0x01, 0x00, 0x32, 0x01, 0xF4]),
         Step::Fail(0),
@@ -387,8 +399,8 @@ fn a_request_meets_the_session_that_silence_left(rt: HostRuntime) {
         );
     }
     for (ticks, report) in [
-        (498, Step::Ignored(0)),
-        (499, Step::Ignored(0)),
+        (498, Step::Ignored(0, Cause::SettingOff)),
+        (499, Step::Ignored(0, Cause::SettingOff)),
         (500, Step::Fail(0)),
         (501, Step::Fail(0)),
     ] {
@@ -432,17 +444,17 @@ fn requests_go_on_while_two_testers_hold_the_setting_off(rt: HostRuntime) {
         Step::Ask(2, &[0x14, 0x00, 0x00, 0x02], &[0x7F, 0x14, 0x31]),
         Step::Ask(2, &[0x14, 0x00, 0x00, 0x01], &[0x54]),
         Step::Status(0, 0x50),
-        Step::Ignored(0),
+        Step::Ignored(0, Cause::SettingOff),
         Step::Tick(400),
         Step::Ask(1, &[0x3E, 0x80], &[]),
         Step::Tick(99),
-        Step::Ignored(0),
+        Step::Ignored(0, Cause::SettingOff),
         Step::Tick(1),
         Step::Ask(0, &[0x85, 0x81], &[0x7F, 0x85, 0x7F]),
-        Step::Ignored(0),
+        Step::Ignored(0, Cause::SettingOff),
         Step::Tick(399),
         Step::Ask(3, &[0x10, 0x03], extended),
-        Step::Ignored(0),
+        Step::Ignored(0, Cause::SettingOff),
         Step::Tick(1),
         Step::Fail(0),
         Step::Status(0, 0x2F),
@@ -450,7 +462,7 @@ fn requests_go_on_while_two_testers_hold_the_setting_off(rt: HostRuntime) {
         Step::Ask(3, &[0x85, 0x02, 0xFF, 0xFF, 0xFE], &[0x7F, 0x85, 0x31]),
         Step::Pass(0),
         Step::Ask(3, &[0x85, 0x82], &[]),
-        Step::Ignored(0),
+        Step::Ignored(0, Cause::SettingOff),
         Step::Ask(3, &[0x85, 0x01], &[0xC5, 0x01]),
         Step::Fail(0),
     ];
@@ -690,4 +702,26 @@ fn each_request_is_answered_as_the_table_says(rt: HostRuntime) {
             }
         }
     }
+}
+
+#[test]
+fn the_setting_comes_first_and_the_conditions_last(rt: HostRuntime) {
+    let needy = EventCfg {
+        needs: 4,
+        ..event(0x000001)
+    };
+    let steps = [
+        Step::Enable(2, false),
+        Step::Ignored(0, Cause::NotStarted),
+        Step::Cycle(0),
+        Step::Ignored(0, Cause::NotEnabled),
+        Step::Ask(0, &[0x10, 0x03], &[0x50, 0x03, 0x00, 0x32, 0x01, 0xF4]),
+        Step::Ask(0, &[0x85, 0x02], &[0xC5, 0x02]),
+        Step::Ignored(0, Cause::SettingOff),
+        Step::Ask(0, &[0x85, 0x01], &[0xC5, 0x01]),
+        Step::Enable(2, true),
+        Step::Fail(0),
+        Step::Status(0, 0x2F),
+    ];
+    assert_eq!(rt; first_difference(one(needy), DidTable::new(), &steps), None);
 }

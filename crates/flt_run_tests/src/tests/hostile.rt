@@ -6,6 +6,7 @@ use flt_io::{MemSink, MemSource};
 use flt_run::{OpenGate, Outcome, run};
 use std::alloc::{AllocError, Global};
 use std::marker::Sync;
+use std::process::Abort;
 use std::sync::Wait;
 use std::test::Fail;
 use std::thread::Threads;
@@ -34,6 +35,8 @@ enum Change {
     Word([u8; 16]),
     /// Its first two bytes.
     Front(u8, u8),
+    /// These bytes, filled up with FF.
+    Plain(&'static [u8]),
 }
 
 /// The words of a start gate and an active gate of number 1, and of an active gate of number 2.
@@ -47,6 +50,26 @@ const NEXT_ACTIVE: [u8; 16] = [0x41, 1, 0, 0, 0, 2, 0, 0, 0, 0, 0, 0, 0, 0, 0, 0
 const HEAD: [u8; 16] = [0x48, 1, 0, 9, 0, 8, 0, 2, 0, 0, 0, 0, 0, 0, 0, 0];
 
 const GATE: [u8; 16] = [0x47, 1, 0, 9, 0, 2, 0, 0, 0, 0, 0, 0, 0, 0, 0, 0];
+
+/// The commit of generation 1 in version 1: its number, and the indices of the blocks 3 to 23, of which 3, 4 and 8 are used.
+const OLD_COMMIT: &[u8] = &[
+    1, 0, 0, 0, 1, 0, 0, 0xFF, 0xFF, 0xFF, 0, 0xFF, 0xFF, 0xFF, 0xFF, 0xFF, 0xFF, 0xFF, 0xFF, 0xFF,
+    0xFF, 0xFF, 0xFF, 0xFF, 0xFF, 0xFF,
+];
+
+/// The words of the heads of its copies, of 26 bytes.
+const OLD_HEAD: [u8; 16] = [0x48, 1, 0, 16, 0, 26, 0, 17, 0, 0, 0, 0, 0, 0, 0, 0];
+
+const OLD_SECOND_HEAD: [u8; 16] = [0x48, 1, 0, 17, 0, 26, 0, 20, 0, 0, 0, 0, 0, 0, 0, 0];
+
+/// What makes that image one of version 1: the version of the mark, and the copies of the commit.
+const OLD: &[(usize, Change)] = &[
+    (3, Change::Front(1, 0)),
+    (17, Change::Word(OLD_HEAD)),
+    (18, Change::Plain(OLD_COMMIT)),
+    (20, Change::Word(OLD_SECOND_HEAD)),
+    (21, Change::Plain(OLD_COMMIT)),
+];
 
 /// Changes of an image, each with its page, of which sector 0 has the first 1,024, with what the next run tells and its status.
 const IMAGES: [(&[(usize, Change)], &str, u8); 12] = [
@@ -99,20 +122,9 @@ const REFUSED: [(&[u8], &str); 12] = [
     (b"fail 0\n", "script line 1 range\n"),
     (b"event 0 dtc 000001\ndid 0 FFFF\n", "script line 2 did\n"),
     (
-        b"event 0 dtc 000001\nevent 1 dtc 000002\nevent 2 dtc 000003\nevent 3 dtc 000004\nevent 4 dtc 000005\n\
-          event 5 dtc 000006\nevent 6 dtc 000007\nevent 7 dtc 000008\nevent 8 dtc 000009\nevent 9 dtc 00000A\n\
-          event 10 dtc 00000B\nevent 11 dtc 00000C\nevent 12 dtc 00000D\nevent 13 dtc 00000E\nevent 14 dtc 00000F\n\
-          event 15 dtc 000010\nevent 16 dtc 000011\nevent 17 dtc 000012\nevent 18 dtc 000013\nevent 19 dtc 000014\n\
-          event 20 dtc 000015\nevent 21 dtc 000016\nevent 22 dtc 000017\nevent 23 dtc 000018\nevent 24 dtc 000019\n\
-          event 25 dtc 00001A\nevent 26 dtc 00001B\nevent 27 dtc 00001C\nevent 28 dtc 00001D\nevent 29 dtc 00001E\n\
-          event 30 dtc 00001F\nevent 31 dtc 000020\nevent 32 dtc 000021\nevent 33 dtc 000022\nevent 34 dtc 000023\n\
-          event 35 dtc 000024\nevent 36 dtc 000025\nevent 37 dtc 000026\nevent 38 dtc 000027\nevent 39 dtc 000028\n\
-          event 40 dtc 000029\nevent 41 dtc 00002A\nevent 42 dtc 00002B\nevent 43 dtc 00002C\nevent 44 dtc 00002D\n\
-          event 45 dtc 00002E\nevent 46 dtc 00002F\nevent 47 dtc 000030\nevent 48 dtc 000031\nevent 49 dtc 000032\n\
-          event 50 dtc 000033\nevent 51 dtc 000034\nevent 52 dtc 000035\nevent 53 dtc 000036\nevent 54 dtc 000037\n\
-          event 55 dtc 000038\nevent 56 dtc 000039\nevent 57 dtc 00003A\nevent 58 dtc 00003B\nevent 59 dtc 00003C\n\
-          event 60 dtc 00003D\nevent 61 dtc 00003E\nevent 62 dtc 00003F\nevent 63 dtc 000040\nevent 64 dtc 000041\n",
-        "script line 65 many\n",
+        b"event 0 dtc 000001\ndid 0 0101\ndid 0 0101\ndid 0 0101\ndid 0 0101\ndid 0 0101\ndid 0 0101\ndid 0 0101\n\
+          did 0 0101\ndid 0 0101\n",
+        "script line 10 many\n",
     ),
     (b"par\n", "script line 1 block\n"),
     (b"par\nend\n", "script line 2 block\n"),
@@ -206,34 +218,118 @@ fn changed(page: &[u8; 32], change: Change) -> [u8; 32] {
             page[1] = second;
             page
         }
+        Change::Plain(bytes) => {
+            let mut page = [0xFF; 32];
+            for (at, byte) in bytes.iter().enumerate() {
+                if at < page.len() {
+                    page[at] = *byte;
+                }
+            }
+            page
+        }
     }
 }
+
+/// The pages that the script leaves, in version 2 or in version 1, with changes.
+fn image_with<R: Threads + Wait + Sync + Abort>(
+    rt: &R,
+    alloc: Global,
+    version: &[(usize, Change)],
+    changes: &[(usize, Change)],
+) -> Result<FlashMem, AllocError> {
+    let blank = FlashMem::blank(alloc, PAGES, BOOTS)?;
+    let (status, _, saved) = run_over(rt, alloc, blank, "run", SAVED.as_bytes(), (NONE, NONE))?;
+    assert_eq!(rt; status, 0);
+    let mut image = pages_of(alloc, &saved)?;
+    for (page, what) in version.iter().chain(changes.iter()) {
+        assert!(rt; *page < image.len());
+        image[*page] = changed(&image[*page], *what);
+    }
+    assert_eq!(rt; image.len(), 2048);
+    FlashMem::of(alloc, image, BOOTS)
+}
+
+/// Both versions, each by the changes that make an image of it.
+const VERSIONS: [&[(usize, Change)]; 2] = [&[], OLD];
 
 #[test]
 fn changed_images_are_told(rt: HostRuntime) -> Result<(), Fail> {
     let alloc = rt.alloc();
-    let blank = FlashMem::blank(alloc, PAGES, BOOTS)?;
-    let (status, _, saved) = run_over(&rt, alloc, blank, "run", SAVED.as_bytes(), (NONE, NONE))?;
-    assert_eq!(rt; status, 0);
-    let saved = pages_of(alloc, &saved)?;
-    for (changes, told, status) in IMAGES {
-        let mut image = Vec::from_slice(alloc, &saved)?;
-        for (page, what) in changes {
-            assert!(rt; *page < image.len());
-            image[*page] = changed(&image[*page], *what);
+    for version in VERSIONS {
+        for (changes, told, status) in IMAGES {
+            let flash = image_with(&rt, alloc, version, changes)?;
+            let (ended, sink, _) = run_over(
+                &rt,
+                alloc,
+                flash,
+                "run",
+                CONFIGURED.as_bytes(),
+                (NONE, NONE),
+            )?;
+            assert_eq!(rt; sink.bytes(), told.as_bytes(), "{told}");
+            assert_eq!(rt; ended, status, "{told}");
         }
-        assert_eq!(rt; image.len(), 2048);
-        let flash = FlashMem::of(alloc, image, BOOTS)?;
-        let (ended, sink, _) = run_over(
+    }
+    Ok(())
+}
+
+/// An image of version 1 is restored. A save behind it that is cut before its first program leaves generation 1; one that is cut behind the
+/// first copy of its commit leaves generation 2, beside a second copy that still names generation 1 in version 1.
+#[test]
+fn an_image_of_version_1_is_restored(rt: HostRuntime) -> Result<(), Fail> {
+    let alloc = rt.alloc();
+    for (program, number) in [(1, 1), (4, 2)] {
+        let script = format!(in alloc; "{CONFIGURED}show 0\ncut {program} none\nsave\npower\n")?;
+        let told = format!(in alloc;
+            "life 1 generation 1\nshow 0 -> status 2F fdc 0 failed 1 clean 0 stored 1 overflow 0\ncut {program} none -> armed\n\
+             save -> flash\nlife 2 generation {number}\n"
+        )?;
+        let flash = image_with(&rt, alloc, OLD, &[])?;
+        let (status, sink, _) = run_over(
             &rt,
             alloc,
             flash,
             "run",
-            CONFIGURED.as_bytes(),
+            script.as_bytes(),
             (NONE, NONE),
         )?;
-        assert_eq!(rt; sink.bytes(), told.as_bytes(), "{told}");
-        assert_eq!(rt; ended, status, "{told}");
+        assert_eq!(rt; sink.bytes(), told.as_bytes());
+        assert_eq!(rt; status, 0);
+    }
+    Ok(())
+}
+
+/// So many event lines, with DTCs from 020000 on.
+fn event_lines(alloc: Global, count: u32) -> Result<String, AllocError> {
+    let mut lines = String::new(alloc);
+    for number in 0..count {
+        lines.push_str(format!(in alloc; "event {number} dtc 02{number:04X}\n")?.as_str())?;
+    }
+    Ok(lines)
+}
+
+/// A configuration of 256 events, the most of a script, and one event more.
+#[test]
+fn many_events_are_told(rt: HostRuntime) -> Result<(), Fail> {
+    let alloc = rt.alloc();
+    let lines = event_lines(alloc, 256)?;
+    let (status, sink) = run_blank(&rt, alloc, "check", lines.as_bytes(), (NONE, NONE))?;
+    let told = "ok events 256 entries 16 needed 334 pages 512 steps 0 lives 1\n";
+    assert_eq!(rt; sink.bytes(), told.as_bytes());
+    assert_eq!(rt; status, 0);
+    let mut script = lines;
+    script.push_str("t A 19 01 50\ncycle 0\nfail 200\nsave\npower\nt A 19 02 08\n")?;
+    let (status, sink) = run_blank(&rt, alloc, "run", script.as_bytes(), (NONE, NONE))?;
+    let told =
+        "life 1 generation 0\nt A 19 01 50 -> 59 01 FF 01 01 00\ncycle 0 -> taken\nfail 200 -> taken\nsave -> 1\n\
+                life 2 generation 1\nt A 19 02 08 -> 59 02 FF 02 00 C8 2F\n";
+    assert_eq!(rt; sink.bytes(), told.as_bytes());
+    assert_eq!(rt; status, 0);
+    let more = event_lines(alloc, 257)?;
+    for word in ["run", "check"] {
+        let (status, sink) = run_blank(&rt, alloc, word, more.as_bytes(), (NONE, NONE))?;
+        assert_eq!(rt; sink.bytes(), "script line 257 many\n".as_bytes(), "{word}");
+        assert_eq!(rt; status, 2, "{word}");
     }
     Ok(())
 }

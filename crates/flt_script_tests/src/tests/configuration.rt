@@ -17,7 +17,7 @@ fn nothing_written(rt: HostRuntime) -> Result<(), Fail> {
 #[test]
 fn whole_configuration(rt: HostRuntime) -> Result<(), Fail> {
     let text = "config 7\nmemory 2\nblocks 3\nflash 2 100\n\
-         event 0 time 10 5 age 9 dtc 00000A lamp 1 prio 5 cycle 1 confirm 2 heal 4\n\
+         event 0 time 10 5 age 9 dtc 00000A lamp 1 needs 255 prio 5 cycle 1 confirm 2 heal 4\n\
          event 1 dtc 00000B count 10 20 3 2 jumpup 9 jumpdown -19\n\
          event 2 dtc 00000C\ndid 1 0107\ndid 1 0101\n";
     let script = parse(rt.alloc(), text.as_bytes(), &table())?;
@@ -35,6 +35,7 @@ fn whole_configuration(rt: HostRuntime) -> Result<(), Fail> {
         heal: 4,
         age: 9,
         indicator: true,
+        needs: 255,
         debounce: Debounce::Time { fail: 10, pass: 5 },
         ..EventCfg::default()
     };

@@ -28,7 +28,10 @@ fn limits(rt: HostRuntime) -> Result<(), Fail> {
     assert_eq!(rt; outcome(alloc, line.as_bytes())?.as_str(), "");
     let script = repeated(alloc, "#\n", 524_288)?;
     assert_eq!(rt; outcome(alloc, script.as_bytes())?.as_str(), "");
-    assert_eq!(rt; outcome(alloc, events(alloc, 64)?.as_bytes())?.as_str(), "");
+    assert_eq!(rt;
+        outcome(alloc, events(alloc, 256)?.as_bytes())?.as_str(),
+        ""
+    );
     let script = repeated(alloc, "cycle 0\n", 65_536)?;
     assert_eq!(rt; outcome(alloc, script.as_bytes())?.len(), 524_288);
     let script = repeated(alloc, "power\n", 255)?;
@@ -89,16 +92,16 @@ fn one_too_many(rt: HostRuntime) -> Result<(), Fail> {
         let told = outcome(alloc, script.as_bytes())?;
         assert_eq!(rt; told.as_str(), case.3, "{:?} behind {:?}", case.2, case.0);
     }
-    let mut script = events(alloc, 64)?;
-    script.push_str("event 64 dtc 000041 prio 25")?;
+    let mut script = events(alloc, 256)?;
+    script.push_str("event 256 dtc 000101 prio 25")?;
     assert_eq!(rt;
         outcome(alloc, script.as_bytes())?.as_str(),
-        "script line 65 many"
+        "script line 257 many"
     );
     script.push_str("6")?;
     assert_eq!(rt;
         outcome(alloc, script.as_bytes())?.as_str(),
-        "script line 65 range"
+        "script line 257 range"
     );
     let mut script = repeated(alloc, "fault 2 none\n", 64)?;
     script.push_str("power\nsave")?;

@@ -1,5 +1,5 @@
 //! Start-up: what the image holds, and both copies of the commit made equal.
-ghost use Rattle.std.specs.Prelude.{◌≡◌, ◌⊎◌, IfOk, IfErr, IsErrOf, OnOk, OnErr, IsTrue, IsFalse};
+ghost use Rattle.std.specs.Prelude.{◌≡◌, ◌⊎◌, IfOk, IfErr, IsErrOf, OnOk, OnErr, IsTrue, IsFalse, ◌↔◌};
 ghost use Rattle.flt_flash.specs.Calls.{Follows, SameImage};
 ghost use Rattle.flt_nvm.specs.Driver.{driver_of as driver_beneath, table_of};
 ghost use Rattle.flt_config.specs.Durable.{Fits};
@@ -7,22 +7,24 @@ ghost use Rattle.flt_generation.specs.Holding.{Generation, IsSound, OldOrNew, Sa
 ghost use Rattle.flt_generation.specs.Excess.{IsBorne};
 ghost use Rattle.flt_generation.specs.Form.{mark_of};
 ghost use Rattle.flt_image.specs.Table.{block_table};
-ghost use Rattle.flt_store.specs.Cause.{HasRoom, Writes};
-ghost use Rattle.flt_store.specs.Started.{IsStarted};
+ghost use Rattle.flt_store.specs.Cause.{HasRoom, IsWithinOwn, Writes};
+ghost use Rattle.flt_store.specs.Started.{HasMark, IsStarted};
 ghost use Rattle.flt_store.specs.Start.{Begins, IsFoundIn, told_of_mount, told_of_write};
-ghost use Rattle.flt_store.specs.Dark.{IsUnbegun, IsDark, IsOfBlocks, IsMountedAlone};
-ghost use Rattle.flt_store.specs.Spent.{IsBegunStuck, IsOutOfNumbers};
+ghost use Rattle.flt_store.specs.Dark.{IsCommitUnmended, IsUnbegun, IsDark, IsOfBlocks, IsMountedAlone};
+ghost use Rattle.flt_store.specs.Spent.{IsBegunStuck, IsCommitStuck, IsOutOfNumbers};
 ghost use Rattle.flt_restore.specs.Unread.{IsImageUnread};
+ghost use Rattle.flt_generation.specs.Layout.{mark_number};
+ghost use Rattle.flt_restore.specs.Restored.{IsMarkDue};
 
 use super::{Store, number_in};
-use crate::marking::write_missing_mark;
+use crate::marking::write_mark;
 use crate::restarting::repair_by;
 use flt_config::{Persist, ValidConfig};
 use flt_flash::{BlockFault, Blocks};
 use flt_generation::Place;
 use flt_image::{Commit, Mark, StateBlocks, mark_of};
 use flt_nvm::Nvm;
-use flt_restore::{CommitCopy, StartFault, restore};
+use flt_restore::{CommitCopy, Restored, StartFault, restore};
 
 // What a start-up answers to a fault of its mount.
 fn mount_fault(fault: BlockFault) -> StartFault
@@ -44,41 +46,71 @@ fn write_fault(fault: BlockFault) -> StartFault
     }
 }
 
-// Makes both copies of the commit hold what the one has that was found; where none was, writes the mark if it is missing.
-fn begin_by<B: Blocks + Drop>(
+// Makes both copies of the commit hold what the one has that was found, if one was.
+fn mend_by<B: Blocks + Drop>(
     nvm: &mut Nvm<B>,
     config: &ValidConfig,
-    mark: &Mark,
     found: Option<CommitCopy>,
 ) -> Result<Option<Commit>, BlockFault>
     requires table { table_of nvm.old ≡ block_table }
-    requires mark { mark.now ≡ mark_of config.now }
     requires found { IsFoundIn (driver_beneath nvm.old).value found }
-    ensures started { (g : Generation) → Begins config.now (driver_beneath nvm.old).value found g
+    requires settled { IsFalse (driver_beneath nvm.old).is_stale }
+    ensures started { (g : Generation) → HasMark config.now (driver_beneath nvm.old).value → Begins config.now (driver_beneath nvm.old).value found g
         → IfOk result (λ commit. IsStarted config.now (driver_beneath nvm.new).value commit g) }
     ensures tried { (held spare g : Generation) → IsSound config.now (driver_beneath nvm.old).value held spare
         → Begins config.now (driver_beneath nvm.old).value found g
         → OnErr result (OldOrNew config.now (driver_beneath nvm.new).value held spare held) }
-    ensures unbegun { (g : Generation) → Begins config.now (driver_beneath nvm.old).value found g → IsErrOf result BlockFault.Flash
-        → IsUnbegun (driver_beneath nvm.old) (driver_beneath nvm.new) }
-    ensures stuck { IsErrOf result BlockFault.SequenceSpent → IsBegunStuck config.now (driver_beneath nvm.old) (driver_beneath nvm.new) }
+    ensures unmended { (g : Generation) → Begins config.now (driver_beneath nvm.old).value found g → IsErrOf result BlockFault.Flash
+        → IsCommitUnmended (driver_beneath nvm.old) (driver_beneath nvm.new) }
+    ensures stuck { IsErrOf result BlockFault.SequenceSpent → IsCommitStuck (driver_beneath nvm.old) (driver_beneath nvm.new) }
     ensures writes { (g : Generation) → Begins config.now (driver_beneath nvm.old).value found g
         → Writes (driver_beneath nvm.old) (driver_beneath nvm.new) result }
-    ensures borne { (g : Generation) → Begins config.now (driver_beneath nvm.old).value found g → IsBorne config.now (driver_beneath nvm.new).value }
+    ensures within { IsWithinOwn config.now (driver_beneath nvm.old).value (driver_beneath nvm.new).value }
     ensures fresh { OnOk result (IsFalse (driver_beneath nvm.new).is_stale) }
     ensures applications { SameApplications (driver_beneath nvm.old).value (driver_beneath nvm.new).value }
     ensures follows { Follows (driver_beneath nvm.old) (driver_beneath nvm.new) }
     ensures table { table_of nvm.new ≡ table_of nvm.old }
 {
     match found {
-        None => match write_missing_mark(nvm, mark) {
-            Ok(()) => Ok(None),
-            Err(fault) => Err(fault),
-        },
+        None => Ok(None),
         Some(found) => match repair_by(nvm, config, found.copy, &found.bytes) {
             Ok(commit) => Ok(Some(commit)),
             Err(fault) => Err(fault),
         },
+    }
+}
+
+// Writes the mark where it is missing or of version 1, and then makes both copies of the commit hold what the one has that was found.
+fn begin_by<B: Blocks + Drop>(
+    nvm: &mut Nvm<B>,
+    config: &ValidConfig,
+    mark: &Mark,
+    found: Restored,
+) -> Result<Option<Commit>, BlockFault>
+    requires table { table_of nvm.old ≡ block_table }
+    requires mark { mark.now ≡ mark_of config.now }
+    requires due { IsTrue found.is_mark_due ↔ IsMarkDue mark.now ((driver_beneath nvm.old).value mark_number) }
+    requires found { IsFoundIn (driver_beneath nvm.old).value found.commit }
+    requires settled { IsFalse (driver_beneath nvm.old).is_stale }
+    ensures started { (g : Generation) → Begins config.now (driver_beneath nvm.old).value found.commit g
+        → IfOk result (λ commit. IsStarted config.now (driver_beneath nvm.new).value commit g) }
+    ensures tried { (held spare g : Generation) → IsSound config.now (driver_beneath nvm.old).value held spare
+        → Begins config.now (driver_beneath nvm.old).value found.commit g
+        → OnErr result (OldOrNew config.now (driver_beneath nvm.new).value held spare held) }
+    ensures unbegun { (g : Generation) → Begins config.now (driver_beneath nvm.old).value found.commit g → IsErrOf result BlockFault.Flash
+        → IsUnbegun config.now (driver_beneath nvm.old) (driver_beneath nvm.new) }
+    ensures stuck { IsErrOf result BlockFault.SequenceSpent → IsBegunStuck config.now (driver_beneath nvm.old) (driver_beneath nvm.new) }
+    ensures writes { (g : Generation) → Begins config.now (driver_beneath nvm.old).value found.commit g
+        → Writes (driver_beneath nvm.old) (driver_beneath nvm.new) result }
+    ensures borne { (g : Generation) → Begins config.now (driver_beneath nvm.old).value found.commit g → IsBorne config.now (driver_beneath nvm.new).value }
+    ensures fresh { OnOk result (IsFalse (driver_beneath nvm.new).is_stale) }
+    ensures applications { SameApplications (driver_beneath nvm.old).value (driver_beneath nvm.new).value }
+    ensures follows { Follows (driver_beneath nvm.old) (driver_beneath nvm.new) }
+    ensures table { table_of nvm.new ≡ table_of nvm.old }
+{
+    match write_mark(nvm, mark, found.is_mark_due) {
+        Ok(()) => mend_by(nvm, config, found.commit),
+        Err(fault) => Err(fault),
     }
 }
 
@@ -94,7 +126,7 @@ impl<B: Blocks + Drop> Store<B> {
         ensures started { IfOk result (λ number. Starts config.now number out.new self.old self.new) }
         ensures refused { IfErr result (RefusedFor config.now self.old self.new) }
         ensures unready { IsErrOf result StartFault.Flash
-            → IsImageUnread config.now (driver_of self.old) (driver_of self.new) ⊎ IsUnbegun (driver_of self.old) (driver_of self.new) }
+            → IsImageUnread config.now (driver_of self.old) (driver_of self.new) ⊎ IsUnbegun config.now (driver_of self.old) (driver_of self.new) }
         ensures unwritten { IfErr result (λ fault. IsOfBlocks fault → SameImage (driver_of self.old) (driver_of self.new)) }
         ensures spent { IsErrOf result StartFault.SequenceSpent → IsOutOfNumbers config.now (driver_of self.old) (driver_of self.new) }
         ensures left { (held spare : Generation) → IsSound config.now (driver_of self.old).value held spare
@@ -126,7 +158,8 @@ impl<B: Blocks + Drop> Store<B> {
     /// the configuration's pages less two.
     ///
     /// What is answered is what copy 1 of the commit names, or, where that can't be read in three tries, what copy 2 names. Of an
-    /// image that is damaged, or another configuration's, no block is changed, and nothing is written but by the mount.
+    /// image that is damaged, or another configuration's, no block is changed, and nothing is written but by the mount. A mark and a commit
+    /// may be of version 1: the mark is written anew, and the commit's copies keep their version until the next save.
     /// `SequenceSpent` comes where the last sequence number was in use before, or where the mark or a copy of the commit has to be
     /// written and can't be any more. After an error `out` holds anything that fits its type, and of a sound image each of the two
     /// generations is one of those before.

@@ -1,7 +1,8 @@
-// A fixed job on a store, each of whose programs and erases is cut or fails by each pattern: what stands then is what stood
+// A fixed job on a store, each of whose programs and erases, or writes to an EEPROM, is cut or fails by each pattern: what stands then is what stood
 // before the call that failed, or what it asked for.
 ghost use Rattle.flt_store_tests.specs.Room.{IsRoomy, SameRoom};
 
+use super::rows::of_version_1;
 use super::*;
 
 // A call of the job.
@@ -36,9 +37,39 @@ const JOB: [Call; 18] = [
     Call::Start,
 ];
 
+// The job on an image of version 1 that holds generation 1: a start-up, a save, 14 puts, of which the tenth switches the sectors, a save, and
+// a start-up.
+const OLD_JOB: [Call; 18] = [
+    Call::Start,
+    Call::Save(PASSED),
+    Call::Put(1),
+    Call::Put(2),
+    Call::Put(3),
+    Call::Put(4),
+    Call::Put(5),
+    Call::Put(6),
+    Call::Put(7),
+    Call::Put(8),
+    Call::Put(9),
+    Call::Put(10),
+    Call::Put(11),
+    Call::Put(12),
+    Call::Put(13),
+    Call::Put(14),
+    Call::Save(FAILED),
+    Call::Start,
+];
+
+// How many programs and erases that makes: 3 of the mark, 10 of each save, whose summary and entry stay, 3 of each put, and 31 of the
+// switch.
+const OLD_OPERATIONS: u32 = 96;
+
 // How many programs and erases the job makes: 3 of the first mount, 3 of the mark, 18 of the first save, 10 of the second, whose
 // summary and entry stay, 3 of each put, and 27 of the switch.
 const OPERATIONS: u32 = 103;
+
+// How many writes it makes to an EEPROM, where no sector is begun and none switched.
+const WRITES: u32 = 73;
 
 // What the image says: the generation's number, the status of its event, and the byte of block 0 where that was put.
 #[derive(Clone, Copy, Debug, PartialEq)]
@@ -54,6 +85,15 @@ impl Told {
         Told {
             number: 0,
             status: NOT_TESTED,
+            byte: None,
+        }
+    }
+
+    // What an image of version 1 says, behind its first save.
+    fn old() -> Told {
+        Told {
+            number: 1,
+            status: FAILED,
             byte: None,
         }
     }
@@ -111,17 +151,19 @@ fn make<B: Blocks + Drop>(
     }
 }
 
-// Makes the calls of the job until one fails: what stood before the last call, and what it asked for.
+// Makes the calls of a job on this image until one fails: what stood before the last call, and what it asked for.
 fn run_job<B: Blocks + Drop>(
     rt: &impl Abort,
     store: &mut Store<B>,
     config: &ValidConfig,
+    first: Told,
+    job: &[Call],
 ) -> (Told, Told, bool)
     requires { IsRoomy config.now store.old }
     ensures { SameRoom store.old store.new }
 {
-    let mut before = Told::blank();
-    for call in &JOB {
+    let mut before = first;
+    for call in job {
         let asked = before.after(*call);
         if !make(rt, store, config, *call, asked) {
             return (before, asked, false);
@@ -156,17 +198,21 @@ fn read_told<B: Blocks + Drop>(
     Ok(told)
 }
 
-// Runs the job over a blank flash with this arm, and starts up with the power on again. It tells whether each call of the job
+// Runs a job over a device that says this, with this arm, and starts up with the power on again. It tells whether each call of the job
 // answered `Ok`, and whether the arm still stands.
-fn run_case(
+fn run_case<B: Blocks + Drop>(
     rt: &impl Abort,
-    alloc: Global,
+    store: Store<B>,
     config: &ValidConfig,
+    first: Told,
+    job: &[Call],
     made: Arm,
-) -> Result<(bool, bool), Fail> {
-    let mut store = blank_store(alloc, config)?;
+) -> Result<(bool, bool), Fail>
+    requires { IsRoomy config.now store }
+{
+    let mut store = store;
     arm(rt, &mut store, made);
-    let (before, asked, done) = run_job(rt, &mut store, config);
+    let (before, asked, done) = run_job(rt, &mut store, config, first, job);
     let stands = store.armed() > 0;
     power_up(&mut store);
     let found = read_told(rt, &mut store, config)?;
@@ -182,9 +228,25 @@ fn each_operation_is_cut_and_fails(rt: HostRuntime) -> Result<(), Fail> {
         let pattern = *pattern;
         for after in 1..OPERATIONS + 2 {
             let last = after > OPERATIONS;
-            let cut = run_case(&rt, rt.alloc(), &config, Arm::Cut { after, pattern })?;
+            let store = blank_store(rt.alloc(), &config)?;
+            let cut = run_case(
+                &rt,
+                store,
+                &config,
+                Told::blank(),
+                &JOB,
+                Arm::Cut { after, pattern },
+            )?;
             assert!(&rt; cut == (last, last), "{after} {pattern:?}");
-            let fault = run_case(&rt, rt.alloc(), &config, Arm::Fault { after, pattern })?;
+            let store = blank_store(rt.alloc(), &config)?;
+            let fault = run_case(
+                &rt,
+                store,
+                &config,
+                Told::blank(),
+                &JOB,
+                Arm::Fault { after, pattern },
+            )?;
             assert!(&rt; fault == (true, last), "{after} {pattern:?}");
             if !last {
                 stops = stops.saturating_add(1);
@@ -192,5 +254,71 @@ fn each_operation_is_cut_and_fails(rt: HostRuntime) -> Result<(), Fail> {
         }
     }
     println!(rt; "{stops} cuts and as many faults")?;
+    Ok(())
+}
+
+// The start-up that writes the mark anew, and the saves that write a commit of version 2 beside one of version 1.
+#[test]
+fn each_operation_on_an_image_of_version_1_is_cut_and_fails(rt: HostRuntime) -> Result<(), Fail> {
+    let config = configured(1, 1, 1)?;
+    let first = Told::old();
+    for pattern in &[Pattern::Nothing, Pattern::All, Pattern::Tail, Pattern::Odd] {
+        let pattern = *pattern;
+        for after in 1..OLD_OPERATIONS + 2 {
+            let last = after > OLD_OPERATIONS;
+            let store = store_over(rt.alloc(), of_version_1(&rt, rt.alloc())?, &config)?;
+            let cut = run_case(
+                &rt,
+                store,
+                &config,
+                first,
+                &OLD_JOB,
+                Arm::Cut { after, pattern },
+            )?;
+            assert!(&rt; cut == (last, last), "{after} {pattern:?}");
+            let store = store_over(rt.alloc(), of_version_1(&rt, rt.alloc())?, &config)?;
+            let fault = run_case(
+                &rt,
+                store,
+                &config,
+                first,
+                &OLD_JOB,
+                Arm::Fault { after, pattern },
+            )?;
+            assert!(&rt; fault == (true, last), "{after} {pattern:?}");
+        }
+    }
+    Ok(())
+}
+
+#[test]
+fn each_write_to_an_eeprom_is_cut_and_fails(rt: HostRuntime) -> Result<(), Fail> {
+    let config = configured(1, 1, 1)?;
+    for pattern in &[Pattern::Nothing, Pattern::All, Pattern::Tail, Pattern::Odd] {
+        let pattern = *pattern;
+        for after in 1..WRITES + 2 {
+            let last = after > WRITES;
+            let store = units_store(rt.alloc())?;
+            let cut = run_case(
+                &rt,
+                store,
+                &config,
+                Told::blank(),
+                &JOB,
+                Arm::Cut { after, pattern },
+            )?;
+            assert!(&rt; cut == (last, last), "{after} {pattern:?}");
+            let store = units_store(rt.alloc())?;
+            let fault = run_case(
+                &rt,
+                store,
+                &config,
+                Told::blank(),
+                &JOB,
+                Arm::Fault { after, pattern },
+            )?;
+            assert!(&rt; fault == (true, last), "{after} {pattern:?}");
+        }
+    }
     Ok(())
 }

@@ -59,8 +59,8 @@ fn the_first_save_writes_each_block_once(rt: HostRuntime) -> Result<(), Fail> {
         (5, 24, 32),
         (8, 32, 64),
         (12, 64, 68),
-        (17, 16, 26),
-        (20, 17, 26),
+        (17, 16, 10),
+        (20, 17, 10),
     ] {
         assert!(&rt; is_record(&flash, page, block, length), "{page}");
     }
@@ -121,7 +121,7 @@ fn a_muted_first_copy_gives_the_generation_before(rt: HostRuntime) -> Result<(),
             Step::Life(number, place),
         ];
         let flash = play(&rt, rt.alloc(), &config, &states, &steps)?;
-        assert!(&rt; is_record(&flash, 45, 16, 26));
+        assert!(&rt; is_record(&flash, 45, 16, 10));
     }
     Ok(())
 }
@@ -146,7 +146,7 @@ fn a_muted_first_copy_stops_nothing(rt: HostRuntime) -> Result<(), Fail> {
             Step::Life(1, 0),
         ];
         let flash = play(&rt, rt.alloc(), &config, &states, &steps)?;
-        assert!(&rt; is_record(&flash, 23, 16, 26) == (times > 3), "{times}");
+        assert!(&rt; is_record(&flash, 23, 16, 10) == (times > 3), "{times}");
         let steps = [
             Step::Save(0, Ok(1)),
             fault_at(1),
@@ -229,14 +229,14 @@ fn without_first_copy(rt: &impl Abort, alloc: Global) -> Result<FlashMem, Fail> 
     Ok(FlashMem::of(alloc, image, 2)?)
 }
 
-// Makes the first copy of the commit equal to the second, which has 26 bytes.
+// Makes the first copy of the commit equal to the second, which has 10 bytes.
 fn repair_first_copy<B: Blocks + Drop>(nvm: &mut Nvm<B>) -> Result<(), Fail>
     requires { table_of nvm.old ≡ block_table }
     ensures { table_of nvm.new ≡ table_of nvm.old }
 {
     let mut out = [0; 128];
     match nvm.read_copy(COMMIT_ID, 2, &mut out)? {
-        Got::Bytes { length: 26, .. } => Ok(nvm.repair(COMMIT_ID, 2, &out[..26])?),
+        Got::Bytes { length: 10, .. } => Ok(nvm.repair(COMMIT_ID, 2, &out[..10])?),
         _ => Err(Fail::from("no commit in copy 2")),
     }
 }
@@ -248,7 +248,7 @@ fn read_and_repair<B: Blocks + Drop>(rt: &impl Abort, nvm: &mut Nvm<B>) -> Resul
     let mut out = [0; 128];
     let mut again = [0; 128];
     assert!(rt; nvm.read_copy(COMMIT_ID, 1, &mut out)? == Got::Missing);
-    let length = 26;
+    let length = 10;
     assert!(rt; nvm.read(COMMIT_ID, 0, &mut out)? == Got::Bytes { length, copy: 2 });
     repair_first_copy(nvm)?;
     assert!(rt; nvm.read(COMMIT_ID, 0, &mut again)? == Got::Bytes { length, copy: 1 });
@@ -310,5 +310,73 @@ fn an_application_block_is_missing_until_it_is_put(rt: HostRuntime) -> Result<()
     assert!(&rt; store.get_block(0, &mut out) == Ok(false));
     assert!(&rt; store.put_block(0, &[1]) == Ok(()));
     assert!(&rt; store.get_block(0, &mut out) == Ok(true) && out[..] == [1]);
+    Ok(())
+}
+
+// The head of a record of 26 bytes under this number, at this page.
+fn old_head(number: u8, page: u8) -> [u8; 32] {
+    let mut bytes = [0; 32];
+    bytes[0] = 0x48;
+    bytes[1] = 1;
+    bytes[3] = number;
+    bytes[5] = 26;
+    bytes[7] = page;
+    for at in 0..16 {
+        bytes[16 + at] = !bytes[at];
+    }
+    bytes
+}
+
+// The commit of the first save in version 1: a page of plain bytes.
+fn old_commit() -> [u8; 32] {
+    let mut bytes = [0xFF; 32];
+    bytes[0] = 1;
+    for at in 1..4 {
+        bytes[at] = 0;
+    }
+    bytes[4] = 1;
+    bytes[5] = 0;
+    bytes[6] = 0;
+    bytes[10] = 0;
+    bytes
+}
+
+// A flash after the first save whose mark and copies of the commit are of version 1.
+pub(super) fn of_version_1(rt: &impl Abort, alloc: Global) -> Result<FlashMem, Fail> {
+    let mut image = image_of(alloc, &saved_flash(rt, alloc)?)?;
+    let mut mark = [0xFF; 32];
+    for at in 0..8 {
+        mark[at] = 0;
+    }
+    mark[0] = 1;
+    mark[4] = 1;
+    mark[5] = 1;
+    put_page(&mut image, 3, mark);
+    put_page(&mut image, 17, old_head(16, 17));
+    put_page(&mut image, 18, old_commit());
+    put_page(&mut image, 20, old_head(17, 20));
+    put_page(&mut image, 21, old_commit());
+    Ok(FlashMem::of(alloc, image, 2)?)
+}
+
+// A start-up writes the mark anew; the save behind it is cut at its first program, or at the fourth, where the first copy of its
+// commit stands in version 2 and the second still names the generation before in version 1.
+#[test]
+fn an_image_of_version_1_is_restored(rt: HostRuntime) -> Result<(), Fail> {
+    let config = configured(1, 0, 1)?;
+    for (program, number) in [(1, 1), (4, 2)] {
+        let flash = of_version_1(&rt, rt.alloc())?;
+        let mut store = store_over(rt.alloc(), flash, &config)?;
+        let steps = [
+            Step::Life(1, 0),
+            cut_at(program, Pattern::Nothing),
+            Step::Save(0, Err(SaveFault::Flash)),
+            Step::Life(number, 0),
+            Step::Save(0, Ok(number + 1)),
+        ];
+        play_on(&rt, &mut store, &config, &[failed()], &steps)?;
+        let flash = store.retire().retire();
+        assert!(&rt; is_record(&flash, 23, 8, 8));
+    }
     Ok(())
 }

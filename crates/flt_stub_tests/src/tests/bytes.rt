@@ -7,7 +7,8 @@ use flt_config::{
 use flt_generation::INDICES;
 use flt_image::{
     BlockBytes, Commit, StateBlocks, block_table, fee_numbers, get_block, get_commit, get_mark,
-    is_used, mark_of, next_commit, put_block, put_commit, put_mark, used_ids,
+    is_used, mark_of, next_commit, put_block, put_commit, put_commit_1, put_mark, put_mark_1,
+    used_ids,
 };
 use flt_nvm::{BlockCfg, Kind};
 
@@ -34,12 +35,17 @@ const NO_ENTRY: [u8; 68] = [
     0, 0, 0, 0, 0, 0,
 ];
 
-const COMMIT: [u8; 26] = [
+// The summary at index 0, the states at 1, the first entry at 1 and the second at 0.
+const COMMIT: [u8; 10] = [2, 1, 2, 3, 4, 0x22, 0, 0, 0, 0];
+
+const OLD_COMMIT: [u8; 26] = [
     1, 1, 2, 3, 4, 0, 1, 0xFF, 0xFF, 0xFF, 1, 0, 0xFF, 0xFF, 0xFF, 0xFF, 0xFF, 0xFF, 0xFF, 0xFF,
     0xFF, 0xFF, 0xFF, 0xFF, 0xFF, 0xFF,
 ];
 
-const MARK: [u8; 8] = [1, 1, 2, 0, 2, 2, 0, 0];
+const MARK: [u8; 8] = [2, 1, 2, 0, 2, 2, 0, 0];
+
+const OLD_MARK: [u8; 8] = [1, 1, 2, 0, 2, 2, 0, 0];
 
 fn event(dtc: u32, indicator: bool, dids: ArrayVec<DidUse, DIDS>) -> EventCfg {
     EventCfg {
@@ -50,6 +56,7 @@ fn event(dtc: u32, indicator: bool, dids: ArrayVec<DidUse, DIDS>) -> EventCfg {
         heal: 3,
         age: 40,
         indicator,
+        needs: 0,
         debounce: Default::default(),
         dids,
     }
@@ -270,14 +277,14 @@ fn commits_are_read_of_their_own_configuration(rt: HostRuntime) {
                         state.overflow = true;
                         assert!(&rt; fits(&valid, &state));
                         let after = StateBlocks::of(&valid, &state);
-                        for (before, states) in [
-                            (StateBlocks::unknown(), 0),
-                            (StateBlocks::of(&valid, &first), 1),
+                        for (before, states, both) in [
+                            (StateBlocks::unknown(), 0, 1),
+                            (StateBlocks::of(&valid, &first), 1, 3),
                         ] {
                             let next = next_commit(&valid, &Some(commit), &before, &after);
                             let bytes = put_commit(&next);
-                            assert!(&rt; bytes[4] == 5 && bytes[5] == 1);
-                            assert!(&rt; bytes[6] == states && bytes[7] == 0xFF);
+                            assert!(&rt; bytes[4] == 5 && bytes[5] % 4 == both);
+                            assert!(&rt; next.index[0] == 1 && next.index[1] == states);
                         }
                         let made = next_commit(&valid, &None, &after, &after);
                         assert!(&rt; made.generation == 1 && made.index[0] == 0);
@@ -286,14 +293,14 @@ fn commits_are_read_of_their_own_configuration(rt: HostRuntime) {
                 None => panic!(&rt; "refused"),
             }
             for (at, value) in [
-                (0, 2),
-                (5, 2),
-                (5, 0xFF),
-                (6, 3),
-                (7, 0),
-                (8, 1),
-                (10, 0xFF),
-                (25, 0),
+                (0, 0),
+                (0, 1),
+                (0, 3),
+                (5, 0x26),
+                (6, 0x80),
+                (7, 0x20),
+                (9, 1),
+                (9, 2),
             ] {
                 assert!(&rt; get_commit(&valid, &changed(&COMMIT, at, value)).is_none());
             }
@@ -308,12 +315,47 @@ fn commits_are_read_of_their_own_configuration(rt: HostRuntime) {
                 0,
             );
             assert!(&rt; get_commit(&valid, &none).is_none());
-            assert!(&rt; get_commit(&valid, &COMMIT[..25]).is_none());
-            let mut longer = changed(&COMMIT, 0, 1);
+            assert!(&rt; get_commit(&valid, &COMMIT[..9]).is_none());
+            let mut longer = changed(&COMMIT, 0, 2);
             if !longer.is_full() {
                 longer.push(0xFF);
             }
             assert!(&rt; get_commit(&valid, &longer).is_none());
+        }
+        Err(_) => panic!(&rt; "refused"),
+    }
+}
+
+#[test]
+fn commits_of_version_1_are_read(rt: HostRuntime) {
+    let mut index = [0xFF; INDICES];
+    index[0] = 0;
+    index[1] = 1;
+    index[5] = 1;
+    index[6] = 0;
+    let commit = Commit {
+        generation: 0x01020304,
+        index,
+    };
+    assert!(&rt; put_commit_1(&commit) == OLD_COMMIT);
+    assert!(&rt; put_commit(&commit) == COMMIT);
+    match check(config()) {
+        Ok(valid) => {
+            assert!(&rt; get_commit(&valid, &OLD_COMMIT) == Some(commit));
+            assert!(&rt; get_commit(&valid, &COMMIT) == Some(commit));
+            for (at, value) in [
+                (0, 2),
+                (5, 2),
+                (5, 0xFF),
+                (6, 3),
+                (7, 0),
+                (8, 1),
+                (10, 0xFF),
+                (25, 0),
+            ] {
+                assert!(&rt; get_commit(&valid, &changed(&OLD_COMMIT, at, value)).is_none());
+            }
+            assert!(&rt; get_commit(&valid, &OLD_COMMIT[..25]).is_none());
         }
         Err(_) => panic!(&rt; "refused"),
     }
@@ -328,21 +370,23 @@ fn marks_are_read(rt: HostRuntime) {
             assert!(&rt; get_mark(&MARK) == Some(mark));
             let another = changed(&MARK, 2, 3);
             assert!(&rt; get_mark(&another).is_some() && get_mark(&another) != Some(mark));
-            for (at, value) in [(0, 0), (0, 2), (6, 1), (7, 1)] {
+            assert!(&rt; put_mark_1(&mark) == OLD_MARK);
+            assert!(&rt; get_mark(&OLD_MARK) == Some(mark));
+            for (at, value) in [(0, 0), (0, 3), (6, 1), (7, 1)] {
                 assert!(&rt; get_mark(&changed(&MARK, at, value)).is_none());
             }
             assert!(&rt; get_mark(&MARK[..7]).is_none());
-            assert!(&rt; get_mark(&COMMIT[..9]).is_none());
+            assert!(&rt; get_mark(&OLD_COMMIT[..9]).is_none());
         }
         Err(_) => panic!(&rt; "refused"),
     }
 }
 
 #[test]
-fn drivers_have_eighty_five_numbers(rt: HostRuntime) {
+fn drivers_have_a_hundred_and_nine_numbers(rt: HostRuntime) {
     match fee_numbers(rt.alloc()) {
         Ok(numbers) => {
-            assert!(&rt; numbers.len() == 85);
+            assert!(&rt; numbers.len() == 109);
             assert!(&rt;
                 numbers
                     .iter()
@@ -356,10 +400,10 @@ fn drivers_have_eighty_five_numbers(rt: HostRuntime) {
 }
 
 #[test]
-fn the_table_has_sixty_three_blocks(rt: HostRuntime) {
+fn the_table_has_seventy_five_blocks(rt: HostRuntime) {
     match block_table(rt.alloc()) {
         Ok(table) => {
-            assert!(&rt; table.len() == 63);
+            assert!(&rt; table.len() == 75);
             assert!(&rt;
                 table.first().copied()
                     == Some(BlockCfg {

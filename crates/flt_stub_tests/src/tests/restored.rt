@@ -9,7 +9,7 @@ use flt_flash::Blocks;
 use flt_generation::Place;
 use flt_image::block_table;
 use flt_nvm::Nvm;
-use flt_restore::{CommitCopy, StartFault, restore};
+use flt_restore::{Restored, StartFault, restore};
 use flt_stub::BlocksMem;
 use std::alloc::Global;
 use std::process::Abort;
@@ -51,7 +51,7 @@ fn restored(
     driver: BlocksMem,
     config: &ValidConfig,
     out: &mut Persist,
-) -> Result<Result<Option<CommitCopy>, StartFault>, Fail>
+) -> Result<Result<Restored, StartFault>, Fail>
     requires { (state_of driver).numbers ≡ range_with_len 0 832 }
 {
     let mut nvm = Nvm::make(driver, block_table(alloc)?);
@@ -65,7 +65,12 @@ fn a_blank_image_holds_the_first_generation(rt: HostRuntime) -> Result<(), Fail>
     let mut out = initial(&config);
     let driver = BlocksMem::blank(rt.alloc(), 832, 0)?;
     match restored(rt.alloc(), driver, &config, &mut out)? {
-        Ok(None) => assert!(&rt; out == initial(&config)),
+        Ok(
+            Restored {
+                commit: None,
+                is_mark_due,
+            },
+        ) => assert!(&rt; is_mark_due && out == initial(&config)),
         _ => panic!(&rt; "not blank"),
     }
     Ok(())
@@ -81,12 +86,22 @@ fn an_image_is_restored_by_its_second_copy(rt: HostRuntime) -> Result<(), Fail> 
     driver.write(24, &SUMMARY)?;
     driver.write(65, &NO_ENTRY)?;
     match restored(rt.alloc(), driver, &config, &mut out)? {
-        Ok(Some(found)) => {
-            assert!(&rt; (found.commit.generation, found.copy) == (7, 2));
-            assert!(&rt; &found.bytes[..] == &COMMIT[..]);
-            assert!(&rt; out.overflow && out.entries.is_empty());
+        Ok(found) => {
+            let Restored {
+                commit,
+                is_mark_due,
+            } = found;
+            assert!(&rt; is_mark_due);
+            match commit {
+                Some(read) => {
+                    assert!(&rt; (read.commit.generation, read.copy) == (7, 2));
+                    assert!(&rt; &read.bytes[..] == &COMMIT[..]);
+                    assert!(&rt; out.overflow && out.entries.is_empty());
+                }
+                None => panic!(&rt; "no commit"),
+            }
         }
-        _ => panic!(&rt; "not restored"),
+        Err(_) => panic!(&rt; "not restored"),
     }
     Ok(())
 }

@@ -12,7 +12,7 @@ returns-in-Displaced-clause-stand c = λ life event signals marks s.
     let below : other < length c.args.states.now = rw c.in-Displaced.is at c.requires in
     let within : other < count life = omega (arith, s.one_each, below) in
     let displaced = state_marked life other Displaced signals marks c.args.states.now c.displaced.new.state within
-    (c.displaced.ensures (event_of life other) (base_of life other) (marks_of other marks) (read_state life other marks c.args.states.now within s)) s in
+    (c.displaced.ensures.marked (event_of life other) (base_of life other) (marks_of other marks) (read_state life other marks c.args.states.now within s)) s in
     rw c.in-Displaced.is (states_added life event signals (Of other Displaced signals ∷ marks) _ displaced)
 
 pub returns-in-Added-clause-stand : goal.returns-in-Added-clause-stand

@@ -6,11 +6,11 @@ use Rattle.flt_generation.proofs.Sizes.{refused_by_size}
 use Rattle.flt_image.proofs.Takings.{refuses, states_kept}
 use Rattle.flt_image.proofs.block.get_block.Goals as goal
 
-pub returns-then-bytes-part_length-clause-taken : goal.returns-then-bytes-part_length-clause-taken
-returns-then-bytes-part_length-clause-taken c =
+pub returns-then-bytes-byte_length-clause-taken : goal.returns-then-bytes-byte_length-clause-taken
+returns-then-bytes-byte_length-clause-taken c =
     refuses c.args.into.now
     (refused_by_size c.args.config.now (part_of c.args.id) c.args.bytes.now c.args.into.now
-    (λ is. c.if-bytes-part_length.true (is ∙ sym (c.part_length.ensures ∙ ap part_length c.part_of-part.ensures))))
+    (λ is. c.if-bytes-byte_length.true (is ∙ sym (c.byte_length.ensures.value ∙ ap part_length c.part_of-part.ensures))))
 
 pub returns-in-Summary-clause-states : goal.returns-in-Summary-clause-states
 returns-in-Summary-clause-states c = states_kept c.args.config.now Summary c.args.bytes.now c.args.into.now c.take_summary.new.into c.take_summary.result c.take_summary.ensures

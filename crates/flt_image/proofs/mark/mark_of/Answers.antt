@@ -1,4 +1,5 @@
 use Rattle.std.proofs.Common.{◌<◌, ◌≤◌, length, subst, arith}
+use Rattle.flt_config.specs.declared.TheConstants.{EVENTS}
 use Rattle.flt_config.specs.declared.config.Config.{Config}
 use Rattle.flt_generation.specs.declared.mark.Mark.{Mark}
 use Rattle.flt_image.proofs.mark.mark_of.Goals as goal
@@ -6,9 +7,9 @@ use Rattle.flt_image.proofs.mark.mark_of.Goals as goal
 pub returns-clause-given : goal.returns-clause-given
 returns-clause-given c =
     let id = subst (λ (m : Mark). m.id < 65536) c.mark_with.ensures.value (omega (arith, c.mark_with.ensures.fields.id)) in
-    let events : length c.config-config.result.now.events.items ≤ 64 = omega (arith, c.len.ensures.value, c.len.ensures.fits) in
+    let events : length c.config-config.result.now.events.items ≤ EVENTS = omega (arith, c.len.ensures.value, c.len.ensures.fits) in
     record {
       valid = c.config-config.ensures.valid;
       id = subst (λ (k : Config). k.id < 65536) c.config-config.ensures.value id;
-      events = subst (λ (k : Config). length k.events.items ≤ 64) c.config-config.ensures.value events;
+      events = subst (λ (k : Config). length k.events.items ≤ EVENTS) c.config-config.ensures.value events;
     }

@@ -1,6 +1,9 @@
-use Rattle.std.proofs.Common.{sym}
+use Rattle.std.proofs.Common.{sym, subst}
+use Rattle.flt_restore.specs.Found.{IsSingle}
 use Rattle.flt_restore.proofs.Rows.{named_is_single}
 use Rattle.flt_restore.proofs.named.read_block.Goals as goal
 
 pub read_content-requires-clause-single : goal.read_content-requires-clause-single
-read_content-requires-clause-single g c = named_is_single c.args.config.now c.args.commit.now c.requires.form c.args.id c.requires.first c.requires.end (sym c.if-not-is_used.ensures)
+read_content-requires-clause-single g c =
+    subst (IsSingle c.args.id) (sym c.index_of.ensures)
+    (named_is_single c.args.config.now c.args.commit.now c.requires.form c.args.id c.requires.first c.requires.end (sym c.if-not-is_used.ensures))

@@ -30,12 +30,12 @@ made_of-requires g c =
 
 pub returns-clause-lived : goal.returns-clause-lived
 returns-clause-lived g c =
-    let before = g.B.Flash.state c.args.bench in
+    let before = g.D.Driver.device_state c.args.device in
     let ran = if_some c.made_of.result.made
-    (λ made is. lived_by c.args.script c.deref.result.now c.deref.ensures.value before (g.B.Flash.state c.run_in_lanes-run.result.bench) c.run_in_lanes-run.result.lives made c.look_at_config.ensures is.0 is.1
+    (λ made is. lived_by g.D.Driver.medium c.args.script c.deref.result.now c.deref.ensures.value before (g.D.Driver.device_state c.run_in_lanes-run.result.device) c.run_in_lanes-run.result.lives made c.look_at_config.ensures is.0 is.1
     c.run_in_lanes-run.ensures.linked c.run_in_lanes-run.ensures.played c.run_in_lanes-run.ensures.ended c.run_in_lanes-run.ensures.given)
     c.made_of.ensures.made in
-    rw c.made_of.ensures.bench ran
+    rw c.made_of.ensures.device ran
 
 pub returns-clause-sound : goal.returns-clause-sound
-returns-clause-sound g c = rw c.made_of.ensures.bench c.run_in_lanes-run.ensures.sound
+returns-clause-sound g c = rw c.made_of.ensures.device c.run_in_lanes-run.ensures.sound

@@ -2,7 +2,7 @@ use Rattle.std.proofs.Common.{sym, subst}
 use Rattle.flt_did.specs.Serves.{Serves}
 use Rattle.flt_did.specs.Table.{dids_of}
 use Rattle.flt_script.specs.Script.{ScriptContent}
-use Rattle.flt_lives.specs.Sectors.{FlashStaysSound}
+use Rattle.flt_lives.specs.Devices.{DeviceStaysSound}
 use Rattle.flt_run.proofs.Loaded.{served_load}
 use Rattle.flt_run.proofs.performing.load_in_lanes.Goals as goal
 
@@ -11,4 +11,4 @@ unit_of-unit-requires g c = subst (λ (script : ScriptContent). Serves (dids_of 
 
 pub returns-in-Ok-clause-sound : goal.returns-in-Ok-clause-sound
 returns-in-Ok-clause-sound g c =
-    subst (λ (script : ScriptContent). FlashStaysSound script.config (g.B.Flash.state c.args.bench) (g.B.Flash.state c.live_in_lanes.result.bench)) c.in-Ok.ensures c.live_in_lanes.ensures.sound
+    subst (λ (script : ScriptContent). DeviceStaysSound (g.D.Driver.medium script.config) script.config (g.D.Driver.device_state c.args.device) (g.D.Driver.device_state c.live_in_lanes.result.device)) c.in-Ok.ensures c.live_in_lanes.ensures.sound

@@ -7,7 +7,7 @@ use Rattle.flt_run.proofs.performing.perform_plain.Goals as goal
 pub returns-in-Check-clause-comes : goal.returns-in-Check-clause-comes
 returns-in-Check-clause-comes g c =
     let command : plain_of c.args.command ≡ Some Check = ap plain_of (c.in-Some.is ∙ ap Some c.in-Check.is) in
-    rw command (c.check.ensures (g.B.Flash.state c.args.bench))
+    rw command (c.check.ensures g.D.Driver.medium (g.D.Driver.device_state c.args.device))
 
 pub returns-else-lanes-clause-sound : goal.returns-else-lanes-clause-sound
 returns-else-lanes-clause-sound g c =

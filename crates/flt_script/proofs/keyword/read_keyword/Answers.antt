@@ -47,3 +47,7 @@ returns-in-prepass c = rw (text_from_reads c.args.word.now (codes "prepass") (om
 pub returns-in-prefail : goal.returns-in-prefail
 unfolding keyword_of
 returns-in-prefail c = rw (text_from_reads c.args.word.now (codes "prefail") (omega arith) (search rules)) refl
+
+pub returns-in-enable : goal.returns-in-enable
+unfolding keyword_of
+returns-in-enable c = rw (text_from_reads c.args.word.now (codes "enable") (omega arith) (search rules)) refl

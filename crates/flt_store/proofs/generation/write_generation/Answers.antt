@@ -1,4 +1,5 @@
 use Rattle.std.proofs.Common.{◌≡◌, ◌∙◌, ℕ, List, length, ap, arith}
+use Rattle.flt_flash.specs.Content.{bytes}
 use Rattle.flt_nvm.specs.Driver.{driver_of}
 use Rattle.flt_generation.proofs.Commits.{commit_size}
 use Rattle.flt_image.specs.Blocks.{bytes_at}
@@ -8,6 +9,7 @@ use Rattle.flt_store.proofs.Causes.{both_written, writes_as, writes_on}
 use Rattle.std.proofs.Math.Nat.{add-mul}
 use Rattle.flt_flash.specs.Blocks.{record_pages}
 use Rattle.flt_generation.specs.Layout.{used_ids}
+use Rattle.flt_generation.specs.Form.{commit_length_2}
 use Rattle.flt_store.proofs.Changed.{written_pages}
 use Rattle.flt_store.proofs.Costs.{spends_more, spends_less, jobs_spend, limit_of_used}
 use Rattle.flt_store.proofs.Running.{taken}
@@ -38,7 +40,7 @@ write-requires-clause-index g c = commit_index _ (c.write_blocks.ensures.table �
 
 pub write-requires-clause-fits : goal.write-requires-clause-fits
 write-requires-clause-fits g c =
-    let size : length c.put_commit.result ≡ 26 = ap (λ (raw : List ℕ). length raw) c.put_commit.ensures ∙ commit_size c.next_commit-commit.result c.next_commit-commit.ensures.size in
+    let size : length c.put_commit.result ≡ commit_length_2 = ap (λ (raw : List ℕ). length raw) c.put_commit.ensures ∙ commit_size c.next_commit-commit.result in
     commit_fits _ (c.write_blocks.ensures.table ∙ c.requires.table) _ (omega (arith, size))
 
 pub returns-in-Ok-clause-done : goal.returns-in-Ok-clause-done
@@ -93,7 +95,7 @@ returns-in-Err-clause-mark g c =
 
 pub returns-in-Err-clause-writes : goal.returns-in-Err-clause-writes
 returns-in-Err-clause-writes g c =
-    let size : length c.put_commit.result ≡ 26 = ap (λ (raw : List ℕ). length raw) c.put_commit.ensures ∙ commit_size c.next_commit-commit.result c.next_commit-commit.ensures.size in
+    let size : length c.put_commit.result ≡ commit_length_2 = ap (λ (raw : List ℕ). length raw) c.put_commit.ensures ∙ commit_size c.next_commit-commit.result in
     let gives = commit_both _ (c.write_blocks.ensures.table ∙ c.requires.table) _ _ c.write.ensures.gives in
     writes_on (driver_of c.args.nvm.now) (driver_of c.write_blocks.new.nvm) (driver_of c.write.new.self) _ c.write_blocks.ensures.writes.follows
     (writes_as (driver_of c.write_blocks.new.nvm) (driver_of c.write.new.self) c.in-Err.fault (rw c.in-Err.is at (both_written (driver_of c.write_blocks.new.nvm) (driver_of c.write.new.self) c.write.result c.write.ensures.calls c.write.ensures.three _ _ _ (omega (arith, size)) gives)))
@@ -101,7 +103,7 @@ returns-in-Err-clause-writes g c =
 pub returns-in-Ok-clause-spends : goal.returns-in-Ok-clause-spends
 returns-in-Ok-clause-spends g c = λ most settled.
     let jobs = commit_both _ (c.write_blocks.ensures.table ∙ c.requires.table) _ _ c.write.ensures.jobs in
-    let size : length c.put_commit.result ≡ 26 = ap (λ (raw : List ℕ). length raw) c.put_commit.ensures ∙ commit_size c.next_commit-commit.result c.next_commit-commit.ensures.size in
+    let size : length c.put_commit.result ≡ commit_length_2 = ap (λ (raw : List ℕ). length raw) c.put_commit.ensures ∙ commit_size c.next_commit-commit.result in
     let pages = ap record_pages size in
     let written = written_pages c.args.config.now c.args.current.now c.next_commit-commit.result _ (bytes_at c.of-blocks.result) c.args.state.now c.next_commit-commit.ensures c.of-blocks.ensures in
     let limit = limit_of_used c.args.config.now c.args.current.now c.next_commit-commit.result most in
@@ -114,7 +116,7 @@ returns-in-Ok-clause-spends g c = λ most settled.
 pub returns-in-Err-clause-spends : goal.returns-in-Err-clause-spends
 returns-in-Err-clause-spends g c = λ most settled.
     let jobs = commit_both _ (c.write_blocks.ensures.table ∙ c.requires.table) _ _ c.write.ensures.jobs in
-    let size : length c.put_commit.result ≡ 26 = ap (λ (raw : List ℕ). length raw) c.put_commit.ensures ∙ commit_size c.next_commit-commit.result c.next_commit-commit.ensures.size in
+    let size : length c.put_commit.result ≡ commit_length_2 = ap (λ (raw : List ℕ). length raw) c.put_commit.ensures ∙ commit_size c.next_commit-commit.result in
     let pages = ap record_pages size in
     let written = written_pages c.args.config.now c.args.current.now c.next_commit-commit.result _ (bytes_at c.of-blocks.result) c.args.state.now c.next_commit-commit.ensures c.of-blocks.ensures in
     let limit = limit_of_used c.args.config.now c.args.current.now c.next_commit-commit.result most in
@@ -130,3 +132,8 @@ returns-in_err-write_blocks-clause-spends g c = λ most settled.
     let limit = limit_of_used c.args.config.now c.args.current.now c.next_commit-commit.result most in
     let times = add-mul (length (used_ids c.args.config.now)) 2 most in
     spends_less most (driver_of c.args.nvm.now) (driver_of c.write_blocks.new.nvm) _ _ _ _ (omega (arith, written)) (omega (arith, limit, times)) (c.write_blocks.ensures.spends most settled)
+
+pub returns-in-Ok-clause-rewritten : goal.returns-in-Ok-clause-rewritten
+returns-in-Ok-clause-rewritten g c =
+    let gives = commit_both _ (c.write_blocks.ensures.table ∙ c.requires.table) _ _ c.write.ensures.gives in
+    (taken c.write.result c.in-Ok.is gives.first ∙ ap bytes c.put_commit.ensures, taken c.write.result c.in-Ok.is gives.second ∙ ap bytes c.put_commit.ensures)

@@ -15,8 +15,9 @@ pub returns-then-is_written-clause-within : goal.returns-then-is_written-clause-
 returns-then-is_written-clause-within g c =
     let written = sym c.is_written.ensures ∙ c.if-is_written.true in
     let used = used_of c.args.config.now c.args.current.now c.args.next.now c.args.id written in
-    let index = index_in c.args.next.now c.args.id in
-    let own = own_part c.args.config.now c.args.id index used (c.requires.moves c.args.id written) in
+    let index = c.index_of.result in
+    let moves = c.requires.moves c.args.id written in
+    let own = own_part c.args.config.now c.args.id index used (omega (arith, moves, c.index_of.ensures)) in
     let pages = ap record_pages (ap (λ (raw : List ℕ). length raw) c.get.ensures ∙ c.requires.sizes c.args.id used) in
     given_within c.args.config.now (driver_of c.args.nvm.now) (driver_of c.write_block.new.nvm) (number_of c.args.id index) _ _ c.write_block.result c.write_block.ensures.gives
     (omega (arith, own, pages))

@@ -11,35 +11,35 @@ pub repair-requires-clause-redundant : goal.repair-requires-clause-redundant
 repair-requires-clause-redundant g c = commit_twice _ c.requires.table
 
 pub repair-requires-clause-least : goal.repair-requires-clause-least
-repair-requires-clause-least g c = let size = bytes_of_commit c.args.config.now c.args.bytes.now _ (sym c.get_commit.ensures ∙ c.in-Some.is) in omega (arith, size)
+repair-requires-clause-least g c = let size = bytes_of_commit c.args.config.now c.args.bytes.now _ (sym c.get_commit.ensures ∙ c.in-Some.is) in size.0
 
 pub repair-requires-clause-fits : goal.repair-requires-clause-fits
-repair-requires-clause-fits g c = let size = bytes_of_commit c.args.config.now c.args.bytes.now _ (sym c.get_commit.ensures ∙ c.in-Some.is) in commit_fits _ c.requires.table _ (omega (arith, size))
+repair-requires-clause-fits g c = let size = bytes_of_commit c.args.config.now c.args.bytes.now _ (sym c.get_commit.ensures ∙ c.in-Some.is) in commit_fits _ c.requires.table _ size.1
 
 pub returns-in-Ok-clause-started : goal.returns-in-Ok-clause-started
-returns-in-Ok-clause-started g c = λ h holds.
+returns-in-Ok-clause-started g c = λ h mark holds.
     let before = (driver_of c.args.nvm.now).value in
     let after = (driver_of c.repair.new.self).value in
     let read = sym c.get_commit.ensures ∙ c.in-Some.is in
-    let within = copy_within c.args.config.now before after c.args.bytes.now c.args.copy c.requires.least c.requires.most (bytes_of_commit c.args.config.now c.args.bytes.now _ read) c.repair.ensures.gives.either c.repair.ensures.gives.others in
+    let within = copy_within c.args.config.now before after c.args.bytes.now c.args.copy c.requires.least c.requires.most (bytes_of_commit c.args.config.now c.args.bytes.now _ read).1 c.repair.ensures.gives.either c.repair.ensures.gives.others in
     repaired c.args.config.now before after (but_for_copy before after c.args.copy c.requires.least c.requires.most c.repair.ensures.gives.others) (borne_stays c.args.config.now before after within holds.excess)
-    c.args.bytes.now c.in-Some.commit h read holds c.in-Ok.ensures.first c.in-Ok.ensures.second
+    c.args.bytes.now c.in-Some.commit h mark read holds c.in-Ok.ensures.first c.in-Ok.ensures.second
 
 pub returns-in-Ok-clause-within : goal.returns-in-Ok-clause-within
 returns-in-Ok-clause-within g c =
     copy_within c.args.config.now (driver_of c.args.nvm.now).value (driver_of c.repair.new.self).value c.args.bytes.now c.args.copy c.requires.least c.requires.most
-    (bytes_of_commit c.args.config.now c.args.bytes.now _ (sym c.get_commit.ensures ∙ c.in-Some.is)) c.repair.ensures.gives.either c.repair.ensures.gives.others
+    (bytes_of_commit c.args.config.now c.args.bytes.now _ (sym c.get_commit.ensures ∙ c.in-Some.is)).1 c.repair.ensures.gives.either c.repair.ensures.gives.others
 
 pub returns-in-Err-clause-within : goal.returns-in-Err-clause-within
 returns-in-Err-clause-within g c =
     copy_within c.args.config.now (driver_of c.args.nvm.now).value (driver_of c.repair.new.self).value c.args.bytes.now c.args.copy c.requires.least c.requires.most
-    (bytes_of_commit c.args.config.now c.args.bytes.now _ (sym c.get_commit.ensures ∙ c.in-Some.is)) c.repair.ensures.gives.either c.repair.ensures.gives.others
+    (bytes_of_commit c.args.config.now c.args.bytes.now _ (sym c.get_commit.ensures ∙ c.in-Some.is)).1 c.repair.ensures.gives.either c.repair.ensures.gives.others
 
 pub returns-in-Err-clause-writes : goal.returns-in-Err-clause-writes
 returns-in-Err-clause-writes g c = λ h holds.
     let size = bytes_of_commit c.args.config.now c.args.bytes.now _ (sym c.get_commit.ensures ∙ c.in-Some.is) in
     writes_as (driver_of c.args.nvm.now) (driver_of c.repair.new.self) c.in-Err.fault
-    (one_write (driver_of c.args.nvm.now) (driver_of c.repair.new.self) (Err c.in-Err.fault) c.in-Err.ensures.calls c.in-Err.ensures.three _ _ _ (omega (arith, size)) c.in-Err.ensures.gives)
+    (one_write (driver_of c.args.nvm.now) (driver_of c.repair.new.self) (Err c.in-Err.fault) c.in-Err.ensures.calls c.in-Err.ensures.three _ _ _ (let most = size.1 in omega (arith, most)) c.in-Err.ensures.gives)
 
 pub returns-in-None-clause-writes : goal.returns-in-None-clause-writes
 returns-in-None-clause-writes g c = λ h holds.

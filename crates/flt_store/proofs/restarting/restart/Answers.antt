@@ -4,7 +4,7 @@ use Rattle.std.proofs.lemmas.List.{length-take-le}
 use Rattle.flt_nvm.specs.Driver.{driver_of}
 use Rattle.flt_store.proofs.TableUse.{commit_index, commit_both}
 use Rattle.flt_store.proofs.Causes.{writes_on, writes_as}
-use Rattle.flt_store.proofs.Repairing.{sound_kept, both_old, no_commit, not_invalid, but_for_copy}
+use Rattle.flt_store.proofs.Repairing.{sound_kept, mark_stays, both_old, no_commit, not_invalid, but_for_copy}
 use Rattle.flt_store.proofs.Copies.{copy_read, at_of, bytes_short, copy_range, held_at, some_holds, started_by, tried_by, missing_read, invalid_read, of_first, none_of_first}
 use Rattle.flt_store.proofs.Started.{started_kept}
 use Rattle.flt_store.proofs.Dark.{err_as, unrestarted_from, unmended_at}
@@ -50,7 +50,8 @@ returns-in-Ok-clause-started g c = λ h s sound mark.
     let raw = take c.in-Ok-Bytes.length c.read.new.out in
     let found = copy_read (driver_of c.args.nvm.now) (driver_of c.read.new.self) c.in-Ok-Bytes.length c.in-Ok-Bytes.copy _ c.read.new.out got in
     let at = at_of (driver_of c.args.nvm.now) (driver_of c.read.new.self) raw c.in-Ok-Bytes.copy found in
-    started_by c.args.config.now (driver_of c.args.nvm.now) (driver_of c.read.new.self) raw c.in-Ok-Bytes.copy c.read.ensures.reads.values at h s sound (driver_of c.repair_by.new.nvm) c.in-Ok.commit found c.repair_by.ensures.follows.counts c.in-Ok.ensures.started
+    started_by c.args.config.now (driver_of c.args.nvm.now) (driver_of c.read.new.self) raw c.in-Ok-Bytes.copy c.read.ensures.reads.values at h s sound (driver_of c.repair_by.new.nvm) c.in-Ok.commit found c.repair_by.ensures.follows.counts
+    (λ g holds. c.in-Ok.ensures.started g (mark_stays c.args.config.now (driver_of c.args.nvm.now).value (driver_of c.read.new.self).value c.read.ensures.reads.values mark) holds)
 
 pub returns-in-Ok-clause-kept : goal.returns-in-Ok-clause-kept
 returns-in-Ok-clause-kept g c = λ number first second.

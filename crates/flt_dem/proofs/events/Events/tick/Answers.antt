@@ -8,7 +8,7 @@ loop-event-preserved g c =
     let inv = c.loop-event.invariant in
     record {
       config = c.tick_one.ensures.config ∙ inv.config;
-      stands = λ life past on signals_are s.
+      stands = λ life past on signals_are conditions_are s.
           partly_next life past (ops.Tick c.args.ticks) c.loop-event.event c.loop-event.self c.tick_one.new.self
-          (c.tick_one.ensures.part life past on signals_are) (inv.stands life past on signals_are s);
+          (c.tick_one.ensures.part life past on signals_are conditions_are) (inv.stands life past on signals_are conditions_are s);
     }

@@ -20,7 +20,7 @@ returns-clause-stands c = λ signals life marks s.
     rw (refill-set items lent event c.passed.new.state c.deref_mut.ensures.value) (record {
       config = inside.config;
       states_stand = state_marked life event Passed signals marks items c.passed.new.state within
-          (c.passed.ensures (event_of life event) (base_of life event) (marks_of event marks) was) inside.states_stand;
+          (c.passed.ensures.marked (event_of life event) (base_of life event) (marks_of event marks) was) inside.states_stand;
       memory_stands = record {
         entries = inside.memory_stands.entries ∙ sym (passed_entries life event signals marks);
         overflow = inside.memory_stands.overflow;

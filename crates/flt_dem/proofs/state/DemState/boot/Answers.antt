@@ -10,4 +10,5 @@ returns-clause-stands c =
       events = subst (λ k. StandsAfter (record { config = k; base = c.args.base.now }) [] c.restore.new.self) outside c.restore.ensures.stands;
       started = none_started;
       signals = c.zero-self-inside.ensures;
+      conditions = c.fulfilled-self-inside.ensures;
     }

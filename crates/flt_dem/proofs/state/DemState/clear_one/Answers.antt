@@ -26,6 +26,7 @@ returns-clause-stands c = λ life past tester bytes clears s.
           (c.clear_one.ensures.part life past tester dtc bytes clears (reaches_own life event)) inside.events;
       started = inside.started;
       signals = inside.signals;
+      conditions = inside.conditions;
     }
 
 pub returns-clause-others : goal.returns-clause-others

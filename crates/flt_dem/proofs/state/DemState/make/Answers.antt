@@ -6,4 +6,5 @@ returns-clause-stands c = record {
   events = c.new.ensures.stands;
   started = none_started;
   signals = c.zero.ensures;
+  conditions = c.fulfilled.ensures;
 }

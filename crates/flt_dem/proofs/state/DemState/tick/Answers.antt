@@ -1,5 +1,6 @@
-use Rattle.std.proofs.Common.{◌∙◌, cond, Some, None, refl, sym, ap}
+use Rattle.std.proofs.Common.{◌∙◌, not, ◌&&◌, cond, Some, None, refl, sym, ap}
 use Rattle.flt_model.specs.Debounce.{Ticked}
+use Rattle.flt_model.specs.Happening.{is_enabled}
 use Rattle.flt_model.specs.Session.{is_setting_off}
 use Rattle.flt_model.specs.declared.call.Op.TheVariants as ops
 use Rattle.flt_dem.specs.Manager.{events_of}
@@ -12,7 +13,8 @@ returns-else-setting-clause-stands g c = λ life past setting s.
     let off = off_where (is_setting_off past) (sym setting ∙ c.if-setting.false) in
     record {
       events = stands_none life past (ops.Tick c.args.ticks) (events_of c.args.self.now) (λ marks. refl)
-          (λ event within. ap (λ b. cond b None (Some (Ticked c.args.ticks))) off) s.events;
+          (λ event within. ap (λ b. cond (not b && is_enabled life event past) (Some (Ticked c.args.ticks)) None) off) s.events;
       started = s.started;
       signals = s.signals;
+      conditions = s.conditions;
     }

@@ -1,6 +1,6 @@
 use Rattle.std.proofs.Common.{true}
 use Rattle.flt_fee.specs.Fee.{state_by}
-use Rattle.flt_fee.proofs.Composed.{calls_after}
+use Rattle.flt_flash.proofs.CallsInARow.{calls_after}
 use Rattle.flt_fee.proofs.Mounting.{stuck_on, reading_follows}
 use Rattle.flt_fee.proofs.fee.Fee.look.Goals as goal
 

@@ -5,7 +5,7 @@ use Rattle.flt_fee.specs.declared.fee.Fee.{Fee}
 use Rattle.flt_fee.specs.Costs.{Stores, UnlessFailed}
 use Rattle.flt_fee.specs.Fee.{state_by}
 use Rattle.flt_fee.specs.Refusal.{AnswersBy}
-use Rattle.flt_fee.proofs.Composed.{calls_after}
+use Rattle.flt_flash.proofs.CallsInARow.{calls_after}
 use Rattle.flt_fee.proofs.Costing.{put_costs, store_costs, unless}
 use Rattle.flt_fee.proofs.Refusing.{past_is}
 use Rattle.flt_fee.proofs.Putting.{same_refusal}

@@ -6,7 +6,7 @@ use Rattle.flt_sector.specs.Blocks.{block_value}
 use Rattle.flt_fee.specs.declared.fee.Fee.{Fee}
 use Rattle.flt_fee.specs.Costs.{SpendsAtMost}
 use Rattle.flt_fee.specs.Fee.{state_by}
-use Rattle.flt_fee.proofs.Composed.{calls_after}
+use Rattle.flt_flash.proofs.CallsInARow.{calls_after}
 use Rattle.flt_fee.proofs.Costing.{read_costs}
 use Rattle.flt_fee.specs.Wear.{StaysEven}
 use Rattle.flt_fee.proofs.Wearing.{even_on, unless_fault, used_same}

@@ -159,3 +159,8 @@ returns-in-Err-clause-completed g c = λ h s running number unhindered. save_met
     (λ told. (let stuck = c.in-Err.ensures.sequence h s running (err_as c.in-Err.fault _ told) in
     let spent = g.met.B.Blocks.stuck_is_spent c.settle.new.self.nvm.blocks stuck.0 stuck.1 stuck.2 in
     let left = unhindered.numbers in absurd (cc (spent, left))))
+
+pub returns-in-Ok-clause-rewritten : goal.returns-in-Ok-clause-rewritten
+returns-in-Ok-clause-rewritten g c = λ h s running.
+    let settled = c.in-Ok.ensures.settles h s running in
+    c.save_next.ensures.rewritten settled.chosen settled.ready

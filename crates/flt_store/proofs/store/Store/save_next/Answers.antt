@@ -4,10 +4,12 @@ use Rattle.flt_store.specs.declared.fault.SaveFault.TheVariants.{Flash}
 use Rattle.flt_generation.specs.Form.{block_bytes}
 use Rattle.flt_image.specs.Blocks.{bytes_at}
 use Rattle.flt_store.specs.Store.{driver_of, commit_of, kept_of, numbered}
-use Rattle.flt_store.proofs.Changed.{keeps_from, stand_at_zero, pages_by}
+use Rattle.flt_store.proofs.Changed.{some_same, same_commit, keeps_from, stand_at_zero, pages_by}
 use Rattle.flt_store.proofs.Costs.{spends_less, spends_nothing}
 use Rattle.flt_generation.specs.Successor.{number_in}
+use Rattle.flt_generation.specs.declared.commit.Commit.{Commit}
 use Rattle.flt_store.specs.Started.{IsStarted}
+use Rattle.flt_store.specs.Writing.{AreCopiesOf}
 use Rattle.flt_store.proofs.Started.{sound_started}
 use Rattle.flt_store.proofs.Started.{numbered as number_of_started}
 use Rattle.flt_store.proofs.Running.{served_on}
@@ -75,3 +77,9 @@ pub returns-in-Ok-clause-first : goal.returns-in-Ok-clause-first
 returns-in-Ok-clause-first g c = λ h ready zero.
     stand_at_zero c.args.config.now (driver_of c.args.self.now).value (driver_beneath c.write_generation.new.nvm).value (commit_of c.args.self.now) (kept_of c.args.self.now) (bytes_at c.in-Ok.field-0.saved) c.in-Ok.field-0.commit h _
     ready.started zero (c.in-Ok.ensures.done h ready.started ready.known) c.in-Ok.ensures.next
+
+pub returns-in-Ok-clause-rewritten : goal.returns-in-Ok-clause-rewritten
+returns-in-Ok-clause-rewritten g c = λ h ready commit has.
+    let after = (driver_beneath c.write_generation.new.nvm).value in
+    let same = some_same c.in-Ok.field-0.commit commit (same_commit c.args.config.now after (Some c.in-Ok.field-0.commit) _ (c.in-Ok.ensures.done h ready.started ready.known) commit has) in
+    subst (λ (found : Commit). AreCopiesOf found after) same c.in-Ok.ensures.rewritten

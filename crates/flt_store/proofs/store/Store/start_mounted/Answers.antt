@@ -1,8 +1,14 @@
 use Rattle.std.proofs.Common.{◌≡◌, inl, inr, Ok, Err, refl, sym, ◌∙◌, subst, ap, arith}
 use Rattle.flt_flash.proofs.CallsInARow.{more_calls}
+use Rattle.std.specs.Prelude.{◌↔◌, IsTrue}
+use Rattle.flt_flash.specs.Content.{Content}
+use Rattle.flt_generation.specs.declared.mark.Mark.{Mark}
+use Rattle.flt_generation.specs.Layout.{mark_number}
+use Rattle.flt_generation.specs.Form.{mark_of}
 use Rattle.flt_nvm.specs.Driver.{driver_of as driver_beneath}
 use Rattle.flt_generation.specs.Holding.{Generation}
-use Rattle.flt_restore.specs.Restored.{generation, IsJudged, Refuses}
+use Rattle.flt_restore.specs.Restored.{generation, IsJudged, IsMarkDue, Refuses}
+use Rattle.flt_restore.proofs.Judged.{judged_of}
 use Rattle.flt_store.specs.Dark.{IsOfBlocks}
 use Rattle.flt_store.specs.Start.{RefusedFor}
 use Rattle.flt_store.specs.Started.{IsStarted}
@@ -12,7 +18,7 @@ use Rattle.flt_store.proofs.Started.{sound_started}
 use Rattle.flt_store.proofs.Started.{numbered as number_of_started}
 use Rattle.flt_store.proofs.Repairing.{sound_kept, both_old}
 use Rattle.flt_store.proofs.Running.{served_on}
-use Rattle.flt_store.proofs.Beginning.{begins_of, restored_fits, judged_of, judged_in, same_generation, not_spent}
+use Rattle.flt_store.proofs.Beginning.{begins_of, restored_fits, judged_in, same_generation, not_spent}
 use Rattle.flt_store.proofs.Faults.{refused_by_reading, refused_by_writing}
 use Rattle.flt_restore.specs.declared.fault.StartFault.TheVariants.{Flash, SequenceSpent}
 use Rattle.flt_store.specs.Start.{told_of_write}
@@ -20,24 +26,30 @@ use Rattle.flt_store.proofs.Dark.{err_as, not_by_write, unbegun_from, was_flash_
 use Rattle.flt_store.proofs.OutOfNumbers.{begun_stuck_from, was_stuck}
 use Rattle.flt_store.proofs.store.Store.start_mounted.Goals as goal
 
+pub begin_by-requires-clause-due : goal.begin_by-requires-clause-due
+begin_by-requires-clause-due g c =
+    let after = driver_beneath c.restore.new.nvm in
+    subst (λ (mark : Mark). IsTrue c.in-Ok.found.is_mark_due ↔ IsMarkDue mark (after.value mark_number)) (sym c.mark_of-mark.ensures.value)
+    (subst (λ (content : Content). IsTrue c.in-Ok.found.is_mark_due ↔ IsMarkDue (mark_of c.args.config.now) content) (sym (c.restore.ensures.values mark_number)) c.in-Ok.ensures.mark)
+
 pub returns-in-Ok-begin_by-clause-started : goal.returns-in-Ok-begin_by-clause-started
 returns-in-Ok-begin_by-clause-started g c =
     let first = driver_of c.args.self.now in
     let second = driver_beneath c.restore.new.nvm in
     let third = driver_beneath c.begin_by.new.nvm in
     let restored = c.in-Ok.ensures.restored in
-    let d = generation c.in-Ok.found c.restore.new.out in
-    let begins = begins_of c.args.config.now c.mark_of-mark.ensures.given first second c.in-Ok.found c.restore.new.out c.restore.ensures.values restored.restored in
+    let d = generation c.in-Ok.found.commit c.restore.new.out in
+    let begins = begins_of c.args.config.now c.mark_of-mark.ensures.given first second c.in-Ok.found.commit c.restore.new.out c.restore.ensures.values restored.restored in
     let started = c.in-Ok-begin_by.ensures.started d begins in
     let number = c.number_in-generation.result in
     let is = number_of_started c.args.config.now third.value c.in-Ok-begin_by.commit d started.names ∙ sym c.number_in-generation.ensures in
-    let same = same_generation c.in-Ok.found c.restore.new.out number is in
+    let same = same_generation c.in-Ok.found.commit c.restore.new.out number is in
     let now = subst (λ (h : Generation). IsStarted c.args.config.now third.value c.in-Ok-begin_by.commit h) same started in
     let follows = more_calls first second third c.restore.ensures.follows c.begin_by.ensures.follows in
     record {
       undamaged = g.met.B.Blocks.mounted_is_sound c.args.self.now.nvm.blocks c.requires.mounted;
       judged = subst (λ (h : Generation). IsJudged c.args.config.now first third (Ok h)) same
-          (judged_in c.args.config.now first first second third (Ok d) (λ n. refl) (omega arith) c.begin_by.ensures.follows.counts (judged_of c.args.config.now first second c.in-Ok.found c.restore.new.out restored.restored));
+          (judged_in c.args.config.now first first second third (Ok d) (λ n. refl) (omega arith) c.begin_by.ensures.follows.counts (judged_of c.args.config.now first second c.in-Ok.found.commit c.restore.new.out restored.restored));
       usable = not_spent first second c.restore.ensures.follows restored.usable;
       running = record {
         served = served_on c.args.config.now first third follows (record { given = c.mark_of-mark.ensures.given; room = c.requires.room; mounted = c.requires.mounted });
@@ -55,10 +67,10 @@ returns-in-Err-begin_by-clause-refused g c =
     let second = driver_beneath c.restore.new.nvm in
     let third = driver_beneath c.begin_by.new.nvm in
     let restored = c.in-Ok.ensures.restored in
-    let d = generation c.in-Ok.found c.restore.new.out in
-    let begins = begins_of c.args.config.now c.mark_of-mark.ensures.given first second c.in-Ok.found c.restore.new.out c.restore.ensures.values restored.restored in
+    let d = generation c.in-Ok.found.commit c.restore.new.out in
+    let begins = begins_of c.args.config.now c.mark_of-mark.ensures.given first second c.in-Ok.found.commit c.restore.new.out c.restore.ensures.values restored.restored in
     let writes = writes_on first second third (Err c.in-Err-begin_by.fault) c.restore.ensures.follows (c.in-Err-begin_by.ensures.writes d begins) in
-    let judged = judged_in c.args.config.now first first second third (Ok d) (λ n. refl) (omega arith) c.begin_by.ensures.follows.counts (judged_of c.args.config.now first second c.in-Ok.found c.restore.new.out restored.restored) in
+    let judged = judged_in c.args.config.now first first second third (Ok d) (λ n. refl) (omega arith) c.begin_by.ensures.follows.counts (judged_of c.args.config.now first second c.in-Ok.found.commit c.restore.new.out restored.restored) in
     subst (RefusedFor c.args.config.now c.args.self.now _) (sym c.write_fault.ensures)
     (refused_by_writing c.args.config.now c.args.self.now _ c.in-Err-begin_by.fault d (record { undamaged = g.met.B.Blocks.mounted_is_sound c.args.self.now.nvm.blocks c.requires.mounted; is = judged })
     (λ is. (let stuck = writes.stuck (ap Err is) in g.met.B.Blocks.stuck_is_spent c.begin_by.new.nvm.blocks stuck.0 stuck.1 stuck.2))
@@ -72,8 +84,8 @@ pub returns-in-Err-begin_by-clause-left : goal.returns-in-Err-begin_by-clause-le
 returns-in-Err-begin_by-clause-left g c = λ h s sound.
     let first = driver_of c.args.self.now in
     let second = driver_beneath c.restore.new.nvm in
-    let d = generation c.in-Ok.found c.restore.new.out in
-    let begins = begins_of c.args.config.now c.mark_of-mark.ensures.given first second c.in-Ok.found c.restore.new.out c.restore.ensures.values c.in-Ok.ensures.restored.restored in
+    let d = generation c.in-Ok.found.commit c.restore.new.out in
+    let begins = begins_of c.args.config.now c.mark_of-mark.ensures.given first second c.in-Ok.found.commit c.restore.new.out c.restore.ensures.values c.in-Ok.ensures.restored.restored in
     c.in-Err-begin_by.ensures.tried h s d (sound_kept c.args.config.now first.value second.value h s c.restore.ensures.values sound) begins
 
 pub returns-in-Err-clause-left : goal.returns-in-Err-clause-left
@@ -82,24 +94,24 @@ returns-in-Err-clause-left g c = λ h s sound.
 
 pub of-self-requires : goal.of-self-requires
 of-self-requires g c =
-    restored_fits c.args.config.now c.mark_of-mark.ensures.given (driver_of c.args.self.now) (driver_beneath c.restore.new.nvm) c.in-Ok.found c.restore.new.out c.restore.ensures.values c.in-Ok.ensures.restored.restored
+    restored_fits c.args.config.now c.mark_of-mark.ensures.given (driver_of c.args.self.now) (driver_beneath c.restore.new.nvm) c.in-Ok.found.commit c.restore.new.out c.restore.ensures.values c.in-Ok.ensures.restored.restored
 
 pub returns-in-Ok-begin_by-clause-fits : goal.returns-in-Ok-begin_by-clause-fits
 returns-in-Ok-begin_by-clause-fits g c =
-    restored_fits c.args.config.now c.mark_of-mark.ensures.given (driver_of c.args.self.now) (driver_beneath c.restore.new.nvm) c.in-Ok.found c.restore.new.out c.restore.ensures.values c.in-Ok.ensures.restored.restored
+    restored_fits c.args.config.now c.mark_of-mark.ensures.given (driver_of c.args.self.now) (driver_beneath c.restore.new.nvm) c.in-Ok.found.commit c.restore.new.out c.restore.ensures.values c.in-Ok.ensures.restored.restored
 
 pub returns-in-Err-begin_by-clause-unready : goal.returns-in-Err-begin_by-clause-unready
 returns-in-Err-begin_by-clause-unready g c = λ flash.
     let first = driver_of c.args.self.now in
     let second = driver_beneath c.restore.new.nvm in
     let third = driver_beneath c.begin_by.new.nvm in
-    let d = generation c.in-Ok.found c.restore.new.out in
-    let begins = begins_of c.args.config.now c.mark_of-mark.ensures.given first second c.in-Ok.found c.restore.new.out c.restore.ensures.values c.in-Ok.ensures.restored.restored in
+    let d = generation c.in-Ok.found.commit c.restore.new.out in
+    let begins = begins_of c.args.config.now c.mark_of-mark.ensures.given first second c.in-Ok.found.commit c.restore.new.out c.restore.ensures.values c.in-Ok.ensures.restored.restored in
     let writes = writes_on first second third (Err c.in-Err-begin_by.fault) c.restore.ensures.follows (c.in-Err-begin_by.ensures.writes d begins) in
     let told = c.write_fault.ensures in
     let is : told_of_write c.in-Err-begin_by.fault ≡ Flash = cc (flash, told) in
     let fault_is = was_flash_of_write c.args.config.now c.mark_of-mark.ensures.given first third c.in-Err-begin_by.fault writes c.args.self.now.numbers c.requires.room c.requires.mounted (c.begin_by.ensures.borne d begins) is in
-    inr (unbegun_from first second third c.restore.ensures.follows c.restore.ensures.values (c.in-Err-begin_by.ensures.unbegun d begins (ap Err fault_is)))
+    inr (unbegun_from first second third c.restore.ensures.follows c.restore.ensures.values c.args.config.now (c.in-Err-begin_by.ensures.unbegun d begins (ap Err fault_is)))
 
 pub returns-in-Err-clause-unready : goal.returns-in-Err-clause-unready
 returns-in-Err-clause-unready g c = λ flash. inl (c.in-Err.ensures.unread (err_as c.in-Err.fault _ flash))

@@ -10,16 +10,16 @@ pub read_copy-requires-clause-redundant : goal.read_copy-requires-clause-redunda
 read_copy-requires-clause-redundant g c = commit_twice _ c.requires
 
 pub slice_bounds-repair-end : goal.slice_bounds-repair-end
-slice_bounds-repair-end g c = sym (length-take-le 26 c.read_copy.new.out (omega (arith, c.read_copy.array_long)))
+slice_bounds-repair-end g c = sym (length-take-le 10 c.read_copy.new.out (omega (arith, c.read_copy.array_long)))
 
 pub repair-requires-clause-redundant : goal.repair-requires-clause-redundant
 repair-requires-clause-redundant g c = commit_twice _ (c.read_copy.ensures.table ∙ c.requires)
 
 pub repair-requires-clause-holds : goal.repair-requires-clause-holds
 repair-requires-clause-holds g c =
-    let got = rw c.in-Bytes-eq26-default.is at c.in_ok-read_copy.ensures.got in
-    let size : c.in-Bytes-eq26-default.length ≡ 26 = omega (arith, c.in-Bytes-eq26-default.length-is) in
+    let got = rw c.in-Bytes-eq10-default.is at c.in_ok-read_copy.ensures.got in
+    let size : c.in-Bytes-eq10-default.length ≡ 10 = omega (arith, c.in-Bytes-eq10-default.length-is) in
     c.read_copy.ensures.reads.values 17 ∙ subst (λ (n : ℕ). (driver_of c.args.nvm.now).value 17 ≡ bytes (take n c.read_copy.new.out)) size (content_read _ _ _ _ got.1)
 
 pub repair-requires-clause-fits : goal.repair-requires-clause-fits
-repair-requires-clause-fits g c = commit_fits _ (c.read_copy.ensures.table ∙ c.requires) _ (omega (arith, length-take-le 26 c.read_copy.new.out (omega (arith, c.read_copy.array_long))))
+repair-requires-clause-fits g c = commit_fits _ (c.read_copy.ensures.table ∙ c.requires) _ (omega (arith, length-take-le 10 c.read_copy.new.out (omega (arith, c.read_copy.array_long))))

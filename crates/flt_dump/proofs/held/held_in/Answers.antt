@@ -1,0 +1,41 @@
+use Rattle.std.proofs.Common.{◌≡◌, ◌∙◌, ℕ, List, Option, Some, None, Ok, Err, refl, sym, ap, arith}
+use Rattle.flt_flash.specs.Blocks.{BlocksState}
+use Rattle.flt_flash.specs.Content.{Content}
+use Rattle.flt_sector.specs.Blocks.{block_value, first_fault}
+use Rattle.flt_nvm.specs.Driver.{driver_of}
+use Rattle.flt_whole.specs.Image.{image_blocks, image_damage}
+use Rattle.flt_dump.specs.Copy.{state_of}
+use Rattle.flt_dump.proofs.Holding.{told_damage, told_found, told_fault}
+use Rattle.flt_dump.proofs.held.held_in.Goals as goal
+use Rattle.flt_dump.proofs.held.held_in.Goals.{in-Ok-judge, in-Err-judge}
+
+pub returns-in-Err-Damaged : goal.returns-in-Err-Damaged
+returns-in-Err-Damaged c =
+    let image = (state_of c.args.copy).image in
+    let made = ap (λ (b : BlocksState). b.damage) c.in-Ok.ensures.made in
+    let at : image_damage c.args.config.now image ≡ Some (c.in-Err-Damaged.sector, c.in-Err-Damaged.page) =
+    sym (λ i. first_fault (c.config.ensures.value i).pages (c.in_ok-numbers.ensures i) image) ∙ sym made ∙ (c.in-Err-Damaged.ensures.calls.damaged c.in-Err-Damaged.sector c.in-Err-Damaged.page (ap Err c.in-Err-Damaged.field-0-is)).0 in
+    told_damage c.args.config.now image c.in-Err-Damaged.sector c.in-Err-Damaged.page at
+
+pub returns : goal.returns
+returns c =
+    let config = c.args.config.now in
+    let image = (state_of c.args.copy).image in
+    let before = driver_of c.make-nvm.result in
+    let after = driver_of c.judge.new.nvm in
+    let fine : image_damage config image ≡ None =
+    sym (λ i. first_fault (c.config.ensures.value i).pages (c.in_ok-numbers.ensures i) image)
+    ∙ sym (ap (λ (b : BlocksState). b.damage) c.in-Ok.ensures.made) ∙ c.in-Ok-mount.ensures.calls.refuses_damage in
+    let same : (number : ℕ) → before.value number ≡ image_blocks config image number = λ number.
+    ap (λ (b : BlocksState). b.value number) c.make-nvm.ensures.driver ∙ c.in-Ok-mount.ensures.values number
+    ∙ ap (λ (b : BlocksState). b.value number) c.in-Ok.ensures.made
+    ∙ (λ i. block_value (c.config.ensures.value i).pages (c.in_ok-numbers.ensures i) image number) in
+    elim c.match-judge.branch [
+      | in-Ok-judge w ↦
+          w.result-is ∙ ap Ok w.number_of.ensures
+          ∙ told_found config image before after fine same (λ rose. omega (arith, rose)) w.in-Ok-judge.found.commit c.judge.new.out w.in-Ok-judge.ensures.restored
+      | in-Err-judge w ↦
+          w.result-is
+          ∙ told_fault config image before after fine same (λ rose. omega (arith, rose)) w.in-Err-judge.fault (w.in-Err-judge.ensures.refused w.in-Err-judge.fault refl)
+          (λ spent. w.in-Err-judge.ensures.unspent (ap Err spent))
+    ]

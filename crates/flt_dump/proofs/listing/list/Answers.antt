@@ -1,0 +1,38 @@
+use Rattle.std.proofs.Common.{◌≡◌, ◌∙◌, ◌++◌, ℕ, List, [], Option, Ok, ap, sym, subst}
+use Rattle.flt_flash.specs.Image.{sector_at}
+use Rattle.flt_generation.specs.Layout.{numbers}
+use Rattle.flt_pages.specs.Told.{TellsOrFails}
+use Rattle.flt_sector.specs.Blocks.{current}
+use Rattle.flt_sector.specs.Log.{LogFrom, log}
+use Rattle.flt_fee.specs.Place.{current_of, told_current}
+use Rattle.flt_fee.specs.declared.place.CurrentSector.{CurrentSector}
+use Rattle.flt_dump.specs.Copy.{state_of}
+use Rattle.flt_dump.specs.Listed.{IsListed}
+use Rattle.flt_dump.specs.Listing.{sector_line}
+use Rattle.flt_dump.proofs.Listings.{lists_either}
+use Rattle.flt_dump.proofs.listing.list.Goals as goal
+
+pub returns-then-is_whole-clause-lines : goal.returns-then-is_whole-clause-lines
+returns-then-is_whole-clause-lines c =
+    let image = (state_of c.args.copy.now).image in
+    let at = c.in-Ok-Some.at in
+    let tells : TellsOrFails {T = Option CurrentSector} _ (told_current (current c.args.used image)) =
+    subst (λ (o : Option CurrentSector). TellsOrFails {T = Option CurrentSector} (Ok o) (told_current (current c.args.used image))) c.in-Ok-Some.field-0-is c.in-Ok-Some.ensures.current in
+    let before : c.put_sector.new.out.items ≡ sector_line (current_of at) =
+    c.in_ok-put_sector-in-Ok-Some.ensures ∙ ap (λ (l : List ℕ). l ++ sector_line (current_of at)) c.new-out.ensures.items in
+    let listed = subst (λ (l : LogFrom). IsListed c.in_ok-is_whole-in-Ok-Some.is_whole l c.put_sector.new.out.items c.put_log.new.out.items)
+    (λ i. log c.args.used ((c.in_ok-numbers.ensures ∙ c.in_ok-fee_numbers.ensures) i) (sector_at (c.in-Ok-Some.ensures.reads.image i) at.sector)) c.in_ok-is_whole-in-Ok-Some.ensures.listed in
+    (lists_either c.args.used numbers image at tells c.in_ok-is_whole-in-Ok-Some.is_whole c.put_sector.new.out.items c.put_log.new.out.items before listed).0 c.if-is_whole.true
+
+pub returns-clause-lines : goal.returns-clause-lines
+returns-clause-lines c =
+    let image = (state_of c.args.copy.now).image in
+    let at = c.in-Ok-Some.at in
+    let tells : TellsOrFails {T = Option CurrentSector} _ (told_current (current c.args.used image)) =
+    subst (λ (o : Option CurrentSector). TellsOrFails {T = Option CurrentSector} (Ok o) (told_current (current c.args.used image))) c.in-Ok-Some.field-0-is c.in-Ok-Some.ensures.current in
+    let before : c.put_sector.new.out.items ≡ sector_line (current_of at) =
+    c.in_ok-put_sector-in-Ok-Some.ensures ∙ ap (λ (l : List ℕ). l ++ sector_line (current_of at)) c.new-out.ensures.items in
+    let listed = subst (λ (l : LogFrom). IsListed c.in_ok-is_whole-in-Ok-Some.is_whole l c.put_sector.new.out.items c.put_log.new.out.items)
+    (λ i. log c.args.used ((c.in_ok-numbers.ensures ∙ c.in_ok-fee_numbers.ensures) i) (sector_at (c.in-Ok-Some.ensures.reads.image i) at.sector)) c.in_ok-is_whole-in-Ok-Some.ensures.listed in
+    c.new.ensures.items
+    ∙ (lists_either c.args.used numbers image at tells c.in_ok-is_whole-in-Ok-Some.is_whole c.put_sector.new.out.items c.put_log.new.out.items before listed).1 c.if-is_whole.false

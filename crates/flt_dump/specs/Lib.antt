@@ -1,0 +1,11 @@
+pub mod Quiet
+pub mod Copy
+pub mod Shape
+pub mod Dump
+pub mod Lines
+pub mod Listing
+pub mod Listed
+pub mod Pages
+pub mod Reads
+pub mod Held
+pub mod Examples

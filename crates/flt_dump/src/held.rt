@@ -1,0 +1,80 @@
+// What the image of a dump holds.
+ghost use Rattle.std.specs.Prelude.{◌≡◌, ◌≤◌, IfOk};
+ghost use Rattle.flt_whole.specs.Image.{image_held};
+ghost use Rattle.flt_dump.specs.Copy.{state_of};
+ghost use Rattle.flt_dump.specs.Held.{SeesInto, number_of, number_told};
+ghost use Rattle.flt_dump.specs.Reads.{content_of};
+
+use crate::copy::ImageCopy;
+use crate::dump::Dump;
+use crate::listing::list;
+use flt_config::{ValidConfig, initial};
+use flt_fee::Fee;
+use flt_flash::{BlockFault, Blocks};
+use flt_generation::Place;
+use flt_image::{block_table, fee_numbers, laws};
+use flt_nvm::Nvm;
+use flt_restore::{CommitCopy, StartFault, judge};
+use std::alloc::{AllocError, Global};
+
+/// What an image holds, and what it says line by line.
+#[derive(Drop)]
+pub struct Insight {
+    /// The number of the generation that it holds, or why it holds none of the configuration: `Damaged` or `OtherConfig`.
+    pub held: Result<u32, StartFault>,
+    /// Lines that each end: the current sector with its sequence number and then the items of its log, or that no sector is valid; none
+    /// where a page is at fault.
+    pub listing: Vec<u8>,
+}
+
+/// The number of the generation of a commit, 0 where there is none.
+fn number_of(found: &Option<CommitCopy>) -> u32
+    ensures { result ≡ number_of found.now }
+{
+    match found {
+        Some(found) => found.commit.generation,
+        None => 0,
+    }
+}
+
+/// What an image holds under a configuration.
+fn held_in(
+    alloc: Global,
+    copy: ImageCopy,
+    config: &ValidConfig,
+) -> Result<Result<u32, StartFault>, AllocError>
+    requires { config.now.pages ≤ (state_of copy).pages }
+    ensures { IfOk result (λ held. held ≡ number_told config.now (image_held config.now (state_of copy).image)) }
+{
+    let numbers = fee_numbers(alloc)?;
+    let table = block_table(alloc)?;
+    laws::numbers_are_distinct();
+    laws::numbers_serve_table();
+    let Ok(mut driver) = Fee::make(alloc, copy, config.config().pages, numbers) else {
+        return Err(AllocError);
+    };
+    match driver.mount() {
+        Ok(()) => {}
+        Err(BlockFault::Damaged { sector, page }) => {
+            return Ok(Err(StartFault::Damaged(Place::Page { sector, page })));
+        }
+        Err(_) => unreachable!(),
+    }
+    let mut nvm = Nvm::make(driver, table);
+    let mut state = initial(config);
+    Ok(match judge(&mut nvm, config, &mut state) {
+        Ok(found) => Ok(number_of(&found.commit)),
+        Err(fault) => Err(fault),
+    })
+}
+
+/// Looks into the image of a dump: what it holds, whatever its sequence number, and its lines. The error is want of memory.
+pub fn look_into(alloc: Global, dump: Dump) -> Result<Insight, AllocError>
+    ensures { IfOk result (SeesInto (content_of dump)) }
+{
+    let Dump { config, pages } = dump;
+    let mut copy = ImageCopy::of(alloc, pages)?;
+    let listing = list(alloc, &mut copy, config.config().pages)?;
+    let held = held_in(alloc, copy, &config)?;
+    Ok(Insight { held, listing })
+}

@@ -1,0 +1,10 @@
+pub mod GateBytes
+pub mod Scanned
+pub mod Judging
+pub mod Units
+pub mod Listed
+pub mod Device
+pub mod Filling
+pub mod Writing
+pub mod Standing
+pub mod Costing

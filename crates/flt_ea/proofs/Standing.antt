@@ -1,0 +1,258 @@
+-- A driver that is not stale, at the position of one of its blocks.
+use Rattle.std.proofs.Common.{◌≡◌, ◌≢◌, ◌⊎◌, inl, inr, ⊎_elim, ◌+◌, ◌*◌, ◌^◌, ◌<◌, ◌≤◌, ℕ, Bool, true, false, List, [], get_or, set, length, length-set, get_or-set_same, get_or-set_other, Option, Some, None, Result, Ok, Err, refl, sym, ◌∙◌, ap, subst, arith}
+use Rattle.std.specs.Prelude.{OnOk, IsErrOf, if◌then◌else◌}
+use Rattle.std.specs.List.{AllPairs, list_any}
+use Rattle.std.proofs.lemmas.Bool.{cases_eq}
+use Rattle.std.proofs.lemmas.List.{get_or_read}
+use Rattle.flt_flash.specs.Content.{Content, missing, invalid, bytes}
+use Rattle.flt_flash.specs.Blocks.{byte_pages}
+use Rattle.flt_flash.specs.Image.{sector_at}
+use Rattle.flt_flash.specs.State.{FlashState, MakesOperations, HasRisenBy}
+use Rattle.flt_flash.specs.Calls.{Follows, Calls, Changes, found_of}
+use Rattle.flt_flash.specs.declared.blocks.BlockFault.{BlockFault}
+use Rattle.flt_flash.specs.declared.blocks.BlockFault.TheVariants.{Flash, Damaged, SequenceSpent}
+use Rattle.flt_flash.specs.declared.blocks.Found.TheVariants.{Bytes}
+use Rattle.flt_flash.specs.declared.flash.FlashFailed.{FlashFailed}
+use Rattle.flt_code.specs.Spoiled.{is_spoiled}
+use Rattle.flt_record.specs.LogHolds.{asked_of}
+use Rattle.flt_record.specs.Record.{KeptApart}
+use Rattle.flt_ea.specs.State.{HasUnits}
+use Rattle.flt_code.specs.Word.{is_length}
+use Rattle.flt_ea.specs.Gate.{IsGate, gate_bytes, gate_of}
+use Rattle.flt_ea.specs.Image.{gate_unit, gate_at, bytes_behind, content_of, current, gate_in, newer, is_last, next_place, next_sequence, judged, value_in, damage_in, is_spent_in, is_stuck_in, spent_from}
+use Rattle.flt_ea.specs.Scan.{IsTable}
+use Rattle.flt_ea.specs.Mounted.{IsMounted}
+use Rattle.flt_ea.specs.Driver.{state_by}
+use Rattle.flt_ea.specs.Written.{HoldsRecord, RecordLeft, WritesRecord}
+use Rattle.flt_ea.specs.Proper.{current_held}
+use Rattle.flt_ea.specs.Laws.{held_size}
+use Rattle.flt_ea.specs.declared.gate.Gate.{Gate}
+use Rattle.flt_ea.specs.declared.place.Held.{Held}
+use Rattle.flt_ea.proofs.Device.{units_on}
+use Rattle.flt_ea.proofs.Judging.{held_at, place_cases, none_spoiled}
+use Rattle.flt_ea.proofs.Units.{SameAt, IsAt, StaysAt, is_at, other_same, gate_stood, gate_emptied, gate_given, content_given}
+use Rattle.flt_ea.proofs.Listed.{SoundAt, sound_at, sound_all, value_at, stuck_at, same_value, stays_spent, spent_told}
+
+at_zero : (P : ℕ → Type 0) (k : ℕ) → P (0 + k) → P k
+at_zero P k is = subst P (let e : 0 + k ≡ k = omega arith in e) is
+
+from_zero : (P : ℕ → Type 0) (k : ℕ) → P k → P (0 + k)
+from_zero P k is = subst P (let e : k ≡ 0 + k = omega arith in e) is
+
+next_least : (held : Option Held) → 1 ≤ next_sequence held
+next_least None = omega arith
+next_least (Some held) = omega arith
+
+-- The gate that is written next.
+pub is_gate : (gate : Gate) (held : Option Held) → gate.block < 2 ^ 16 → gate.length ≤ 128 → gate.sequence < 2 ^ 32 → gate.sequence ≡ next_sequence held → is_length gate.valid gate.length ≡ true → IsGate gate
+is_gate gate held block size most next kind = record { block = block; size = omega arith; most = most; least = omega (arith, next, next_least held); kind = kind }
+
+-- The table has the current place of a position.
+pub current_read : (numbers : List ℕ) (units : List (List ℕ)) (table : List (Option Held)) (position : ℕ) (found : Option Held) → IsTable (length numbers) units table → position < length numbers → length table ≡ length numbers
+    → found ≡ get_or table position found → current units position ≡ found
+current_read numbers units table position found tells lt sized read = sym (tells position lt) ∙ sym (get_or_read table position found (omega arith) read None)
+
+-- It tells whether some block is spent.
+pub told_spent : (numbers : List ℕ) (units : List (List ℕ)) (table : List (Option Held)) → length table ≡ length numbers → IsTable (length numbers) units table → list_any is_last table ≡ spent_from 0 numbers units
+told_spent numbers units table sized tells = spent_told units 0 numbers table sized (λ k less. from_zero (λ n. get_or table k None ≡ current units n) k (tells k less))
+
+-- A call that leaves an image without a fault, of a driver that has mounted.
+module _ (numbers : List ℕ) (before after : FlashState) (runs : MakesOperations before after) (sound : damage_in numbers before.image ≡ None) (stays_sound : damage_in numbers after.image ≡ None)
+    (spent : is_spent_in numbers before.image ≡ true → is_spent_in numbers after.image ≡ true) (was_stale has_mounted is_stale : Bool) where
+  pub quiet_follows : Follows (state_by numbers was_stale has_mounted before) (state_by numbers is_stale has_mounted after)
+  quiet_follows = record {
+    numbers = refl;
+    room = refl;
+    once_mounted = λ is. is;
+    stays_spent = spent;
+    damage_stays = λ place is. absurd (cc (sound, is));
+    no_new_damage = λ none. stays_sound;
+    counts = runs.counts;
+    operations = omega (arith, runs.operations);
+    erases = runs.erases;
+    bench = runs.bench;
+  }
+
+  pub quiet_calls : {T : Type 0} (result : Result T BlockFault) → (IsErrOf result Flash → HasRisenBy 1 before.faults after.faults)
+      → ((sector page : ℕ) → IsErrOf result (Damaged sector page) → ⊥) → Calls (state_by numbers was_stale has_mounted before) (state_by numbers is_stale has_mounted after) result
+  quiet_calls {T} result cause undamaged = record {
+    follows = quiet_follows;
+    flash = cause;
+    damaged = λ sector page told. absurd (undamaged sector page told);
+    refuses_damage = no_damage result;
+  }
+    where
+      no_damage : (result : Result T BlockFault) → OnOk result (damage_in numbers before.image ≡ None)
+      no_damage (Ok x) = sound
+      no_damage (Err e) = tt
+
+module _ (device : FlashState) (shape : HasUnits device) (numbers : List ℕ) (within : 10 * length numbers ≤ device.pages) (distinct : AllPairs (λ a b. a ≢ b) numbers)
+    (sound : damage_in numbers device.image ≡ None) (position block : ℕ) (lt : position < length numbers) (is : get_or numbers position 0 ≡ block) where
+  abbrev units : List (List ℕ)
+  units = sector_at device.image 0
+
+  pub value_is : (found : Option Held) → current units position ≡ found → value_in numbers device.image block ≡ content_of units position found
+  value_is found here =
+      at_zero (λ n. value_in numbers device.image block ≡ content_of units n (current units n)) position (value_at units 0 numbers block distinct position lt is) ∙ ap (content_of units position) here
+
+  pub stuck_is : (found : Option Held) → current units position ≡ found → is_stuck_in numbers device.image block ≡ is_last found
+  stuck_is found here = at_zero (λ n. is_stuck_in numbers device.image block ≡ is_last (current units n)) position (stuck_at units 0 numbers block distinct position lt is) ∙ ap is_last here
+
+  was : IsAt block units position (current units position)
+  was = is_at block units position (current units position) (subst (λ n. SoundAt n units position) is (at_zero (SoundAt (get_or numbers position 0) units) position (sound_at units 0 numbers sound position lt)))
+
+  -- The gate unit that is written next is not spoiled.
+  pub unspoiled : (found : Option Held) → current units position ≡ found → is_spoiled (get_or units (gate_unit position (next_place found)) []) ≡ false
+  unspoiled found here =
+      let both = none_spoiled block (gate_at units position 0) (gate_at units position 1) (current units position) was.sound in
+      ⊎_elim (λ zero. ap (λ n. is_spoiled (get_or units (gate_unit position n) [])) zero ∙ both.0) (λ one. ap (λ n. is_spoiled (get_or units (gate_unit position n) [])) one ∙ both.1) (place_cases found)
+
+  -- What is found of a valid record.
+  pub valid_found : (held : Held) → current units position ≡ Some held → held.gate.valid ≡ true → Bytes held.gate.length ≡ found_of (value_in numbers device.image block)
+  valid_found held here valid =
+      ap Bytes (sym (held_size device shape position held (omega arith) (current_held units position held here)))
+      ∙ sym (ap found_of (value_is (Some held) here) ∙ ap (λ v. found_of (if v then bytes (bytes_behind units (gate_unit position held.place) held.gate.length) else invalid)) valid)
+
+  pub valid_value : (held : Held) → current units position ≡ Some held → held.gate.valid ≡ true → value_in numbers device.image block ≡ bytes (bytes_behind units (gate_unit position held.place) held.gate.length)
+  valid_value held here valid = value_is (Some held) here ∙ ap (λ v. if v then bytes (bytes_behind units (gate_unit position held.place) held.gate.length) else invalid) valid
+
+  pub invalid_value : (held : Held) → current units position ≡ Some held → held.gate.valid ≡ false → value_in numbers device.image block ≡ invalid
+  invalid_value held here valid = value_is (Some held) here ∙ ap (λ v. if v then bytes (bytes_behind units (gate_unit position held.place) held.gate.length) else invalid) valid
+
+  -- A record is written to the place that is not current.
+  module _ (after : FlashState) (found : Option Held) (here : current units position ≡ found) (left_over : is_last found ≡ false) (new : Gate) (written : List ℕ) (size : new.length ≡ length written) (number : new.block ≡ block)
+      (next : new.sequence ≡ next_sequence found) (read : gate_of (gate_bytes new) ≡ Some new) (result : Result (Unit {0}) FlashFailed)
+      (writes : WritesRecord device after (gate_unit position (next_place found)) new written result) where
+    abbrev unit : ℕ
+    unit = gate_unit position (next_place found)
+
+    abbrev now : List (List ℕ)
+    now = sector_at after.image 0
+
+    now_is : writes.units ≡ now
+    now_is = sym (units_on device after writes.units shape writes.on)
+
+    apart : KeptApart units now unit (unit + 5)
+    apart = subst (λ (p : List (List ℕ)). KeptApart units p unit (unit + 5)) now_is writes.apart
+
+    stood : IsAt block units position found
+    stood = subst (λ (h : Option Held). IsAt block units position h) here was
+
+    -- Every other position is as it was.
+    same : (k : ℕ) → k ≢ position → SameAt units now k
+    same k differ = other_same block position units now found stood apart k differ
+
+    same_current : (k : ℕ) → k ≢ position → current now k ≡ current units k
+    same_current k differ = (λ i. newer (gate_in ((same k differ).first i)) (gate_in ((same k differ).second i)))
+
+    -- Its own has this current place now.
+    module _ (held : Option Held) (at : IsAt block now position held) where
+      sound_each : (k : ℕ) → k < length numbers → SoundAt (get_or numbers k 0) now k
+      sound_each k less = elim (cases_eq k position) [
+        | inl own ↦ subst (λ n. SoundAt (get_or numbers n 0) now n) (sym own) (subst (λ n. SoundAt n now position) (sym is) (at.sound ∙ ap Ok (sym at.current)))
+        | inr other ↦ (
+            (λ i. judged (get_or numbers k 0) ((same k other).first i) ((same k other).second i))
+            ∙ at_zero (SoundAt (get_or numbers k 0) units) k (sound_at units 0 numbers sound k less) ∙ ap Ok (sym (same_current k other)))
+      ]
+
+      sound_now : damage_in numbers after.image ≡ None
+      sound_now = sound_all now 0 numbers (λ k less. from_zero (SoundAt (get_or numbers k 0) now) k (sound_each k less))
+
+      value_now : value_in numbers after.image block ≡ content_of now position held
+      value_now = at_zero (λ n. value_in numbers after.image block ≡ content_of now n (current now n)) position (value_at now 0 numbers block distinct position lt is) ∙ ap (content_of now position) at.current
+
+    others : (other : ℕ) → other ≢ block → value_in numbers after.image other ≡ value_in numbers device.image other
+    others other differ = same_value units now 0 numbers other (λ k less that. from_zero (λ n. content_of now n (current now n) ≡ content_of units n (current units n)) k
+        (same k (λ own. differ (sym that ∙ ap (λ n. get_or numbers n 0) own ∙ is))).content)
+
+    spent : is_spent_in numbers device.image ≡ true → is_spent_in numbers after.image ≡ true
+    spent = stays_spent units now 0 numbers (λ k less. from_zero (λ n. is_last (current units n) ≡ true → is_last (current now n) ≡ true) k (each k))
+      where
+        each : (k : ℕ) → is_last (current units k) ≡ true → is_last (current now k) ≡ true
+        each k last = elim (cases_eq k position) [
+          | inl own ↦ absurd (let no : is_last (current units k) ≡ false = ap (λ n. is_last (current units n)) own ∙ ap is_last here ∙ left_over in cc (no, last))
+          | inr other ↦ ap is_last (same_current k other) ∙ last
+        ]
+
+    pub record Stored : Type 0 where
+      pub held : Option Held
+      pub at : IsAt block now position held
+      pub either : (value_in numbers after.image block ≡ value_in numbers device.image block) ⊎ (value_in numbers after.image block ≡ asked_of new.valid written)
+
+    stays : StaysAt block position units now found stood apart → Stored
+    stays kept = record { held = found; at = kept.is_held; either = inl (value_now found kept.is_held ∙ kept.content ∙ sym (value_is found here)) }
+
+    whole_at : HoldsRecord now unit new written → IsAt block now position (held_at (next_place found) new)
+    whole_at whole = gate_given block position units now found stood apart new written size number next read whole
+
+    whole_value : HoldsRecord now unit new written → value_in numbers after.image block ≡ asked_of new.valid written
+    whole_value whole = value_now (held_at (next_place found) new) (whole_at whole) ∙ content_given block position units now found stood apart new written size number next read whole
+
+    pub stored : Stored
+    stored = by_left (subst (λ (p : List (List ℕ)). RecordLeft units p unit new written) now_is writes.left)
+      where
+        by_left : RecordLeft units now unit new written → Stored
+        by_left (inl as_before) = stays (gate_stood block position units now found stood apart as_before)
+        by_left (inr (inl empty)) = stays (gate_emptied block position units now found stood apart empty)
+        by_left (inr (inr whole)) = record { held = held_at (next_place found) new; at = whole_at whole; either = inr (whole_value whole) }
+
+    pub stored_sound : damage_in numbers after.image ≡ None
+    stored_sound = sound_now stored.held stored.at
+
+    module _ (was_stale has_mounted : Bool) where
+      pub failed_calls : HasRisenBy 1 device.faults after.faults → Calls {T = Unit {0}} (state_by numbers was_stale has_mounted device) (state_by numbers true has_mounted after) (Err Flash)
+      failed_calls cause = quiet_calls numbers device after writes.on.runs sound stored_sound spent was_stale has_mounted true (Err Flash) (λ told. cause) (λ s p told. cc told)
+
+      pub failed_changes : Changes (state_by numbers was_stale has_mounted device) (state_by numbers true has_mounted after) block (asked_of new.valid written) (length written) (Err Flash)
+      failed_changes = record {
+        done = tt;
+        failed = λ told. stored.either;
+        others = others;
+        full = λ live needed told. absurd (cc told);
+        spent = λ told. absurd (cc told);
+        damaged = λ s p told. absurd (cc told);
+      }
+
+      -- It holds the record whole.
+      module _ (whole : HoldsRecord now unit new written) where
+        pub done_calls : Calls {T = Unit {0}} (state_by numbers was_stale has_mounted device) (state_by numbers false has_mounted after) (Ok tt)
+        done_calls = quiet_calls numbers device after writes.on.runs sound stored_sound spent was_stale has_mounted false {T = Unit {0}} (Ok tt) (λ told. absurd (cc told)) (λ s p told. cc told)
+
+        pub done_changes : Changes (state_by numbers was_stale has_mounted device) (state_by numbers false has_mounted after) block (asked_of new.valid written) (length written) (Ok tt)
+        done_changes = record {
+          done = whole_value whole;
+          failed = λ told. absurd (cc told);
+          others = others;
+          full = λ live needed told. absurd (cc told);
+          spent = λ told. absurd (cc told);
+          damaged = λ s p told. absurd (cc told);
+        }
+
+        -- The table has the new place.
+        pub table_now : (table : List (Option Held)) → length table ≡ length numbers → IsTable (length numbers) units table → IsTable (length numbers) now (set table position (held_at (next_place found) new))
+        table_now table sized tells k less = elim (cases_eq k position) [
+          | inl own ↦ (
+              ap (λ n. get_or (set table position (held_at (next_place found) new)) n None) own
+              ∙ get_or-set_same table position (held_at (next_place found) new) None (omega arith) ∙ sym (ap (current now) own ∙ (whole_at whole).current))
+          | inr other ↦ get_or-set_other table position k (held_at (next_place found) new) None other ∙ tells k less ∙ sym (same_current k other)
+        ]
+
+    -- What stands after a write that answered Ok.
+    pub whole_now : OnOk result (HoldsRecord writes.units unit new written) → OnOk result (HoldsRecord now unit new written)
+    whole_now = by_result result
+      where
+        by_result : (r : Result (Unit {0}) FlashFailed) → OnOk r (HoldsRecord writes.units unit new written) → OnOk r (HoldsRecord now unit new written)
+        by_result (Ok x) whole = subst (λ (p : List (List ℕ)). HoldsRecord p unit new written) now_is whole
+        by_result (Err e) whole = tt
+
+  -- A record that is stuck.
+  module _ (found : Option Held) (here : current units position ≡ found) (last : is_last found ≡ true) (asked : Content) (size : ℕ) (is_stale has_mounted : Bool) where
+    pub spent_changes : Changes (state_by numbers is_stale has_mounted device) (state_by numbers is_stale has_mounted device) block asked size (Err SequenceSpent)
+    spent_changes = record {
+      done = tt;
+      failed = λ told. absurd (cc told);
+      others = λ other differ. refl;
+      full = λ live needed told. absurd (cc told);
+      spent = λ told. (stuck_is found here ∙ last, λ b. refl);
+      damaged = λ s p told. absurd (cc told);
+    }

@@ -1,0 +1,8 @@
+-- The driver over an EEPROM as the layers above see it.
+use Rattle.flt_flash.specs.State.{FlashState}
+use Rattle.flt_flash.specs.Blocks.{BlocksState}
+use Rattle.flt_ea.specs.Driver.{state_by}
+use Rattle.flt_ea.specs.declared.ea.Ea.{Ea}
+
+abbrev pub state_of : {E : Type 0} {g : _} → (E → FlashState) → Ea E g → BlocksState
+state_of state ea = state_by ea.numbers ea.is_stale ea.has_mounted (state ea.device)

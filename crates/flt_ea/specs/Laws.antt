@@ -1,0 +1,120 @@
+-- The laws of a driver over an EEPROM.
+use Rattle.std.proofs.Common.{◌≡◌, ◌+◌, ◌-◌, ◌*◌, ◌<◌, ◌≤◌, ℕ, zero, suc, Bool, true, false, List, [], ◌∷◌, drop, length, length-take, Option, Some, None, refl, sym, ◌∙◌, ap, subst, arith}
+use Rattle.std.specs.Prelude.{◌||◌, ◌==◌, if◌then◌else◌, slice_range, IsTrue}
+use Rattle.std.proofs.lemmas.List.{get_or-take, get_or-drop}
+use Rattle.flt_flash.specs.Content.{Content, missing, invalid, bytes, size_of, IsShort}
+use Rattle.flt_flash.specs.Blocks.{byte_pages}
+use Rattle.flt_flash.specs.Image.{sector_at, ArePages}
+use Rattle.flt_flash.specs.State.{FlashState}
+use Rattle.flt_record.proofs.Finding.{length_most}
+use Rattle.flt_record.proofs.PageBytes.{flat, flat_size, range_size}
+use Rattle.flt_ea.specs.State.{HasUnits}
+use Rattle.flt_ea.specs.Image.{gate_unit, bytes_behind, content_of, current, is_last, value_from, spent_from, stuck_from, value_in, is_spent_in, is_stuck_in}
+use Rattle.flt_ea.specs.declared.place.Held.{Held}
+use Rattle.flt_ea.specs.Proper.{IsHeld, current_held}
+
+-- From one position on.
+module _ (P : ℕ → Type 0) (from : ℕ) where
+  pub here : P (from + 0) → P from
+  here is = subst P (let e : from + 0 ≡ from = omega arith in e) is
+
+  pub here_is : P from → P (from + 0)
+  here_is is = subst P (let e : from ≡ from + 0 = omega arith in e) is
+
+  pub behind : (k : ℕ) → P (from + suc k) → P (from + 1 + k)
+  behind k is = subst P (let e : from + suc k ≡ from + 1 + k = omega arith in e) is
+
+  pub behind_is : (k : ℕ) → P (from + 1 + k) → P (from + suc k)
+  behind_is k is = subst P (let e : from + 1 + k ≡ from + suc k = omega arith in e) is
+
+module _ (units : List (List ℕ)) where
+  pub value_first : (from number : ℕ) (numbers : List ℕ) (block : ℕ) → value_from from (number ∷ numbers) units block ≡ (if number == block then content_of units from (current units from) else value_from (from + 1) numbers units block)
+  unfolding value_from
+  value_first from number numbers block = refl
+
+  pub value_none : (from block : ℕ) → value_from from [] units block ≡ missing
+  unfolding value_from
+  value_none from block = refl
+
+  pub stuck_first : (from number : ℕ) (numbers : List ℕ) (block : ℕ) → stuck_from from (number ∷ numbers) units block ≡ (if number == block then is_last (current units from) else stuck_from (from + 1) numbers units block)
+  unfolding stuck_from
+  stuck_first from number numbers block = refl
+
+  pub stuck_none : (from block : ℕ) → stuck_from from [] units block ≡ false
+  unfolding stuck_from
+  stuck_none from block = refl
+
+  pub spent_first : (from number : ℕ) (numbers : List ℕ) → spent_from from (number ∷ numbers) units ≡ (is_last (current units from) || spent_from (from + 1) numbers units)
+  unfolding spent_from
+  spent_first from number numbers = refl
+
+  pub spent_none : (from : ℕ) → spent_from from [] units ≡ false
+  unfolding spent_from
+  spent_none from = refl
+
+  pub either_first : (a b : Bool) → a ≡ true → (a || b) ≡ true
+  either_first true b is = refl
+  either_first false b is = absurd cc
+
+  pub either_second : (a b : Bool) → b ≡ true → (a || b) ≡ true
+  either_second true b is = refl
+  either_second false b is = is
+
+  -- A block that is stuck is spent.
+  pub stuck_spent : (from : ℕ) (numbers : List ℕ) (block : ℕ) → stuck_from from numbers units block ≡ true → spent_from from numbers units ≡ true
+  stuck_spent from [] block is = absurd (cc (stuck_none from block, is))
+  stuck_spent from (number ∷ numbers) block is = spent_first from number numbers ∙ by_test (number == block) (λ rest. stuck_spent (from + 1) numbers block rest) (sym (stuck_first from number numbers block) ∙ is)
+    where
+      by_test : (test : Bool) → (stuck_from (from + 1) numbers units block ≡ true → spent_from (from + 1) numbers units ≡ true) → (if test then is_last (current units from) else stuck_from (from + 1) numbers units block) ≡ true
+          → (is_last (current units from) || spent_from (from + 1) numbers units) ≡ true
+      by_test true rest last = either_first (is_last (current units from)) (spent_from (from + 1) numbers units) last
+      by_test false rest later = either_second (is_last (current units from)) (spent_from (from + 1) numbers units) (rest later)
+
+  -- Each block is short where each place is.
+  pub short_all : (from : ℕ) (numbers : List ℕ) (block : ℕ) → ((k : ℕ) → k < length numbers → size_of (content_of units (from + k) (current units (from + k))) ≤ 128) → size_of (value_from from numbers units block) ≤ 128
+  short_all from [] block all = subst (λ (c : Content). size_of c ≤ 128) (sym (value_none from block)) (omega arith)
+  short_all from (number ∷ numbers) block all = subst (λ (c : Content). size_of c ≤ 128) (sym (value_first from number numbers block))
+      (by_test (number == block) (short_all (from + 1) numbers block (λ k within. behind (λ n. size_of (content_of units n (current units n)) ≤ 128) from k (all (suc k) (omega arith)))))
+    where
+      by_test : (test : Bool) → size_of (value_from (from + 1) numbers units block) ≤ 128 → size_of (if test then content_of units from (current units from) else value_from (from + 1) numbers units block) ≤ 128
+      by_test true rest = here (λ n. size_of (content_of units n (current units n)) ≤ 128) from (all 0 (omega arith))
+      by_test false rest = rest
+
+pub stuck_is_spent : (numbers : List ℕ) (image : List (List (List ℕ))) (block : ℕ) → IsTrue (is_stuck_in numbers image block) → IsTrue (is_spent_in numbers image)
+stuck_is_spent numbers image block is = stuck_spent (sector_at image 0) 0 numbers block is
+
+module _ (device : FlashState) (shape : HasUnits device) where
+  abbrev units : List (List ℕ)
+  units = sector_at device.image 0
+
+  range_pages : (from to : ℕ) → to ≤ length units → ArePages (slice_range units from to)
+  range_pages from to within k lt =
+      let inside : k < to - from = omega (arith, lt, length-take (to - from) (drop from units)) in
+      ap length (get_or-take (to - from) (drop from units) k [] inside ∙ get_or-drop from units k []) ∙ shape.bytes (from + k) (omega arith)
+
+  -- So many bytes stand behind a gate, where so many units do.
+  pub size_behind : (gate size : ℕ) → gate + 1 + byte_pages size ≤ length units → length (bytes_behind units gate size) ≡ size
+  size_behind gate size room =
+      let many : length (slice_range units (gate + 1) (gate + 1 + byte_pages size)) ≡ byte_pages size = omega (arith, range_size units (gate + 1) (gate + 1 + byte_pages size) room) in
+      omega (arith, length-take size (flat (slice_range units (gate + 1) (gate + 1 + byte_pages size))), flat_size (slice_range units (gate + 1) (gate + 1 + byte_pages size)) (range_pages (gate + 1) (gate + 1 + byte_pages size) room), many)
+
+  -- As many bytes stand behind a gate as it says.
+  pub held_size : (position : ℕ) (held : Held) → 10 * position + 10 ≤ device.pages → IsHeld held → length (bytes_behind units (gate_unit position held.place) held.gate.length) ≡ held.gate.length
+  held_size position held room proper =
+      let most = length_most held.gate.valid held.gate.length proper.gate.kind in
+      let place = proper.place in
+      size_behind (gate_unit position held.place) held.gate.length (omega (arith, shape.units))
+
+  short_at : (position : ℕ) → 10 * position + 10 ≤ device.pages → (found : Option Held) → current units position ≡ found → size_of (content_of units position found) ≤ 128
+  short_at position room None is = omega arith
+  short_at position room (Some held) is = by_valid held.gate.valid
+    where
+      proper : IsHeld held
+      proper = current_held units position held is
+
+      by_valid : (valid : Bool) → size_of (if valid then bytes (bytes_behind units (gate_unit position held.place) held.gate.length) else invalid) ≤ 128
+      by_valid true = omega (arith, held_size position held room proper, length_most held.gate.valid held.gate.length proper.gate.kind)
+      by_valid false = omega arith
+
+pub value_is_short : (numbers : List ℕ) (device : FlashState) → HasUnits device → 10 * length numbers ≤ device.pages → (block : ℕ) → IsShort (value_in numbers device.image block)
+value_is_short numbers device shape within block = short_all (sector_at device.image 0) 0 numbers block (λ k lt. short_at device shape (0 + k) (omega arith) (current (sector_at device.image 0) (0 + k)) refl)

@@ -1,0 +1,14 @@
+pub mod State
+pub mod Boots
+pub mod Memory
+pub mod Shape
+pub mod Gate
+pub mod Image
+pub mod Scan
+pub mod Mounted
+pub mod Driver
+pub mod Ea
+pub mod Written
+pub mod Refusal
+pub mod Proper
+pub mod Laws

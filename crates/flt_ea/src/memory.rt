@@ -1,0 +1,252 @@
+// An EEPROM in memory, and the bench that cuts its power and makes its operations fail.
+ghost use Rattle.std.specs.Prelude.{◌≡◌, false, ◌<◌, ◌≤◌, [], ◌∷◌, ◌++◌, length, replicate, Some, IfNone, IfSome, OnSome, is_err, is_some, OnOk, OnErr, IfOk, slice_set};
+ghost use Rattle.flt_flash.specs.declared.arm.Pattern.TheVariants.{Nothing};
+ghost use Rattle.flt_flash.specs.State.{Operates, CanArm, Arms, PowersUp};
+ghost use Rattle.flt_flash.specs.Tearing.{IsTornSector, IsTorn};
+ghost use Rattle.flt_flash.specs.Image.{sector_at, blank_page, ArePages};
+ghost use Rattle.flt_flash.specs.Arms.{IsProgrammedBy, told_with};
+ghost use Rattle.flt_flash.specs.Power.{first_power};
+ghost use Rattle.flt_ea.specs.State.{unit_at, written, in_units, first_units};
+ghost use Rattle.flt_ea.specs.Boots.{HaveRoom};
+
+use crate::Eeprom;
+use crate::boot::SavedUnits;
+use arrayvec::ArrayVec;
+use flt_flash::{Arm, ArmMade, BLANK_PAGE, FlashFailed, Pattern, Power, tear_page};
+use std::alloc::{AllocError, Global};
+
+/// An EEPROM in memory that tells everything, its arms while at most 64 were made. It takes its memory when it is made.
+#[derive(Drop)]
+pub struct EepromMem {
+    image: Vec<[u8; 32]>,
+    power: Power,
+    made: ArrayVec<ArmMade, 64>,
+    tells_arms: bool,
+    boots: Vec<SavedUnits>,
+    boots_used: u16,
+    ghost most: { length image.items < 65536 },
+    ghost image_bytes: { ArePages image.items },
+    ghost boots_fit: { boots_used ≤ length boots.items },
+    ghost boots_number: { length boots.items < 65536 },
+    ghost boots_room: { HaveRoom (length image.items) boots.items },
+}
+
+impl EepromMem {
+    ghost use Rattle.flt_ea.specs.Memory.{state_of, power_of};
+
+    /// A device of so many units of 32 bytes FF, whose power may come back `boots` times. The error is want of memory.
+    pub fn blank(alloc: Global, units: u16, boots: u16) -> Result<EepromMem, AllocError>
+        ensures state { IfOk result (λ device. state_of device ≡ first_units (replicate units blank_page) boots) }
+        ensures power { IfOk result (λ device. power_of device ≡ first_power) }
+    {
+        let image = blank_units(alloc, units as usize)?;
+        Self::of(alloc, image, boots)
+    }
+
+    /// A device with these units, whose power may come back `boots` times. The error is want of memory.
+    pub fn of(alloc: Global, image: Vec<[u8; 32]>, boots: u16) -> Result<EepromMem, AllocError>
+        requires { length image.items ≤ 65535 }
+        ensures state { IfOk result (λ device. state_of device ≡ first_units image.items boots) }
+        ensures power { IfOk result (λ device. power_of device ≡ first_power) }
+    {
+        let image = units_of(alloc, &image)?;
+        let boots = reserved_boots(alloc, image.len(), boots)?;
+        Ok(EepromMem {
+            image,
+            power: Power {
+                is_off: false,
+                faults: 0,
+                operations: 0,
+                standing: ArrayVec::new(),
+            },
+            made: ArrayVec::new(),
+            tells_arms: true,
+            boots,
+            boots_used: 0,
+        })
+    }
+
+    /// A unit as it is; it counts for no operation.
+    pub fn unit(&self, unit: u16) -> &[u8; 32]
+        requires { unit < (state_of self.now).pages }
+        ensures { result.now ≡ unit_at (state_of self.now).image unit }
+    {
+        &self.image[unit as usize]
+    }
+}
+
+impl Eeprom for EepromMem {
+    ghost use Rattle.flt_ea.specs.Memory.{state_of, power_of};
+    ghost use Rattle.flt_ea.specs.Shape.{shape_of};
+    ghost use Rattle.flt_flash.specs.Power.{read_fails, failing_by, power_after_write, power_after_read};
+
+    ghost state = { state_of };
+
+    ghost shape = { shape_of };
+
+    fn units(&self) -> u16 {
+        self.image.len() as u16
+    }
+
+    fn read_unit(&mut self, unit: u16, out: &mut [u8; 32]) -> Result<(), FlashFailed>
+        requires { unit < (state_of self.old).pages }
+        ensures read { OnOk result (out.new ≡ unit_at (state_of self.old).image unit) }
+        ensures image { (state_of self.new).image ≡ (state_of self.old).image }
+        ensures operation { Operates (state_of self.old) (state_of self.new) result }
+
+        // It fails exactly where the power is off or an arm mutes the unit, and uses up the arms that mute it.
+        ensures fails { is_err result ≡ read_fails 0 unit (power_of self.old) }
+        ensures power { power_of self.new ≡ power_after_read 0 unit (power_of self.old) }
+    {
+        if self.power.count_read(0, unit) {
+            return Err(FlashFailed);
+        }
+        *out = *self.unit(unit);
+        Ok(())
+    }
+
+    fn write_unit(&mut self, unit: u16, bytes: &[u8; 32]) -> Result<(), FlashFailed>
+        requires { unit < (state_of self.old).pages }
+        ensures written { OnOk result ((state_of self.new).image ≡ written (state_of self.old).image unit bytes.now) }
+        ensures torn { OnErr result (IsTorn (state_of self.old).image (written (state_of self.old).image unit bytes.now) (state_of self.new).image) }
+        ensures operation { Operates (state_of self.old) (state_of self.new) result }
+
+        // It fails exactly where the power is off or an arm stands at it, and is torn by the pattern.
+        ensures fails { is_err result ≡ is_some (failing_by (power_of self.old)) }
+        ensures power { power_of self.new ≡ power_after_write (power_of self.old) }
+        ensures by_pattern { IfSome (failing_by (power_of self.old)) (λ pattern.
+            IsProgrammedBy pattern (sector_at (state_of self.old).image 0) unit bytes.now (sector_at (state_of self.new).image 0)) }
+    {
+        let failing = self.power.count_write();
+        write_page(&mut self.image, unit as usize, bytes, failing);
+        outcome(failing)
+    }
+
+    fn operations(&self) -> u64 {
+        self.power.operations
+    }
+
+    fn boots_left(&self) -> u16 {
+        self.boots.len() as u16 - self.boots_used
+    }
+
+    fn armed(&self) -> u8 {
+        self.power.standing.len() as u8
+    }
+
+    fn arm(&mut self, arm: Arm)
+        requires room { (state_of self.old).bench.armed < 64 }
+        requires number { CanArm arm }
+        ensures arms { Arms arm (state_of self.old) (state_of self.new) }
+
+        // The arm stands behind those that stood, and is told where at most 64 were made.
+        ensures power { power_of self.new ≡ record (power_of self.old) { standing = (power_of self.old).standing ++ in_units arm ∷ [] } }
+        ensures told { (state_of self.new).bench.arms ≡ told_with (state_of self.old).bench.arms
+            (record { arm = arm; boots = length (state_of self.old).bench.boots; faults = (state_of self.old).faults }) }
+    {
+        self.power.standing.push(in_units(arm));
+        if self.made.is_full() {
+            self.tells_arms = false;
+        } else {
+            self.made.push(ArmMade {
+                arm,
+                boots: self.boots_used,
+                faults: self.power.faults,
+            });
+        }
+    }
+
+    fn power_up(&mut self)
+        requires { 0 < (state_of self.old).bench.boots_left }
+        ensures powers_up { PowersUp (state_of self.old) (state_of self.new) }
+
+        // The arms that stood stand.
+        ensures power { power_of self.new ≡ record (power_of self.old) { is_off = false } }
+    {
+        let faults = self.power.faults;
+        self.boots[self.boots_used as usize].save(faults, &self.image);
+        self.boots_used += 1;
+        self.power.is_off = false;
+    }
+}
+
+// The arm by the number of the unit that it mutes, if one of 16 bits has it.
+fn in_units(arm: Arm) -> Arm
+    ensures { result ≡ in_units arm }
+{
+    match arm {
+        Arm::Mute {
+            sector,
+            page,
+            times,
+        } => {
+            let unit = 1024 * sector as u32 + page as u32;
+            if unit < 65536 {
+                Arm::Mute {
+                    sector: 0,
+                    page: unit as u16,
+                    times,
+                }
+            } else {
+                arm
+            }
+        }
+        _ => arm,
+    }
+}
+
+fn blank_units(alloc: Global, units: usize) -> Result<Vec<[u8; 32]>, AllocError>
+    ensures { IfOk result (λ made. made.items ≡ replicate units blank_page) }
+{
+    let mut made = Vec::with_capacity(alloc, units)?;
+    for _unit in 0..units {
+        made.push(BLANK_PAGE)?;
+    }
+    Ok(made)
+}
+
+fn units_of(alloc: Global, units: &[[u8; 32]]) -> Result<Vec<[u8; 32]>, AllocError>
+    ensures items { IfOk result (λ made. made.items ≡ units.now) }
+    ensures bytes { IfOk result (λ made. ArePages made.items) }
+{
+    let mut made = Vec::with_capacity(alloc, units.len())?;
+    for unit in units {
+        made.push(*unit)?;
+    }
+    Ok(made)
+}
+
+// The room of this many power-ups, which is filled as they come.
+fn reserved_boots(alloc: Global, units: usize, boots: u16) -> Result<Vec<SavedUnits>, AllocError>
+    ensures number { IfOk result (λ made. length made.items ≡ boots) }
+    ensures room { IfOk result (λ made. HaveRoom units made.items) }
+{
+    let mut made = Vec::with_capacity(alloc, boots as usize)?;
+    for _boot in 0..boots {
+        made.push(SavedUnits::reserved(alloc, units)?)?;
+    }
+    Ok(made)
+}
+
+// Writes a unit, or tears it.
+fn write_page(pages: &mut Vec<[u8; 32]>, page: usize, bytes: &[u8; 32], failing: Option<Pattern>)
+    requires { page < length pages.old.items }
+    ensures whole { IfNone failing (pages.new.items ≡ slice_set pages.old.items page bytes.now) }
+    ensures torn { OnSome failing (IsTornSector pages.old.items (slice_set pages.old.items page bytes.now) pages.new.items) }
+    ensures by_pattern { IfSome failing (λ pattern. IsProgrammedBy pattern pages.old.items page bytes.now pages.new.items) }
+    ensures untouched { failing ≡ Some Nothing → pages.new.items ≡ pages.old.items }
+{
+    match failing {
+        None => pages[page] = *bytes,
+        Some(pattern) => tear_page(&mut pages[page], bytes, pattern, 16),
+    }
+}
+
+fn outcome(failing: Option<Pattern>) -> Result<(), FlashFailed>
+    ensures { is_err result ≡ is_some failing }
+{
+    match failing {
+        None => Ok(()),
+        Some(_) => Err(FlashFailed),
+    }
+}

@@ -1,0 +1,57 @@
+-- What an inspection tells of bytes: of a dump what its image holds and says, and of other bytes why they are no dump.
+use Rattle.std.specs.Prelude.{◌≡◌, ℕ, List, [], ◌∷◌, ◌++◌, Result, Ok, Err, codes}
+use Rattle.std.specs.Fmt.{decimal}
+use Rattle.flt_config.specs.declared.config.Config.{Config}
+use Rattle.flt_config.specs.declared.config.DidUse.{DidUse}
+use Rattle.flt_generation.specs.Holding.{Generation}
+use Rattle.flt_generation.specs.Holding as holding
+use Rattle.flt_generation.specs.Layout.{numbers}
+use Rattle.flt_life.specs.declared.life.Boot.{Boot}
+use Rattle.flt_life.specs.declared.life.Boot.TheVariants.{Started, Refused}
+use Rattle.flt_report.specs.Boot.{boot_text, script_fault_line}
+use Rattle.flt_restore.specs.Judging.{told_as}
+use Rattle.flt_script.specs.declared.fault.ScriptFault.{ScriptFault}
+use Rattle.flt_whole.specs.Image.{image_held}
+use Rattle.flt_verdict.specs.Verdict.{Due, line_due}
+use Rattle.flt_dump.specs.Dump.{DumpContent, Fault, no_script, begun, no_page, dump_of}
+use Rattle.flt_dump.specs.Listing.{listing_text}
+
+-- What a power-up with this image would come to, whatever its sequence number.
+abbrev pub boot_of : Config → Result Generation holding.Fault → Boot
+boot_of c (Ok g) = Started g.number g.state
+boot_of c (Err fault) = Refused (told_as c fault)
+
+-- 0 where a generation is held, and else 6.
+abbrev pub status_of : {E : Type 0} → Result Generation E → ℕ
+status_of (Ok g) = 0
+status_of (Err fault) = 6
+
+-- The line of the number of a generation.
+unfoldable pub generation_line : ℕ → List ℕ
+generation_line number = codes "generation " ++ decimal number ++ 10 ∷ []
+
+-- The image of a dump: how a life would begin with it, and then its lines.
+abbrev pub image_due : DumpContent → Due
+image_due dump = record {
+  status = status_of (image_held dump.config dump.image);
+  text = boot_text (boot_of dump.config (image_held dump.config dump.image)) ++ 10 ∷ []
+      ++ listing_text dump.config.pages numbers dump.image;
+}
+
+-- Lines that are no script.
+abbrev pub script_due : ScriptFault → Due
+script_due fault = record { status = 2; text = script_fault_line fault }
+
+-- A dump, or why bytes are none.
+abbrev pub due_by : Result DumpContent Fault → Due
+due_by (Ok dump) = image_due dump
+due_by (Err (no_script fault)) = script_due fault
+due_by (Err begun) = line_due 2 (codes "script other")
+due_by (Err (no_page number)) = line_due 10 (codes "dump line " ++ decimal number)
+
+-- What is due of bytes, where the table has these data identifiers.
+abbrev pub inspected : List DidUse → List ℕ → Due
+inspected dids bytes = due_by (dump_of dids bytes)
+
+abbrev pub IsInspected : List DidUse → List ℕ → Due → Type 0
+IsInspected dids bytes due = due ≡ inspected dids bytes

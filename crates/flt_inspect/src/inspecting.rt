@@ -1,0 +1,143 @@
+// What is told of a dump.
+ghost use Rattle.std.specs.Prelude.{◌≡◌, ◌≢◌, ◌++◌, ◌∷◌, [], IfOk, OnOk, Result, Err, codes, option_map};
+ghost use Rattle.std.specs.Fmt.{decimal};
+ghost use Rattle.flt_config.specs.declared.config.Config.{Config};
+ghost use Rattle.flt_did.specs.Table.{dids_of};
+ghost use Rattle.flt_generation.specs.Holding.{Generation, Fault};
+ghost use Rattle.flt_restore.specs.declared.fault.StartFault.TheVariants as faults;
+ghost use Rattle.flt_report.specs.Boot.{boot_text};
+ghost use Rattle.flt_verdict.specs.Verdict.{IsMade, Tells, due_of, line_due};
+ghost use Rattle.flt_dump.specs.Held.{number_told};
+ghost use Rattle.flt_dump.specs.Reads.{content_of};
+ghost use Rattle.flt_inspect.specs.Inspection.{IsInspected, boot_of, generation_line, image_due, inspected, script_due, status_of};
+
+use flt_did::{DID_ROWS, DidTable};
+use flt_dump::{Dump, DumpFault, Insight, look_into, read_dump};
+use flt_io::{Sink, Source};
+use flt_report::{put_refused, put_script_fault};
+use flt_restore::StartFault;
+use flt_script::ScriptFault;
+use flt_verdict::{Verdict, read_input, tell};
+use std::alloc::{AllocError, Global};
+
+/// The statuses: the image holds a generation; the lines before the image are no configuration; the image holds none; the lines behind
+/// are no pages.
+const HELD: u8 = 0;
+
+const NO_SCRIPT: u8 = 2;
+
+const REFUSED: u8 = 6;
+
+const NO_PAGES: u8 = 10;
+
+/// What is told of a script that is none.
+fn script_verdict(alloc: Global, fault: &ScriptFault) -> Result<Verdict, AllocError>
+    ensures { IfOk result (λ verdict. due_of verdict ≡ script_due fault.now) }
+{
+    let mut text = Vec::new(alloc);
+    put_script_fault(fault, &mut text)?;
+    Ok(Verdict {
+        status: NO_SCRIPT,
+        text,
+    })
+}
+
+/// What is told of lines that are no pages, by the number of the first that is wrong.
+fn line_verdict(alloc: Global, number: usize) -> Result<Verdict, AllocError>
+    ensures { IfOk result (λ verdict. due_of verdict ≡ line_due 10 (codes "dump line " ++ decimal number)) }
+{
+    let words = format!(in alloc; "dump line {number}")?;
+    Verdict::line(alloc, NO_PAGES, words.as_bytes())
+}
+
+/// Puts the number of a generation.
+#[tactic(auto, unfolding(crate::specs::Inspection::generation_line))]
+fn put_generation(number: u32, out: &mut Vec<u8>) -> Result<(), AllocError>
+    ensures { OnOk result (out.new.items ≡ out.old.items ++ generation_line number) }
+{
+    let line = format!(in *out.allocator(); "generation {number}\n")?;
+    out.extend_from_slice(line.as_bytes())
+}
+
+/// Puts the first line of an image that holds a generation of this number, or none for this reason, and answers the status.
+fn put_held(held: Result<u32, StartFault>, out: &mut Vec<u8>) -> Result<u8, AllocError>
+    requires { held ≢ Err faults.Flash }
+    ensures { IfOk result (λ status. (c : Config) (judged : Result Generation Fault) → held ≡ number_told c judged →
+        (status ≡ status_of judged) × (out.new.items ≡ out.old.items ++ boot_text (boot_of c judged) ++ 10 ∷ [])) }
+{
+    match held {
+        Ok(number) => {
+            put_generation(number, out)?;
+            Ok(HELD)
+        }
+        Err(fault) => {
+            put_refused(&fault, out)?;
+            Ok(REFUSED)
+        }
+    }
+}
+
+/// What is told of the image of a dump.
+fn image_verdict(alloc: Global, dump: Dump) -> Result<Verdict, AllocError>
+    ensures { IfOk result (λ verdict. due_of verdict ≡ image_due (content_of dump)) }
+{
+    let Insight { held, listing } = look_into(alloc, dump)?;
+    let mut text = Vec::new(alloc);
+    let status = put_held(held, &mut text)?;
+    text.extend_from_slice(&listing)?;
+    Ok(Verdict { status, text })
+}
+
+/// What is told of bytes.
+fn judge(alloc: Global, bytes: &[u8], dids: &DidTable<DID_ROWS>) -> Result<Verdict, AllocError>
+    ensures { IfOk result (λ verdict. due_of verdict ≡ inspected (dids_of dids.now) bytes.now) }
+{
+    match read_dump(alloc, bytes, dids) {
+        Ok(dump) => image_verdict(alloc, dump),
+        Err(DumpFault::Memory) => Err(AllocError),
+        Err(DumpFault::Script(fault)) => script_verdict(alloc, &fault),
+        Err(DumpFault::Other) => Verdict::line(alloc, NO_SCRIPT, b"script other"),
+        Err(DumpFault::PageLine(number)) => line_verdict(alloc, number),
+    }
+}
+
+/// What is told of what a source has left; nothing where memory is wanting.
+fn reckon<S: Source>(alloc: Global, source: &mut S, dids: &DidTable<DID_ROWS>) -> Option<Verdict>
+    ensures { IsMade (IsInspected (dids_of dids.now)) (record {
+      left = S.left source.old;
+      left_after = S.left source.new;
+      faults = S.faults source.old;
+      faults_after = S.faults source.new;
+    }) (option_map due_of result) }
+{
+    match read_input(alloc, source) {
+        Ok(bytes) => judge(alloc, &bytes, dids).ok(),
+        Err(fault) => fault.verdict(alloc),
+    }
+}
+
+/// Tells what the image of a dump holds, and what it says line by line; and answers the exit status: 0 where it holds a generation, 6
+/// where it is damaged or of another configuration; 2 where the lines before the image are no configuration; 3 where the source failed; 4
+/// in place of another where the sink did; 7 where memory was wanting; 9 where more than 16,777,216 bytes came; 10 where the lines behind
+/// are not the pages of both sectors.
+pub fn inspect<S: Source, K: Sink>(
+    alloc: Global,
+    source: &mut S,
+    sink: &mut K,
+    dids: &DidTable<DID_ROWS>,
+) -> u8
+    ensures { Tells (IsInspected (dids_of dids.now)) (record {
+      left = S.left source.old;
+      left_after = S.left source.new;
+      faults = S.faults source.old;
+      faults_after = S.faults source.new;
+    }) (record {
+      held = K.held sink.old;
+      held_after = K.held sink.new;
+      faults = K.faults sink.old;
+      faults_after = K.faults sink.new;
+    }) result }
+{
+    let verdict = reckon(alloc, source, dids);
+    tell(verdict, sink)
+}

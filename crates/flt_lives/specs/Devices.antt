@@ -1,0 +1,21 @@
+-- Lives over a device, of whatever kind.
+use Rattle.std.specs.Prelude.{List}
+use Rattle.flt_flash.specs.State.{FlashState}
+use Rattle.flt_config.specs.declared.config.Config.{Config}
+use Rattle.flt_config.specs.Validity.{IsValid}
+use Rattle.flt_fee.specs.Fee.{device_of}
+use Rattle.flt_life.specs.Moment.{Medium, moment_at, boot_in}
+use Rattle.flt_life.specs.Chain.{LifeView}
+use Rattle.flt_life.specs.Lives.{StaysSound, IsLinked}
+
+-- The lives of a run over a device that keeps blocks so, between its boots.
+abbrev pub IsRunOn : Medium → Config → FlashState → FlashState → List LifeView → Type 0
+IsRunOn medium c before after lives = IsLinked c medium (device_of before) (device_of after) lives
+
+-- A sound image of a device stays sound.
+abbrev pub DeviceStaysSound : Medium → Config → FlashState → FlashState → Type 0
+DeviceStaysSound medium c before after = StaysSound c (moment_at medium (boot_in (device_of before))) (moment_at medium (boot_in (device_of after)))
+
+-- A device that serves so has room for the blocks of an image under each valid configuration.
+abbrev pub ServesAll : (Config → FlashState → Type 0) → FlashState → Type 0
+ServesAll serves device = (c : Config) → IsValid c → serves c device

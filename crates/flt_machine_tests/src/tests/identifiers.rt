@@ -1,0 +1,51 @@
+//! The table of data identifiers, and the stored functions at the ends of the signals.
+use arrayvec::ArrayVec;
+use flt_config::{DIDS, DidUse};
+use flt_did::{
+    DidTable, Signals, TableFault, did_0101, did_0102, did_0103, did_0104, did_0105, did_0106,
+    did_0107,
+};
+
+#[test]
+fn refuses_a_second_row_and_a_row_too_many(rt: HostRuntime) {
+    let mut table: DidTable<3> = DidTable::new();
+    assert!(&rt; table.add(0x0101, 2, did_0101).is_ok());
+    assert!(&rt; table.add(0x0102, 2, did_0102).is_ok());
+    assert!(&rt; table.add(0x0103, 1, did_0103).is_ok());
+    assert_eq!(rt; table.add(0x0101, 2, did_0101), Err(TableFault::DidTwice));
+    assert_eq!(rt; table.add(0x0104, 4, did_0104), Err(TableFault::TableFull));
+    assert_eq!(rt; table.width(0x0103), Some(1));
+    assert_eq!(rt; table.width(0x0104), None);
+
+    let mut uses: ArrayVec<DidUse, DIDS> = ArrayVec::new();
+    uses.push(DidUse {
+        id: 0x0103,
+        width: 1,
+    });
+    uses.push(DidUse {
+        id: 0x0101,
+        width: 2,
+    });
+    let mut signals = Signals::zero();
+    signals.set(0, 258);
+    signals.set(2, 7);
+    let frame = table.frame(&uses, &signals);
+    assert!(&rt; frame.as_slice() == [0x07, 0x01, 0x02].as_slice());
+}
+
+#[test]
+fn tells_the_values_at_the_ends_of_the_signals(rt: HostRuntime) {
+    let mut signals = Signals::zero();
+    assert_eq!(rt; did_0105(&signals), 0);
+    assert_eq!(rt; did_0107(&signals), 0);
+    for index in 0..8u8 {
+        signals.set(index, 65535);
+    }
+    assert_eq!(rt; did_0101(&signals), 65535);
+    assert_eq!(rt; did_0102(&signals), 65535);
+    assert_eq!(rt; did_0103(&signals), 255);
+    assert_eq!(rt; did_0104(&signals), 4_294_967_295);
+    assert_eq!(rt; did_0105(&signals), 255);
+    assert_eq!(rt; did_0106(&signals), 65535);
+    assert_eq!(rt; did_0107(&signals), 18_446_744_073_709_551_615);
+}

@@ -1,0 +1,230 @@
+//! The requests of the profile, written as a table of their own, against every service, sub-function and length.
+use arrayvec::ArrayVec;
+use flt_uds::{
+    Asked, Negative, REQUEST_OUT_OF_RANGE, RESPONSE, Request, put_bytes, put_dtc, put_dtc_with,
+    put_negative, read,
+};
+
+/// A request of the profile: the service, the sub-function where it has one, the two lengths that it may have, and
+/// what it asks for where FF FF FF 01 follow.
+type Row = (u8, Option<u8>, [usize; 2], Request);
+
+const REQUESTS: [Row; 17] = [
+    (
+        0x10,
+        Some(0x01),
+        [2, 2],
+        Request::Session { extended: false },
+    ),
+    (
+        0x10,
+        Some(0x03),
+        [2, 2],
+        Request::Session { extended: true },
+    ),
+    (0x14, None, [4, 4], Request::Clear { dtc: 0xFFFFFF }),
+    (0x19, Some(0x01), [3, 3], Request::Count { mask: 0xFF }),
+    (0x19, Some(0x02), [3, 3], Request::ByMask { mask: 0xFF }),
+    (0x19, Some(0x03), [2, 2], Request::Snapshots),
+    (
+        0x19,
+        Some(0x04),
+        [6, 6],
+        Request::Snapshot {
+            dtc: 0xFFFFFF,
+            number: 0x01,
+        },
+    ),
+    (
+        0x19,
+        Some(0x06),
+        [6, 6],
+        Request::Extended {
+            dtc: 0xFFFFFF,
+            number: 0x01,
+        },
+    ),
+    (0x19, Some(0x0A), [2, 2], Request::Supported),
+    (0x19, Some(0x0B), [2, 2], Request::Noted { sub: 0x0B }),
+    (0x19, Some(0x0C), [2, 2], Request::Noted { sub: 0x0C }),
+    (0x19, Some(0x0D), [2, 2], Request::Noted { sub: 0x0D }),
+    (0x19, Some(0x0E), [2, 2], Request::Noted { sub: 0x0E }),
+    (0x19, Some(0x14), [2, 2], Request::Counters),
+    (0x3E, Some(0x00), [2, 2], Request::Present),
+    (0x85, Some(0x01), [2, 5], Request::Setting { on: true }),
+    (0x85, Some(0x02), [2, 5], Request::Setting { on: false }),
+];
+
+/// What the table has for a request of these first two bytes and this length.
+fn by_table(service: u8, second: u8, length: usize, extended: bool) -> Result<Asked, u8> {
+    let sub = second & 0x7F;
+    let has_sub = service != 0x14;
+    if !REQUESTS.iter().any(|row| row.0 == service) {
+        return Err(0x11);
+    }
+    if service == 0x85 && !extended {
+        return Err(0x7F);
+    }
+    if has_sub && length == 1 {
+        return Err(0x13);
+    }
+    match REQUESTS
+        .iter()
+        .find(|row| row.0 == service && (!has_sub || row.1 == Some(sub)))
+    {
+        None => Err(0x12),
+        Some(row) => {
+            if row.2[0] != length && row.2[1] != length {
+                return Err(0x13);
+            }
+            let dtc = u32::from(second) * 65_536 + 0xFFFF;
+            let request = if has_sub {
+                row.3
+            } else {
+                Request::Clear { dtc }
+            };
+            Ok(Asked {
+                request,
+                silent: has_sub && second != sub,
+            })
+        }
+    }
+}
+
+/// The answer to a request, with the code alone where it is refused for its own service.
+fn answer(bytes: &[u8], extended: bool) -> Result<Asked, u8> {
+    if bytes.is_empty() {
+        return Err(0);
+    }
+    match read(bytes, extended) {
+        Ok(asked) => Ok(asked),
+        Err(negative) => {
+            if negative.service == bytes[0] {
+                Err(negative.code)
+            } else {
+                Err(0)
+            }
+        }
+    }
+}
+
+/// How many of the lengths 1 to 16 are not answered as the table has it.
+fn differences(service: u8, second: u8, extended: bool) -> u32 {
+    let mut bytes = [0xFF; 16];
+    bytes[0] = service;
+    bytes[1] = second;
+    bytes[5] = 0x01;
+    let mut differences = 0u32;
+    for length in 1..17usize {
+        if answer(&bytes[..length], extended) != by_table(service, second, length, extended) {
+            differences = differences.saturating_add(1);
+        }
+    }
+    differences
+}
+
+#[test]
+fn every_service_sub_function_and_length_is_answered_by_the_table(rt: HostRuntime) {
+    for service in 0..=255u8 {
+        for second in 0..=255u8 {
+            assert_eq!(rt; differences(service, second, false), 0);
+            assert_eq!(rt; differences(service, second, true), 0);
+        }
+    }
+}
+
+#[test]
+fn a_record_is_the_first_the_second_or_both(rt: HostRuntime) {
+    for number in 0..=255u8 {
+        let is_known = number == 1 || number == 2 || number == 255;
+        let first = answer(&[0x19, 0x04, 0x12, 0x34, 0x56, number], false);
+        let second = answer(&[0x19, 0x86, 0x12, 0x34, 0x56, number], true);
+        if is_known {
+            let dtc = 0x123456;
+            assert_eq!(rt;
+                first,
+                Ok(Asked {
+                    request: Request::Snapshot { dtc, number },
+                    silent: false
+                })
+            );
+            assert_eq!(rt;
+                second,
+                Ok(Asked {
+                    request: Request::Extended { dtc, number },
+                    silent: true
+                })
+            );
+        } else {
+            assert_eq!(rt; first, Err(0x31));
+            assert_eq!(rt; second, Err(0x31));
+        }
+    }
+}
+
+#[test]
+fn the_option_bytes_of_a_setting_are_all_ff(rt: HostRuntime) {
+    for byte in 0..=254u8 {
+        assert_eq!(rt; answer(&[0x85, 0x01, byte, 0xFF, 0xFF], true), Err(0x31));
+        assert_eq!(rt; answer(&[0x85, 0x02, 0xFF, byte, 0xFF], true), Err(0x31));
+        assert_eq!(rt; answer(&[0x85, 0x82, 0xFF, 0xFF, byte], true), Err(0x31));
+        assert_eq!(rt; answer(&[0x85, 0x02, 0xFF, 0xFF, byte], false), Err(0x7F));
+    }
+}
+
+#[test]
+fn every_mask_and_dtc_is_handed_on(rt: HostRuntime) {
+    for mask in 0..=255u8 {
+        let count = Request::Count { mask };
+        let by_mask = Request::ByMask { mask };
+        let clear = Request::Clear {
+            dtc: 0x010000 + u32::from(mask) * 256 + 0xFE,
+        };
+        assert_eq!(rt;
+            answer(&[0x19, 0x01, mask], false),
+            Ok(Asked {
+                request: count,
+                silent: false
+            })
+        );
+        assert_eq!(rt;
+            answer(&[0x19, 0x82, mask], false),
+            Ok(Asked {
+                request: by_mask,
+                silent: true
+            })
+        );
+        assert_eq!(rt;
+            answer(&[0x14, 0x01, mask, 0xFE], false),
+            Ok(Asked {
+                request: clear,
+                silent: false
+            })
+        );
+    }
+}
+
+#[test]
+fn puts_append_until_the_response_is_full(rt: HostRuntime) {
+    let mut out: ArrayVec<u8, RESPONSE> = ArrayVec::new();
+    put_negative(
+        &Negative {
+            service: 0x19,
+            code: REQUEST_OUT_OF_RANGE,
+        },
+        &mut out,
+    );
+    put_dtc_with(0x123456, 0x2F, &mut out);
+    put_bytes(&[0x01], &mut out);
+    put_dtc(0x12345A, &mut out);
+    assert!(&rt;
+        out.as_slice()
+            == [
+                0x7F, 0x19, 0x31, 0x12, 0x34, 0x56, 0x2F, 0x01, 0x12, 0x34, 0x5A
+            ]
+            .as_slice()
+    );
+    put_bytes(&[0xAA; RESPONSE - 11], &mut out);
+    assert_eq!(rt; out.len(), RESPONSE);
+    assert_eq!(rt; out[RESPONSE - 1], 0xAA);
+}

@@ -1,0 +1,93 @@
+// The whole program: a run over a bench or over an EEPROM.
+ghost use Rattle.std.specs.Prelude.{◌≡◌, ◌≤◌, map};
+ghost use Rattle.std.specs.String.{string_bytes};
+ghost use Rattle.flt_did.specs.Table.{dids_of};
+ghost use Rattle.flt_lives.specs.Media.{sectors, units};
+ghost use Rattle.flt_run.specs.Command.{begins_ea, command_of, ea_command_of};
+ghost use Rattle.flt_run.specs.Ending.{Runs};
+ghost use Rattle.flt_run.specs.Program.{EndsOn};
+
+use crate::command::begins_ea;
+use crate::running::{Outcome, run, run_ea};
+use flt_did::{DID_ROWS, DidTable};
+use flt_ea::Eeprom;
+use flt_flash::Bench;
+use flt_io::{Sink, Source};
+use flt_lane::SharedGate;
+use std::alloc::Global;
+use std::marker::Sync;
+use std::sync::Wait;
+use std::thread::Threads;
+
+/// What the program answers, with the device that it used.
+#[derive(Drop)]
+pub enum Ended<B, E> {
+    /// It ran over the bench.
+    Bench(Outcome<B>),
+    /// It ran over the EEPROM.
+    Device(Outcome<E>),
+}
+
+/// Does what the program does: `run_ea` over the device where the first word is `ea`, and else `run` over the bench. The one that is not
+/// used is let go.
+pub fn program<
+    R: Threads + Wait + Sync,
+    S: Source,
+    K: Sink,
+    B: Bench + Drop,
+    E: Eeprom + Drop,
+    G: SharedGate,
+>(
+    rt: &R,
+    alloc: Global,
+    words: &[String],
+    source: &mut S,
+    sink: &mut K,
+    bench: B,
+    device: E,
+    dids: DidTable<DID_ROWS>,
+    gate: &G,
+) -> Ended<B, E>
+    requires pages { (B.state bench).pages ≡ 1024 }
+    requires boots { 256 ≤ (B.state bench).bench.boots_left }
+    requires unarmed { (B.state bench).bench.armed ≡ 0 }
+    requires units { 1090 ≤ (E.state device).pages }
+    requires device_boots { 256 ≤ (E.state device).bench.boots_left }
+    requires device_unarmed { (E.state device).bench.armed ≡ 0 }
+    ensures { EndsOn (begins_ea (map string_bytes words.now))
+        (λ outcome. Runs (dids_of dids) (record {
+          left = S.left source.old;
+          left_after = S.left source.new;
+          read_faults = S.faults source.old;
+          read_faults_after = S.faults source.new;
+          media = sectors;
+          device = B.state bench;
+          device_after = B.state outcome.bench;
+        }) (record {
+          held = K.held sink.old;
+          held_after = K.held sink.new;
+          write_faults = K.faults sink.old;
+          write_faults_after = K.faults sink.new;
+        }) (command_of (map string_bytes words.now)) outcome.status outcome.lives.items)
+        (λ outcome. Runs (dids_of dids) (record {
+          left = S.left source.old;
+          left_after = S.left source.new;
+          read_faults = S.faults source.old;
+          read_faults_after = S.faults source.new;
+          media = units;
+          device = E.state device;
+          device_after = E.state outcome.bench;
+        }) (record {
+          held = K.held sink.old;
+          held_after = K.held sink.new;
+          write_faults = K.faults sink.old;
+          write_faults_after = K.faults sink.new;
+        }) (ea_command_of (map string_bytes words.now)) outcome.status outcome.lives.items)
+        result }
+{
+    if begins_ea(words) {
+        Ended::Device(run_ea(rt, alloc, words, source, sink, device, dids, gate))
+    } else {
+        Ended::Bench(run(rt, alloc, words, source, sink, bench, dids, gate))
+    }
+}

@@ -1,0 +1,45 @@
+-- A trace: the texts of a life, and the JSON in which they stand.
+use Rattle.std.specs.Prelude.{◌≡◌, ℕ, List, [], ◌∷◌, Some, map, codes}
+use denote.Ref.{Bor}
+use Rattle.serde_json.specs.Data.{Data, string, array, object, Items, no_items, item}
+use Rattle.serde_json.specs.Events.{members_len}
+use Rattle.serde_json.specs.Find.{get}
+use Rattle.flt_trace.specs.declared.trace.Trace.{Trace}
+
+-- The script; the used blocks of the state with which the life began; the calls of its journal; and the answer to each.
+pub record Texts : Type 0 where
+  pub script : List ℕ
+  pub base : List (List ℕ)
+  pub journal : List (List ℕ)
+  pub answers : List (List ℕ)
+
+-- Strings in an array.
+abbrev pub strings : List (List ℕ) → Items
+strings [] = no_items
+strings (text ∷ texts) = item (string text) (strings texts)
+
+-- How many members a value has, where it is an object.
+abbrev pub member_count : Data → ℕ
+member_count (object found) = members_len found
+member_count _ = 0
+
+-- A value is an object of just these four keys: a string and three arrays of strings.
+pub record IsTrace (d : Data) (texts : Texts) : Type 0 where
+  pub count : member_count d ≡ 4
+  pub script : get (codes "script") d ≡ Some (string texts.script)
+  pub base : get (codes "base") d ≡ Some (array (strings texts.base))
+  pub journal : get (codes "journal") d ≡ Some (array (strings texts.journal))
+  pub answers : get (codes "answers") d ≡ Some (array (strings texts.answers))
+
+-- Texts without where they lie in memory.
+abbrev pub seen : List (Bor (List ℕ)) → List (List ℕ)
+seen texts = map (λ text. text.now) texts
+
+-- A trace without where it lies in memory.
+abbrev pub texts_of : Trace → Texts
+texts_of trace = record {
+  script = trace.script.now;
+  base = seen trace.base.items;
+  journal = seen trace.journal.items;
+  answers = seen trace.answers.items;
+}

@@ -1,0 +1,82 @@
+// The whole of an input.
+ghost use Rattle.std.specs.Prelude.{◌≡◌, ◌≤◌, IfOk, IfSome, IsErrOf};
+ghost use Rattle.flt_verdict.specs.Verdict.{HasCome, IsFaultDue, due_of, failed, too_many, whole};
+
+use crate::verdict::Verdict;
+use flt_io::{ReadFault, Source, read_front};
+use std::alloc::Global;
+
+/// The most bytes of an input.
+const MOST: usize = 16_777_216;
+
+/// The status where the source failed.
+const READ_FAULT: u8 = 3;
+
+/// The status where the input has more bytes than are taken.
+const INPUT_LARGE: u8 = 9;
+
+/// Why an input was not read to its end.
+#[derive(Clone, Copy, Debug, PartialEq, Eq)]
+pub enum InputFault {
+    /// Memory was wanting.
+    Memory,
+    /// The source failed.
+    Failed,
+    /// More than 16,777,216 bytes came.
+    TooMany,
+}
+
+impl From<ReadFault> for InputFault {
+    ghost use Rattle.flt_verdict.specs.Verdict.{input_fault};
+
+    ghost from_gives = { λ fault made. made ≡ input_fault fault };
+
+    fn from(fault: ReadFault) -> InputFault {
+        match fault {
+            ReadFault::Memory => InputFault::Memory,
+            ReadFault::Failed => InputFault::Failed,
+        }
+    }
+}
+
+impl InputFault {
+    /// What is told of the input; nothing where memory is wanting.
+    pub fn verdict(self, alloc: Global) -> Option<Verdict>
+        ensures { IfSome result (λ verdict. IsFaultDue self (due_of verdict)) }
+    {
+        match self {
+            InputFault::Memory => None,
+            InputFault::Failed => Verdict::line(alloc, READ_FAULT, b"read fault").ok(),
+            InputFault::TooMany => Verdict::line(alloc, INPUT_LARGE, b"input large").ok(),
+        }
+    }
+}
+
+/// Reads a source to its end, which is to come within 16,777,216 bytes.
+pub fn read_input<S: Source>(alloc: Global, source: &mut S) -> Result<Vec<u8>, InputFault>
+    ensures read { IfOk result (λ bytes. HasCome (record {
+      left = S.left source.old;
+      left_after = S.left source.new;
+      faults = S.faults source.old;
+      faults_after = S.faults source.new;
+    }) (whole bytes.items)) }
+    ensures unread { IsErrOf result InputFault.Failed → HasCome (record {
+      left = S.left source.old;
+      left_after = S.left source.new;
+      faults = S.faults source.old;
+      faults_after = S.faults source.new;
+    }) failed }
+    ensures large { IsErrOf result InputFault.TooMany → HasCome (record {
+      left = S.left source.old;
+      left_after = S.left source.new;
+      faults = S.faults source.old;
+      faults_after = S.faults source.new;
+    }) too_many }
+    ensures later { S.faults source.old ≤ S.faults source.new }
+{
+    let bytes = read_front(alloc, MOST + 1, source)?;
+    if MOST < bytes.len() {
+        return Err(InputFault::TooMany);
+    }
+    Ok(bytes)
+}

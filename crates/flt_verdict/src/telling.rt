@@ -1,0 +1,30 @@
+// What is told of an input.
+ghost use Rattle.std.specs.Prelude.{option_map};
+ghost use Rattle.flt_verdict.specs.Verdict.{IsToldOf, due_of};
+
+use crate::verdict::Verdict;
+use flt_io::Sink;
+
+/// The status where the sink failed.
+const WRITE_FAULT: u8 = 4;
+
+/// The status where memory was wanting.
+const OUT_OF_MEMORY: u8 = 7;
+
+/// Tells a verdict, and answers its status: 4 in its place where the sink failed; no verdict is want of memory, and answers 7.
+pub fn tell<K: Sink>(verdict: Option<Verdict>, sink: &mut K) -> u8
+    ensures { IsToldOf (record {
+      held = K.held sink.old;
+      held_after = K.held sink.new;
+      faults = K.faults sink.old;
+      faults_after = K.faults sink.new;
+    }) (option_map due_of verdict) result }
+{
+    let Some(Verdict { status, text }) = verdict else {
+        return OUT_OF_MEMORY;
+    };
+    match sink.push(&text) {
+        Ok(()) => status,
+        Err(_) => WRITE_FAULT,
+    }
+}

@@ -1,0 +1,24 @@
+// What is told of an input.
+ghost use Rattle.std.specs.Prelude.{◌≡◌, ◌++◌, ◌∷◌, [], IfOk};
+ghost use Rattle.flt_verdict.specs.Verdict.{due_of, line_due};
+
+use std::alloc::{AllocError, Global};
+
+/// What is told of an input: the exit status, and the text that says so.
+#[derive(Drop)]
+pub struct Verdict {
+    pub status: u8,
+    pub text: Vec<u8>,
+}
+
+impl Verdict {
+    /// A verdict of one line, which these words make. The error is want of memory.
+    pub fn line(alloc: Global, status: u8, words: &[u8]) -> Result<Verdict, AllocError>
+        ensures { IfOk result (λ verdict. due_of verdict ≡ line_due status words.now) }
+    {
+        let mut text = Vec::new(alloc);
+        text.extend_from_slice(words)?;
+        text.push(b'\n')?;
+        Ok(Verdict { status, text })
+    }
+}
