@@ -1,18 +1,8 @@
 -- What a driver over an EEPROM means, by what the device means. Its image is one list of units, so each meaning is one of the image.
-use Rattle.std.specs.Prelude.{ℕ, Bool, List, Some, None}
-use Rattle.flt_flash.specs.State.{FlashState, as_counted, erases_of}
-use Rattle.flt_flash.specs.Blocks.{DeviceState, BlocksState}
+use Rattle.std.specs.Prelude.{ℕ, Bool, List, None}
+use Rattle.flt_flash.specs.State.{FlashState}
+use Rattle.flt_flash.specs.Blocks.{BlocksState, device_of}
 use Rattle.flt_ea.specs.Image.{value_in, damage_in, is_spent_in, is_stuck_in}
-
--- The device that an EEPROM is.
-abbrev pub device_of : FlashState → DeviceState
-device_of device = record {
-  faults = device.faults;
-  image = device.image;
-  operations = Some (as_counted device.operations);
-  erases = Some (erases_of device.wear);
-  bench = device.bench;
-}
 
 -- The driver as the layers above see it, by what it keeps and by its device.
 abbrev pub state_by : List ℕ → Bool → Bool → FlashState → BlocksState

@@ -1,7 +1,7 @@
 // A driver of blocks over an EEPROM.
 ghost use Rattle.std.specs.Prelude.{◌≡◌, ◌≢◌, ◌+◌, ◌<◌, ◌≤◌, ◌*◌, ℕ, true, false, length, Contains, Ok, None, IfOk, IfErr, OnOk, OnErr, IsErrOf, IsFalse, slice_index_or};
 ghost use Rattle.std.specs.List.{AllPairs};
-ghost use Rattle.flt_flash.specs.Blocks.{byte_pages, record_pages};
+ghost use Rattle.flt_flash.specs.Blocks.{byte_pages, device_of, record_pages};
 ghost use Rattle.flt_flash.specs.Content.{invalid, bytes as holding, size_of};
 ghost use Rattle.flt_flash.specs.Calls.{Calls, Changes, Costs, ReadCosts, NeverFull, ReadsContent, SameImage, SameSpent, SameValues, Settles};
 ghost use Rattle.flt_flash.specs.declared.blocks.BlockFault.TheVariants.{Flash};
@@ -67,7 +67,7 @@ pub struct Ea<E: Eeprom> {
 }
 
 impl<E: Eeprom> Ea<E> {
-    ghost use Rattle.flt_ea.specs.Driver.{device_of, state_by};
+    ghost use Rattle.flt_ea.specs.Driver.{state_by};
     ghost use Rattle.flt_ea.specs.Ea.{state_of};
 
     /// A driver over this device for these block numbers. It is stale, and has not mounted. It takes the memory of a place and of

@@ -1,8 +1,8 @@
 -- What a driver over a flash means, by what the flash means.
 use Rattle.std.specs.Prelude.{◌+◌, ◌-◌, ◌^◌, ◌==◌, ◌&&◌, ℕ, Bool, false, not, nat_le, List, Option, Some, None, Result, Ok, Err}
 use Rattle.flt_flash.specs.Image.{sector_at}
-use Rattle.flt_flash.specs.State.{FlashState, as_counted, erases_of}
-use Rattle.flt_flash.specs.Blocks.{DeviceState, BlocksState, record_pages}
+use Rattle.flt_flash.specs.State.{FlashState}
+use Rattle.flt_flash.specs.Blocks.{BlocksState, device_of, record_pages}
 use Rattle.flt_sector.specs.Blocks.{Current, current, first_fault, block_value}
 use Rattle.flt_sector.specs.Log.{log}
 use Rattle.flt_fee.specs.declared.fee.Fee.{Fee}
@@ -18,16 +18,6 @@ abbrev pub is_past : ℕ → List ℕ → List (List (List ℕ)) → ℕ → Res
 is_past used numbers image size (Ok (Some at)) = not (nat_le ((log used numbers (sector_at image at.sector)).end + record_pages size) used)
 is_past used numbers image size (Ok None) = false
 is_past used numbers image size (Err place) = false
-
--- The device that a flash is.
-abbrev pub device_of : FlashState → DeviceState
-device_of flash = record {
-  faults = flash.faults;
-  image = flash.image;
-  operations = Some (as_counted flash.operations);
-  erases = Some (erases_of flash.wear);
-  bench = flash.bench;
-}
 
 -- The driver as the layers above see it, by what it keeps and by its flash.
 abbrev pub state_by : ℕ → List ℕ → Bool → Bool → FlashState → BlocksState

@@ -5,7 +5,7 @@ ghost use Rattle.std.specs.List.{AllPairs};
 ghost use Rattle.std.proofs.Props.{props};
 ghost use Rattle.flt_flash.specs.Content.{invalid, bytes as holding, size_of};
 ghost use Rattle.flt_flash.specs.Image.{sector_at};
-ghost use Rattle.flt_flash.specs.Blocks.{byte_pages, record_pages, live_pages, IsFull};
+ghost use Rattle.flt_flash.specs.Blocks.{byte_pages, device_of, live_pages, record_pages, IsFull};
 ghost use Rattle.flt_flash.specs.Calls.{Calls, Changes, Costs, ReadsContent, NoFault, NeverFull, ReadCosts, SameImage, SameSpent, SameValues, Settles};
 ghost use Rattle.flt_flash.specs.declared.blocks.BlockFault.TheVariants.{Full, SequenceSpent};
 ghost use Rattle.flt_code.specs.Word.{is_length};
@@ -81,7 +81,7 @@ pub struct Fee<F: Flash> {
 }
 
 impl<F: Flash> Fee<F> {
-    ghost use Rattle.flt_fee.specs.Fee.{device_of, is_past, state_by, state_of};
+    ghost use Rattle.flt_fee.specs.Fee.{is_past, state_by, state_of};
 
     // Appends a record behind the log, where it fits.
     fn append(&mut self, block: u16, bytes: &[u8], valid: bool) -> Result<(), BlockFault>

@@ -1,7 +1,7 @@
 -- What a driver of blocks means.
-use Rattle.std.specs.Prelude.{◌≡◌, ◌<◌, ◌+◌, ◌/◌, ℕ, Bool, List, length, sum_by, Option, IsSomeAnd}
+use Rattle.std.specs.Prelude.{◌≡◌, ◌<◌, ◌+◌, ◌/◌, ℕ, Bool, List, length, sum_by, Option, Some, IsSomeAnd}
 use Rattle.flt_flash.specs.Content.{Content, missing, invalid, bytes}
-use Rattle.flt_flash.specs.State.{BenchState}
+use Rattle.flt_flash.specs.State.{BenchState, FlashState, as_counted, erases_of}
 
 -- The device beneath a driver, and its operations and erases where they are told.
 pub record DeviceState : Type 0 where
@@ -10,6 +10,16 @@ pub record DeviceState : Type 0 where
   pub operations : Option ℕ
   pub erases : Option ℕ
   pub bench : BenchState
+
+-- The device that a flash or an EEPROM is.
+abbrev pub device_of : FlashState → DeviceState
+device_of device = record {
+  faults = device.faults;
+  image = device.image;
+  operations = Some (as_counted device.operations);
+  erases = Some (erases_of device.wear);
+  bench = device.bench;
+}
 
 -- A driver of blocks; a place is a sector and a page, and a record is told by its block and its length.
 pub record BlocksState : Type 0 where

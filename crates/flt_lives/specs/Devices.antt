@@ -3,7 +3,7 @@ use Rattle.std.specs.Prelude.{List}
 use Rattle.flt_flash.specs.State.{FlashState}
 use Rattle.flt_config.specs.declared.config.Config.{Config}
 use Rattle.flt_config.specs.Validity.{IsValid}
-use Rattle.flt_fee.specs.Fee.{device_of}
+use Rattle.flt_flash.specs.Blocks.{device_of}
 use Rattle.flt_life.specs.Moment.{Medium, moment_at, boot_in}
 use Rattle.flt_life.specs.Chain.{LifeView}
 use Rattle.flt_life.specs.Lives.{StaysSound, IsLinked}

@@ -5,7 +5,7 @@ ghost use Rattle.flt_script.specs.Part.{parts_of};
 ghost use Rattle.flt_generation.specs.Layout.{numbers};
 ghost use Rattle.flt_image.specs.Table.{block_table};
 ghost use Rattle.flt_store.specs.Cause.{HasRoom};
-ghost use Rattle.flt_fee.specs.Fee.{device_of};
+ghost use Rattle.flt_flash.specs.Blocks.{device_of};
 ghost use Rattle.flt_life.specs.Parts.{IsPossiblePart, arms_in, steps_in, widths};
 ghost use Rattle.flt_life.specs.Lives.{IsLinked, ArePlayed, AreEnded, AreGiven, StaysSound, arms_given, lists, lives_seen};
 ghost use Rattle.flt_life.specs.Moment.{boot_in, moment_at};

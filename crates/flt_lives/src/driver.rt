@@ -5,7 +5,7 @@ ghost use Rattle.flt_config.specs.declared.config.Config.{Config};
 ghost use Rattle.flt_flash.specs.State.{FlashState};
 ghost use Rattle.flt_generation.specs.Layout.{numbers};
 ghost use Rattle.flt_store.specs.Cause.{HasRoom};
-ghost use Rattle.flt_fee.specs.Fee.{device_of};
+ghost use Rattle.flt_flash.specs.Blocks.{device_of};
 ghost use Rattle.flt_life.specs.Moment.{Medium};
 ghost use Rattle.flt_lives.specs.Linked.{KeepsOn};
 

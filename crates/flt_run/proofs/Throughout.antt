@@ -10,7 +10,7 @@ use Rattle.flt_config.specs.declared.config.DidUse.{DidUse}
 use Rattle.flt_generation.specs.Laws.{IsGiven}
 use Rattle.flt_generation.proofs.ImageLaws.{held_stands, spare_stands}
 use Rattle.flt_restore.specs.declared.fault.StartFault.TheVariants as faults
-use Rattle.flt_fee.specs.Fee.{device_of}
+use Rattle.flt_flash.specs.Blocks.{device_of}
 use Rattle.flt_script.specs.declared.step.Step.{Step}
 use Rattle.flt_script.specs.Part.{PartOf}
 use Rattle.flt_script.specs.Load.{load_script}

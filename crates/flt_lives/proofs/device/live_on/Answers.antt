@@ -1,8 +1,7 @@
 use Rattle.std.proofs.Common.{◌≡◌, ◌∙◌, sym, ap, subst}
-use Rattle.flt_flash.specs.Blocks.{BlocksState, DeviceState}
+use Rattle.flt_flash.specs.Blocks.{BlocksState, DeviceState, device_of}
 use Rattle.flt_store.specs.Cause.{HasRoom}
 use Rattle.flt_store.specs.Store.{driver_of}
-use Rattle.flt_fee.specs.Fee.{device_of}
 use Rattle.flt_life.specs.Lives.{IsLinked, lists, lives_seen}
 use Rattle.flt_lives.proofs.Bridge.{sound_over}
 use Rattle.flt_lives.proofs.device.live_on.Goals as goal

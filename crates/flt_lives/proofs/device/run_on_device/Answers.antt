@@ -1,6 +1,5 @@
 use Rattle.std.proofs.Common.{subst}
-use Rattle.flt_flash.specs.Blocks.{DeviceState}
-use Rattle.flt_fee.specs.Fee.{device_of}
+use Rattle.flt_flash.specs.Blocks.{DeviceState, device_of}
 use Rattle.flt_life.specs.Moment.{moment_at, boot_in}
 use Rattle.flt_life.specs.Lives.{StaysSound}
 use Rattle.flt_lives.proofs.device.run_on_device.Goals as goal
