@@ -1,5 +1,5 @@
 -- What the program hands to a run, and what it makes of how the run ended.
-use Rattle.std.specs.Prelude.{ℕ, List, [], ◌∷◌, ◌==◌, Bool, if◌then◌else◌, Result, Ok, Err}
+use Rattle.std.specs.Prelude.{ℕ, List, [], ◌∷◌, ◌==◌, if◌then◌else◌, Result, Ok, Err}
 use Rattle.flt_config.specs.declared.config.DidUse.{DidUse}
 
 abbrev pub row : ℕ → ℕ → DidUse

@@ -1,11 +1,9 @@
 -- What was judged of an image, by a driver on which no operation failed.
-use Rattle.std.proofs.Common.{◌≡◌, ◌≢◌, ◌⊎◌, ⊎_elim, ℕ, List, Option, Some, None, Result, Ok, Err, refl, sym, ◌∙◌, ap, subst}
-use Rattle.flt_flash.specs.Content.{Content}
+use Rattle.std.proofs.Common.{◌≡◌, ◌≢◌, ◌⊎◌, ⊎_elim, ℕ, List, Option, Some, None, Result, Ok, Err, refl, sym, ◌∙◌, ap}
 use Rattle.flt_flash.specs.State.{HasRisenBy}
 use Rattle.flt_flash.specs.Blocks.{BlocksState}
 use Rattle.flt_config.specs.declared.config.Config.{Config}
 use Rattle.flt_config.specs.declared.persist.Persist.{Persist}
-use Rattle.flt_generation.specs.Form.{mark_of}
 use Rattle.flt_generation.specs.Holding.{Generation, Fault, damaged, other, held}
 use Rattle.flt_generation.specs.declared.place.Place.TheVariants.{Page}
 use Rattle.flt_restore.specs.Restored.{IsJudged, IsRestored, Refuses, generation}

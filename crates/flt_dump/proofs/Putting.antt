@@ -1,5 +1,5 @@
 -- The lines of a log from a page on, while they are put.
-use Rattle.std.proofs.Common.{◌≡◌, ◌≢◌, inl, inr, ⊎_elim, ◌+◌, ◌-◌, ◌<◌, ◌≤◌, ℕ, zero, suc, Bool, true, false, List, [], ◌∷◌, ◌++◌, Option, Some, None, Result, Ok, Err, refl, sym, ◌∙◌, ap, subst, arith, append_assoc}
+use Rattle.std.proofs.Common.{◌≡◌, ◌≢◌, ⊎_elim, ◌+◌, ◌-◌, ◌<◌, ◌≤◌, ℕ, zero, suc, Bool, true, false, List, [], ◌∷◌, ◌++◌, Option, Some, None, Result, Ok, Err, refl, sym, ◌∙◌, ap, subst, arith, append_assoc}
 use Rattle.std.proofs.lemmas.List.{append-nil}
 use Rattle.flt_flash.specs.Blocks.{byte_pages, record_pages}
 use Rattle.flt_sector.specs.Log.{Entry, LogFrom, item_at, first_written, log_after, log_from, log}
@@ -8,7 +8,7 @@ use Rattle.flt_sector.specs.declared.log.Item.TheVariants.{End, Torn, Kept}
 use Rattle.flt_record.proofs.Items.{item_within}
 use Rattle.std.specs.Result.{is_ok}
 use Rattle.flt_pages.specs.declared.fault.PageFault.{PageFault}
-use Rattle.flt_pages.specs.declared.fault.PageFault.TheVariants.{Flash, Damaged}
+use Rattle.flt_pages.specs.declared.fault.PageFault.TheVariants.{Flash}
 use Rattle.flt_pages.specs.Told.{told, told_fault, TellsOrFails}
 use Rattle.flt_dump.specs.Listing.{log_text, record_line, torn_line, torn_lines}
 use Rattle.flt_dump.specs.Listed.{IsListed}

@@ -1,5 +1,5 @@
 -- What an image is found to hold, and what it says line by line.
-use Rattle.std.specs.Prelude.{◌≡◌, ℕ, List, Option, Some, None, Result, Ok, Err}
+use Rattle.std.specs.Prelude.{◌≡◌, ℕ, Option, Some, None, Result, Ok, Err}
 use Rattle.flt_config.specs.declared.config.Config.{Config}
 use Rattle.flt_generation.specs.Holding.{Generation, Fault}
 use Rattle.flt_generation.specs.Layout.{numbers}

@@ -1,5 +1,5 @@
 -- A dump that was read, and a fault of one, without where they lie in memory.
-use Rattle.std.specs.Prelude.{ℕ, List, [], ◌∷◌, take, drop, Option, Some, None}
+use Rattle.std.specs.Prelude.{[], ◌∷◌, take, drop, Option, Some, None}
 use Rattle.flt_dump.specs.Dump.{DumpContent, Fault, no_script, begun, no_page}
 use Rattle.flt_dump.specs.declared.dump.Dump.{Dump}
 use Rattle.flt_dump.specs.declared.dump.DumpFault.{DumpFault}

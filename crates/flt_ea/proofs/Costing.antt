@@ -1,5 +1,5 @@
 -- What a call on a driver that is not stale costs.
-use Rattle.std.proofs.Common.{◌≡◌, ◌+◌, ◌≤◌, ℕ, Bool, true, false, List, Result, arith}
+use Rattle.std.proofs.Common.{◌≡◌, ◌+◌, ◌≤◌, ℕ, Bool, false, List, Result, arith}
 use Rattle.std.specs.Prelude.{IsErrOf}
 use Rattle.flt_flash.specs.Blocks.{record_pages}
 use Rattle.flt_flash.specs.Calls.{Calls, Costs, CostsAtMost, NoFault}

@@ -1,5 +1,5 @@
 -- One operation of an EEPROM.
-use Rattle.std.proofs.Common.{◌≡◌, ◌+◌, ◌<◌, ◌≤◌, ℕ, List, [], get_or, set, length, get_or-set_same, Result, Ok, Err, refl, sym, ◌∙◌, ap, subst, arith}
+use Rattle.std.proofs.Common.{◌≡◌, ◌<◌, ℕ, List, [], get_or, set, get_or-set_same, Result, Ok, Err, refl, sym, ◌∙◌, ap, arith}
 use Rattle.std.specs.Prelude.{OnOk, OnErr}
 use Rattle.flt_flash.specs.Image.{sector_at, programmed}
 use Rattle.flt_flash.specs.State.{FlashState, Operates, OnlyReads, HasRisenBy}

@@ -1,11 +1,10 @@
 -- A driver that is not stale, at the position of one of its blocks.
-use Rattle.std.proofs.Common.{◌≡◌, ◌≢◌, ◌⊎◌, inl, inr, ⊎_elim, ◌+◌, ◌*◌, ◌^◌, ◌<◌, ◌≤◌, ℕ, Bool, true, false, List, [], get_or, set, length, length-set, get_or-set_same, get_or-set_other, Option, Some, None, Result, Ok, Err, refl, sym, ◌∙◌, ap, subst, arith}
+use Rattle.std.proofs.Common.{◌≡◌, ◌≢◌, ◌⊎◌, inl, inr, ⊎_elim, ◌+◌, ◌*◌, ◌^◌, ◌<◌, ◌≤◌, ℕ, Bool, true, false, List, [], get_or, set, length, get_or-set_same, get_or-set_other, Option, Some, None, Result, Ok, Err, refl, sym, ◌∙◌, ap, subst, arith}
 use Rattle.std.specs.Prelude.{OnOk, IsErrOf, if◌then◌else◌}
 use Rattle.std.specs.List.{AllPairs, list_any}
 use Rattle.std.proofs.lemmas.Bool.{cases_eq}
 use Rattle.std.proofs.lemmas.List.{get_or_read}
-use Rattle.flt_flash.specs.Content.{Content, missing, invalid, bytes}
-use Rattle.flt_flash.specs.Blocks.{byte_pages}
+use Rattle.flt_flash.specs.Content.{Content, invalid, bytes}
 use Rattle.flt_flash.specs.Image.{sector_at}
 use Rattle.flt_flash.specs.State.{FlashState, MakesOperations, HasRisenBy}
 use Rattle.flt_flash.specs.Calls.{Follows, Calls, Changes, found_of}
@@ -21,7 +20,6 @@ use Rattle.flt_code.specs.Word.{is_length}
 use Rattle.flt_ea.specs.Gate.{IsGate, gate_bytes, gate_of}
 use Rattle.flt_ea.specs.Image.{gate_unit, gate_at, bytes_behind, content_of, current, gate_in, newer, is_last, next_place, next_sequence, judged, value_in, damage_in, is_spent_in, is_stuck_in, spent_from}
 use Rattle.flt_ea.specs.Scan.{IsTable}
-use Rattle.flt_ea.specs.Mounted.{IsMounted}
 use Rattle.flt_ea.specs.Driver.{state_by}
 use Rattle.flt_ea.specs.Written.{HoldsRecord, RecordLeft, WritesRecord}
 use Rattle.flt_ea.specs.Proper.{current_held}

@@ -1,17 +1,17 @@
 -- The units of places, before and after a record is written to one of them.
-use Rattle.std.proofs.Common.{◌≡◌, ◌≢◌, ◌⊎◌, inl, inr, ⊎_elim, ◌+◌, ◌*◌, ◌<◌, ◌≤◌, ℕ, Bool, true, false, List, [], get_or, length, take, Option, Some, None, Ok, refl, sym, ◌∙◌, ap, subst, arith}
-use Rattle.std.specs.Prelude.{◌==◌, if◌then◌else◌, slice_range}
+use Rattle.std.proofs.Common.{◌≡◌, ◌≢◌, ◌⊎◌, inl, inr, ⊎_elim, ◌+◌, ◌<◌, ◌≤◌, ℕ, Bool, true, false, List, [], get_or, length, take, Option, Some, None, Ok, refl, sym, ◌∙◌, ap, subst, arith}
+use Rattle.std.specs.Prelude.{◌==◌, if◌then◌else◌}
 use Rattle.std.specs.List.{flat_map}
 use Rattle.std.proofs.lemmas.Bool.{cases_lt, eq-eqb, eqb-true}
 use Rattle.flt_flash.specs.Blocks.{byte_pages}
-use Rattle.flt_flash.specs.Content.{Content, invalid, bytes}
+use Rattle.flt_flash.specs.Content.{invalid, bytes}
 use Rattle.flt_record.specs.LogHolds.{asked_of}
 use Rattle.flt_record.specs.Record.{KeptApart}
 use Rattle.flt_record.proofs.Finding.{length_most}
 use Rattle.flt_record.proofs.Values.{same_range}
 use Rattle.flt_ea.specs.Gate.{gate_bytes, gate_of}
 use Rattle.flt_ea.specs.Image.{gate_unit, gate_at, bytes_behind, content_of, current, gate_in, newer, judged, next_place, next_sequence}
-use Rattle.flt_ea.specs.Written.{IsEmptyAt, HoldsRecord, RecordLeft}
+use Rattle.flt_ea.specs.Written.{IsEmptyAt, HoldsRecord}
 use Rattle.flt_ea.specs.declared.gate.Gate.{Gate}
 use Rattle.flt_ea.specs.declared.place.Held.{Held}
 use Rattle.flt_ea.proofs.Judging.{chosen, held_at, place_cases, empty_first, empty_second, given_first, given_second, held_is}

@@ -1,6 +1,6 @@
 -- The steps of a write to a place, one after another.
-use Rattle.std.proofs.Common.{◌≡◌, ◌⊎◌, inl, inr, ⊎_elim, ◌+◌, ◌<◌, ◌≤◌, ℕ, Bool, false, List, [], get_or, set, take, length, length-set, get_or-set_same, get_or-set_other, Result, Ok, Err, Some, None, refl, sym, ◌∙◌, ap, subst, arith}
-use Rattle.std.specs.Prelude.{OnOk, OnErr, IsErr, slice_range}
+use Rattle.std.proofs.Common.{◌≡◌, ◌⊎◌, inl, inr, ⊎_elim, ◌+◌, ◌≤◌, ℕ, false, List, [], get_or, set, take, length, length-set, get_or-set_same, get_or-set_other, Result, Ok, Err, refl, ◌∙◌, ap, subst, arith}
+use Rattle.std.specs.Prelude.{IsErr, slice_range}
 use Rattle.std.specs.List.{flat_map}
 use Rattle.flt_flash.specs.Image.{sector_at, blank_page}
 use Rattle.flt_flash.specs.State.{FlashState, HasRisenBy}

@@ -1,5 +1,5 @@
 -- The laws of a driver over an EEPROM.
-use Rattle.std.proofs.Common.{◌≡◌, ◌+◌, ◌-◌, ◌*◌, ◌<◌, ◌≤◌, ℕ, zero, suc, Bool, true, false, List, [], ◌∷◌, drop, length, length-take, Option, Some, None, refl, sym, ◌∙◌, ap, subst, arith}
+use Rattle.std.proofs.Common.{◌≡◌, ◌+◌, ◌-◌, ◌*◌, ◌<◌, ◌≤◌, ℕ, suc, Bool, true, false, List, [], ◌∷◌, drop, length, length-take, Option, Some, None, refl, sym, ◌∙◌, ap, subst, arith}
 use Rattle.std.specs.Prelude.{◌||◌, ◌==◌, if◌then◌else◌, slice_range, IsTrue}
 use Rattle.std.proofs.lemmas.List.{get_or-take, get_or-drop}
 use Rattle.flt_flash.specs.Content.{Content, missing, invalid, bytes, size_of, IsShort}

@@ -1,9 +1,8 @@
 -- What the current place of a block is.
-use Rattle.std.proofs.Common.{◌≡◌, ◌+◌, ◌*◌, ◌<◌, ◌≤◌, ℕ, Bool, true, false, List, Option, Some, None, refl, sym, ◌∙◌, ap, subst, arith}
+use Rattle.std.proofs.Common.{◌≡◌, ◌<◌, ℕ, Bool, true, false, List, Option, Some, None, refl, ◌∙◌, ap, subst, arith}
 use Rattle.std.specs.Prelude.{◌&&◌, ◌==◌, nat_le, nat_lt, if◌then◌else◌, slice_index, slice_range}
 use Rattle.std.specs.Int.{from_be_bytes, w16, w32}
 use Rattle.std.specs.Str.{bytes_eq}
-use Rattle.std.proofs.lemmas.Bool.{leb-true, eqb-true}
 use Rattle.flt_code.specs.Seal.{unsealed}
 use Rattle.flt_code.specs.Word.{is_length}
 use Rattle.flt_ea.specs.Gate.{gate_bytes, candidate, checked, gate_of}

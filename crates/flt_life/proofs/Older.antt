@@ -1,6 +1,6 @@
 -- What was acknowledged is never lost.
-use Rattle.std.proofs.Common.{◌≡◌, ⊎_elim, ℕ, ◌≤◌, ◌<◌, zero, List, [], ◌∷◌, Option, Ok, refl, sym, ap, subst, arith, ◌∙◌}
-use Rattle.std.specs.Prelude.{Result, min}
+use Rattle.std.proofs.Common.{◌≡◌, ⊎_elim, ℕ, ◌≤◌, List, [], ◌∷◌, Option, Ok, sym, ap, subst, arith, ◌∙◌}
+use Rattle.std.specs.Prelude.{Result}
 use Rattle.flt_flash.specs.declared.arm.ArmMade.{ArmMade}
 use Rattle.flt_flash.specs.Content.{Content}
 use Rattle.flt_flash.specs.State.{Boot as PowerUp}
@@ -14,14 +14,13 @@ use Rattle.flt_model.specs.declared.call.Op.TheVariants as ops
 use Rattle.flt_restore.specs.declared.fault.StartFault.{StartFault}
 use Rattle.flt_restore.specs.declared.fault.StartFault.TheVariants as faults
 use Rattle.flt_store.specs.Store.{numbered}
-use Rattle.flt_turn.specs.declared.vault.Entry.{Entry}
 use Rattle.flt_life.specs.declared.life.Boot.{Boot}
 use Rattle.flt_life.specs.declared.life.Boot.TheVariants.{Started, Dark, Refused}
 use Rattle.flt_life.specs.Answers.{Told}
-use Rattle.flt_life.specs.Chain.{LifeView, told_of, start_from, Finds, IsFound, KeepsSound, Unchanged, IsRefused, IsLifeBegunBy, AreLinked}
+use Rattle.flt_life.specs.Chain.{LifeView, told_of, start_from, Finds, KeepsSound, Unchanged, IsRefused, IsLifeBegunBy, AreLinked}
 use Rattle.flt_life.specs.Journal.{Journal, Acknowledges, AcknowledgesBy}
-use Rattle.flt_life.specs.Moment.{Moment, Medium, moment_at, IsSoundAt}
-use Rattle.flt_life.specs.Saving.{IsLeft, IsUnacknowledged}
+use Rattle.flt_life.specs.Moment.{Moment, Medium, moment_at}
+use Rattle.flt_life.specs.Saving.{IsLeft}
 use Rattle.flt_life.specs.Laws.{IsSoundIn, first_boot, number_by, number_in, acknowledged_in, IsNoOlder, BeginsNoOlder, EachBeginsNoOlder}
 
 -- ---- a journal

@@ -1,5 +1,5 @@
 -- The lives of a script, as they were made; no life is refused for the flash: it is dark instead.
-use Rattle.std.proofs.Common.{◌≡◌, ◌≢◌, ◌∙◌, ℕ, ◌<◌, arith, List, [], ◌∷◌, ◌++◌, length, reverse, Option, None, Some, ap, refl, sym, subst, Global}
+use Rattle.std.proofs.Common.{◌≡◌, ◌≢◌, ◌∙◌, ℕ, ◌<◌, arith, List, [], ◌∷◌, length, reverse, Option, None, Some, ap, sym, subst, Global}
 use Rattle.std.specs.Prelude.{All, IfSome, Vec}
 use Rattle.std.proofs.lemmas.List.{length-map, reverse-append, reverse-reverse}
 use Rattle.std.proofs.lemmas.List.Elements.{All-nil, All-cons, All-head, All-tail, All-append}

@@ -1,12 +1,11 @@
 -- The status of lives, by the last of them.
-use Rattle.std.proofs.Common.{◌≡◌, ◌∙◌, ℕ, suc, ◌-◌, List, [], ◌∷◌, ◌++◌, Some, arith, drop, drop-cons, length, reverse, take, ap, refl, sym}
+use Rattle.std.proofs.Common.{◌≡◌, ◌∙◌, suc, ◌-◌, List, [], ◌∷◌, ◌++◌, Some, arith, drop, drop-cons, length, reverse, take, ap, refl, sym}
 use Rattle.std.specs.List.{slice_get}
 use Rattle.std.proofs.lemmas.List.{reverse-append, take-append-drop}
 use Rattle.std.proofs.lemmas.Option.{get_or_from_slice_get, slice_get_within}
 use Rattle.std.proofs.Math.ListN.{drop_of_length-le}
 use Rattle.flt_script.specs.declared.step.Step.{Step}
 use Rattle.flt_script.specs.Part.{PartOf}
-use Rattle.flt_life.specs.declared.life.Boot.{Boot}
 use Rattle.flt_life.specs.declared.life.Life.{Life}
 use Rattle.flt_life.specs.Chain.{LifeView}
 use Rattle.flt_life.specs.Lives.{lives_seen, view_of, views_of}

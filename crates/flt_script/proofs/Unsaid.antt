@@ -14,7 +14,6 @@ use Rattle.flt_script.specs.Said.{Line}
 use Rattle.flt_script.specs.Said as line
 use Rattle.flt_script.specs.Alone.{said_step, step_where}
 use Rattle.flt_script.specs.Behind.{step_of}
-use Rattle.flt_script.specs.Bytes.{tester_of}
 use Rattle.flt_script.specs.Gives.{◌⇒◌}
 use Rattle.flt_script.specs.Line.{line_with, did_with, alone}
 use Rattle.flt_script.specs.Next.{begins_step, said_behind}

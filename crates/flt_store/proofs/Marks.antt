@@ -1,19 +1,18 @@
 -- The mark of the configuration was read, and written where it was missing or of version 1.
-use Rattle.std.proofs.Common.{◌≡◌, ◌≢◌, ◌⊎◌, ◌↔◌, inl, inr, ⊎_elim, ℕ, ◌≤◌, Bool, true, false, List, length, take, refl, sym, ◌∙◌, ap, subst, arith}
-use Rattle.std.specs.Prelude.{IsTrue, bytes_eq}
+use Rattle.std.proofs.Common.{◌≡◌, ◌≢◌, ◌⊎◌, inl, inr, ⊎_elim, ℕ, ◌≤◌, length, refl, sym, ◌∙◌, ap, subst, arith}
+use Rattle.std.specs.Prelude.{IsTrue}
 use Rattle.std.proofs.lemmas.Bool.{cases_eq}
 use Rattle.flt_flash.specs.Content.{Content, missing, invalid, bytes}
 use Rattle.flt_flash.specs.Blocks.{pages_of, record_pages}
 use Rattle.flt_config.specs.declared.config.Config.{Config}
-use Rattle.flt_generation.specs.declared.mark.Mark.{Mark}
 use Rattle.flt_generation.specs.Layout.{mark_number, number_of, first_commit, second_commit, application_number, is_used}
-use Rattle.flt_generation.specs.Form.{mark_of, mark_bytes, mark_bytes_1}
+use Rattle.flt_generation.specs.Form.{mark_of, mark_bytes}
 use Rattle.flt_generation.specs.Excess.{IsBorne, own_pages}
 use Rattle.flt_generation.specs.Holding.{Generation, Holds, IsSound, MarkAllows, either_copy, only_bytes, is_application}
 use Rattle.flt_generation.proofs.Marks.{mark_size}
 use Rattle.flt_generation.proofs.Pages.{used_range}
 use Rattle.flt_store.specs.Cause.{IsWithinOwn}
-use Rattle.flt_store.specs.Started.{HasMark, IsMarkTried}
+use Rattle.flt_store.specs.Started.{IsMarkTried}
 use Rattle.flt_store.proofs.Causes.{borne_stays}
 use Rattle.flt_store.proofs.Started.{AreApplications, content_names_on}
 use Rattle.flt_restore.specs.Restored.{IsMarkDue}

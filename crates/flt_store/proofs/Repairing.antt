@@ -13,7 +13,7 @@ use Rattle.flt_generation.specs.declared.commit.Commit.{Commit}
 use Rattle.flt_generation.specs.Layout.{commit_id, number_of, first_commit, second_commit}
 use Rattle.flt_generation.specs.Reading.{commit_in}
 use Rattle.flt_generation.specs.Excess.{IsBorne, own_pages}
-use Rattle.flt_generation.specs.Holding.{Generation, CommitNames, Names, MarkAllows, Holds, IsHeld, IsSpare, IsSound, either_copy, only_bytes, OldOrNew}
+use Rattle.flt_generation.specs.Holding.{Generation, CommitNames, Names, Holds, IsHeld, IsSpare, IsSound, either_copy, only_bytes, OldOrNew}
 use Rattle.flt_generation.proofs.Commits.{bytes_of_commit_size, commit_read, read_commit}
 use Rattle.flt_generation.specs.Form.{commit_length}
 use Rattle.flt_store.specs.Cause.{IsWithinOwn}

@@ -1,5 +1,5 @@
 -- An image after a start-up or a save that answered Ok: both copies of the commit name one generation.
-use Rattle.std.specs.Prelude.{◌≡◌, ◌≢◌, ◌⊎◌, ℕ, ◌<◌, ◌+◌, List, Option, Some, None, IsTrue}
+use Rattle.std.specs.Prelude.{◌≡◌, ◌≢◌, ◌⊎◌, ℕ, ◌<◌, ◌+◌, Option, Some, None, IsTrue}
 use Rattle.flt_flash.specs.Content.{Content, bytes}
 use Rattle.flt_flash.specs.Blocks.{BlocksState}
 use Rattle.flt_config.specs.declared.config.Config.{Config}

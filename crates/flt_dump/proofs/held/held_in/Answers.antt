@@ -1,6 +1,5 @@
-use Rattle.std.proofs.Common.{◌≡◌, ◌∙◌, ℕ, List, Option, Some, None, Ok, Err, refl, sym, ap, arith}
+use Rattle.std.proofs.Common.{◌≡◌, ◌∙◌, ℕ, Some, None, Ok, Err, refl, sym, ap, arith}
 use Rattle.flt_flash.specs.Blocks.{BlocksState}
-use Rattle.flt_flash.specs.Content.{Content}
 use Rattle.flt_sector.specs.Blocks.{block_value, first_fault}
 use Rattle.flt_nvm.specs.Driver.{driver_of}
 use Rattle.flt_whole.specs.Image.{image_blocks, image_damage}

@@ -1,4 +1,4 @@
-use Rattle.std.proofs.Common.{◌≡◌, ◌∙◌, ◌/◌, ◌*◌, ℕ, List, [], ◌∷◌, length, take, drop, ap, sym, arith}
+use Rattle.std.proofs.Common.{◌≡◌, ◌∙◌, ◌/◌, ℕ, List, [], ◌∷◌, length, take, drop, ap, arith}
 use Rattle.flt_generation.specs.Layout.{numbers}
 use Rattle.flt_whole.specs.Image.{image_held}
 use Rattle.flt_dump.specs.Copy.{state_of}

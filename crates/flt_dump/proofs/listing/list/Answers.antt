@@ -1,4 +1,4 @@
-use Rattle.std.proofs.Common.{◌≡◌, ◌∙◌, ◌++◌, ℕ, List, [], Option, Ok, ap, sym, subst}
+use Rattle.std.proofs.Common.{◌≡◌, ◌∙◌, ◌++◌, ℕ, List, Option, Ok, ap, subst}
 use Rattle.flt_flash.specs.Image.{sector_at}
 use Rattle.flt_generation.specs.Layout.{numbers}
 use Rattle.flt_pages.specs.Told.{TellsOrFails}

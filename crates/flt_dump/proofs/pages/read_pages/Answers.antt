@@ -1,6 +1,6 @@
 use Rattle.std.proofs.Common.{◌≡◌, ◌∙◌, ℕ, suc, ◌+◌, ◌-◌, Some, None, Err, sym, ap, arith}
 use Rattle.flt_script.specs.Text.{lines_of}
-use Rattle.flt_dump.specs.Dump.{page_in, pages_in}
+use Rattle.flt_dump.specs.Dump.{pages_in}
 use Rattle.flt_dump.proofs.Paging.{before_pages, one_page, no_line, wrong_page, all_pages, line_more}
 use Rattle.flt_dump.proofs.pages.read_pages.Goals as goal
 

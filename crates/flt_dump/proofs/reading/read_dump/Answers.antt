@@ -1,4 +1,4 @@
-use Rattle.std.proofs.Common.{◌≤◌, arith}
+use Rattle.std.proofs.Common.{arith}
 use Rattle.flt_dump.proofs.Passed.{few_lines}
 use Rattle.flt_dump.proofs.reading.read_dump.Goals as goal
 

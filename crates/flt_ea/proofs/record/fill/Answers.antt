@@ -1,5 +1,4 @@
 use Rattle.std.proofs.Common.{◌≡◌, ◌⊎◌, ◌+◌, ◌*◌, ◌<◌, ℕ, List, inl, inr, length, Ok, subst, arith}
-use Rattle.std.specs.Prelude.{slice_range}
 use Rattle.flt_flash.specs.Blocks.{byte_pages}
 use Rattle.flt_pages.specs.Append.{filled}
 use Rattle.flt_ea.proofs.Device.{GivesUnit, gives_unit}

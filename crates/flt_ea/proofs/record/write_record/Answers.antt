@@ -1,9 +1,7 @@
-use Rattle.std.proofs.Common.{◌≡◌, ◌<◌, ℕ, List, Result, Ok, Err, subst, arith}
+use Rattle.std.proofs.Common.{◌<◌, ℕ, List, Ok, subst, arith}
 use Rattle.flt_flash.specs.Image.{blank_page}
-use Rattle.flt_flash.specs.State.{FlashState}
-use Rattle.flt_flash.specs.declared.flash.FlashFailed.{FlashFailed}
 use Rattle.flt_code.specs.Seal.{IsCodeWordOf}
-use Rattle.flt_ea.proofs.Device.{GivesUnit, gives_unit}
+use Rattle.flt_ea.proofs.Device.{gives_unit}
 use Rattle.flt_ea.proofs.Writing.{clear_failed, fill_failed, gate_written}
 use Rattle.flt_ea.proofs.record.write_record.Goals as goal
 

@@ -1,4 +1,4 @@
-use Rattle.std.proofs.Common.{◌+◌, ◌∷◌, [], ◌/◌, ◌%◌, append_assoc, arith}
+use Rattle.std.proofs.Common.{◌+◌, ◌∷◌, [], ◌/◌, ◌%◌, append_assoc}
 use Rattle.flt_report.proofs.Decimals.{two_digits}
 use Rattle.flt_report.proofs.digits.put_two_digits.Goals as goal
 

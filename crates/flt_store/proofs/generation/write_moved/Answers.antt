@@ -1,7 +1,7 @@
 use Rattle.std.proofs.Common.{◌∙◌, ℕ, List, length, sym, ap, arith}
 use Rattle.flt_flash.specs.Blocks.{record_pages}
 use Rattle.flt_nvm.specs.Driver.{driver_of}
-use Rattle.flt_generation.specs.Layout.{number_of, index_in}
+use Rattle.flt_generation.specs.Layout.{number_of}
 use Rattle.flt_generation.proofs.Pages.{own_part}
 use Rattle.flt_store.proofs.Causes.{given_within}
 use Rattle.flt_generation.specs.Successor.{is_written}

@@ -3,7 +3,7 @@ use Rattle.std.proofs.lemmas.List.{drop_all, map-append}
 use Rattle.serde_json.specs.Data.{array, string, item, no_items}
 use Rattle.serde_json.specs.View.{view, items_view}
 use Rattle.flt_trace.specs.Trace.{seen, strings}
-use Rattle.flt_trace.proofs.Strings.{onto, onto_none, onto_more, not_strings, is_array, is_string, not_array, items_from}
+use Rattle.flt_trace.proofs.Strings.{onto, onto_none, onto_more, not_strings, is_array, is_string, items_from}
 use Rattle.flt_trace.proofs.reading.strings_in.Goals as goal
 
 pub loop-item-init : goal.loop-item-init

@@ -1,4 +1,4 @@
-use Rattle.std.proofs.Common.{◌≡◌, ◌+◌, ◌<◌, ◌≤◌, ◌++◌, ℕ, List, drop, length, true, false, refl, sym, ◌∙◌, ap, subst, arith}
+use Rattle.std.proofs.Common.{◌≡◌, ◌+◌, ◌++◌, drop, length, true, false, refl, sym, ◌∙◌, ap, subst, arith}
 use Rattle.flt_flash.specs.Blocks.{byte_pages}
 use Rattle.flt_flash.specs.Calls.{ReadsContent}
 use Rattle.flt_flash.specs.Content.{Content, size_of}

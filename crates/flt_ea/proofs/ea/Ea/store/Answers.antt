@@ -1,4 +1,4 @@
-use Rattle.std.proofs.Common.{◌≡◌, ◌<◌, List, Option, length, length-set, set, true, false, Ok, Err, refl, sym, ◌∙◌, ap, subst, arith}
+use Rattle.std.proofs.Common.{length, length-set, set, true, false, Ok, Err, refl, sym, ◌∙◌, ap, subst, arith}
 use Rattle.flt_flash.specs.Image.{sector_at}
 use Rattle.flt_code.specs.Spoiled.{is_spoiled}
 use Rattle.flt_record.specs.LogHolds.{asked_of}
@@ -7,7 +7,6 @@ use Rattle.flt_ea.specs.Image.{gate_unit}
 use Rattle.flt_ea.specs.Scan.{IsTable}
 use Rattle.flt_ea.specs.Written.{WritesRecord}
 use Rattle.flt_ea.specs.declared.gate.Gate.{Gate}
-use Rattle.flt_ea.specs.declared.place.Held.{Held}
 use Rattle.flt_ea.proofs.GateBytes.{gate_of-gate_bytes}
 use Rattle.flt_ea.proofs.Judging.{held_at}
 use Rattle.flt_ea.proofs.Standing.{current_read, is_gate, stuck_is, unspoiled, spent_changes, stored_sound, failed_calls, failed_changes, whole_now, done_calls, done_changes, table_now}

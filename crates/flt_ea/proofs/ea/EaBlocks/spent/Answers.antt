@@ -1,8 +1,7 @@
-use Rattle.std.proofs.Common.{◌∙◌, List, Option, length, get_or, None, ap}
+use Rattle.std.proofs.Common.{◌∙◌, ap}
 use Rattle.std.specs.List.{list_any}
 use Rattle.flt_flash.specs.Image.{sector_at}
 use Rattle.flt_ea.specs.Image.{is_last}
-use Rattle.flt_ea.specs.declared.place.Held.{Held}
 use Rattle.flt_ea.proofs.Standing.{told_spent}
 use Rattle.flt_ea.proofs.ea.EaBlocks.spent.Goals as goal
 
