@@ -11,7 +11,7 @@ ghost use Rattle.flt_dump.specs.Listed.{IsListed, entry_of};
 use crate::copy::ImageCopy;
 use flt_fee::{CurrentSector, current_sector};
 use flt_image::fee_numbers;
-use flt_pages::{Item, Numbers, blank_from, item};
+use flt_pages::{Item, Numbers, blank_from, byte_pages, item};
 use std::alloc::{AllocError, Global};
 use std::fmt::Write;
 
@@ -114,7 +114,7 @@ fn put_log(
                     },
                     out,
                 )?;
-                page = (u32::from(page) + 2 + (u32::from(length) + 31) / 32) as u16;
+                page = (u32::from(page) + 2 + u32::from(byte_pages(length))) as u16;
             }
         }
     }

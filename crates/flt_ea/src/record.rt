@@ -13,8 +13,7 @@ ghost use Rattle.flt_ea.specs.Written.{WritesRecord};
 use crate::{Eeprom, Gate, put_gate};
 use flt_code::seal;
 use flt_flash::{BLANK_PAGE, FlashFailed};
-use flt_pages::fill_up;
-use flt_record::byte_pages;
+use flt_pages::{byte_pages, fill_up};
 
 /// Reads the first bytes behind a gate to the start of `out`. What lies past them, and all of `out` after a failure, stays.
 pub(crate) fn read_bytes<E: Eeprom>(

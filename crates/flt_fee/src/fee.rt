@@ -22,10 +22,9 @@ use crate::place::{CurrentSector, current_sector};
 use crate::set_up::set_up_flash;
 use crate::switch::switch_sectors;
 use flt_flash::{Arm, Bench, BlockFault, Blocks, Flash, FlashFailed, Found, Refused};
-use flt_pages::{Numbers, PageFault};
+use flt_pages::{Numbers, PageFault, byte_pages};
 use flt_record::{
-    RecordPlace, append_record, byte_pages, find_places, forget, live_pages, note, place_of,
-    read_record,
+    RecordPlace, append_record, find_places, forget, live_pages, note, place_of, read_record,
 };
 use std::alloc::{AllocError, Global};
 

@@ -14,8 +14,8 @@ ghost use Rattle.flt_fee.specs.Mounted.{StandsAt};
 ghost use Rattle.flt_fee.specs.Switch.{CopiesBlock, CopiesBlocks, GivesValues, Replaces};
 
 use flt_flash::{Flash, FlashFailed};
-use flt_pages::{Numbers, activate, begin};
-use flt_record::{RecordPlace, byte_pages, copy_record, note, place_of};
+use flt_pages::{Numbers, activate, begin, byte_pages};
+use flt_record::{RecordPlace, copy_record, note, place_of};
 
 // Copies the current record of a block, if it has one, behind the log of the other sector, and tells where that ends then.
 fn copy_block<F: Flash>(

@@ -26,11 +26,11 @@ pub(crate) enum Begin {
     },
 }
 
-/// The pages of plain bytes of a record.
-pub(crate) fn byte_pages(length: u16) -> u32
+/// The pages of plain bytes of a record of so many bytes: one for every 32 bytes or part of them.
+pub fn byte_pages(length: u16) -> u16
     ensures { result ≡ byte_pages length }
 {
-    (u32::from(length) + 31) / 32
+    length.div_ceil(32)
 }
 
 fn begin_by_head(used: u16, page: u16, numbers: &Numbers, word: Option<Word>) -> Begin
@@ -49,7 +49,7 @@ fn begin_by_head(used: u16, page: u16, numbers: &Numbers, word: Option<Word>) ->
     else {
         return Begin::Damaged;
     };
-    let end = u32::from(page) + 2 + byte_pages(length);
+    let end = u32::from(page) + 2 + u32::from(byte_pages(length));
     if own == page && numbers.contains(block) && end <= u32::from(used) {
         Begin::Record {
             block,

@@ -16,6 +16,7 @@ mod numbers;
 
 pub use append::{activate, append_gate, append_head, append_piece, begin, fill_up};
 pub use fault::PageFault;
+pub use first::byte_pages;
 pub use flt_sector::Item;
 pub use gate_pages::gates;
 pub use items::{blank_from, item};

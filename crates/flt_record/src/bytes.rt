@@ -7,10 +7,9 @@ ghost use Rattle.flt_record.specs.Blank.{AreBlank};
 ghost use Rattle.flt_record.specs.RecordPlace.{IsPlaceWithin, bytes_at};
 ghost use Rattle.flt_record.specs.Recorded.{Fills, Records};
 
-use crate::byte_pages;
 use crate::place::RecordPlace;
 use flt_flash::{Flash, FlashFailed};
-use flt_pages::{append_gate, append_head, append_piece};
+use flt_pages::{append_gate, append_head, append_piece, byte_pages};
 
 /// Reads the bytes of a record to the start of `out`. What lies past them, and all of `out` after a failure, stays.
 pub fn read_record<F: Flash>(

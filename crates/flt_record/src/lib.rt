@@ -14,5 +14,5 @@ mod scan;
 pub use bytes::{copy_record, read_record};
 pub use live::live_pages;
 pub use place::{RecordPlace, forget, note, place_of};
-pub use record::{append_record, byte_pages};
+pub use record::append_record;
 pub use scan::find_places;

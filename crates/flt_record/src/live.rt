@@ -4,8 +4,8 @@ ghost use Rattle.std.specs.List.{All};
 ghost use Rattle.std.specs.Option.{ForSome};
 ghost use Rattle.flt_record.specs.RecordPlace.{pages_found};
 
-use crate::byte_pages;
 use crate::place::RecordPlace;
+use flt_pages::byte_pages;
 
 // The pages of the record that was found.
 fn pages_at(found: Option<RecordPlace>) -> u16

@@ -7,15 +7,7 @@ ghost use Rattle.flt_record.specs.Blank.{AreBlank};
 ghost use Rattle.flt_record.specs.Recorded.{Fills, Records};
 
 use flt_flash::{Flash, FlashFailed};
-use flt_pages::{append_gate, append_head, append_piece};
-
-/// The pages of plain bytes of a record of so many bytes, 128 at most: one for every 32 bytes or part of them.
-pub fn byte_pages(length: u16) -> u16
-    requires { length ≤ 128 }
-    ensures { result ≡ byte_pages length }
-{
-    (length + 31) / 32
-}
+use flt_pages::{append_gate, append_head, append_piece, byte_pages};
 
 // Programs the pages of plain bytes of a record.
 fn fill<F: Flash>(flash: &mut F, sector: u8, first: u16, bytes: &[u8]) -> Result<(), FlashFailed>

@@ -11,7 +11,7 @@ ghost use Rattle.flt_record.specs.Scan.{told_end};
 
 use crate::place::{RecordPlace, forget, note};
 use flt_flash::Flash;
-use flt_pages::{Item, Numbers, PageFault, blank_from, item};
+use flt_pages::{Item, Numbers, PageFault, blank_from, byte_pages, item};
 
 /// The page at which the log of a sector with `used` pages ends, for these block numbers; `Damaged` is its first fault, of an
 /// item or of the pages behind the end. It fills the table with the place of each block's current record.
@@ -59,7 +59,7 @@ pub fn find_places<F: Flash>(
                     valid,
                 };
                 note(numbers, places, block, complete, here);
-                page = (u32::from(page) + 2 + (u32::from(length) + 31) / 32) as u16;
+                page = (u32::from(page) + 2 + u32::from(byte_pages(length))) as u16;
             }
         }
     }

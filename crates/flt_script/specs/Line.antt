@@ -1,5 +1,5 @@
 -- A line by itself: skipped, or what its words say with the numbers as they are written, or why it is refused.
-use Rattle.std.specs.Prelude.{ℕ, List, [], ◌∷◌, length, Bool, true, false, ◌==◌, not, nat_lt, Option, Some, None, option_map, Result, Ok, Err, codes, if◌then◌else◌}
+use Rattle.std.specs.Prelude.{ℕ, List, [], ◌∷◌, ◌++◌, length, Bool, true, false, ◌==◌, not, nat_lt, Option, Some, None, option_map, Result, Ok, Err, codes, if◌then◌else◌}
 use Rattle.std.specs.List.{find}
 use Rattle.std.specs.Str.{bytes_eq}
 use Rattle.std.specs.Option.{ok_or}
@@ -53,16 +53,27 @@ spelling keyword.Par = codes "par"
 spelling keyword.Lane = codes "lane"
 spelling keyword.End = codes "end"
 
+-- The keywords of the calls of the status machine, and of the settings.
+abbrev pub call_keywords : List Keyword
+call_keywords = keyword.Pass ∷ keyword.Fail ∷ keyword.PrePass ∷ keyword.PreFail ∷ keyword.Show ∷ keyword.Cycle ∷ keyword.Tick
+    ∷ keyword.Signal ∷ keyword.Enable ∷ keyword.Request ∷ keyword.Event ∷ keyword.Did ∷ keyword.Config ∷ keyword.Memory ∷ keyword.Blocks ∷ keyword.Flash ∷ []
+
+-- The keywords for the store, for the power and what fails, and for blocks.
+abbrev pub storage_keywords : List Keyword
+storage_keywords = keyword.Save ∷ keyword.Post ∷ keyword.Urge ∷ keyword.Drain ∷ keyword.Get ∷ keyword.Ask
+    ∷ keyword.Power ∷ keyword.Cut ∷ keyword.Fault ∷ keyword.Mute ∷ keyword.Par ∷ keyword.Lane ∷ keyword.End ∷ []
+
 -- The table of lines.
 abbrev pub keywords : List Keyword
-keywords = keyword.Pass ∷ keyword.Fail ∷ keyword.PrePass ∷ keyword.PreFail ∷ keyword.Show ∷ keyword.Cycle ∷ keyword.Tick
-    ∷ keyword.Signal ∷ keyword.Enable ∷ keyword.Request ∷ keyword.Event ∷ keyword.Did ∷ keyword.Config ∷ keyword.Memory ∷ keyword.Blocks ∷ keyword.Flash
-    ∷ keyword.Save ∷ keyword.Post ∷ keyword.Urge ∷ keyword.Drain ∷ keyword.Get ∷ keyword.Ask
-    ∷ keyword.Power ∷ keyword.Cut ∷ keyword.Fault ∷ keyword.Mute ∷ keyword.Par ∷ keyword.Lane ∷ keyword.End ∷ []
+keywords = call_keywords ++ storage_keywords
+
+-- The one of these keywords that a word spells.
+abbrev pub keyword_in : List Keyword → List ℕ → Option Keyword
+keyword_in keywords word = find (λ keyword. bytes_eq word (spelling keyword)) keywords
 
 -- The keyword that a word spells.
 unfoldable pub keyword_of : List ℕ → Option Keyword
-keyword_of word = find (λ keyword. bytes_eq word (spelling keyword)) keywords
+keyword_of word = keyword_in keywords word
 
 -- A report on the event that the one word names.
 unfoldable pub report_with : Report → List (List ℕ) → Option Line

@@ -1,5 +1,5 @@
 ghost use Rattle.std.specs.Prelude.{◌≡◌};
-ghost use Rattle.flt_script.specs.Line.{keyword_of};
+ghost use Rattle.flt_script.specs.Line.{call_keywords, keyword_in, keyword_of, storage_keywords};
 
 /// The first word of a line.
 #[derive(Clone, Copy)]
@@ -40,6 +40,16 @@ pub(crate) enum Keyword {
 pub(crate) fn read_keyword(word: &[u8]) -> Option<Keyword>
     ensures { result ≡ keyword_of word.now }
 {
+    match read_call_keyword(word) {
+        Some(keyword) => Some(keyword),
+        None => read_storage_keyword(word),
+    }
+}
+
+/// The keyword that a word spells, of those of calls and settings.
+fn read_call_keyword(word: &[u8]) -> Option<Keyword>
+    ensures { result ≡ keyword_in call_keywords word.now }
+{
     let keyword = match word {
         b"pass" => Keyword::Pass,
         b"fail" => Keyword::Fail,
@@ -57,6 +67,16 @@ pub(crate) fn read_keyword(word: &[u8]) -> Option<Keyword>
         b"memory" => Keyword::Memory,
         b"blocks" => Keyword::Blocks,
         b"flash" => Keyword::Flash,
+        _ => return None,
+    };
+    Some(keyword)
+}
+
+/// The keyword that a word spells, of those for the store, the power and blocks.
+fn read_storage_keyword(word: &[u8]) -> Option<Keyword>
+    ensures { result ≡ keyword_in storage_keywords word.now }
+{
+    let keyword = match word {
         b"save" => Keyword::Save,
         b"post" => Keyword::Post,
         b"urge" => Keyword::Urge,

@@ -1,0 +1,31 @@
+use Rattle.std.proofs.Common.{refl, arith, rules}
+use Rattle.std.proofs.lemmas.Slice.Eq.{text_from_reads}
+use Rattle.std.specs.Prelude.{codes}
+use Rattle.flt_script.proofs.keyword.read_call_keyword.Goals as goal
+
+pub returns-in-cycle : goal.returns-in-cycle
+returns-in-cycle c = rw (text_from_reads c.args.word.now (codes "cycle") (omega arith) (search rules)) refl
+
+pub returns-in-event : goal.returns-in-event
+returns-in-event c = rw (text_from_reads c.args.word.now (codes "event") (omega arith) (search rules)) refl
+
+pub returns-in-flash : goal.returns-in-flash
+returns-in-flash c = rw (text_from_reads c.args.word.now (codes "flash") (omega arith) (search rules)) refl
+
+pub returns-in-config : goal.returns-in-config
+returns-in-config c = rw (text_from_reads c.args.word.now (codes "config") (omega arith) (search rules)) refl
+
+pub returns-in-memory : goal.returns-in-memory
+returns-in-memory c = rw (text_from_reads c.args.word.now (codes "memory") (omega arith) (search rules)) refl
+
+pub returns-in-blocks : goal.returns-in-blocks
+returns-in-blocks c = rw (text_from_reads c.args.word.now (codes "blocks") (omega arith) (search rules)) refl
+
+pub returns-in-prepass : goal.returns-in-prepass
+returns-in-prepass c = rw (text_from_reads c.args.word.now (codes "prepass") (omega arith) (search rules)) refl
+
+pub returns-in-prefail : goal.returns-in-prefail
+returns-in-prefail c = rw (text_from_reads c.args.word.now (codes "prefail") (omega arith) (search rules)) refl
+
+pub returns-in-enable : goal.returns-in-enable
+returns-in-enable c = rw (text_from_reads c.args.word.now (codes "enable") (omega arith) (search rules)) refl
