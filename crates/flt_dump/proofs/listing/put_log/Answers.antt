@@ -1,4 +1,4 @@
-use Rattle.std.proofs.Common.{◌≡◌, ◌∙◌, ◌+◌, ◌-◌, ◌/◌, ℕ, List, refl, sym, ap, subst, arith, Ok, Err}
+use Rattle.std.proofs.Common.{◌≡◌, ◌∙◌, ◌+◌, ◌-◌, ℕ, List, refl, sym, ap, subst, arith, Ok, Err}
 use Rattle.flt_flash.specs.Blocks.{byte_pages}
 use Rattle.flt_flash.specs.Image.{sector_at}
 use Rattle.flt_sector.specs.Log.{item_at, first_written}
@@ -54,7 +54,8 @@ log-preserved c =
     let same = ap (λ (image : List (List (List ℕ))). item_at c.args.used c.args.numbers.now (sector_at image c.args.sector) c.log.page) c.log.invariant.image in
     let found = sym same ∙ item_told c.args.sector c.in-Ok-Kept.field-0 (item_at c.args.used c.args.numbers.now (sector_at (state_of c.log.copy).image c.args.sector) c.log.page) c.in-Ok-Kept.ensures.item
     ∙ ap Ok c.in-Ok-Kept.field-0-is in
-    let next : c.log.page + 2 + byte_pages c.in-Ok-Kept.length ≡ c.from.result + 2 + (c.from-in-Ok-Kept.result + 31) / 32 = (λ i. sym c.from.ensures i + 2 + (sym c.from-in-Ok-Kept.ensures i + 31) / 32) in
+    let next : c.log.page + 2 + byte_pages c.in-Ok-Kept.length ≡ c.from.result + 2 + c.from-in-Ok-Kept.result
+        = (λ i. sym c.from.ensures i + 2 + (sym c.byte_pages.ensures ∙ sym c.from-in-Ok-Kept.ensures) i) in
     record {
       image = c.in-Ok-Kept.ensures.reads.image ∙ c.log.invariant.image;
       pages = c.in-Ok-Kept.ensures.reads.runs.pages ∙ c.log.invariant.pages;

@@ -1,4 +1,4 @@
-use Rattle.std.proofs.Common.{◌≡◌, ◌+◌, ◌-◌, ◌/◌, ℕ, List, Ok, Option, None, sym, ◌∙◌, ap, subst, arith, get_or}
+use Rattle.std.proofs.Common.{◌≡◌, ◌+◌, ◌-◌, ℕ, List, Ok, Option, None, sym, ◌∙◌, ap, subst, arith, get_or}
 use Rattle.flt_flash.specs.Image.{sector_at}
 use Rattle.flt_flash.proofs.Following.{no_reads, reads_on}
 use Rattle.flt_flash.specs.Blocks.{byte_pages}
@@ -61,7 +61,8 @@ log-preserved g c =
     let found = sym (ap (λ (image : List (List (List ℕ))). item_at c.args.used c.args.numbers.now (sector_at image c.args.sector) c.log.page) c.log.invariant.reads.image)
     ∙ item_told c.args.sector c.in_ok-item.field-0 (item_at c.args.used c.args.numbers.now (sector_at (g.F.Flash.state c.log.flash).image c.args.sector) c.log.page) c.in_ok-item.ensures.item
     ∙ (λ i. Ok (c.in-Kept.is i)) in
-    let next : c.log.page + 2 + byte_pages c.in-Kept.length ≡ c.from.result + 2 + (c.from-in-Kept.result + 31) / 32 = (λ i. sym c.from.ensures i + 2 + (sym c.from-in-Kept.ensures i + 31) / 32) in
+    let next : c.log.page + 2 + byte_pages c.in-Kept.length ≡ c.from.result + 2 + c.from-in-Kept.result
+        = (λ i. sym c.from.ensures i + 2 + (sym c.byte_pages.ensures ∙ sym c.from-in-Kept.ensures) i) in
     record {
       reads = reads_on c.log.invariant.reads c.in_ok-item.ensures.reads;
       goes_on = subst (GoesOn c.args.used c.args.numbers.now pages) next (kept_on c.args.used c.args.numbers.now pages c.log.page c.log.invariant.goes_on c.in-Kept.block c.in-Kept.length c.in-Kept.valid c.in-Kept.complete found);
