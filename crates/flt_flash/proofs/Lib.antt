@@ -5,3 +5,4 @@ pub mod TornBy
 pub mod Following
 pub mod PageSizes
 pub mod CallsInARow
+pub mod TornTails

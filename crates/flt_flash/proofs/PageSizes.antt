@@ -4,7 +4,7 @@ use Rattle.std.proofs.lemmas.List.{get_or-replicate, length-replicate}
 use Rattle.flt_flash.specs.Image.{blank_page, ArePages}
 use Rattle.flt_flash.specs.Tearing.{IsTornSector}
 
-blank_size : length blank_page ≡ 32
+pub blank_size : length blank_page ≡ 32
 unfolding blank_page
 blank_size = refl
 

@@ -9,3 +9,4 @@ pub mod Shape
 pub mod Content
 pub mod Blocks
 pub mod Calls
+pub mod Examples

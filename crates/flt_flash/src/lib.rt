@@ -15,11 +15,12 @@ mod memory;
 mod power;
 mod standing;
 mod torn;
+pub mod worked;
 
 pub use arm::{Arm, ArmMade, Pattern};
 pub use blocks::{BlockFault, Blocks, Found, Refused, calls_follow};
 pub use flash::{Bench, Flash, FlashFailed};
-pub use laws::counts_rise;
+pub use laws::{counts_rise, erases_stand};
 pub use memory::FlashMem;
 pub use power::Power;
 pub use torn::{BLANK_PAGE, tear_page};
