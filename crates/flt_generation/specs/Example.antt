@@ -1,5 +1,5 @@
--- How a worked map of blocks is written: a configuration of one event, and the bytes of two of its generations; and one of 65 events.
-use Rattle.std.specs.Prelude.{◌≡◌, ℕ, pos, negsuc, false, List, [], ◌∷◌, ◌++◌, map, replicate, ◌==◌, if◌then◌else◌, None, Some, Result}
+-- How a worked map of blocks is written: a configuration of one event, and the bytes of two of its generations; and ones of four and of 65 events.
+use Rattle.std.specs.Prelude.{◌≡◌, ℕ, pos, negsuc, true, false, List, [], ◌∷◌, ◌++◌, map, replicate, ◌==◌, if◌then◌else◌, None, Some, Result}
 use Rattle.std.specs.List.{concat}
 use Rattle.flt_flash.specs.Content.{Content, missing, bytes}
 use Rattle.flt_config.specs.declared.config.Config.{Config}
@@ -32,7 +32,11 @@ small = record { id = 7; memory = 1; pages = 64; blocks = 0; events = record { i
 abbrev pub many : Config
 many = record { id = 7; memory = 1; pages = 96; blocks = 0; events = record { items = replicate 65 event } }
 
--- Its mark, in version 2 and in version 1, and the mark of configuration 8.
+-- It has four events, of which the third has an indicator.
+abbrev pub four : Config
+four = record { id = 7; memory = 1; pages = 64; blocks = 0; events = record { items = event ∷ event ∷ record event { indicator = true } ∷ event ∷ [] } }
+
+-- The mark of one event, in version 2 and in version 1, and the mark of configuration 8.
 abbrev pub own_mark : Content
 own_mark = bytes (0x02 ∷ 0x00 ∷ 0x07 ∷ 0x00 ∷ 0x01 ∷ 0x01 ∷ 0x00 ∷ 0x00 ∷ [])
 

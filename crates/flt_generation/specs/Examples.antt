@@ -1,11 +1,13 @@
 -- Worked maps of blocks.
-use Rattle.std.specs.Prelude.{ℕ, false, List, [], ◌∷◌, ◌++◌, replicate, Some, Ok, Err, map}
+use Rattle.std.specs.Prelude.{◌≡◌, ℕ, true, false, List, [], ◌∷◌, ◌++◌, replicate, Some, Ok, Err, map}
 use Rattle.std.specs.List.{concat}
 use Rattle.flt_flash.specs.Content.{Content, missing, invalid, bytes}
 use Rattle.flt_config.specs.Durable.{start_state}
 use Rattle.flt_generation.specs.declared.place.Place.TheVariants.{Block}
+use Rattle.flt_generation.specs.Form.{block_bytes}
 use Rattle.flt_generation.specs.Holding.{Generation, Fault, damaged, other, first_generation}
-use Rattle.flt_generation.specs.Example.{small, many, own_mark, old_mark, other_mark, commit, old_commit, summary, states, entry, failed_state, Kept, block, Judged, judged, AreJudged}
+use Rattle.flt_generation.specs.Successor.{changed_pages}
+use Rattle.flt_generation.specs.Example.{small, four, many, own_mark, old_mark, other_mark, commit, old_commit, summary, states, entry, failed_state, Kept, block, Judged, judged, AreJudged}
 
 -- The event failed once in generation 1, and twice in generation 2.
 abbrev pub first : Generation
@@ -137,6 +139,45 @@ OldImages =
     ∷ faulty (twice (0x03 ∷ 0x00 ∷ 0x00 ∷ 0x00 ∷ 0x01 ∷ 0x00 ∷ 0x00 ∷ 0x00 ∷ 0x00 ∷ 0x00 ∷ [])) (damaged (Block 2))
     ∷ [])
 
+-- Four events: each note names another one, the third event is lit, the last two have clean counts, and there was an overflow.
+abbrev pub noted : Generation
+noted = record {
+  number = 1;
+  state = record {
+    events = record {
+      items = record { status = 0x2F; failed = 1; clean = 0; lit = false } ∷ record { status = 0x26; failed = 2; clean = 0; lit = false }
+          ∷ record { status = 0x28; failed = 3; clean = 258; lit = true } ∷ record { status = 0x28; failed = 255; clean = 5; lit = false } ∷ [];
+    };
+    entries = record {
+      items = record { event = 2; occurrence = 254; first = record { items = 0x01 ∷ 0x02 ∷ [] }; recent = record { items = 0x03 ∷ 0x04 ∷ [] } } ∷ [];
+    };
+    overflow = true;
+    first_failed = Some 1;
+    first_confirmed = Some 3;
+    recent_failed = Some 0;
+    recent_confirmed = Some 2;
+  };
+}
+
+-- Its blocks beside a mark of this version, both copies of a commit, and a summary with this byte for the overflow.
+abbrev pub of_four : ℕ → Content → ℕ → List Kept
+of_four version both overflow =
+    block 1 0 (bytes (version ∷ 0x00 ∷ 0x07 ∷ 0x00 ∷ 0x04 ∷ 0x01 ∷ 0x00 ∷ 0x00 ∷ []))
+    ∷ block 2 0 both ∷ block 2 1 both
+    ∷ block 3 0 (bytes (0x01 ∷ overflow ∷ 0x01 ∷ 0x00 ∷ 0x00 ∷ 0x01 ∷ 0x00 ∷ 0x03 ∷ 0x00 ∷ 0x00 ∷ 0x00 ∷ 0x02 ∷ replicate 20 0x00))
+    ∷ block 4 0 (bytes (0x2F ∷ 0x01 ∷ 0x00 ∷ 0x00 ∷ 0x26 ∷ 0x02 ∷ 0x00 ∷ 0x00 ∷ 0x28 ∷ 0x03 ∷ 0x81 ∷ 0x02 ∷ 0x28 ∷ 0xFF ∷ 0x00 ∷ 0x05
+    ∷ concat (replicate 12 (0x50 ∷ 0x00 ∷ 0x00 ∷ 0x00 ∷ []))))
+    ∷ block 8 0 (entry 2 254 (0x03 ∷ 0x04 ∷ [])) ∷ []
+
+-- Where each field stands in the bytes, in both versions of the image; and an overflow is 00 or 01.
+abbrev pub EachField : Type 0
+EachField =
+    AreJudged four
+    (judged (of_four 2 (commit 1 0x00) 0x01) (Ok noted) (Ok noted)
+    ∷ judged (of_four 1 (old_commit 1 0 0 0) 0x01) (Ok noted) (Ok noted)
+    ∷ faulty (of_four 2 (commit 1 0x00) 0x02) (damaged (Block 3))
+    ∷ [])
+
 -- The last of 65 events failed once: its state is the first of the block 24, which the commit names at index 1.
 abbrev pub last_failed : Generation
 last_failed = record {
@@ -177,3 +218,10 @@ ManyEvents =
     ∷ faulty (of_many (0x02 ∷ 0x00 ∷ 0x00 ∷ 0x00 ∷ 0x01 ∷ 0x00 ∷ 0x00 ∷ 0x20 ∷ 0x00 ∷ 0x02 ∷ []) (states 0x2F)) (damaged (Block 2))
     ∷ faulty (of_many (0x01 ∷ 0x00 ∷ 0x00 ∷ 0x00 ∷ 0x01 ∷ replicate 6 0x00 ++ replicate 15 0xFF) (states 0x2F)) (damaged (Block 2))
     ∷ [])
+
+-- The pages of the records that a save writes: none where no byte changed, the entry's 5 from generation 1 to 2, and where nothing was known
+-- before also the 3 of the summary and the 4 of the states.
+abbrev pub ChangedPages : Type 0
+ChangedPages =
+    map (λ before. changed_pages small before (block_bytes second.state)) (block_bytes second.state ∷ block_bytes first.state ∷ (λ id. []) ∷ [])
+    ≡ 0 ∷ 5 ∷ 12 ∷ []
