@@ -1,5 +1,5 @@
 -- What could not be read, told of more calls.
-use Rattle.std.proofs.Common.{◌≡◌, ℕ, Result, Ok, Err, inl, inr, subst}
+use Rattle.std.proofs.Common.{◌≡◌, ℕ, Result, Ok, Err, inl, inr, subst, arith}
 use Rattle.std.specs.Prelude.{IsErrOf, OnErr}
 use Rattle.std.specs.Result.{IsErrAnd}
 use Rattle.flt_flash.specs.Blocks.{BlocksState}
@@ -34,12 +34,9 @@ has_none : (before middle : BlocksState) → SameValues before middle → (numbe
 has_none before middle same number none = subst HasNoBytes (same number) none
 
 pub commit_unread_from : (before middle after : BlocksState) → Follows before middle → SameValues before middle → IsCommitUnread middle after → IsCommitUnread before after
-commit_unread_from before middle after so_far same (inl (first, inl none)) =
-    inl (fails_from first_commit before middle after so_far first, inl (has_none before middle same second_commit none))
-commit_unread_from before middle after so_far same (inl (first, inr second)) =
-    inl (fails_from first_commit before middle after so_far first, inr (fails_from second_commit before middle after so_far second))
-commit_unread_from before middle after so_far same (inr (none, second)) =
-    inr (has_none before middle same first_commit none, fails_from second_commit before middle after so_far second)
+commit_unread_from before middle after so_far same (inl six) = inl (omega (arith, so_far.counts, six))
+commit_unread_from before middle after so_far same (inr (three, inl none)) = inr (omega (arith, so_far.counts, three), inl (has_none before middle same first_commit none))
+commit_unread_from before middle after so_far same (inr (three, inr none)) = inr (omega (arith, so_far.counts, three), inr (has_none before middle same second_commit none))
 
 pub part_unread_from : (c : Config) (before middle after : BlocksState) → Follows before middle → IsPartUnread c middle after → IsPartUnread c before after
 part_unread_from c before middle after so_far unread = record {

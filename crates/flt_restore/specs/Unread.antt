@@ -1,5 +1,6 @@
 -- What could not be read where a start-up answers that the flash failed it.
 use Rattle.std.specs.Prelude.{◌⊎◌, ℕ, ◌≤◌, Err, IsTrue}
+use Rattle.flt_flash.specs.State.{HasRisenBy}
 use Rattle.flt_flash.specs.Blocks.{BlocksState}
 use Rattle.flt_flash.specs.Calls.{Follows}
 use Rattle.flt_flash.specs.declared.blocks.BlockFault.TheVariants.{Flash}
@@ -21,8 +22,8 @@ pub record FailsToRead (number : ℕ) (before after : BlocksState) : Type 0 wher
 -- the second could not be read.
 abbrev pub IsCommitUnread : BlocksState → BlocksState → Type 0
 IsCommitUnread before after =
-    (FailsToRead first_commit before after × (HasNoBytes (before.value second_commit) ⊎ FailsToRead second_commit before after))
-    ⊎ (HasNoBytes (before.value first_commit) × FailsToRead second_commit before after)
+    HasRisenBy 6 before.device.faults after.device.faults
+    ⊎ (HasRisenBy 3 before.device.faults after.device.faults × (HasNoBytes (before.value first_commit) ⊎ HasNoBytes (before.value second_commit)))
 
 -- A used block could not be read.
 pub record IsPartUnread (c : Config) (before after : BlocksState) : Type 0 where

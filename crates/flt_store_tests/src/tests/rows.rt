@@ -163,6 +163,31 @@ fn a_muted_first_copy_stops_nothing(rt: HostRuntime) -> Result<(), Fail> {
     Ok(())
 }
 
+// A start-up reads neither page of the states of the generation before, so mutes of them stand; and where the second copy of the
+// commit can't be read, it is written.
+#[test]
+fn pages_that_no_generation_needs_may_be_worn(rt: HostRuntime) -> Result<(), Fail> {
+    let config = configured(1, 0, 1)?;
+    let states = [failed(), state(&[PASSED], &[1])];
+    for (page, stands) in [(9, 1), (10, 1), (31, 0)] {
+        let mute = Step::Arm(Arm::Mute {
+            sector: 0,
+            page,
+            times: 3,
+        });
+        let steps = [
+            Step::Save(0, Ok(1)),
+            Step::Save(1, Ok(2)),
+            mute,
+            Step::Life(2, 1),
+            Step::Armed(stands),
+        ];
+        let flash = play(&rt, rt.alloc(), &config, &states, &steps)?;
+        assert!(&rt; is_record(&flash, 8, 32, 64) && is_record(&flash, 30, 17, 10));
+    }
+    Ok(())
+}
+
 // The second save of a state that stays makes 6 programs, and of one in which each block changes 18; a save after a failed one
 // compares with what stands, and makes 6 again.
 #[test]

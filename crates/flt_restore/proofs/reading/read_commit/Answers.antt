@@ -4,7 +4,7 @@ use Rattle.flt_nvm.specs.Table.{HasPlace}
 use Rattle.flt_nvm.specs.Driver.{driver_of}
 use Rattle.flt_generation.specs.Layout.{first_commit, second_commit}
 use Rattle.flt_restore.proofs.Rows.{commit_has_place}
-use Rattle.flt_restore.proofs.Failing.{fails_from, fails_until, on_err}
+use Rattle.flt_restore.proofs.Failing.{on_err}
 use Rattle.flt_restore.proofs.reading.read_commit.Goals as goal
 
 pub look_up-second-requires-clause-place : goal.look_up-second-requires-clause-place
@@ -14,14 +14,4 @@ pub look_up-requires-clause-place : goal.look_up-requires-clause-place
 look_up-requires-clause-place g c = subst (λ (table : List BlockCfg). HasPlace table 2 0) (sym c.requires.table) (commit_has_place 0 (omega arith))
 
 pub returns-in-Err-clause-unread : goal.returns-in-Err-clause-unread
-returns-in-Err-clause-unread g c =
-    let start = driver_of c.args.nvm.now in
-    let middle = driver_of c.read_source.new.nvm in
-    let after = driver_of c.read_source-in-Err.new.nvm in
-    on_err c.read_source-in-Err.result
-    (λ second.
-    inl (
-      fails_until first_commit start middle after c.in-Err.ensures.unread c.read_source-in-Err.ensures.reads.follows,
-      inr (fails_from second_commit start middle after c.in-Err.ensures.reads.follows second),
-    ))
-    c.read_source-in-Err.ensures.unread
+returns-in-Err-clause-unread g c = on_err c.read_source-in-Err.result (λ rose. inl (omega (arith, c.in-Err.ensures.flash, rose))) c.read_source-in-Err.ensures.flash
