@@ -47,7 +47,7 @@ module _ (before after : BlocksState) (result : Result (Unit {0}) BlockFault) (c
     follows = calls.follows;
     flash = three;
     full = λ live needed told. (size, short, gives.full live needed told);
-    stuck = λ told. (number, size, gives.spent told);
+    stuck = λ told. (number, size, short, gives.spent told);
     mounted = not_mounted;
   }
 
@@ -56,7 +56,7 @@ module _ (before after : BlocksState) (result : Result (Unit {0}) BlockFault) (c
     follows = calls.follows;
     flash = three;
     full = λ live needed told. (size, short, gives.full live needed told);
-    stuck = λ told. ⊎_elim (λ first. (number_of id 0, size, first)) (λ second. (number_of id 1, size, second)) (gives.spent told);
+    stuck = λ told. ⊎_elim (λ first. (number_of id 0, size, short, first)) (λ second. (number_of id 1, size, short, second)) (gives.spent told);
     mounted = not_mounted;
   }
 

@@ -15,7 +15,7 @@ FailsThrice before after = HasRisenBy 3 before.device.faults after.device.faults
 
 -- Some record can't be written any more, since it does not fit and no sequence number is left.
 abbrev pub IsStuck : BlocksState → Type 0
-IsStuck state = (number : ℕ) × (size : ℕ) × IsTrue (state.is_stuck number size)
+IsStuck state = (number : ℕ) × (size : ℕ) × (size ≤ 96) × IsTrue (state.is_stuck number size)
 
 -- The driver leaves all but the two gates of a sector for records, where it limits them.
 abbrev pub HasRoom : Config → Option ℕ → Type 0

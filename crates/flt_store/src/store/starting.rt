@@ -128,6 +128,7 @@ impl<B: Blocks + Drop> Store<B> {
         ensures unready { IsErrOf result StartFault.Flash
             → IsImageUnread config.now (driver_of self.old) (driver_of self.new) ⊎ IsUnbegun config.now (driver_of self.old) (driver_of self.new) }
         ensures unwritten { IfErr result (λ fault. IsOfBlocks fault → SameImage (driver_of self.old) (driver_of self.new)) }
+        ensures early { IsErrOf result StartFault.SequenceSpent → IsTrue (driver_of self.old).is_spent → SameImage (driver_of self.old) (driver_of self.new) }
         ensures spent { IsErrOf result StartFault.SequenceSpent → IsOutOfNumbers config.now (driver_of self.old) (driver_of self.new) }
         ensures left { (held spare : Generation) → IsSound config.now (driver_of self.old).value held spare
             → OnErr result (OldOrNew config.now (driver_of self.new).value held spare held) }
@@ -169,6 +170,10 @@ impl<B: Blocks + Drop> Store<B> {
         ensures refused { IfErr result (RefusedFor config.now self.old self.new) }
         ensures dark { IsErrOf result StartFault.Flash → IsDark config.now (driver_of self.old) (driver_of self.new) }
         ensures unwritten { IfErr result (λ fault. IsOfBlocks fault → IsMountedAlone (driver_of self.old) (driver_of self.new)) }
+
+        // Where the last sequence number was in use before, nothing is written but by the mount.
+        ensures early { IsErrOf result StartFault.SequenceSpent → IsTrue (driver_of self.old).is_spent
+            → IsMountedAlone (driver_of self.old) (driver_of self.new) }
 
         // No start-up uses a sequence number and then answers that none is left.
         ensures spent { IsErrOf result StartFault.SequenceSpent → IsOutOfNumbers config.now (driver_of self.old) (driver_of self.new) }

@@ -41,7 +41,7 @@ returns-in-Err-clause-carries g c = λ bytes jobs earlier. record {
       (c.in-Err.ensures.failed caused.held_now caused.spare_now caused.running)
       (λ is. c.in-Err.ensures.flash caused.held_now caused.spare_now caused.running (ap Err is))
       (λ is. c.in-Err.ensures.spent caused.held_now caused.spare_now caused.running (ap Err is))
-      (λ is. (let stuck = c.in-Err.ensures.sequence caused.held_now caused.spare_now caused.running (ap Err is) in g.met.B.Blocks.stuck_is_spent c.save.new.self.nvm.blocks stuck.0 stuck.1 stuck.2));
+      (λ is. (let stuck = c.in-Err.ensures.sequence caused.held_now caused.spare_now caused.running (ap Err is) in g.met.B.Blocks.stuck_is_spent c.save.new.self.nvm.blocks stuck.0 stuck.1 stuck.3));
   holds = λ alive first holds. holds_deed first jobs earlier (steps.Save, answers.SaveFailed c.in-Err.fault) (driver_of c.args.store.now).value (driver_of c.save.new.self).value c.save.ensures.applications refl refl (λ past held. tt) holds;
 }
 

@@ -62,4 +62,4 @@ returns-in-Err-clause-caused g c = λ begun told caused.
     (c.in-Err.ensures.failed caused.held_now caused.spare_now caused.running)
     (λ is. c.in-Err.ensures.flash caused.held_now caused.spare_now caused.running (ap Err is))
     (λ is. c.in-Err.ensures.spent caused.held_now caused.spare_now caused.running (ap Err is))
-    (λ is. (let stuck = c.in-Err.ensures.sequence caused.held_now caused.spare_now caused.running (ap Err is) in g.met.D.Blocks.stuck_is_spent c.save.new.self.nvm.blocks stuck.0 stuck.1 stuck.2))
+    (λ is. (let stuck = c.in-Err.ensures.sequence caused.held_now caused.spare_now caused.running (ap Err is) in g.met.D.Blocks.stuck_is_spent c.save.new.self.nvm.blocks stuck.0 stuck.1 stuck.3))

@@ -149,7 +149,7 @@ returns-in-Ok-clause-completed g c = λ h s running number unhindered. save_met_
     (λ told. unhindered.tries (returns-in-Ok-clause-flash g c h s running told))
     (λ told. (let last = returns-in-Ok-clause-spent g c h s running told in not_last h s last.last number unhindered.tries last.is last.number))
     (λ told. (let stuck = c.save_next.ensures.sequence told in
-    let spent = g.met.B.Blocks.stuck_is_spent c.save_next.new.self.nvm.blocks stuck.0 stuck.1 stuck.2 in
+    let spent = g.met.B.Blocks.stuck_is_spent c.save_next.new.self.nvm.blocks stuck.0 stuck.1 stuck.3 in
     let left = unhindered.numbers in absurd (cc (spent, left))))
 
 pub returns-in-Err-clause-completed : goal.returns-in-Err-clause-completed
@@ -157,7 +157,7 @@ returns-in-Err-clause-completed g c = λ h s running number unhindered. save_met
     (λ told. unhindered.tries (c.in-Err.ensures.flash h s running (err_as c.in-Err.fault _ told)))
     (λ told. c.in-Err.ensures.not_spent (err_as c.in-Err.fault _ told))
     (λ told. (let stuck = c.in-Err.ensures.sequence h s running (err_as c.in-Err.fault _ told) in
-    let spent = g.met.B.Blocks.stuck_is_spent c.settle.new.self.nvm.blocks stuck.0 stuck.1 stuck.2 in
+    let spent = g.met.B.Blocks.stuck_is_spent c.settle.new.self.nvm.blocks stuck.0 stuck.1 stuck.3 in
     let left = unhindered.numbers in absurd (cc (spent, left))))
 
 pub returns-in-Ok-clause-rewritten : goal.returns-in-Ok-clause-rewritten

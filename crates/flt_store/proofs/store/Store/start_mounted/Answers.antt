@@ -73,7 +73,7 @@ returns-in-Err-begin_by-clause-refused g c =
     let judged = judged_in c.args.config.now first first second third (Ok d) (λ n. refl) (omega arith) c.begin_by.ensures.follows.counts (judged_of c.args.config.now first second c.in-Ok.found.commit c.restore.new.out restored.restored) in
     subst (RefusedFor c.args.config.now c.args.self.now _) (sym c.write_fault.ensures)
     (refused_by_writing c.args.config.now c.args.self.now _ c.in-Err-begin_by.fault d (record { undamaged = g.met.B.Blocks.mounted_is_sound c.args.self.now.nvm.blocks c.requires.mounted; is = judged })
-    (λ is. (let stuck = writes.stuck (ap Err is) in g.met.B.Blocks.stuck_is_spent c.begin_by.new.nvm.blocks stuck.0 stuck.1 stuck.2))
+    (λ is. (let stuck = writes.stuck (ap Err is) in g.met.B.Blocks.stuck_is_spent c.begin_by.new.nvm.blocks stuck.0 stuck.1 stuck.3))
     (resolved c.args.config.now c.mark_of-mark.ensures.given first third c.in-Err-begin_by.fault writes c.args.self.now.numbers c.requires.room c.requires.mounted (c.begin_by.ensures.borne d begins)))
 
 pub returns-in-Err-clause-refused : goal.returns-in-Err-clause-refused
