@@ -7,6 +7,7 @@
 
 mod fault;
 mod generation;
+pub mod laws;
 mod marking;
 mod restarting;
 mod store;
