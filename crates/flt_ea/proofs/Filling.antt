@@ -1,5 +1,5 @@
 -- One unit of plain bytes more.
-use Rattle.std.proofs.Common.{◌≡◌, ◌⊎◌, inl, inr, ◌+◌, ◌-◌, ◌*◌, ◌<◌, ◌≤◌, ℕ, List, [], set, drop, length, length-take, length-drop, Result, Ok, Err, sym, ap, subst, arith}
+use Rattle.std.proofs.Common.{◌≡◌, ◌⊎◌, ◌+◌, ◌-◌, ◌*◌, ◌<◌, ◌≤◌, ℕ, List, set, drop, length, Result, Ok, Err, sym, subst, arith}
 use Rattle.std.specs.Prelude.{IsErr, slice_range}
 use Rattle.flt_flash.specs.Image.{sector_at, blank_page}
 use Rattle.flt_flash.specs.State.{FlashState, HasRisenBy}
@@ -9,14 +9,10 @@ use Rattle.flt_pages.specs.Append.{filled}
 use Rattle.flt_record.specs.Record.{KeptApart}
 use Rattle.flt_record.specs.Recorded.{OnSector, Fills}
 use Rattle.flt_record.proofs.Steps.{set_apart, apart_on, wider}
-use Rattle.flt_record.proofs.Filling.{Filled, filled_more}
+use Rattle.flt_record.proofs.Filling.{Filled, filled_more, ones_behind}
 use Rattle.flt_record.proofs.Recording.{on_sector}
 use Rattle.flt_ea.specs.State.{HasUnits}
 use Rattle.flt_ea.proofs.Device.{GivesUnit, units_on}
-
-nothing_behind : (piece : List ℕ) → length piece ≡ 32 → drop (length piece) blank_page ≡ []
-unfolding blank_page
-nothing_behind piece size = ap (λ n. drop n blank_page) size
 
 module _ (before now after : FlashState) (shape : HasUnits before) (first : ℕ) (bytes : List ℕ) (index end : ℕ)
     (room : first + byte_pages (length bytes) ≤ before.pages) (more : index < byte_pages (length bytes))
@@ -56,13 +52,6 @@ module _ (before now after : FlashState) (shape : HasUnits before) (first : ℕ)
     same : sector_at after.image 0 ≡ set units (first + index) piece
     same = units_on before after (set units (first + index) piece) shape on_piece
 
-    full : 32 * index + 32 ≤ length bytes → drop (length (slice_range bytes (32 * index) end)) blank_page ≡ []
-    full le = nothing_behind (slice_range bytes (32 * index) end) (omega (arith, whole ends, length-take (end - 32 * index) (drop (32 * index) bytes), length-drop (32 * index) bytes))
-      where
-        whole : (end ≡ 32 * index + 32) ⊎ ((end ≡ length bytes) × (length bytes < 32 * index + 32)) → end ≡ 32 * index + 32
-        whole (inl e) = e
-        whole (inr e) = absurd (omega (arith, e.1, le))
-
     pub on_more : OnSector before after 0 (sector_at after.image 0)
     on_more = subst (λ (p : List (List ℕ)). OnSector before after 0 p) (sym same) on_piece
 
@@ -71,4 +60,4 @@ module _ (before now after : FlashState) (shape : HasUnits before) (first : ℕ)
 
     pub more_filled : Filled (sector_at after.image 0) first bytes (index + 1)
     more_filled = subst (λ (p : List (List ℕ)). Filled p first bytes (index + 1)) (sym same)
-        (filled_more units first bytes index (drop (length (slice_range bytes (32 * index) end)) blank_page) end (omega (arith, apart.size, shape.units)) more fills ends full)
+        (filled_more units first bytes index (drop (length (slice_range bytes (32 * index) end)) blank_page) end (omega (arith, apart.size, shape.units)) more fills ends (ones_behind bytes index end more ends))

@@ -12,7 +12,8 @@ use Rattle.flt_code.specs.Spoiled.{is_spoiled}
 use Rattle.flt_code.proofs.Unsealed.{unsealed_code}
 use Rattle.flt_code.proofs.Unspoiled.{erased_or_none, erased_unspoiled, programmed_or_none, programmed_unspoiled, unspoiled_word}
 use Rattle.flt_code.proofs.WordCode.{unsealed_blank}
-use Rattle.flt_record.specs.Record.{KeptApart}
+use Rattle.flt_record.specs.Record.{KeptApart, on_pages}
+use Rattle.flt_record.proofs.Filling.{bytes_on_pages}
 use Rattle.flt_record.specs.Recorded.{OnSector, Fills}
 use Rattle.flt_record.proofs.Steps.{set_apart, apart_on, wider}
 use Rattle.flt_record.proofs.Recording.{on_sector}
@@ -85,22 +86,26 @@ module _ (before : FlashState) (shape : HasUnits before) (unit : ℕ) (gate : Ga
         gated_apart = apart_on units after (set after unit laid) unit (unit + 5) unit (unit + 1) (omega arith) (omega arith) filled_apart (set_apart after unit laid)
 
         module _ (asked : List ℕ) (word : IsCodeWordOf (gate_bytes gate) asked) where
-          stands : take (length held) (flat_map (λ u. u) (slice_range after (unit + 1) (unit + 1 + byte_pages (length held)))) ≡ held → laid ≡ asked → HoldsRecord (set after unit laid) unit gate held
-          stands holds is = record {
+          stands : flat_map (λ u. u) (slice_range after (unit + 1) (unit + 1 + byte_pages (length held))) ≡ on_pages held → laid ≡ asked → HoldsRecord (set after unit laid) unit gate held
+          stands filled is = record {
             gate_is = ap unsealed (gated_at ∙ is) ∙ unsealed_code (gate_bytes gate) asked word;
             unspoiled = ap is_spoiled (gated_at ∙ is) ∙ unspoiled_word (gate_bytes gate) asked word;
-            holds =
-                ap (λ (l : List (List ℕ)). take (length held) (flat_map (λ u. u) l))
+            holds = ap (take (length held)) filled_behind ∙ bytes_on_pages held;
+            filled = filled_behind;
+          }
+            where
+              filled_behind : flat_map (λ u. u) (slice_range (set after unit laid) (unit + 1) (unit + 1 + byte_pages (length held))) ≡ on_pages held
+              filled_behind =
+                ap (λ (l : List (List ℕ)). flat_map (λ u. u) l)
                 (same_range after (set after unit laid) (unit + 1) (unit + 5) (length-set after unit laid)
                 (λ k low lt. get_or-set_other after unit k laid [] (omega arith)) (unit + 1) (unit + 1 + byte_pages (length held)) (omega arith) (omega arith))
-                ∙ holds;
-          }
+                ∙ filled
 
-          torn_gate : take (length held) (flat_map (λ u. u) (slice_range after (unit + 1) (unit + 1 + byte_pages (length held)))) ≡ held → IsTornPage (get_or after unit []) asked laid
+          torn_gate : flat_map (λ u. u) (slice_range after (unit + 1) (unit + 1 + byte_pages (length held))) ≡ on_pages held → IsTornPage (get_or after unit []) asked laid
               → RecordLeft units (set after unit laid) unit gate held
-          torn_gate holds tears =
+          torn_gate filled tears =
               let of_blank = subst (λ (l : List ℕ). IsTornPage l asked laid) gate_blank tears in
-              ⊎_elim (λ same. inr (inr (stands holds same)))
+              ⊎_elim (λ same. inr (inr (stands filled same)))
               (λ none. inr (inl (record { none = ap unsealed gated_at ∙ none; unspoiled = ap is_spoiled gated_at ∙ programmed_unspoiled (gate_bytes gate) asked laid word of_blank })))
               (programmed_or_none (gate_bytes gate) asked laid word of_blank)
 

@@ -1,11 +1,13 @@
 -- What the write of a record to a place leaves.
-use Rattle.std.specs.Prelude.{◌≡◌, ◌⊎◌, ◌+◌, ℕ, false, List, [], length, Some, None, Result, OnOk, OnErr, slice_index_or}
+use Rattle.std.specs.Prelude.{◌≡◌, ◌⊎◌, ◌+◌, ℕ, false, List, [], length, Some, None, Result, OnOk, OnErr, slice_range, slice_index_or}
+use Rattle.std.specs.List.{flat_map}
+use Rattle.flt_flash.specs.Blocks.{byte_pages}
 use Rattle.flt_flash.specs.State.{FlashState, HasRisenBy}
 use Rattle.flt_flash.specs.Image.{sector_at}
 use Rattle.flt_flash.specs.declared.flash.FlashFailed.{FlashFailed}
 use Rattle.flt_code.specs.Seal.{unsealed}
 use Rattle.flt_code.specs.Spoiled.{is_spoiled}
-use Rattle.flt_record.specs.Record.{KeptApart}
+use Rattle.flt_record.specs.Record.{KeptApart, on_pages}
 use Rattle.flt_record.specs.Recorded.{OnSector}
 use Rattle.flt_ea.specs.Gate.{gate_bytes}
 use Rattle.flt_ea.specs.Image.{bytes_behind}
@@ -16,11 +18,12 @@ pub record IsEmptyAt (units : List (List ℕ)) (unit : ℕ) : Type 0 where
   pub none : unsealed (slice_index_or units unit []) ≡ None
   pub unspoiled : is_spoiled (slice_index_or units unit []) ≡ false
 
--- The gate stands, with these bytes behind it.
+-- The gate stands, with these bytes behind it, on units that are filled up with ones.
 pub record HoldsRecord (units : List (List ℕ)) (unit : ℕ) (gate : Gate) (held : List ℕ) : Type 0 where
   pub gate_is : unsealed (slice_index_or units unit []) ≡ Some (gate_bytes gate)
   pub unspoiled : is_spoiled (slice_index_or units unit []) ≡ false
   pub holds : bytes_behind units unit (length held) ≡ held
+  pub filled : flat_map (λ unit. unit) (slice_range units (unit + 1) (unit + 1 + byte_pages (length held))) ≡ on_pages held
 
 -- The gate is as it was, or the place is empty, or it holds the record.
 abbrev pub RecordLeft : List (List ℕ) → List (List ℕ) → ℕ → Gate → List ℕ → Type 0

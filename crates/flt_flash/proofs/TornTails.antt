@@ -5,8 +5,8 @@ use Rattle.std.proofs.lemmas.Bool.{le-leb, lt-leb}
 use Rattle.std.proofs.lemmas.List.{ext_get_or}
 use Rattle.std.proofs.lemmas.Nat.Bits.{same_from_bits}
 use Rattle.flt_flash.specs.declared.arm.Pattern.TheVariants.{Tail}
-use Rattle.flt_flash.specs.Image.{blank_page, ArePages}
-use Rattle.flt_flash.specs.Arms.{IsTornBy, IsTornPageBy, IsErasedBy, IsProgrammedBy}
+use Rattle.flt_flash.specs.Image.{blank_page}
+use Rattle.flt_flash.specs.Arms.{IsTornBy, IsTornPageBy}
 use Rattle.flt_flash.specs.Examples.{BytesAreTorn, ErasesAreTorn, ProgramsAreTorn}
 use Rattle.flt_flash.proofs.OddBits.{odd_bits}
 use Rattle.flt_flash.proofs.PageSizes.{blank_size}

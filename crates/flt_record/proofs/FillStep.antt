@@ -1,5 +1,5 @@
 -- One page of plain bytes more.
-use Rattle.std.proofs.Common.{◌≡◌, ◌⊎◌, inl, inr, ◌+◌, ◌-◌, ◌*◌, ◌<◌, ◌≤◌, ℕ, List, [], set, drop, length, length-take, length-drop, Result, Ok, Err, sym, ap, subst, arith}
+use Rattle.std.proofs.Common.{◌≡◌, ◌⊎◌, ◌+◌, ◌-◌, ◌*◌, ◌<◌, ◌≤◌, ℕ, List, set, drop, length, Result, Ok, Err, sym, subst, arith}
 use Rattle.std.specs.Prelude.{IsErr, slice_range}
 use Rattle.flt_flash.specs.Image.{sector_at, blank_page}
 use Rattle.flt_flash.specs.State.{FlashState, HasShape, HasRisenBy}
@@ -8,14 +8,10 @@ use Rattle.flt_flash.proofs.Following.{one_run}
 use Rattle.flt_flash.specs.Blocks.{byte_pages}
 use Rattle.flt_record.specs.Record.{KeptApart}
 use Rattle.flt_record.proofs.Steps.{set_apart, apart_on, wider}
-use Rattle.flt_record.proofs.Filling.{Filled, filled_more}
+use Rattle.flt_record.proofs.Filling.{Filled, filled_more, ones_behind}
 use Rattle.flt_pages.specs.Append.{AppendsPiece, filled}
 use Rattle.flt_record.specs.Recorded.{OnSector, Fills}
 use Rattle.flt_record.proofs.Recording.{on_sector, pages_on}
-
-nothing_behind : (piece : List ℕ) → length piece ≡ 32 → drop (length piece) blank_page ≡ []
-unfolding blank_page
-nothing_behind piece size = ap (λ n. drop n blank_page) size
 
 module _ (before now after : FlashState) (shape : HasShape before) (shape_now : HasShape now) (sector first : ℕ) (bytes : List ℕ) (index end : ℕ) (within : sector < 2)
     (room : first + byte_pages (length bytes) ≤ before.pages) (more : index < byte_pages (length bytes))
@@ -55,13 +51,6 @@ module _ (before now after : FlashState) (shape : HasShape before) (shape_now : 
     same : sector_at after.image sector ≡ set pages (first + index) piece
     same = pages_on before after sector (set pages (first + index) piece) shape within on_piece
 
-    full : 32 * index + 32 ≤ length bytes → drop (length (slice_range bytes (32 * index) end)) blank_page ≡ []
-    full le = nothing_behind (slice_range bytes (32 * index) end) (omega (arith, whole ends, length-take (end - 32 * index) (drop (32 * index) bytes), length-drop (32 * index) bytes))
-      where
-        whole : (end ≡ 32 * index + 32) ⊎ ((end ≡ length bytes) × (length bytes < 32 * index + 32)) → end ≡ 32 * index + 32
-        whole (inl e) = e
-        whole (inr e) = absurd (omega (arith, e.1, le))
-
     pub on_more : OnSector before after sector (sector_at after.image sector)
     on_more = subst (λ (p : List (List ℕ)). OnSector before after sector p) (sym same) on_piece
 
@@ -70,4 +59,4 @@ module _ (before now after : FlashState) (shape : HasShape before) (shape_now : 
 
     pub more_filled : Filled (sector_at after.image sector) first bytes (index + 1)
     more_filled = subst (λ (p : List (List ℕ)). Filled p first bytes (index + 1)) (sym same)
-        (filled_more pages first bytes index (drop (length (slice_range bytes (32 * index) end)) blank_page) end (omega (arith, apart.size, shape.pages sector within)) more fills ends full)
+        (filled_more pages first bytes index (drop (length (slice_range bytes (32 * index) end)) blank_page) end (omega (arith, apart.size, shape.pages sector within)) more fills ends (ones_behind bytes index end more ends))

@@ -8,7 +8,8 @@ use Rattle.flt_code.specs.declared.words.Word.TheVariants.{Head, Gate}
 use Rattle.flt_code.proofs.WordCode.{unsealed_blank}
 use Rattle.flt_record.specs.Blank.{AreBlank}
 use Rattle.flt_flash.specs.Blocks.{byte_pages}
-use Rattle.flt_record.specs.Record.{KeptApart, IsTornAtHead, IsOpen, IsWhole}
+use Rattle.flt_record.specs.Record.{KeptApart, IsTornAtHead, IsOpen, IsWhole, on_pages}
+use Rattle.flt_record.proofs.Filling.{bytes_on_pages}
 use Rattle.flt_record.proofs.Values.{same_range}
 
 pub set_apart : (pages : List (List ℕ)) (page : ℕ) (bytes : List ℕ) → KeptApart pages (set pages page bytes) page (page + 1)
@@ -61,15 +62,19 @@ module _ (pages : List (List ℕ)) (page block : ℕ) (held : List ℕ) (valid :
     pub gate_torn : unsealed last ≡ None → IsOpen pages (set opened (page + 1 + byte_pages (length held)) last) page block (length held) valid
     gate_torn none = record { apart = gated_apart; head = gated_head; gate = ap unsealed at_gate ∙ none }
 
-    pub gate_stands : last ≡ sealed (word_bytes (Gate block page)) → take (length held) (flat_map (λ p. p) (slice_range opened (page + 1) (page + 1 + byte_pages (length held)))) ≡ held
+    pub gate_stands : last ≡ sealed (word_bytes (Gate block page)) → flat_map (λ p. p) (slice_range opened (page + 1) (page + 1 + byte_pages (length held))) ≡ on_pages held
         → IsWhole pages (set opened (page + 1 + byte_pages (length held)) last) page block held valid
-    gate_stands gate holds = record {
+    gate_stands gate filled = record {
       apart = gated_apart;
       head = gated_head;
       gate = at_gate ∙ gate;
-      holds =
-          ap (λ (l : List (List ℕ)). take (length held) (flat_map (λ p. p) l))
+      holds = ap (take (length held)) filled_behind ∙ bytes_on_pages held;
+      filled = filled_behind;
+    }
+      where
+        filled_behind : flat_map (λ p. p) (slice_range (set opened (page + 1 + byte_pages (length held)) last) (page + 1) (page + 1 + byte_pages (length held))) ≡ on_pages held
+        filled_behind =
+          ap (λ (l : List (List ℕ)). flat_map (λ p. p) l)
           (same_range opened (set opened (page + 1 + byte_pages (length held)) last) 0 (page + 1 + byte_pages (length held)) (length-set opened (page + 1 + byte_pages (length held)) last)
           (λ k low lt. get_or-set_other opened (page + 1 + byte_pages (length held)) k last [] (omega arith)) (page + 1) (page + 1 + byte_pages (length held)) (omega arith) (omega arith))
-          ∙ holds;
-    }
+          ∙ filled

@@ -1,10 +1,15 @@
 -- What a record that is appended at a page leaves of a sector's pages.
-use Rattle.std.specs.Prelude.{◌≡◌, ◌⊎◌, ◌+◌, ◌<◌, ◌≤◌, ℕ, Bool, true, List, [], length, None, slice_index_or}
+use Rattle.std.specs.Prelude.{◌≡◌, ◌⊎◌, ◌+◌, ◌-◌, ◌*◌, ◌<◌, ◌≤◌, ◌++◌, ℕ, Bool, true, List, [], length, replicate, None, slice_range, slice_index_or}
+use Rattle.std.specs.List.{flat_map}
 use Rattle.flt_code.specs.Seal.{sealed, unsealed}
 use Rattle.flt_code.specs.Word.{word_bytes}
 use Rattle.flt_code.specs.declared.words.Word.TheVariants.{Head, Gate}
 use Rattle.flt_flash.specs.Blocks.{byte_pages}
 use Rattle.flt_sector.specs.Blocks.{bytes_behind}
+
+-- Bytes as they stand on whole pages, of which the last one is filled up with ones.
+abbrev pub on_pages : List ℕ → List ℕ
+on_pages bytes = bytes ++ replicate (32 * byte_pages (length bytes) - length bytes) 255
 
 -- All pages but those from one to another are as they were.
 pub record KeptApart (pages after : List (List ℕ)) (from to : ℕ) : Type 0 where
@@ -23,12 +28,13 @@ pub record IsOpen (pages after : List (List ℕ)) (page block length : ℕ) (val
   pub head : slice_index_or after page [] ≡ sealed (word_bytes (Head block length valid page))
   pub gate : unsealed (slice_index_or after (page + 1 + byte_pages length) []) ≡ None
 
--- Head, bytes and gate stand.
+-- Head, bytes and gate stand; the pages of the bytes are filled up with ones.
 pub record IsWhole (pages after : List (List ℕ)) (page block : ℕ) (bytes : List ℕ) (valid : Bool) : Type 0 where
   pub apart : KeptApart pages after page (page + 2 + byte_pages (length bytes))
   pub head : slice_index_or after page [] ≡ sealed (word_bytes (Head block (length bytes) valid page))
   pub gate : slice_index_or after (page + 1 + byte_pages (length bytes)) [] ≡ sealed (word_bytes (Gate block page))
   pub holds : bytes_behind after (record { page = page; block = block; length = length bytes; valid = valid; complete = true }) ≡ bytes
+  pub filled : flat_map (λ page. page) (slice_range after (page + 1) (page + 1 + byte_pages (length bytes))) ≡ on_pages bytes
 
 -- Whatever a record that is being appended may leave.
 abbrev pub RecordLeft : List (List ℕ) → List (List ℕ) → ℕ → ℕ → List ℕ → Bool → Type 0

@@ -1,8 +1,6 @@
-use Rattle.std.proofs.Common.{List, sym, subst, arith, inl, inr}
+use Rattle.std.proofs.Common.{List, sym, subst, arith, inl}
 use Rattle.flt_nvm.specs.declared.table.BlockCfg.{BlockCfg}
 use Rattle.flt_nvm.specs.Table.{HasPlace}
-use Rattle.flt_nvm.specs.Driver.{driver_of}
-use Rattle.flt_generation.specs.Layout.{first_commit, second_commit}
 use Rattle.flt_restore.proofs.Rows.{commit_has_place}
 use Rattle.flt_restore.proofs.Failing.{on_err}
 use Rattle.flt_restore.proofs.reading.read_commit.Goals as goal
