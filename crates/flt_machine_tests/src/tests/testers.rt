@@ -189,51 +189,62 @@ fn first_difference(config: Config, dids: DidTable<DID_ROWS>, steps: &[Step]) ->
     None
 }
 
+/// What a mask lists, and what a clear leaves.
+static MASKS: [Step<'static>; 15] = [
+    Step::Ask(
+        0,
+        &[0x19, 0x02, 0x10],
+        &[0x59, 0x02, 0xFF, 0x12, 0x34, 0x56, 0x50],
+    ),
+    Step::Ask(0, &[0x19, 0x02, 0x00], &[0x59, 0x02, 0xFF]),
+    Step::Cycle(0),
+    Step::Fail(0),
+    Step::Ask(3, &[0x14, 0x12, 0x34, 0x57], &[0x7F, 0x14, 0x31]),
+    Step::Ask(3, &[0x14, 0xFF, 0xFF], &[0x7F, 0x14, 0x13]),
+    Step::Status(0, 0x2F),
+    Step::Ask(
+        0,
+        &[0x19, 0x01, 0x08],
+        &[0x59, 0x01, 0xFF, 0x01, 0x00, 0x01],
+    ),
+    Step::Ask(
+        0,
+        &[0x19, 0x03],
+        &[0x59, 0x03, 0x12, 0x34, 0x56, 0x01, 0x12, 0x34, 0x56, 0x02],
+    ),
+    Step::Ask(
+        0,
+        &[0x19, 0x0C],
+        &[0x59, 0x0C, 0xFF, 0x12, 0x34, 0x56, 0x2F],
+    ),
+    Step::Ask(0, &[0x14, 0xFF, 0xFF, 0xFF], &[0x54]),
+    Step::Status(0, 0x50),
+    Step::Ask(
+        0,
+        &[0x19, 0x0A],
+        &[0x59, 0x0A, 0xFF, 0x12, 0x34, 0x56, 0x50],
+    ),
+    Step::Ask(0, &[0x19, 0x0D], &[0x59, 0x0D, 0xFF]),
+    Step::Ask(
+        0,
+        &[0x19, 0x01, 0x08],
+        &[0x59, 0x01, 0xFF, 0x01, 0x00, 0x00],
+    ),
+];
+
+/// A counter on its way to a threshold.
+static COUNTER: [Step<'static>; 5] = [
+    Step::Cycle(0),
+    Step::Pass(0),
+    Step::Ask(0, &[0x19, 0x14], &[0x59, 0x14]),
+    Step::PreFail(0),
+    Step::Ask(0, &[0x19, 0x14], &[0x59, 0x14, 0x00, 0x00, 0x01, 0x26]),
+];
+
 #[test]
 fn dtcs_are_listed_cleared_and_counted(rt: HostRuntime) {
-    let mask = [
-        Step::Ask(
-            0,
-            &[0x19, 0x02, 0x10],
-            &[0x59, 0x02, 0xFF, 0x12, 0x34, 0x56, 0x50],
-        ),
-        Step::Ask(0, &[0x19, 0x02, 0x00], &[0x59, 0x02, 0xFF]),
-        Step::Cycle(0),
-        Step::Fail(0),
-        Step::Ask(3, &[0x14, 0x12, 0x34, 0x57], &[0x7F, 0x14, 0x31]),
-        Step::Ask(3, &[0x14, 0xFF, 0xFF], &[0x7F, 0x14, 0x13]),
-        Step::Status(0, 0x2F),
-        Step::Ask(
-            0,
-            &[0x19, 0x01, 0x08],
-            &[0x59, 0x01, 0xFF, 0x01, 0x00, 0x01],
-        ),
-        Step::Ask(
-            0,
-            &[0x19, 0x03],
-            &[0x59, 0x03, 0x12, 0x34, 0x56, 0x01, 0x12, 0x34, 0x56, 0x02],
-        ),
-        Step::Ask(
-            0,
-            &[0x19, 0x0C],
-            &[0x59, 0x0C, 0xFF, 0x12, 0x34, 0x56, 0x2F],
-        ),
-        Step::Ask(0, &[0x14, 0xFF, 0xFF, 0xFF], &[0x54]),
-        Step::Status(0, 0x50),
-        Step::Ask(
-            0,
-            &[0x19, 0x0A],
-            &[0x59, 0x0A, 0xFF, 0x12, 0x34, 0x56, 0x50],
-        ),
-        Step::Ask(0, &[0x19, 0x0D], &[0x59, 0x0D, 0xFF]),
-        Step::Ask(
-            0,
-            &[0x19, 0x01, 0x08],
-            &[0x59, 0x01, 0xFF, 0x01, 0x00, 0x00],
-        ),
-    ];
     assert_eq!(rt;
-        first_difference(one(event(0x123456)), DidTable::new(), &mask),
+        first_difference(one(event(0x123456)), DidTable::new(), &MASKS),
         None
     );
 
@@ -248,61 +259,104 @@ fn dtcs_are_listed_cleared_and_counted(rt: HostRuntime) {
         },
         ..event(0x000001)
     };
-    let counter = [
-        Step::Cycle(0),
-        Step::Pass(0),
-        Step::Ask(0, &[0x19, 0x14], &[0x59, 0x14]),
-        Step::PreFail(0),
-        Step::Ask(0, &[0x19, 0x14], &[0x59, 0x14, 0x00, 0x00, 0x01, 0x26]),
-    ];
     assert_eq!(rt;
-        first_difference(one(counted), DidTable::new(), &counter),
+        first_difference(one(counted), DidTable::new(), &COUNTER),
         None
     );
 }
+
+/// A tester that holds the setting off, until it is silent for too long.
+static SESSION: [Step<'static>; 16] = [
+    Step::Cycle(0),
+    Step::Ask(0, &[0x85, 0x02], &[0x7F, 0x85, 0x7F]),
+    Step::Ask(0, &[0x10, 0x03], &[0x50, 0x03, 0x00, 0x32, 0x01, 0xF4]),
+    Step::Ask(0, &[0x85, 0x02], &[0xC5, 0x02]),
+    Step::Ask(0, &[0x85, 0x82], &[]),
+    Step::Ignored(0, Cause::SettingOff),
+    Step::Tick(499),
+    Step::Ignored(0, Cause::SettingOff),
+    Step::Tick(1),
+    Step::Fail(0),
+    Step::Ask(0, &[0x85, 0x82], &[0x7F, 0x85, 0x7F]),
+    Step::Ask(0, &[0x10, 0x83], &[]),
+    Step::Ask(0, &[0x85, 0x82, 0xFF, 0xFF, 0xFF], &[]),
+    Step::Ask(0, &[0x10, 0x03], &[0x50, 0x03, 0x00, 0x32, 0x01, 0xF4]),
+    Step::Tick(65535),
+    Step::Fail(0),
+];
+
+/// Two testers that hold the setting off.
+static TWO_TESTERS: [Step<'static>; 10] = [
+    Step::Cycle(0),
+    Step::Ask(0, &[0x10, 0x03], &[0x50, 0x03, 0x00, 0x32, 0x01, 0xF4]),
+    Step::Ask(1, &[0x10, 0x03], &[0x50, 0x03, 0x00, 0x32, 0x01, 0xF4]),
+    Step::Ask(0, &[0x85, 0x02], &[0xC5, 0x02]),
+    Step::Ask(1, &[0x85, 0x02], &[0xC5, 0x02]),
+    Step::Ask(0, &[0x10, 0x01], &[0x50, 0x01, 0x00, 0x32, 0x01, 0xF4]),
+    Step::Ignored(0, Cause::SettingOff),
+    Step::Ask(1, &[0x3E, 0x80], &[]),
+    Step::Ask(1, &[0x10, 0x01], &[0x50, 0x01, 0x00, 0x32, 0x01, 0xF4]),
+    Step::Fail(0),
+];
 
 #[test]
 fn the_setting_is_off_while_a_tester_holds_it(rt: HostRuntime) {
-    let session = [
-        Step::Cycle(0),
-        Step::Ask(0, &[0x85, 0x02], &[0x7F, 0x85, 0x7F]),
-        Step::Ask(0, &[0x10, 0x03], &[0x50, 0x03, 0x00, 0x32, 0x01, 0xF4]),
-        Step::Ask(0, &[0x85, 0x02], &[0xC5, 0x02]),
-        Step::Ask(0, &[0x85, 0x82], &[]),
-        Step::Ignored(0, Cause::SettingOff),
-        Step::Tick(499),
-        Step::Ignored(0, Cause::SettingOff),
-        Step::Tick(1),
-        Step::Fail(0),
-        Step::Ask(0, &[0x85, 0x82], &[0x7F, 0x85, 0x7F]),
-        Step::Ask(0, &[0x10, 0x83], &[]),
-        Step::Ask(0, &[0x85, 0x82, 0xFF, 0xFF, 0xFF], &[]),
-        Step::Ask(0, &[0x10, 0x03], &[0x50, 0x03, 0x00, 0x32, 0x01, 0xF4]),
-        Step::Tick(65535),
-        Step::Fail(0),
-    ];
     assert_eq!(rt;
-        first_difference(one(event(0x000001)), DidTable::new(), &session),
+        first_difference(one(event(0x000001)), DidTable::new(), &SESSION),
         None
     );
 
-    let two = [
-        Step::Cycle(0),
-        Step::Ask(0, &[0x10, 0x03], &[0x50, 0x03, 0x00, 0x32, 0x01, 0xF4]),
-        Step::Ask(1, &[0x10, 0x03], &[0x50, 0x03, 0x00, 0x32, 0x01, 0xF4]),
-        Step::Ask(0, &[0x85, 0x02], &[0xC5, 0x02]),
-        Step::Ask(1, &[0x85, 0x02], &[0xC5, 0x02]),
-        Step::Ask(0, &[0x10, 0x01], &[0x50, 0x01, 0x00, 0x32, 0x01, 0xF4]),
-        Step::Ignored(0, Cause::SettingOff),
-        Step::Ask(1, &[0x3E, 0x80], &[]),
-        Step::Ask(1, &[0x10, 0x01], &[0x50, 0x01, 0x00, 0x32, 0x01, 0xF4]),
-        Step::Fail(0),
-    ];
     assert_eq!(rt;
-        first_difference(one(event(0x000001)), DidTable::new(), &two),
+        first_difference(one(event(0x000001)), DidTable::new(), &TWO_TESTERS),
         None
     );
 }
+
+/// Frames and extended data, of an event with and of one without.
+static SNAPSHOTS: [Step<'static>; 13] = [
+    Step::Signal(0, 258),
+    Step::Signal(2, 7),
+    Step::Cycle(0),
+    Step::Fail(0),
+    Step::Ask(
+        0,
+        &[0x19, 0x04, 0x12, 0x34, 0x56, 0x02],
+        &[
+            0x59, 0x04, 0x12, 0x34, 0x56, 0x2F, 0x02, 0x02, 1, 1, 1, 2, 1, 3, 7,
+        ],
+    ),
+    Step::Signal(0, 3),
+    Step::Pass(0),
+    Step::Fail(0),
+    Step::Ask(
+        0,
+        &[0x19, 0x04, 0x12, 0x34, 0x56, 0xFF],
+        &[
+            0x59, 0x04, 0x12, 0x34, 0x56, 0x2F, 0x01, 0x02, 1, 1, 1, 2, 1, 3, 7, 0x02, 0x02, 1, 1,
+            0, 3, 1, 3, 7,
+        ],
+    ),
+    Step::Ask(
+        0,
+        &[0x19, 0x04, 0x12, 0x34, 0x56, 0x03],
+        &[0x7F, 0x19, 0x31],
+    ),
+    Step::Ask(
+        0,
+        &[0x19, 0x04, 0x12, 0x34, 0x57, 0x01],
+        &[0x59, 0x04, 0x12, 0x34, 0x57, 0x50],
+    ),
+    Step::Ask(
+        0,
+        &[0x19, 0x06, 0x12, 0x34, 0x56, 0xFF],
+        &[0x59, 0x06, 0x12, 0x34, 0x56, 0x2F, 0x01, 0x02, 0x02, 0x00],
+    ),
+    Step::Ask(
+        0,
+        &[0x19, 0x86, 0x12, 0x34, 0x58, 0x01],
+        &[0x7F, 0x19, 0x31],
+    ),
+];
 
 #[test]
 fn snapshots_and_extended_data_are_told(rt: HostRuntime) {
@@ -324,52 +378,8 @@ fn snapshots_and_extended_data_are_told(rt: HostRuntime) {
         ..event(0x123456)
     });
     events.push(event(0x123457));
-    let steps = [
-        Step::Signal(0, 258),
-        Step::Signal(2, 7),
-        Step::Cycle(0),
-        Step::Fail(0),
-        Step::Ask(
-            0,
-            &[0x19, 0x04, 0x12, 0x34, 0x56, 0x02],
-            &[
-                0x59, 0x04, 0x12, 0x34, 0x56, 0x2F, 0x02, 0x02, 1, 1, 1, 2, 1, 3, 7,
-            ],
-        ),
-        Step::Signal(0, 3),
-        Step::Pass(0),
-        Step::Fail(0),
-        Step::Ask(
-            0,
-            &[0x19, 0x04, 0x12, 0x34, 0x56, 0xFF],
-            &[
-                0x59, 0x04, 0x12, 0x34, 0x56, 0x2F, 0x01, 0x02, 1, 1, 1, 2, 1, 3, 7, 0x02, 0x02, 1,
-                1, 0, 3, 1, 3, 7,
-            ],
-        ),
-        Step::Ask(
-            0,
-            &[0x19, 0x04, 0x12, 0x34, 0x56, 0x03],
-            &[0x7F, 0x19, 0x31],
-        ),
-        Step::Ask(
-            0,
-            &[0x19, 0x04, 0x12, 0x34, 0x57, 0x01],
-            &[0x59, 0x04, 0x12, 0x34, 0x57, 0x50],
-        ),
-        Step::Ask(
-            0,
-            &[0x19, 0x06, 0x12, 0x34, 0x56, 0xFF],
-            &[0x59, 0x06, 0x12, 0x34, 0x56, 0x2F, 0x01, 0x02, 0x02, 0x00],
-        ),
-        Step::Ask(
-            0,
-            &[0x19, 0x86, 0x12, 0x34, 0x58, 0x01],
-            &[0x7F, 0x19, 0x31],
-        ),
-    ];
     assert_eq!(rt;
-        first_difference(configured(16, events), table, &steps),
+        first_difference(configured(16, events), table, &SNAPSHOTS),
         None
     );
 }
@@ -420,54 +430,55 @@ fn a_request_meets_the_session_that_silence_left(rt: HostRuntime) {
     }
 }
 
+/// Requests of four testers, two of which hold the setting off.
+static FOUR_TESTERS: [Step<'static>; 33] = [
+    Step::Cycle(0),
+    Step::Fail(0),
+    Step::Ask(0, &[0x10, 0x03], &[0x50, 0x03, 0x00, 0x32, 0x01, 0xF4]),
+    Step::Ask(1, &[0x10, 0x03], &[0x50, 0x03, 0x00, 0x32, 0x01, 0xF4]),
+    Step::Ask(0, &[0x85, 0x02], &[0xC5, 0x02]),
+    Step::Ask(1, &[0x85, 0x02], &[0xC5, 0x02]),
+    Step::Ask(2, &[0x85, 0x01], &[0x7F, 0x85, 0x7F]),
+    Step::Ask(
+        2,
+        &[0x19, 0x02, 0xFF],
+        &[0x59, 0x02, 0xFF, 0x00, 0x00, 0x01, 0x2F],
+    ),
+    Step::Ask(
+        0,
+        &[0x19, 0x01, 0xFF],
+        &[0x59, 0x01, 0xFF, 0x01, 0x00, 0x01],
+    ),
+    Step::Ask(2, &[0x14, 0x00, 0x00, 0x02], &[0x7F, 0x14, 0x31]),
+    Step::Ask(2, &[0x14, 0x00, 0x00, 0x01], &[0x54]),
+    Step::Status(0, 0x50),
+    Step::Ignored(0, Cause::SettingOff),
+    Step::Tick(400),
+    Step::Ask(1, &[0x3E, 0x80], &[]),
+    Step::Tick(99),
+    Step::Ignored(0, Cause::SettingOff),
+    Step::Tick(1),
+    Step::Ask(0, &[0x85, 0x81], &[0x7F, 0x85, 0x7F]),
+    Step::Ignored(0, Cause::SettingOff),
+    Step::Tick(399),
+    Step::Ask(3, &[0x10, 0x03], &[0x50, 0x03, 0x00, 0x32, 0x01, 0xF4]),
+    Step::Ignored(0, Cause::SettingOff),
+    Step::Tick(1),
+    Step::Fail(0),
+    Step::Status(0, 0x2F),
+    Step::Ask(1, &[0x85, 0x02], &[0x7F, 0x85, 0x7F]),
+    Step::Ask(3, &[0x85, 0x02, 0xFF, 0xFF, 0xFE], &[0x7F, 0x85, 0x31]),
+    Step::Pass(0),
+    Step::Ask(3, &[0x85, 0x82], &[]),
+    Step::Ignored(0, Cause::SettingOff),
+    Step::Ask(3, &[0x85, 0x01], &[0xC5, 0x01]),
+    Step::Fail(0),
+];
+
 #[test]
 fn requests_go_on_while_two_testers_hold_the_setting_off(rt: HostRuntime) {
-    let extended: &[u8] = &[0x50, 0x03, 0x00, 0x32, 0x01, 0xF4];
-    let steps = [
-        Step::Cycle(0),
-        Step::Fail(0),
-        Step::Ask(0, &[0x10, 0x03], extended),
-        Step::Ask(1, &[0x10, 0x03], extended),
-        Step::Ask(0, &[0x85, 0x02], &[0xC5, 0x02]),
-        Step::Ask(1, &[0x85, 0x02], &[0xC5, 0x02]),
-        Step::Ask(2, &[0x85, 0x01], &[0x7F, 0x85, 0x7F]),
-        Step::Ask(
-            2,
-            &[0x19, 0x02, 0xFF],
-            &[0x59, 0x02, 0xFF, 0x00, 0x00, 0x01, 0x2F],
-        ),
-        Step::Ask(
-            0,
-            &[0x19, 0x01, 0xFF],
-            &[0x59, 0x01, 0xFF, 0x01, 0x00, 0x01],
-        ),
-        Step::Ask(2, &[0x14, 0x00, 0x00, 0x02], &[0x7F, 0x14, 0x31]),
-        Step::Ask(2, &[0x14, 0x00, 0x00, 0x01], &[0x54]),
-        Step::Status(0, 0x50),
-        Step::Ignored(0, Cause::SettingOff),
-        Step::Tick(400),
-        Step::Ask(1, &[0x3E, 0x80], &[]),
-        Step::Tick(99),
-        Step::Ignored(0, Cause::SettingOff),
-        Step::Tick(1),
-        Step::Ask(0, &[0x85, 0x81], &[0x7F, 0x85, 0x7F]),
-        Step::Ignored(0, Cause::SettingOff),
-        Step::Tick(399),
-        Step::Ask(3, &[0x10, 0x03], extended),
-        Step::Ignored(0, Cause::SettingOff),
-        Step::Tick(1),
-        Step::Fail(0),
-        Step::Status(0, 0x2F),
-        Step::Ask(1, &[0x85, 0x02], &[0x7F, 0x85, 0x7F]),
-        Step::Ask(3, &[0x85, 0x02, 0xFF, 0xFF, 0xFE], &[0x7F, 0x85, 0x31]),
-        Step::Pass(0),
-        Step::Ask(3, &[0x85, 0x82], &[]),
-        Step::Ignored(0, Cause::SettingOff),
-        Step::Ask(3, &[0x85, 0x01], &[0xC5, 0x01]),
-        Step::Fail(0),
-    ];
     assert_eq!(rt;
-        first_difference(one(event(0x000001)), DidTable::new(), &steps),
+        first_difference(one(event(0x000001)), DidTable::new(), &FOUR_TESTERS),
         None
     );
 }
@@ -704,24 +715,29 @@ fn each_request_is_answered_as_the_table_says(rt: HostRuntime) {
     }
 }
 
+/// Reports that are ignored for each cause.
+static CAUSES: [Step<'static>; 11] = [
+    Step::Enable(2, false),
+    Step::Ignored(0, Cause::NotStarted),
+    Step::Cycle(0),
+    Step::Ignored(0, Cause::NotEnabled),
+    Step::Ask(0, &[0x10, 0x03], &[0x50, 0x03, 0x00, 0x32, 0x01, 0xF4]),
+    Step::Ask(0, &[0x85, 0x02], &[0xC5, 0x02]),
+    Step::Ignored(0, Cause::SettingOff),
+    Step::Ask(0, &[0x85, 0x01], &[0xC5, 0x01]),
+    Step::Enable(2, true),
+    Step::Fail(0),
+    Step::Status(0, 0x2F),
+];
+
 #[test]
 fn the_setting_comes_first_and_the_conditions_last(rt: HostRuntime) {
     let needy = EventCfg {
         needs: 4,
         ..event(0x000001)
     };
-    let steps = [
-        Step::Enable(2, false),
-        Step::Ignored(0, Cause::NotStarted),
-        Step::Cycle(0),
-        Step::Ignored(0, Cause::NotEnabled),
-        Step::Ask(0, &[0x10, 0x03], &[0x50, 0x03, 0x00, 0x32, 0x01, 0xF4]),
-        Step::Ask(0, &[0x85, 0x02], &[0xC5, 0x02]),
-        Step::Ignored(0, Cause::SettingOff),
-        Step::Ask(0, &[0x85, 0x01], &[0xC5, 0x01]),
-        Step::Enable(2, true),
-        Step::Fail(0),
-        Step::Status(0, 0x2F),
-    ];
-    assert_eq!(rt; first_difference(one(needy), DidTable::new(), &steps), None);
+    assert_eq!(rt;
+        first_difference(one(needy), DidTable::new(), &CAUSES),
+        None
+    );
 }
