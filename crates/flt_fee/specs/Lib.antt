@@ -6,3 +6,4 @@ pub mod Switch
 pub mod Refusal
 pub mod Costs
 pub mod Wear
+pub mod Examples
