@@ -12,9 +12,15 @@ use flt_image::{
 };
 use flt_nvm::{BlockCfg, Kind};
 
+// Each note names another event.
 const SUMMARY: [u8; 32] = [
-    1, 1, 1, 0, 0, 0, 0xFF, 0xFF, 0, 1, 0xFF, 0xFF, 0, 0, 0, 0, 0, 0, 0, 0, 0, 0, 0, 0, 0, 0, 0, 0,
-    0, 0, 0, 0,
+    1, 1, 1, 0, 0, 1, 0, 3, 0, 0, 0, 2, 0, 0, 0, 0, 0, 0, 0, 0, 0, 0, 0, 0, 0, 0, 0, 0, 0, 0, 0, 0,
+];
+
+// No entry, no note and no overflow.
+const NO_SUMMARY: [u8; 32] = [
+    1, 0, 0, 0, 0xFF, 0xFF, 0xFF, 0xFF, 0xFF, 0xFF, 0xFF, 0xFF, 0, 0, 0, 0, 0, 0, 0, 0, 0, 0, 0, 0,
+    0, 0, 0, 0, 0, 0, 0, 0,
 ];
 
 const STATES: [u8; 64] = [
@@ -43,9 +49,9 @@ const OLD_COMMIT: [u8; 26] = [
     0xFF, 0xFF, 0xFF, 0xFF, 0xFF, 0xFF,
 ];
 
-const MARK: [u8; 8] = [2, 1, 2, 0, 2, 2, 0, 0];
+const MARK: [u8; 8] = [2, 1, 2, 0, 4, 2, 0, 0];
 
-const OLD_MARK: [u8; 8] = [1, 1, 2, 0, 2, 2, 0, 0];
+const OLD_MARK: [u8; 8] = [1, 1, 2, 0, 4, 2, 0, 0];
 
 fn event(dtc: u32, indicator: bool, dids: ArrayVec<DidUse, DIDS>) -> EventCfg {
     EventCfg {
@@ -62,7 +68,7 @@ fn event(dtc: u32, indicator: bool, dids: ArrayVec<DidUse, DIDS>) -> EventCfg {
     }
 }
 
-// Two events, the first with frames of three bytes, the second with a warning indicator; two entries.
+// Four events, the first with frames of three bytes, the second with a warning indicator; two entries.
 fn config() -> Config {
     let mut dids = ArrayVec::new();
     dids.push(DidUse {
@@ -76,6 +82,8 @@ fn config() -> Config {
     let mut events = ArrayVec::new();
     events.push(event(1, false, dids));
     events.push(event(2, true, ArrayVec::new()));
+    events.push(event(3, false, ArrayVec::new()));
+    events.push(event(4, false, ArrayVec::new()));
     Config {
         id: 0x0102,
         memory: 2,
@@ -102,6 +110,15 @@ fn entry() -> EntryState {
     }
 }
 
+fn never_tested() -> EventState {
+    EventState {
+        status: 0x50,
+        failed: 0,
+        clean: 0,
+        lit: false,
+    }
+}
+
 // A state of one entry, of two where the second is of this event.
 fn state(second: Option<u16>) -> Persist {
     let mut events = ArrayVec::new();
@@ -117,6 +134,8 @@ fn state(second: Option<u16>) -> Persist {
         clean: 2,
         lit: true,
     });
+    events.push(never_tested());
+    events.push(never_tested());
     let mut entries = ArrayVec::new();
     entries.push(entry());
     if let Some(event) = second {
@@ -131,10 +150,10 @@ fn state(second: Option<u16>) -> Persist {
         events,
         entries,
         overflow: true,
-        first_failed: Some(0),
-        first_confirmed: None,
-        recent_failed: Some(1),
-        recent_confirmed: None,
+        first_failed: Some(1),
+        first_confirmed: Some(3),
+        recent_failed: Some(0),
+        recent_confirmed: Some(2),
     }
 }
 
@@ -169,6 +188,7 @@ fn blocks_have_the_bytes_written_by_hand(rt: HostRuntime) {
             let state = state(None);
             assert!(&rt; fits(&valid, &state));
             assert!(&rt; &put(&valid, &state, 3)[..] == &SUMMARY[..]);
+            assert!(&rt; &put(&valid, &initial(&valid), 3)[..] == &NO_SUMMARY[..]);
             assert!(&rt; &put(&valid, &state, 4)[..] == &STATES[..]);
             assert!(&rt; &put(&valid, &state, 8)[..] == &ENTRY[..]);
             assert!(&rt; &put(&valid, &state, 9)[..] == &NO_ENTRY[..]);
@@ -206,15 +226,15 @@ fn bytes_of_no_block_that_fits_are_refused(rt: HostRuntime) {
                 (3, 1, 2), // an overflow flag that is none
                 (3, 2, 3), // more entries than the memory has room for
                 (3, 3, 1), // a byte that is not 00
-                (3, 5, 2), // a noted event that is not configured
-                (3, 6, 0), // half of a note
+                (3, 5, 4), // a noted event that is not configured
+                (3, 6, 0xFF), // half of none
                 (3, 31, 1), // a byte that is not 00
                 (4, 2, 0x80), // lit without a warning indicator
                 (4, 6, 0), // the warning bit without being lit
                 (4, 4, 0x2C), // lit without the warning bit
-                (4, 8, 0x51), // a state past the last event
+                (4, 16, 0x51), // a state past the last event
                 (4, 63, 1), // a state past the last event
-                (8, 1, 2), // an event that is not configured
+                (8, 1, 4), // an event that is not configured
                 (8, 2, 0), // an entry that never occurred
                 (8, 3, 4), // frames of another length
                 (8, 3, 33), // frames longer than any
