@@ -3,3 +3,4 @@ pub mod Orders
 pub mod Ranges
 pub mod Dues
 pub mod Refusals
+pub mod Asks

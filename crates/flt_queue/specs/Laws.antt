@@ -1,6 +1,8 @@
 -- What becomes of the jobs that are posted.
-use Rattle.std.specs.Prelude.{◌≡◌, ℕ, ◌==◌, ◌+◌, ◌≤◌, length, Bool, true, false, if◌then◌else◌, List, [], ◌∷◌, ◌++◌}
+use Rattle.std.specs.Prelude.{◌≡◌, ◌≢◌, ◌↔◌, ℕ, ◌==◌, ◌+◌, ◌<◌, ◌≤◌, length, Bool, true, false, if◌then◌else◌, List, [], ◌∷◌, ◌++◌}
 use Rattle.flt_queue.specs.declared.job.Job.{Job}
+use Rattle.flt_queue.specs.declared.job.LastResult.{LastResult}
+use Rattle.flt_queue.specs.declared.job.LastResult.TheVariants.{Never, Pending, Written, Failed}
 use Rattle.flt_queue.specs.declared.job.QueueOp.{QueueOp}
 use Rattle.flt_queue.specs.declared.job.QueueOp.TheVariants as ops
 use Rattle.flt_queue.specs.declared.job.QueueReply.{QueueReply}
@@ -102,3 +104,34 @@ RefusedChangesNothing = (past : History) (op : QueueOp) → is_refused (answer_q
 -- At most 32 jobs wait.
 abbrev pub FewWait : Type 0
 FewWait = (past : History) → length (waiting past) ≤ 32
+
+-- What a call, by its answer, makes of what is told of a block: from a post of it that was accepted on its job is pending, and from a
+-- result of it that was noted on, that result is told.
+abbrev pub told_by : ℕ → QueueOp → QueueReply → LastResult → LastResult
+told_by block (ops.Post urgent job) replies.Accepted before = if job.block == block then Pending else before
+told_by block (ops.Done done true) replies.Noted before = if done == block then Written else before
+told_by block (ops.Done done false) replies.Noted before = if done == block then Failed else before
+told_by block _ _ before = before
+
+-- What is told of a block behind these calls; nothing before the first that tells of it.
+abbrev pub told_of : ℕ → History → LastResult
+told_of block [] = Never
+told_of block (op ∷ past) = told_by block op (answer_q past op) (told_of block past)
+
+-- Who asks is told so.
+abbrev pub AskTellsLast : Type 0
+AskTellsLast = (block : ℕ) (past : History) → answer_q past (ops.Ask block) ≡ replies.Last (told_of block past)
+
+-- How many jobs were accepted, or handed out, urgent and standard ones.
+abbrev pub many : (Bool → History → List Job) → History → ℕ
+many made past = length (made true past) + length (made false past)
+
+-- A post of a block whose job is pending is refused for that; another is refused exactly where 32 jobs more were accepted than were
+-- handed out, and else it is accepted.
+pub record PostIsAnswered (past : History) (urgent : Bool) (job : Job) : Type 0 where
+  pub busy : told_of job.block past ≡ Pending → answer_q past (ops.Post urgent job) ≡ replies.BlockPending
+  pub full : told_of job.block past ≢ Pending → (answer_q past (ops.Post urgent job) ≡ replies.QueueFull) ↔ (many accepted past ≡ many handed past + 32)
+  pub taken : told_of job.block past ≢ Pending → many accepted past < many handed past + 32 → answer_q past (ops.Post urgent job) ≡ replies.Accepted
+
+abbrev pub PostsAreAnswered : Type 0
+PostsAreAnswered = (past : History) (urgent : Bool) (job : Job) → PostIsAnswered past urgent job

@@ -1,5 +1,5 @@
 //! What becomes of the jobs that are posted.
-ghost use Rattle.flt_queue.specs.Laws.{FewWait, FirstInFirstOut, HandedOutIsDue, OneOfABlock, RefusedChangesNothing};
+ghost use Rattle.flt_queue.specs.Laws.{AskTellsLast, FewWait, FirstInFirstOut, HandedOutIsDue, OneOfABlock, PostsAreAnswered, RefusedChangesNothing};
 
 /// The accepted jobs of a kind are those that were handed out and behind them those that wait: each job that is handed out was
 /// posted, none is handed out twice, none is lost, and of each kind the oldest is handed out first.
@@ -25,4 +25,15 @@ pub fn refused_changes_nothing()
 /// At most 32 jobs wait.
 pub fn few_wait()
     ensures { FewWait }
+{}
+
+/// Who asks for the last result of a block is told that it is pending behind a post that was accepted, and behind a result that counted
+/// what that result said; before the first post there is none.
+pub fn ask_tells_last()
+    ensures { AskTellsLast }
+{}
+
+/// A post of a block that is pending is refused for that, and another one exactly where 32 jobs wait.
+pub fn posts_are_answered()
+    ensures { PostsAreAnswered }
 {}
