@@ -7,3 +7,4 @@ pub mod EachPossible
 pub mod Sizes
 pub mod Rising
 pub mod Older
+pub mod WorkedLife

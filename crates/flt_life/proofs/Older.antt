@@ -21,7 +21,7 @@ use Rattle.flt_life.specs.Chain.{LifeView, told_of, start_from, Finds, KeepsSoun
 use Rattle.flt_life.specs.Journal.{Journal, Acknowledges, AcknowledgesBy}
 use Rattle.flt_life.specs.Moment.{Moment, Medium, moment_at}
 use Rattle.flt_life.specs.Saving.{IsLeft}
-use Rattle.flt_life.specs.Laws.{IsSoundIn, first_boot, number_by, number_in, acknowledged_in, IsNoOlder, BeginsNoOlder, EachBeginsNoOlder}
+use Rattle.flt_life.specs.Laws.{IsSoundIn, first_boot, number_by, number_in, acknowledged_in, IsNoOlder, BeginsNoOlder, EachBeginsNoOlder, EachFindsNoOlder}
 
 -- ---- a journal
 
@@ -142,13 +142,14 @@ module _ (c : Config) (given : IsGiven c) (held_stands : HeldStands) (spare_stan
 
 pub never_lost : HeldStands → SpareStands → (c : Config) → IsGiven c → (medium : Medium) (arms : Option (List ArmMade)) (earlier : ℕ) (next : PowerUp) (boots : List PowerUp) (lives : List LifeView)
     → AreLinked c medium arms earlier next boots lives → IsSoundIn c (moment_at medium (first_boot next boots))
-    → IsNoOlder c (acknowledged_in lives) (moment_at medium next) × EachBeginsNoOlder lives
+    → IsNoOlder c (acknowledged_in lives) (moment_at medium next) × EachFindsNoOlder c medium boots lives × EachBeginsNoOlder lives
 never_lost held_stands spare_stands c given medium arms earlier next [] [] linked sound =
-    (record { held = sound.0; spare = sound.1; sound = sound.2; no_older = (omega arith, omega arith) }, tt)
+    (record { held = sound.0; spare = sound.1; sound = sound.2; no_older = (omega arith, omega arith) }, tt, tt)
 never_lost held_stands spare_stands c given medium arms earlier next [] (life ∷ lives) linked sound = absurd linked
 never_lost held_stands spare_stands c given medium arms earlier next (boot ∷ boots) [] linked sound = absurd linked
 never_lost held_stands spare_stands c given medium arms earlier next (boot ∷ boots) (life ∷ lives) linked sound =
     let rest = never_lost held_stands spare_stands c given medium arms earlier boot boots lives linked.1 sound in (
       leaves_no_older c given held_stands spare_stands (acknowledged_in lives) (moment_at medium boot) _ rest.0 (moment_at medium next) life life.boot linked.0,
-      (begins c given held_stands spare_stands (acknowledged_in lives) (moment_at medium boot) _ rest.0 (moment_at medium next) life life.boot linked.0, rest.1),
+      (rest.0, rest.1),
+      (begins c given held_stands spare_stands (acknowledged_in lives) (moment_at medium boot) _ rest.0 (moment_at medium next) life life.boot linked.0, rest.2),
     )

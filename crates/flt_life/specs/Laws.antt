@@ -63,6 +63,12 @@ pub record IsNoOlder (c : Config) (number : ℕ) (moment : Moment) : Type 0 wher
   pub sound : IsSoundAt c moment held spare
   pub no_older : (number ≤ held.number) × (number ≤ spare.number)
 
+-- Each of the power-ups of lives, the newest first, found a sound image, no older than what was acknowledged in the lives before it.
+abbrev pub EachFindsNoOlder : Config → Medium → List PowerUp → List LifeView → Type 0
+EachFindsNoOlder c medium [] lives = Unit {0}
+EachFindsNoOlder c medium (boot ∷ boots) [] = Unit {0}
+EachFindsNoOlder c medium (boot ∷ boots) (life ∷ earlier) = IsNoOlder c (acknowledged_in earlier) (moment_at medium boot) × EachFindsNoOlder c medium boots earlier
+
 -- A life that was started began with this number or a greater one.
 abbrev pub BeginsNoOlder : ℕ → Boot → Type 0
 BeginsNoOlder number (Started begun state) = number ≤ begun
@@ -74,10 +80,11 @@ abbrev pub EachBeginsNoOlder : List LifeView → Type 0
 EachBeginsNoOlder [] = Unit {0}
 EachBeginsNoOlder (life ∷ earlier) = BeginsNoOlder (acknowledged_in earlier) life.boot × EachBeginsNoOlder earlier
 
--- Where the first image is sound, each life that is started begins with a generation no older than the one that was acknowledged last in
--- all lives before it, and so would a life that began at the end, by either copy of the commit.
+-- Where the first image is sound, each power-up finds an image of which neither generation is older than the one that was acknowledged
+-- last in all lives before it, dark ones among them, and so would a power-up at the end; and no life that is started begins with an
+-- older one.
 abbrev pub AcknowledgedIsNeverLost : Type 0
 AcknowledgedIsNeverLost = (c : Config) → IsGiven c → (medium : Medium) (arms : Option (List ArmMade)) (earlier : ℕ) (next : PowerUp) (boots : List PowerUp)
     (lives : List LifeView)
     → AreLinked c medium arms earlier next boots lives → IsSoundIn c (moment_at medium (first_boot next boots))
-    → IsNoOlder c (acknowledged_in lives) (moment_at medium next) × EachBeginsNoOlder lives
+    → IsNoOlder c (acknowledged_in lives) (moment_at medium next) × EachFindsNoOlder c medium boots lives × EachBeginsNoOlder lives

@@ -16,3 +16,4 @@ pub mod Played
 pub mod Room
 pub mod Saving
 pub mod Statuses
+pub mod Examples

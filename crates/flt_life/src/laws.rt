@@ -13,8 +13,8 @@ pub fn statuses_have_causes()
     ensures { EachStatusHasCause }
 {}
 
-/// Where the first image of a run is sound, each life that is started begins with a generation no older than the one that was acknowledged
-/// last in all lives before it.
+/// Where the first image of a run is sound, each power-up finds an image of which neither generation is older than the one that was
+/// acknowledged last in all lives before it, dark ones among them, also at the end; and no life that is started begins with an older one.
 pub fn acknowledged_is_never_lost()
     ensures { AcknowledgedIsNeverLost }
 {}

@@ -15,6 +15,7 @@ mod life;
 mod possible;
 mod replies;
 mod room;
+pub mod worked;
 
 pub use action::{Action, action_of, call_count, queue_count, response_size};
 pub use answer::{KeptReply, StepAnswer};
