@@ -1,5 +1,5 @@
-//! The lanes of a life under the lock: lane 0 makes the steps by themselves, with its saves and arms over the store, and the lanes of
-//! each block make the calls of theirs at the same time as one another.
+//! The lanes of a life under the lock: lane 0 makes the steps by themselves, over the store where they need it, and the lanes of each
+//! block make theirs at the same time as one another, at most one of them over the store.
 //!
 //! Stands on `flt_shared` for the lock, on `flt_life` for what a life is told in, on `flt_store`, and on `flt_lives` for lives one after
 //! the other. The layer above uses `run_in_lanes`, whose `LockEngine` makes the steps of each life by `live_on_lock`; what the journal

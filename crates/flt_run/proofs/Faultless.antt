@@ -3,10 +3,10 @@ use Rattle.std.proofs.Common.{◌≡◌, ◌⊎◌, ⊎_elim, ℕ, ◌==◌, Lis
 use Rattle.std.specs.Prelude.{IfSome, IsSomeAnd, IsOk, IsTrue}
 use Rattle.std.proofs.lemmas.Bool.{cases_Bool, false≢true}
 use Rattle.flt_config.specs.declared.config.DidUse.{DidUse}
-use Rattle.flt_script.specs.Script.{script_of}
+use Rattle.flt_script.specs.Script.{ScriptContent, script_of}
 use Rattle.flt_run.specs.declared.command.Command.{Command}
 use Rattle.flt_run.specs.declared.command.Command.TheVariants.{Run, Check, Load}
-use Rattle.flt_run.specs.Ending.{Inside, Outside, IsFaultless, StatusesHaveCauses, is_among, read_of}
+use Rattle.flt_run.specs.Ending.{Inside, Outside, IsFaultless, IsLastFine, LivesHaveCause, StatusesHaveCauses, is_among, read_of}
 
 -- A number that is among some is the first of them, or among the others.
 first_or_later : (status one : ℕ) (rest : List ℕ) → IsTrue (is_among status (one ∷ rest)) → (one ≡ status) ⊎ IsTrue (is_among status rest)
@@ -18,8 +18,15 @@ told_script : {P : Type 0} (dids : List DidUse) (left : Option (List ℕ)) → I
 told_script dids None good then_ = absurd good
 told_script dids (Some bytes) good then_ = then_ good
 
-module _ (dids : List DidUse) (inside : Inside) (outside : Outside) (status : ℕ) where
-  module _ (command : Option Command) (causes : StatusesHaveCauses dids inside outside command status) (fine : IsFaultless dids inside outside command) where
+-- The lives of a script ended with 0 where the last of them is fine.
+lives_fine : (inside : Inside) (status : ℕ) (script : Option ScriptContent) → LivesHaveCause inside script status
+    → IfSome script (λ script. IsLastFine (inside.media script.config) script.config inside.device inside.device_after) → status ≡ 0
+lives_fine inside status None ends last = absurd ends
+lives_fine inside status (Some script) ends last =
+    let fine = last ends.boot ends.earlier ends.is in ends.cause.completed fine.whole fine.holds.0 fine.holds.1 fine.left fine.few
+
+module _ (dids : List DidUse) (inside : Inside) (outside : Outside) (status : ℕ) (script : Option ScriptContent) where
+  module _ (command : Option Command) (causes : StatusesHaveCauses dids inside outside command script status) (fine : IsFaultless dids inside outside command script) where
     abbrev Good : Type 0
     Good = IsTrue (is_among status (0 ∷ 7 ∷ []))
 
@@ -30,10 +37,7 @@ module _ (dids : List DidUse) (inside : Inside) (outside : Outside) (status : �
     good_seven e = subst (λ s. IsTrue (is_among s (0 ∷ 7 ∷ []))) (sym e) refl
 
     by_lives : IsTrue (is_among status (0 ∷ 5 ∷ 6 ∷ 8 ∷ [])) → Good
-    by_lives among =
-        let ends = causes.lives fine.makes among in
-        let last = fine.last ends.0 ends.1 ends.2.boot ends.2.earlier ends.2.is in
-        good_zero (ends.2.cause.completed last.whole last.holds.0 last.holds.1 last.left last.few)
+    by_lives among = good_zero (lives_fine inside status script (causes.lives fine.makes among) fine.last)
 
     among_lives : (one : ℕ) → IsTrue (is_among one (0 ∷ 5 ∷ 6 ∷ 8 ∷ [])) → one ≡ status → Good
     among_lives one is e = by_lives (subst (λ s. IsTrue (is_among s (0 ∷ 5 ∷ 6 ∷ 8 ∷ []))) e is)
@@ -51,8 +55,8 @@ module _ (dids : List DidUse) (inside : Inside) (outside : Outside) (status : �
     from_load : IsTrue (is_among status (0 ∷ 4 ∷ 5 ∷ 6 ∷ 7 ∷ 8 ∷ [])) → Good
     from_load among = ⊎_elim (λ e. good_zero (sym e)) from_four (first_or_later status 0 (4 ∷ 5 ∷ 6 ∷ 7 ∷ 8 ∷ []) among)
 
-  pub faultless_ends : (command : Option Command) → StatusesHaveCauses dids inside outside command status → IsFaultless dids inside outside command → IsTrue (is_among status (0 ∷ 7 ∷ []))
+  pub faultless_ends : (command : Option Command) → StatusesHaveCauses dids inside outside command script status → IsFaultless dids inside outside command script → IsTrue (is_among status (0 ∷ 7 ∷ []))
   faultless_ends None causes fine = absurd (false≢true fine.makes)
-  faultless_ends (Some Run) causes fine = from_read (Some Run) causes fine (told_script dids inside.left (fine.script refl) (causes.completed refl))
+  faultless_ends (Some Run) causes fine = from_read (Some Run) causes fine (told_script dids inside.left (fine.good refl) (causes.completed refl))
   faultless_ends (Some Check) causes fine = absurd (false≢true fine.makes)
   faultless_ends (Some (Load count lanes)) causes fine = from_load (Some (Load count lanes)) causes fine (causes.loaded count lanes refl)

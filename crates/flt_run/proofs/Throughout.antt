@@ -1,6 +1,6 @@
 -- Where the first image of a run is sound, each is.
-use Rattle.std.proofs.Common.{◌≡◌, ◌≢◌, ◌⊎◌, ◌∙◌, ℕ, ◌<◌, List, [], ◌∷◌, ◌++◌, length, reverse, Option, refl, sym, subst, ap, inl, inr, arith}
-use Rattle.std.specs.Prelude.{All}
+use Rattle.std.proofs.Common.{◌≡◌, ◌≢◌, ◌⊎◌, ◌∙◌, ℕ, ◌<◌, List, [], ◌∷◌, ◌++◌, length, reverse, Option, None, Some, refl, sym, subst, ap, inl, inr, arith}
+use Rattle.std.specs.Prelude.{All, IfSome, IsSomeAnd}
 use Rattle.std.proofs.lemmas.List.{reverse-append}
 use Rattle.std.proofs.lemmas.List.Elements.{All-head, All-tail}
 use Rattle.flt_flash.specs.declared.arm.ArmMade.{ArmMade}
@@ -13,7 +13,6 @@ use Rattle.flt_restore.specs.declared.fault.StartFault.TheVariants as faults
 use Rattle.flt_flash.specs.Blocks.{device_of}
 use Rattle.flt_script.specs.declared.step.Step.{Step}
 use Rattle.flt_script.specs.Part.{PartOf}
-use Rattle.flt_script.specs.Load.{load_script}
 use Rattle.flt_script.specs.Script.{ScriptContent}
 use Rattle.flt_life.specs.declared.life.Boot.{Boot}
 use Rattle.flt_life.specs.declared.life.Boot.TheVariants as began
@@ -24,11 +23,12 @@ use Rattle.flt_life.specs.Lives.{AreEnded, lists, lives_seen}
 use Rattle.flt_life.specs.Moment.{Medium, boot_in}
 use Rattle.flt_life.specs.Statuses.{status_by, status_of_lives}
 use Rattle.flt_life.proofs.Soundness.{stays_sound}
+use Rattle.flt_life.proofs.Older.{never_lost}
 use Rattle.flt_run.specs.declared.command.Command.{Command}
 use Rattle.flt_run.specs.declared.ending.Ending.{Ending}
 use Rattle.flt_run.specs.declared.ending.Ending.TheVariants.{Usage, Unreadable, Refused, Accepted, Ran, Loaded}
 use Rattle.flt_run.specs.declared.made.Made.{Made}
-use Rattle.flt_run.specs.Ending.{Inside, Outside, IsLivedBy, IsScriptOf, IsSoundFor, IsSoundThroughout, IsTold, IsUntouched, EndingHasCause, StaysSoundThroughout, lives_of, status_of}
+use Rattle.flt_run.specs.Ending.{Inside, Outside, IsLeftSound, IsLivedBy, IsSoundFor, IsSoundThroughout, IsTold, IsToldOf, EndingHasCause, KeepsAcknowledged, LosesNothing, StaysSoundThroughout, WantsMemory, WorksOnNone, lives_of, status_of}
 use Rattle.flt_run.proofs.Lived.{all_of_seen, some_lives, turned}
 
 -- The first boot of a run stands first of its boots.
@@ -97,23 +97,66 @@ made_throughout media script before after made status lived came =
     (some_boots (media script.config) script.config _ _ _ linked.boots (lives_seen script.lives made.lives.items) (length script.lives) (some_lives script.lives made lived.script_is) lived.lived.ended linked.linked)
     (subst (λ lives. CameTo (status_of_lives (lives_seen lives made.lives.items)) status) lived.script_is came)
 
-module _ (dids : List DidUse) (inside : Inside) (command : Option Command) where
-  no_life : (due status : ℕ) (lives : List Life) → due ≢ 6 → CameTo due status → IsUntouched inside → lives ≡ [] → StaysSoundThroughout dids inside command status lives
-  no_life due status lives other came same none = inr (inl (record { untouched = same; none = none; not_six = other_than_six due status other came }))
+-- Nothing that was acknowledged is lost, by the law of the chain.
+kept_lives : (inside : Inside) (script : ScriptContent) (made : Made) → IsLivedBy inside.media script inside.device inside.device_after made
+    → KeepsAcknowledged (inside.media script.config) script.config inside.device inside.device_after (lives_seen script.lives made.lives.items)
+kept_lives inside script made lived =
+    let linked = lived.lived.linked in
+    let law = never_lost held_stands spare_stands script.config lived.lived.valid (inside.media script.config) (arms_between inside.device.bench.arms inside.device_after.bench.arms)
+    (length inside.device.bench.boots) (boot_in (device_of inside.device_after)) linked.boots (lives_seen script.lives made.lives.items) linked.linked in
+    record { boots = linked.boots; are = linked.is; end = λ sound. (law sound).0; found = λ sound. (law sound).1; begun = λ sound. (law sound).2 }
 
-  pub throughout : (status : ℕ) (lives : List Life) (ending : Ending) → EndingHasCause dids inside command ending → CameTo (status_of ending) status → lives ≡ lives_of ending
-      → StaysSoundThroughout dids inside command status lives
+kept_by : (inside : Inside) (made : Made) (status : ℕ) (lives : List Life) (script : Option ScriptContent) → IsSomeAnd script (λ script. IsLivedBy inside.media script inside.device inside.device_after made)
+    → lives ≡ made.lives.items → LosesNothing inside script status lives
+kept_by inside made status lives None lived is = absurd lived
+kept_by inside made status lives (Some script) lived is =
+    inr (subst (λ lives. KeepsAcknowledged (inside.media script.config) script.config inside.device inside.device_after (lives_seen script.lives lives)) (sym is) (kept_lives inside script made lived))
+
+kept_none : (inside : Inside) (status : ℕ) (lives : List Life) (script : Option ScriptContent) → WorksOnNone inside script → LosesNothing inside script status lives
+kept_none inside status lives script works = subst (λ s. LosesNothing inside s status lives) (sym works.0) tt
+
+kept_memory : (inside : Inside) (status : ℕ) (lives : List Life) (script : Option ScriptContent) → WantsMemory status lives → LosesNothing inside script status lives
+kept_memory inside status lives None wants = tt
+kept_memory inside status lives (Some script) wants = inl wants
+
+kept_ending : (dids : List DidUse) (inside : Inside) (command : Option Command) (script : Option ScriptContent) (status : ℕ) (lives : List Life) (ending : Ending) → EndingHasCause dids inside command script ending
+    → lives ≡ lives_of ending → LosesNothing inside script status lives
+kept_ending dids inside command script status lives Usage cause is = kept_none inside status lives script cause.2
+kept_ending dids inside command script status lives Unreadable cause is = kept_none inside status lives script cause.2
+kept_ending dids inside command script status lives (Refused fault) cause is = kept_none inside status lives script cause.3
+kept_ending dids inside command script status lives (Accepted accepted) cause is = kept_none inside status lives script cause.3
+kept_ending dids inside command script status lives (Ran made) cause is = kept_by inside made status lives script cause.2 is
+kept_ending dids inside command script status lives (Loaded made) cause is = kept_by inside made status lives script cause.4 is
+
+pub loses_nothing : (dids : List DidUse) (inside : Inside) (outside : Outside) (command : Option Command) (script : Option ScriptContent) (status : ℕ) (lives : List Life) (ending : Option Ending)
+    → IfSome ending (EndingHasCause dids inside command script) → IsToldOf outside status lives ending → LosesNothing inside script status lives
+loses_nothing dids inside outside command script status lives None ends told = kept_memory inside status lives script told.0
+loses_nothing dids inside outside command script status lives (Some ending) ends (inl wants) = kept_memory inside status lives script wants.0
+loses_nothing dids inside outside command script status lives (Some ending) ends (inr told) = kept_ending dids inside command script status lives ending ends told.1
+
+-- Lives of a script were made.
+lived_throughout : (inside : Inside) (made : Made) (status : ℕ) (lives : List Life) (script : Option ScriptContent) → IsSomeAnd script (λ script. IsLivedBy inside.media script inside.device inside.device_after made)
+    → CameTo (status_of_lives (lives_seen (lists made.script.items) made.lives.items)) status → lives ≡ made.lives.items → StaysSoundThroughout inside script status lives
+lived_throughout inside made status lives None lived came is = absurd lived
+lived_throughout inside made status lives (Some script) lived came is =
+    inr (subst (IsSoundThroughout (inside.media script.config) script.config inside.device inside.device_after status) (sym is) (made_throughout inside.media script inside.device inside.device_after made status lived came))
+
+-- Memory was wanting.
+pub of_memory : (inside : Inside) (status : ℕ) (lives : List Life) (script : Option ScriptContent) → WantsMemory status lives → IsLeftSound inside script → StaysSoundThroughout inside script status lives
+of_memory inside status lives None wants sound =
+    let told = wants.told in record { untouched = sound; none = wants.made; not_six = λ six. omega (arith, told, six) }
+of_memory inside status lives (Some script) wants sound = inl wants
+
+module _ (dids : List DidUse) (inside : Inside) (command : Option Command) (script : Option ScriptContent) where
+  no_life : (due status : ℕ) (lives : List Life) → due ≢ 6 → CameTo due status → WorksOnNone inside script → lives ≡ [] → StaysSoundThroughout inside script status lives
+  no_life due status lives other came works none =
+      subst (λ s. StaysSoundThroughout inside s status lives) (sym works.0) (record { untouched = works.1; none = none; not_six = other_than_six due status other came })
+
+  pub throughout : (status : ℕ) (lives : List Life) (ending : Ending) → EndingHasCause dids inside command script ending → CameTo (status_of ending) status → lives ≡ lives_of ending
+      → StaysSoundThroughout inside script status lives
   throughout status lives Usage cause came none = no_life 1 status lives (λ e. omega (arith, e)) came cause.2 none
   throughout status lives Unreadable cause came none = no_life 3 status lives (λ e. omega (arith, e)) came cause.2 none
   throughout status lives (Refused fault) cause came none = no_life 2 status lives (λ e. omega (arith, e)) came cause.3 none
-  throughout status lives (Accepted script) cause came none = no_life 0 status lives (λ e. omega (arith, e)) came cause.3 none
-  throughout status lives (Ran made) cause came is =
-      let run = cause.0 in
-      let script : ScriptContent = cause.2.0 in
-      let of : IsScriptOf dids inside command script = subst (λ c. IsScriptOf dids inside c script) (sym run) cause.2.1 in
-      inr (inr (script, of, subst (IsSoundThroughout (inside.media script.config) script.config inside.device inside.device_after status) (sym is) (made_throughout inside.media script inside.device inside.device_after made status cause.2.2 came)))
-  throughout status lives (Loaded made) cause came is =
-      let load = cause.2 in
-      let script : ScriptContent = load_script cause.0 cause.1 in
-      let of : IsScriptOf dids inside command script = subst (λ c. IsScriptOf dids inside c script) (sym load) refl in
-      inr (inr (script, of, subst (IsSoundThroughout (inside.media script.config) script.config inside.device inside.device_after status) (sym is) (made_throughout inside.media script inside.device inside.device_after made status cause.4 came)))
+  throughout status lives (Accepted accepted) cause came none = no_life 0 status lives (λ e. omega (arith, e)) came cause.3 none
+  throughout status lives (Ran made) cause came is = lived_throughout inside made status lives script cause.2 came is
+  throughout status lives (Loaded made) cause came is = lived_throughout inside made status lives script cause.4 came is

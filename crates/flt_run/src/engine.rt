@@ -10,8 +10,8 @@ ghost use Rattle.flt_restore.specs.declared.fault.StartFault.TheVariants.{Flash}
 ghost use Rattle.flt_life.specs.declared.life.Boot.TheVariants.{Refused};
 ghost use Rattle.flt_life.specs.Lives.{lists};
 ghost use Rattle.flt_lives.specs.Alone.{AreAlone};
-ghost use Rattle.flt_lives.specs.Devices.{DeviceStaysSound, ServesAll};
-ghost use Rattle.flt_run.specs.Ending.{IsLivedBy};
+ghost use Rattle.flt_lives.specs.Devices.{ServesAll};
+ghost use Rattle.flt_run.specs.Ending.{MakesLives};
 
 use crate::made::Made;
 use flt_config::ValidConfig;
@@ -80,8 +80,7 @@ pub(crate) fn live_alone<D: Driver>(
     requires serves { ServesAll D.serves (D.device_state device) }
     requires boots { 256 ≤ (D.device_state device).bench.boots_left }
     requires unarmed { (D.device_state device).bench.armed ≡ 0 }
-    ensures lived { IfSome result.made (IsLivedBy D.medium (content script) (D.device_state device) (D.device_state result.device)) }
-    ensures sound { DeviceStaysSound (D.medium script.config) script.config (D.device_state device) (D.device_state result.device) }
+    ensures { MakesLives D.medium (content script) (D.device_state device) (D.device_state result.device) result.made }
 {
     look_at_config(&script.config);
     let run = run_alone::<D>(alloc, unit, device, &script.config, &script.lives);
@@ -102,8 +101,7 @@ pub(crate) fn live_in_lanes<R: Threads + Wait + Sync, G: SharedGate, D: Driver>(
     requires serves { ServesAll D.serves (D.device_state device) }
     requires boots { 256 ≤ (D.device_state device).bench.boots_left }
     requires unarmed { (D.device_state device).bench.armed ≡ 0 }
-    ensures lived { IfSome result.made (IsLivedBy D.medium (content script) (D.device_state device) (D.device_state result.device)) }
-    ensures sound { DeviceStaysSound (D.medium script.config) script.config (D.device_state device) (D.device_state result.device) }
+    ensures { MakesLives D.medium (content script) (D.device_state device) (D.device_state result.device) result.made }
 {
     look_at_config(&script.config);
     let run = run_in_lanes::<R, G, D>(rt, gate, alloc, unit, device, &script.config, &script.lives);

@@ -1,15 +1,15 @@
 // What a run comes to, by its command, before it is told.
-ghost use Rattle.std.specs.Prelude.{◌≡◌, ◌≤◌, Some, IfSome, false, true};
+ghost use Rattle.std.specs.Prelude.{◌≡◌, ◌≤◌, ℕ, List, Option, None, Some, IfSome, option_map, false, true};
 ghost use Rattle.flt_flash.specs.State.{FlashState};
 ghost use Rattle.flt_did.specs.Table.{dids_of};
 ghost use Rattle.flt_run.specs.Command.{IsInRange, plain_of};
-ghost use Rattle.flt_script.specs.Load.{load_config, load_script};
 ghost use Rattle.flt_config.specs.declared.config.Config.{Config};
+ghost use Rattle.flt_config.specs.declared.config.DidUse.{DidUse};
 ghost use Rattle.flt_life.specs.Moment.{Medium};
-ghost use Rattle.flt_lives.specs.Devices.{DeviceStaysSound, ServesAll};
-ghost use Rattle.flt_run.specs.declared.command.Command.TheVariants.{Check, Run};
-ghost use Rattle.flt_run.specs.declared.ending.Ending.TheVariants.{Usage};
-ghost use Rattle.flt_run.specs.Ending.{EndingHasCause, IsLeftSound, IsLivedBy};
+ghost use Rattle.flt_lives.specs.Devices.{ServesAll};
+ghost use Rattle.flt_run.specs.declared.command.Command.TheVariants.{Check, Load, Run};
+ghost use Rattle.flt_run.specs.declared.ending.Ending.TheVariants.{Loaded, Ran, Usage};
+ghost use Rattle.flt_run.specs.Ending.{ComesTo, EndingHasCause};
 
 use crate::command::Command;
 use crate::ending::Ending;
@@ -52,7 +52,7 @@ fn check<S: Source>(alloc: Global, source: &mut S, dids: &DidTable<DID_ROWS>) ->
       media = media;
       device = device;
       device_after = device;
-    }) (Some Check)) }
+    }) (Some Check) None) }
 {
     match fetch(alloc, source, dids) {
         Fetched::Script(script) => Some(Ending::Accepted(script)),
@@ -62,27 +62,59 @@ fn check<S: Source>(alloc: Global, source: &mut S, dids: &DidTable<DID_ROWS>) ->
     }
 }
 
+/// The lives of a script that was read were made, or memory was wanting.
+fn ran<D: Drop>(made_on: MadeOn<D>) -> Performed<D>
+    ensures { result ≡ record { ending = option_map Ran made_on.made; device = made_on.device } }
+{
+    let MadeOn { made, device } = made_on;
+    Performed {
+        ending: made.map(|made| Ending::Ran(made)),
+        device,
+    }
+}
+
+/// The lives of a load were made, or memory was wanting.
+fn loaded<D: Drop>(made_on: MadeOn<D>) -> Performed<D>
+    ensures { result ≡ record { ending = option_map Loaded made_on.made; device = made_on.device } }
+{
+    let MadeOn { made, device } = made_on;
+    Performed {
+        ending: made.map(|made| Ending::Loaded(made)),
+        device,
+    }
+}
+
 /// Makes the lives of a load without lanes.
 fn load_plain<D: Driver>(
     alloc: Global,
     count: u32,
     device: D::Device,
     dids: DidTable<DID_ROWS>,
-) -> MadeOn<D::Device>
+) -> Performed<D::Device>
     requires some { 1 ≤ count }
     requires few { count ≤ 60000 }
     requires serves { ServesAll D.serves (D.device_state device) }
     requires boots { 256 ≤ (D.device_state device).bench.boots_left }
     requires unarmed { (D.device_state device).bench.armed ≡ 0 }
-    ensures lived { IfSome result.made (IsLivedBy D.medium (load_script count false) (D.device_state device) (D.device_state result.device)) }
-    ensures sound { DeviceStaysSound (D.medium load_config) load_config (D.device_state device) (D.device_state result.device) }
+    ensures { (dids : List DidUse) (left : Option (List ℕ)) (faults : ℕ) → ComesTo dids (record {
+      left = left;
+      left_after = left;
+      read_faults = faults;
+      read_faults_after = faults;
+      media = D.medium;
+      device = D.device_state device;
+      device_after = D.device_state result.device;
+    }) (Some (Load count false)) result.ending }
 {
     match load(alloc, count, false) {
         Ok(script) => {
             let unit = unit_of(&script.config, dids);
-            live_alone::<D>(alloc, unit, device, script)
+            loaded(live_alone::<D>(alloc, unit, device, script))
         }
-        Err(_) => MadeOn { made: None, device },
+        Err(_) => Performed {
+            ending: None,
+            device,
+        },
     }
 }
 
@@ -98,7 +130,7 @@ pub(crate) fn perform_plain<S: Source, D: Driver>(
     requires serves { ServesAll D.serves (D.device_state device) }
     requires boots { 256 ≤ (D.device_state device).bench.boots_left }
     requires unarmed { (D.device_state device).bench.armed ≡ 0 }
-    ensures comes { IfSome result.ending (EndingHasCause (dids_of dids) (record {
+    ensures { ComesTo (dids_of dids) (record {
       left = S.left source.old;
       left_after = S.left source.new;
       read_faults = S.faults source.old;
@@ -106,16 +138,7 @@ pub(crate) fn perform_plain<S: Source, D: Driver>(
       media = D.medium;
       device = D.device_state device;
       device_after = D.device_state result.device;
-    }) (plain_of command)) }
-    ensures sound { IsLeftSound (dids_of dids) (record {
-      left = S.left source.old;
-      left_after = S.left source.new;
-      read_faults = S.faults source.old;
-      read_faults_after = S.faults source.new;
-      media = D.medium;
-      device = D.device_state device;
-      device_after = D.device_state result.device;
-    }) (plain_of command) }
+    }) (plain_of command) result.ending }
 {
     let Some(command) = command else {
         return usage(device);
@@ -129,11 +152,7 @@ pub(crate) fn perform_plain<S: Source, D: Driver>(
             if lanes {
                 return usage(device);
             }
-            let MadeOn { made, device } = load_plain::<D>(alloc, count, device, dids);
-            Performed {
-                ending: made.map(|made| Ending::Loaded(made)),
-                device,
-            }
+            load_plain::<D>(alloc, count, device, dids)
         }
         Command::Run => usage(device),
     }
@@ -147,21 +166,31 @@ fn load_in_lanes<R: Threads + Wait + Sync, G: SharedGate, D: Driver>(
     count: u32,
     device: D::Device,
     dids: DidTable<DID_ROWS>,
-) -> MadeOn<D::Device>
+) -> Performed<D::Device>
     requires some { 1 ≤ count }
     requires few { count ≤ 60000 }
     requires serves { ServesAll D.serves (D.device_state device) }
     requires boots { 256 ≤ (D.device_state device).bench.boots_left }
     requires unarmed { (D.device_state device).bench.armed ≡ 0 }
-    ensures lived { IfSome result.made (IsLivedBy D.medium (load_script count true) (D.device_state device) (D.device_state result.device)) }
-    ensures sound { DeviceStaysSound (D.medium load_config) load_config (D.device_state device) (D.device_state result.device) }
+    ensures { (dids : List DidUse) (left : Option (List ℕ)) (faults : ℕ) → ComesTo dids (record {
+      left = left;
+      left_after = left;
+      read_faults = faults;
+      read_faults_after = faults;
+      media = D.medium;
+      device = D.device_state device;
+      device_after = D.device_state result.device;
+    }) (Some (Load count true)) result.ending }
 {
     match load(alloc, count, true) {
         Ok(script) => {
             let unit = unit_of(&script.config, dids);
-            live_in_lanes::<R, G, D>(rt, gate, alloc, unit, device, script)
+            loaded(live_in_lanes::<R, G, D>(rt, gate, alloc, unit, device, script))
         }
-        Err(_) => MadeOn { made: None, device },
+        Err(_) => Performed {
+            ending: None,
+            device,
+        },
     }
 }
 
@@ -177,7 +206,7 @@ fn run_script<R: Threads + Wait + Sync, G: SharedGate, S: Source, D: Driver>(
     requires serves { ServesAll D.serves (D.device_state device) }
     requires boots { 256 ≤ (D.device_state device).bench.boots_left }
     requires unarmed { (D.device_state device).bench.armed ≡ 0 }
-    ensures comes { IfSome result.ending (EndingHasCause (dids_of dids) (record {
+    ensures { ComesTo (dids_of dids) (record {
       left = S.left source.old;
       left_after = S.left source.new;
       read_faults = S.faults source.old;
@@ -185,27 +214,12 @@ fn run_script<R: Threads + Wait + Sync, G: SharedGate, S: Source, D: Driver>(
       media = D.medium;
       device = D.device_state device;
       device_after = D.device_state result.device;
-    }) (Some Run)) }
-    ensures sound { IsLeftSound (dids_of dids) (record {
-      left = S.left source.old;
-      left_after = S.left source.new;
-      read_faults = S.faults source.old;
-      read_faults_after = S.faults source.new;
-      media = D.medium;
-      device = D.device_state device;
-      device_after = D.device_state result.device;
-    }) (Some Run) }
+    }) (Some Run) result.ending }
 {
     match fetch(alloc, source, &dids) {
         Fetched::Script(script) => {
             let unit = unit_of(&script.config, dids);
-            let MadeOn { made, device } = live_in_lanes::<R, G, D>(
-                rt, gate, alloc, unit, device, script,
-            );
-            Performed {
-                ending: made.map(|made| Ending::Ran(made)),
-                device,
-            }
+            ran(live_in_lanes::<R, G, D>(rt, gate, alloc, unit, device, script))
         }
         Fetched::Refused(fault) => Performed {
             ending: Some(Ending::Refused(fault)),
@@ -236,7 +250,7 @@ pub(crate) fn perform<R: Threads + Wait + Sync, G: SharedGate, S: Source, D: Dri
     requires serves { ServesAll D.serves (D.device_state device) }
     requires boots { 256 ≤ (D.device_state device).bench.boots_left }
     requires unarmed { (D.device_state device).bench.armed ≡ 0 }
-    ensures comes { IfSome result.ending (EndingHasCause (dids_of dids) (record {
+    ensures { ComesTo (dids_of dids) (record {
       left = S.left source.old;
       left_after = S.left source.new;
       read_faults = S.faults source.old;
@@ -244,16 +258,7 @@ pub(crate) fn perform<R: Threads + Wait + Sync, G: SharedGate, S: Source, D: Dri
       media = D.medium;
       device = D.device_state device;
       device_after = D.device_state result.device;
-    }) command) }
-    ensures sound { IsLeftSound (dids_of dids) (record {
-      left = S.left source.old;
-      left_after = S.left source.new;
-      read_faults = S.faults source.old;
-      read_faults_after = S.faults source.new;
-      media = D.medium;
-      device = D.device_state device;
-      device_after = D.device_state result.device;
-    }) command }
+    }) command result.ending }
 {
     let Some(word) = command else {
         return usage(device);
@@ -262,13 +267,7 @@ pub(crate) fn perform<R: Threads + Wait + Sync, G: SharedGate, S: Source, D: Dri
         Command::Run => run_script::<R, G, S, D>(rt, gate, alloc, source, device, dids),
         Command::Load { count, lanes } => {
             if lanes {
-                let MadeOn { made, device } = load_in_lanes::<R, G, D>(
-                    rt, gate, alloc, count, device, dids,
-                );
-                Performed {
-                    ending: made.map(|made| Ending::Loaded(made)),
-                    device,
-                }
+                load_in_lanes::<R, G, D>(rt, gate, alloc, count, device, dids)
             } else {
                 perform_plain::<S, D>(alloc, command, source, device, dids)
             }

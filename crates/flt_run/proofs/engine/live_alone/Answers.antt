@@ -28,14 +28,11 @@ pub made_of-requires : goal.made_of-requires
 made_of-requires g c =
     if_some c.run_alone-run.result.lives (λ lives linked. none_by_flash c.args.script.config _ _ _ _ linked.boots _ lives.items linked.linked) c.run_alone-run.ensures.linked
 
-pub returns-clause-lived : goal.returns-clause-lived
-returns-clause-lived g c =
+pub returns : goal.returns
+returns g c =
     let before = g.D.Driver.device_state c.args.device in
     let ran = if_some c.made_of.result.made
     (λ made is. lived_by g.D.Driver.medium c.args.script c.deref.result.now c.deref.ensures.value before (g.D.Driver.device_state c.run_alone-run.result.device) c.run_alone-run.result.lives made c.look_at_config.ensures is.0 is.1
     c.run_alone-run.ensures.linked c.run_alone-run.ensures.played c.run_alone-run.ensures.ended c.run_alone-run.ensures.given)
     c.made_of.ensures.made in
-    rw c.made_of.ensures.device ran
-
-pub returns-clause-sound : goal.returns-clause-sound
-returns-clause-sound g c = rw c.made_of.ensures.device c.run_alone-run.ensures.sound
+    rw c.made_of.ensures.device (record { valid = c.look_at_config.ensures; lived = ran; sound = c.run_alone-run.ensures.sound })

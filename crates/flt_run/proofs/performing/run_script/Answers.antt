@@ -1,8 +1,12 @@
-use Rattle.std.proofs.Common.{inr}
+use Rattle.std.proofs.Common.{Some, refl}
 use Rattle.flt_script.specs.Script.{content}
+use Rattle.flt_run.specs.declared.command.Command.TheVariants.{Run}
+use Rattle.flt_run.specs.declared.ending.Ending.TheVariants.{Ran}
+use Rattle.flt_run.proofs.Comes.{lived}
 use Rattle.flt_run.proofs.performing.run_script.Goals as goal
 
-pub returns-in-Script-clause-sound : goal.returns-in-Script-clause-sound
-returns-in-Script-clause-sound g c =
+pub returns-in-Script : goal.returns-in-Script
+returns-in-Script g c =
     let fetched = rw c.in-Script.is at c.fetch.ensures in
-    inr (content c.in-Script.script, fetched.1, c.live_in_lanes-made.ensures.sound)
+    rw c.ran.ensures
+    (lived _ _ (Some Run) Ran c.live_in_lanes.result.made (content c.in-Script.script) fetched.1 c.live_in_lanes.ensures (λ one is. (refl, fetched.0, is)))

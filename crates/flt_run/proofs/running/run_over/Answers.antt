@@ -4,4 +4,4 @@ use Rattle.flt_run.proofs.running.run_over.Goals as goal
 pub returns : goal.returns
 returns g c =
     rw c.tell.ensures.same
-    (runs _ _ _ _ c.tell.result.status c.tell.result.lives.items c.perform-performed.result.ending c.perform-performed.ensures.comes c.perform-performed.ensures.sound c.tell.ensures.told)
+    (runs _ _ _ _ c.tell.result.status c.tell.result.lives.items c.perform-performed.result.ending c.perform-performed.ensures c.tell.ensures.told c.free_lock_holds_machine.ensures)
