@@ -1,8 +1,11 @@
--- The driver over an EEPROM as the layers above see it.
+-- The driver over an EEPROM as the layers above see it, and but for its count of calls.
 use Rattle.flt_flash.specs.State.{FlashState}
-use Rattle.flt_flash.specs.Blocks.{BlocksState}
+use Rattle.flt_flash.specs.Blocks.{BlocksState, recounted}
 use Rattle.flt_ea.specs.Driver.{state_by}
 use Rattle.flt_ea.specs.declared.ea.Ea.{Ea}
 
+abbrev pub uncounted_of : {E : Type 0} {g : _} → (E → FlashState) → Ea E g → BlocksState
+uncounted_of state ea = state_by ea.numbers ea.is_stale ea.has_mounted (state ea.device)
+
 abbrev pub state_of : {E : Type 0} {g : _} → (E → FlashState) → Ea E g → BlocksState
-state_of state ea = state_by ea.numbers ea.is_stale ea.has_mounted (state ea.device)
+state_of state ea = recounted ea.calls (uncounted_of state ea)

@@ -3,7 +3,7 @@ ghost use Rattle.std.specs.Prelude.{◌≡◌, ◌≢◌, ◌+◌, ◌<◌, ◌�
 ghost use Rattle.std.specs.List.{AllPairs};
 ghost use Rattle.flt_flash.specs.Blocks.{byte_pages, device_of, record_pages};
 ghost use Rattle.flt_flash.specs.Content.{invalid, bytes as holding, size_of};
-ghost use Rattle.flt_flash.specs.Calls.{Calls, Changes, Costs, ReadCosts, NeverFull, ReadsContent, SameImage, SameSpent, SameValues, Settles};
+ghost use Rattle.flt_flash.specs.Calls.{Calls, CountsCall, Changes, Costs, ReadCosts, NeverFull, ReadsContent, SameImage, SameSpent, SameValues, Settles};
 ghost use Rattle.flt_flash.specs.declared.blocks.BlockFault.TheVariants.{Flash};
 ghost use Rattle.flt_code.specs.Word.{is_length};
 ghost use Rattle.flt_record.specs.LogHolds.{asked_of};
@@ -50,7 +50,7 @@ fn gate_unit(position: usize, place: u8) -> u16
 
 /// Blocks of 1 to 128 bytes over an EEPROM: each has two places of five units, and is written to the one that is not current.
 ///
-/// It keeps the current place of each block. A mount reads each gate once and writes nothing, and no other call reads a gate.
+/// It keeps the current place of each block, and a count of its calls. A mount reads each gate once and writes nothing, and no other call reads a gate.
 /// Its room is not limited. It is spent where some block has come to the sequence number 2^32 - 1, and a record is stuck where its
 /// own block has.
 #[derive(Drop)]
@@ -60,6 +60,7 @@ pub struct Ea<E: Eeprom> {
     table: Vec<Option<Held>>,
     is_stale: bool,
     has_mounted: bool,
+    calls: u64,
     ghost within: { 10 * length numbers ≤ (E.state device).pages },
     ghost size: { length table.items ≡ length numbers },
     ghost distinct: { AllPairs (λ a b. a ≢ b) numbers },
@@ -68,7 +69,7 @@ pub struct Ea<E: Eeprom> {
 
 impl<E: Eeprom> Ea<E> {
     ghost use Rattle.flt_ea.specs.Driver.{state_by};
-    ghost use Rattle.flt_ea.specs.Ea.{state_of};
+    ghost use Rattle.flt_ea.specs.Ea.{state_of, uncounted_of};
 
     /// A driver over this device for these block numbers. It is stale, and has not mounted. It takes the memory of a place and of
     /// a row of the index for each number, and no other call takes any. The error, for want of memory, hands the device back.
@@ -86,6 +87,7 @@ impl<E: Eeprom> Ea<E> {
                 table,
                 is_stale: true,
                 has_mounted: false,
+                calls: 0,
             }),
         }
     }
@@ -99,10 +101,11 @@ impl<E: Eeprom> Ea<E> {
 
     // Looks at the device as a power-up left it: each gate is read once, and nothing is written.
     fn look(&mut self) -> Result<(), BlockFault>
-        ensures values { SameValues (state_of E.state self.old) (state_of E.state self.new) }
-        ensures calls { Calls (state_of E.state self.old) (state_of E.state self.new) result }
+        ensures values { SameValues (uncounted_of E.state self.old) (uncounted_of E.state self.new) }
+        ensures calls { Calls (uncounted_of E.state self.old) (uncounted_of E.state self.new) result }
+        ensures count { self.new.calls ≡ self.old.calls }
         ensures never_full { NeverFull result }
-        ensures stale { Settles result (state_of E.state self.new) }
+        ensures stale { Settles result (uncounted_of E.state self.new) }
         ensures image { (E.state self.new.device).image ≡ (E.state self.old.device).image }
     {
         self.is_stale = true;
@@ -118,37 +121,40 @@ impl<E: Eeprom> Ea<E> {
 
     // Mounts a stale driver.
     fn settle(&mut self) -> Result<(), BlockFault>
-        ensures values { SameValues (state_of E.state self.old) (state_of E.state self.new) }
-        ensures calls { Calls (state_of E.state self.old) (state_of E.state self.new) result }
+        ensures values { SameValues (uncounted_of E.state self.old) (uncounted_of E.state self.new) }
+        ensures calls { Calls (uncounted_of E.state self.old) (uncounted_of E.state self.new) result }
+        ensures count { self.new.calls ≡ self.old.calls }
         ensures never_full { NeverFull result }
-        ensures stale { Settles result (state_of E.state self.new) }
+        ensures stale { Settles result (uncounted_of E.state self.new) }
         ensures image { (E.state self.new.device).image ≡ (E.state self.old.device).image }
-        ensures kept { IsFalse (state_of E.state self.old).is_stale → IsFalse (state_of E.state self.new).is_stale }
-        ensures nothing { IsFalse (state_of E.state self.old).is_stale → (result ≡ Ok tt) × (self.new ≡ self.old) }
+        ensures kept { IsFalse (uncounted_of E.state self.old).is_stale → IsFalse (uncounted_of E.state self.new).is_stale }
+        ensures nothing { IsFalse (uncounted_of E.state self.old).is_stale → (result ≡ Ok tt) × (self.new ≡ self.old) }
     {
         if self.is_stale { self.look() } else { Ok(()) }
     }
 
     // Where a block stands among the numbers.
     fn position(&self, block: u16) -> usize
-        requires { Contains (state_of E.state self.now).numbers block }
-        ensures within { result < length (state_of E.state self.now).numbers }
-        ensures is { slice_index_or (state_of E.state self.now).numbers result 0 ≡ block }
+        requires { Contains (uncounted_of E.state self.now).numbers block }
+        ensures within { result < length (uncounted_of E.state self.now).numbers }
+        ensures is { slice_index_or (uncounted_of E.state self.now).numbers result 0 ≡ block }
     {
         self.numbers.index_of(block).unwrap()
     }
 
     // Gives a block of a driver that is not stale these bytes, or makes it invalid.
     fn store(&mut self, block: u16, bytes: &[u8], valid: bool) -> Result<(), BlockFault>
-        requires settled { IsFalse (state_of E.state self.old).is_stale }
-        requires number { Contains (state_of E.state self.old).numbers block }
+        requires settled { IsFalse (uncounted_of E.state self.old).is_stale }
+        requires number { Contains (uncounted_of E.state self.old).numbers block }
         requires most { length bytes.now ≤ 128 }
         requires length { is_length valid (length bytes.now) ≡ true }
-        ensures changes { Changes (state_of E.state self.old) (state_of E.state self.new) block (asked_of valid bytes.now) (length bytes.now) result }
-        ensures calls { Calls (state_of E.state self.old) (state_of E.state self.new) result }
-        ensures stale { Settles result (state_of E.state self.new) }
-        ensures answers { AnswersBy (is_stuck_in (state_of E.state self.old).numbers (E.state self.old.device).image block) result }
-        ensures spends { (IsErrOf result Flash → ⊥) → (E.state self.new.device).operations ≤ (E.state self.old.device).operations + record_pages (length bytes.now) }
+        ensures changes { Changes (uncounted_of E.state self.old) (uncounted_of E.state self.new) block (asked_of valid bytes.now) (length bytes.now) result }
+        ensures calls { Calls (uncounted_of E.state self.old) (uncounted_of E.state self.new) result }
+        ensures count { self.new.calls ≡ self.old.calls }
+        ensures stale { Settles result (uncounted_of E.state self.new) }
+        ensures answers { AnswersBy (is_stuck_in (uncounted_of E.state self.old).numbers (E.state self.old.device).image block) result }
+        ensures spends { (IsErrOf result Flash → ⊥)
+            → (E.state self.new.device).operations ≤ (E.state self.old.device).operations + record_pages (length bytes.now) }
     {
         let position = self.position(block);
         let held = self.table[position];
@@ -175,14 +181,15 @@ impl<E: Eeprom> Ea<E> {
 
     // Gives a block these bytes, or makes it invalid.
     fn put(&mut self, block: u16, bytes: &[u8], valid: bool) -> Result<(), BlockFault>
-        requires number { Contains (state_of E.state self.old).numbers block }
+        requires number { Contains (uncounted_of E.state self.old).numbers block }
         requires most { length bytes.now ≤ 128 }
         requires length { is_length valid (length bytes.now) ≡ true }
-        ensures changes { Changes (state_of E.state self.old) (state_of E.state self.new) block (asked_of valid bytes.now) (length bytes.now) result }
-        ensures calls { Calls (state_of E.state self.old) (state_of E.state self.new) result }
-        ensures stale { Settles result (state_of E.state self.new) }
-        ensures answers { AnswersBy (is_stuck_in (state_of E.state self.old).numbers (E.state self.old.device).image block) result }
-        ensures costs { Costs (state_of E.state self.old) (state_of E.state self.new) (length bytes.now) }
+        ensures changes { Changes (uncounted_of E.state self.old) (uncounted_of E.state self.new) block (asked_of valid bytes.now) (length bytes.now) result }
+        ensures calls { Calls (uncounted_of E.state self.old) (uncounted_of E.state self.new) result }
+        ensures count { self.new.calls ≡ self.old.calls }
+        ensures stale { Settles result (uncounted_of E.state self.new) }
+        ensures answers { AnswersBy (is_stuck_in (uncounted_of E.state self.old).numbers (E.state self.old.device).image block) result }
+        ensures costs { Costs (uncounted_of E.state self.old) (uncounted_of E.state self.new) (length bytes.now) }
     {
         match self.settle() {
             Err(fault) => Err(fault),
@@ -192,16 +199,17 @@ impl<E: Eeprom> Ea<E> {
 
     // Reads a block of a driver that is not stale.
     fn find(&mut self, block: u16, out: &mut [u8; 128]) -> Result<Found, BlockFault>
-        requires settled { IsFalse (state_of E.state self.old).is_stale }
-        requires number { Contains (state_of E.state self.old).numbers block }
-        ensures found { IfOk result (λ found. ReadsContent ((state_of E.state self.old).value block) found out.old out.new) }
+        requires settled { IsFalse (uncounted_of E.state self.old).is_stale }
+        requires number { Contains (uncounted_of E.state self.old).numbers block }
+        ensures found { IfOk result (λ found. ReadsContent ((uncounted_of E.state self.old).value block) found out.old out.new) }
         ensures nothing { OnErr result (out.new ≡ out.old) }
-        ensures calls { Calls (state_of E.state self.old) (state_of E.state self.new) result }
+        ensures calls { Calls (uncounted_of E.state self.old) (uncounted_of E.state self.new) result }
+        ensures count { self.new.calls ≡ self.old.calls }
         ensures never_full { NeverFull result }
-        ensures stale { IsFalse (state_of E.state self.new).is_stale }
-        ensures image { SameImage (state_of E.state self.old) (state_of E.state self.new) }
+        ensures stale { IsFalse (uncounted_of E.state self.new).is_stale }
+        ensures image { SameImage (uncounted_of E.state self.old) (uncounted_of E.state self.new) }
         ensures spends { OnOk result ((E.state self.new.device).operations ≤ (E.state self.old.device).operations
-            + byte_pages (size_of ((state_of E.state self.old).value block))) }
+            + byte_pages (size_of ((uncounted_of E.state self.old).value block))) }
     {
         let position = self.position(block);
         match self.table[position] {
@@ -235,6 +243,7 @@ impl<E: Eeprom> Blocks for Ea<E> {
     fn mount(&mut self) -> Result<(), BlockFault>
         ensures values { SameValues (state_of E.state self.old) (state_of E.state self.new) }
         ensures calls { Calls (state_of E.state self.old) (state_of E.state self.new) result }
+        ensures once { CountsCall (state_of E.state self.old) (state_of E.state self.new) }
         ensures never_full { NeverFull result }
         ensures stale { Settles result (state_of E.state self.new) }
         ensures spent { SameSpent (state_of E.state self.old) (state_of E.state self.new) }
@@ -242,6 +251,7 @@ impl<E: Eeprom> Blocks for Ea<E> {
         // It writes nothing.
         ensures image { SameImage (state_of E.state self.old) (state_of E.state self.new) }
     {
+        self.calls = self.calls.saturating_add(1);
         self.look()
     }
 
@@ -251,16 +261,19 @@ impl<E: Eeprom> Blocks for Ea<E> {
         requires most { length bytes.now ≤ 128 }
         ensures changes { Changes (state_of E.state self.old) (state_of E.state self.new) block (holding bytes.now) (length bytes.now) result }
         ensures calls { Calls (state_of E.state self.old) (state_of E.state self.new) result }
+        ensures once { CountsCall (state_of E.state self.old) (state_of E.state self.new) }
         ensures stale { Settles result (state_of E.state self.new) }
         ensures costs { Costs (state_of E.state self.old) (state_of E.state self.new) (length bytes.now) }
 
         // It is refused exactly where its block has no sequence number left.
         ensures answers { AnswersBy (is_stuck_in (state_of E.state self.old).numbers (E.state self.old.device).image block) result }
     {
+        self.calls = self.calls.saturating_add(1);
         self.put(block, bytes, true)
     }
 
     fn read(&mut self, block: u16, out: &mut [u8; 128]) -> Result<Found, BlockFault> {
+        self.calls = self.calls.saturating_add(1);
         match self.settle() {
             Err(fault) => Err(fault),
             Ok(()) => self.find(block, out),
@@ -279,12 +292,14 @@ impl<E: Eeprom> Blocks for Ea<E> {
         requires { Contains (state_of E.state self.old).numbers block }
         ensures changes { Changes (state_of E.state self.old) (state_of E.state self.new) block invalid 0 result }
         ensures calls { Calls (state_of E.state self.old) (state_of E.state self.new) result }
+        ensures once { CountsCall (state_of E.state self.old) (state_of E.state self.new) }
         ensures stale { Settles result (state_of E.state self.new) }
         ensures costs { Costs (state_of E.state self.old) (state_of E.state self.new) 0 }
 
         // It is refused exactly where its block has no sequence number left.
         ensures answers { AnswersBy (is_stuck_in (state_of E.state self.old).numbers (E.state self.old.device).image block) result }
     {
+        self.calls = self.calls.saturating_add(1);
         self.put(block, &[], false)
     }
 

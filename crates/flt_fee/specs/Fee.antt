@@ -2,7 +2,7 @@
 use Rattle.std.specs.Prelude.{◌+◌, ◌-◌, ◌^◌, ◌==◌, ◌&&◌, ℕ, Bool, false, not, nat_le, List, Option, Some, None, Result, Ok, Err}
 use Rattle.flt_flash.specs.Image.{sector_at}
 use Rattle.flt_flash.specs.State.{FlashState}
-use Rattle.flt_flash.specs.Blocks.{BlocksState, device_of, record_pages}
+use Rattle.flt_flash.specs.Blocks.{BlocksState, device_of, record_pages, recounted}
 use Rattle.flt_sector.specs.Blocks.{Current, current, first_fault, block_value}
 use Rattle.flt_sector.specs.Log.{log}
 use Rattle.flt_fee.specs.declared.fee.Fee.{Fee}
@@ -19,12 +19,13 @@ is_past used numbers image size (Ok (Some at)) = not (nat_le ((log used numbers 
 is_past used numbers image size (Ok None) = false
 is_past used numbers image size (Err place) = false
 
--- The driver as the layers above see it, by what it keeps and by its flash.
+-- The driver by what it keeps and by its flash, before it counts a call.
 abbrev pub state_by : ℕ → List ℕ → Bool → Bool → FlashState → BlocksState
 state_by used numbers is_stale has_mounted flash = record {
   numbers = numbers;
   is_stale = is_stale;
   has_mounted = has_mounted;
+  calls = 0;
   value = block_value used numbers flash.image;
   damage = first_fault used numbers flash.image;
   room = Some (used - 2);
@@ -33,6 +34,10 @@ state_by used numbers is_stale has_mounted flash = record {
   device = device_of flash;
 }
 
+-- The driver but for its count of calls.
+abbrev pub uncounted_of : {F : Type 0} {g : _} → (F → FlashState) → Fee F g → BlocksState
+uncounted_of state fee = state_by fee.used fee.numbers fee.is_stale fee.has_mounted (state fee.flash)
+
 -- The driver as the layers above see it.
 abbrev pub state_of : {F : Type 0} {g : _} → (F → FlashState) → Fee F g → BlocksState
-state_of state fee = state_by fee.used fee.numbers fee.is_stale fee.has_mounted (state fee.flash)
+state_of state fee = recounted fee.calls (uncounted_of state fee)

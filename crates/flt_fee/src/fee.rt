@@ -6,7 +6,7 @@ ghost use Rattle.std.proofs.Props.{props};
 ghost use Rattle.flt_flash.specs.Content.{invalid, bytes as holding, size_of};
 ghost use Rattle.flt_flash.specs.Image.{sector_at};
 ghost use Rattle.flt_flash.specs.Blocks.{byte_pages, device_of, live_pages, record_pages, IsFull};
-ghost use Rattle.flt_flash.specs.Calls.{Calls, Changes, Costs, ReadsContent, NoFault, NeverFull, ReadCosts, SameImage, SameSpent, SameValues, Settles};
+ghost use Rattle.flt_flash.specs.Calls.{Calls, CountsCall, Changes, Costs, ReadsContent, NoFault, NeverFull, ReadCosts, SameImage, SameSpent, SameValues, Settles};
 ghost use Rattle.flt_flash.specs.declared.blocks.BlockFault.TheVariants.{Full, SequenceSpent};
 ghost use Rattle.flt_code.specs.Word.{is_length};
 ghost use Rattle.flt_sector.specs.Blocks.{current, block_value};
@@ -54,8 +54,8 @@ fn tables(
 
 /// Blocks of 1 to 128 bytes in the records of two sectors, of which it uses the first `used` pages each.
 ///
-/// It keeps the current sector, its sequence number, the page where its log ends, and the place of each block's current
-/// record. A mount looks at the log once, and no other call looks at it.
+/// It keeps the current sector, its sequence number, the page where its log ends, the place of each block's current record, and a
+/// count of its calls. A mount looks at the log once, and no other call looks at it.
 /// Its room is `used - 2` pages. It is spent where the sequence number is 2^32 - 1, and a record is stuck where it is spent
 /// and the record does not fit behind the log.
 #[derive(Drop)]
@@ -65,6 +65,7 @@ pub struct Fee<F: Flash> {
     numbers: Numbers,
     is_stale: bool,
     has_mounted: bool,
+    calls: u64,
     sector: u8,
     sequence: u32,
     end: u16,
@@ -80,19 +81,20 @@ pub struct Fee<F: Flash> {
 }
 
 impl<F: Flash> Fee<F> {
-    ghost use Rattle.flt_fee.specs.Fee.{is_past, state_by, state_of};
+    ghost use Rattle.flt_fee.specs.Fee.{is_past, state_by, state_of, uncounted_of};
 
     // Appends a record behind the log, where it fits.
     fn append(&mut self, block: u16, bytes: &[u8], valid: bool) -> Result<(), BlockFault>
-        requires settled { IsFalse (state_of F.state self.old).is_stale }
-        requires number { Contains (state_of F.state self.old).numbers block }
+        requires settled { IsFalse (uncounted_of F.state self.old).is_stale }
+        requires number { Contains (uncounted_of F.state self.old).numbers block }
         requires most { length bytes.now ≤ 128 }
         requires length { is_length valid (length bytes.now) ≡ true }
         requires room { self.old.end + 2 + byte_pages (length bytes.now) ≤ self.old.used }
-        ensures changes { Changes (state_of F.state self.old) (state_of F.state self.new) block (asked_of valid bytes.now) (length bytes.now) result }
-        ensures calls { Calls (state_of F.state self.old) (state_of F.state self.new) result }
+        ensures changes { Changes (uncounted_of F.state self.old) (uncounted_of F.state self.new) block (asked_of valid bytes.now) (length bytes.now) result }
+        ensures calls { Calls (uncounted_of F.state self.old) (uncounted_of F.state self.new) result }
+        ensures count { self.new.calls ≡ self.old.calls }
         ensures never_full { NeverFull result }
-        ensures stale { Settles result (state_of F.state self.new) }
+        ensures stale { Settles result (uncounted_of F.state self.new) }
         ensures spends { OnOk result (SpendsAtMost (record_pages (length bytes.now)) (F.state self.old.flash) (F.state self.new.flash)) }
         ensures even { StaysEven self.old.used (F.state self.old.flash) (F.state self.new.flash) }
     {
@@ -119,12 +121,13 @@ impl<F: Flash> Fee<F> {
     fn resume(&mut self, at: CurrentSector) -> Result<(), BlockFault>
         requires sector { at.sector < 2 }
         requires found { current self.old.used (F.state self.old.flash).image ≡ Ok (Some (current_of at)) }
-        ensures values { SameValues (state_of F.state self.old) (state_of F.state self.new) }
-        ensures spent { SameSpent (state_of F.state self.old) (state_of F.state self.new) }
-        ensures calls { Calls (state_of F.state self.old) (state_of F.state self.new) result }
+        ensures values { SameValues (uncounted_of F.state self.old) (uncounted_of F.state self.new) }
+        ensures spent { SameSpent (uncounted_of F.state self.old) (uncounted_of F.state self.new) }
+        ensures calls { Calls (uncounted_of F.state self.old) (uncounted_of F.state self.new) result }
+        ensures count { self.new.calls ≡ self.old.calls }
         ensures never_full { NeverFull result }
-        ensures stale { Settles result (state_of F.state self.new) }
-        ensures stuck { KeepsStuck (state_of F.state self.old) (state_of F.state self.new) result }
+        ensures stale { Settles result (uncounted_of F.state self.new) }
+        ensures stuck { KeepsStuck (uncounted_of F.state self.old) (uncounted_of F.state self.new) result }
         ensures even { UnlessFlash result (StaysEven self.old.used (F.state self.old.flash) (F.state self.new.flash)) }
     {
         self.is_stale = true;
@@ -151,12 +154,13 @@ impl<F: Flash> Fee<F> {
     // Begins the first sector: the mount of a flash of which no sector is valid.
     fn format(&mut self) -> Result<(), BlockFault>
         requires { current self.old.used (F.state self.old.flash).image ≡ Ok None }
-        ensures values { SameValues (state_of F.state self.old) (state_of F.state self.new) }
-        ensures spent { SameSpent (state_of F.state self.old) (state_of F.state self.new) }
-        ensures calls { Calls (state_of F.state self.old) (state_of F.state self.new) result }
+        ensures values { SameValues (uncounted_of F.state self.old) (uncounted_of F.state self.new) }
+        ensures spent { SameSpent (uncounted_of F.state self.old) (uncounted_of F.state self.new) }
+        ensures calls { Calls (uncounted_of F.state self.old) (uncounted_of F.state self.new) result }
+        ensures count { self.new.calls ≡ self.old.calls }
         ensures never_full { NeverFull result }
-        ensures stale { Settles result (state_of F.state self.new) }
-        ensures stuck { KeepsStuck (state_of F.state self.old) (state_of F.state self.new) result }
+        ensures stale { Settles result (uncounted_of F.state self.new) }
+        ensures stuck { KeepsStuck (uncounted_of F.state self.old) (uncounted_of F.state self.new) result }
         ensures even { UnlessFlash result (StaysEven self.old.used (F.state self.old.flash) (F.state self.new.flash)) }
     {
         self.is_stale = true;
@@ -176,12 +180,13 @@ impl<F: Flash> Fee<F> {
 
     // Looks at the flash as a power-up left it.
     fn look(&mut self) -> Result<(), BlockFault>
-        ensures values { SameValues (state_of F.state self.old) (state_of F.state self.new) }
-        ensures spent { SameSpent (state_of F.state self.old) (state_of F.state self.new) }
-        ensures calls { Calls (state_of F.state self.old) (state_of F.state self.new) result }
+        ensures values { SameValues (uncounted_of F.state self.old) (uncounted_of F.state self.new) }
+        ensures spent { SameSpent (uncounted_of F.state self.old) (uncounted_of F.state self.new) }
+        ensures calls { Calls (uncounted_of F.state self.old) (uncounted_of F.state self.new) result }
+        ensures count { self.new.calls ≡ self.old.calls }
         ensures never_full { NeverFull result }
-        ensures stale { Settles result (state_of F.state self.new) }
-        ensures stuck { KeepsStuck (state_of F.state self.old) (state_of F.state self.new) result }
+        ensures stale { Settles result (uncounted_of F.state self.new) }
+        ensures stuck { KeepsStuck (uncounted_of F.state self.old) (uncounted_of F.state self.new) result }
         ensures even { UnlessFlash result (StaysEven self.old.used (F.state self.old.flash) (F.state self.new.flash)) }
     {
         self.is_stale = true;
@@ -195,14 +200,15 @@ impl<F: Flash> Fee<F> {
 
     // Mounts a stale driver.
     fn settle(&mut self) -> Result<(), BlockFault>
-        ensures values { SameValues (state_of F.state self.old) (state_of F.state self.new) }
-        ensures spent { SameSpent (state_of F.state self.old) (state_of F.state self.new) }
-        ensures calls { Calls (state_of F.state self.old) (state_of F.state self.new) result }
+        ensures values { SameValues (uncounted_of F.state self.old) (uncounted_of F.state self.new) }
+        ensures spent { SameSpent (uncounted_of F.state self.old) (uncounted_of F.state self.new) }
+        ensures calls { Calls (uncounted_of F.state self.old) (uncounted_of F.state self.new) result }
+        ensures count { self.new.calls ≡ self.old.calls }
         ensures never_full { NeverFull result }
-        ensures stale { Settles result (state_of F.state self.new) }
-        ensures stuck { KeepsStuck (state_of F.state self.old) (state_of F.state self.new) result }
-        ensures kept { IsFalse (state_of F.state self.old).is_stale → IsFalse (state_of F.state self.new).is_stale }
-        ensures nothing { IsFalse (state_of F.state self.old).is_stale → (result ≡ Ok tt) × (self.new ≡ self.old) }
+        ensures stale { Settles result (uncounted_of F.state self.new) }
+        ensures stuck { KeepsStuck (uncounted_of F.state self.old) (uncounted_of F.state self.new) result }
+        ensures kept { IsFalse (uncounted_of F.state self.old).is_stale → IsFalse (uncounted_of F.state self.new).is_stale }
+        ensures nothing { IsFalse (uncounted_of F.state self.old).is_stale → (result ≡ Ok tt) × (self.new ≡ self.old) }
         ensures even { UnlessFlash result (StaysEven self.old.used (F.state self.old.flash) (F.state self.new.flash)) }
     {
         if self.is_stale { self.look() } else { Ok(()) }
@@ -210,24 +216,25 @@ impl<F: Flash> Fee<F> {
 
     // The pages of the current records of all blocks.
     fn live(&self) -> u16
-        requires { IsFalse (state_of F.state self.now).is_stale }
-        ensures { result ≡ live_pages (state_of F.state self.now) }
+        requires { IsFalse (uncounted_of F.state self.now).is_stale }
+        ensures { result ≡ live_pages (uncounted_of F.state self.now) }
     {
         live_pages(&self.places)
     }
 
     // Makes the other sector the current one, with a copy of all that the blocks hold.
     fn switch(&mut self) -> Result<(), BlockFault>
-        requires settled { IsFalse (state_of F.state self.old).is_stale }
+        requires settled { IsFalse (uncounted_of F.state self.old).is_stale }
         requires next { self.old.sequence + 1 < 2 ^ 32 }
-        requires room { 2 + live_pages (state_of F.state self.old) ≤ self.old.used }
-        ensures room { OnOk result (self.new.end ≤ 2 + live_pages (state_of F.state self.old)) }
-        ensures erases { OnOk result (Erases (3 + 2 * live_pages (state_of F.state self.old)) (1 - self.old.sector) (F.state self.old.flash)
+        requires room { 2 + live_pages (uncounted_of F.state self.old) ≤ self.old.used }
+        ensures room { OnOk result (self.new.end ≤ 2 + live_pages (uncounted_of F.state self.old)) }
+        ensures erases { OnOk result (Erases (3 + 2 * live_pages (uncounted_of F.state self.old)) (1 - self.old.sector) (F.state self.old.flash)
             (F.state self.new.flash)) }
-        ensures values { SameValues (state_of F.state self.old) (state_of F.state self.new) }
-        ensures calls { Calls (state_of F.state self.old) (state_of F.state self.new) result }
+        ensures values { SameValues (uncounted_of F.state self.old) (uncounted_of F.state self.new) }
+        ensures calls { Calls (uncounted_of F.state self.old) (uncounted_of F.state self.new) result }
+        ensures count { self.new.calls ≡ self.old.calls }
         ensures never_full { NeverFull result }
-        ensures stale { Settles result (state_of F.state self.new) }
+        ensures stale { Settles result (uncounted_of F.state self.new) }
         ensures even { UnlessFlash result (StaysEven self.old.used (F.state self.old.flash) (F.state self.new.flash)) }
     {
         self.is_stale = true;
@@ -252,18 +259,19 @@ impl<F: Flash> Fee<F> {
 
     // Makes room behind the log for a record of this length, by a switch where it does not fit.
     fn make_room(&mut self, block: u16, size: u16) -> Result<(), BlockFault>
-        requires settled { IsFalse (state_of F.state self.old).is_stale }
+        requires settled { IsFalse (uncounted_of F.state self.old).is_stale }
         requires most { size ≤ 128 }
-        ensures answers { AnswersBy (refusal (state_of F.state self.old) block size) result }
+        ensures answers { AnswersBy (refusal (uncounted_of F.state self.old) block size) result }
         ensures room { OnOk result (self.new.end + record_pages size ≤ self.new.used) }
-        ensures made { OnOk result (MakesRoom self.old.used self.old.end (live_pages (state_of F.state self.old)) size self.old.sector (F.state self.old.flash)
-            (F.state self.new.flash)) }
+        ensures made { OnOk result (MakesRoom self.old.used self.old.end (live_pages (uncounted_of F.state self.old)) size self.old.sector
+            (F.state self.old.flash) (F.state self.new.flash)) }
         ensures refused { UnlessFailed result (OnErr result (F.state self.new.flash ≡ F.state self.old.flash)) }
-        ensures full { (live needed : ℕ) → IsErrOf result (Full live needed) → IsFull (state_of F.state self.new) size live needed }
-        ensures spent { IsErrOf result SequenceSpent → IsTrue ((state_of F.state self.new).is_stuck block size) }
-        ensures values { SameValues (state_of F.state self.old) (state_of F.state self.new) }
-        ensures calls { Calls (state_of F.state self.old) (state_of F.state self.new) result }
-        ensures stale { Settles result (state_of F.state self.new) }
+        ensures full { (live needed : ℕ) → IsErrOf result (Full live needed) → IsFull (uncounted_of F.state self.new) size live needed }
+        ensures spent { IsErrOf result SequenceSpent → IsTrue ((uncounted_of F.state self.new).is_stuck block size) }
+        ensures values { SameValues (uncounted_of F.state self.old) (uncounted_of F.state self.new) }
+        ensures calls { Calls (uncounted_of F.state self.old) (uncounted_of F.state self.new) result }
+        ensures count { self.new.calls ≡ self.old.calls }
+        ensures stale { Settles result (uncounted_of F.state self.new) }
         ensures even { UnlessFlash result (StaysEven self.old.used (F.state self.old.flash) (F.state self.new.flash)) }
     {
         let needed = 2 + byte_pages(size);
@@ -282,15 +290,16 @@ impl<F: Flash> Fee<F> {
 
     // Gives a block of a driver that is not stale these bytes, or makes it invalid.
     fn store(&mut self, block: u16, bytes: &[u8], valid: bool) -> Result<(), BlockFault>
-        requires settled { IsFalse (state_of F.state self.old).is_stale }
-        requires number { Contains (state_of F.state self.old).numbers block }
+        requires settled { IsFalse (uncounted_of F.state self.old).is_stale }
+        requires number { Contains (uncounted_of F.state self.old).numbers block }
         requires most { length bytes.now ≤ 128 }
         requires length { is_length valid (length bytes.now) ≡ true }
-        ensures changes { Changes (state_of F.state self.old) (state_of F.state self.new) block (asked_of valid bytes.now) (length bytes.now) result }
-        ensures calls { Calls (state_of F.state self.old) (state_of F.state self.new) result }
-        ensures stale { Settles result (state_of F.state self.new) }
-        ensures answers { AnswersBy (refusal (state_of F.state self.old) block (length bytes.now)) result }
-        ensures stores { UnlessFailed result (Stores self.old.used self.old.end (live_pages (state_of F.state self.old)) (length bytes.now) self.old.sector
+        ensures changes { Changes (uncounted_of F.state self.old) (uncounted_of F.state self.new) block (asked_of valid bytes.now) (length bytes.now) result }
+        ensures calls { Calls (uncounted_of F.state self.old) (uncounted_of F.state self.new) result }
+        ensures count { self.new.calls ≡ self.old.calls }
+        ensures stale { Settles result (uncounted_of F.state self.new) }
+        ensures answers { AnswersBy (refusal (uncounted_of F.state self.old) block (length bytes.now)) result }
+        ensures stores { UnlessFailed result (Stores self.old.used self.old.end (live_pages (uncounted_of F.state self.old)) (length bytes.now) self.old.sector
             (F.state self.old.flash) (F.state self.new.flash)) }
         ensures even { UnlessFlash result (StaysEven self.old.used (F.state self.old.flash) (F.state self.new.flash)) }
     {
@@ -302,18 +311,19 @@ impl<F: Flash> Fee<F> {
 
     // Gives a block these bytes, or makes it invalid.
     fn put(&mut self, block: u16, bytes: &[u8], valid: bool) -> Result<(), BlockFault>
-        requires number { Contains (state_of F.state self.old).numbers block }
+        requires number { Contains (uncounted_of F.state self.old).numbers block }
         requires most { length bytes.now ≤ 128 }
         requires length { is_length valid (length bytes.now) ≡ true }
-        ensures changes { Changes (state_of F.state self.old) (state_of F.state self.new) block (asked_of valid bytes.now) (length bytes.now) result }
-        ensures calls { Calls (state_of F.state self.old) (state_of F.state self.new) result }
-        ensures stale { Settles result (state_of F.state self.new) }
-        ensures answers { AnswersBy (refusal (state_of F.state self.old) block (length bytes.now)) result }
-        ensures stores { IsFalse (state_of F.state self.old).is_stale → NoFault (state_of F.state self.old) (state_of F.state self.new)
+        ensures changes { Changes (uncounted_of F.state self.old) (uncounted_of F.state self.new) block (asked_of valid bytes.now) (length bytes.now) result }
+        ensures calls { Calls (uncounted_of F.state self.old) (uncounted_of F.state self.new) result }
+        ensures count { self.new.calls ≡ self.old.calls }
+        ensures stale { Settles result (uncounted_of F.state self.new) }
+        ensures answers { AnswersBy (refusal (uncounted_of F.state self.old) block (length bytes.now)) result }
+        ensures stores { IsFalse (uncounted_of F.state self.old).is_stale → NoFault (uncounted_of F.state self.old) (uncounted_of F.state self.new)
             → StoreCosts
             (is_past self.old.used self.old.numbers (F.state self.old.flash).image (length bytes.now) (current self.old.used (F.state self.old.flash).image))
-            (state_of F.state self.old) (state_of F.state self.new) (length bytes.now) }
-        ensures costs { Costs (state_of F.state self.old) (state_of F.state self.new) (length bytes.now) }
+            (uncounted_of F.state self.old) (uncounted_of F.state self.new) (length bytes.now) }
+        ensures costs { Costs (uncounted_of F.state self.old) (uncounted_of F.state self.new) (length bytes.now) }
         ensures even { UnlessFlash result (StaysEven self.old.used (F.state self.old.flash) (F.state self.new.flash)) }
     {
         match self.settle() {
@@ -324,26 +334,27 @@ impl<F: Flash> Fee<F> {
 
     // The place of a block's current record, if it has one.
     fn place(&self, block: u16) -> Option<RecordPlace>
-        requires settled { IsFalse (state_of F.state self.now).is_stale }
-        requires number { Contains (state_of F.state self.now).numbers block }
-        ensures { IsAt (sector_at (F.state self.now.flash).image self.now.sector) self.now.used ((state_of F.state self.now).value block) result }
+        requires settled { IsFalse (uncounted_of F.state self.now).is_stale }
+        requires number { Contains (uncounted_of F.state self.now).numbers block }
+        ensures { IsAt (sector_at (F.state self.now.flash).image self.now.sector) self.now.used ((uncounted_of F.state self.now).value block) result }
     {
         place_of(&self.numbers, &self.places, block)
     }
 
     // Reads a block of a driver that is not stale.
     fn find(&mut self, block: u16, out: &mut [u8; 128]) -> Result<Found, BlockFault>
-        requires settled { IsFalse (state_of F.state self.old).is_stale }
-        requires number { Contains (state_of F.state self.old).numbers block }
-        ensures found { IfOk result (λ found. ReadsContent ((state_of F.state self.old).value block) found out.old out.new) }
+        requires settled { IsFalse (uncounted_of F.state self.old).is_stale }
+        requires number { Contains (uncounted_of F.state self.old).numbers block }
+        ensures found { IfOk result (λ found. ReadsContent ((uncounted_of F.state self.old).value block) found out.old out.new) }
         ensures nothing { OnErr result (out.new ≡ out.old) }
-        ensures values { SameValues (state_of F.state self.old) (state_of F.state self.new) }
-        ensures spent { SameSpent (state_of F.state self.old) (state_of F.state self.new) }
-        ensures calls { Calls (state_of F.state self.old) (state_of F.state self.new) result }
+        ensures values { SameValues (uncounted_of F.state self.old) (uncounted_of F.state self.new) }
+        ensures spent { SameSpent (uncounted_of F.state self.old) (uncounted_of F.state self.new) }
+        ensures calls { Calls (uncounted_of F.state self.old) (uncounted_of F.state self.new) result }
+        ensures count { self.new.calls ≡ self.old.calls }
         ensures never_full { NeverFull result }
-        ensures stale { IsFalse (state_of F.state self.new).is_stale }
-        ensures image { SameImage (state_of F.state self.old) (state_of F.state self.new) }
-        ensures spends { OnOk result (SpendsAtMost (byte_pages (size_of ((state_of F.state self.old).value block))) (F.state self.old.flash)
+        ensures stale { IsFalse (uncounted_of F.state self.new).is_stale }
+        ensures image { SameImage (uncounted_of F.state self.old) (uncounted_of F.state self.new) }
+        ensures spends { OnOk result (SpendsAtMost (byte_pages (size_of ((uncounted_of F.state self.old).value block))) (F.state self.old.flash)
             (F.state self.new.flash)) }
         ensures even { StaysEven self.old.used (F.state self.old.flash) (F.state self.new.flash) }
     {
@@ -355,17 +366,18 @@ impl<F: Flash> Fee<F> {
 
     // Reads the record at a place.
     fn take(&mut self, place: RecordPlace, out: &mut [u8; 128]) -> Result<Found, BlockFault>
-        requires settled { IsFalse (state_of F.state self.old).is_stale }
+        requires settled { IsFalse (uncounted_of F.state self.old).is_stale }
         requires within { IsPlaceWithin self.old.used place }
         ensures found { IfOk result (λ found. ReadsContent (asked_of place.valid
             (bytes_at (sector_at (F.state self.old.flash).image self.old.sector) place)) found out.old out.new) }
         ensures nothing { OnErr result (out.new ≡ out.old) }
-        ensures values { SameValues (state_of F.state self.old) (state_of F.state self.new) }
-        ensures spent { SameSpent (state_of F.state self.old) (state_of F.state self.new) }
-        ensures calls { Calls (state_of F.state self.old) (state_of F.state self.new) result }
+        ensures values { SameValues (uncounted_of F.state self.old) (uncounted_of F.state self.new) }
+        ensures spent { SameSpent (uncounted_of F.state self.old) (uncounted_of F.state self.new) }
+        ensures calls { Calls (uncounted_of F.state self.old) (uncounted_of F.state self.new) result }
+        ensures count { self.new.calls ≡ self.old.calls }
         ensures never_full { NeverFull result }
-        ensures stale { IsFalse (state_of F.state self.new).is_stale }
-        ensures image { SameImage (state_of F.state self.old) (state_of F.state self.new) }
+        ensures stale { IsFalse (uncounted_of F.state self.new).is_stale }
+        ensures image { SameImage (uncounted_of F.state self.old) (uncounted_of F.state self.new) }
         ensures spends { OnOk result (SpendsAtMost (byte_pages (size_of (asked_of place.valid
             (bytes_at (sector_at (F.state self.old.flash).image self.old.sector) place)))) (F.state self.old.flash) (F.state self.new.flash)) }
         ensures even { StaysEven self.old.used (F.state self.old.flash) (F.state self.new.flash) }
@@ -398,6 +410,7 @@ impl<F: Flash> Fee<F> {
                 numbers,
                 is_stale: true,
                 has_mounted: false,
+                calls: 0,
                 sector: 0,
                 sequence: 0,
                 end: 0,
@@ -435,6 +448,7 @@ impl<F: Bench> Blocks for Fee<F> {
         ensures values { SameValues (state_of F.state self.old) (state_of F.state self.new) }
         ensures spent { SameSpent (state_of F.state self.old) (state_of F.state self.new) }
         ensures calls { Calls (state_of F.state self.old) (state_of F.state self.new) result }
+        ensures once { CountsCall (state_of F.state self.old) (state_of F.state self.new) }
         ensures never_full { NeverFull result }
         ensures stale { Settles result (state_of F.state self.new) }
 
@@ -442,6 +456,7 @@ impl<F: Bench> Blocks for Fee<F> {
         ensures even { NoFault (state_of F.state self.old) (state_of F.state self.new)
             → StaysEven self.old.used (F.state self.old.flash) (F.state self.new.flash) }
     {
+        self.calls = self.calls.saturating_add(1);
         self.look()
     }
 
@@ -451,6 +466,7 @@ impl<F: Bench> Blocks for Fee<F> {
         requires most { length bytes.now ≤ 128 }
         ensures changes { Changes (state_of F.state self.old) (state_of F.state self.new) block (holding bytes.now) (length bytes.now) result }
         ensures calls { Calls (state_of F.state self.old) (state_of F.state self.new) result }
+        ensures once { CountsCall (state_of F.state self.old) (state_of F.state self.new) }
         ensures stale { Settles result (state_of F.state self.new) }
         ensures costs { Costs (state_of F.state self.old) (state_of F.state self.new) (length bytes.now) }
 
@@ -467,6 +483,7 @@ impl<F: Bench> Blocks for Fee<F> {
         ensures even { NoFault (state_of F.state self.old) (state_of F.state self.new)
             → StaysEven self.old.used (F.state self.old.flash) (F.state self.new.flash) }
     {
+        self.calls = self.calls.saturating_add(1);
         self.put(block, bytes, true)
     }
 
@@ -477,6 +494,7 @@ impl<F: Bench> Blocks for Fee<F> {
         ensures values { SameValues (state_of F.state self.old) (state_of F.state self.new) }
         ensures spent { SameSpent (state_of F.state self.old) (state_of F.state self.new) }
         ensures calls { Calls (state_of F.state self.old) (state_of F.state self.new) result }
+        ensures once { CountsCall (state_of F.state self.old) (state_of F.state self.new) }
         ensures never_full { NeverFull result }
         ensures settled { OnOk result (IsFalse (state_of F.state self.new).is_stale) }
         ensures stale { IsFalse (state_of F.state self.old).is_stale → IsFalse (state_of F.state self.new).is_stale }
@@ -489,6 +507,7 @@ impl<F: Bench> Blocks for Fee<F> {
         ensures even { NoFault (state_of F.state self.old) (state_of F.state self.new)
             → StaysEven self.old.used (F.state self.old.flash) (F.state self.new.flash) }
     {
+        self.calls = self.calls.saturating_add(1);
         match self.settle() {
             Err(fault) => Err(fault),
             Ok(()) => self.find(block, out),
@@ -507,6 +526,7 @@ impl<F: Bench> Blocks for Fee<F> {
         requires { Contains (state_of F.state self.old).numbers block }
         ensures changes { Changes (state_of F.state self.old) (state_of F.state self.new) block invalid 0 result }
         ensures calls { Calls (state_of F.state self.old) (state_of F.state self.new) result }
+        ensures once { CountsCall (state_of F.state self.old) (state_of F.state self.new) }
         ensures stale { Settles result (state_of F.state self.new) }
         ensures costs { Costs (state_of F.state self.old) (state_of F.state self.new) 0 }
 
@@ -523,6 +543,7 @@ impl<F: Bench> Blocks for Fee<F> {
         ensures even { NoFault (state_of F.state self.old) (state_of F.state self.new)
             → StaysEven self.old.used (F.state self.old.flash) (F.state self.new.flash) }
     {
+        self.calls = self.calls.saturating_add(1);
         self.put(block, &[], false)
     }
 

@@ -5,4 +5,5 @@ pub mod TornBy
 pub mod Following
 pub mod PageSizes
 pub mod CallsInARow
+pub mod Recounted
 pub mod TornTails

@@ -26,12 +26,17 @@ pub record BlocksState : Type 0 where
   pub numbers : List ℕ  -- the block numbers with which it was made
   pub is_stale : Bool  -- the next call mounts first
   pub has_mounted : Bool  -- a mount has answered Ok
+  pub calls : ℕ  -- the mounts, writes, reads and invalidates that were made, as far as the count goes
   pub value : ℕ → Content  -- what each block holds
   pub damage : Option (ℕ × ℕ)  -- the place of the first fault of the image
   pub room : Option ℕ  -- the pages for records, where they are limited
   pub is_spent : Bool  -- some record can't be written any more
   pub is_stuck : ℕ → ℕ → Bool  -- this record can't be written any more
   pub device : DeviceState
+
+-- A driver that counts so many calls.
+abbrev pub recounted : ℕ → BlocksState → BlocksState
+recounted calls state = record state { calls = calls }
 
 -- The pages of plain bytes of a record: 32 bytes a page.
 abbrev pub byte_pages : ℕ → ℕ

@@ -1,7 +1,7 @@
 -- What each call of a driver of blocks leaves.
 use Rattle.std.specs.Prelude.{◌≡◌, ◌≢◌, ◌⊎◌, ◌≤◌, ◌+◌, ◌*◌, ◌^◌, ℕ, true, List, ◌++◌, length, drop, Option, Some, None, Result, Ok, Err, IsTrue, IsFalse, IfSome, IsSomeAnd, OnOk, IsErrOf}
 use Rattle.flt_flash.specs.Content.{Content, missing, invalid, bytes, size_of}
-use Rattle.flt_flash.specs.State.{HasRisenBy, last_count, KeepsBench, AddsArm, AddsBoot}
+use Rattle.flt_flash.specs.State.{HasRisenBy, counted, last_count, KeepsBench, AddsArm, AddsBoot}
 use Rattle.flt_flash.specs.Blocks.{BlocksState, IsFull, byte_pages, record_pages}
 use Rattle.flt_flash.specs.declared.arm.Arm.{Arm}
 use Rattle.flt_flash.specs.declared.blocks.Found.{Found}
@@ -53,6 +53,10 @@ pub record Calls {T : Type 0} (before after : BlocksState) (result : Result T Bl
   pub flash : IsErrOf result Flash → HasRisenBy 1 before.device.faults after.device.faults
   pub damaged : (sector page : ℕ) → IsErrOf result (Damaged sector page) → (before.damage ≡ Some (sector, page)) × IsFalse before.has_mounted
   pub refuses_damage : OnOk result (before.damage ≡ None)
+
+-- One mount, write, read or invalidate more was made.
+abbrev pub CountsCall : BlocksState → BlocksState → Type 0
+CountsCall before after = after.calls ≡ counted before.calls
 
 -- A fault of the flash or of the image leaves the driver stale, and no other answer does.
 abbrev pub Settles : {T : Type 0} → Result T BlockFault → BlocksState → Type 0

@@ -3,7 +3,7 @@ ghost use Rattle.std.specs.Prelude.{◌≡◌, ◌<◌, ◌≤◌, length, Conta
 ghost use Rattle.flt_flash.specs.Content.{invalid, bytes as holding, IsShort};
 ghost use Rattle.flt_flash.specs.State.{CanArm};
 ghost use Rattle.flt_flash.specs.Blocks.{BlocksState};
-ghost use Rattle.flt_flash.specs.Calls.{Follows, Calls, NeverFull, Changes, Costs, ReadCosts, SameImage, SameSpent, SameValues, Settles, ReadsContent, found_of, ArmsDriver, PowersUpDriver};
+ghost use Rattle.flt_flash.specs.Calls.{Follows, Calls, CountsCall, NeverFull, Changes, Costs, ReadCosts, SameImage, SameSpent, SameValues, Settles, ReadsContent, found_of, ArmsDriver, PowersUpDriver};
 
 use crate::Arm;
 
@@ -43,6 +43,7 @@ pub enum BlockFault {
 ///
 /// A driver is stale when it was just made, after a write, invalidate or mount that answered `Flash` or `Damaged`, and
 /// after `power_up`; a read that fails may leave a stale one stale. The next call of a stale driver mounts first, and may answer the fault of that mount.
+/// It counts its mounts, writes, reads and invalidates, each once; the mount that a stale one makes by itself is not counted.
 pub trait Blocks {
     /// The blocks, and what the device tells. Room, operations and erases are told or not, as the driver has them.
     ghost state: { Self → BlocksState };
@@ -51,6 +52,7 @@ pub trait Blocks {
     fn mount(&mut self) -> Result<(), BlockFault>
         ensures values { SameValues (state self.old) (state self.new) }
         ensures calls { Calls (state self.old) (state self.new) result }
+        ensures once { CountsCall (state self.old) (state self.new) }
         ensures never_full { NeverFull result }
         ensures stale { Settles result (state self.new) }
 
@@ -64,6 +66,7 @@ pub trait Blocks {
         requires most { length bytes.now ≤ 128 }
         ensures changes { Changes (state self.old) (state self.new) block (holding bytes.now) (length bytes.now) result }
         ensures calls { Calls (state self.old) (state self.new) result }
+        ensures once { CountsCall (state self.old) (state self.new) }
         ensures stale { Settles result (state self.new) }
         ensures costs { Costs (state self.old) (state self.new) (length bytes.now) };
 
@@ -74,6 +77,7 @@ pub trait Blocks {
         ensures nothing { OnErr result (out.new ≡ out.old) }
         ensures values { SameValues (state self.old) (state self.new) }
         ensures calls { Calls (state self.old) (state self.new) result }
+        ensures once { CountsCall (state self.old) (state self.new) }
         ensures never_full { NeverFull result }
         ensures spent { SameSpent (state self.old) (state self.new) }
 
@@ -96,6 +100,7 @@ pub trait Blocks {
         requires { Contains (state self.old).numbers block }
         ensures changes { Changes (state self.old) (state self.new) block invalid 0 result }
         ensures calls { Calls (state self.old) (state self.new) result }
+        ensures once { CountsCall (state self.old) (state self.new) }
         ensures stale { Settles result (state self.new) }
         ensures costs { Costs (state self.old) (state self.new) 0 };
 

@@ -76,7 +76,8 @@ impl<B: Bench + Drop> Driver for Fee<B> {
         self.retire()
     }
 
-    ghost keeps = { λ c driver given room. is_on_sectors c driver.used driver.numbers driver.is_stale driver.has_mounted (B.state driver.flash) driver.least given room };
+    ghost keeps = { λ c driver given room. is_on_sectors c driver.used driver.numbers driver.is_stale driver.has_mounted driver.calls
+        (B.state driver.flash) driver.least given room };
 }
 
 impl<E: Eeprom + Drop> Driver for Ea<E> {
@@ -104,5 +105,5 @@ impl<E: Eeprom + Drop> Driver for Ea<E> {
         self.retire()
     }
 
-    ghost keeps = { λ c driver given room. is_on_units c driver.numbers driver.is_stale driver.has_mounted (E.state driver.device) given };
+    ghost keeps = { λ c driver given room. is_on_units c driver.numbers driver.is_stale driver.has_mounted driver.calls (E.state driver.device) given };
 }

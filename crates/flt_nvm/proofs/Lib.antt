@@ -3,3 +3,4 @@ pub mod Served
 pub mod Kept
 pub mod Found
 pub mod Looking
+pub mod Counting

@@ -49,10 +49,10 @@ module _ (before after : BlocksState) where
 
 module _ (block : ℕ) (before after : BlocksState) where
   look_ok : {S T : Type 0} (x : S) (y : T) → Looks block before after (Ok x) → Looks block before after (Ok y)
-  look_ok x y looks = record { reads = reads_ok before after x y looks.reads; costs = looks.costs }
+  look_ok x y looks = record { reads = reads_ok before after x y looks.reads; once = looks.once; costs = looks.costs }
 
   look_err : (S T : Type 0) (fault : BlockFault) → Looks {T = S} block before after (Err fault) → Looks {T = T} block before after (Err fault)
-  look_err S T fault looks = record { reads = reads_err before after S T fault looks.reads; costs = looks.costs }
+  look_err S T fault looks = record { reads = reads_err before after S T fault looks.reads; once = looks.once; costs = looks.costs }
 
 pub looks_ok : {S T : Type 0} (block most : ℕ) (before after : BlocksState) (x : S) (y : T) → Tries most (Looks block) before after (Ok x) → Tries most (Looks block) before after (Ok y)
 unfolding Tries

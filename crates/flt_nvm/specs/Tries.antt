@@ -1,8 +1,9 @@
 -- A job on one block of a driver: one call, tried again where the flash failed.
-use Rattle.std.specs.Prelude.{◌⊎◌, ℕ, zero, suc, Result, Err, IsErrOf, IsFalse, OnOk}
+use Rattle.std.specs.Prelude.{◌⊎◌, ◌+◌, ◌≤◌, ℕ, zero, suc, Result, Err, IsErrOf, IsFalse, OnOk}
 use Rattle.flt_flash.specs.Content.{Content}
+use Rattle.flt_flash.specs.State.{HasRisenBy}
 use Rattle.flt_flash.specs.Blocks.{BlocksState}
-use Rattle.flt_flash.specs.Calls.{Calls, Changes, Costs, NeverFull, ReadCosts, SameImage, SameSpent, SameValues, Settles}
+use Rattle.flt_flash.specs.Calls.{Calls, CountsCall, Changes, Costs, NeverFull, ReadCosts, SameImage, SameSpent, SameValues, Settles}
 use Rattle.flt_flash.specs.declared.blocks.BlockFault.{BlockFault}
 use Rattle.flt_flash.specs.declared.blocks.BlockFault.TheVariants.{Flash}
 
@@ -18,6 +19,7 @@ Tries (suc (suc more)) try before after result =
 pub record Mounts (before after : BlocksState) (result : Result (Unit {0}) BlockFault) : Type 0 where
   pub values : SameValues before after
   pub calls : Calls before after result
+  pub once : CountsCall before after
   pub never_full : NeverFull result
   pub stale : Settles result after
   pub spent : SameSpent before after
@@ -26,6 +28,7 @@ pub record Mounts (before after : BlocksState) (result : Result (Unit {0}) Block
 pub record Changing (block : ℕ) (asked : Content) (size : ℕ) (before after : BlocksState) (result : Result (Unit {0}) BlockFault) : Type 0 where
   pub changes : Changes before after block asked size result
   pub calls : Calls before after result
+  pub once : CountsCall before after
   pub stale : Settles result after
   pub costs : Costs before after size
 
@@ -42,4 +45,14 @@ pub record ReadsAlone {T : Type 0} (before after : BlocksState) (result : Result
 -- One read of a block.
 pub record Looks {T : Type 0} (block : ℕ) (before after : BlocksState) (result : Result T BlockFault) : Type 0 where
   pub reads : ReadsAlone before after result
+  pub once : CountsCall before after
   pub costs : ReadCosts before after block
+
+-- The driver counted one call at least, and so many at most.
+pub record CallsAtMost (limit : ℕ) (before after : BlocksState) : Type 0 where
+  pub least : HasRisenBy 1 before.calls after.calls
+  pub most : after.calls ≤ before.calls + limit
+
+-- Whatever a job of three tries does and answers, it makes three calls of the driver at most.
+abbrev pub TakesThreeCalls : {T : Type 0} → (BlocksState → BlocksState → Result T BlockFault → Type 0) → Type 0
+TakesThreeCalls {T} call = (before after : BlocksState) (result : Result T BlockFault) → Tries 3 call before after result → CallsAtMost 3 before after

@@ -9,6 +9,7 @@
 
 mod got;
 mod job;
+pub mod laws;
 mod nvm;
 mod table;
 

@@ -14,6 +14,7 @@ state_of driver = record {
   numbers = range_with_len 0 (length driver.cells.items);
   is_stale = driver.is_stale;
   has_mounted = driver.has_mounted;
+  calls = driver.calls;
   value = λ block. content_of (slice_index_or driver.cells.items block Missing);
   damage = None;
   room = None;

@@ -6,6 +6,7 @@
 #![tactic(auto)]
 
 ghost use Rattle.std.specs.Prelude.{◌≡◌, ◌+◌, ◌<◌, ◌≤◌, length, replicate, IfOk, IsTrue, IsFalse};
+ghost use Rattle.flt_flash.specs.State.{counted};
 ghost use Rattle.flt_flash.specs.Calls.{ReadsContent, found_of};
 ghost use Rattle.flt_stub.specs.Cells.{AllShort};
 
@@ -27,6 +28,7 @@ pub struct BlocksMem {
     cells: Vec<Cell>,
     is_stale: bool,
     has_mounted: bool,
+    calls: u64,
     boots: u16,
     boots_left: u16,
     ghost boots_fit: { boots + boots_left < 65536 },
@@ -90,18 +92,22 @@ impl BlocksMem {
             cells,
             is_stale: true,
             has_mounted: false,
+            calls: 0,
             boots: 0,
             boots_left: boots,
         })
     }
 
+    // Counts a call, and mounts.
     fn settle(&mut self)
+        ensures calls { self.new.calls ≡ counted self.old.calls }
         ensures settled { IsFalse self.new.is_stale }
         ensures mounted { IsTrue self.new.has_mounted }
         ensures cells { self.new.cells ≡ self.old.cells }
         ensures boots { self.new.boots ≡ self.old.boots }
         ensures boots_left { self.new.boots_left ≡ self.old.boots_left }
     {
+        self.calls = self.calls.saturating_add(1);
         self.has_mounted = true;
         self.is_stale = false;
     }

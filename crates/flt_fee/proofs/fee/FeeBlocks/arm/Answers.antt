@@ -1,9 +1,13 @@
 use Rattle.std.proofs.Common.{ap}
+use Rattle.flt_flash.specs.Blocks.{recounted}
+use Rattle.flt_flash.specs.State.{FlashState}
 use Rattle.flt_fee.specs.Fee.{state_by}
 use Rattle.flt_fee.proofs.fee.FeeBlocks.arm.Goals as goal
 
 pub returns : goal.returns
 returns g c = record {
   bench = c.arm.ensures.bench;
-  rest = ap (state_by c.args.self.now.used c.args.self.now.numbers c.args.self.now.is_stale c.args.self.now.has_mounted) c.arm.ensures.rest;
+  rest = ap
+      (λ (flash : FlashState). recounted c.args.self.now.calls (state_by c.args.self.now.used c.args.self.now.numbers c.args.self.now.is_stale c.args.self.now.has_mounted flash))
+      c.arm.ensures.rest;
 }

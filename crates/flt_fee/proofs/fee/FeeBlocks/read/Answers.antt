@@ -5,8 +5,9 @@ use Rattle.flt_flash.specs.Content.{size_of}
 use Rattle.flt_sector.specs.Blocks.{block_value}
 use Rattle.flt_fee.specs.declared.fee.Fee.{Fee}
 use Rattle.flt_fee.specs.Costs.{SpendsAtMost}
-use Rattle.flt_fee.specs.Fee.{state_by}
+use Rattle.flt_fee.specs.Fee.{state_by, uncounted_of}
 use Rattle.flt_flash.proofs.CallsInARow.{calls_after}
+use Rattle.flt_flash.proofs.Recounted.{calls_recounted}
 use Rattle.flt_fee.proofs.Costing.{read_costs}
 use Rattle.flt_fee.specs.Wear.{StaysEven}
 use Rattle.flt_fee.proofs.Wearing.{even_on, unless_fault, used_same}
@@ -17,8 +18,8 @@ returns-in-Ok-clause-calls g c =
     let old = c.args.self.now in
     let middle = c.settle.new.self in
     let new = c.find.new.self in
-    calls_after (state_by old.used old.numbers old.is_stale old.has_mounted (g.F.Flash.state old.flash)) (state_by middle.used middle.numbers middle.is_stale middle.has_mounted (g.F.Flash.state middle.flash))
-    (state_by new.used new.numbers new.is_stale new.has_mounted (g.F.Flash.state new.flash)) c.find.result c.in-Ok.ensures.calls.follows c.find.ensures.calls
+    calls_recounted old.calls new.calls (uncounted_of g.F.Flash.state old) (uncounted_of g.F.Flash.state new)
+    (calls_after (uncounted_of g.F.Flash.state old) (uncounted_of g.F.Flash.state middle) (uncounted_of g.F.Flash.state new) c.find.result c.in-Ok.ensures.calls.follows c.find.ensures.calls)
 
 pub returns-in-Ok-clause-costs : goal.returns-in-Ok-clause-costs
 returns-in-Ok-clause-costs g c =

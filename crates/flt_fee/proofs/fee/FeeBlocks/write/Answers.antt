@@ -1,6 +1,7 @@
-use Rattle.flt_fee.specs.Fee.{state_by}
+use Rattle.flt_fee.specs.Fee.{state_by, uncounted_of}
 use Rattle.flt_fee.specs.Wear.{StaysEven}
 use Rattle.flt_fee.proofs.Wearing.{unless_fault}
+use Rattle.flt_flash.proofs.Recounted.{calls_recounted, changes_recounted, costs_recounted}
 use Rattle.flt_fee.proofs.fee.FeeBlocks.write.Goals as goal
 
 pub returns-clause-even : goal.returns-clause-even
@@ -9,3 +10,15 @@ returns-clause-even g c =
     let new = c.put.new.self in
     unless_fault (state_by old.used old.numbers old.is_stale old.has_mounted (g.F.Flash.state old.flash)) (state_by new.used new.numbers new.is_stale new.has_mounted (g.F.Flash.state new.flash)) c.put.result
     (StaysEven old.used (g.F.Flash.state old.flash) (g.F.Flash.state new.flash)) c.put.ensures.calls c.put.ensures.even
+
+pub returns-clause-calls : goal.returns-clause-calls
+returns-clause-calls g c = calls_recounted c.args.self.now.calls c.put.new.self.calls (uncounted_of g.F.Flash.state c.args.self.now) (uncounted_of g.F.Flash.state c.put.new.self) c.put.ensures.calls
+
+pub returns-clause-changes : goal.returns-clause-changes
+returns-clause-changes g c = changes_recounted c.args.self.now.calls c.put.new.self.calls (uncounted_of g.F.Flash.state c.args.self.now) (uncounted_of g.F.Flash.state c.put.new.self) c.put.ensures.changes
+
+pub returns-clause-costs : goal.returns-clause-costs
+returns-clause-costs g c = costs_recounted c.args.self.now.calls c.put.new.self.calls (uncounted_of g.F.Flash.state c.args.self.now) (uncounted_of g.F.Flash.state c.put.new.self) c.put.ensures.costs
+
+pub returns-clause-stores : goal.returns-clause-stores
+returns-clause-stores g c = λ fresh none. (let stores = c.put.ensures.stores fresh none in record { behind = stores.behind; switched = stores.switched })

@@ -1,0 +1,46 @@
+-- What is said of calls of a driver does not depend on how many it counts.
+use Rattle.std.proofs.Common.{ℕ, Result}
+use Rattle.flt_flash.specs.Content.{Content}
+use Rattle.flt_flash.specs.Blocks.{BlocksState, IsFull, recounted}
+use Rattle.flt_flash.specs.Calls.{Follows, Calls, Changes, Costs}
+use Rattle.flt_flash.specs.declared.blocks.BlockFault.{BlockFault}
+
+module _ (earlier later : ℕ) (before after : BlocksState) where
+  pub follows_recounted : Follows before after → Follows (recounted earlier before) (recounted later after)
+  follows_recounted follows = record {
+    numbers = follows.numbers;
+    room = follows.room;
+    once_mounted = follows.once_mounted;
+    stays_spent = follows.stays_spent;
+    damage_stays = follows.damage_stays;
+    no_new_damage = follows.no_new_damage;
+    counts = follows.counts;
+    operations = follows.operations;
+    erases = follows.erases;
+    bench = follows.bench;
+  }
+
+  pub calls_recounted : {T : Type 0} {result : Result T BlockFault} → Calls before after result → Calls (recounted earlier before) (recounted later after) result
+  calls_recounted calls = record {
+    follows = follows_recounted calls.follows;
+    flash = calls.flash;
+    damaged = calls.damaged;
+    refuses_damage = calls.refuses_damage;
+  }
+
+  full_recounted : {size live needed : ℕ} → IsFull after size live needed → IsFull (recounted later after) size live needed
+  full_recounted full = record { live_is = full.live_is; needed_is = full.needed_is; past = full.past }
+
+  pub changes_recounted : {block : ℕ} {asked : Content} {size : ℕ} {result : Result (Unit {0}) BlockFault} → Changes before after block asked size result
+      → Changes (recounted earlier before) (recounted later after) block asked size result
+  changes_recounted changes = record {
+    done = changes.done;
+    failed = changes.failed;
+    others = changes.others;
+    full = λ live needed told. (full_recounted (changes.full live needed told).0, (changes.full live needed told).1);
+    spent = changes.spent;
+    damaged = changes.damaged;
+  }
+
+  pub costs_recounted : {size : ℕ} → Costs before after size → Costs (recounted earlier before) (recounted later after) size
+  costs_recounted costs = record { at_the_end = costs.at_the_end; at_most = costs.at_most }
