@@ -19,10 +19,11 @@ use std::thread::Threads;
 use std::{fs, io};
 
 /// The scripts by their names, each with the status that it ends with.
-const EXAMPLES: [(&str, u8); 28] = [
+const EXAMPLES: [(&str, u8); 31] = [
     ("cut", 0),
     ("cut_all", 0),
     ("cycles", 0),
+    ("dark", 0),
     ("did", 0),
     ("did_unknown", 2),
     ("did_wide", 2),
@@ -48,6 +49,8 @@ const EXAMPLES: [(&str, u8); 28] = [
     ("store_lane", 0),
     ("testers", 0),
     ("ticks", 0),
+    ("two_blocks", 0),
+    ("urgent", 0),
 ];
 
 /// How many bytes a report has at most.
