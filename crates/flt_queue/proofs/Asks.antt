@@ -1,9 +1,9 @@
 -- What is told of a block, and how a post of it is answered.
-use Rattle.std.proofs.Common.{rules, ◌≡◌, ◌≢◌, ◌∙◌, ℕ, ◌+◌, ◌<◌, ◌≤◌, if◌then◌else◌, nat_lt, nat_eq, Bool, true, false, refl, ap, sym, subst, length, arith, eqb-true, [], ◌∷◌, ◌++◌, List}
+use Rattle.std.proofs.Common.{rules, ◌≡◌, ◌≢◌, ◌∙◌, ℕ, ◌+◌, ◌<◌, ◌≤◌, if◌then◌else◌, nat_lt, nat_eq, Bool, true, false, refl, ap, sym, subst, length, arith, eqb-true, [], ◌∷◌}
 use Rattle.std.proofs.lemmas.List.{length-append}
 use Rattle.flt_queue.specs.declared.job.Job.{Job}
 use Rattle.flt_queue.specs.declared.job.LastResult.{LastResult}
-use Rattle.flt_queue.specs.declared.job.LastResult.TheVariants.{Never, Pending, Written, Failed}
+use Rattle.flt_queue.specs.declared.job.LastResult.TheVariants.{Never, Pending}
 use Rattle.flt_queue.specs.declared.job.QueueOp.TheVariants as ops
 use Rattle.flt_queue.specs.declared.job.QueueReply.TheVariants as replies
 use Rattle.flt_queue.specs.Queue.{History, waiting, pending, taken, last_of, result_of, answer_q}
