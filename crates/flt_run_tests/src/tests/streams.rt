@@ -117,5 +117,12 @@ fn streams_stutter(rt: HostRuntime) -> Result<(), Fail> {
     assert_eq!(rt; sink.push(b"de").is_ok(), false);
     assert_eq!(rt; sink.push(b"fg").is_ok(), true);
     assert_eq!(rt; sink.into_inner().bytes.as_slice(), b"abcfg".as_slice());
+
+    // An error that is no interruption is a fault at once.
+    let turns = vec![in alloc; Turn::Fails(ErrorKind::BrokenPipe)]?;
+    let mut sink = WriteSink::new(Stuttering::new(Vec::new(alloc), turns));
+    assert_eq!(rt; sink.push(b"a").is_ok(), false);
+    assert_eq!(rt; sink.push(b"b").is_ok(), true);
+    assert_eq!(rt; sink.into_inner().bytes.as_slice(), b"b".as_slice());
     Ok(())
 }
