@@ -96,10 +96,10 @@ module _ (before : FlashState) (shape : HasUnits before) (unit : ℕ) (gate : Ga
             where
               filled_behind : flat_map (λ u. u) (slice_range (set after unit laid) (unit + 1) (unit + 1 + byte_pages (length held))) ≡ on_pages held
               filled_behind =
-                ap (λ (l : List (List ℕ)). flat_map (λ u. u) l)
-                (same_range after (set after unit laid) (unit + 1) (unit + 5) (length-set after unit laid)
-                (λ k low lt. get_or-set_other after unit k laid [] (omega arith)) (unit + 1) (unit + 1 + byte_pages (length held)) (omega arith) (omega arith))
-                ∙ filled
+                  ap (λ (l : List (List ℕ)). flat_map (λ u. u) l)
+                  (same_range after (set after unit laid) (unit + 1) (unit + 5) (length-set after unit laid)
+                  (λ k low lt. get_or-set_other after unit k laid [] (omega arith)) (unit + 1) (unit + 1 + byte_pages (length held)) (omega arith) (omega arith))
+                  ∙ filled
 
           torn_gate : flat_map (λ u. u) (slice_range after (unit + 1) (unit + 1 + byte_pages (length held))) ≡ on_pages held → IsTornPage (get_or after unit []) asked laid
               → RecordLeft units (set after unit laid) unit gate held

@@ -74,7 +74,7 @@ module _ (pages : List (List ℕ)) (page block : ℕ) (held : List ℕ) (valid :
       where
         filled_behind : flat_map (λ p. p) (slice_range (set opened (page + 1 + byte_pages (length held)) last) (page + 1) (page + 1 + byte_pages (length held))) ≡ on_pages held
         filled_behind =
-          ap (λ (l : List (List ℕ)). flat_map (λ p. p) l)
-          (same_range opened (set opened (page + 1 + byte_pages (length held)) last) 0 (page + 1 + byte_pages (length held)) (length-set opened (page + 1 + byte_pages (length held)) last)
-          (λ k low lt. get_or-set_other opened (page + 1 + byte_pages (length held)) k last [] (omega arith)) (page + 1) (page + 1 + byte_pages (length held)) (omega arith) (omega arith))
-          ∙ filled
+            ap (λ (l : List (List ℕ)). flat_map (λ p. p) l)
+            (same_range opened (set opened (page + 1 + byte_pages (length held)) last) 0 (page + 1 + byte_pages (length held)) (length-set opened (page + 1 + byte_pages (length held)) last)
+            (λ k low lt. get_or-set_other opened (page + 1 + byte_pages (length held)) k last [] (omega arith)) (page + 1) (page + 1 + byte_pages (length held)) (omega arith) (omega arith))
+            ∙ filled

@@ -55,7 +55,7 @@ log-preserved c =
     let found = sym same ∙ item_told c.args.sector c.in-Ok-Kept.field-0 (item_at c.args.used c.args.numbers.now (sector_at (state_of c.log.copy).image c.args.sector) c.log.page) c.in-Ok-Kept.ensures.item
     ∙ ap Ok c.in-Ok-Kept.field-0-is in
     let next : c.log.page + 2 + byte_pages c.in-Ok-Kept.length ≡ c.from.result + 2 + c.from-in-Ok-Kept.result
-        = (λ i. sym c.from.ensures i + 2 + (sym c.byte_pages.ensures ∙ sym c.from-in-Ok-Kept.ensures) i) in
+    = (λ i. sym c.from.ensures i + 2 + (sym c.byte_pages.ensures ∙ sym c.from-in-Ok-Kept.ensures) i) in
     record {
       image = c.in-Ok-Kept.ensures.reads.image ∙ c.log.invariant.image;
       pages = c.in-Ok-Kept.ensures.reads.runs.pages ∙ c.log.invariant.pages;

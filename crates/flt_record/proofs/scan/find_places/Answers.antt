@@ -62,7 +62,7 @@ log-preserved g c =
     ∙ item_told c.args.sector c.in_ok-item.field-0 (item_at c.args.used c.args.numbers.now (sector_at (g.F.Flash.state c.log.flash).image c.args.sector) c.log.page) c.in_ok-item.ensures.item
     ∙ (λ i. Ok (c.in-Kept.is i)) in
     let next : c.log.page + 2 + byte_pages c.in-Kept.length ≡ c.from.result + 2 + c.from-in-Kept.result
-        = (λ i. sym c.from.ensures i + 2 + (sym c.byte_pages.ensures ∙ sym c.from-in-Kept.ensures) i) in
+    = (λ i. sym c.from.ensures i + 2 + (sym c.byte_pages.ensures ∙ sym c.from-in-Kept.ensures) i) in
     record {
       reads = reads_on c.log.invariant.reads c.in_ok-item.ensures.reads;
       goes_on = subst (GoesOn c.args.used c.args.numbers.now pages) next (kept_on c.args.used c.args.numbers.now pages c.log.page c.log.invariant.goes_on c.in-Kept.block c.in-Kept.length c.in-Kept.valid c.in-Kept.complete found);
