@@ -49,16 +49,14 @@ impl StateBlocks {
         StateBlocks { blocks }
     }
 
-    /// The blocks of a state that fits.
-    pub fn of(config: &ValidConfig, state: &Persist) -> StateBlocks
+    /// Gives each used block its bytes of a state that fits, in place of those that stand there.
+    pub fn put_all(&mut self, config: &ValidConfig, state: &Persist)
         requires { Fits config.now state.now }
-        ensures { AreBlocksOf config.now state.now (bytes_at result) }
+        ensures { AreBlocksOf config.now state.now (bytes_at self.new) }
     {
-        let mut blocks = StateBlocks::unknown();
         for id in FIRST_PART..END_PART {
-            blocks.put_used(config, state, id);
+            self.put_used(config, state, id);
         }
-        blocks
     }
 
     // Gives a block its bytes of a state, where it is used.

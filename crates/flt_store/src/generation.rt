@@ -124,49 +124,40 @@ fn write_blocks<B: Blocks + Drop>(
     Ok(())
 }
 
-/// A generation that was written.
-#[derive(Drop)]
-pub(crate) struct Written {
-    pub(crate) commit: Commit,
-    pub(crate) saved: StateBlocks,
-}
-
 /// Writes a generation: the blocks whose bytes are not those that were saved, or all where there is no commit, then the first
-/// copy of its commit, then the second.
+/// copy of its commit, then the second. The bytes of its blocks are put into `blocks`, in place of what stands there.
 pub(crate) fn write_generation<B: Blocks + Drop>(
     nvm: &mut Nvm<B>,
     config: &ValidConfig,
     state: &Persist,
     current: &Option<Commit>,
     saved: &StateBlocks,
-) -> Result<Written, BlockFault>
+    blocks: &mut StateBlocks,
+) -> Result<Commit, BlockFault>
     requires table { table_of nvm.old ≡ block_table }
     requires number { number_in current.now < last_number }
     requires fits { Fits config.now state.now }
     ensures done { (g : Generation) → IsStarted config.now (driver_of nvm.old).value current.now g → MayKnow config.now current.now (bytes_at saved.now) g.state
-        → IfOk result (λ written. IsStarted config.now (driver_of nvm.new).value (Some written.commit) (next_generation current.now state.now)) }
+        → IfOk result (λ commit. IsStarted config.now (driver_of nvm.new).value (Some commit) (next_generation current.now state.now)) }
     ensures either { (g : Generation) → IsStarted config.now (driver_of nvm.old).value current.now g
         → MayKnow config.now current.now (bytes_at saved.now) g.state
         → OldOrNew config.now (driver_of nvm.new).value g g (next_generation current.now state.now) }
     ensures spends { (most : ℕ) → IsFalse (driver_of nvm.old).is_stale → Spends most (driver_of nvm.old) (driver_of nvm.new)
         (6 + pages_to_write config.now current.now (bytes_at saved.now) (block_bytes state.now)) ((length (used_ids config.now) + 2) * most) }
     ensures fresh { OnOk result (IsFalse (driver_of nvm.new).is_stale) }
-    ensures next { IfOk result (λ written. IsNext config.now current.now (bytes_at saved.now) (bytes_at written.saved) written.commit) }
-    ensures encodes { IfOk result (λ written. AreBlocksOf config.now state.now (bytes_at written.saved)) }
-    ensures rewritten { IfOk result (λ written. AreCopiesOf written.commit (driver_of nvm.new).value) }
+    ensures next { IfOk result (IsNext config.now current.now (bytes_at saved.now) (bytes_at blocks.new)) }
+    ensures encodes { AreBlocksOf config.now state.now (bytes_at blocks.new) }
+    ensures rewritten { IfOk result (λ commit. AreCopiesOf commit (driver_of nvm.new).value) }
     ensures applications { SameApplications (driver_of nvm.old).value (driver_of nvm.new).value }
     ensures mark { (driver_of nvm.new).value mark_number ≡ (driver_of nvm.old).value mark_number }
     ensures writes { Writes (driver_of nvm.old) (driver_of nvm.new) result }
     ensures table { table_of nvm.new ≡ table_of nvm.old }
 {
-    let blocks = StateBlocks::of(config, state);
-    let commit = next_commit(config, current, saved, &blocks);
-    write_blocks(nvm, config, current, &commit, &blocks)?;
+    blocks.put_all(config, state);
+    let commit = next_commit(config, current, saved, blocks);
+    write_blocks(nvm, config, current, &commit, blocks)?;
     match nvm.write(COMMIT_ID, 0, &put_commit(&commit)) {
-        Ok(()) => Ok(Written {
-            commit,
-            saved: blocks,
-        }),
+        Ok(()) => Ok(commit),
         Err(fault) => Err(fault),
     }
 }

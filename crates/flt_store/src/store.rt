@@ -21,7 +21,7 @@ mod device;
 mod starting;
 
 use crate::fault::{SaveFault, save_fault};
-use crate::generation::{Written, write_generation};
+use crate::generation::write_generation;
 use crate::restarting::restart;
 use flt_config::{Persist, ValidConfig};
 use flt_flash::Blocks;
@@ -29,6 +29,7 @@ use flt_generation::LAST_NUMBER;
 use flt_image::{Commit, StateBlocks};
 use flt_nvm::Nvm;
 use flt_restore::read_blocks;
+use std::mem;
 
 /// The saved generations of a durable state, and the application blocks, in the blocks of a driver.
 ///
@@ -39,6 +40,8 @@ pub struct Store<B: Blocks + Drop> {
     nvm: Nvm<B>,
     commit: Option<Commit>,
     saved: StateBlocks,
+    // What the next save writes to.
+    next: StateBlocks,
     is_settled: bool,
     ghost numbers: { (driver_beneath nvm).numbers ≡ numbers },
     ghost table: { table_of nvm ≡ block_table },
@@ -68,6 +71,7 @@ impl<B: Blocks + Drop> Store<B> {
             nvm,
             commit: None,
             saved: StateBlocks::unknown(),
+            next: StateBlocks::unknown(),
             is_settled: false,
         }
     }
@@ -133,10 +137,18 @@ impl<B: Blocks + Drop> Store<B> {
         if number_in(&self.commit) == LAST_NUMBER {
             return Err(SaveFault::Spent);
         }
-        match write_generation(&mut self.nvm, config, state, &self.commit, &self.saved) {
-            Ok(Written { commit, saved }) => {
+        let written = write_generation(
+            &mut self.nvm,
+            config,
+            state,
+            &self.commit,
+            &self.saved,
+            &mut self.next,
+        );
+        match written {
+            Ok(commit) => {
                 self.commit = Some(commit);
-                self.saved = saved;
+                mem::swap(&mut self.saved, &mut self.next);
                 self.is_settled = true;
                 Ok(commit.generation)
             }

@@ -22,7 +22,7 @@ use crate::restarting::repair_by;
 use flt_config::{Persist, ValidConfig};
 use flt_flash::{BlockFault, Blocks};
 use flt_generation::Place;
-use flt_image::{Commit, Mark, StateBlocks, mark_of};
+use flt_image::{Commit, Mark, mark_of};
 use flt_nvm::Nvm;
 use flt_restore::{CommitCopy, Restored, StartFault, restore};
 
@@ -144,7 +144,7 @@ impl<B: Blocks + Drop> Store<B> {
                 Ok(commit) => {
                     let generation = number_in(&commit);
                     self.commit = commit;
-                    self.saved = StateBlocks::of(config, out);
+                    self.saved.put_all(config, out);
                     self.is_settled = true;
                     Ok(generation)
                 }

@@ -296,10 +296,13 @@ fn commits_are_read_of_their_own_configuration(rt: HostRuntime) {
                         let mut state = initial(&valid);
                         state.overflow = true;
                         assert!(&rt; fits(&valid, &state));
-                        let after = StateBlocks::of(&valid, &state);
+                        let mut before = StateBlocks::unknown();
+                        before.put_all(&valid, &first);
+                        let mut after = StateBlocks::unknown();
+                        after.put_all(&valid, &state);
                         for (before, states, both) in [
                             (StateBlocks::unknown(), 0, 1),
-                            (StateBlocks::of(&valid, &first), 1, 3),
+                            (before, 1, 3),
                         ] {
                             let next = next_commit(&valid, &Some(commit), &before, &after);
                             let bytes = put_commit(&next);

@@ -24,16 +24,16 @@ write_blocks-requires-clause-moves g c = writes_within c.args.config.now c.args.
 pub returns-in_err-write_blocks-clause-either : goal.returns-in_err-write_blocks-clause-either
 returns-in_err-write_blocks-clause-either g c = λ h started known.
     still_old c.args.config.now (driver_of c.write_blocks.new.nvm).value c.args.current.now h (next_generation c.args.current.now c.args.state.now)
-    (settled c.args.config.now c.args.current.now c.next_commit-commit.result (bytes_at c.of-blocks.result) (driver_of c.args.nvm.now).value (driver_of c.write_blocks.new.nvm).value c.write_blocks.ensures.only h
+    (settled c.args.config.now c.args.current.now c.next_commit-commit.result (bytes_at c.put_all.new.self) (driver_of c.args.nvm.now).value (driver_of c.write_blocks.new.nvm).value c.write_blocks.ensures.only h
     c.write_blocks.ensures.within started)
 
 pub returns-in_err-write_blocks-clause-applications : goal.returns-in_err-write_blocks-clause-applications
 returns-in_err-write_blocks-clause-applications g c = λ block below.
-    kept_application c.args.config.now c.args.current.now c.next_commit-commit.result (bytes_at c.of-blocks.result) (driver_of c.args.nvm.now).value (driver_of c.write_blocks.new.nvm).value c.write_blocks.ensures.only block
+    kept_application c.args.config.now c.args.current.now c.next_commit-commit.result (bytes_at c.put_all.new.self) (driver_of c.args.nvm.now).value (driver_of c.write_blocks.new.nvm).value c.write_blocks.ensures.only block
 
 pub returns-in_err-write_blocks-clause-mark : goal.returns-in_err-write_blocks-clause-mark
 returns-in_err-write_blocks-clause-mark g c =
-    kept_low c.args.config.now c.args.current.now c.next_commit-commit.result (bytes_at c.of-blocks.result) (driver_of c.args.nvm.now).value (driver_of c.write_blocks.new.nvm).value c.write_blocks.ensures.only 8 (omega arith)
+    kept_low c.args.config.now c.args.current.now c.next_commit-commit.result (bytes_at c.put_all.new.self) (driver_of c.args.nvm.now).value (driver_of c.write_blocks.new.nvm).value c.write_blocks.ensures.only 8 (omega arith)
 
 pub write-requires-clause-index : goal.write-requires-clause-index
 write-requires-clause-index g c = commit_index _ (c.write_blocks.ensures.table ∙ c.requires.table)
@@ -46,50 +46,50 @@ write-requires-clause-fits g c =
 pub returns-in-Ok-clause-done : goal.returns-in-Ok-clause-done
 returns-in-Ok-clause-done g c = λ h started known.
     taken c.write.result c.in-Ok.is
-    (commit_written c.args.config.now c.args.state.now c.args.current.now _ (bytes_at c.of-blocks.result) c.next_commit-commit.result c.next_commit-commit.ensures
-    (let most = c.requires.number in omega (arith, most)) c.requires.fits c.of-blocks.ensures (driver_of c.args.nvm.now) (driver_of c.write_blocks.new.nvm) (driver_of c.write.new.self)
+    (commit_written c.args.config.now c.args.state.now c.args.current.now _ (bytes_at c.put_all.new.self) c.next_commit-commit.result c.next_commit-commit.ensures
+    (let most = c.requires.number in omega (arith, most)) c.requires.fits c.put_all.ensures (driver_of c.args.nvm.now) (driver_of c.write_blocks.new.nvm) (driver_of c.write.new.self)
     c.write_blocks.ensures.only c.write_blocks.ensures.within c.in_ok-write_blocks.ensures.written c.put_commit.result c.put_commit.ensures c.write.result
     (commit_both _ (c.write_blocks.ensures.table ∙ c.requires.table) _ _ c.write.ensures.gives) h started known)
 
 pub returns-in-Ok-clause-either : goal.returns-in-Ok-clause-either
 returns-in-Ok-clause-either g c = λ h started known.
-    commit_tried c.args.config.now c.args.state.now c.args.current.now _ (bytes_at c.of-blocks.result) c.next_commit-commit.result c.next_commit-commit.ensures
-    (let most = c.requires.number in omega (arith, most)) c.requires.fits c.of-blocks.ensures (driver_of c.args.nvm.now) (driver_of c.write_blocks.new.nvm) (driver_of c.write.new.self)
+    commit_tried c.args.config.now c.args.state.now c.args.current.now _ (bytes_at c.put_all.new.self) c.next_commit-commit.result c.next_commit-commit.ensures
+    (let most = c.requires.number in omega (arith, most)) c.requires.fits c.put_all.ensures (driver_of c.args.nvm.now) (driver_of c.write_blocks.new.nvm) (driver_of c.write.new.self)
     c.write_blocks.ensures.only c.write_blocks.ensures.within c.in_ok-write_blocks.ensures.written c.put_commit.result c.put_commit.ensures c.write.result
     (commit_both _ (c.write_blocks.ensures.table ∙ c.requires.table) _ _ c.write.ensures.gives) h started known
 
 pub returns-in-Ok-clause-applications : goal.returns-in-Ok-clause-applications
 returns-in-Ok-clause-applications g c =
-    same_applications c.args.config.now c.args.state.now c.args.current.now _ (bytes_at c.of-blocks.result) c.next_commit-commit.result c.next_commit-commit.ensures
-    (let most = c.requires.number in omega (arith, most)) c.requires.fits c.of-blocks.ensures (driver_of c.args.nvm.now) (driver_of c.write_blocks.new.nvm) (driver_of c.write.new.self)
+    same_applications c.args.config.now c.args.state.now c.args.current.now _ (bytes_at c.put_all.new.self) c.next_commit-commit.result c.next_commit-commit.ensures
+    (let most = c.requires.number in omega (arith, most)) c.requires.fits c.put_all.ensures (driver_of c.args.nvm.now) (driver_of c.write_blocks.new.nvm) (driver_of c.write.new.self)
     c.write_blocks.ensures.only c.write_blocks.ensures.within c.in_ok-write_blocks.ensures.written c.put_commit.result c.put_commit.ensures c.write.result
     (commit_both _ (c.write_blocks.ensures.table ∙ c.requires.table) _ _ c.write.ensures.gives)
 
 pub returns-in-Ok-clause-mark : goal.returns-in-Ok-clause-mark
 returns-in-Ok-clause-mark g c =
-    same_mark c.args.config.now c.args.state.now c.args.current.now _ (bytes_at c.of-blocks.result) c.next_commit-commit.result c.next_commit-commit.ensures
-    (let most = c.requires.number in omega (arith, most)) c.requires.fits c.of-blocks.ensures (driver_of c.args.nvm.now) (driver_of c.write_blocks.new.nvm) (driver_of c.write.new.self)
+    same_mark c.args.config.now c.args.state.now c.args.current.now _ (bytes_at c.put_all.new.self) c.next_commit-commit.result c.next_commit-commit.ensures
+    (let most = c.requires.number in omega (arith, most)) c.requires.fits c.put_all.ensures (driver_of c.args.nvm.now) (driver_of c.write_blocks.new.nvm) (driver_of c.write.new.self)
     c.write_blocks.ensures.only c.write_blocks.ensures.within c.in_ok-write_blocks.ensures.written c.put_commit.result c.put_commit.ensures c.write.result
     (commit_both _ (c.write_blocks.ensures.table ∙ c.requires.table) _ _ c.write.ensures.gives)
 
 pub returns-in-Err-clause-either : goal.returns-in-Err-clause-either
 returns-in-Err-clause-either g c = λ h started known.
-    commit_tried c.args.config.now c.args.state.now c.args.current.now _ (bytes_at c.of-blocks.result) c.next_commit-commit.result c.next_commit-commit.ensures
-    (let most = c.requires.number in omega (arith, most)) c.requires.fits c.of-blocks.ensures (driver_of c.args.nvm.now) (driver_of c.write_blocks.new.nvm) (driver_of c.write.new.self)
+    commit_tried c.args.config.now c.args.state.now c.args.current.now _ (bytes_at c.put_all.new.self) c.next_commit-commit.result c.next_commit-commit.ensures
+    (let most = c.requires.number in omega (arith, most)) c.requires.fits c.put_all.ensures (driver_of c.args.nvm.now) (driver_of c.write_blocks.new.nvm) (driver_of c.write.new.self)
     c.write_blocks.ensures.only c.write_blocks.ensures.within c.in_ok-write_blocks.ensures.written c.put_commit.result c.put_commit.ensures c.write.result
     (commit_both _ (c.write_blocks.ensures.table ∙ c.requires.table) _ _ c.write.ensures.gives) h started known
 
 pub returns-in-Err-clause-applications : goal.returns-in-Err-clause-applications
 returns-in-Err-clause-applications g c =
-    same_applications c.args.config.now c.args.state.now c.args.current.now _ (bytes_at c.of-blocks.result) c.next_commit-commit.result c.next_commit-commit.ensures
-    (let most = c.requires.number in omega (arith, most)) c.requires.fits c.of-blocks.ensures (driver_of c.args.nvm.now) (driver_of c.write_blocks.new.nvm) (driver_of c.write.new.self)
+    same_applications c.args.config.now c.args.state.now c.args.current.now _ (bytes_at c.put_all.new.self) c.next_commit-commit.result c.next_commit-commit.ensures
+    (let most = c.requires.number in omega (arith, most)) c.requires.fits c.put_all.ensures (driver_of c.args.nvm.now) (driver_of c.write_blocks.new.nvm) (driver_of c.write.new.self)
     c.write_blocks.ensures.only c.write_blocks.ensures.within c.in_ok-write_blocks.ensures.written c.put_commit.result c.put_commit.ensures c.write.result
     (commit_both _ (c.write_blocks.ensures.table ∙ c.requires.table) _ _ c.write.ensures.gives)
 
 pub returns-in-Err-clause-mark : goal.returns-in-Err-clause-mark
 returns-in-Err-clause-mark g c =
-    same_mark c.args.config.now c.args.state.now c.args.current.now _ (bytes_at c.of-blocks.result) c.next_commit-commit.result c.next_commit-commit.ensures
-    (let most = c.requires.number in omega (arith, most)) c.requires.fits c.of-blocks.ensures (driver_of c.args.nvm.now) (driver_of c.write_blocks.new.nvm) (driver_of c.write.new.self)
+    same_mark c.args.config.now c.args.state.now c.args.current.now _ (bytes_at c.put_all.new.self) c.next_commit-commit.result c.next_commit-commit.ensures
+    (let most = c.requires.number in omega (arith, most)) c.requires.fits c.put_all.ensures (driver_of c.args.nvm.now) (driver_of c.write_blocks.new.nvm) (driver_of c.write.new.self)
     c.write_blocks.ensures.only c.write_blocks.ensures.within c.in_ok-write_blocks.ensures.written c.put_commit.result c.put_commit.ensures c.write.result
     (commit_both _ (c.write_blocks.ensures.table ∙ c.requires.table) _ _ c.write.ensures.gives)
 
@@ -105,7 +105,7 @@ returns-in-Ok-clause-spends g c = λ most settled.
     let jobs = commit_both _ (c.write_blocks.ensures.table ∙ c.requires.table) _ _ c.write.ensures.jobs in
     let size : length c.put_commit.result ≡ commit_length_2 = ap (λ (raw : List ℕ). length raw) c.put_commit.ensures ∙ commit_size c.next_commit-commit.result in
     let pages = ap record_pages size in
-    let written = written_pages c.args.config.now c.args.current.now c.next_commit-commit.result _ (bytes_at c.of-blocks.result) c.args.state.now c.next_commit-commit.ensures c.of-blocks.ensures in
+    let written = written_pages c.args.config.now c.args.current.now c.next_commit-commit.result _ (bytes_at c.put_all.new.self) c.args.state.now c.next_commit-commit.ensures c.put_all.ensures in
     let limit = limit_of_used c.args.config.now c.args.current.now c.next_commit-commit.result most in
     let times = add-mul (length (used_ids c.args.config.now)) 2 most in
     spends_less most (driver_of c.args.nvm.now) (driver_of c.write.new.self) _ _ _ _ (omega (arith, pages, written)) (omega (arith, limit, times))
@@ -118,7 +118,7 @@ returns-in-Err-clause-spends g c = λ most settled.
     let jobs = commit_both _ (c.write_blocks.ensures.table ∙ c.requires.table) _ _ c.write.ensures.jobs in
     let size : length c.put_commit.result ≡ commit_length_2 = ap (λ (raw : List ℕ). length raw) c.put_commit.ensures ∙ commit_size c.next_commit-commit.result in
     let pages = ap record_pages size in
-    let written = written_pages c.args.config.now c.args.current.now c.next_commit-commit.result _ (bytes_at c.of-blocks.result) c.args.state.now c.next_commit-commit.ensures c.of-blocks.ensures in
+    let written = written_pages c.args.config.now c.args.current.now c.next_commit-commit.result _ (bytes_at c.put_all.new.self) c.args.state.now c.next_commit-commit.ensures c.put_all.ensures in
     let limit = limit_of_used c.args.config.now c.args.current.now c.next_commit-commit.result most in
     let times = add-mul (length (used_ids c.args.config.now)) 2 most in
     spends_less most (driver_of c.args.nvm.now) (driver_of c.write.new.self) _ _ _ _ (omega (arith, pages, written)) (omega (arith, limit, times))
@@ -128,7 +128,7 @@ returns-in-Err-clause-spends g c = λ most settled.
 
 pub returns-in_err-write_blocks-clause-spends : goal.returns-in_err-write_blocks-clause-spends
 returns-in_err-write_blocks-clause-spends g c = λ most settled.
-    let written = written_pages c.args.config.now c.args.current.now c.next_commit-commit.result _ (bytes_at c.of-blocks.result) c.args.state.now c.next_commit-commit.ensures c.of-blocks.ensures in
+    let written = written_pages c.args.config.now c.args.current.now c.next_commit-commit.result _ (bytes_at c.put_all.new.self) c.args.state.now c.next_commit-commit.ensures c.put_all.ensures in
     let limit = limit_of_used c.args.config.now c.args.current.now c.next_commit-commit.result most in
     let times = add-mul (length (used_ids c.args.config.now)) 2 most in
     spends_less most (driver_of c.args.nvm.now) (driver_of c.write_blocks.new.nvm) _ _ _ _ (omega (arith, written)) (omega (arith, limit, times)) (c.write_blocks.ensures.spends most settled)

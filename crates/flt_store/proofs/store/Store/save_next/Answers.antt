@@ -1,8 +1,9 @@
-use Rattle.std.proofs.Common.{◌≡◌, ◌+◌, ℕ, Some, ◌∙◌, sym, subst, arith}
+use Rattle.std.proofs.Common.{◌≡◌, ◌+◌, ℕ, Some, ◌∙◌, ap, sym, subst, arith}
 use Rattle.flt_nvm.specs.Driver.{driver_of as driver_beneath}
 use Rattle.flt_store.specs.declared.fault.SaveFault.TheVariants.{Flash}
 use Rattle.flt_generation.specs.Form.{block_bytes}
 use Rattle.flt_image.specs.Blocks.{bytes_at}
+use Rattle.flt_image.specs.declared.blocks.StateBlocks.{StateBlocks}
 use Rattle.flt_store.specs.Store.{driver_of, commit_of, kept_of, numbered}
 use Rattle.flt_store.proofs.Changed.{some_same, same_commit, keeps_from, stand_at_zero, pages_by}
 use Rattle.flt_store.proofs.Costs.{spends_less, spends_nothing}
@@ -23,7 +24,7 @@ returns-then-number_in-clause-failed g c = λ h ready. still_old c.args.config.n
 pub returns-in-Err-clause-flash : goal.returns-in-Err-clause-flash
 returns-in-Err-clause-flash g c = λ h ready told.
     let before = driver_of c.args.self.now in
-    let after = driver_beneath c.write_generation.new.nvm in
+    let after = driver_beneath c.write_generation-written.new.nvm in
     let is : c.save_fault.result ≡ Flash = cc told in
     let left = c.in-Err.ensures.either h ready.started ready.known in
     resolved c.args.config.now ready.served.given before after c.in-Err.fault c.in-Err.ensures.writes c.args.self.now.numbers ready.served.room ready.served.mounted left.sound.holds.excess (c.save_fault.ensures.flash is)
@@ -31,21 +32,21 @@ returns-in-Err-clause-flash g c = λ h ready told.
 pub returns-in-Ok-clause-saved : goal.returns-in-Ok-clause-saved
 returns-in-Ok-clause-saved g c = λ h ready.
     let before = driver_of c.args.self.now in
-    let after = driver_beneath c.write_generation.new.nvm in
-    let number = c.in-Ok.field-0.commit.generation in
+    let after = driver_beneath c.write_generation-written.new.nvm in
+    let number = c.in-Ok.commit.generation in
     let started = c.in-Ok.ensures.done h ready.started ready.known in
     let is : number ≡ number_in (commit_of c.args.self.now) + 1 = c.in-Ok.ensures.next.number in
     let was : h.number ≡ number_in (commit_of c.args.self.now) = number_of_started c.args.config.now before.value (commit_of c.args.self.now) h ready.started.names in
     let new = numbered number c.args.state.now in
-    let now : IsStarted c.args.config.now after.value (Some c.in-Ok.field-0.commit) new =
-    subst (λ (n : ℕ). IsStarted c.args.config.now after.value (Some c.in-Ok.field-0.commit) (numbered n c.args.state.now)) (sym is) started in (
+    let now : IsStarted c.args.config.now after.value (Some c.in-Ok.commit) new =
+    subst (λ (n : ℕ). IsStarted c.args.config.now after.value (Some c.in-Ok.commit) (numbered n c.args.state.now)) (sym is) started in (
       omega (arith, is, was),
       record {
-        served = served_on c.args.config.now before after c.write_generation.ensures.writes.follows ready.served;
+        served = served_on c.args.config.now before after c.write_generation-written.ensures.writes.follows ready.served;
         mark = now.mark;
-        sound = sound_started c.args.config.now after.value (Some c.in-Ok.field-0.commit) new now;
+        sound = sound_started c.args.config.now after.value (Some c.in-Ok.commit) new now;
         settled = λ yes. now;
-        known = λ yes. c.in-Ok.ensures.encodes.bytes;
+        known = λ yes id used. ap (λ (kept : StateBlocks). bytes_at kept id) c.swap.ensures.x_after ∙ c.write_generation-written.ensures.encodes.bytes id used;
       },
     )
 
@@ -56,8 +57,8 @@ returns-in-Err-clause-last g c = λ h ready last.
 
 pub returns-in-Ok-clause-places : goal.returns-in-Ok-clause-places
 returns-in-Ok-clause-places g c = λ h ready knows.
-    keeps_from c.args.config.now (kept_of c.args.self.now) (bytes_at c.in-Ok.field-0.saved) h.state c.args.state.now c.in-Ok.ensures.encodes (driver_beneath c.write_generation.new.nvm).value
-    (commit_of c.args.self.now) c.in-Ok.field-0.commit _ knows (c.in-Ok.ensures.done h ready.started ready.known) c.in-Ok.ensures.next
+    keeps_from c.args.config.now (kept_of c.args.self.now) (bytes_at c.write_generation-written.new.blocks) h.state c.args.state.now c.write_generation-written.ensures.encodes (driver_beneath c.write_generation-written.new.nvm).value
+    (commit_of c.args.self.now) c.in-Ok.commit _ knows (c.in-Ok.ensures.done h ready.started ready.known) c.in-Ok.ensures.next
 
 pub returns-then-number_in-clause-spends : goal.returns-then-number_in-clause-spends
 returns-then-number_in-clause-spends g c = λ h most knows settled.
@@ -66,20 +67,25 @@ returns-then-number_in-clause-spends g c = λ h most knows settled.
 pub returns-in-Ok-clause-spends : goal.returns-in-Ok-clause-spends
 returns-in-Ok-clause-spends g c = λ h most knows settled.
     let pages = pages_by c.args.config.now (kept_of c.args.self.now) (block_bytes h.state) (block_bytes c.args.state.now) knows (commit_of c.args.self.now) in
-    spends_less most (driver_of c.args.self.now) (driver_beneath c.write_generation.new.nvm) _ _ _ _ (omega (arith, pages)) (omega arith) (c.write_generation.ensures.spends most settled)
+    spends_less most (driver_of c.args.self.now) (driver_beneath c.write_generation-written.new.nvm) _ _ _ _ (omega (arith, pages)) (omega arith) (c.write_generation-written.ensures.spends most settled)
 
 pub returns-in-Err-clause-spends : goal.returns-in-Err-clause-spends
 returns-in-Err-clause-spends g c = λ h most knows settled.
     let pages = pages_by c.args.config.now (kept_of c.args.self.now) (block_bytes h.state) (block_bytes c.args.state.now) knows (commit_of c.args.self.now) in
-    spends_less most (driver_of c.args.self.now) (driver_beneath c.write_generation.new.nvm) _ _ _ _ (omega (arith, pages)) (omega arith) (c.write_generation.ensures.spends most settled)
+    spends_less most (driver_of c.args.self.now) (driver_beneath c.write_generation-written.new.nvm) _ _ _ _ (omega (arith, pages)) (omega arith) (c.write_generation-written.ensures.spends most settled)
 
 pub returns-in-Ok-clause-first : goal.returns-in-Ok-clause-first
 returns-in-Ok-clause-first g c = λ h ready zero.
-    stand_at_zero c.args.config.now (driver_of c.args.self.now).value (driver_beneath c.write_generation.new.nvm).value (commit_of c.args.self.now) (kept_of c.args.self.now) (bytes_at c.in-Ok.field-0.saved) c.in-Ok.field-0.commit h _
+    stand_at_zero c.args.config.now (driver_of c.args.self.now).value (driver_beneath c.write_generation-written.new.nvm).value (commit_of c.args.self.now) (kept_of c.args.self.now) (bytes_at c.write_generation-written.new.blocks) c.in-Ok.commit h _
     ready.started zero (c.in-Ok.ensures.done h ready.started ready.known) c.in-Ok.ensures.next
 
 pub returns-in-Ok-clause-rewritten : goal.returns-in-Ok-clause-rewritten
 returns-in-Ok-clause-rewritten g c = λ h ready commit has.
-    let after = (driver_beneath c.write_generation.new.nvm).value in
-    let same = some_same c.in-Ok.field-0.commit commit (same_commit c.args.config.now after (Some c.in-Ok.field-0.commit) _ (c.in-Ok.ensures.done h ready.started ready.known) commit has) in
+    let after = (driver_beneath c.write_generation-written.new.nvm).value in
+    let same = some_same c.in-Ok.commit commit (same_commit c.args.config.now after (Some c.in-Ok.commit) _ (c.in-Ok.ensures.done h ready.started ready.known) commit has) in
     subst (λ (found : Commit). AreCopiesOf found after) same c.in-Ok.ensures.rewritten
+
+pub returns-in-Ok-clause-last : goal.returns-in-Ok-clause-last
+returns-in-Ok-clause-last g c = λ h ready last.
+    let was : h.number ≡ number_in (commit_of c.args.self.now) = number_of_started c.args.config.now (driver_of c.args.self.now).value (commit_of c.args.self.now) h ready.started.names in
+    absurd (c.if-number_in.false (c.number_in.ensures ∙ sym was ∙ last))

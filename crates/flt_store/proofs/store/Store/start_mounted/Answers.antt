@@ -56,7 +56,7 @@ returns-in-Ok-begin_by-clause-started g c =
         mark = now.mark;
         sound = sound_started c.args.config.now third.value c.in-Ok-begin_by.commit (numbered number c.restore.new.out) now;
         settled = λ yes. now;
-        known = λ yes. c.of-self.ensures.bytes;
+        known = λ yes. c.put_all.ensures.bytes;
       };
       settled = refl;
     }
@@ -92,8 +92,8 @@ pub returns-in-Err-clause-left : goal.returns-in-Err-clause-left
 returns-in-Err-clause-left g c = λ h s sound.
     both_old c.args.config.now (driver_beneath c.restore.new.nvm).value h s h (sound_kept c.args.config.now (driver_of c.args.self.now).value (driver_beneath c.restore.new.nvm).value h s c.restore.ensures.values sound)
 
-pub of-self-requires : goal.of-self-requires
-of-self-requires g c =
+pub put_all-requires : goal.put_all-requires
+put_all-requires g c =
     restored_fits c.args.config.now c.mark_of-mark.ensures.given (driver_of c.args.self.now) (driver_beneath c.restore.new.nvm) c.in-Ok.found.commit c.restore.new.out c.restore.ensures.values c.in-Ok.ensures.restored.restored
 
 pub returns-in-Ok-begin_by-clause-fits : goal.returns-in-Ok-begin_by-clause-fits
