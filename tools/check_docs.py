@@ -1,0 +1,129 @@
+#!/usr/bin/env python3
+"""Checks the pages of the repository, and ends with 1 where one is wrong.
+
+It looks at README.md, docs/ and tools/. Each name that a page says to stand in a crate, or in a file of its definitions, stands there; each
+file that a page links or names by its path is there; and each report that a page shows is what its script prints: of a script in
+crates/examples/data the report beside it has those lines, and a script in a page is run, where the program is built.
+"""
+import glob
+import os
+import re
+import subprocess
+import sys
+
+TOP = os.path.dirname(os.path.dirname(os.path.abspath(__file__)))
+PROGRAM = f"{TOP}/crates/faultmem/out/faultmem"
+NAMED = re.compile(
+    r"`([A-Za-z_:]+)`(?:, `([A-Za-z_:]+)`)? of \[?`?(?:\.\./)?(?:crates/)?(flt_[a-z_]+)`?\]?(?:/specs/([A-Za-z]+)\.antt)?(?:, `specs/([A-Za-z]+)\.antt`)?"
+)
+LINK = re.compile(r"\]\(([^)#\s]+)(?:#[^)]*)?\)")
+PATH = re.compile(r"`((?:crates|docs|bench|tools)/[A-Za-z0-9_./-]*[A-Za-z0-9_])`")
+SCRIPT = re.compile(r"crates/examples/data/([a-z_0-9]+)\.script")
+
+
+def text_of(path):
+    with open(path, encoding="utf-8") as it:
+        return it.read()
+
+
+def words_of(crate, found={}):
+    """Returns the sources and definitions of a crate, one behind the other."""
+    if crate not in found:
+        files = glob.glob(f"{TOP}/crates/{crate}/**/*", recursive=True)
+        found[crate] = "".join(text_of(it) for it in files if it.endswith((".rt", ".antt")) and "/out/" not in it)
+    return found[crate]
+
+
+def wrong_names(text):
+    for match in NAMED.finditer(text):
+        for name in match.group(1, 2):
+            if not name:
+                continue
+            crate, module = match.group(3), match.group(4) or match.group(5)
+            word = re.compile(rf"\b{re.escape(name.split('::')[-1])}\b")
+            if not word.search(words_of(crate)):
+                yield f"{name} does not stand in {crate}"
+            path = f"{TOP}/crates/{crate}/specs/{module}.antt"
+            if module and not (os.path.exists(path) and word.search(text_of(path))):
+                yield f"{name} does not stand in {module} of {crate}"
+
+
+def wrong_rows(text):
+    """Names in the last cell of a row that begins with a crate, where none of the crates that the row names has them."""
+    for line in text.split("\n"):
+        cells = [cell.strip() for cell in line.split(" | ")]
+        begins = re.match(r"\| (flt_[a-z_]+)$", cells[0])
+        if not begins or len(cells) < 3:
+            continue
+        crates = {begins.group(1), *re.findall(r"flt_[a-z_]+", cells[-1])}
+        for name in re.findall(r"`([A-Za-z_:]+)`", cells[-1]):
+            word = re.compile(rf"\b{re.escape(name.split('::')[-1])}\b")
+            if not any(word.search(words_of(crate)) for crate in crates):
+                yield f"{name} does not stand in {begins.group(1)}"
+
+
+def missing_files(page, text):
+    for link in LINK.findall(text):
+        if "://" not in link and not os.path.exists(os.path.join(os.path.dirname(page), link)):
+            yield f"the link {link} leads nowhere"
+    for path in PATH.findall(text):
+        if not os.path.exists(f"{TOP}/{path}"):
+            yield f"there is no {path}"
+
+
+def blocks_of(text):
+    """Yields the fenced and indented blocks of a page: the lines of each, whether it is fenced, and the text since the block before."""
+    since, block, fenced = [], [], False
+    for line in text.split("\n") + [""]:
+        if line.startswith("```"):
+            if fenced:
+                yield block, True, "\n".join(since)
+                since, block = [], []
+            fenced = not fenced
+        elif fenced or line.startswith("    "):
+            block.append(line if fenced else line[4:])
+        else:
+            if block:
+                yield block, False, "\n".join(since)
+                since, block = [], []
+            since.append(line)
+
+
+def has_lines(lines, wanted):
+    return any(lines[at : at + len(wanted)] == wanted for at in range(len(lines) - len(wanted) + 1))
+
+
+def wrong_reports(text):
+    script, name = None, None
+    for block, is_fenced, before in blocks_of(text):
+        if before.strip() and not is_fenced and re.search(r"^#", before, re.M):
+            script, name = None, None
+        named = SCRIPT.findall("\n".join([before] + block))
+        name = named[-1] if named else name
+        is_report = re.match(r"life 1 ", block[0])
+        if is_fenced and not is_report:
+            script = block
+        elif is_report and script is not None:
+            if os.access(PROGRAM, os.X_OK):
+                ran = subprocess.run([PROGRAM, "run"], input="\n".join(script) + "\n", capture_output=True, text=True)
+                if ran.stdout != "\n".join(block) + "\n":
+                    yield f"the script that begins with '{script[0]}' prints another report"
+        elif is_report and name is not None:
+            report = f"{TOP}/crates/examples/data/{name}.report"
+            if not os.path.exists(report) or not has_lines(text_of(report).split("\n"), block):
+                yield f"{name}.script prints another report"
+
+
+def main():
+    wrong = 0
+    for page in sorted([f"{TOP}/README.md", *glob.glob(f"{TOP}/docs/*.md"), *glob.glob(f"{TOP}/tools/*.md")]):
+        text = text_of(page)
+        for what in [*wrong_names(text), *wrong_rows(text), *missing_files(page, text), *wrong_reports(text)]:
+            print(f"{os.path.relpath(page, TOP)}: {what}")
+            wrong += 1
+    print(f"pages: {'each is right' if not wrong else f'{wrong} faults'}")
+    return 1 if wrong else 0
+
+
+if __name__ == "__main__":
+    sys.exit(main())

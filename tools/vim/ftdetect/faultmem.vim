@@ -1,0 +1,2 @@
+" A script of faultmem.
+autocmd BufNewFile,BufRead *.script setfiletype faultmem
