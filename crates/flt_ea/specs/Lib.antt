@@ -1,5 +1,4 @@
 pub mod State
-pub mod Boots
 pub mod Memory
 pub mod Shape
 pub mod Gate

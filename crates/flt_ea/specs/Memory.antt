@@ -1,9 +1,9 @@
 -- What an EEPROM in memory means.
 use Rattle.std.specs.Prelude.{◌-◌, [], ◌∷◌, map, take, length, if◌then◌else◌, Some, None}
 use Rattle.flt_flash.specs.State.{FlashState}
+use Rattle.flt_flash.specs.Boots.{one_sector}
 use Rattle.flt_flash.specs.Power.{PowerState, power_state}
 use Rattle.flt_ea.specs.declared.memory.EepromMem.{EepromMem}
-use Rattle.flt_ea.specs.Boots.{boot_of}
 
 -- The device as every user of an EEPROM sees it.
 abbrev pub state_of : EepromMem → FlashState
@@ -15,7 +15,7 @@ state_of device = record {
   operations = device.power.operations;
   wear = [];
   bench = record {
-    boots = map boot_of (take device.boots_used device.boots.items);
+    boots = map one_sector (take device.boots_used device.boots.items);
     boots_left = length device.boots.items - device.boots_used;
     arms = if device.tells_arms then Some device.made.items else None;
     armed = length device.power.standing.items;

@@ -6,7 +6,6 @@
 //! hold.
 #![tactic(auto)]
 
-mod boot;
 mod ea;
 mod eeprom;
 mod gate;

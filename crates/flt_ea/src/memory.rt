@@ -1,18 +1,19 @@
 // An EEPROM in memory, and the bench that cuts its power and makes its operations fail.
-ghost use Rattle.std.specs.Prelude.{◌≡◌, false, ◌<◌, ◌≤◌, [], ◌∷◌, ◌++◌, length, replicate, Some, IfNone, IfSome, OnSome, is_err, is_some, OnOk, OnErr, IfOk, slice_set};
-ghost use Rattle.flt_flash.specs.declared.arm.Pattern.TheVariants.{Nothing};
+ghost use Rattle.std.specs.Prelude.{◌≡◌, false, ◌<◌, ◌≤◌, [], ◌∷◌, ◌++◌, length, replicate, IfSome, is_err, is_some, OnOk, OnErr, IfOk};
 ghost use Rattle.flt_flash.specs.State.{Operates, CanArm, Arms, PowersUp};
-ghost use Rattle.flt_flash.specs.Tearing.{IsTornSector, IsTorn};
+ghost use Rattle.flt_flash.specs.Tearing.{IsTorn};
 ghost use Rattle.flt_flash.specs.Image.{sector_at, blank_page, ArePages};
 ghost use Rattle.flt_flash.specs.Arms.{IsProgrammedBy, told_with};
 ghost use Rattle.flt_flash.specs.Power.{first_power};
 ghost use Rattle.flt_ea.specs.State.{unit_at, written, in_units, first_units};
-ghost use Rattle.flt_ea.specs.Boots.{HaveRoom};
+ghost use Rattle.flt_flash.specs.Boots.{HaveRoom};
 
 use crate::Eeprom;
-use crate::boot::SavedUnits;
 use arrayvec::ArrayVec;
-use flt_flash::{Arm, ArmMade, BLANK_PAGE, FlashFailed, Pattern, Power, tear_page};
+use flt_flash::{
+    Arm, ArmMade, FlashFailed, Power, SavedBoot, blank_pages, outcome, pages_of, reserved_boots,
+    write_page,
+};
 use std::alloc::{AllocError, Global};
 
 /// An EEPROM in memory that tells everything, its arms while at most 64 were made. It takes its memory when it is made.
@@ -22,7 +23,7 @@ pub struct EepromMem {
     power: Power,
     made: ArrayVec<ArmMade, 64>,
     tells_arms: bool,
-    boots: Vec<SavedUnits>,
+    boots: Vec<SavedBoot>,
     boots_used: u16,
     ghost most: { length image.items < 65536 },
     ghost image_bytes: { ArePages image.items },
@@ -39,7 +40,7 @@ impl EepromMem {
         ensures state { IfOk result (λ device. state_of device ≡ first_units (replicate units blank_page) boots) }
         ensures power { IfOk result (λ device. power_of device ≡ first_power) }
     {
-        let image = blank_units(alloc, units as usize)?;
+        let image = blank_pages(alloc, units as usize)?;
         Self::of(alloc, image, boots)
     }
 
@@ -49,7 +50,7 @@ impl EepromMem {
         ensures state { IfOk result (λ device. state_of device ≡ first_units image.items boots) }
         ensures power { IfOk result (λ device. power_of device ≡ first_power) }
     {
-        let image = units_of(alloc, &image)?;
+        let image = pages_of(alloc, &image)?;
         let boots = reserved_boots(alloc, image.len(), boots)?;
         Ok(EepromMem {
             image,
@@ -192,61 +193,5 @@ fn in_units(arm: Arm) -> Arm
             }
         }
         _ => arm,
-    }
-}
-
-fn blank_units(alloc: Global, units: usize) -> Result<Vec<[u8; 32]>, AllocError>
-    ensures { IfOk result (λ made. made.items ≡ replicate units blank_page) }
-{
-    let mut made = Vec::with_capacity(alloc, units)?;
-    for _unit in 0..units {
-        made.push(BLANK_PAGE)?;
-    }
-    Ok(made)
-}
-
-fn units_of(alloc: Global, units: &[[u8; 32]]) -> Result<Vec<[u8; 32]>, AllocError>
-    ensures items { IfOk result (λ made. made.items ≡ units.now) }
-    ensures bytes { IfOk result (λ made. ArePages made.items) }
-{
-    let mut made = Vec::with_capacity(alloc, units.len())?;
-    for unit in units {
-        made.push(*unit)?;
-    }
-    Ok(made)
-}
-
-// The room of this many power-ups, which is filled as they come.
-fn reserved_boots(alloc: Global, units: usize, boots: u16) -> Result<Vec<SavedUnits>, AllocError>
-    ensures number { IfOk result (λ made. length made.items ≡ boots) }
-    ensures room { IfOk result (λ made. HaveRoom units made.items) }
-{
-    let mut made = Vec::with_capacity(alloc, boots as usize)?;
-    for _boot in 0..boots {
-        made.push(SavedUnits::reserved(alloc, units)?)?;
-    }
-    Ok(made)
-}
-
-// Writes a unit, or tears it.
-fn write_page(pages: &mut Vec<[u8; 32]>, page: usize, bytes: &[u8; 32], failing: Option<Pattern>)
-    requires { page < length pages.old.items }
-    ensures whole { IfNone failing (pages.new.items ≡ slice_set pages.old.items page bytes.now) }
-    ensures torn { OnSome failing (IsTornSector pages.old.items (slice_set pages.old.items page bytes.now) pages.new.items) }
-    ensures by_pattern { IfSome failing (λ pattern. IsProgrammedBy pattern pages.old.items page bytes.now pages.new.items) }
-    ensures untouched { failing ≡ Some Nothing → pages.new.items ≡ pages.old.items }
-{
-    match failing {
-        None => pages[page] = *bytes,
-        Some(pattern) => tear_page(&mut pages[page], bytes, pattern, 16),
-    }
-}
-
-fn outcome(failing: Option<Pattern>) -> Result<(), FlashFailed>
-    ensures { is_err result ≡ is_some failing }
-{
-    match failing {
-        None => Ok(()),
-        Some(_) => Err(FlashFailed),
     }
 }

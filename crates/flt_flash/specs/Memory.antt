@@ -2,7 +2,7 @@
 use Rattle.std.specs.Prelude.{◌-◌, [], ◌∷◌, map, take, length, if◌then◌else◌, Some, None}
 use Rattle.flt_flash.specs.declared.memory.FlashMem.{FlashMem}
 use Rattle.flt_flash.specs.State.{FlashState}
-use Rattle.flt_flash.specs.Boots.{boot_of}
+use Rattle.flt_flash.specs.Boots.{two_sectors}
 use Rattle.flt_flash.specs.Power.{PowerState, power_state}
 
 -- The flash as every user of a flash sees it.
@@ -15,7 +15,7 @@ state_of flash = record {
   operations = flash.power.operations;
   wear = flash.first_wear ∷ flash.second_wear ∷ [];
   bench = record {
-    boots = map boot_of (take flash.boots_used flash.boots.items);
+    boots = map (two_sectors flash.pages) (take flash.boots_used flash.boots.items);
     boots_left = length flash.boots.items - flash.boots_used;
     arms = if flash.tells_arms then Some flash.made.items else None;
     armed = length flash.power.standing.items;

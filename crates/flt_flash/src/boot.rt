@@ -1,67 +1,77 @@
-// The images that the power-ups of a flash in memory found.
-ghost use Rattle.std.specs.Prelude.{◌≡◌, ◌<◌, ◌≤◌, length, vec_capacity, IfOk};
+// The images that the power-ups of a device in memory found.
+ghost use Rattle.std.specs.Prelude.{◌≡◌, ◌+◌, ◌*◌, ◌<◌, ◌≤◌, [], ◌∷◌, ◌++◌, length, vec_capacity, IfOk};
 ghost use Rattle.flt_flash.specs.Image.{page_at};
+ghost use Rattle.flt_flash.specs.Boots.{HaveRoom};
 
 use std::alloc::{AllocError, Global};
 
-/// The count of faults and the two sectors at a power-up, or the room for them.
+/// The count of faults and the image at a power-up, or the room for them.
 #[derive(Drop)]
-pub(crate) struct SavedBoot {
-    pub(crate) faults: u64,
-    pub(crate) first: Vec<[u8; 32]>,
-    pub(crate) second: Vec<[u8; 32]>,
+pub struct SavedBoot {
+    pub faults: u64,
+    /// The pages of the image; where it has two sectors those of the second stand behind those of the first.
+    pub pages: Vec<[u8; 32]>,
 }
 
 impl SavedBoot {
-    ghost use Rattle.flt_flash.specs.Boots.{boot_of, HasSectorRoom};
+    ghost use Rattle.flt_flash.specs.Boots.{two_sectors, HasRoom};
 
-    /// Room for an image of two sectors of this many pages, and no page as yet. The error is want of memory.
-    pub(crate) fn reserved(alloc: Global, pages: usize) -> Result<SavedBoot, AllocError>
-        ensures { IfOk result (HasSectorRoom pages) }
+    /// Room for an image of so many pages, and no page as yet. The error is want of memory.
+    fn reserved(alloc: Global, pages: usize) -> Result<SavedBoot, AllocError>
+        ensures { IfOk result (HasRoom pages) }
     {
         Ok(SavedBoot {
             faults: 0,
-            first: Vec::with_capacity(alloc, pages)?,
-            second: Vec::with_capacity(alloc, pages)?,
+            pages: Vec::with_capacity(alloc, pages)?,
         })
     }
 
-    /// Takes an image into the room for it.
-    pub(crate) fn save(&mut self, faults: u64, first: &[[u8; 32]], second: &[[u8; 32]])
-        requires first { length first.now ≤ vec_capacity self.old.first }
-        requires second { length second.now ≤ vec_capacity self.old.second }
+    /// Takes an image of one sector into the room for it.
+    pub fn save(&mut self, faults: u64, pages: &[[u8; 32]])
+        requires { length pages.now ≤ vec_capacity self.old.pages }
         ensures faults { self.new.faults ≡ faults }
-        ensures first { self.new.first.items ≡ first.now }
-        ensures second { self.new.second.items ≡ second.now }
-        ensures first_room { vec_capacity self.old.first ≤ vec_capacity self.new.first }
-        ensures second_room { vec_capacity self.old.second ≤ vec_capacity self.new.second }
+        ensures pages { self.new.pages.items ≡ pages.now }
+        ensures room { vec_capacity self.old.pages ≤ vec_capacity self.new.pages }
     {
         self.faults = faults;
-        take_over(&mut self.first, first);
-        take_over(&mut self.second, second);
+        self.pages.clear();
+        self.pages.extend_from_slice(pages).unwrap();
     }
 
-    /// A page of the saved image.
-    pub(crate) fn page(&self, sector: u8, page: u16) -> &[u8; 32]
+    /// Takes an image of two sectors into the room for it.
+    pub(crate) fn save_two(&mut self, faults: u64, first: &[[u8; 32]], second: &[[u8; 32]])
+        requires { length first.now + length second.now ≤ vec_capacity self.old.pages }
+        ensures boot { two_sectors (length first.now) self.new ≡ record { faults = faults; image = first.now ∷ second.now ∷ [] } }
+        ensures size { length self.new.pages.items ≡ length first.now + length second.now }
+        ensures room { vec_capacity self.old.pages ≤ vec_capacity self.new.pages }
+    {
+        self.save(faults, first);
+        self.pages.extend_from_slice(second).unwrap();
+    }
+
+    /// A page of the saved image, which has two sectors of this many pages.
+    pub(crate) fn page(&self, pages: u16, sector: u8, page: u16) -> &[u8; 32]
         requires sector { sector < 2 }
-        requires first { page < length self.now.first.items }
-        requires second { page < length self.now.second.items }
-        ensures { result.now ≡ page_at (boot_of self.now).image sector page }
+        requires page { page < pages }
+        requires size { length self.now.pages.items ≡ 2 * pages }
+        ensures { result.now ≡ page_at (two_sectors pages self.now).image sector page }
     {
         if sector == 0 {
-            &self.first[page as usize]
+            &self.pages[page as usize]
         } else {
-            &self.second[page as usize]
+            &self.pages[pages as usize + page as usize]
         }
     }
 }
 
-// Puts these pages in the place of those that stand there, and takes no memory.
-fn take_over(pages: &mut Vec<[u8; 32]>, from: &[[u8; 32]])
-    requires { length from.now ≤ vec_capacity pages.old }
-    ensures items { pages.new.items ≡ from.now }
-    ensures room { vec_capacity pages.old ≤ vec_capacity pages.new }
+/// The room of this many power-ups of a device of so many pages, which is filled as they come. The error is want of memory.
+pub fn reserved_boots(alloc: Global, pages: usize, boots: u16) -> Result<Vec<SavedBoot>, AllocError>
+    ensures number { IfOk result (λ made. length made.items ≡ boots) }
+    ensures room { IfOk result (λ made. HaveRoom pages made.items) }
 {
-    pages.clear();
-    pages.extend_from_slice(from).unwrap();
+    let mut made = Vec::with_capacity(alloc, boots as usize)?;
+    for _boot in 0..boots {
+        made.push(SavedBoot::reserved(alloc, pages)?)?;
+    }
+    Ok(made)
 }

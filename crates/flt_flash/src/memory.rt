@@ -1,5 +1,5 @@
 // A flash in memory, and the bench that cuts its power and makes its operations fail.
-ghost use Rattle.std.specs.Prelude.{◌≡◌, false, ℕ, ◌^◌, ◌+◌, ◌-◌, ◌/◌, ◌%◌, ◌<◌, ◌≤◌, take, drop, [], ◌∷◌, ◌++◌, length, replicate, Some, IfNone, IfSome, OnSome, is_err, is_some, OnOk, OnErr, IfOk, slice_index, slice_set};
+ghost use Rattle.std.specs.Prelude.{◌≡◌, false, ℕ, ◌^◌, ◌+◌, ◌-◌, ◌*◌, ◌/◌, ◌%◌, ◌<◌, ◌≤◌, take, drop, [], ◌∷◌, ◌++◌, length, replicate, Some, IfNone, IfSome, OnSome, is_err, is_some, OnOk, OnErr, IfOk, slice_index, slice_set};
 ghost use Rattle.flt_flash.specs.declared.arm.Pattern.TheVariants.{Nothing};
 ghost use Rattle.flt_flash.specs.State.{first_state, Operates, counted, CanArm, Arms, PowersUp};
 ghost use Rattle.flt_flash.specs.Tearing.{IsTornSector, IsTorn};
@@ -8,9 +8,10 @@ ghost use Rattle.flt_flash.specs.Arms.{IsProgrammedBy, IsErasedBy, told_with};
 ghost use Rattle.flt_flash.specs.Power.{first_power};
 ghost use Rattle.flt_flash.specs.Boots.{HaveRoom, HoldPages, boot_at};
 
-use crate::boot::SavedBoot;
+use crate::boot::{SavedBoot, reserved_boots};
+use crate::pages::{blank_pages, outcome, pages_of, write_page};
 use crate::power::Power;
-use crate::torn::{BLANK_PAGE, clear_sector, tear_page, tear_sector};
+use crate::torn::{clear_sector, tear_sector};
 use crate::{Arm, ArmMade, Bench, Flash, FlashFailed, Pattern};
 use arrayvec::ArrayVec;
 use std::alloc::{AllocError, Global};
@@ -38,7 +39,7 @@ pub struct FlashMem {
     ghost second_bytes: { ArePages second.items },
     ghost boots_fit: { boots_used ≤ length boots.items },
     ghost boots_number: { length boots.items < 65536 },
-    ghost boots_room: { HaveRoom pages boots.items },
+    ghost boots_room: { HaveRoom (2 * pages) boots.items },
     ghost boots_pages: { HoldPages pages (take boots_used boots.items) },
 }
 
@@ -68,8 +69,8 @@ impl FlashMem {
         ensures power { IfOk result (λ flash. power_of flash ≡ first_power) }
     {
         let pages = image.len() / 2;
-        let first = sector_of(alloc, &image[..pages])?;
-        let second = sector_of(alloc, &image[pages..])?;
+        let first = pages_of(alloc, &image[..pages])?;
+        let second = pages_of(alloc, &image[pages..])?;
         Self::made(alloc, pages as u16, first, second, boots)
     }
 
@@ -87,7 +88,7 @@ impl FlashMem {
         ensures state { IfOk result (λ flash. state_of flash ≡ first_state pages first.items second.items boots) }
         ensures power { IfOk result (λ flash. power_of flash ≡ first_power) }
     {
-        let boots = reserved_boots(alloc, pages as usize, boots)?;
+        let boots = reserved_boots(alloc, 2 * pages as usize, boots)?;
         Ok(FlashMem {
             pages,
             first,
@@ -127,7 +128,7 @@ impl FlashMem {
         requires page { page < (state_of self.now).pages }
         ensures { result.now ≡ page_at (boot_at (state_of self.now).bench.boots boot).image sector page }
     {
-        self.boots[boot as usize].page(sector, page)
+        self.boots[boot as usize].page(self.pages, sector, page)
     }
 }
 
@@ -266,57 +267,9 @@ impl Bench for FlashMem {
         ensures power { power_of self.new ≡ record (power_of self.old) { is_off = false } }
     {
         let faults = self.power.faults;
-        self.boots[self.boots_used as usize].save(faults, &self.first, &self.second);
+        self.boots[self.boots_used as usize].save_two(faults, &self.first, &self.second);
         self.boots_used += 1;
         self.power.is_off = false;
-    }
-}
-
-fn blank_pages(alloc: Global, pages: usize) -> Result<Vec<[u8; 32]>, AllocError>
-    ensures items { IfOk result (λ made. made.items ≡ replicate pages blank_page) }
-    ensures bytes { IfOk result (λ made. ArePages made.items) }
-{
-    let mut made = Vec::new(alloc);
-    for _page in 0..pages {
-        made.push(BLANK_PAGE)?;
-    }
-    Ok(made)
-}
-
-fn sector_of(alloc: Global, pages: &[[u8; 32]]) -> Result<Vec<[u8; 32]>, AllocError>
-    ensures items { IfOk result (λ sector. sector.items ≡ pages.now) }
-    ensures bytes { IfOk result (λ sector. ArePages sector.items) }
-{
-    let mut sector = Vec::with_capacity(alloc, pages.len())?;
-    for page in pages {
-        sector.push(*page)?;
-    }
-    Ok(sector)
-}
-
-// The room of this many power-ups, which is filled as they come.
-fn reserved_boots(alloc: Global, pages: usize, boots: u16) -> Result<Vec<SavedBoot>, AllocError>
-    ensures number { IfOk result (λ made. length made.items ≡ boots) }
-    ensures room { IfOk result (λ made. HaveRoom pages made.items) }
-{
-    let mut made = Vec::with_capacity(alloc, boots as usize)?;
-    for _boot in 0..boots {
-        made.push(SavedBoot::reserved(alloc, pages)?)?;
-    }
-    Ok(made)
-}
-
-// Programs a page, or tears it.
-fn write_page(pages: &mut Vec<[u8; 32]>, page: usize, bytes: &[u8; 32], failing: Option<Pattern>)
-    requires { page < length pages.old.items }
-    ensures whole { IfNone failing (pages.new.items ≡ slice_set pages.old.items page bytes.now) }
-    ensures torn { OnSome failing (IsTornSector pages.old.items (slice_set pages.old.items page bytes.now) pages.new.items) }
-    ensures by_pattern { IfSome failing (λ pattern. IsProgrammedBy pattern pages.old.items page bytes.now pages.new.items) }
-    ensures untouched { failing ≡ Some Nothing → pages.new.items ≡ pages.old.items }
-{
-    match failing {
-        None => pages[page] = *bytes,
-        Some(pattern) => tear_page(&mut pages[page], bytes, pattern, 16),
     }
 }
 
@@ -331,14 +284,5 @@ fn clear_pages(pages: &mut Vec<[u8; 32]>, failing: Option<Pattern>)
     match failing {
         None => clear_sector(pages),
         Some(pattern) => tear_sector(pages, pattern),
-    }
-}
-
-fn outcome(failing: Option<Pattern>) -> Result<(), FlashFailed>
-    ensures { is_err result ≡ is_some failing }
-{
-    match failing {
-        None => Ok(()),
-        Some(_) => Err(FlashFailed),
     }
 }

@@ -21,7 +21,7 @@ fn torn_byte(before: u8, after: u8, pattern: Pattern, in_tail: bool) -> u8
 }
 
 /// Tears a page by a pattern, whose tail begins at the byte `tail`.
-pub fn tear_page(page: &mut [u8], after: &[u8], pattern: Pattern, tail: usize)
+pub(crate) fn tear_page(page: &mut [u8], after: &[u8], pattern: Pattern, tail: usize)
     requires { length after.now ≡ length page.old }
     ensures { IsTornPageBy pattern tail page.old after.now page.new }
 {

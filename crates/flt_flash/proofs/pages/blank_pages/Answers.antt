@@ -2,7 +2,7 @@ use Rattle.std.proofs.Common.{List, ℕ, [], ◌∷◌, ◌++◌, ◌∙◌, ap,
 use Rattle.std.proofs.lemmas.List.{replicate_more}
 use Rattle.flt_flash.specs.Image.{blank_page, ArePages}
 use Rattle.flt_flash.proofs.PageSizes.{blank_pages_size}
-use Rattle.flt_flash.proofs.memory.blank_pages.Goals as goal
+use Rattle.flt_flash.proofs.pages.blank_pages.Goals as goal
 
 pub loop-page-preserved : goal.loop-page-preserved
 unfolding blank_page

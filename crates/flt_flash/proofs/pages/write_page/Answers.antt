@@ -3,7 +3,7 @@ use Rattle.std.proofs.lemmas.List.{set-get_or, get_or_read}
 use Rattle.flt_flash.specs.declared.arm.Pattern.TheVariants.{Nothing}
 use Rattle.flt_flash.specs.Arms.{IsTornPageBy}
 use Rattle.flt_flash.proofs.TornBy.{untouched_page}
-use Rattle.flt_ea.proofs.memory.write_page.Goals as goal
+use Rattle.flt_flash.proofs.pages.write_page.Goals as goal
 
 pub returns-in-Some-clause-untouched : goal.returns-in-Some-clause-untouched
 returns-in-Some-clause-untouched c = λ same.
