@@ -22,8 +22,9 @@ use Rattle.flt_ea.specs.Image.{gate_unit, gate_at, bytes_behind, content_of, cur
 use Rattle.flt_ea.specs.Scan.{IsTable}
 use Rattle.flt_ea.specs.Driver.{state_by}
 use Rattle.flt_ea.specs.Written.{HoldsRecord, RecordLeft, WritesRecord}
-use Rattle.flt_ea.specs.Proper.{current_held}
+use Rattle.flt_ea.specs.Proper.{IsHeld, current_held}
 use Rattle.flt_ea.specs.Laws.{held_size}
+use Rattle.flt_ea.specs.declared.ea.Ea.{Ea}
 use Rattle.flt_ea.specs.declared.gate.Gate.{Gate}
 use Rattle.flt_ea.specs.declared.place.Held.{Held}
 use Rattle.flt_ea.proofs.Device.{units_on}
@@ -84,57 +85,111 @@ module _ (numbers : List ℕ) (before after : FlashState) (runs : MakesOperation
       no_damage (Ok x) = sound
       no_damage (Err e) = tt
 
-module _ (device : FlashState) (shape : HasUnits device) (numbers : List ℕ) (within : 10 * length numbers ≤ device.pages) (distinct : AllPairs (λ a b. a ≢ b) numbers)
-    (sound : damage_in numbers device.image ≡ None) (position block : ℕ) (lt : position < length numbers) (is : get_or numbers position 0 ≡ block) where
+-- An image has no fault, and this is the current place of a block of it, which stands at this position.
+pub record StandsAt (device : FlashState) (numbers : List ℕ) (position block : ℕ) (found : Option Held) : Type 0 where
+  pub shape : HasUnits device
+  pub within : 10 * length numbers ≤ device.pages
+  pub distinct : AllPairs (λ a b. a ≢ b) numbers
+  pub sound : damage_in numbers device.image ≡ None
+  pub lt : position < length numbers
+  pub is : get_or numbers position 0 ≡ block
+  pub here : current (sector_at device.image 0) position ≡ found
+
+-- A driver that is not stale knows the current place of each block.
+pub stands_at : {E : Type 0} {g : _} (driver : Ea E g) → HasUnits (g.state driver.device) → driver.is_stale ≡ false → (position block : ℕ) (found : Option Held) → position < length driver.numbers → get_or driver.numbers position 0 ≡ block
+    → found ≡ get_or driver.table.items position found → StandsAt (g.state driver.device) driver.numbers position block found
+stands_at {E} {g} driver shape settled position block found lt is read = record {
+  shape = shape;
+  within = driver.within;
+  distinct = driver.distinct;
+  sound = driver.mounted.undamaged (driver.mounted.mounted settled);
+  lt = lt;
+  is = is;
+  here = current_read driver.numbers (sector_at (g.state driver.device).image 0) driver.table.items position found (driver.mounted.places settled) lt driver.size read;
+}
+
+-- A record of a block is written to its place that is not current.
+pub record WritesNext (device after : FlashState) (position block : ℕ) (found : Option Held) (new : Gate) (written : List ℕ) (result : Result (Unit {0}) FlashFailed) : Type 0 where
+  pub left_over : is_last found ≡ false
+  pub size : new.length ≡ length written
+  pub number : new.block ≡ block
+  pub next : new.sequence ≡ next_sequence found
+  pub read : gate_of (gate_bytes new) ≡ Some new
+  pub writes : WritesRecord device after (gate_unit position (next_place found)) new written result
+
+module _ {device : FlashState} {numbers : List ℕ} {position block : ℕ} {found : Option Held} (stands : StandsAt device numbers position block found) where
   abbrev units : List (List ℕ)
   units = sector_at device.image 0
 
-  pub value_is : (found : Option Held) → current units position ≡ found → value_in numbers device.image block ≡ content_of units position found
-  value_is found here =
-      at_zero (λ n. value_in numbers device.image block ≡ content_of units n (current units n)) position (value_at units 0 numbers block distinct position lt is) ∙ ap (content_of units position) here
+  pub value_is : value_in numbers device.image block ≡ content_of units position found
+  value_is =
+      at_zero (λ n. value_in numbers device.image block ≡ content_of units n (current units n)) position (value_at units 0 numbers block stands.distinct position stands.lt stands.is)
+      ∙ ap (content_of units position) stands.here
 
-  pub stuck_is : (found : Option Held) → current units position ≡ found → is_stuck_in numbers device.image block ≡ is_last found
-  stuck_is found here = at_zero (λ n. is_stuck_in numbers device.image block ≡ is_last (current units n)) position (stuck_at units 0 numbers block distinct position lt is) ∙ ap is_last here
+  pub stuck_is : is_stuck_in numbers device.image block ≡ is_last found
+  stuck_is = at_zero (λ n. is_stuck_in numbers device.image block ≡ is_last (current units n)) position (stuck_at units 0 numbers block stands.distinct position stands.lt stands.is) ∙ ap is_last stands.here
 
-  was : IsAt block units position (current units position)
-  was = is_at block units position (current units position) (subst (λ n. SoundAt n units position) is (at_zero (SoundAt (get_or numbers position 0) units) position (sound_at units 0 numbers sound position lt)))
+  stood : IsAt block units position found
+  stood = subst (λ (h : Option Held). IsAt block units position h) stands.here
+      (is_at block units position (current units position)
+      (subst (λ n. SoundAt n units position) stands.is (at_zero (SoundAt (get_or numbers position 0) units) position (sound_at units 0 numbers stands.sound position stands.lt))))
 
   -- The gate unit that is written next is not spoiled.
-  pub unspoiled : (found : Option Held) → current units position ≡ found → is_spoiled (get_or units (gate_unit position (next_place found)) []) ≡ false
-  unspoiled found here =
-      let both = none_spoiled block (gate_at units position 0) (gate_at units position 1) (current units position) was.sound in
+  pub unspoiled : is_spoiled (get_or units (gate_unit position (next_place found)) []) ≡ false
+  unspoiled =
+      let both = none_spoiled block (gate_at units position 0) (gate_at units position 1) found stood.sound in
       ⊎_elim (λ zero. ap (λ n. is_spoiled (get_or units (gate_unit position n) [])) zero ∙ both.0) (λ one. ap (λ n. is_spoiled (get_or units (gate_unit position n) [])) one ∙ both.1) (place_cases found)
 
-  -- What is found of a valid record.
-  pub valid_found : (held : Held) → current units position ≡ Some held → held.gate.valid ≡ true → Bytes held.gate.length ≡ found_of (value_in numbers device.image block)
-  valid_found held here valid =
-      ap Bytes (sym (held_size device shape position held (omega arith) (current_held units position held here)))
-      ∙ sym (ap found_of (value_is (Some held) here) ∙ ap (λ v. found_of (if v then bytes (bytes_behind units (gate_unit position held.place) held.gate.length) else invalid)) valid)
+  -- A record is current.
+  module _ (held : Held) (is : found ≡ Some held) where
+    pub current_is : IsHeld held
+    current_is = current_held units position held (stands.here ∙ is)
 
-  pub valid_value : (held : Held) → current units position ≡ Some held → held.gate.valid ≡ true → value_in numbers device.image block ≡ bytes (bytes_behind units (gate_unit position held.place) held.gate.length)
-  valid_value held here valid = value_is (Some held) here ∙ ap (λ v. if v then bytes (bytes_behind units (gate_unit position held.place) held.gate.length) else invalid) valid
+    -- As many bytes stand behind its gate as it says.
+    pub size_is : length (bytes_behind units (gate_unit position held.place) held.gate.length) ≡ held.gate.length
+    size_is =
+        let lt = stands.lt in
+        let within = stands.within in
+        held_size device stands.shape position held (omega arith) current_is
 
-  pub invalid_value : (held : Held) → current units position ≡ Some held → held.gate.valid ≡ false → value_in numbers device.image block ≡ invalid
-  invalid_value held here valid = value_is (Some held) here ∙ ap (λ v. if v then bytes (bytes_behind units (gate_unit position held.place) held.gate.length) else invalid) valid
+    record_value : value_in numbers device.image block ≡ (if held.gate.valid then bytes (bytes_behind units (gate_unit position held.place) held.gate.length) else invalid)
+    record_value = value_is ∙ ap (content_of units position) is
+
+    pub valid_value : held.gate.valid ≡ true → value_in numbers device.image block ≡ bytes (bytes_behind units (gate_unit position held.place) held.gate.length)
+    valid_value valid = record_value ∙ ap (λ v. if v then bytes (bytes_behind units (gate_unit position held.place) held.gate.length) else invalid) valid
+
+    pub invalid_value : held.gate.valid ≡ false → value_in numbers device.image block ≡ invalid
+    invalid_value valid = record_value ∙ ap (λ v. if v then bytes (bytes_behind units (gate_unit position held.place) held.gate.length) else invalid) valid
+
+    -- What is found of a valid record.
+    pub valid_found : held.gate.valid ≡ true → Bytes held.gate.length ≡ found_of (value_in numbers device.image block)
+    valid_found valid = ap Bytes (sym size_is) ∙ sym (ap found_of (valid_value valid))
+
+  -- A record that is stuck.
+  module _ (last : is_last found ≡ true) (asked : Content) (size : ℕ) (is_stale has_mounted : Bool) where
+    pub spent_changes : Changes (state_by numbers is_stale has_mounted device) (state_by numbers is_stale has_mounted device) block asked size (Err SequenceSpent)
+    spent_changes = record {
+      done = tt;
+      failed = λ told. absurd (cc told);
+      others = λ other differ. refl;
+      full = λ live needed told. absurd (cc told);
+      spent = λ told. (stuck_is ∙ last, λ b. refl);
+      damaged = λ s p told. absurd (cc told);
+    }
 
   -- A record is written to the place that is not current.
-  module _ (after : FlashState) (found : Option Held) (here : current units position ≡ found) (left_over : is_last found ≡ false) (new : Gate) (written : List ℕ) (size : new.length ≡ length written) (number : new.block ≡ block)
-      (next : new.sequence ≡ next_sequence found) (read : gate_of (gate_bytes new) ≡ Some new) (result : Result (Unit {0}) FlashFailed)
-      (writes : WritesRecord device after (gate_unit position (next_place found)) new written result) where
+  module _ {after : FlashState} {new : Gate} {written : List ℕ} {result : Result (Unit {0}) FlashFailed} (put : WritesNext device after position block found new written result) where
     abbrev unit : ℕ
     unit = gate_unit position (next_place found)
 
     abbrev now : List (List ℕ)
     now = sector_at after.image 0
 
-    now_is : writes.units ≡ now
-    now_is = sym (units_on device after writes.units shape writes.on)
+    now_is : put.writes.units ≡ now
+    now_is = sym (units_on device after put.writes.units stands.shape put.writes.on)
 
     apart : KeptApart units now unit (unit + 5)
-    apart = subst (λ (p : List (List ℕ)). KeptApart units p unit (unit + 5)) now_is writes.apart
-
-    stood : IsAt block units position found
-    stood = subst (λ (h : Option Held). IsAt block units position h) here was
+    apart = subst (λ (p : List (List ℕ)). KeptApart units p unit (unit + 5)) now_is put.writes.apart
 
     -- Every other position is as it was.
     same : (k : ℕ) → k ≢ position → SameAt units now k
@@ -147,28 +202,28 @@ module _ (device : FlashState) (shape : HasUnits device) (numbers : List ℕ) (w
     module _ (held : Option Held) (at : IsAt block now position held) where
       sound_each : (k : ℕ) → k < length numbers → SoundAt (get_or numbers k 0) now k
       sound_each k less = elim (cases_eq k position) [
-        | inl own ↦ subst (λ n. SoundAt (get_or numbers n 0) now n) (sym own) (subst (λ n. SoundAt n now position) (sym is) (at.sound ∙ ap Ok (sym at.current)))
+        | inl own ↦ subst (λ n. SoundAt (get_or numbers n 0) now n) (sym own) (subst (λ n. SoundAt n now position) (sym stands.is) (at.sound ∙ ap Ok (sym at.current)))
         | inr other ↦ (
             (λ i. judged (get_or numbers k 0) ((same k other).first i) ((same k other).second i))
-            ∙ at_zero (SoundAt (get_or numbers k 0) units) k (sound_at units 0 numbers sound k less) ∙ ap Ok (sym (same_current k other)))
+            ∙ at_zero (SoundAt (get_or numbers k 0) units) k (sound_at units 0 numbers stands.sound k less) ∙ ap Ok (sym (same_current k other)))
       ]
 
       sound_now : damage_in numbers after.image ≡ None
       sound_now = sound_all now 0 numbers (λ k less. from_zero (SoundAt (get_or numbers k 0) now) k (sound_each k less))
 
       value_now : value_in numbers after.image block ≡ content_of now position held
-      value_now = at_zero (λ n. value_in numbers after.image block ≡ content_of now n (current now n)) position (value_at now 0 numbers block distinct position lt is) ∙ ap (content_of now position) at.current
+      value_now = at_zero (λ n. value_in numbers after.image block ≡ content_of now n (current now n)) position (value_at now 0 numbers block stands.distinct position stands.lt stands.is) ∙ ap (content_of now position) at.current
 
     others : (other : ℕ) → other ≢ block → value_in numbers after.image other ≡ value_in numbers device.image other
     others other differ = same_value units now 0 numbers other (λ k less that. from_zero (λ n. content_of now n (current now n) ≡ content_of units n (current units n)) k
-        (same k (λ own. differ (sym that ∙ ap (λ n. get_or numbers n 0) own ∙ is))).content)
+        (same k (λ own. differ (sym that ∙ ap (λ n. get_or numbers n 0) own ∙ stands.is))).content)
 
     spent : is_spent_in numbers device.image ≡ true → is_spent_in numbers after.image ≡ true
     spent = stays_spent units now 0 numbers (λ k less. from_zero (λ n. is_last (current units n) ≡ true → is_last (current now n) ≡ true) k (each k))
       where
         each : (k : ℕ) → is_last (current units k) ≡ true → is_last (current now k) ≡ true
         each k last = elim (cases_eq k position) [
-          | inl own ↦ absurd (let no : is_last (current units k) ≡ false = ap (λ n. is_last (current units n)) own ∙ ap is_last here ∙ left_over in cc (no, last))
+          | inl own ↦ absurd (let no : is_last (current units k) ≡ false = ap (λ n. is_last (current units n)) own ∙ ap is_last stands.here ∙ put.left_over in cc (no, last))
           | inr other ↦ ap is_last (same_current k other) ∙ last
         ]
 
@@ -178,16 +233,16 @@ module _ (device : FlashState) (shape : HasUnits device) (numbers : List ℕ) (w
       pub either : (value_in numbers after.image block ≡ value_in numbers device.image block) ⊎ (value_in numbers after.image block ≡ asked_of new.valid written)
 
     stays : StaysAt block position units now found stood apart → Stored
-    stays kept = record { held = found; at = kept.is_held; either = inl (value_now found kept.is_held ∙ kept.content ∙ sym (value_is found here)) }
+    stays kept = record { held = found; at = kept.is_held; either = inl (value_now found kept.is_held ∙ kept.content ∙ sym value_is) }
 
     whole_at : HoldsRecord now unit new written → IsAt block now position (held_at (next_place found) new)
-    whole_at whole = gate_given block position units now found stood apart new written size number next read whole
+    whole_at whole = gate_given block position units now found stood apart new written put.size put.number put.next put.read whole
 
     whole_value : HoldsRecord now unit new written → value_in numbers after.image block ≡ asked_of new.valid written
-    whole_value whole = value_now (held_at (next_place found) new) (whole_at whole) ∙ content_given block position units now found stood apart new written size number next read whole
+    whole_value whole = value_now (held_at (next_place found) new) (whole_at whole) ∙ content_given block position units now found stood apart new written put.size put.number put.next put.read whole
 
     pub stored : Stored
-    stored = by_left (subst (λ (p : List (List ℕ)). RecordLeft units p unit new written) now_is writes.left)
+    stored = by_left (subst (λ (p : List (List ℕ)). RecordLeft units p unit new written) now_is put.writes.left)
       where
         by_left : RecordLeft units now unit new written → Stored
         by_left (inl as_before) = stays (gate_stood block position units now found stood apart as_before)
@@ -199,7 +254,7 @@ module _ (device : FlashState) (shape : HasUnits device) (numbers : List ℕ) (w
 
     module _ (was_stale has_mounted : Bool) where
       pub failed_calls : HasRisenBy 1 device.faults after.faults → Calls {T = Unit {0}} (state_by numbers was_stale has_mounted device) (state_by numbers true has_mounted after) (Err Flash)
-      failed_calls cause = quiet_calls numbers device after writes.on.runs sound stored_sound spent was_stale has_mounted true (Err Flash) (λ told. cause) (λ s p told. cc told)
+      failed_calls cause = quiet_calls numbers device after put.writes.on.runs stands.sound stored_sound spent was_stale has_mounted true (Err Flash) (λ told. cause) (λ s p told. cc told)
 
       pub failed_changes : Changes (state_by numbers was_stale has_mounted device) (state_by numbers true has_mounted after) block (asked_of new.valid written) (length written) (Err Flash)
       failed_changes = record {
@@ -214,7 +269,7 @@ module _ (device : FlashState) (shape : HasUnits device) (numbers : List ℕ) (w
       -- It holds the record whole.
       module _ (whole : HoldsRecord now unit new written) where
         pub done_calls : Calls {T = Unit {0}} (state_by numbers was_stale has_mounted device) (state_by numbers false has_mounted after) (Ok tt)
-        done_calls = quiet_calls numbers device after writes.on.runs sound stored_sound spent was_stale has_mounted false {T = Unit {0}} (Ok tt) (λ told. absurd (cc told)) (λ s p told. cc told)
+        done_calls = quiet_calls numbers device after put.writes.on.runs stands.sound stored_sound spent was_stale has_mounted false {T = Unit {0}} (Ok tt) (λ told. absurd (cc told)) (λ s p told. cc told)
 
         pub done_changes : Changes (state_by numbers was_stale has_mounted device) (state_by numbers false has_mounted after) block (asked_of new.valid written) (length written) (Ok tt)
         done_changes = record {
@@ -236,21 +291,9 @@ module _ (device : FlashState) (shape : HasUnits device) (numbers : List ℕ) (w
         ]
 
     -- What stands after a write that answered Ok.
-    pub whole_now : OnOk result (HoldsRecord writes.units unit new written) → OnOk result (HoldsRecord now unit new written)
-    whole_now = by_result result
+    pub whole_now : OnOk result (HoldsRecord now unit new written)
+    whole_now = by_result result put.writes.done
       where
-        by_result : (r : Result (Unit {0}) FlashFailed) → OnOk r (HoldsRecord writes.units unit new written) → OnOk r (HoldsRecord now unit new written)
+        by_result : (r : Result (Unit {0}) FlashFailed) → OnOk r (HoldsRecord put.writes.units unit new written) → OnOk r (HoldsRecord now unit new written)
         by_result (Ok x) whole = subst (λ (p : List (List ℕ)). HoldsRecord p unit new written) now_is whole
         by_result (Err e) whole = tt
-
-  -- A record that is stuck.
-  module _ (found : Option Held) (here : current units position ≡ found) (last : is_last found ≡ true) (asked : Content) (size : ℕ) (is_stale has_mounted : Bool) where
-    pub spent_changes : Changes (state_by numbers is_stale has_mounted device) (state_by numbers is_stale has_mounted device) block asked size (Err SequenceSpent)
-    spent_changes = record {
-      done = tt;
-      failed = λ told. absurd (cc told);
-      others = λ other differ. refl;
-      full = λ live needed told. absurd (cc told);
-      spent = λ told. (stuck_is found here ∙ last, λ b. refl);
-      damaged = λ s p told. absurd (cc told);
-    }

@@ -1,5 +1,5 @@
 -- The steps of a write to a place, one after another.
-use Rattle.std.proofs.Common.{◌≡◌, ◌⊎◌, inl, inr, ⊎_elim, ◌+◌, ◌≤◌, ℕ, false, List, [], get_or, set, take, length, length-set, get_or-set_same, get_or-set_other, Result, Ok, Err, refl, ◌∙◌, ap, subst, arith}
+use Rattle.std.proofs.Common.{◌≡◌, inl, inr, ⊎_elim, ◌+◌, ◌≤◌, ℕ, false, List, [], get_or, set, take, length, length-set, get_or-set_same, get_or-set_other, Result, Ok, Err, refl, ◌∙◌, ap, subst, arith}
 use Rattle.std.specs.Prelude.{IsErr, slice_range}
 use Rattle.std.specs.List.{flat_map}
 use Rattle.flt_flash.specs.Image.{sector_at, blank_page}

@@ -1,6 +1,5 @@
 use Rattle.std.proofs.Common.{◌≡◌, ◌⊎◌, ◌+◌, ◌*◌, ◌<◌, ℕ, List, inl, inr, length, Ok, subst, arith}
 use Rattle.flt_flash.specs.Blocks.{byte_pages}
-use Rattle.flt_pages.specs.Append.{filled}
 use Rattle.flt_ea.proofs.Device.{GivesUnit, gives_unit}
 use Rattle.flt_ea.proofs.Filling.{piece_failed, on_more, apart_more, more_filled}
 use Rattle.flt_ea.proofs.record.fill.Goals as goal
