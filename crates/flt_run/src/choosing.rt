@@ -5,6 +5,7 @@ ghost use Rattle.flt_did.specs.Table.{dids_of};
 ghost use Rattle.flt_lives.specs.Media.{sectors, units};
 ghost use Rattle.flt_run.specs.Command.{begins_ea, command_of, ea_command_of};
 ghost use Rattle.flt_run.specs.Ending.{Runs};
+ghost use Rattle.flt_run.specs.Seen.{inside_of, outside_of};
 ghost use Rattle.flt_run.specs.Program.{EndsOn};
 
 use crate::command::begins_ea;
@@ -55,34 +56,12 @@ pub fn program<
     requires device_boots { 256 ≤ (E.state device).bench.boots_left }
     requires device_unarmed { (E.state device).bench.armed ≡ 0 }
     ensures { EndsOn (begins_ea (map string_bytes words.now))
-        (λ outcome. Runs (dids_of dids) (record {
-          left = S.left source.old;
-          left_after = S.left source.new;
-          read_faults = S.faults source.old;
-          read_faults_after = S.faults source.new;
-          media = sectors;
-          device = B.state bench;
-          device_after = B.state outcome.bench;
-        }) (record {
-          held = K.held sink.old;
-          held_after = K.held sink.new;
-          write_faults = K.faults sink.old;
-          write_faults_after = K.faults sink.new;
-        }) (command_of (map string_bytes words.now)) outcome.status outcome.lives.items)
-        (λ outcome. Runs (dids_of dids) (record {
-          left = S.left source.old;
-          left_after = S.left source.new;
-          read_faults = S.faults source.old;
-          read_faults_after = S.faults source.new;
-          media = units;
-          device = E.state device;
-          device_after = E.state outcome.bench;
-        }) (record {
-          held = K.held sink.old;
-          held_after = K.held sink.new;
-          write_faults = K.faults sink.old;
-          write_faults_after = K.faults sink.new;
-        }) (ea_command_of (map string_bytes words.now)) outcome.status outcome.lives.items)
+        (λ outcome. Runs (dids_of dids)
+        (inside_of S.left S.faults source.old source.new sectors (B.state bench) (B.state outcome.bench)) (outside_of K.held K.faults sink.old sink.new)
+        (command_of (map string_bytes words.now)) outcome.status outcome.lives.items)
+        (λ outcome. Runs (dids_of dids)
+        (inside_of S.left S.faults source.old source.new units (E.state device) (E.state outcome.bench)) (outside_of K.held K.faults sink.old sink.new)
+        (ea_command_of (map string_bytes words.now)) outcome.status outcome.lives.items)
         result }
 {
     if begins_ea(words) {

@@ -10,6 +10,7 @@ ghost use Rattle.flt_lives.specs.Devices.{ServesAll};
 ghost use Rattle.flt_run.specs.declared.command.Command.TheVariants.{Check, Load, Run};
 ghost use Rattle.flt_run.specs.declared.ending.Ending.TheVariants.{Loaded, Ran, Usage};
 ghost use Rattle.flt_run.specs.Ending.{ComesTo, EndingHasCause};
+ghost use Rattle.flt_run.specs.Seen.{inside_of, unread_inside};
 
 use crate::command::Command;
 use crate::ending::Ending;
@@ -44,15 +45,8 @@ fn usage<D: Drop>(device: D) -> Performed<D>
 
 /// Reads the script, and makes none of its steps.
 fn check<S: Source>(alloc: Global, source: &mut S, dids: &DidTable<DID_ROWS>) -> Option<Ending>
-    ensures { (media : Config → Medium) (device : FlashState) → IfSome result (EndingHasCause (dids_of dids.now) (record {
-      left = S.left source.old;
-      left_after = S.left source.new;
-      read_faults = S.faults source.old;
-      read_faults_after = S.faults source.new;
-      media = media;
-      device = device;
-      device_after = device;
-    }) (Some Check) None) }
+    ensures { (media : Config → Medium) (device : FlashState) → IfSome result (EndingHasCause (dids_of dids.now)
+        (inside_of S.left S.faults source.old source.new media device device) (Some Check) None) }
 {
     match fetch(alloc, source, dids) {
         Fetched::Script(script) => Some(Ending::Accepted(script)),
@@ -96,15 +90,8 @@ fn load_plain<D: Driver>(
     requires serves { ServesAll D.serves (D.device_state device) }
     requires boots { 256 ≤ (D.device_state device).bench.boots_left }
     requires unarmed { (D.device_state device).bench.armed ≡ 0 }
-    ensures { (dids : List DidUse) (left : Option (List ℕ)) (faults : ℕ) → ComesTo dids (record {
-      left = left;
-      left_after = left;
-      read_faults = faults;
-      read_faults_after = faults;
-      media = D.medium;
-      device = D.device_state device;
-      device_after = D.device_state result.device;
-    }) (Some (Load count false)) result.ending }
+    ensures { (dids : List DidUse) (left : Option (List ℕ)) (faults : ℕ) → ComesTo dids
+        (unread_inside left faults D.medium (D.device_state device) (D.device_state result.device)) (Some (Load count false)) result.ending }
 {
     match load(alloc, count, false) {
         Ok(script) => {
@@ -130,15 +117,8 @@ pub(crate) fn perform_plain<S: Source, D: Driver>(
     requires serves { ServesAll D.serves (D.device_state device) }
     requires boots { 256 ≤ (D.device_state device).bench.boots_left }
     requires unarmed { (D.device_state device).bench.armed ≡ 0 }
-    ensures { ComesTo (dids_of dids) (record {
-      left = S.left source.old;
-      left_after = S.left source.new;
-      read_faults = S.faults source.old;
-      read_faults_after = S.faults source.new;
-      media = D.medium;
-      device = D.device_state device;
-      device_after = D.device_state result.device;
-    }) (plain_of command) result.ending }
+    ensures { ComesTo (dids_of dids)
+        (inside_of S.left S.faults source.old source.new D.medium (D.device_state device) (D.device_state result.device)) (plain_of command) result.ending }
 {
     let Some(command) = command else {
         return usage(device);
@@ -172,15 +152,8 @@ fn load_in_lanes<R: Threads + Wait + Sync, G: SharedGate, D: Driver>(
     requires serves { ServesAll D.serves (D.device_state device) }
     requires boots { 256 ≤ (D.device_state device).bench.boots_left }
     requires unarmed { (D.device_state device).bench.armed ≡ 0 }
-    ensures { (dids : List DidUse) (left : Option (List ℕ)) (faults : ℕ) → ComesTo dids (record {
-      left = left;
-      left_after = left;
-      read_faults = faults;
-      read_faults_after = faults;
-      media = D.medium;
-      device = D.device_state device;
-      device_after = D.device_state result.device;
-    }) (Some (Load count true)) result.ending }
+    ensures { (dids : List DidUse) (left : Option (List ℕ)) (faults : ℕ) → ComesTo dids
+        (unread_inside left faults D.medium (D.device_state device) (D.device_state result.device)) (Some (Load count true)) result.ending }
 {
     match load(alloc, count, true) {
         Ok(script) => {
@@ -206,15 +179,8 @@ fn run_script<R: Threads + Wait + Sync, G: SharedGate, S: Source, D: Driver>(
     requires serves { ServesAll D.serves (D.device_state device) }
     requires boots { 256 ≤ (D.device_state device).bench.boots_left }
     requires unarmed { (D.device_state device).bench.armed ≡ 0 }
-    ensures { ComesTo (dids_of dids) (record {
-      left = S.left source.old;
-      left_after = S.left source.new;
-      read_faults = S.faults source.old;
-      read_faults_after = S.faults source.new;
-      media = D.medium;
-      device = D.device_state device;
-      device_after = D.device_state result.device;
-    }) (Some Run) result.ending }
+    ensures { ComesTo (dids_of dids)
+        (inside_of S.left S.faults source.old source.new D.medium (D.device_state device) (D.device_state result.device)) (Some Run) result.ending }
 {
     match fetch(alloc, source, &dids) {
         Fetched::Script(script) => {
@@ -250,15 +216,8 @@ pub(crate) fn perform<R: Threads + Wait + Sync, G: SharedGate, S: Source, D: Dri
     requires serves { ServesAll D.serves (D.device_state device) }
     requires boots { 256 ≤ (D.device_state device).bench.boots_left }
     requires unarmed { (D.device_state device).bench.armed ≡ 0 }
-    ensures { ComesTo (dids_of dids) (record {
-      left = S.left source.old;
-      left_after = S.left source.new;
-      read_faults = S.faults source.old;
-      read_faults_after = S.faults source.new;
-      media = D.medium;
-      device = D.device_state device;
-      device_after = D.device_state result.device;
-    }) command result.ending }
+    ensures { ComesTo (dids_of dids)
+        (inside_of S.left S.faults source.old source.new D.medium (D.device_state device) (D.device_state result.device)) command result.ending }
 {
     let Some(word) = command else {
         return usage(device);
