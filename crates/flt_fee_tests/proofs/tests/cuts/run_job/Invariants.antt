@@ -1,5 +1,0 @@
-use Rattle.std.proofs.Common.{◌≡◌}
-use Rattle.flt_fee_tests.proofs.tests.cuts.run_job.Given as goal
-
-abbrev pub invariant-loop-change : goal.invariant-loop-change
-invariant-loop-change g l = (g.B.Blocks.state l.driver).numbers ≡ (g.B.Blocks.state l.initial.driver).numbers
