@@ -40,7 +40,8 @@ pub fn run_in_lanes<R: Threads + Wait + Sync, G: SharedGate, D: Driver>(
         IsRunOn (D.medium config.now) config.now (D.device_state device) (D.device_state result.device) (lives_seen (lists lives.now) lived.items)) }
     ensures played { IfSome result.lives (λ lived. ArePlayed config.now (lives_seen (lists lives.now) lived.items)) }
     ensures ended { IfSome result.lives (λ lived. AreEnded (length lives.now) (lives_seen (lists lives.now) lived.items)) }
-    ensures given { IfSome result.lives (λ lived. AreGiven (arms_given (lives_seen (lists lives.now) lived.items))
+    ensures given { IfSome result.lives (λ lived. AreGiven
+        (arms_given (length (D.device_state device).bench.boots) (lives_seen (lists lives.now) lived.items))
         (D.device_state device).bench.arms (D.device_state result.device).bench.arms) }
     ensures sound { DeviceStaysSound (D.medium config.now) config.now (D.device_state device) (D.device_state result.device) }
 {

@@ -77,14 +77,18 @@ arms_by parts (Started number state) = all_arms (own_actions parts)
 arms_by parts Dark = all_arms (own_actions parts)
 arms_by parts (Refused fault) = []
 
--- The arms of lives, in the order in which they are given.
-abbrev pub arms_given : List LifeView → List Arm
-arms_given [] = []
-arms_given (life ∷ lives) = arms_given lives ++ arms_by life.parts life.boot
+-- The arms of a life, each with the number of boots in it.
+abbrev pub arms_in_life : ℕ → List Arm → List (ℕ × Arm)
+arms_in_life boots arms = map (λ arm. (boots, arm)) arms
 
--- The arms that were made between two states of a bench, where both tell theirs, are these.
-abbrev pub AreGiven : List Arm → Option (List ArmMade) → Option (List ArmMade) → Type 0
-AreGiven arms before after = IfSome (arms_between before after) (λ made. map (λ a. a.arm) made ≡ arms)
+-- The arms of lives behind so many boots, in the order in which they are given, each with the number of boots in its life.
+abbrev pub arms_given : ℕ → List LifeView → List (ℕ × Arm)
+arms_given earlier [] = []
+arms_given earlier (life ∷ lives) = arms_given earlier lives ++ arms_in_life (earlier + length lives + 1) (arms_by life.parts life.boot)
+
+-- The arms that were made between two states of a bench, where both tell theirs, are these, each in its life.
+abbrev pub AreGiven : List (ℕ × Arm) → Option (List ArmMade) → Option (List ArmMade) → Type 0
+AreGiven arms before after = IfSome (arms_between before after) (λ made. map (λ a. (a.boots, a.arm)) made ≡ arms)
 
 -- The boots that were added between two states of a device, and the lives of a run between them.
 pub record IsLinked (c : Config) (medium : Medium) (before now : DeviceState) (lives : List LifeView) : Type 0 where

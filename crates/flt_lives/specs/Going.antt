@@ -29,14 +29,22 @@ pub record GoesOn (before after : BlocksState) : Type 0 where
   pub boots_left : after.device.bench.boots_left ≡ before.device.bench.boots_left
   pub arms : ArmsSince (length before.device.bench.boots) before.device.faults before.device.bench.arms after.device.bench.arms
 
--- The arms that were made between two states of a bench, where they are told, are these.
-pub record AddsGiven (arms : List Arm) (earlier made : List ArmMade) : Type 0 where
+-- The arms that were made between two states of a bench, where they are told, are these by what is seen of each.
+pub record AddsGiven {A : Type 0} (of : ArmMade → A) (arms : List A) (earlier made : List ArmMade) : Type 0 where
   pub more : List ArmMade
   pub is : made ≡ earlier ++ more
-  pub given : map (λ a. a.arm) more ≡ arms
+  pub given : map of more ≡ arms
 
+abbrev pub WereAdded : {A : Type 0} → (ArmMade → A) → List A → Option (List ArmMade) → Option (List ArmMade) → Type 0
+WereAdded of arms before after = IfSome after (λ made. IsSomeAnd before (λ earlier. AddsGiven of arms earlier made))
+
+-- These arms were made.
 abbrev pub WereGiven : List Arm → Option (List ArmMade) → Option (List ArmMade) → Type 0
-WereGiven arms before after = IfSome after (λ made. IsSomeAnd before (λ earlier. AddsGiven arms earlier made))
+WereGiven arms before after = WereAdded (λ a. a.arm) arms before after
+
+-- The same, each with the number of boots in its life.
+abbrev pub WereGivenIn : List (ℕ × Arm) → Option (List ArmMade) → Option (List ArmMade) → Type 0
+WereGivenIn arms before after = WereAdded (λ a. (a.boots, a.arm)) arms before after
 
 -- What a life leaves of a driver and its bench: one boot more.
 pub record AddsLife (before after : BlocksState) : Type 0 where

@@ -56,7 +56,8 @@ pub fn run_on_device<D: Driver, E: Engine<D> + Drop>(
         IsRunOn (D.medium config.now) config.now (D.device_state device) (D.device_state result.device) (lives_seen (lists lives.now) lived.items)) }
     ensures played { IfSome result.lives (λ lived. ArePlayed config.now (lives_seen (lists lives.now) lived.items)) }
     ensures ended { IfSome result.lives (λ lived. AreEnded (length lives.now) (lives_seen (lists lives.now) lived.items)) }
-    ensures given { IfSome result.lives (λ lived. AreGiven (arms_given (lives_seen (lists lives.now) lived.items))
+    ensures given { IfSome result.lives (λ lived. AreGiven
+        (arms_given (length (D.device_state device).bench.boots) (lives_seen (lists lives.now) lived.items))
         (D.device_state device).bench.arms (D.device_state result.device).bench.arms) }
     ensures sound { DeviceStaysSound (D.medium config.now) config.now (D.device_state device) (D.device_state result.device) }
 {
@@ -102,7 +103,8 @@ pub fn run_alone<D: Driver>(
         IsRunOn (D.medium config.now) config.now (D.device_state device) (D.device_state result.device) (lives_seen (lists lives.now) lived.items)) }
     ensures played { IfSome result.lives (λ lived. ArePlayed config.now (lives_seen (lists lives.now) lived.items)) }
     ensures ended { IfSome result.lives (λ lived. AreEnded (length lives.now) (lives_seen (lists lives.now) lived.items)) }
-    ensures given { IfSome result.lives (λ lived. AreGiven (arms_given (lives_seen (lists lives.now) lived.items))
+    ensures given { IfSome result.lives (λ lived. AreGiven
+        (arms_given (length (D.device_state device).bench.boots) (lives_seen (lists lives.now) lived.items))
         (D.device_state device).bench.arms (D.device_state result.device).bench.arms) }
     ensures sound { DeviceStaysSound (D.medium config.now) config.now (D.device_state device) (D.device_state result.device) }
 {
@@ -132,7 +134,8 @@ fn live_on<D: Driver, E: Engine<D> + Drop>(
         IsLinked config.now (D.medium config.now) (D.state driver).device (device_of (D.device_state result.device)) (lives_seen (lists lives.now) lived.items)) }
     ensures played { IfSome result.lives (λ lived. ArePlayed config.now (lives_seen (lists lives.now) lived.items)) }
     ensures ended { IfSome result.lives (λ lived. AreEnded (length lives.now) (lives_seen (lists lives.now) lived.items)) }
-    ensures given { IfSome result.lives (λ lived. AreGiven (arms_given (lives_seen (lists lives.now) lived.items))
+    ensures given { IfSome result.lives (λ lived. AreGiven
+        (arms_given (length (D.state driver).device.bench.boots) (lives_seen (lists lives.now) lived.items))
         (D.state driver).device.bench.arms (D.device_state result.device).bench.arms) }
     ensures sound { StaysSound config.now (moment_at (D.medium config.now) (boot_in (D.state driver).device))
         (moment_at (D.medium config.now) (boot_in (device_of (D.device_state result.device)))) }

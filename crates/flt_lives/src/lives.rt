@@ -48,7 +48,8 @@ pub fn run_lives<D: Blocks + Drop, E: Engine<D> + Drop>(
         IsLinked config.now medium (driver_of store.old).device (driver_of store.new).device (lives_seen (lists lives.now) lived.items)) }
     ensures played { IfOk result (λ lived. ArePlayed config.now (lives_seen (lists lives.now) lived.items)) }
     ensures ended { IfOk result (λ lived. AreEnded (length lives.now) (lives_seen (lists lives.now) lived.items)) }
-    ensures given { IfOk result (λ lived. AreGiven (arms_given (lives_seen (lists lives.now) lived.items))
+    ensures given { IfOk result (λ lived. AreGiven
+        (arms_given (length (driver_of store.old).device.bench.boots) (lives_seen (lists lives.now) lived.items))
         (driver_of store.old).device.bench.arms (driver_of store.new).device.bench.arms) }
     ensures sound { StaysSound config.now (moment_of (driver_of store.old)) (moment_of (driver_of store.new)) }
     ensures room { (driver_of store.new).room ≡ (driver_of store.old).room }

@@ -79,7 +79,7 @@ pub lived_by : (media : Config → Medium) (script : Script) (lives : List (Vec 
     → IfSome run (λ lived. IsRunOn (media script.config) script.config before after (lives_seen (lists lives) lived.items))
     → IfSome run (λ lived. ArePlayed script.config (lives_seen (lists lives) lived.items))
     → IfSome run (λ lived. AreEnded (length lives) (lives_seen (lists lives) lived.items))
-    → IfSome run (λ lived. AreGiven (arms_given (lives_seen (lists lives) lived.items)) before.bench.arms after.bench.arms)
+    → IfSome run (λ lived. AreGiven (arms_given (length before.bench.boots) (lives_seen (lists lives) lived.items)) before.bench.arms after.bench.arms)
     → IsLivedBy media (content script) before after made
 lived_by media script lives is before after run made valid script_is ran linked played ended given =
     let seen : lives_seen (lists lives) made.lives.items ≡ lives_seen (lists script.lives.items) made.lives.items = λ i. lives_seen (lists (is i)) made.lives.items in
@@ -91,7 +91,7 @@ lived_by media script lives is before after run made valid script_is ran linked 
         ended = subst (λ many. AreEnded many (lives_seen (lists script.lives.items) made.lives.items)) (ap length is ∙ sym (length-map script.lives.items (λ (life : Vec Part Global). parts_of life.items)))
             (subst (AreEnded (length lives)) seen (subst (λ run. IfSome run (λ lived. AreEnded (length lives) (lives_seen (lists lives) lived.items))) ran ended));
         linked = subst (IsRunOn (media script.config) script.config before after) seen (subst (λ run. IfSome run (λ lived. IsRunOn (media script.config) script.config before after (lives_seen (lists lives) lived.items))) ran linked);
-        given = subst (λ lives. AreGiven (arms_given lives) before.bench.arms after.bench.arms) seen
-            (subst (λ run. IfSome run (λ lived. AreGiven (arms_given (lives_seen (lists lives) lived.items)) before.bench.arms after.bench.arms)) ran given);
+        given = subst (λ lives. AreGiven (arms_given (length before.bench.boots) lives) before.bench.arms after.bench.arms) seen
+            (subst (λ run. IfSome run (λ lived. AreGiven (arms_given (length before.bench.boots) (lives_seen (lists lives) lived.items)) before.bench.arms after.bench.arms)) ran given);
       };
     }

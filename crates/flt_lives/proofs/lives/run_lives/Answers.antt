@@ -12,10 +12,11 @@ use Rattle.flt_script.specs.Part.{PartOf, parts_of}
 use Rattle.flt_life.specs.Parts.{arms_in, steps_in, widths}
 use Rattle.flt_life.specs.Chain.{LifeView}
 use Rattle.flt_life.specs.Played.{IsPlayed}
-use Rattle.flt_life.specs.Lives.{ArePlayed, AreEnded, arms_by, arms_given, is_refused, lists, lives_seen, view_of, views_of}
-use Rattle.flt_lives.specs.Going.{WereGiven}
+use Rattle.flt_life.specs.Lives.{ArePlayed, AreEnded, arms_given, is_refused, lists, lives_seen, view_of, views_of}
+use Rattle.flt_life.specs.Moment.{boot_of}
+use Rattle.flt_lives.specs.Going.{WereGivenIn}
 use Rattle.flt_lives.specs.Linked.{IsLinkedBy}
-use Rattle.flt_lives.proofs.Giving.{none_given, given_further, all_given}
+use Rattle.flt_lives.proofs.Giving.{none_added, more_given, all_given}
 use Rattle.flt_lives.proofs.Linking.{links_none, links_more, linked_of}
 use Rattle.flt_lives.proofs.lives.run_lives.Goals as goal
 
@@ -88,8 +89,11 @@ loop-parts-init g c = record {
   sound = λ h s sound. (h, s, sound);
   many = ap length c.in_ok-lived.ensures.items;
   played = subst (λ (items : List Life). ArePlayed c.args.config.now (lives_seen (lists c.args.lives.now) items)) (sym c.in_ok-lived.ensures.items) (All-nil _);
-  given = subst (λ (items : List Life). WereGiven (arms_given (lives_seen (lists c.args.lives.now) items)) (driver_of c.args.store.now).device.bench.arms (driver_of c.args.store.now).device.bench.arms)
-      (sym c.in_ok-lived.ensures.items) (none_given (driver_of c.args.store.now).device.bench.arms);
+  count = omega arith;
+  given =
+      let bench = (driver_of c.args.store.now).device.bench in
+      subst (λ (items : List Life). WereGivenIn (arms_given (length bench.boots) (lives_seen (lists c.args.lives.now) items)) bench.arms bench.arms)
+      (sym c.in_ok-lived.ensures.items) (none_added (λ a. (a.boots, a.arm)) bench.arms);
   going = subst (λ (items : List Life). All (λ (life : LifeView). IsFalse (is_refused life.boot)) (lives_seen (lists c.args.lives.now) items)) (sym c.in_ok-lived.ensures.items) (All-nil _);
   linked = λ medium keeps.
       subst (λ (items : List Life). IsLinkedBy c.args.config.now medium (driver_of c.args.store.now) (driver_of c.args.store.now) (lives_seen (lists c.args.lives.now) items)) (sym c.in_ok-lived.ensures.items)
@@ -143,8 +147,12 @@ loop-parts-preserved g c =
       sound = λ h s sound. (let one = c.loop-parts.invariant.sound h s sound in c.in_ok-next.ensures.sound one.0 one.1 one.2);
       many = (let many = c.loop-parts.invariant.many in let size = ap length c.in_ok-push.ensures.items ∙ length-append c.loop-parts.lived.items (c.in_ok-next.next.life ∷ []) in omega (arith, many, size));
       played = subst (ArePlayed c.args.config.now) (sym views) (All-cons (IsPlayed c.args.config.now) life earlier c.in_ok-next.ensures.played c.loop-parts.invariant.played);
-      given = subst (λ (views : List LifeView). WereGiven (arms_given views) before.device.bench.arms next.device.bench.arms) (sym views)
-          (given_further (arms_given earlier) (arms_by life.parts life.boot) before.device.bench.arms now.device.bench.arms next.device.bench.arms c.loop-parts.invariant.given c.in_ok-next.ensures.given);
+      count = (let count = c.loop-parts.invariant.count in let longer = ap length adds.boots ∙ length-append now.device.bench.boots (boot_of now ∷ []) in omega (arith, count, longer));
+      given = subst (λ (views : List LifeView). WereGivenIn (arms_given (length before.device.bench.boots) views) before.device.bench.arms next.device.bench.arms) (sym views)
+          (more_given (length before.device.bench.boots) (length now.device.bench.boots) c.in_ok-next.ensures.lived.ended earlier life
+          before.device.bench.arms now.device.bench.arms next.device.bench.arms
+          (let count = c.loop-parts.invariant.count in let size = seen_count (lists script) c.loop-parts.lived.items in let many = c.loop-parts.invariant.many in omega (arith, count, size, many))
+          c.loop-parts.invariant.given c.in_ok-next.ensures.lived.arms c.in_ok-next.ensures.given);
       going = subst (All (λ (l : LifeView). IsFalse (is_refused l.boot))) (sym views)
           (All-cons (λ (l : LifeView). IsFalse (is_refused l.boot)) life earlier (sym c.is_refused-ends.ensures ∙ c.if-ends.false) c.loop-parts.invariant.going);
       linked = λ medium keeps.
@@ -175,11 +183,16 @@ returns-then-ends-clause-given g c =
     let life = view_of (parts_of c.deref.result.now) c.in_ok-next.next.life in
     let views = seen_more script c.loop-parts.parts-index c.parts-item.result c.loop-parts-test.true c.parts-item.is c.deref.result.now c.deref.ensures.value
     c.loop-parts.lived.items c.push.new.self.items c.in_ok-next.next.life c.loop-parts.invariant.many c.in_ok-push.ensures.items in
-    let first = (driver_of c.args.store.now).device.bench.arms in
-    let last = (driver_of c.run_life.new.store).device.bench.arms in
-    all_given _ first last
-    (subst (λ (views : List LifeView). WereGiven (arms_given views) first last) (sym views)
-    (given_further (arms_given earlier) (arms_by life.parts life.boot) first (driver_of c.loop-parts.store).device.bench.arms last c.loop-parts.invariant.given c.in_ok-next.ensures.given))
+    let first = (driver_of c.args.store.now).device.bench in
+    let now = (driver_of c.loop-parts.store).device.bench in
+    let last = (driver_of c.run_life.new.store).device.bench in
+    let size = seen_count (lists script) c.loop-parts.lived.items in
+    let many = c.loop-parts.invariant.many in
+    let count = c.loop-parts.invariant.count in
+    all_given _ first.arms last.arms
+    (subst (λ (views : List LifeView). WereGivenIn (arms_given (length first.boots) views) first.arms last.arms) (sym views)
+    (more_given (length first.boots) (length now.boots) c.in_ok-next.ensures.lived.ended earlier life first.arms now.arms last.arms (omega (arith, count, size, many))
+    c.loop-parts.invariant.given c.in_ok-next.ensures.lived.arms c.in_ok-next.ensures.given))
 
 pub returns-then-ends-clause-ended : goal.returns-then-ends-clause-ended
 returns-then-ends-clause-ended g c =

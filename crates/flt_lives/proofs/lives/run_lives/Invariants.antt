@@ -7,7 +7,7 @@ use Rattle.flt_life.specs.Parts.{arms_in}
 use Rattle.flt_life.specs.Chain.{LifeView}
 use Rattle.flt_life.specs.Lives.{ArePlayed, StaysSound, arms_given, is_refused, lists, lives_seen}
 use Rattle.flt_life.specs.Moment.{Medium, moment_of}
-use Rattle.flt_lives.specs.Going.{WereGiven}
+use Rattle.flt_lives.specs.Going.{WereGivenIn}
 use Rattle.flt_lives.specs.Linked.{KeepsOn, IsLinkedBy}
 use Rattle.flt_lives.proofs.lives.run_lives.Given as goal
 
@@ -20,8 +20,10 @@ invariant-loop-parts g l = record {
   arms : (driver_of l.store).device.bench.armed + sum_by (λ life. sum_by arms_in (parts_of life.items)) (drop l.parts-index l.lives) ≤ 64;
   sound : StaysSound l.config (moment_of (driver_of l.fn.store)) (moment_of (driver_of l.store));
   many : length l.lived.items ≡ l.parts-index;
+  count : length (driver_of l.store).device.bench.boots ≡ length (driver_of l.fn.store).device.bench.boots + l.parts-index;
   played : ArePlayed l.config (lives_seen (lists l.lives) l.lived.items);
-  given : WereGiven (arms_given (lives_seen (lists l.lives) l.lived.items)) (driver_of l.fn.store).device.bench.arms (driver_of l.store).device.bench.arms;
+  given : WereGivenIn (arms_given (length (driver_of l.fn.store).device.bench.boots) (lives_seen (lists l.lives) l.lived.items))
+      (driver_of l.fn.store).device.bench.arms (driver_of l.store).device.bench.arms;
   going : All (λ (life : LifeView). IsFalse (is_refused life.boot)) (lives_seen (lists l.lives) l.lived.items);
   linked : (medium : Medium) → KeepsOn g.D.Blocks l.config medium → IsLinkedBy l.config medium (driver_of l.fn.store) (driver_of l.store) (lives_seen (lists l.lives) l.lived.items);
 }
