@@ -1,10 +1,11 @@
 //! Lives over a device, under the lock.
 ghost use Rattle.std.specs.Prelude.{◌≡◌, ◌+◌, ◌≤◌, All, IfSome, length, sum_by};
+ghost use Rattle.flt_flash.specs.Blocks.{device_of};
 ghost use Rattle.flt_dcm.specs.Whole.{config_of};
 ghost use Rattle.flt_script.specs.Part.{parts_of};
 ghost use Rattle.flt_life.specs.Parts.{IsPossiblePart, arms_in, steps_in, widths};
 ghost use Rattle.flt_life.specs.Lives.{ArePlayed, AreEnded, AreGiven, arms_given, lists, lives_seen};
-ghost use Rattle.flt_lives.specs.Devices.{IsRunOn, DeviceStaysSound};
+ghost use Rattle.flt_lives.specs.Devices.{IsRunOn, BeginsLives, DeviceStaysSound};
 
 use crate::engine::LockEngine;
 use crate::gate::SharedGate;
@@ -43,6 +44,7 @@ pub fn run_in_lanes<R: Threads + Wait + Sync, G: SharedGate, D: Driver>(
     ensures given { IfSome result.lives (λ lived. AreGiven
         (arms_given (length (D.device_state device).bench.boots) (lives_seen (lists lives.now) lived.items))
         (D.device_state device).bench.arms (D.device_state result.device).bench.arms) }
+    ensures begun { BeginsLives (length lives.now) (device_of (D.device_state device)) (device_of (D.device_state result.device)) }
     ensures sound { DeviceStaysSound (D.medium config.now) config.now (D.device_state device) (D.device_state result.device) }
 {
     match BoxedUnit::new(alloc, unit) {

@@ -4,6 +4,7 @@ pub mod Riding
 pub mod Playing
 pub mod Starting
 pub mod Linking
+pub mod Beginning
 pub mod Bridge
 pub mod Causing
 pub mod Giving

@@ -10,7 +10,7 @@ ghost use Rattle.flt_life.specs.Parts.{IsPossiblePart, arms_in, steps_in, widths
 ghost use Rattle.flt_life.specs.Lives.{IsLinked, ArePlayed, AreEnded, AreGiven, StaysSound, arms_given, lists, lives_seen};
 ghost use Rattle.flt_life.specs.Moment.{boot_in, moment_at};
 ghost use Rattle.flt_lives.specs.Alone.{AreAlone};
-ghost use Rattle.flt_lives.specs.Devices.{IsRunOn, DeviceStaysSound};
+ghost use Rattle.flt_lives.specs.Devices.{IsRunOn, BeginsLives, DeviceStaysSound};
 
 use crate::driver::Driver;
 use crate::engine::Engine;
@@ -59,6 +59,7 @@ pub fn run_on_device<D: Driver, E: Engine<D> + Drop>(
     ensures given { IfSome result.lives (λ lived. AreGiven
         (arms_given (length (D.device_state device).bench.boots) (lives_seen (lists lives.now) lived.items))
         (D.device_state device).bench.arms (D.device_state result.device).bench.arms) }
+    ensures begun { BeginsLives (length lives.now) (device_of (D.device_state device)) (device_of (D.device_state result.device)) }
     ensures sound { DeviceStaysSound (D.medium config.now) config.now (D.device_state device) (D.device_state result.device) }
 {
     let Ok(numbers) = fee_numbers(alloc) else {
@@ -106,6 +107,7 @@ pub fn run_alone<D: Driver>(
     ensures given { IfSome result.lives (λ lived. AreGiven
         (arms_given (length (D.device_state device).bench.boots) (lives_seen (lists lives.now) lived.items))
         (D.device_state device).bench.arms (D.device_state result.device).bench.arms) }
+    ensures begun { BeginsLives (length lives.now) (device_of (D.device_state device)) (device_of (D.device_state result.device)) }
     ensures sound { DeviceStaysSound (D.medium config.now) config.now (D.device_state device) (D.device_state result.device) }
 {
     run_on_device::<D, Plain>(alloc, Plain { unit }, device, config, lives)
@@ -137,6 +139,7 @@ fn live_on<D: Driver, E: Engine<D> + Drop>(
     ensures given { IfSome result.lives (λ lived. AreGiven
         (arms_given (length (D.state driver).device.bench.boots) (lives_seen (lists lives.now) lived.items))
         (D.state driver).device.bench.arms (D.device_state result.device).bench.arms) }
+    ensures begun { BeginsLives (length lives.now) (D.state driver).device (device_of (D.device_state result.device)) }
     ensures sound { StaysSound config.now (moment_at (D.medium config.now) (boot_in (D.state driver).device))
         (moment_at (D.medium config.now) (boot_in (device_of (D.device_state result.device)))) }
 {

@@ -6,6 +6,7 @@ ghost use Rattle.flt_store.specs.Cause.{HasRoom};
 ghost use Rattle.flt_life.specs.Lives.{IsLinked, ArePlayed, AreEnded, AreGiven, StaysSound, arms_given, is_refused, lists, lives_seen};
 ghost use Rattle.flt_life.specs.Moment.{Medium, moment_of};
 ghost use Rattle.flt_life.specs.Parts.{IsPossiblePart, arms_in, steps_in, widths};
+ghost use Rattle.flt_lives.specs.Devices.{BeginsLives};
 ghost use Rattle.flt_lives.specs.Linked.{KeepsOn};
 
 use crate::buffers::Buffers;
@@ -28,7 +29,7 @@ fn is_refused(life: &Life) -> bool
 }
 
 /// Lives one after the other, up to the first that is refused, whose steps the engine makes. The error means that there was no memory
-/// for the next life; a sound image is still sound then.
+/// for the next life: the device has a boot for each life that was begun, or is as it was, and a sound image is still sound.
 pub fn run_lives<D: Blocks + Drop, E: Engine<D> + Drop>(
     alloc: Global,
     engine: E,
@@ -51,6 +52,7 @@ pub fn run_lives<D: Blocks + Drop, E: Engine<D> + Drop>(
     ensures given { IfOk result (λ lived. AreGiven
         (arms_given (length (driver_of store.old).device.bench.boots) (lives_seen (lists lives.now) lived.items))
         (driver_of store.old).device.bench.arms (driver_of store.new).device.bench.arms) }
+    ensures begun { BeginsLives (length lives.now) (driver_of store.old).device (driver_of store.new).device }
     ensures sound { StaysSound config.now (moment_of (driver_of store.old)) (moment_of (driver_of store.new)) }
     ensures room { (driver_of store.new).room ≡ (driver_of store.old).room }
 {

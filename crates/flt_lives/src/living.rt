@@ -9,6 +9,7 @@ ghost use Rattle.flt_life.specs.Lives.{StaysSound, view_of, arms_by};
 ghost use Rattle.flt_life.specs.Moment.{moment_of};
 ghost use Rattle.flt_life.specs.Parts.{IsPossiblePart, arms_in, steps_in, widths};
 ghost use Rattle.flt_life.specs.Played.{IsPlayed};
+ghost use Rattle.flt_lives.specs.Devices.{BeginsLives};
 ghost use Rattle.flt_lives.specs.Going.{WereGiven, AddsLife};
 ghost use Rattle.flt_lives.specs.Living.{IsLived};
 
@@ -67,6 +68,7 @@ pub fn run_life<D: Blocks + Drop, E: Engine<D> + Drop>(
         WereGiven (arms_by (parts_of parts.now) lived.life.boot) (driver_of store.old).device.bench.arms (driver_of store.new).device.bench.arms) }
     ensures sound { StaysSound config.now (moment_of (driver_of store.old)) (moment_of (driver_of store.new)) }
     ensures adds { OnOk result (AddsLife (driver_of store.old) (driver_of store.new)) }
+    ensures begun { BeginsLives 1 (driver_of store.old).device (driver_of store.new).device }
     ensures armed { OnOk result ((driver_of store.new).device.bench.armed ≤ (driver_of store.old).device.bench.armed + sum_by arms_in (parts_of parts.now)) }
     ensures room { (driver_of store.new).room ≡ (driver_of store.old).room }
 {

@@ -11,7 +11,7 @@ use Rattle.flt_run.specs.Ending.{ComesTo, EndingHasCause, Inside, IsLivedBy, IsS
 module _ (dids : List DidUse) (inside : Inside) (command : Option Command) where
   -- No life was made.
   pub untouched : (ending : Option Ending) → IfSome ending (EndingHasCause dids inside command None) → IsUntouched inside → ComesTo dids inside command ending
-  untouched ending ends same = record { script = None; works = tt; ends = ends; sound = same }
+  untouched ending ends same = record { script = None; works = tt; ends = ends; begun = tt; sound = same }
 
   mapped : (end : Made → Ending) (made : Option Made) (script : ScriptContent) → IfSome made (IsLivedBy inside.media script inside.device inside.device_after)
       → ((one : Made) → IsLivedBy inside.media script inside.device inside.device_after one → EndingHasCause dids inside command (Some script) (end one))
@@ -22,4 +22,4 @@ module _ (dids : List DidUse) (inside : Inside) (command : Option Command) where
   -- Lives of a script were made, if memory was not wanting.
   pub lived : (end : Made → Ending) (made : Option Made) (script : ScriptContent) → IsScriptOf dids inside command script → MakesLives inside.media script inside.device inside.device_after made
       → ((one : Made) → IsLivedBy inside.media script inside.device inside.device_after one → EndingHasCause dids inside command (Some script) (end one)) → ComesTo dids inside command (option_map end made)
-  lived end made script of makes cause = record { script = Some script; works = (makes.valid, of); ends = mapped end made script makes.lived cause; sound = makes.sound }
+  lived end made script of makes cause = record { script = Some script; works = (makes.valid, of); ends = mapped end made script makes.lived cause; begun = makes.begun; sound = makes.sound }

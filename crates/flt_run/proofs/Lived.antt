@@ -14,7 +14,8 @@ use Rattle.flt_life.specs.declared.life.Life.{Life}
 use Rattle.flt_life.specs.Chain.{LifeView, IsLifeBegunBy, AreLinked}
 use Rattle.flt_life.specs.Lives.{AreEnded, AreGiven, ArePlayed, arms_given, lists, lives_seen, view_of, views_of}
 use Rattle.flt_life.specs.Moment.{Moment, Medium, moment_at}
-use Rattle.flt_lives.specs.Devices.{IsRunOn}
+use Rattle.flt_flash.specs.Blocks.{DeviceState}
+use Rattle.flt_lives.specs.Devices.{IsRunOn, BeginsLives}
 use Rattle.flt_script.specs.declared.script.Script.{Script}
 use Rattle.flt_script.specs.declared.step.Part.{Part}
 use Rattle.flt_script.specs.declared.step.Step.{Step}
@@ -72,6 +73,12 @@ some_lives script made is =
 pub if_some : {A : Type 0} {P Q : A → Type 0} (o : Option A) → ((x : A) → P x → Q x) → IfSome o P → IfSome o Q
 if_some None weaker holds = tt
 if_some (Some x) weaker holds = weaker x holds
+
+-- As many lives were begun as the script may have.
+pub begun_by : (script : Script) (lives : List (Vec Part Global)) → lives ≡ script.lives.items → (before after : DeviceState) → BeginsLives (length lives) before after
+    → BeginsLives (length (content script).lives) before after
+begun_by script lives is before after =
+    subst (λ many. BeginsLives many before after) (ap length is ∙ sym (length-map script.lives.items (λ (life : Vec Part Global). parts_of life.items)))
 
 pub lived_by : (media : Config → Medium) (script : Script) (lives : List (Vec Part Global)) (is : lives ≡ script.lives.items) (before after : FlashState) (run : Option (Vec Life Global)) (made : Made)
     → IsGiven script.config

@@ -1,9 +1,10 @@
-use Rattle.std.proofs.Common.{◌≡◌, ◌∙◌, sym, ap, subst}
+use Rattle.std.proofs.Common.{◌≡◌, ◌∙◌, length, sym, ap, subst}
 use Rattle.flt_flash.specs.Blocks.{BlocksState, DeviceState, device_of}
 use Rattle.flt_store.specs.Cause.{HasRoom}
 use Rattle.flt_store.specs.Store.{driver_of}
 use Rattle.flt_life.specs.Lives.{IsLinked, lists, lives_seen}
 use Rattle.flt_lives.proofs.Bridge.{sound_over}
+use Rattle.flt_lives.proofs.Beginning.{begun_over}
 use Rattle.flt_lives.proofs.device.live_on.Goals as goal
 
 pub returns-in-Ok-clause-sound : goal.returns-in-Ok-clause-sound
@@ -31,3 +32,15 @@ returns-in-Ok-clause-linked g c =
     (subst (λ (d : DeviceState). IsLinked c.args.config.now medium d (driver_of c.run_lives-lived.new.store).device (lives_seen (lists c.args.lives.now) c.in-Ok.lives.items))
     (ap (λ (d : BlocksState). d.device) made)
     (c.in-Ok.ensures.linked medium (g.met.D.Driver.keeps c.args.config.now)))
+
+pub returns-in-Ok-clause-begun : goal.returns-in-Ok-clause-begun
+returns-in-Ok-clause-begun g c =
+    begun_over (length c.args.lives.now) (g.D.Blocks.state c.args.driver).device (driver_of c.make-store.result).device (driver_of c.run_lives-lived.new.store).device (device_of (g.D.Driver.device_state c.close-device.result))
+    (ap (λ (d : BlocksState). d.device) (sym (c.make-store.ensures ∙ c.make.ensures.driver))) (c.close-device.ensures ∙ ap (λ (d : BlocksState). d.device) c.retire.ensures)
+    c.run_lives-lived.ensures.begun
+
+pub returns-in-Err-clause-begun : goal.returns-in-Err-clause-begun
+returns-in-Err-clause-begun g c =
+    begun_over (length c.args.lives.now) (g.D.Blocks.state c.args.driver).device (driver_of c.make-store.result).device (driver_of c.run_lives-lived.new.store).device (device_of (g.D.Driver.device_state c.close-device.result))
+    (ap (λ (d : BlocksState). d.device) (sym (c.make-store.ensures ∙ c.make.ensures.driver))) (c.close-device.ensures ∙ ap (λ (d : BlocksState). d.device) c.retire.ensures)
+    c.run_lives-lived.ensures.begun

@@ -18,6 +18,7 @@ use Rattle.flt_lives.specs.Going.{WereGivenIn}
 use Rattle.flt_lives.specs.Linked.{IsLinkedBy}
 use Rattle.flt_lives.proofs.Giving.{none_added, more_given, all_given}
 use Rattle.flt_lives.proofs.Linking.{links_none, links_more, linked_of}
+use Rattle.flt_lives.proofs.Beginning.{none_begun, begun_next, begun_within}
 use Rattle.flt_lives.proofs.lives.run_lives.Goals as goal
 
 -- One life more, and the parts that it has.
@@ -90,6 +91,7 @@ loop-parts-init g c = record {
   many = ap length c.in_ok-lived.ensures.items;
   played = subst (λ (items : List Life). ArePlayed c.args.config.now (lives_seen (lists c.args.lives.now) items)) (sym c.in_ok-lived.ensures.items) (All-nil _);
   count = omega arith;
+  begun = none_begun 0 (driver_of c.args.store.now).device;
   given =
       let bench = (driver_of c.args.store.now).device.bench in
       subst (λ (items : List Life). WereGivenIn (arms_given (length bench.boots) (lives_seen (lists c.args.lives.now) items)) bench.arms bench.arms)
@@ -148,6 +150,7 @@ loop-parts-preserved g c =
       many = (let many = c.loop-parts.invariant.many in let size = ap length c.in_ok-push.ensures.items ∙ length-append c.loop-parts.lived.items (c.in_ok-next.next.life ∷ []) in omega (arith, many, size));
       played = subst (ArePlayed c.args.config.now) (sym views) (All-cons (IsPlayed c.args.config.now) life earlier c.in_ok-next.ensures.played c.loop-parts.invariant.played);
       count = (let count = c.loop-parts.invariant.count in let longer = ap length adds.boots ∙ length-append now.device.bench.boots (boot_of now ∷ []) in omega (arith, count, longer));
+      begun = begun_next _ _ before.device now.device next.device (omega arith) c.loop-parts.invariant.begun c.run_life.ensures.begun;
       given = subst (λ (views : List LifeView). WereGivenIn (arms_given (length before.device.bench.boots) views) before.device.bench.arms next.device.bench.arms) (sym views)
           (more_given (length before.device.bench.boots) (length now.device.bench.boots) c.in_ok-next.ensures.lived.ended earlier life
           before.device.bench.arms now.device.bench.arms next.device.bench.arms
@@ -219,3 +222,23 @@ returns-clause-ended g c =
     let within = c.loop-parts.auto.parts-index-end in
     let size = seen_count (lists c.args.lives.now) c.loop-parts.lived.items ∙ c.loop-parts.invariant.many in
     ended_all (length c.args.lives.now) c.loop-parts.parts-index (lives_seen (lists c.args.lives.now) c.loop-parts.lived.items) (omega (arith, past, within)) size c.loop-parts.invariant.going
+
+pub returns-in_err-lived-clause-begun : goal.returns-in_err-lived-clause-begun
+returns-in_err-lived-clause-begun g c = none_begun (length c.args.lives.now) (driver_of c.args.store.now).device
+
+pub returns-in_err-next-clause-begun : goal.returns-in_err-next-clause-begun
+returns-in_err-next-clause-begun g c =
+    begun_next _ _ _ _ _ c.loop-parts-test.true c.loop-parts.invariant.begun c.run_life.ensures.begun
+
+pub returns-in_err-push-clause-begun : goal.returns-in_err-push-clause-begun
+returns-in_err-push-clause-begun g c =
+    begun_next _ _ _ _ _ c.loop-parts-test.true c.loop-parts.invariant.begun c.run_life.ensures.begun
+
+pub returns-then-ends-clause-begun : goal.returns-then-ends-clause-begun
+returns-then-ends-clause-begun g c =
+    begun_next _ _ _ _ _ c.loop-parts-test.true c.loop-parts.invariant.begun c.run_life.ensures.begun
+
+pub returns-clause-begun : goal.returns-clause-begun
+returns-clause-begun g c =
+    let within = c.loop-parts.auto.parts-index-end in
+    begun_within c.loop-parts.parts-index (length c.args.lives.now) (driver_of c.args.store.now).device (driver_of c.loop-parts.store).device (omega (arith, within)) c.loop-parts.invariant.begun

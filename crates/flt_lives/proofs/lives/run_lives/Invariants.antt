@@ -7,6 +7,7 @@ use Rattle.flt_life.specs.Parts.{arms_in}
 use Rattle.flt_life.specs.Chain.{LifeView}
 use Rattle.flt_life.specs.Lives.{ArePlayed, StaysSound, arms_given, is_refused, lists, lives_seen}
 use Rattle.flt_life.specs.Moment.{Medium, moment_of}
+use Rattle.flt_lives.specs.Devices.{BeginsLives}
 use Rattle.flt_lives.specs.Going.{WereGivenIn}
 use Rattle.flt_lives.specs.Linked.{KeepsOn, IsLinkedBy}
 use Rattle.flt_lives.proofs.lives.run_lives.Given as goal
@@ -22,6 +23,7 @@ invariant-loop-parts g l = record {
   many : length l.lived.items ≡ l.parts-index;
   count : length (driver_of l.store).device.bench.boots ≡ length (driver_of l.fn.store).device.bench.boots + l.parts-index;
   played : ArePlayed l.config (lives_seen (lists l.lives) l.lived.items);
+  begun : BeginsLives l.parts-index (driver_of l.fn.store).device (driver_of l.store).device;
   given : WereGivenIn (arms_given (length (driver_of l.fn.store).device.bench.boots) (lives_seen (lists l.lives) l.lived.items))
       (driver_of l.fn.store).device.bench.arms (driver_of l.store).device.bench.arms;
   going : All (λ (life : LifeView). IsFalse (is_refused life.boot)) (lives_seen (lists l.lives) l.lived.items);

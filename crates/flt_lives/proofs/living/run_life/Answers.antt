@@ -14,6 +14,7 @@ use Rattle.flt_lives.proofs.Deeds.{keeps_from_boot}
 use Rattle.flt_lives.proofs.Giving.{none_since}
 use Rattle.flt_lives.proofs.Rooms.{possible_own, possible_lanes}
 use Rattle.flt_lives.proofs.Starting.{if_ok, keeps, stays_by_keeping, lived_refused, lived_started, lived_dark}
+use Rattle.flt_lives.proofs.Beginning.{none_begun, one_begun}
 use Rattle.flt_lives.proofs.living.run_life.Goals as goal
 
 pub dark_life-life-requires-clause-possible : goal.dark_life-life-requires-clause-possible
@@ -124,3 +125,28 @@ pub returns-in-Err-SequenceSpent-clause-sound : goal.returns-in-Err-SequenceSpen
 returns-in-Err-SequenceSpent-clause-sound g c =
     stays_by_keeping c.args.config.now (driver_of c.args.store.now) (driver_of c.power_up.new.self) (driver_of c.start_up.new.self) c.power_up.ensures.powers_up
     (keeps c.args.config.now (driver_of c.power_up.new.self) (driver_of c.start_up.new.self) c.start_up.ensures.follows c.in-Err-SequenceSpent.ensures.left)
+
+pub returns-in_err-room-clause-begun : goal.returns-in_err-room-clause-begun
+returns-in_err-room-clause-begun g c = none_begun 1 (driver_of c.args.store.now).device
+
+pub returns-in-Ok-clause-begun : goal.returns-in-Ok-clause-begun
+returns-in-Ok-clause-begun g c =
+    one_begun (driver_of c.args.store.now).device (driver_of c.live.new.store).device
+    (c.live.ensures.goes_on.boots ∙ c.start_up.ensures.follows.bench.boots ∙ c.power_up.ensures.powers_up.bench.boots)
+
+pub returns-in-Err-Flash-clause-begun : goal.returns-in-Err-Flash-clause-begun
+returns-in-Err-Flash-clause-begun g c =
+    one_begun (driver_of c.args.store.now).device (driver_of c.dark_life-life.new.store).device
+    (c.dark_life-life.ensures.goes_on.boots ∙ c.start_up.ensures.follows.bench.boots ∙ c.power_up.ensures.powers_up.bench.boots)
+
+pub returns-in-Err-Damaged-clause-begun : goal.returns-in-Err-Damaged-clause-begun
+returns-in-Err-Damaged-clause-begun g c =
+    one_begun (driver_of c.args.store.now).device (driver_of c.start_up.new.self).device (c.start_up.ensures.follows.bench.boots ∙ c.power_up.ensures.powers_up.bench.boots)
+
+pub returns-in-Err-OtherConfig-clause-begun : goal.returns-in-Err-OtherConfig-clause-begun
+returns-in-Err-OtherConfig-clause-begun g c =
+    one_begun (driver_of c.args.store.now).device (driver_of c.start_up.new.self).device (c.start_up.ensures.follows.bench.boots ∙ c.power_up.ensures.powers_up.bench.boots)
+
+pub returns-in-Err-SequenceSpent-clause-begun : goal.returns-in-Err-SequenceSpent-clause-begun
+returns-in-Err-SequenceSpent-clause-begun g c =
+    one_begun (driver_of c.args.store.now).device (driver_of c.start_up.new.self).device (c.start_up.ensures.follows.bench.boots ∙ c.power_up.ensures.powers_up.bench.boots)

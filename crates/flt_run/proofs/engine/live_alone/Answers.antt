@@ -1,9 +1,10 @@
 use Rattle.std.proofs.Common.{arith, sym, subst}
 use Rattle.std.specs.Prelude.{All}
+use Rattle.flt_flash.specs.Blocks.{device_of}
 use Rattle.flt_script.specs.Part.{parts_of}
 use Rattle.flt_life.specs.Parts.{IsPossiblePart}
 use Rattle.flt_run.proofs.Possible.{possible_lives, all_arms_same, all_widths_same}
-use Rattle.flt_run.proofs.Lived.{if_some, lived_by, none_by_flash}
+use Rattle.flt_run.proofs.Lived.{if_some, begun_by, lived_by, none_by_flash}
 use Rattle.flt_run.proofs.engine.live_alone.Goals as goal
 
 pub run_alone-run-requires-clause-small : goal.run_alone-run-requires-clause-small
@@ -35,4 +36,5 @@ returns g c =
     (λ made is. lived_by g.D.Driver.medium c.args.script c.deref.result.now c.deref.ensures.value before (g.D.Driver.device_state c.run_alone-run.result.device) c.run_alone-run.result.lives made c.look_at_config.ensures is.0 is.1
     c.run_alone-run.ensures.linked c.run_alone-run.ensures.played c.run_alone-run.ensures.ended c.run_alone-run.ensures.given)
     c.made_of.ensures.made in
-    rw c.made_of.ensures.device (record { valid = c.look_at_config.ensures; lived = ran; sound = c.run_alone-run.ensures.sound })
+    let begun = begun_by c.args.script c.deref.result.now c.deref.ensures.value (device_of before) (device_of (g.D.Driver.device_state c.run_alone-run.result.device)) c.run_alone-run.ensures.begun in
+    rw c.made_of.ensures.device (record { valid = c.look_at_config.ensures; lived = ran; begun = begun; sound = c.run_alone-run.ensures.sound })

@@ -1,0 +1,40 @@
+-- Lives that were begun over a device, one after the other.
+use Rattle.std.proofs.Common.{◌≡◌, ℕ, ◌<◌, ◌≤◌, List, [], ◌∷◌, ◌++◌, length, refl, ap, sym, subst, arith, append_assoc, ◌∙◌}
+use Rattle.std.proofs.lemmas.List.{append-nil, length-append}
+use Rattle.flt_flash.specs.State.{Boot as PowerUp}
+use Rattle.flt_flash.specs.Blocks.{DeviceState}
+use Rattle.flt_life.specs.Moment.{boot_in}
+use Rattle.flt_lives.specs.Devices.{BeginsFrom, BeginsLives}
+
+-- None.
+pub none_begun : (most : ℕ) (device : DeviceState) → BeginsLives most device device
+none_begun most device = record { begun = []; boots = sym (append-nil device.bench.boots); few = omega arith; from = refl }
+
+-- The same, of devices that are these.
+pub begun_over : (most : ℕ) (first before after last : DeviceState) → first ≡ before → last ≡ after → BeginsLives most before after → BeginsLives most first last
+begun_over most first before after last is is_after begins = subst (BeginsLives most first) (sym is_after) (subst (λ d. BeginsLives most d after) (sym is) begins)
+
+-- One.
+pub one_begun : (before after : DeviceState) → after.bench.boots ≡ before.bench.boots ++ boot_in before ∷ [] → BeginsLives 1 before after
+one_begun before after boots = record { begun = boot_in before ∷ []; boots = boots; few = omega arith; from = refl }
+
+from_further : (first second third : DeviceState) (begun later : List PowerUp) → BeginsFrom first second begun → BeginsFrom second third later → BeginsFrom first third (begun ++ later)
+from_further first second third [] later one two = subst (λ d. BeginsFrom d third later) one two
+from_further first second third (boot ∷ rest) later one two = one
+
+-- Some, and then one more.
+pub begun_next : (few all : ℕ) (first second third : DeviceState) → few < all → BeginsLives few first second → BeginsLives 1 second third → BeginsLives all first third
+begun_next few all first second third within one two =
+    let most = one.few in let more = two.few in let size = length-append one.begun two.begun in
+    record {
+      begun = one.begun ++ two.begun;
+      boots = two.boots ∙ ap (λ front. front ++ two.begun) one.boots ∙ append_assoc first.bench.boots one.begun two.begun;
+      few = omega (arith, most, more, size, within);
+      from = from_further first second third one.begun two.begun one.from two.from;
+    }
+
+-- No more than that.
+pub begun_within : (most all : ℕ) (before after : DeviceState) → most ≤ all → BeginsLives most before after → BeginsLives all before after
+begun_within most all before after within begins =
+    let few = begins.few in
+    record { begun = begins.begun; boots = begins.boots; few = omega (arith, few, within); from = begins.from }
