@@ -15,7 +15,7 @@ use Rattle.flt_queue.specs.Call as queued
 use Rattle.flt_script.specs.declared.step.Step.{Step}
 use Rattle.flt_script.specs.Part.{PartOf}
 use Rattle.flt_store.specs.declared.store.Store.{Store}
-use Rattle.flt_store.specs.Store.{IsRunning, driver_of, numbered}
+use Rattle.flt_store.specs.Store.{IsAlive, IsRunning, driver_of, numbered}
 use Rattle.flt_turn.specs.declared.vault.Entry.{Entry}
 use Rattle.flt_turn.specs.Seats.{main_seat}
 use Rattle.flt_life.specs.Answers.{Told}
@@ -27,7 +27,6 @@ use Rattle.flt_life.specs.Ordered.{deeds_in}
 use Rattle.flt_life.specs.Parts.{IsPossibleInLane, IsPossiblePart, steps_in}
 use Rattle.flt_life.specs.Played.{IsLife, IsMade, StepMakes, StepQueues}
 use Rattle.flt_shared.specs.Call.{Seat, reply_after}
-use Rattle.flt_lives.specs.Alive.{IsAlive}
 use Rattle.flt_lives.specs.Living.{IsCaused, IsKeptSince}
 use Rattle.flt_lives.proofs.Causing.{are_caused}
 use Rattle.flt_lane.specs.Block.{HaveRunParts}

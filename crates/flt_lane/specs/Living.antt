@@ -14,7 +14,7 @@ use Rattle.flt_turn.specs.declared.vault.Entry.{Entry}
 use Rattle.flt_turn.specs.Journal.{ops_of}
 use Rattle.flt_turn.specs.Seats.{Seated}
 use Rattle.flt_store.specs.declared.store.Store.{Store}
-use Rattle.flt_store.specs.Store.{IsRunning, driver_of}
+use Rattle.flt_store.specs.Store.{IsAlive, IsRunning, driver_of}
 use Rattle.flt_life.specs.Answers.{Told}
 use Rattle.flt_life.specs.Applications.{HoldApplications, AreGot, done_count, jobs_told, up_to_done}
 use Rattle.flt_life.specs.Chain.{start_from}
@@ -22,7 +22,6 @@ use Rattle.flt_life.specs.Journal.{Journal}
 use Rattle.flt_life.specs.Ordered.{Deed}
 use Rattle.flt_life.specs.declared.answer.StepAnswer.TheVariants.{Saved, SaveFailed, Drained}
 use Rattle.flt_shared.specs.Call.{Seat}
-use Rattle.flt_lives.specs.Alive.{IsAlive}
 use Rattle.flt_lives.specs.Living.{IsKeptSince, IsCaused}
 use Rattle.flt_lane.specs.Runs.{QueueSeat}
 

@@ -6,7 +6,7 @@ use Rattle.flt_config.specs.Durable.{Fits}
 use Rattle.flt_config.specs.Validity.{IsValid}
 use Rattle.flt_script.specs.Step.{has_store_step}
 use Rattle.flt_store.specs.declared.store.Store.{Store}
-use Rattle.flt_store.specs.Store.{driver_of}
+use Rattle.flt_store.specs.Store.{IsAlive, driver_of}
 use Rattle.flt_life.specs.Ordered.{Deed, lane_deeds}
 use Rattle.flt_lives.specs.Going.{GoesOn, WereGiven}
 use Rattle.flt_lane.specs.declared.lane.LaneWork.{LaneWork}
@@ -34,6 +34,7 @@ module _ {B : Type 0} {b : Ghosts B} where
     pub same : lane.seat.start.config ≡ c
     pub valid : IsValid c
     pub fits : Fits c lane.seat.start.base
+    pub alive : IsAlive c store
     pub arms : (driver_of store).device.bench.armed ≤ 64
 
   -- What steps leave of the store and its bench that make no arm.

@@ -4,7 +4,7 @@ ghost use Rattle.std.specs.Vec.{vec_capacity};
 ghost use Rattle.flt_config.specs.Durable.{Fits};
 ghost use Rattle.flt_config.specs.Validity.{IsValid};
 ghost use Rattle.flt_script.specs.Step.{store_lanes};
-ghost use Rattle.flt_store.specs.Store.{driver_of};
+ghost use Rattle.flt_store.specs.Store.{IsAlive, driver_of};
 ghost use Rattle.flt_turn.specs.Seats as turn;
 ghost use Rattle.flt_turn.specs.Seats.{split_off, split_seat};
 ghost use Rattle.flt_shared.specs.Lock.{IsSeatOf};
@@ -143,6 +143,7 @@ fn run_works<R: Threads + Wait + Sync, G: SharedGate, B: Blocks + Drop>(
     requires same { All (λ lane. lane.seat.start.config ≡ config.now) works.old.items }
     requires valid { IsValid config.now }
     requires fits { All (λ lane. Fits config.now lane.seat.start.base) works.old.items }
+    requires alive { IsAlive config.now store.old }
     requires arms { (driver_of store.old).device.bench.armed ≤ 64 }
     ensures ran { AreRun config.now works.old.items works.new.items store.old store.new }
     ensures seats { All (AreSeatsOf locks.now) works.new.items }
@@ -170,6 +171,7 @@ pub(crate) fn run_lanes<'a, R: Threads + Wait + Sync, G: SharedGate, B: Blocks +
     requires same { main.old.start.config ≡ config.now }
     requires valid { IsValid config.now }
     requires fits { Fits config.now main.old.start.base }
+    requires alive { IsAlive config.now store.old }
     requires arms { (driver_of store.old).device.bench.armed ≤ 64 }
     requires room { All IsLaneRoom rooms.items }
     requires steps { All (IsLaneFor main.old.start.config) (steps_of rooms.items) }

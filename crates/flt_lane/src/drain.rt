@@ -10,6 +10,7 @@ ghost use Rattle.flt_queue.specs.declared.job.QueueOp.TheVariants as ops;
 ghost use Rattle.flt_queue.specs.declared.job.QueueReply.{QueueReply as Replied};
 ghost use Rattle.flt_turn.specs.declared.answer.Answer.{Answer};
 ghost use Rattle.flt_script.specs.declared.step.Step.TheVariants as steps;
+ghost use Rattle.flt_store.specs.Store.{IsAlive};
 ghost use Rattle.flt_shared.specs.Call.{Seat};
 ghost use Rattle.flt_turn.specs.Seats as turn;
 ghost use Rattle.flt_lane.specs.Draining.{LooksForJob, WritesJob};
@@ -36,6 +37,7 @@ fn write_job<R: Wait, B: Blocks + Drop>(
     requires lock { turn.IsSeatOf queue.now.turn seat.old }
     requires job { IsJob seat.old.start job.now }
     requires blocks { seat.old.start ≤ 40 }
+    requires alive { (c : Config) × (c.blocks ≡ seat.old.start) × IsAlive c store.old }
     requires left { 1 ≤ seat.old.left }
     ensures wrote { (c : Config) → c.blocks ≡ seat.old.start → WritesJob c job.now result store.old store.new }
     ensures noted { (noted : Answer Replied) × queued.IsCall seat.old seat.new (ops.Done job.now.block result) noted }
@@ -59,6 +61,7 @@ fn take_job<R: Wait, B: Blocks + Drop>(
     requires lock { turn.IsSeatOf queue.now.turn seat.old }
     requires blocks { seat.old.start ≡ config.now.blocks }
     requires valid { IsValid config.now }
+    requires alive { IsAlive config.now store.old }
     requires left { 2 ≤ seat.old.left }
     ensures looks { LooksForJob config.now seat.old seat.new result store.old store.new }
     ensures lock { turn.IsSeatOf queue.now.turn seat.new }
@@ -83,6 +86,7 @@ pub(crate) fn drain<R: Wait, B: Blocks + Drop>(
     requires lock { turn.IsSeatOf queue.now.turn seat.old }
     requires blocks { seat.old.start ≡ config.now.blocks }
     requires valid { IsValid config.now }
+    requires alive { IsAlive config.now store.old }
     requires left { 64 ≤ seat.old.left }
     ensures queues { (bytes : List ℕ) → Queues seat.old steps.Drain (told_with bytes result) seat.new }
     ensures size { (bytes : List ℕ) → told_size (told_with bytes result) ≡ 0 }

@@ -4,7 +4,7 @@ ghost use Rattle.std.specs.Thread.{IsSync};
 ghost use Rattle.flt_config.specs.Durable.{Fits};
 ghost use Rattle.flt_config.specs.Validity.{IsValid};
 ghost use Rattle.flt_script.specs.Step.{store_lanes};
-ghost use Rattle.flt_store.specs.Store.{driver_of};
+ghost use Rattle.flt_store.specs.Store.{IsAlive, driver_of};
 ghost use Rattle.flt_lane.specs.Stored.{AreRun};
 ghost use Rattle.flt_lane.specs.Work.{AreSeatsOf, IsPrepared};
 ghost use Rattle.flt_lane.specs.declared.lane.LaneWork.{LaneWork};
@@ -45,6 +45,7 @@ pub trait SharedGate: Gate {
         requires same { All (λ lane. lane.seat.start.config ≡ config.now) lanes.old }
         requires valid { IsValid config.now }
         requires fits { All (λ lane. Fits config.now lane.seat.start.base) lanes.old }
+        requires alive { IsAlive config.now store.old }
         requires arms { (driver_of store.old).device.bench.armed ≤ 64 }
         ensures ran { AreRun config.now lanes.old lanes.new store.old store.new }
         ensures seats { All (AreSeatsOf locks.now) lanes.new };

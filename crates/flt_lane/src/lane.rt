@@ -3,7 +3,7 @@ ghost use Rattle.std.specs.Prelude.{◌≡◌, ◌≤◌, All, IfNone, IfSome, f
 ghost use Rattle.flt_config.specs.Durable.{Fits};
 ghost use Rattle.flt_config.specs.Validity.{IsValid};
 ghost use Rattle.flt_script.specs.Step.{store_lanes};
-ghost use Rattle.flt_store.specs.Store.{driver_of};
+ghost use Rattle.flt_store.specs.Store.{IsAlive, driver_of};
 ghost use Rattle.flt_lane.specs.Work.{AreSeatsOf, IsPrepared, HasRun, both};
 ghost use Rattle.flt_lane.specs.Stored.{AreRun, CanStore, HasRunStore, HaveRun, RunsStore, StoresAt, is_store_lane};
 ghost use Rattle.flt_lane.specs.declared.lane.LaneWork.{LaneWork};
@@ -80,6 +80,7 @@ fn run_store_lane<R: Wait, G: Gate, B: Blocks + Drop>(
     requires same { lane.old.seat.start.config ≡ config.now }
     requires valid { IsValid config.now }
     requires fits { Fits config.now lane.old.seat.start.base }
+    requires alive { IsAlive config.now store.old }
     requires arms { (driver_of store.old).device.bench.armed ≤ 64 }
     ensures ran { HasRunStore config.now lane.old lane.new store.old store.new }
     ensures seats { AreSeatsOf (both dem.now queue.now) lane.new }
@@ -185,6 +186,7 @@ fn run_first<R: Threads + Wait + Sync, G: Gate + Sync, B: Blocks + Drop>(
     requires same { All (λ lane. lane.seat.start.config ≡ config.now) lanes.old }
     requires valid { IsValid config.now }
     requires fits { All (λ lane. Fits config.now lane.seat.start.base) lanes.old }
+    requires alive { IsAlive config.now store.old }
     requires arms { (driver_of store.old).device.bench.armed ≤ 64 }
     ensures ran { RunsStore config.now 0 lanes.old lanes.new store.old store.new }
     ensures seats { All (AreSeatsOf (both dem.now queue.now)) lanes.new }
@@ -207,6 +209,7 @@ pub fn run_block<R: Threads + Wait + Sync, G: Gate + Sync, B: Blocks + Drop>(
     requires same { All (λ lane. lane.seat.start.config ≡ config.now) lanes.old }
     requires valid { IsValid config.now }
     requires fits { All (λ lane. Fits config.now lane.seat.start.base) lanes.old }
+    requires alive { IsAlive config.now store.old }
     requires arms { (driver_of store.old).device.bench.armed ≤ 64 }
     ensures ran { AreRun config.now lanes.old lanes.new store.old store.new }
     ensures seats { All (AreSeatsOf locks.now) lanes.new }

@@ -3,7 +3,7 @@ ghost use Rattle.std.specs.Prelude.{◌≡◌, ◌<◌, ◌≤◌, ◌+◌, ◌^
 ghost use Rattle.flt_config.specs.Durable.{Fits};
 ghost use Rattle.flt_flash.specs.State.{HasRisenBy};
 ghost use Rattle.flt_script.specs.Part.{parts_of};
-ghost use Rattle.flt_store.specs.Store.{driver_of, numbered, IsRunning};
+ghost use Rattle.flt_store.specs.Store.{driver_of, numbered, IsAlive, IsRunning};
 ghost use Rattle.flt_life.specs.declared.life.Boot.TheVariants as boots;
 ghost use Rattle.flt_life.specs.Actions.{all_arms};
 ghost use Rattle.flt_life.specs.Causes.{AreCaused};
@@ -14,7 +14,6 @@ ghost use Rattle.flt_life.specs.Parts.{IsPossiblePart, arms_in, own_actions, ste
 ghost use Rattle.flt_life.specs.Played.{IsPlayed};
 ghost use Rattle.flt_life.specs.Room.{IsLifeRoom};
 ghost use Rattle.flt_shared.specs.Boxed.{config_in};
-ghost use Rattle.flt_lives.specs.Alive.{IsAlive};
 ghost use Rattle.flt_lives.specs.Going.{GoesOn, WereGiven};
 
 use crate::gate::SharedGate;

@@ -10,7 +10,7 @@ ghost use Rattle.flt_life.specs.Ordered.{deeds_in};
 ghost use Rattle.flt_life.specs.Parts.{arms_in, calls_in, own_actions, own_steps, queued_in, width, widths};
 ghost use Rattle.flt_life.specs.Room.{HasRoomForSteps, told_in};
 ghost use Rattle.flt_shared.specs.Lock.{IsSeatOf};
-ghost use Rattle.flt_store.specs.Store.{driver_of};
+ghost use Rattle.flt_store.specs.Store.{IsAlive, driver_of};
 ghost use Rattle.flt_turn.specs.Seats as turn;
 ghost use Rattle.flt_lives.specs.Going.{GoesOn, WereGiven};
 ghost use Rattle.flt_lane.specs.Block.{HaveRunParts};
@@ -57,6 +57,7 @@ fn run_one<R: Wait, G: Gate, B: Blocks + Drop>(
     requires same { main.old.start.config ≡ config.now }
     requires valid { IsValid config.now }
     requires fits { Fits config.now main.old.start.base }
+    requires alive { IsAlive config.now store.old }
     requires step { IsPossible config.now (action_of step.now) }
     requires arms { (driver_of store.old).device.bench.armed + arm_count (action_of step.now) ≤ 64 }
     requires calls { calls_by step.now ≤ main.old.left }
@@ -122,6 +123,7 @@ fn run_part<'a, R: Threads + Wait + Sync, G: SharedGate, B: Blocks + Drop>(
     requires same { main.old.start.config ≡ config.now }
     requires valid { IsValid config.now }
     requires fits { Fits config.now main.old.start.base }
+    requires alive { IsAlive config.now store.old }
     requires part { IsPartRoom part }
     requires steps { IsPartFor config.now (part_in part) }
     requires arms { (driver_of store.old).device.bench.armed + arms_in (part_in part) ≤ 64 }
@@ -181,6 +183,7 @@ pub(crate) fn run_parts<'a, R: Threads + Wait + Sync, G: SharedGate, B: Blocks +
     requires same { main.old.start.config ≡ config.now }
     requires valid { IsValid config.now }
     requires fits { Fits config.now main.old.start.base }
+    requires alive { IsAlive config.now store.old }
     requires part { All IsPartRoom parts.items }
     requires steps { All (IsPartFor config.now) (map part_in parts.items) }
     requires arms { (driver_of store.old).device.bench.armed + sum_by arms_in (map part_in parts.items) ≤ 64 }

@@ -18,7 +18,7 @@ ghost use Rattle.flt_script.specs.Step.{is_store_step};
 ghost use Rattle.flt_script.specs.declared.step.Step.TheVariants as steps;
 ghost use Rattle.flt_shared.specs.Call.{Seat as DemView};
 ghost use Rattle.flt_shared.specs.Lock.{IsSeatOf};
-ghost use Rattle.flt_store.specs.Store.{driver_of};
+ghost use Rattle.flt_store.specs.Store.{IsAlive, driver_of};
 ghost use Rattle.flt_turn.specs.Seats as turn;
 ghost use Rattle.flt_lives.specs.Going.{GoesOn, WereGiven};
 ghost use Rattle.flt_lane.specs.Living.{Carries};
@@ -160,6 +160,7 @@ fn save<R: Wait, B: Blocks + Drop>(
     requires same { seat.old.start.config ≡ config.now }
     requires valid { IsValid config.now }
     requires fits { Fits config.now seat.old.start.base }
+    requires alive { IsAlive config.now store.old }
     requires left { 2 ≤ seat.old.left }
     ensures made { (bytes : List ℕ) → Makes seat.old steps.Save (told_with bytes result) seat.new }
     ensures size { (bytes : List ℕ) → told_size (told_with bytes result) ≡ 0 }
@@ -186,6 +187,7 @@ fn save<R: Wait, B: Blocks + Drop>(
 /// Reads an application block.
 fn get<B: Blocks + Drop>(store: &mut Store<B>, block: u8) -> StepAnswer<ReplyKind>
     requires block { block < 40 }
+    requires alive { (c : Config) × (block < c.blocks) × IsAlive c store.old }
     ensures got { (bytes : List ℕ) → IsGot (told_with bytes result) }
     ensures carries { (bytes : List ℕ) (c : Config) (seat : DemView) (jobs : Jobs) (earlier : List Deed)
         → Carries c seat seat jobs jobs earlier ((steps.Get block, told_with bytes result) ∷ earlier) store.old store.new }
@@ -216,6 +218,7 @@ fn touch_store<R: Wait, B: Blocks + Drop>(
     requires same { seat.old.start.config ≡ config.now }
     requires valid { IsValid config.now }
     requires fits { Fits config.now seat.old.start.base }
+    requires alive { IsAlive config.now store.old }
     requires step { IsPossible config.now (action_of step.now) }
     requires store { is_store_step step.now ≡ true }
     requires left { calls_by step.now ≤ seat.old.left }
@@ -255,6 +258,7 @@ pub(crate) fn do_step<R: Wait, B: Blocks + Drop>(
     requires same { seat.old.start.config ≡ config.now }
     requires valid { IsValid config.now }
     requires fits { Fits config.now seat.old.start.base }
+    requires alive { IsAlive config.now store.old }
     requires step { IsPossible config.now (action_of step.now) }
     requires arms { (driver_of store.old).device.bench.armed + arm_count (action_of step.now) ≤ 64 }
     requires left { calls_by step.now ≤ seat.old.left }

@@ -1,4 +1,3 @@
-pub mod Alive
 pub mod Alone
 pub mod Carried
 pub mod Dark

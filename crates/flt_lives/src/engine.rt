@@ -5,7 +5,7 @@ ghost use Rattle.flt_config.specs.declared.config.Config.{Config};
 ghost use Rattle.flt_flash.specs.State.{HasRisenBy};
 ghost use Rattle.flt_script.specs.declared.step.Step.{Step};
 ghost use Rattle.flt_script.specs.Part.{PartOf, parts_of};
-ghost use Rattle.flt_store.specs.Store.{driver_of, numbered, IsRunning};
+ghost use Rattle.flt_store.specs.Store.{driver_of, numbered, IsAlive, IsRunning};
 ghost use Rattle.flt_life.specs.declared.life.Boot.TheVariants as boots;
 ghost use Rattle.flt_life.specs.Actions.{all_arms};
 ghost use Rattle.flt_life.specs.Causes.{AreCaused};
@@ -16,7 +16,6 @@ ghost use Rattle.flt_life.specs.Parts.{IsPossiblePart, arms_in, own_actions, ste
 ghost use Rattle.flt_life.specs.Played.{IsPlayed};
 ghost use Rattle.flt_life.specs.Room.{IsLifeRoom};
 ghost use Rattle.flt_lives.specs.Going.{GoesOn, WereGiven};
-ghost use Rattle.flt_lives.specs.Alive.{IsAlive};
 
 use crate::buffers::Buffers;
 use flt_config::ValidConfig;

@@ -6,7 +6,7 @@ ghost use Rattle.flt_flash.specs.State.{HasRisenBy};
 ghost use Rattle.flt_generation.specs.Holding.{Generation, SameApplications};
 ghost use Rattle.flt_dcm.specs.Whole.{config_of, state_of};
 ghost use Rattle.flt_script.specs.Part.{parts_of};
-ghost use Rattle.flt_store.specs.Store.{driver_of, numbered, IsRunning};
+ghost use Rattle.flt_store.specs.Store.{driver_of, numbered, IsAlive, IsRunning};
 ghost use Rattle.flt_life.specs.Actions.{action_of, IsPossible, arm_count, arms_of, all_arms, call_count, response_size};
 ghost use Rattle.flt_life.specs.declared.action.Action.{Action};
 ghost use Rattle.flt_life.specs.declared.life.Boot.TheVariants as boots;
@@ -16,7 +16,6 @@ ghost use Rattle.flt_life.specs.Lives.{view_of};
 ghost use Rattle.flt_life.specs.Moment.{Moment, moment_of};
 ghost use Rattle.flt_life.specs.Played.{IsLife};
 ghost use Rattle.flt_life.specs.Room.{told_in};
-ghost use Rattle.flt_lives.specs.Alive.{IsAlive};
 ghost use Rattle.flt_lives.specs.Alone.{AreAlone, IsPlain, actions_in};
 ghost use Rattle.flt_lives.specs.Going.{GoesOn, WereGiven};
 ghost use Rattle.flt_lives.specs.Living.{IsUnderWay, IsLiving, IsCaused, TakesStep, deeds_told, HasRoomFor};
@@ -45,13 +44,14 @@ fn take_step<D: Blocks + Drop>(
 )
     requires same { config_of unit.old ≡ config.now }
     requires under_way { IsUnderWay config.now (state_of unit.old) }
+    requires alive { IsAlive config.now store.old }
     requires possible { IsPossible config.now (action_of step.now) }
     requires plain { IsPlain (action_of step.now) }
     requires arms { (driver_of store.old).device.bench.armed + arm_count (action_of step.now) ≤ 64 }
     requires room { HasRoomFor account.old (action_of step.now ∷ []) }
     ensures config { config_of unit.new ≡ config_of unit.old }
     ensures under_way { IsUnderWay config.now (state_of unit.new) }
-    ensures alive { IsAlive config.now store.old → IsAlive config.now store.new }
+    ensures alive { IsAlive config.now store.new }
     ensures takes { TakesStep config.now (action_of step.now) (state_of unit.old) (state_of unit.new) store.old store.new account.old account.new }
     ensures room { (rest : List Action) → HasRoomFor account.old (action_of step.now ∷ rest) → HasRoomFor account.new rest }
     ensures applications { SameApplications (driver_of store.old).value (driver_of store.new).value }
@@ -82,13 +82,14 @@ fn take_steps<D: Blocks + Drop>(
     requires same { config_of unit.old ≡ config.now }
     requires alone { AreAlone (parts_of parts.now) }
     requires under_way { IsUnderWay config.now (state_of unit.old) }
+    requires alive { IsAlive config.now store.old }
     requires possible { All (IsPossible config.now) (actions_in parts.now) }
     requires arms { (driver_of store.old).device.bench.armed + sum_by arm_count (actions_in parts.now) ≤ 64 }
     requires room { HasRoomFor account.old (actions_in parts.now) }
     requires no_calls { account.old.journal.items ≡ [] }
     requires no_answers { told_in account.old.replies ≡ [] }
     ensures config { config_of unit.new ≡ config_of unit.old }
-    ensures alive { IsAlive config.now store.old → IsAlive config.now store.new }
+    ensures alive { IsAlive config.now store.new }
     ensures living { (first : Generation) → IsLiving config.now first [] [] (state_of unit.old) store.old
         → IsLiving config.now first (reverse account.new.journal.items) (deeds_told (parts_of parts.now) (told_in account.new.replies))
         (state_of unit.new) store.new }

@@ -10,14 +10,13 @@ ghost use Rattle.flt_generation.specs.Holding.{Generation, SameApplications};
 ghost use Rattle.flt_dcm.specs.ReplyKind.{reply_with};
 ghost use Rattle.flt_dcm.specs.Unit.{Stands, IsAdmitted, IsTesterCall};
 ghost use Rattle.flt_dcm.specs.Whole.{config_of, state_of};
-ghost use Rattle.flt_store.specs.Store.{driver_of};
+ghost use Rattle.flt_store.specs.Store.{IsAlive, driver_of};
 ghost use Rattle.flt_life.specs.Actions.{IsPossible, IsStepCall, arm_count, arms_of, call_count, response_size};
 ghost use Rattle.flt_life.specs.Answers.{Told, told_with, response_length, size_of};
 ghost use Rattle.flt_lives.specs.Carried.{IsCarriedOut, SaveIsCarriedOut};
 ghost use Rattle.flt_life.specs.Chain.{start_from};
 ghost use Rattle.flt_life.specs.Journal.{entry, calls_of};
 ghost use Rattle.flt_lives.specs.Going.{GoesOn, WereGiven};
-ghost use Rattle.flt_lives.specs.Alive.{IsAlive};
 ghost use Rattle.flt_lives.specs.Alone.{IsPlain};
 ghost use Rattle.flt_lives.specs.Living.{IsUnderWay, IsLiving, IsCaused, with_answer};
 
@@ -75,10 +74,11 @@ fn save<D: Blocks + Drop>(
 ) -> StepAnswer<ReplyKind>
     requires same { config_of unit.old ≡ config.now }
     requires under_way { IsUnderWay config.now (state_of unit.old) }
+    requires alive { IsAlive config.now store.old }
     requires calls { vec_len journal.old + 2 ≤ vec_capacity journal.old }
     ensures config { config_of unit.new ≡ config_of unit.old }
     ensures under_way { IsUnderWay config.now (state_of unit.new) }
-    ensures alive { IsAlive config.now store.old → IsAlive config.now store.new }
+    ensures alive { IsAlive config.now store.new }
     ensures living { (first : Generation) (told : List Told) → IsLiving config.now first (reverse journal.old.items) told (state_of unit.old) store.old
         → IsLiving config.now first (reverse journal.new.items) (told_with buffers.new.response.items result ∷ told) (state_of unit.new) store.new }
     ensures caused { (begun : ℕ) (told : List Told) → IsCaused config.now begun told store.old
@@ -117,6 +117,7 @@ pub(crate) fn make_step<D: Blocks + Drop>(
 ) -> StepAnswer<ReplyKind>
     requires same { config_of unit.old ≡ config.now }
     requires under_way { IsUnderWay config.now (state_of unit.old) }
+    requires alive { IsAlive config.now store.old }
     requires possible { IsPossible config.now action }
     requires plain { IsPlain action }
     requires arms { (driver_of store.old).device.bench.armed + arm_count action ≤ 64 }
@@ -124,7 +125,7 @@ pub(crate) fn make_step<D: Blocks + Drop>(
     requires few { vec_len journal.old < 2 ^ 32 }
     ensures config { config_of unit.new ≡ config_of unit.old }
     ensures under_way { IsUnderWay config.now (state_of unit.new) }
-    ensures alive { IsAlive config.now store.old → IsAlive config.now store.new }
+    ensures alive { IsAlive config.now store.new }
     ensures living { (first : Generation) (told : List Told) → IsLiving config.now first (reverse journal.old.items) told (state_of unit.old) store.old
         → IsLiving config.now first (reverse journal.new.items) (with_answer action (told_with buffers.new.response.items result) told)
         (state_of unit.new) store.new }

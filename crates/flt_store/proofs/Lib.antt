@@ -14,6 +14,7 @@ pub mod Applying
 pub mod Marks
 pub mod Beginning
 pub mod Faults
+pub mod Refused
 pub mod Dark
 pub mod OutOfNumbers
 pub mod Completing

@@ -6,7 +6,11 @@ use Rattle.flt_flash.specs.Calls.{Follows}
 use Rattle.flt_config.specs.declared.config.Config.{Config}
 use Rattle.flt_generation.specs.Holding.{Generation, IsOneOf}
 use Rattle.flt_store.specs.Cause.{FailsThrice, HasRoom}
-use Rattle.flt_store.specs.Store.{IsServed}
+use Rattle.flt_config.specs.declared.persist.Persist.{Persist}
+use Rattle.flt_flash.specs.declared.blocks.Blocks.{Ghosts}
+use Rattle.flt_store.specs.declared.fault.SaveFault.{SaveFault}
+use Rattle.flt_store.specs.declared.store.Store.{Store}
+use Rattle.flt_store.specs.Store.{IsServed, IsAlive, Saves, MayHaveSaved}
 
 pub served_on : (c : Config) (before after : BlocksState) → Follows before after → IsServed c before → IsServed c after
 served_on c before after follows served = record { given = served.given; room = subst (HasRoom c) (sym follows.room) served.room; mounted = follows.once_mounted served.mounted }
@@ -80,3 +84,9 @@ taken {P = P} {x = x} result is p = subst (λ r. OnOk r P) is p
 
 pub err_taken : {T E : Type 0} {P : Type 0} {e : E} (result : Result T E) → result ≡ Err e → OnErr result P → P
 err_taken {P = P} {e = e} result is p = subst (λ r. OnErr r P) is p
+
+-- A store runs behind a save, whatever that answered.
+pub alive_after : {B : Type 0} {b : Ghosts B} (c : Config) (h s : Generation) (state : Persist) (before after : Store B b) (result : Result ℕ SaveFault)
+    → IfOk result (λ number. Saves c h s state number before after) → OnErr result (MayHaveSaved c h s state before after) → IsAlive c after
+alive_after c h s state before after (Ok number) saved failed = record { held = _; spare = _; running = saved.running }
+alive_after c h s state before after (Err fault) saved failed = record { held = failed.now_held; spare = failed.now_spare; running = failed.running }

@@ -43,6 +43,13 @@ told_of_write (Full live needed) = Flash
 told_of_write Stuck = SequenceSpent
 told_of_write (DamagedPage sector page) = Flash
 
+-- The image is damaged, or another configuration's.
+abbrev pub IsForeign : StartFault → Type 0
+IsForeign Flash = ⊥
+IsForeign (Damaged place) = Unit {0}
+IsForeign (OtherConfig found wanted) = Unit {0}
+IsForeign SequenceSpent = ⊥
+
 module _ {B : Type 0} {b : Ghosts B} where
   -- A start-up that answered this number: the image had no fault and a sequence number left, and what was judged is the state under
   -- the number, which both copies of the commit now name.

@@ -58,6 +58,12 @@ module _ {B : Type 0} {b : Ghosts B} where
     pub settled : IsTrue (is_settled store) → IsStarted c (driver_of store).value (commit_of store) held
     pub known : IsTrue (is_settled store) → Knows c (kept_of store) held.state
 
+  -- The store runs with two generations.
+  pub record IsAlive (c : Config) (store : Store B b) : Type 0 where
+    pub held : Generation
+    pub spare : Generation
+    pub running : IsRunning c held spare store
+
   -- A fact of the two generations that the image of a running store holds.
   abbrev pub WhileRunning : Config → Store B b → (Generation → Generation → Type 0) → Type 0
   WhileRunning c store fact = (held spare : Generation) → IsRunning c held spare store → fact held spare

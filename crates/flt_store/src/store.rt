@@ -33,8 +33,8 @@ use std::mem;
 
 /// The saved generations of a durable state, and the application blocks, in the blocks of a driver.
 ///
-/// A store is made, and then started up. What its other calls promise is said of a store whose last start-up answered `Ok`; of another
-/// nothing is said, not even that a foreign image stays.
+/// A store is made, and then started up. A save and the calls on application blocks need a store that runs, as a start-up leaves it that
+/// answered `Ok`. One that was refused as damaged or as another configuration's does not run under that configuration.
 #[derive(Drop)]
 pub struct Store<B: Blocks + Drop> {
     nvm: Nvm<B>,
@@ -57,7 +57,7 @@ fn number_in(commit: &Option<Commit>) -> u32
 }
 
 impl<B: Blocks + Drop> Store<B> {
-    ghost use Rattle.flt_store.specs.Store.{driver_of, commit_of, kept_of, is_settled, numbered, IsReady, IsRunning, IsLast};
+    ghost use Rattle.flt_store.specs.Store.{driver_of, commit_of, kept_of, is_settled, numbered, IsAlive, IsReady, IsRunning, IsLast};
     ghost use Rattle.flt_store.specs.Store.{IsUndisturbed, IsUnhindered, MayHaveSaved, Saves, Chooses, WhileRunning};
 
     /// A store over the blocks of an image: the table is `block_table`'s, over a driver that was made with `fee_numbers`. It is
@@ -166,7 +166,9 @@ impl<B: Blocks + Drop> Store<B> {
     /// `Spent` comes where the generation before has the number 2^32 - 1. It is `Ok` where that has another number, the flash failed
     /// less than three times and a sequence number is left.
     pub fn save(&mut self, config: &ValidConfig, state: &Persist) -> Result<u32, SaveFault>
-        requires { Fits config.now state.now }
+        requires alive { IsAlive config.now self.old }
+        requires fits { Fits config.now state.now }
+        ensures alive { IsAlive config.now self.new }
         ensures saved { WhileRunning config.now self.old (λ held spare. IfOk result
             (λ number. Saves config.now held spare state.now number self.old self.new)) }
         ensures failed { WhileRunning config.now self.old (λ held spare. OnErr result (MayHaveSaved config.now held spare state.now self.old self.new)) }

@@ -1,11 +1,12 @@
 // The store over a flash in memory, and over an EEPROM in memory: worked examples, changed images, and each operation of a job cut and made to fail.
-ghost use Rattle.std.specs.Prelude.{◌≡◌, IfOk, IsTrue};
+ghost use Rattle.std.specs.Prelude.{◌≡◌, IfOk, IsTrue, OnOk};
 ghost use Rattle.flt_flash.specs.State.{CanArm};
 ghost use Rattle.flt_config.specs.declared.config.Config.{Config};
 ghost use Rattle.flt_nvm.specs.Driver.{driver_of as driver_beneath, table_of};
 ghost use Rattle.flt_generation.specs.Layout.{numbers};
 ghost use Rattle.flt_image.specs.Table.{block_table};
 ghost use Rattle.flt_store.specs.Cause.{HasRoom};
+ghost use Rattle.flt_store.specs.Store.{IsAlive};
 ghost use Rattle.flt_store_tests.specs.Room.{IsRoomy, SameRoom};
 
 mod cuts;
@@ -20,11 +21,11 @@ use flt_config::{
 };
 use flt_ea::{Ea, EepromMem};
 use flt_fee::Fee;
-use flt_flash::{Arm, BLANK_PAGE, Blocks, Flash, FlashMem, Pattern};
+use flt_flash::{Arm, BLANK_PAGE, Blocks, Flash, FlashFailed, FlashMem, Pattern};
 use flt_generation::COMMIT_ID;
 use flt_image::{block_table, fee_numbers, laws};
 use flt_nvm::{Got, Nvm};
-use flt_store::{Mark, Place, SaveFault, StartFault, Store};
+use flt_store::{Mark, Place, PutFault, SaveFault, StartFault, Store};
 use std::alloc::{AllocError, Global};
 use std::process::Abort;
 use std::test::Fail;
@@ -183,7 +184,8 @@ fn start<B: Blocks + Drop>(
     config: &ValidConfig,
 ) -> Result<(u32, Persist), StartFault>
     requires { IsRoomy config.now store.old }
-    ensures { SameRoom store.old store.new }
+    ensures alive { OnOk result (IsAlive config.now store.new) }
+    ensures room { SameRoom store.old store.new }
 {
     let mut out = initial(config);
     let number = store.start_up(config, &mut out)?;
@@ -197,10 +199,43 @@ fn save<B: Blocks + Drop>(
     config: &ValidConfig,
     state: &Persist,
 ) -> Result<u32, SaveFault>
-    ensures { SameRoom store.old store.new }
+    requires { IsAlive config.now store.old }
+    ensures alive { IsAlive config.now store.new }
+    ensures room { SameRoom store.old store.new }
 {
     assert!(rt; fits(config, state));
     store.save(config, state)
+}
+
+// Puts a byte into block 0.
+fn put<B: Blocks + Drop>(
+    rt: &impl Abort,
+    store: &mut Store<B>,
+    config: &ValidConfig,
+    byte: u8,
+) -> Result<(), PutFault>
+    requires { IsAlive config.now store.old }
+    ensures alive { IsAlive config.now store.new }
+    ensures room { SameRoom store.old store.new }
+{
+    assert!(rt; config.config().blocks > 0);
+    store.put_block(0, &[byte])
+}
+
+// The byte of block 0, where it was put.
+fn get<B: Blocks + Drop>(
+    rt: &impl Abort,
+    store: &mut Store<B>,
+    config: &ValidConfig,
+) -> Result<Option<u8>, FlashFailed>
+    requires { IsAlive config.now store.old }
+    ensures { IsAlive config.now store.new }
+{
+    assert!(rt; config.config().blocks > 0);
+    let mut out = ArrayVec::new();
+    let found = store.get_block(0, &mut out)?;
+    assert!(rt; found == (out.len() == 1));
+    Ok(out.first().copied())
 }
 
 // Turns the power on again.
@@ -225,7 +260,8 @@ fn can_arm(arm: Arm) -> bool
 
 // Makes an arm.
 fn arm<B: Blocks + Drop>(rt: &impl Abort, store: &mut Store<B>, arm: Arm)
-    ensures { SameRoom store.old store.new }
+    ensures alive { (c : Config) → IsAlive c store.old → IsAlive c store.new }
+    ensures room { SameRoom store.old store.new }
 {
     assert!(rt; can_arm(arm) && store.armed() < 64);
     store.arm(arm);

@@ -94,7 +94,9 @@ fn save_again<B: Blocks + Drop>(
     requires { HasRoom config.now (driver_of store.old).room }
 {
     let mut found = initial(config);
-    store.start_up(config, &mut found).ok()?;
+    let Ok(_number) = store.start_up(config, &mut found) else {
+        return None;
+    };
     let mut state = full_state(config);
     if !fits(config, &state) {
         return None;
@@ -119,7 +121,9 @@ fn start_again<B: Blocks + Drop>(
     requires { HasRoom config.now (driver_of store.old).room }
 {
     let mut found = initial(config);
-    store.start_up(config, &mut found).ok()?;
+    let Ok(_number) = store.start_up(config, &mut found) else {
+        return None;
+    };
     let state = full_state(config);
     if !fits(config, &state) {
         return None;

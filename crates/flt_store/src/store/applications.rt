@@ -63,15 +63,15 @@ impl<B: Blocks + Drop> Store<B> {
     ghost use Rattle.flt_nvm.specs.Leaves.{IsEither};
     ghost use Rattle.flt_config.specs.declared.config.Config.{Config};
     ghost use Rattle.flt_store.specs.Cause.{FailsThrice};
-    ghost use Rattle.flt_store.specs.Store.{driver_of, is_settled, Gets, IsRunning, IsUnhindered, WhileRunning};
+    ghost use Rattle.flt_store.specs.Store.{driver_of, is_settled, Gets, IsAlive, IsRunning, IsUnhindered, WhileRunning};
 
-    /// Puts 1 to 32 bytes into application block `block`. What follows is said of a store whose last start-up answered `Ok`, and of a
-    /// block below the configuration's number of blocks.
+    /// Puts 1 to 32 bytes into application block `block`, of a store that runs, and below the configuration's number of blocks.
     ///
     /// After `Ok` the block holds them; after an error it holds what it held or them. No other block and no generation changes.
     /// `Flash` comes only where three tries failed, `SequenceSpent` only where the record can't be written any more; where neither
     /// holds it is `Ok`.
     pub fn put_block(&mut self, block: u8, bytes: &[u8]) -> Result<(), PutFault>
+        requires alive { (c : Config) × (block < c.blocks) × IsAlive c self.old }
         requires block { block < applications }
         requires least { 1 ≤ length bytes.now }
         requires most { length bytes.now ≤ application_length }
@@ -94,13 +94,15 @@ impl<B: Blocks + Drop> Store<B> {
     }
 
     /// Gives the bytes of application block `block` in place of what `out` held, and true; false and no byte, where it was never
-    /// written. Of a store whose last start-up answered `Ok`, the error comes only where three tries failed; after it `out` is empty.
+    /// written. The store runs, and the block is below the configuration's number of blocks. The error comes only where three tries
+    /// failed; after it `out` is empty.
     pub fn get_block(
         &mut self,
         block: u8,
         out: &mut ArrayVec<u8, APPLICATION_LENGTH>,
     ) -> Result<bool, FlashFailed>
-        requires { block < applications }
+        requires alive { (c : Config) × (block < c.blocks) × IsAlive c self.old }
+        requires block { block < applications }
         ensures got { (c : Config) → WhileRunning c self.old (λ held spare. IfOk result
             (λ found. Gets ((driver_of self.old).value (application_number block)) found out.new.items)) }
         ensures empty { OnErr result (out.new.items ≡ []) }

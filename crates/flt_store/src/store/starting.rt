@@ -115,8 +115,8 @@ fn begin_by<B: Blocks + Drop>(
 }
 
 impl<B: Blocks + Drop> Store<B> {
-    ghost use Rattle.flt_store.specs.Store.{driver_of, is_settled};
-    ghost use Rattle.flt_store.specs.Start.{RefusedFor, Starts};
+    ghost use Rattle.flt_store.specs.Store.{driver_of, is_settled, IsAlive};
+    ghost use Rattle.flt_store.specs.Start.{IsForeign, RefusedFor, Starts};
 
     // Starts up on a driver that was mounted.
     fn start_mounted(&mut self, config: &ValidConfig, out: &mut Persist) -> Result<u32, StartFault>
@@ -170,6 +170,9 @@ impl<B: Blocks + Drop> Store<B> {
         ensures refused { IfErr result (RefusedFor config.now self.old self.new) }
         ensures dark { IsErrOf result StartFault.Flash → IsDark config.now (driver_of self.old) (driver_of self.new) }
         ensures unwritten { IfErr result (λ fault. IsOfBlocks fault → IsMountedAlone (driver_of self.old) (driver_of self.new)) }
+
+        // Over an image that is damaged or another configuration's no store runs, so no save and no put goes there.
+        ensures closed { IfErr result (λ fault. IsForeign fault → IsAlive config.now self.new → ⊥) }
 
         // Where the last sequence number was in use before, nothing is written but by the mount.
         ensures early { IsErrOf result StartFault.SequenceSpent → IsTrue (driver_of self.old).is_spent

@@ -1,5 +1,7 @@
 // A fixed job on a store, each of whose programs and erases, or writes to an EEPROM, is cut or fails by each pattern: what stands then is what stood
 // before the call that failed, or what it asked for.
+ghost use Rattle.std.specs.Prelude.{IsTrue};
+ghost use Rattle.flt_store.specs.Store.{IsAlive};
 ghost use Rattle.flt_store_tests.specs.Room.{IsRoomy, SameRoom};
 
 use super::rows::of_version_1;
@@ -15,9 +17,8 @@ enum Call {
     Put(u8),
 }
 
-// The job: a start-up, a save, 14 puts, of which the last switches the sectors, a save, and a start-up.
-const JOB: [Call; 18] = [
-    Call::Start,
+// The job behind its start-up: a save, 14 puts, of which the last switches the sectors, a save, and a start-up.
+const JOB: [Call; 17] = [
     Call::Save(FAILED),
     Call::Put(1),
     Call::Put(2),
@@ -37,10 +38,9 @@ const JOB: [Call; 18] = [
     Call::Start,
 ];
 
-// The job on an image of version 1 that holds generation 1: a start-up, a save, 14 puts, of which the tenth switches the sectors, a save, and
-// a start-up.
-const OLD_JOB: [Call; 18] = [
-    Call::Start,
+// The job on an image of version 1 that holds generation 1, behind its start-up: a save, 14 puts, of which the tenth switches the sectors, a
+// save, and a start-up.
+const OLD_JOB: [Call; 17] = [
     Call::Save(PASSED),
     Call::Put(1),
     Call::Put(2),
@@ -121,6 +121,26 @@ impl Told {
     }
 }
 
+// Starts up; it tells whether that answered `Ok`, with what it has to answer.
+fn starts<B: Blocks + Drop>(
+    rt: &impl Abort,
+    store: &mut Store<B>,
+    config: &ValidConfig,
+    asked: Told,
+) -> bool
+    requires { IsRoomy config.now store.old }
+    ensures alive { IsTrue result → IsAlive config.now store.new }
+    ensures room { SameRoom store.old store.new }
+{
+    match start(store, config) {
+        Err(_) => false,
+        Ok((number, state)) => {
+            assert!(rt; number == asked.number && state == asked.state());
+            true
+        }
+    }
+}
+
 // Makes a call of the job; it tells whether that answered `Ok`, with what it has to answer.
 fn make<B: Blocks + Drop>(
     rt: &impl Abort,
@@ -129,17 +149,13 @@ fn make<B: Blocks + Drop>(
     call: Call,
     asked: Told,
 ) -> bool
-    requires { IsRoomy config.now store.old }
-    ensures { SameRoom store.old store.new }
+    requires alive { IsAlive config.now store.old }
+    requires room { IsRoomy config.now store.old }
+    ensures alive { IsTrue result → IsAlive config.now store.new }
+    ensures room { SameRoom store.old store.new }
 {
     match call {
-        Call::Start => match start(store, config) {
-            Err(_) => false,
-            Ok((number, state)) => {
-                assert!(rt; number == asked.number && state == asked.state());
-                true
-            }
-        },
+        Call::Start => starts(rt, store, config, asked),
         Call::Save(_) => match save(rt, store, config, &asked.state()) {
             Err(_) => false,
             Ok(number) => {
@@ -147,11 +163,12 @@ fn make<B: Blocks + Drop>(
                 true
             }
         },
-        Call::Put(byte) => store.put_block(0, &[byte]).is_ok(),
+        Call::Put(byte) => put(rt, store, config, byte).is_ok(),
     }
 }
 
-// Makes the calls of a job on this image until one fails: what stood before the last call, and what it asked for.
+// Starts up on an image that says this, and makes the calls of a job until one fails: what stood before the last call, and what it asked
+// for.
 fn run_job<B: Blocks + Drop>(
     rt: &impl Abort,
     store: &mut Store<B>,
@@ -162,6 +179,9 @@ fn run_job<B: Blocks + Drop>(
     requires { IsRoomy config.now store.old }
     ensures { SameRoom store.old store.new }
 {
+    if !starts(rt, store, config, first) {
+        return (first, first, false);
+    }
     let mut before = first;
     for call in job {
         let asked = before.after(*call);
@@ -186,15 +206,13 @@ fn read_told<B: Blocks + Drop>(
         None => 0,
         Some(event) => event.status,
     };
-    let mut out = ArrayVec::new();
-    let found = store.get_block(0, &mut out)?;
-    let byte = if found { out.first().copied() } else { None };
+    let byte = get(rt, store, config)?;
     let told = Told {
         number,
         status,
         byte,
     };
-    assert!(rt; state == told.state() && found == (out.len() == 1));
+    assert!(rt; state == told.state());
     Ok(told)
 }
 

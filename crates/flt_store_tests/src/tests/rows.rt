@@ -321,9 +321,16 @@ fn the_last_generation_is_not_followed(rt: HostRuntime) -> Result<(), Fail> {
     name_last(&mut image, 21);
     let flash = FlashMem::of(rt.alloc(), image, 2)?;
     let mut store = store_over(rt.alloc(), flash, &config)?;
-    let stands = Step::Life(4294967295, 0);
-    let steps = [stands, Step::Save(0, Err(SaveFault::Spent)), stands];
-    play_on(&rt, &mut store, &config, &[failed()], &steps)
+    let last = 4294967295;
+    let steps = [Step::Save(0, Err(SaveFault::Spent)), Step::Life(last, 0)];
+    play_on(
+        &rt,
+        &mut store,
+        &config,
+        (last, failed()),
+        &[failed()],
+        &steps,
+    )
 }
 
 #[test]
@@ -331,10 +338,9 @@ fn an_application_block_is_missing_until_it_is_put(rt: HostRuntime) -> Result<()
     let config = configured(1, 1, 1)?;
     let mut store = blank_store(rt.alloc(), &config)?;
     start(&mut store, &config)?;
-    let mut out = ArrayVec::new();
-    assert!(&rt; store.get_block(0, &mut out) == Ok(false));
-    assert!(&rt; store.put_block(0, &[1]) == Ok(()));
-    assert!(&rt; store.get_block(0, &mut out) == Ok(true) && out[..] == [1]);
+    assert!(&rt; get(&rt, &mut store, &config)? == None);
+    assert!(&rt; put(&rt, &mut store, &config, 1) == Ok(()));
+    assert!(&rt; get(&rt, &mut store, &config)? == Some(1));
     Ok(())
 }
 
@@ -393,13 +399,12 @@ fn an_image_of_version_1_is_restored(rt: HostRuntime) -> Result<(), Fail> {
         let flash = of_version_1(&rt, rt.alloc())?;
         let mut store = store_over(rt.alloc(), flash, &config)?;
         let steps = [
-            Step::Life(1, 0),
             cut_at(program, Pattern::Nothing),
             Step::Save(0, Err(SaveFault::Flash)),
             Step::Life(number, 0),
             Step::Save(0, Ok(number + 1)),
         ];
-        play_on(&rt, &mut store, &config, &[failed()], &steps)?;
+        play_on(&rt, &mut store, &config, (1, failed()), &[failed()], &steps)?;
         let flash = store.retire().retire();
         assert!(&rt; is_record(&flash, 23, 8, 8));
     }

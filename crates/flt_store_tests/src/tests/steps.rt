@@ -1,4 +1,6 @@
 // Worked examples as lists of steps over a list of states.
+ghost use Rattle.std.specs.Prelude.{OnOk};
+ghost use Rattle.flt_store.specs.Store.{IsAlive};
 ghost use Rattle.flt_store_tests.specs.Room.{IsRoomy, SameRoom};
 
 use super::*;
@@ -30,8 +32,10 @@ fn take<B: Blocks + Drop>(
     states: &[Persist],
     step: Step,
 ) -> Result<(), Fail>
-    requires { IsRoomy config.now store.old }
-    ensures { SameRoom store.old store.new }
+    requires alive { IsAlive config.now store.old }
+    requires room { IsRoomy config.now store.old }
+    ensures alive { OnOk result (IsAlive config.now store.new) }
+    ensures room { SameRoom store.old store.new }
 {
     match step {
         Step::Arm(made) => arm(rt, store, made),
@@ -49,23 +53,25 @@ fn take<B: Blocks + Drop>(
     Ok(())
 }
 
-// Takes the steps one after the other.
+// Starts up, which has to answer this number and state, and takes the steps one after the other.
 pub(super) fn play_on<B: Blocks + Drop>(
     rt: &impl Abort,
     store: &mut Store<B>,
     config: &ValidConfig,
+    first: (u32, Persist),
     states: &[Persist],
     steps: &[Step],
 ) -> Result<(), Fail>
     requires { IsRoomy config.now store.old }
 {
+    assert!(rt; start(store, config)? == first);
     for step in steps {
         take(rt, store, config, states, *step)?;
     }
     Ok(())
 }
 
-// Takes the steps on a store over a blank flash, started up; the flash comes back.
+// Takes the steps on a store over a blank flash; the flash comes back.
 pub(super) fn play(
     rt: &impl Abort,
     alloc: Global,
@@ -74,7 +80,6 @@ pub(super) fn play(
     steps: &[Step],
 ) -> Result<FlashMem, Fail> {
     let mut store = blank_store(alloc, config)?;
-    assert!(rt; start(&mut store, config)? == (0, initial(config)));
-    play_on(rt, &mut store, config, states, steps)?;
+    play_on(rt, &mut store, config, (0, initial(config)), states, steps)?;
     Ok(store.retire().retire())
 }

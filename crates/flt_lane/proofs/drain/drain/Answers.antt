@@ -14,6 +14,11 @@ as_number false = refl
 pub loop-job-init : goal.loop-job-init
 loop-job-init g c = record { drained = drained_first c.args.config.now c.args.seat.now c.args.store.now; lock = c.requires.lock }
 
+pub take_job-requires-clause-alive : goal.take_job-requires-clause-alive
+take_job-requires-clause-alive g c =
+    let alive = c.requires.alive in
+    record { held = alive.held; spare = alive.spare; running = c.loop-job.invariant.drained.drains.running alive.held alive.spare alive.running }
+
 pub loop-job-preserved : goal.loop-job-preserved
 loop-job-preserved g c =
     let before = c.loop-job in

@@ -2,6 +2,9 @@ use Rattle.std.proofs.Common.{◌∙◌, sym}
 use Rattle.flt_lane.proofs.Takes.{finds_none, takes_job}
 use Rattle.flt_lane.proofs.drain.take_job.Goals as goal
 
+pub write_job-requires-clause-alive : goal.write_job-requires-clause-alive
+write_job-requires-clause-alive g c = (c.args.config.now, sym (c.in-Ok.ensures.call.place.rest.1 ∙ c.requires.blocks), c.requires.alive)
+
 pub returns-in-Job-clause-looks : goal.returns-in-Job-clause-looks
 returns-in-Job-clause-looks g c =
     let noted = c.write_job.ensures.noted in

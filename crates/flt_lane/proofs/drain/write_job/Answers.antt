@@ -25,6 +25,11 @@ rose_by (Ok value) before after spent flash sequence counts unspent = omega (ari
 rose_by (Err faults.Flash) before after spent flash sequence counts unspent = let three = flash refl in omega (arith, three)
 rose_by (Err faults.SequenceSpent) before after spent flash sequence counts unspent = absurd (false≢true (sym unspent ∙ sequence refl))
 
+pub put_block-requires-clause-alive : goal.put_block-requires-clause-alive
+put_block-requires-clause-alive g c =
+    let alive = c.requires.alive in
+    (alive.0, subst (λ n. c.args.job.now.block < n) (sym alive.1) c.requires.job.0, alive.2)
+
 pub returns-clause-wrote : goal.returns-clause-wrote
 returns-clause-wrote g c = λ config same.
     let job = c.args.job.now in

@@ -1,4 +1,4 @@
-use Rattle.std.proofs.Common.{refl, rules, sym, subst}
+use Rattle.std.proofs.Common.{[], refl, rules, sym, subst}
 use Rattle.flt_config.specs.Durable.{Fits}
 use Rattle.flt_lane.proofs.Running.{begins, calls_left, goes_on, has_run, possible_next, queued_left, seats_stay, start_now, take_past, whole_size, whole_told}
 use Rattle.flt_lane.proofs.Storing.{has_stored, leaves_step, storing_begins, storing_more}
@@ -13,6 +13,9 @@ pub do_step-answer-requires-clause-fits : goal.do_step-answer-requires-clause-fi
 do_step-answer-requires-clause-fits g c =
     let start = start_now (both c.args.dem.now c.args.queue.now) c.args.lane.now c.loop-index.lane c.loop-index.index c.index-steps-index.result c.requires.ready c.loop-index.invariant.part (search rules) c.index-steps-index.is in
     subst (λ s. Fits c.args.config.now s.base) (sym start) c.requires.fits
+
+pub do_step-answer-requires-clause-alive : goal.do_step-answer-requires-clause-alive
+do_step-answer-requires-clause-alive g c = (c.loop-index.invariant.carries []).alive c.requires.alive
 
 pub do_step-answer-requires-clause-left : goal.do_step-answer-requires-clause-left
 do_step-answer-requires-clause-left g c =

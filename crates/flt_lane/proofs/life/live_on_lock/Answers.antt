@@ -19,6 +19,9 @@ use Rattle.flt_lane.proofs.life.live_on_lock.Goals as goal
 pub run_parts-requires-clause-steps : goal.run_parts-requires-clause-steps
 run_parts-requires-clause-steps g c κs within = subst (All (IsPartFor c.args.config.now)) (sym c.in_ok-rooms.ensures.parts) (parts_for c.args.config.now (parts_of c.args.parts.now) c.requires.possible c.requires.few)
 
+pub run_parts-requires-clause-alive : goal.run_parts-requires-clause-alive
+run_parts-requires-clause-alive g c κs within = record { held = _; spare = _; running = c.requires.running }
+
 pub returns-clause-boot : goal.returns-clause-boot
 returns-clause-boot g c = ap (λ (view : LifeView). view.boot) (c.life_of-life.ensures (parts_of c.args.parts.now)) ∙ ap (λ s. boots.Started c.args.generation s) c.copy_of-start.ensures
 

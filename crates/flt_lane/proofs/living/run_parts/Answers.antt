@@ -26,6 +26,9 @@ run_part-requires-clause-steps g c κs within =
     part_among (IsPartFor c.args.config.now) c.args.parts.items c.loop-part.yielded c.loop-part.part-iterator.rest.items c.next.new.self.rest.items c.in-Some.part
     c.loop-part.invariant.living.all c.in-Some.ensures.steps.0 c.requires.steps
 
+pub run_part-requires-clause-alive : goal.run_part-requires-clause-alive
+run_part-requires-clause-alive g c κs within = c.loop-part.invariant.carries.alive c.requires.alive
+
 pub run_part-requires-clause-children : goal.run_part-requires-clause-children
 run_part-requires-clause-children g c κs within = (
   numbers_left c.args.locks.now c.args.main.now c.loop-part.main c.args.jobs.now c.loop-part.jobs c.args.parts.items c.loop-part.own c.loop-part.told (driver_of c.args.store.now).device.bench.armed

@@ -8,13 +8,12 @@ use Rattle.flt_generation.specs.Layout.{applications, application_number}
 use Rattle.flt_queue.specs.Queue.{History}
 use Rattle.flt_script.specs.declared.step.Step.TheVariants as steps
 use Rattle.flt_store.specs.declared.store.Store.{Store}
-use Rattle.flt_store.specs.Store.{IsRunning, driver_of}
+use Rattle.flt_store.specs.Store.{IsAlive, IsRunning, driver_of}
 use Rattle.flt_life.specs.Answers.{Told}
 use Rattle.flt_life.specs.Applications.{GetsBy, MayHold, jobs_told, up_to_done}
 use Rattle.flt_life.specs.Ordered.{Deed}
 use Rattle.flt_life.specs.declared.answer.StepAnswer.TheVariants as answers
 use Rattle.flt_shared.specs.Call.{Seat}
-use Rattle.flt_lives.specs.Alive.{IsAlive}
 use Rattle.flt_lives.specs.Living.{IsCaused}
 use Rattle.flt_lives.proofs.Causing.{caused_read, caused_unread}
 use Rattle.flt_lane.specs.Living.{AreHeld, Carries, answers_of, drains_by, saves_by}

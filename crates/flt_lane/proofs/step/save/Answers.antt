@@ -11,8 +11,8 @@ use Rattle.flt_lane.proofs.Stepping.{failed_made, saved_made, taken_fits}
 use Rattle.flt_lane.proofs.Leaving.{leaves_by_calls}
 use Rattle.flt_lane.proofs.step.save.Goals as goal
 
-pub save-requires : goal.save-requires
-save-requires g c =
+pub save-requires-clause-fits : goal.save-requires-clause-fits
+save-requires-clause-fits g c =
     taken_fits c.args.config.now c.args.seat.now.start (past c.in-Ok._taken.place c.snapshot.new.seat.seen) c.snapshot.new.out c.requires.same c.requires.valid c.requires.fits c.in-Ok.ensures.state
 
 pub returns-in-Ok-saved-clause-made : goal.returns-in-Ok-saved-clause-made
@@ -24,7 +24,7 @@ returns-in-Err-clause-made g c = λ bytes. failed_made c.args.seat.now c.in-Err.
 
 pub returns-in-Ok-saved-clause-carries : goal.returns-in-Ok-saved-clause-carries
 returns-in-Ok-saved-clause-carries g c = λ bytes jobs earlier. record {
-  alive = λ alive. (let saved = c.in-Ok-save.ensures.saved alive.held alive.spare alive.running in record { held = _; spare = _; running = saved.running });
+  alive = λ alive. c.save.ensures.alive;
   living = λ first start living. living_saved c.args.config.now c.args.seat.now c.snapshot.new.seat c.in-Ok._taken c.snapshot.new.out c.in-Ok.ensures.call c.in-Ok.ensures.state earlier c.args.store.now c.save.new.self
       first start living c.saved.new.seat c.in-Ok-save.generation c.in-Ok-saved._noted c.in-Ok-saved.ensures.call c.in-Ok-save.ensures.saved;
   caused = λ begun caused. caused_saved c.args.config.now begun (answers_of earlier) c.args.store.now c.save.new.self caused c.snapshot.new.out c.in-Ok-save.generation c.save.ensures.follows
@@ -34,7 +34,7 @@ returns-in-Ok-saved-clause-carries g c = λ bytes jobs earlier. record {
 
 pub returns-in-Err-clause-carries : goal.returns-in-Err-clause-carries
 returns-in-Err-clause-carries g c = λ bytes jobs earlier. record {
-  alive = λ alive. (let left = c.in-Err.ensures.failed alive.held alive.spare alive.running in record { held = left.now_held; spare = left.now_spare; running = left.running });
+  alive = λ alive. c.save.ensures.alive;
   living = λ first start living. living_failed c.args.config.now c.args.seat.now c.snapshot.new.seat c.in-Ok._taken c.snapshot.new.out c.in-Ok.ensures.call c.in-Ok.ensures.state earlier c.args.store.now c.save.new.self
       first start living c.in-Err.fault c.in-Err.ensures.failed;
   caused = λ begun caused. caused_failed c.args.config.now begun (answers_of earlier) c.args.store.now c.save.new.self caused c.snapshot.new.out c.in-Err.fault c.save.ensures.follows

@@ -82,7 +82,7 @@ loop-part-preserved g c =
       under_way = c.take_step.ensures.under_way;
       possible = All-tail (IsPossible c.args.config.now) step rest (subst (All (IsPossible c.args.config.now)) left c.loop-part.invariant.possible);
       room = c.take_step.ensures.room rest (subst (HasRoomFor c.loop-part.account) left c.loop-part.invariant.room);
-      alive = λ alive. c.take_step.ensures.alive (c.loop-part.invariant.alive alive);
+      alive = c.take_step.ensures.alive;
       many = omega (arith, answered, inv_many, count);
       living = λ first living.
           subst (λ (now : List Told). IsLiving config first (reverse c.take_step.new.account.journal.items) now (state_of c.take_step.new.unit) c.take_step.new.store) (sym deeds)
@@ -144,7 +144,7 @@ loop-part-init g c = record {
   under_way = c.requires.under_way;
   possible = c.requires.possible;
   room = c.requires.room;
-  alive = λ alive. alive;
+  alive = c.requires.alive;
   many = ap length c.requires.no_answers;
   living = λ first living.
       subst (λ (journal : Journal). IsLiving c.args.config.now first journal [] (state_of c.args.unit.now) c.args.store.now) (sym (ap reverse c.requires.no_calls)) living;

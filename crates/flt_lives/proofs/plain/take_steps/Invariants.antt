@@ -2,14 +2,13 @@ use Rattle.std.proofs.Common.{◌≡◌, ◌+◌, ◌≤◌, length, take, drop,
 use Rattle.std.specs.Prelude.{reverse, sum_by, All}
 use Rattle.flt_generation.specs.Holding.{Generation, SameApplications}
 use Rattle.flt_dcm.specs.Whole.{config_of, state_of}
-use Rattle.flt_store.specs.Store.{driver_of}
+use Rattle.flt_store.specs.Store.{driver_of, IsAlive}
 use Rattle.flt_script.specs.Part.{parts_of}
 use Rattle.flt_life.specs.Actions.{all_arms, arm_count, IsPossible}
 use Rattle.flt_life.specs.Chain.{start_from}
 use Rattle.flt_life.specs.Parts.{own_steps}
 use Rattle.flt_life.specs.Played.{IsLife}
 use Rattle.flt_life.specs.Room.{told_in}
-use Rattle.flt_lives.specs.Alive.{IsAlive}
 use Rattle.flt_lives.specs.Alone.{actions_in}
 use Rattle.flt_lives.specs.Going.{GoesOn, WereGiven}
 use Rattle.flt_lives.specs.Living.{IsUnderWay, IsLiving, IsCaused, HasRoomFor, deeds_told}
@@ -21,7 +20,7 @@ invariant-loop-part g l = record {
   under_way : IsUnderWay l.config (state_of l.unit);
   possible : All (IsPossible l.config) (actions_in (drop l.part-index l.parts));
   room : HasRoomFor l.account (actions_in (drop l.part-index l.parts));
-  alive : IsAlive l.config l.fn.store → IsAlive l.config l.store;
+  alive : IsAlive l.config l.store;
   many : length (told_in l.account.replies) ≡ length (own_steps (parts_of (take l.part-index l.parts)));
   living : (first : Generation) → IsLiving l.config first [] [] (state_of l.fn.unit) l.fn.store
       → IsLiving l.config first (reverse l.account.journal.items) (deeds_told (parts_of (take l.part-index l.parts)) (told_in l.account.replies)) (state_of l.unit) l.store;

@@ -12,13 +12,12 @@ use Rattle.flt_lives.specs.Going.{WereGiven}
 use Rattle.flt_life.specs.declared.action.Action.{Action}
 use Rattle.flt_life.specs.declared.action.Action.TheVariants as actions
 use Rattle.flt_life.specs.declared.answer.StepAnswer.TheVariants as answers
-use Rattle.flt_store.specs.Store.{driver_of}
+use Rattle.flt_store.specs.Store.{driver_of, IsAlive}
 use Rattle.flt_dcm.specs.Whole.{state_of}
 use Rattle.flt_life.specs.Actions.{IsPossible, response_size}
 use Rattle.flt_lives.specs.Carried.{IsCarriedOut}
 use Rattle.flt_life.specs.Chain.{start_from}
 use Rattle.flt_life.specs.Journal.{Journal, entry}
-use Rattle.flt_lives.specs.Alive.{IsAlive}
 use Rattle.flt_lives.specs.Living.{IsCaused, IsLiving, with_answer}
 use Rattle.flt_lives.proofs.Keeping.{kept_call}
 use Rattle.flt_lives.proofs.Riding.{goes_nowhere}
@@ -77,7 +76,8 @@ returns-in-Arm-clause-caused g c = λ begun told caused.
     (caused_arm c.args.config.now begun told c.args.store.now c.arm.new.self caused _ c.arm.ensures.arms (c.arm.ensures.running c.args.config.now caused.held_now caused.spare_now caused.running))
 
 pub returns-in-Arm-clause-alive : goal.returns-in-Arm-clause-alive
-returns-in-Arm-clause-alive g c = λ alive.
+returns-in-Arm-clause-alive g c =
+    let alive = c.requires.alive in
     let after : IsAlive c.args.config.now c.arm.new.self = record {
       held = alive.held;
       spare = alive.spare;

@@ -7,12 +7,10 @@ use Rattle.flt_life.specs.Chain.{start_from}
 use Rattle.flt_lives.specs.Living.{IsLiving}
 use Rattle.flt_lives.proofs.Keeping.{kept_saved, kept_failed}
 use Rattle.flt_lives.proofs.Causing.{caused_saved, caused_failed}
+use Rattle.flt_lives.proofs.Giving.{none_since}
+use Rattle.flt_lives.proofs.Riding.{goes_by_calls}
+use Rattle.flt_store.specs.Store.{driver_of}
 use Rattle.flt_lives.proofs.step.save.Goals as goal
-
-pub returns-in-Ok-clause-alive : goal.returns-in-Ok-clause-alive
-returns-in-Ok-clause-alive g c = λ alive.
-    let saved = c.in-Ok.ensures.saved alive.held alive.spare alive.running in
-    record { held = _; spare = _; running = saved.running }
 
 pub returns-in-Ok-clause-living : goal.returns-in-Ok-clause-living
 returns-in-Ok-clause-living g c = λ first told living.
@@ -29,11 +27,6 @@ returns-in-Ok-clause-living g c = λ first told living.
       kept = rw taken (kept_saved c.args.config.now first journal told living.held living.spare living.kept saved.chosen saved.is c.in-Ok.generation saved.next);
     } in
     subst (λ (journal : Journal). IsLiving c.args.config.now first journal (answers.Saved c.in-Ok.generation ∷ told) (state_of c.call.new.unit) c.save.new.self) (sym written) after
-
-pub returns-in-Err-clause-alive : goal.returns-in-Err-clause-alive
-returns-in-Err-clause-alive g c = λ alive.
-    let left = c.in-Err.ensures.failed alive.held alive.spare alive.running in
-    record { held = left.now_held; spare = left.now_spare; running = left.running }
 
 pub returns-in-Err-clause-living : goal.returns-in-Err-clause-living
 returns-in-Err-clause-living g c = λ first told living.
@@ -63,3 +56,10 @@ returns-in-Err-clause-caused g c = λ begun told caused.
     (λ is. c.in-Err.ensures.flash caused.held_now caused.spare_now caused.running (ap Err is))
     (λ is. c.in-Err.ensures.spent caused.held_now caused.spare_now caused.running (ap Err is))
     (λ is. (let stuck = c.in-Err.ensures.sequence caused.held_now caused.spare_now caused.running (ap Err is) in g.met.D.Blocks.stuck_is_spent c.save.new.self.nvm.blocks stuck.0 stuck.1 stuck.3))
+
+pub returns-in-Ok-clause-goes_on : goal.returns-in-Ok-clause-goes_on
+returns-in-Ok-clause-goes_on g c = goes_by_calls (driver_of c.args.store.now) (driver_of c.save.new.self) c.save.ensures.follows
+
+pub returns-in-Ok-clause-given : goal.returns-in-Ok-clause-given
+returns-in-Ok-clause-given g c =
+    none_since (driver_of c.args.store.now).device.bench.arms (driver_of c.save.new.self).device.bench.arms c.save.ensures.follows.bench.arms

@@ -25,6 +25,9 @@ use Rattle.flt_lives.proofs.plain.PlainEngine.live.Goals as goal
 pub take_steps-requires-clause-possible : goal.take_steps-requires-clause-possible
 take_steps-requires-clause-possible g c = possible_alone c.args.config.now (parts_of c.args.parts.now) c.requires.possible
 
+pub take_steps-requires-clause-alive : goal.take_steps-requires-clause-alive
+take_steps-requires-clause-alive g c = record { held = _; spare = _; running = c.requires.running }
+
 pub take_steps-requires-clause-arms : goal.take_steps-requires-clause-arms
 take_steps-requires-clause-arms g c =
     let same = arms_are (parts_of c.args.parts.now) in

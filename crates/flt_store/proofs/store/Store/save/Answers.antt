@@ -11,7 +11,7 @@ use Rattle.flt_store.proofs.Started.{numbered as number_of_started}
 use Rattle.flt_generation.specs.Holding.{Generation, last_number}
 use Rattle.flt_store.specs.Store.{driver_of, commit_of, kept_of, is_settled, numbered, IsReady}
 use Rattle.flt_store.proofs.Started.{sound_started}
-use Rattle.flt_store.proofs.Running.{served_on, undisturbed_until, held_is_chosen, ok_map, on_ok, err_taken, err_both, chosen_on, one_of_chosen, rises_from}
+use Rattle.flt_store.proofs.Running.{alive_after, served_on, undisturbed_until, held_is_chosen, ok_map, on_ok, err_taken, err_both, chosen_on, one_of_chosen, rises_from}
 use Rattle.flt_store.proofs.Dark.{err_as, is_unsettled}
 use Rattle.flt_store.proofs.Completing.{save_met_none, not_last}
 use Rattle.flt_store.proofs.store.Store.save.Goals as goal
@@ -44,6 +44,18 @@ returns-in-Ok-clause-failed g c = λ h s running.
       rises = rises_from h s settled.chosen left.spare.number settled.is running.sound.order left.rises;
     })
     (c.save_next.ensures.failed settled.chosen settled.ready) c.save_next.ensures.unsettled
+
+pub returns-in-Ok-clause-alive : goal.returns-in-Ok-clause-alive
+returns-in-Ok-clause-alive g c =
+    let alive = c.requires.alive in
+    alive_after c.args.config.now alive.held alive.spare c.args.state.now c.args.self.now c.save_next.new.self c.save_next.result
+    (returns-in-Ok-clause-saved g c alive.held alive.spare alive.running) (returns-in-Ok-clause-failed g c alive.held alive.spare alive.running)
+
+pub returns-in-Err-clause-alive : goal.returns-in-Err-clause-alive
+returns-in-Err-clause-alive g c =
+    let alive = c.requires.alive in
+    let left = c.in-Err.ensures.failed c.args.state.now alive.held alive.spare alive.running in
+    record { held = left.now_held; spare = left.now_spare; running = left.running }
 
 pub returns-in-Ok-clause-flash : goal.returns-in-Ok-clause-flash
 returns-in-Ok-clause-flash g c = λ h s running told.

@@ -1,4 +1,5 @@
 use Rattle.std.proofs.Common.{◌≡◌, subst, inr}
+use Rattle.flt_flash.proofs.CallsInARow.{more_calls}
 use Rattle.flt_nvm.specs.Driver.{driver_of as driver_beneath}
 use Rattle.flt_store.specs.Dark.{IsOfBlocks}
 use Rattle.flt_store.specs.Store.{driver_of}
@@ -6,8 +7,9 @@ use Rattle.flt_store.proofs.Repairing.{sound_kept, both_old}
 use Rattle.flt_store.proofs.Running.{ok_map}
 use Rattle.flt_store.proofs.Faults.{refused_through, starts_through, err_told}
 use Rattle.flt_store.proofs.Dark.{not_by_mount, unready_from}
+use Rattle.flt_store.proofs.Refused.{closed_by, unserved_by_mount}
 use Rattle.flt_restore.specs.declared.fault.StartFault.TheVariants.{SequenceSpent}
-use Rattle.flt_store.specs.Start.{told_of_mount}
+use Rattle.flt_store.specs.Start.{IsForeign, told_of_mount}
 use Rattle.flt_store.proofs.OutOfNumbers.{not_spent_by_mount, out_of_numbers_from}
 use Rattle.flt_store.proofs.store.Store.start_up.Goals as goal
 
@@ -53,3 +55,15 @@ returns-in-Err-clause-spent g c = λ spent.
     let told = c.mount_fault.ensures in
     let is : told_of_mount c.in-Err.fault ≡ SequenceSpent = cc (spent, told) in
     absurd (not_spent_by_mount c.in-Err.fault is)
+
+pub returns-in-Ok-clause-closed : goal.returns-in-Ok-clause-closed
+returns-in-Ok-clause-closed g c =
+    err_told c.start_mounted.result
+    (closed_by c.args.config.now c.args.self.now c.start_mounted.new.self (g.met.B.Blocks.mounted_is_sound c.start_mounted.new.self.nvm.blocks)
+    (more_calls _ _ _ c.start.ensures.mounted.calls.follows c.start_mounted.ensures.follows))
+    (returns-in-Ok-clause-refused g c)
+
+pub returns-in-Err-clause-closed : goal.returns-in-Err-clause-closed
+returns-in-Err-clause-closed g c = λ foreign alive.
+    unserved_by_mount c.args.config.now (driver_of c.args.self.now) (driver_beneath c.start.new.self) (g.met.B.Blocks.mounted_is_sound c.start.new.self.blocks) c.start.ensures.mounted.calls.follows
+    c.in-Err.fault (λ sector page is. (c.in-Err.ensures.mounted.calls.damaged sector page is).0) (subst IsForeign c.mount_fault.ensures foreign) alive.running.served
