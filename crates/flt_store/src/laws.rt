@@ -1,6 +1,7 @@
 //! What the words of a store's clauses come to.
-ghost use Rattle.std.specs.Prelude.{◌+◌, ◌<◌, IsFalse};
+ghost use Rattle.std.specs.Prelude.{◌+◌, ◌<◌, ℕ, IsTrue, IsFalse};
 ghost use Rattle.flt_flash.specs.State.{last_count};
+ghost use Rattle.flt_store.specs.Cause.{IsStuck};
 ghost use Rattle.flt_store.specs.Store.{driver_of, IsUnhindered};
 
 use crate::Store;
@@ -13,4 +14,10 @@ pub fn few_faults_hinder_none<B: Blocks + Drop>(before: &Store<B>, after: &Store
     requires counted { (driver_of after.now).device.faults < last_count }
     requires numbers { IsFalse (driver_of after.now).is_spent }
     ensures { IsUnhindered before.now after.now }
+{}
+
+/// Where only records of more than 96 bytes can't be written any more, no save is told so.
+pub fn long_records_stop_no_save<B: Blocks + Drop>(store: &Store<B>)
+    requires { (number size : ℕ) → IsTrue ((driver_of store.now).is_stuck number size) → 96 < size }
+    ensures { IsStuck (driver_of store.now) → ⊥ }
 {}
