@@ -1,15 +1,16 @@
-//! The examples: runs each script of `data/` over a blank flash in memory, and compares its status and its report with what is written
-//! down for it.
+//! The examples: runs each script of `data/` over a blank flash in memory, and most over a blank EEPROM too, and compares its status and its
+//! report with what is written down for it.
 //!
-//! It stands on `flt_run`, and makes its one call as `faultmem` does, over streams in memory.
+//! It stands on `flt_run`, and makes the one call `program` as `faultmem` does, over streams in memory.
 #![tactic(auto)]
 
 use flt_did::{
     DID_ROWS, DidTable, did_0101, did_0102, did_0103, did_0104, did_0105, did_0106, did_0107,
 };
+use flt_ea::EepromMem;
 use flt_flash::FlashMem;
 use flt_io::{MemSink, MemSource};
-use flt_run::{OpenGate, Outcome, run};
+use flt_run::{Ended, OpenGate, program};
 use std::io::Print;
 use std::marker::Sync;
 use std::process::ExitCode;
@@ -18,52 +19,95 @@ use std::sync::Wait;
 use std::thread::Threads;
 use std::{fs, io};
 
-/// The scripts by their names, each with the status that it ends with.
-const EXAMPLES: [(&str, u8); 31] = [
-    ("cut", 0),
-    ("cut_all", 0),
-    ("cycles", 0),
-    ("dark", 0),
-    ("did", 0),
-    ("did_unknown", 2),
-    ("did_wide", 2),
-    ("displaced", 0),
-    ("drain_cut", 0),
-    ("enable", 0),
-    ("events", 0),
-    ("first", 0),
-    ("jobs", 0),
-    ("jobs_full", 0),
-    ("lanes", 0),
-    ("lives", 0),
-    ("many_events", 0),
-    ("profile", 0),
-    ("refused_room", 2),
-    ("refused_store_lanes", 2),
-    ("refused_twice", 2),
-    ("reports", 0),
-    ("sessions", 0),
-    ("settings", 0),
-    ("sig", 0),
-    ("spaces", 0),
-    ("store_lane", 0),
-    ("testers", 0),
-    ("ticks", 0),
-    ("two_blocks", 0),
-    ("urgent", 0),
+/// A script that is run over the flash.
+const RUN: &[&str] = &["run"];
+
+/// A script that is run over the flash and over the EEPROM, with the same report.
+const BOTH: &[&str] = &["run", "ea"];
+
+/// A script that is checked.
+const CHECK: &[&str] = &["check"];
+
+/// The scripts by their names, each with the words under which it is run and the status that it ends with.
+const EXAMPLES: [(&str, &[&str], u8); 60] = [
+    ("before_a_cycle", BOTH, 0),
+    ("checked", CHECK, 0),
+    ("checked_room", CHECK, 2),
+    ("checked_twice", CHECK, 2),
+    ("clear", BOTH, 0),
+    ("confirmed_at_two", BOTH, 0),
+    ("cut", RUN, 0),
+    ("cut_all", RUN, 0),
+    ("cut_before_a_commit", BOTH, 0),
+    ("cut_behind_a_commit", BOTH, 0),
+    ("cut_between_commits", BOTH, 0),
+    ("cut_in_a_switch", BOTH, 0),
+    ("cycles", RUN, 0),
+    ("dark", RUN, 0),
+    ("dark_end", BOTH, 5),
+    ("dark_life", BOTH, 0),
+    ("debounce_by_count", BOTH, 0),
+    ("debounce_by_time", BOTH, 0),
+    ("did", RUN, 0),
+    ("did_unknown", RUN, 2),
+    ("did_wide", RUN, 2),
+    ("displaced", RUN, 0),
+    ("drain_cut", RUN, 0),
+    ("empty", BOTH, 0),
+    ("enable", RUN, 0),
+    ("events", RUN, 0),
+    ("failed_save", BOTH, 0),
+    ("first", RUN, 0),
+    ("five_lanes", BOTH, 0),
+    ("forty_events", BOTH, 0),
+    ("frames", BOTH, 0),
+    ("healing_and_aging", BOTH, 0),
+    ("jobs", RUN, 0),
+    ("jobs_full", RUN, 0),
+    ("jobs_in_lanes", BOTH, 0),
+    ("lanes", RUN, 0),
+    ("lives", RUN, 0),
+    ("many_events", RUN, 0),
+    ("mute_copy", RUN, 0),
+    ("profile", RUN, 0),
+    ("queue_full", BOTH, 0),
+    ("refused_range", BOTH, 2),
+    ("refused_room", RUN, 2),
+    ("refused_store_lanes", RUN, 2),
+    ("refused_tester", BOTH, 2),
+    ("refused_twice", RUN, 2),
+    ("reports", RUN, 0),
+    ("session_ends", BOTH, 0),
+    ("sessions", RUN, 0),
+    ("settings", RUN, 0),
+    ("sig", RUN, 0),
+    ("silent_tester", BOTH, 0),
+    ("spaces", RUN, 0),
+    ("status_bits", BOTH, 0),
+    ("store_lane", RUN, 0),
+    ("testers", RUN, 0),
+    ("ticks", RUN, 0),
+    ("two_blocks", RUN, 0),
+    ("two_sessions", BOTH, 0),
+    ("urgent", RUN, 0),
 ];
 
 /// How many bytes a report has at most.
 const ROOM: usize = 8_000;
 
-/// The pages of a sector of the flash, and how often the power may come.
+/// The pages of a sector of the flash.
 const PAGES: u16 = 1024;
 
+/// The units of the EEPROM.
+const UNITS: u16 = 1090;
+
+/// How often the power may come.
 const BOOTS: u16 = 256;
 
-/// Whether the script of this name ends with this status, and writes the report of the same name.
+/// Whether the script of this name, under this word, ends with this status, and writes the report of the same name.
 fn is_as_written<R: Files + AllocGlobal + Threads + Wait + Sync>(
     rt: &R,
+    word: &str,
     name: &str,
     status: u8,
 ) -> io::Result<bool> {
@@ -71,7 +115,7 @@ fn is_as_written<R: Files + AllocGlobal + Threads + Wait + Sync>(
     let script = fs::read_to_string(rt, format!(in alloc; "{name}.script")?)?;
     let report = fs::read_to_string(rt, format!(in alloc; "{name}.report")?)?;
     let mut words = Vec::new(alloc);
-    words.push(String::from_str(alloc, "run")?)?;
+    words.push(String::from_str(alloc, word)?)?;
     let bytes = Vec::from_slice(alloc, script.as_bytes())?;
     let mut source = MemSource::new(bytes, Vec::new(alloc));
     let mut sink = MemSink::new(alloc, ROOM, Vec::new(alloc))?;
@@ -84,27 +128,35 @@ fn is_as_written<R: Files + AllocGlobal + Threads + Wait + Sync>(
         || dids.add(0x0106, 2, did_0106).is_err()
         || dids.add(0x0107, 8, did_0107).is_err();
     let flash = FlashMem::blank(alloc, PAGES, BOOTS)?;
-    let Outcome { status: ended, .. } = run(
+    let device = EepromMem::blank(alloc, UNITS, BOOTS)?;
+    let ended = program(
         rt,
         alloc,
         &words,
         &mut source,
         &mut sink,
         flash,
+        device,
         dids,
         &OpenGate,
     );
+    let ended = match ended {
+        Ended::Bench(outcome) => outcome.status,
+        Ended::Device(outcome) => outcome.status,
+    };
     Ok(ended == status && sink.bytes() == report.as_bytes())
 }
 
 /// Tells of each example whether it is as written, and answers whether all are.
 fn run_all<R: Files + AllocGlobal + Print + Threads + Wait + Sync>(rt: &R) -> io::Result<bool> {
     let mut all = true;
-    for (name, status) in EXAMPLES {
-        let same = is_as_written(rt, name, status)?;
-        let told = if same { "as written" } else { "another report" };
-        println!(rt; "{name}: {told}")?;
-        all = all && same;
+    for (name, words, status) in EXAMPLES {
+        for word in words {
+            let same = is_as_written(rt, word, name, status)?;
+            let told = if same { "as written" } else { "another report" };
+            println!(rt; "{word} {name}: {told}")?;
+            all = all && same;
+        }
     }
     Ok(all)
 }

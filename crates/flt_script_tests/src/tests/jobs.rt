@@ -34,11 +34,7 @@ static CASES: [(&str, &str); 18] = [
 
 #[test]
 fn jobs(rt: HostRuntime) -> Result<(), Fail> {
-    for case in &CASES {
-        let told = outcome(rt.alloc(), case.0.as_bytes())?;
-        assert_eq!(rt; told.as_str(), case.1, "{:?}", case.0);
-    }
-    Ok(())
+    all_are_told(&rt, rt.alloc(), &CASES)
 }
 
 fn job(urgent: bool, block: u8, written: &[u8]) -> Part {
@@ -59,12 +55,5 @@ fn job(urgent: bool, block: u8, written: &[u8]) -> Part {
 fn jobs_are_made_as_written(rt: HostRuntime) -> Result<(), Fail> {
     let script = parse(rt.alloc(), b"post 3 01 af\nurge 0 7F", &table())?;
     let wanted = [job(false, 3, &[0x01, 0xAF]), job(true, 0, &[0x7F])];
-    let mut wanted = wanted.iter();
-    for life in &script.lives {
-        for part in life {
-            assert!(rt; wanted.next() == Some(part));
-        }
-    }
-    assert!(rt; wanted.next().is_none());
-    Ok(())
+    are_parts(&rt, &script.lives, &wanted)
 }

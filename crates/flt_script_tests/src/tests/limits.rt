@@ -19,24 +19,32 @@ fn events(alloc: Global, count: u32) -> Result<String, AllocError> {
     Ok(text)
 }
 
+/// Pieces that are repeated, as often as a script may have them, and how many bytes are told of the script.
+static AS_MANY: [(&str, usize, usize); 5] = [
+    ("#", 512, 0),
+    ("#\n", 524_288, 0),
+    ("cycle 0\n", 65_536, 524_288),
+    ("power\n", 255, 255),
+    ("drain\n", 1_024, 6_144),
+];
+
+/// This many bytes are told of the script.
+fn is_as_long(rt: &impl Abort, alloc: Global, script: String, length: usize) -> Result<(), Fail> {
+    assert!(rt; outcome(alloc, script.as_bytes())?.len() == length, "{length}");
+    Ok(())
+}
+
 #[test]
 fn limits(rt: HostRuntime) -> Result<(), Fail> {
-    let alloc = rt.alloc();
-    let mut line = repeated(alloc, "#", 512)?;
-    assert_eq!(rt; outcome(alloc, line.as_bytes())?.as_str(), "");
-    line.push_str("\r\n#")?;
-    assert_eq!(rt; outcome(alloc, line.as_bytes())?.as_str(), "");
-    let script = repeated(alloc, "#\n", 524_288)?;
-    assert_eq!(rt; outcome(alloc, script.as_bytes())?.as_str(), "");
-    assert_eq!(rt;
-        outcome(alloc, events(alloc, 256)?.as_bytes())?.as_str(),
-        ""
-    );
-    let script = repeated(alloc, "cycle 0\n", 65_536)?;
-    assert_eq!(rt; outcome(alloc, script.as_bytes())?.len(), 524_288);
-    let script = repeated(alloc, "power\n", 255)?;
-    assert_eq!(rt; outcome(alloc, script.as_bytes())?.len(), 255);
-    Ok(())
+    for case in &AS_MANY {
+        is_as_long(&rt, rt.alloc(), repeated(rt.alloc(), case.0, case.1)?, case.2)?;
+    }
+    is_as_long(&rt, rt.alloc(), events(rt.alloc(), 256)?, 0)
+}
+
+#[test]
+fn lines_end_at_a_feed(rt: HostRuntime) -> Result<(), Fail> {
+    is_told(&rt, rt.alloc(), repeated(rt.alloc(), "#", 512)?, "\r\n#", "")
 }
 
 /// Pieces that are repeated, what stands behind them, and what is told of both.
@@ -83,34 +91,64 @@ static TOO_MANY: [(&str, usize, &str, &str); 20] = [
     ),
 ];
 
+/// A script with this behind it is told so.
+fn is_told(
+    rt: &impl Abort,
+    alloc: Global,
+    mut script: String,
+    behind: &str,
+    told: &str,
+) -> Result<(), Fail> {
+    script.push_str(behind)?;
+    assert!(rt; outcome(alloc, script.as_bytes())?.as_str() == told, "{behind:?} {told:?}");
+    Ok(())
+}
+
+/// Each piece, repeated and with what stands behind it, is told as its case says.
+fn repeated_are_told(
+    rt: &impl Abort,
+    alloc: Global,
+    cases: &[(&str, usize, &str, &str)],
+) -> Result<(), Fail> {
+    for case in cases {
+        is_told(rt, alloc, repeated(alloc, case.0, case.1)?, case.2, case.3)?;
+    }
+    Ok(())
+}
+
 #[test]
 fn one_too_many(rt: HostRuntime) -> Result<(), Fail> {
-    let alloc = rt.alloc();
-    for case in &TOO_MANY {
-        let mut script = repeated(alloc, case.0, case.1)?;
-        script.push_str(case.2)?;
-        let told = outcome(alloc, script.as_bytes())?;
-        assert_eq!(rt; told.as_str(), case.3, "{:?} behind {:?}", case.2, case.0);
+    repeated_are_told(&rt, rt.alloc(), &TOO_MANY)
+}
+
+/// Behind as many events as there may be.
+static BEHIND_EVENTS: [(&str, &str); 2] = [
+    ("event 256 dtc 000101 prio 25", "script line 257 many"),
+    ("event 256 dtc 000101 prio 256", "script line 257 range"),
+];
+
+#[test]
+fn one_event_too_many(rt: HostRuntime) -> Result<(), Fail> {
+    for case in &BEHIND_EVENTS {
+        is_told(&rt, rt.alloc(), events(rt.alloc(), 256)?, case.0, case.1)?;
     }
-    let mut script = events(alloc, 256)?;
-    script.push_str("event 256 dtc 000101 prio 25")?;
-    assert_eq!(rt;
-        outcome(alloc, script.as_bytes())?.as_str(),
-        "script line 257 many"
-    );
-    script.push_str("6")?;
-    assert_eq!(rt;
-        outcome(alloc, script.as_bytes())?.as_str(),
-        "script line 257 range"
-    );
-    let mut script = repeated(alloc, "fault 2 none\n", 64)?;
-    script.push_str("power\nsave")?;
-    let told = outcome(alloc, script.as_bytes())?;
-    assert!(rt; told.as_str().ends_with("fault 2 none.|save."));
-    let mut script = repeated(alloc, "power\n", 255)?;
-    script.push_str(repeated(alloc, "cycle 0\n", 65_536)?.as_str())?;
-    assert_eq!(rt; outcome(alloc, script.as_bytes())?.len(), 524_543);
     Ok(())
+}
+
+#[test]
+fn a_power_up_is_no_arm_and_no_step(rt: HostRuntime) -> Result<(), Fail> {
+    let mut script = repeated(rt.alloc(), "fault 2 none\n", 64)?;
+    script.push_str("power\nsave")?;
+    let told = outcome(rt.alloc(), script.as_bytes())?;
+    assert!(rt; told.as_str().ends_with("fault 2 none.|save."));
+    Ok(())
+}
+
+#[test]
+fn a_power_up_leaves_room_for_each_step(rt: HostRuntime) -> Result<(), Fail> {
+    let mut script = repeated(rt.alloc(), "power\n", 255)?;
+    script.push_str(repeated(rt.alloc(), "cycle 0\n", 65_536)?.as_str())?;
+    is_as_long(&rt, rt.alloc(), script, 524_543)
 }
 
 /// The same of `drain`.
@@ -133,14 +171,5 @@ static TOO_MANY_DRAINS: [(&str, usize, &str, &str); 4] = [
 
 #[test]
 fn one_drain_too_many(rt: HostRuntime) -> Result<(), Fail> {
-    let alloc = rt.alloc();
-    for case in &TOO_MANY_DRAINS {
-        let mut script = repeated(alloc, case.0, case.1)?;
-        script.push_str(case.2)?;
-        let told = outcome(alloc, script.as_bytes())?;
-        assert_eq!(rt; told.as_str(), case.3, "{:?} behind {:?}", case.2, case.0);
-    }
-    let script = repeated(alloc, "drain\n", 1_024)?;
-    assert_eq!(rt; outcome(alloc, script.as_bytes())?.len(), 6_144);
-    Ok(())
+    repeated_are_told(&rt, rt.alloc(), &TOO_MANY_DRAINS)
 }

@@ -15,21 +15,21 @@ use std::alloc::Global;
 use std::process::Abort;
 use std::test::Fail;
 
-const MARK: [u8; 8] = [1, 1, 2, 0, 0, 1, 0, 0];
+static MARK: [u8; 8] = [1, 1, 2, 0, 0, 1, 0, 0];
 
 /// Generation 7: the summary at index 0, the only entry at index 1.
-const COMMIT: [u8; 26] = [
+static COMMIT: [u8; 26] = [
     1, 0, 0, 0, 7, 0, 0xFF, 0xFF, 0xFF, 0xFF, 1, 0xFF, 0xFF, 0xFF, 0xFF, 0xFF, 0xFF, 0xFF, 0xFF,
     0xFF, 0xFF, 0xFF, 0xFF, 0xFF, 0xFF, 0xFF,
 ];
 
 /// No entry, and an overflow.
-const SUMMARY: [u8; 32] = [
+static SUMMARY: [u8; 32] = [
     1, 1, 0, 0, 0xFF, 0xFF, 0xFF, 0xFF, 0xFF, 0xFF, 0xFF, 0xFF, 0, 0, 0, 0, 0, 0, 0, 0, 0, 0, 0, 0,
     0, 0, 0, 0, 0, 0, 0, 0,
 ];
 
-const NO_ENTRY: [u8; 68] = [
+static NO_ENTRY: [u8; 68] = [
     0xFF, 0xFF, 0, 0, 0, 0, 0, 0, 0, 0, 0, 0, 0, 0, 0, 0, 0, 0, 0, 0, 0, 0, 0, 0, 0, 0, 0, 0, 0, 0,
     0, 0, 0, 0, 0, 0, 0, 0, 0, 0, 0, 0, 0, 0, 0, 0, 0, 0, 0, 0, 0, 0, 0, 0, 0, 0, 0, 0, 0, 0, 0, 0,
     0, 0, 0, 0, 0, 0,
@@ -85,24 +85,19 @@ fn an_image_is_restored_by_its_second_copy(rt: HostRuntime) -> Result<(), Fail> 
     driver.write(17, &COMMIT)?;
     driver.write(24, &SUMMARY)?;
     driver.write(65, &NO_ENTRY)?;
-    match restored(rt.alloc(), driver, &config, &mut out)? {
-        Ok(found) => {
-            let Restored {
-                commit,
-                is_mark_due,
-            } = found;
-            assert!(&rt; is_mark_due);
-            match commit {
-                Some(read) => {
-                    assert!(&rt; (read.commit.generation, read.copy) == (7, 2));
-                    assert!(&rt; &read.bytes[..] == &COMMIT[..]);
-                    assert!(&rt; out.overflow && out.entries.is_empty());
-                }
-                None => panic!(&rt; "no commit"),
-            }
-        }
-        Err(_) => panic!(&rt; "not restored"),
-    }
+    let Ok(found) = restored(rt.alloc(), driver, &config, &mut out)? else {
+        return Err(Fail::from("not restored"));
+    };
+    let Restored {
+        commit: Some(read),
+        is_mark_due: true,
+    } = found
+    else {
+        return Err(Fail::from("no commit, or no mark due"));
+    };
+    assert!(rt; (read.commit.generation, read.copy) == (7, 2));
+    assert!(rt; &read.bytes[..] == &COMMIT[..]);
+    assert!(rt; out.overflow && out.entries.is_empty());
     Ok(())
 }
 

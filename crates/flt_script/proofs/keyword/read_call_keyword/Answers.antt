@@ -29,3 +29,24 @@ returns-in-prefail c = rw (text_from_reads c.args.word.now (codes "prefail") (om
 
 pub returns-in-enable : goal.returns-in-enable
 returns-in-enable c = rw (text_from_reads c.args.word.now (codes "enable") (omega arith) (search rules)) refl
+
+pub returns-in-pass : goal.returns-in-pass
+returns-in-pass c = rw (text_from_reads c.args.word.now (codes "pass") (omega arith) (search rules)) refl
+
+pub returns-in-fail : goal.returns-in-fail
+returns-in-fail c = rw (text_from_reads c.args.word.now (codes "fail") (omega arith) (search rules)) refl
+
+pub returns-in-show : goal.returns-in-show
+returns-in-show c = rw (text_from_reads c.args.word.now (codes "show") (omega arith) (search rules)) refl
+
+pub returns-in-tick : goal.returns-in-tick
+returns-in-tick c = rw (text_from_reads c.args.word.now (codes "tick") (omega arith) (search rules)) refl
+
+pub returns-in-sig : goal.returns-in-sig
+returns-in-sig c = rw (text_from_reads c.args.word.now (codes "sig") (omega arith) (search rules)) refl
+
+pub returns-in-t : goal.returns-in-t
+returns-in-t c = rw (text_from_reads c.args.word.now (codes "t") (omega arith) (search rules)) refl
+
+pub returns-in-did : goal.returns-in-did
+returns-in-did c = rw (text_from_reads c.args.word.now (codes "did") (omega arith) (search rules)) refl
