@@ -6,56 +6,23 @@ use flt_config::{Config, DIDS, Debounce, DidUse, EVENTS, EventCfg, check, initia
 use flt_dem::*;
 use flt_did::{DID_ROWS, DidTable, did_0101, did_0103};
 use flt_model::{Report, Shown};
+use std::process::Abort;
 
 /// A call, or what a show of an event is to tell.
 #[derive(Clone, Copy)]
 enum Step {
     Signal(u8, u16),
     Enable(u8, bool),
-    Report(u16, Report),
+    Fail(u16),
+    Pass(u16),
+    PreFail(u16),
+    PrePass(u16),
     Tick(u16),
     Cycle(u8),
-    Show(u16, Shown),
-}
-
-fn fail(event: u16) -> Step {
-    Step::Report(event, Report::Failed)
-}
-
-fn pass(event: u16) -> Step {
-    Step::Report(event, Report::Passed)
-}
-
-fn prefail(event: u16) -> Step {
-    Step::Report(event, Report::PreFailed)
-}
-
-fn show(event: u16, status: u8, fdc: i8, failed: u8, clean: u16, stored: u8) -> Step {
-    Step::Show(
-        event,
-        Shown {
-            status,
-            fdc,
-            failed,
-            clean,
-            stored,
-            overflow: false,
-        },
-    )
-}
-
-fn show_full(event: u16, status: u8, fdc: i8, failed: u8, stored: u8) -> Step {
-    Step::Show(
-        event,
-        Shown {
-            status,
-            fdc,
-            failed,
-            clean: 0,
-            stored,
-            overflow: true,
-        },
-    )
+    /// The event, its status, fault detection counter, failed and clean counters, and occurrences, with no overflow.
+    Show(u16, u8, i8, u8, u16, u8),
+    /// The same after an overflow, with a clean counter of 0.
+    ShowFull(u16, u8, i8, u8, u8),
 }
 
 /// An event with the settings that a script gives it where it names none.
@@ -134,7 +101,10 @@ fn agrees(dem: &mut Dem, step: Step) -> bool {
             }
             condition < 8
         }
-        Step::Report(event, report) => reports(dem, event, report),
+        Step::Fail(event) => reports(dem, event, Report::Failed),
+        Step::Pass(event) => reports(dem, event, Report::Passed),
+        Step::PreFail(event) => reports(dem, event, Report::PreFailed),
+        Step::PrePass(event) => reports(dem, event, Report::PrePassed),
         Step::Tick(ticks) => {
             dem.state.tick(&dem.dids, ticks, true);
             true
@@ -145,7 +115,34 @@ fn agrees(dem: &mut Dem, step: Step) -> bool {
             }
             cycle < 4
         }
-        Step::Show(event, shown) => shows(dem, event, shown),
+        Step::Show(event, status, fdc, failed, clean, stored) => {
+            shows(
+                dem,
+                event,
+                Shown {
+                    status,
+                    fdc,
+                    failed,
+                    clean,
+                    stored,
+                    overflow: false,
+                },
+            )
+        }
+        Step::ShowFull(event, status, fdc, failed, stored) => {
+            shows(
+                dem,
+                event,
+                Shown {
+                    status,
+                    fdc,
+                    failed,
+                    clean: 0,
+                    stored,
+                    overflow: true,
+                },
+            )
+        }
     }
 }
 
@@ -169,47 +166,63 @@ fn one(memory: u8, event: EventCfg) -> Config {
     configured(memory, events)
 }
 
+/// Each step agrees.
+fn agree(rt: &impl Abort, config: Config, dids: DidTable<DID_ROWS>, steps: &[Step]) {
+    assert_eq!(rt; first_difference(config, dids, steps), None);
+}
+
+static HEALS: [Step; 11] = [
+    Step::Cycle(0),
+    Step::Fail(0),
+    Step::Show(0, 0x2F, 127, 1, 0, 1),
+    Step::Pass(0),
+    Step::Show(0, 0x2E, -128, 1, 0, 1),
+    Step::Cycle(0),
+    Step::Show(0, 0x6C, 0, 1, 0, 1),
+    Step::Pass(0),
+    Step::Show(0, 0x2C, -128, 1, 0, 1),
+    Step::Cycle(0),
+    Step::Show(0, 0x68, 0, 0, 1, 1),
+];
+
+static IS_CONFIRMED_AT_TWO: [Step; 7] = [
+    Step::Cycle(0),
+    Step::Fail(0),
+    Step::Show(0, 0x27, 127, 1, 0, 1),
+    Step::Cycle(0),
+    Step::Cycle(0),
+    Step::Fail(0),
+    Step::Show(0, 0x2F, 127, 2, 0, 1),
+];
+
 #[test]
 fn an_event_fails_passes_heals_and_is_confirmed(rt: HostRuntime) {
-    let steps = [
-        Step::Cycle(0),
-        fail(0),
-        show(0, 0x2F, 127, 1, 0, 1),
-        pass(0),
-        show(0, 0x2E, -128, 1, 0, 1),
-        Step::Cycle(0),
-        show(0, 0x6C, 0, 1, 0, 1),
-        pass(0),
-        show(0, 0x2C, -128, 1, 0, 1),
-        Step::Cycle(0),
-        show(0, 0x68, 0, 0, 1, 1),
-    ];
-    assert_eq!(rt;
-        first_difference(one(16, event(0x123456)), DidTable::new(), &steps),
-        None
-    );
-
+    agree(&rt, one(16, event(0x123456)), DidTable::new(), &HEALS);
     let slow = EventCfg {
         confirm: 2,
         ..event(0x123456)
     };
-    let steps = [
-        Step::Cycle(0),
-        fail(0),
-        show(0, 0x27, 127, 1, 0, 1),
-        Step::Cycle(0),
-        Step::Cycle(0),
-        fail(0),
-        show(0, 0x2F, 127, 2, 0, 1),
-    ];
-    assert_eq!(rt;
-        first_difference(one(16, slow), DidTable::new(), &steps),
-        None
-    );
+    agree(&rt, one(16, slow), DidTable::new(), &IS_CONFIRMED_AT_TWO);
 }
 
+static COUNTED: [Step; 13] = [
+    Step::Cycle(0),
+    Step::Pass(0),
+    Step::Show(0, 0x00, -128, 0, 0, 0),
+    Step::PreFail(0),
+    Step::Show(0, 0x00, 38, 0, 0, 0),
+    Step::PreFail(0),
+    Step::Show(0, 0x00, 76, 0, 0, 0),
+    Step::PreFail(0),
+    Step::Show(0, 0x00, 114, 0, 0, 0),
+    Step::PreFail(0),
+    Step::Show(0, 0x2F, 127, 1, 0, 1),
+    Step::PrePass(0),
+    Step::Show(0, 0x2F, 101, 1, 0, 1),
+];
+
 #[test]
-fn reports_are_debounced_by_counter_and_by_time(rt: HostRuntime) {
+fn reports_are_debounced_by_a_counter(rt: HostRuntime) {
     let counted = EventCfg {
         debounce: Debounce::Counter {
             fail_at: 10,
@@ -221,70 +234,80 @@ fn reports_are_debounced_by_counter_and_by_time(rt: HostRuntime) {
         },
         ..event(0x000001)
     };
-    let steps = [
-        Step::Cycle(0),
-        pass(0),
-        show(0, 0x00, -128, 0, 0, 0),
-        prefail(0),
-        show(0, 0x00, 38, 0, 0, 0),
-        prefail(0),
-        show(0, 0x00, 76, 0, 0, 0),
-        prefail(0),
-        show(0, 0x00, 114, 0, 0, 0),
-        prefail(0),
-        show(0, 0x2F, 127, 1, 0, 1),
-        Step::Report(0, Report::PrePassed),
-        show(0, 0x2F, 101, 1, 0, 1),
-    ];
-    assert_eq!(rt;
-        first_difference(one(16, counted), DidTable::new(), &steps),
-        None
-    );
+    agree(&rt, one(16, counted), DidTable::new(), &COUNTED);
+}
 
+static TIMED: [Step; 9] = [
+    Step::Cycle(0),
+    Step::PreFail(0),
+    Step::Tick(9),
+    Step::Show(0, 0x50, 114, 0, 0, 0),
+    Step::PreFail(0),
+    Step::Tick(1),
+    Step::Show(0, 0x2F, 127, 1, 0, 1),
+    Step::Tick(50),
+    Step::Show(0, 0x2F, 127, 1, 0, 1),
+];
+
+#[test]
+fn reports_are_debounced_by_time(rt: HostRuntime) {
     let timed = EventCfg {
         debounce: Debounce::Time { fail: 10, pass: 5 },
         ..event(0x000001)
     };
-    let steps = [
-        Step::Cycle(0),
-        prefail(0),
-        Step::Tick(9),
-        show(0, 0x50, 114, 0, 0, 0),
-        prefail(0),
-        Step::Tick(1),
-        show(0, 0x2F, 127, 1, 0, 1),
-        Step::Tick(50),
-        show(0, 0x2F, 127, 1, 0, 1),
-    ];
-    assert_eq!(rt;
-        first_difference(one(16, timed), DidTable::new(), &steps),
-        None
-    );
+    agree(&rt, one(16, timed), DidTable::new(), &TIMED);
 }
 
+static DISPLACED: [Step; 9] = [
+    Step::Cycle(0),
+    Step::Fail(0),
+    Step::Fail(1),
+    Step::Fail(2),
+    Step::ShowFull(2, 0x2F, 127, 1, 0),
+    Step::Pass(0),
+    Step::Fail(3),
+    Step::ShowFull(0, 0x26, -128, 1, 0),
+    Step::ShowFull(3, 0x2F, 127, 1, 1),
+];
+
 #[test]
-fn a_full_memory_displaces_and_events_age(rt: HostRuntime) {
+fn a_full_memory_displaces(rt: HostRuntime) {
     let mut events = ArrayVec::new();
     events.push(of_priority_five(1));
     events.push(of_priority_five(2));
     events.push(of_priority_five(3));
     events.push(of_priority_five(4));
-    let steps = [
-        Step::Cycle(0),
-        fail(0),
-        fail(1),
-        fail(2),
-        show_full(2, 0x2F, 127, 1, 0),
-        pass(0),
-        fail(3),
-        show_full(0, 0x26, -128, 1, 0),
-        show_full(3, 0x2F, 127, 1, 1),
-    ];
-    assert_eq!(rt;
-        first_difference(configured(2, events), DidTable::new(), &steps),
-        None
-    );
+    agree(&rt, configured(2, events), DidTable::new(), &DISPLACED);
+}
 
+static AGED: [Step; 23] = [
+    Step::Cycle(0),
+    Step::Fail(0),
+    Step::Fail(1),
+    Step::Show(0, 0xAF, 127, 1, 0, 1),
+    Step::Pass(0),
+    Step::Pass(1),
+    Step::Cycle(0),
+    Step::Show(0, 0xEC, 0, 1, 0, 1),
+    Step::Show(1, 0x6C, 0, 1, 0, 1),
+    Step::Pass(0),
+    Step::Pass(1),
+    Step::Cycle(0),
+    Step::Show(0, 0x68, 0, 0, 1, 1),
+    Step::Show(1, 0x68, 0, 0, 1, 1),
+    Step::Pass(0),
+    Step::Pass(1),
+    Step::Cycle(0),
+    Step::Show(0, 0x68, 0, 0, 2, 1),
+    Step::Show(1, 0x60, 0, 0, 2, 0),
+    Step::Pass(0),
+    Step::Pass(1),
+    Step::Cycle(0),
+    Step::Show(0, 0x60, 0, 0, 3, 0),
+];
+
+#[test]
+fn events_age(rt: HostRuntime) {
     let mut events = ArrayVec::new();
     events.push(EventCfg {
         indicator: true,
@@ -293,35 +316,7 @@ fn a_full_memory_displaces_and_events_age(rt: HostRuntime) {
         ..event(1)
     });
     events.push(EventCfg { age: 2, ..event(2) });
-    let steps = [
-        Step::Cycle(0),
-        fail(0),
-        fail(1),
-        show(0, 0xAF, 127, 1, 0, 1),
-        pass(0),
-        pass(1),
-        Step::Cycle(0),
-        show(0, 0xEC, 0, 1, 0, 1),
-        show(1, 0x6C, 0, 1, 0, 1),
-        pass(0),
-        pass(1),
-        Step::Cycle(0),
-        show(0, 0x68, 0, 0, 1, 1),
-        show(1, 0x68, 0, 0, 1, 1),
-        pass(0),
-        pass(1),
-        Step::Cycle(0),
-        show(0, 0x68, 0, 0, 2, 1),
-        show(1, 0x60, 0, 0, 2, 0),
-        pass(0),
-        pass(1),
-        Step::Cycle(0),
-        show(0, 0x60, 0, 0, 3, 0),
-    ];
-    assert_eq!(rt;
-        first_difference(configured(16, events), DidTable::new(), &steps),
-        None
-    );
+    agree(&rt, configured(16, events), DidTable::new(), &AGED);
 }
 
 /// Whether an entry has this occurrence and these frames.
@@ -335,6 +330,25 @@ fn holds(dem: &Dem, event: u16, occurrence: u8, first: &[u8], recent: &[u8]) -> 
         None => false,
     }
 }
+
+/// Whether each step agrees.
+fn all_agree(dem: &mut Dem, steps: &[Step]) -> bool {
+    for step in steps {
+        if !agrees(dem, *step) {
+            return false;
+        }
+    }
+    true
+}
+
+static FIRST_FAILURE: [Step; 4] = [
+    Step::Signal(0, 258),
+    Step::Signal(2, 7),
+    Step::Cycle(0),
+    Step::Fail(0),
+];
+
+static LAST_FAILURE: [Step; 3] = [Step::Signal(0, 3), Step::Pass(0), Step::Fail(0)];
 
 #[test]
 fn frames_are_taken_at_the_first_and_the_last_failure(rt: HostRuntime) {
@@ -355,31 +369,35 @@ fn frames_are_taken_at_the_first_and_the_last_failure(rt: HostRuntime) {
         ..event(0x123456)
     };
     let mut dem = manager(one(16, framed), table).expect(&rt, "the configuration is valid");
-    for step in [
-        Step::Signal(0, 258),
-        Step::Signal(2, 7),
-        Step::Cycle(0),
-        fail(0),
-    ] {
-        assert!(&rt; agrees(&mut dem, step));
-    }
+    assert!(&rt; all_agree(&mut dem, &FIRST_FAILURE));
     assert!(&rt; holds(&dem, 0, 1, &[1, 2, 7], &[1, 2, 7]));
-    for step in [Step::Signal(0, 3), pass(0), fail(0)] {
-        assert!(&rt; agrees(&mut dem, step));
-    }
+    assert!(&rt; all_agree(&mut dem, &LAST_FAILURE));
     assert!(&rt; holds(&dem, 0, 2, &[1, 2, 7], &[0, 3, 7]));
-    assert_eq!(rt; dem.noted(Which::FirstFailed), Some(0));
-    assert_eq!(rt; dem.noted(Which::RecentConfirmed), Some(0));
-    assert_eq!(rt; dem.find(0x123456), Some(0));
-    assert_eq!(rt; dem.find(0x123457), None);
+    assert!(&rt; dem.noted(Which::FirstFailed) == Some(0));
+    assert!(&rt; dem.noted(Which::RecentConfirmed) == Some(0));
+    assert!(&rt; dem.find(0x123456) == Some(0) && dem.find(0x123457).is_none());
 
     let mut saved = initial(dem.config());
     dem.persist(&mut saved);
     dem.clear_all();
-    assert_eq!(rt; dem.noted(Which::RecentFailed), None);
-    assert!(&rt; dem.entry(0).is_none());
-    assert_eq!(rt; saved.entries.len(), 1);
+    assert!(&rt; dem.noted(Which::RecentFailed).is_none() && dem.entry(0).is_none());
+    assert!(&rt; saved.entries.len() == 1);
 }
+
+static DISABLED: [Step; 6] = [
+    Step::Cycle(0),
+    Step::PreFail(0),
+    Step::Tick(6),
+    Step::Enable(2, false),
+    Step::Tick(50),
+    Step::Show(0, 0x50, 76, 0, 0, 0),
+];
+
+static ENABLED: [Step; 3] = [
+    Step::Enable(2, true),
+    Step::Tick(4),
+    Step::Show(0, 0x2F, 127, 1, 0, 1),
+];
 
 #[test]
 fn a_disabled_event_stands_still(rt: HostRuntime) {
@@ -392,27 +410,9 @@ fn a_disabled_event_stands_still(rt: HostRuntime) {
         &rt,
         "the configuration is valid",
     );
-    for step in [
-        Step::Cycle(0),
-        prefail(0),
-        Step::Tick(6),
-        Step::Enable(2, false),
-        Step::Tick(50),
-        show(0, 0x50, 76, 0, 0, 0),
-    ] {
-        assert!(&rt; agrees(&mut dem, step));
-    }
+    assert!(&rt; all_agree(&mut dem, &DISABLED));
     if has_event(&dem, 0) {
-        assert_eq!(rt;
-            dem.report(0, Report::Failed, true),
-            Some(Cause::NotEnabled)
-        );
+        assert!(&rt; dem.report(0, Report::Failed, true) == Some(Cause::NotEnabled));
     }
-    for step in [
-        Step::Enable(2, true),
-        Step::Tick(4),
-        show(0, 0x2F, 127, 1, 0, 1),
-    ] {
-        assert!(&rt; agrees(&mut dem, step));
-    }
+    assert!(&rt; all_agree(&mut dem, &ENABLED));
 }

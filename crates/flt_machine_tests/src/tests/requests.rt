@@ -9,7 +9,7 @@ use flt_uds::{
 /// what it asks for where FF FF FF 01 follow.
 type Row = (u8, Option<u8>, [usize; 2], Request);
 
-const REQUESTS: [Row; 17] = [
+static REQUESTS: [Row; 17] = [
     (
         0x10,
         Some(0x01),
@@ -127,37 +127,33 @@ fn differences(service: u8, second: u8, extended: bool) -> u32 {
 fn every_service_sub_function_and_length_is_answered_by_the_table(rt: HostRuntime) {
     for service in 0..=255u8 {
         for second in 0..=255u8 {
-            assert_eq!(rt; differences(service, second, false), 0);
-            assert_eq!(rt; differences(service, second, true), 0);
+            assert!(rt; differences(service, second, false) == 0);
+            assert!(rt; differences(service, second, true) == 0);
         }
     }
 }
 
+/// Whether a request is read as one for this.
+fn asks(bytes: &[u8], extended: bool, request: Request, silent: bool) -> bool {
+    answer(bytes, extended) == Ok(Asked { request, silent })
+}
+
+/// Whether a request is refused with this code.
+fn is_refused(bytes: &[u8], extended: bool, code: u8) -> bool {
+    answer(bytes, extended) == Err(code)
+}
+
 #[test]
 fn a_record_is_the_first_the_second_or_both(rt: HostRuntime) {
+    let dtc = 0x123456;
     for number in 0..=255u8 {
-        let is_known = number == 1 || number == 2 || number == 255;
-        let first = answer(&[0x19, 0x04, 0x12, 0x34, 0x56, number], false);
-        let second = answer(&[0x19, 0x86, 0x12, 0x34, 0x56, number], true);
-        if is_known {
-            let dtc = 0x123456;
-            assert_eq!(rt;
-                first,
-                Ok(Asked {
-                    request: Request::Snapshot { dtc, number },
-                    silent: false
-                })
-            );
-            assert_eq!(rt;
-                second,
-                Ok(Asked {
-                    request: Request::Extended { dtc, number },
-                    silent: true
-                })
-            );
+        let first = [0x19, 0x04, 0x12, 0x34, 0x56, number];
+        let second = [0x19, 0x86, 0x12, 0x34, 0x56, number];
+        if number == 1 || number == 2 || number == 255 {
+            assert!(rt; asks(&first, false, Request::Snapshot { dtc, number }, false));
+            assert!(rt; asks(&second, true, Request::Extended { dtc, number }, true));
         } else {
-            assert_eq!(rt; first, Err(0x31));
-            assert_eq!(rt; second, Err(0x31));
+            assert!(rt; is_refused(&first, false, 0x31) && is_refused(&second, true, 0x31));
         }
     }
 }
@@ -165,41 +161,26 @@ fn a_record_is_the_first_the_second_or_both(rt: HostRuntime) {
 #[test]
 fn the_option_bytes_of_a_setting_are_all_ff(rt: HostRuntime) {
     for byte in 0..=254u8 {
-        assert_eq!(rt; answer(&[0x85, 0x01, byte, 0xFF, 0xFF], true), Err(0x31));
-        assert_eq!(rt; answer(&[0x85, 0x02, 0xFF, byte, 0xFF], true), Err(0x31));
-        assert_eq!(rt; answer(&[0x85, 0x82, 0xFF, 0xFF, byte], true), Err(0x31));
-        assert_eq!(rt; answer(&[0x85, 0x02, 0xFF, 0xFF, byte], false), Err(0x7F));
+        assert!(rt; is_refused(&[0x85, 0x01, byte, 0xFF, 0xFF], true, 0x31));
+        assert!(rt; is_refused(&[0x85, 0x02, 0xFF, byte, 0xFF], true, 0x31));
+        assert!(rt; is_refused(&[0x85, 0x82, 0xFF, 0xFF, byte], true, 0x31));
+        assert!(rt; is_refused(&[0x85, 0x02, 0xFF, 0xFF, byte], false, 0x7F));
     }
 }
 
 #[test]
 fn every_mask_and_dtc_is_handed_on(rt: HostRuntime) {
     for mask in 0..=255u8 {
-        let count = Request::Count { mask };
-        let by_mask = Request::ByMask { mask };
-        let clear = Request::Clear {
-            dtc: 0x010000 + u32::from(mask) * 256 + 0xFE,
-        };
-        assert_eq!(rt;
-            answer(&[0x19, 0x01, mask], false),
-            Ok(Asked {
-                request: count,
-                silent: false
-            })
-        );
-        assert_eq!(rt;
-            answer(&[0x19, 0x82, mask], false),
-            Ok(Asked {
-                request: by_mask,
-                silent: true
-            })
-        );
-        assert_eq!(rt;
-            answer(&[0x14, 0x01, mask, 0xFE], false),
-            Ok(Asked {
-                request: clear,
-                silent: false
-            })
+        let dtc = 0x010000 + u32::from(mask) * 256 + 0xFE;
+        assert!(rt; asks(&[0x19, 0x01, mask], false, Request::Count { mask }, false));
+        assert!(rt; asks(&[0x19, 0x82, mask], false, Request::ByMask { mask }, true));
+        assert!(rt;
+            asks(
+                &[0x14, 0x01, mask, 0xFE],
+                false,
+                Request::Clear { dtc },
+                false
+            )
         );
     }
 }

@@ -9,6 +9,7 @@ use flt_dcm::*;
 use flt_dem::DemState;
 use flt_did::{DID_ROWS, DidTable, did_0101, did_0103};
 use flt_model::{REQUEST, Report};
+use std::process::Abort;
 
 /// A call, a request of a tester with the bytes that are to come (none where the response is suppressed), or the
 /// status that an event is to have.
@@ -189,6 +190,11 @@ fn first_difference(config: Config, dids: DidTable<DID_ROWS>, steps: &[Step]) ->
     None
 }
 
+/// Each step agrees.
+fn agree(rt: &impl Abort, config: Config, dids: DidTable<DID_ROWS>, steps: &[Step]) {
+    assert_eq!(rt; first_difference(config, dids, steps), None);
+}
+
 /// What a mask lists, and what a clear leaves.
 static MASKS: [Step<'static>; 15] = [
     Step::Ask(
@@ -243,10 +249,7 @@ static COUNTER: [Step<'static>; 5] = [
 
 #[test]
 fn dtcs_are_listed_cleared_and_counted(rt: HostRuntime) {
-    assert_eq!(rt;
-        first_difference(one(event(0x123456)), DidTable::new(), &MASKS),
-        None
-    );
+    agree(&rt, one(event(0x123456)), DidTable::new(), &MASKS);
 
     let counted = EventCfg {
         debounce: Debounce::Counter {
@@ -259,10 +262,7 @@ fn dtcs_are_listed_cleared_and_counted(rt: HostRuntime) {
         },
         ..event(0x000001)
     };
-    assert_eq!(rt;
-        first_difference(one(counted), DidTable::new(), &COUNTER),
-        None
-    );
+    agree(&rt, one(counted), DidTable::new(), &COUNTER);
 }
 
 /// A tester that holds the setting off, until it is silent for too long.
@@ -301,15 +301,9 @@ static TWO_TESTERS: [Step<'static>; 10] = [
 
 #[test]
 fn the_setting_is_off_while_a_tester_holds_it(rt: HostRuntime) {
-    assert_eq!(rt;
-        first_difference(one(event(0x000001)), DidTable::new(), &SESSION),
-        None
-    );
+    agree(&rt, one(event(0x000001)), DidTable::new(), &SESSION);
 
-    assert_eq!(rt;
-        first_difference(one(event(0x000001)), DidTable::new(), &TWO_TESTERS),
-        None
-    );
+    agree(&rt, one(event(0x000001)), DidTable::new(), &TWO_TESTERS);
 }
 
 /// Frames and extended data, of an event with and of one without.
@@ -378,10 +372,7 @@ fn snapshots_and_extended_data_are_told(rt: HostRuntime) {
         ..event(0x123456)
     });
     events.push(event(0x123457));
-    assert_eq!(rt;
-        first_difference(configured(16, events), table, &SNAPSHOTS),
-        None
-    );
+    agree(&rt, configured(16, events), table, &SNAPSHOTS);
 }
 
 #[test]
@@ -403,10 +394,7 @@ fn a_request_meets_the_session_that_silence_left(rt: HostRuntime) {
             Step::Tick(ticks),
             Step::Ask(0, &[0x85, 0x02], answer),
         ];
-        assert_eq!(rt;
-            first_difference(one(event(0x000001)), DidTable::new(), &asked),
-            None
-        );
+        agree(&rt, one(event(0x000001)), DidTable::new(), &asked);
     }
     for (ticks, report) in [
         (498, Step::Ignored(0, Cause::SettingOff)),
@@ -423,10 +411,7 @@ fn a_request_meets_the_session_that_silence_left(rt: HostRuntime) {
             Step::Tick(ticks),
             report,
         ];
-        assert_eq!(rt;
-            first_difference(one(event(0x000001)), DidTable::new(), &held),
-            None
-        );
+        agree(&rt, one(event(0x000001)), DidTable::new(), &held);
     }
 }
 
@@ -477,10 +462,7 @@ static FOUR_TESTERS: [Step<'static>; 33] = [
 
 #[test]
 fn requests_go_on_while_two_testers_hold_the_setting_off(rt: HostRuntime) {
-    assert_eq!(rt;
-        first_difference(one(event(0x000001)), DidTable::new(), &FOUR_TESTERS),
-        None
-    );
+    agree(&rt, one(event(0x000001)), DidTable::new(), &FOUR_TESTERS);
 }
 
 /// A request of the profile: the service, the sub-function where it has one, the two lengths that it may have, and the
@@ -488,7 +470,7 @@ fn requests_go_on_while_two_testers_hold_the_setting_off(rt: HostRuntime) {
 /// event, of DTC 123456, failed. A request that is refused has no bytes.
 type Row = (u8, Option<u8>, [usize; 2], &'static [u8], &'static [u8]);
 
-const REQUESTS: [Row; 17] = [
+static REQUESTS: [Row; 17] = [
     (
         0x10,
         Some(0x01),
@@ -683,6 +665,14 @@ fn differences(server: &mut Server, service: u8, second: u8, rest: Rest, extende
     differences
 }
 
+/// What follows, in the default session and in the extended one.
+static RESTS: [(Rest, bool); 4] = [
+    (Rest::AllSet, false),
+    (Rest::AllSet, true),
+    (Rest::Known, false),
+    (Rest::Known, true),
+];
+
 #[test]
 fn each_request_is_answered_as_the_table_says(rt: HostRuntime) {
     let mut server = served(one(event(0x123456)), DidTable::new()).expect(
@@ -694,22 +684,10 @@ fn each_request_is_answered_as_the_table_says(rt: HostRuntime) {
         let is_known = REQUESTS.iter().any(|row| row.0 == service);
         for second in 0..=255u8 {
             if is_known || second % 128 == 0x02 {
-                assert_eq!(rt;
-                    differences(&mut server, service, second, Rest::AllSet, false),
-                    0
-                );
-                assert_eq!(rt;
-                    differences(&mut server, service, second, Rest::AllSet, true),
-                    0
-                );
-                assert_eq!(rt;
-                    differences(&mut server, service, second, Rest::Known, false),
-                    0
-                );
-                assert_eq!(rt;
-                    differences(&mut server, service, second, Rest::Known, true),
-                    0
-                );
+                for (rest, extended) in &RESTS {
+                    let differences = differences(&mut server, service, second, *rest, *extended);
+                    assert!(&rt; differences == 0);
+                }
             }
         }
     }
@@ -736,8 +714,5 @@ fn the_setting_comes_first_and_the_conditions_last(rt: HostRuntime) {
         needs: 4,
         ..event(0x000001)
     };
-    assert_eq!(rt;
-        first_difference(one(needy), DidTable::new(), &CAUSES),
-        None
-    );
+    agree(&rt, one(needy), DidTable::new(), &CAUSES);
 }

@@ -335,7 +335,12 @@ static ODD_OLD_COMMITS: [(usize, u8); 8] = [
 
 // Whether each of these changes of a commit is refused.
 fn are_no_commits(config: &ValidConfig, commit: &[u8], odd: &[(usize, u8)]) -> bool {
-    odd.iter().all(|odd| get_commit(config, &changed(commit, odd.0, odd.1)).is_none())
+    for odd in odd {
+        if get_commit(config, &changed(commit, odd.0, odd.1)).is_some() {
+            return false;
+        }
+    }
+    true
 }
 
 #[test]
