@@ -1,4 +1,5 @@
 // Whole runs, and the streams that they read and write.
+mod gates;
 mod hostile;
 mod reports;
 mod streams;

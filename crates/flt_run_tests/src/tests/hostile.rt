@@ -72,7 +72,7 @@ const OLD: &[(usize, Change)] = &[
 ];
 
 /// Changes of an image, each with its page, of which sector 0 has the first 1,024, with what the next run tells and its status.
-const IMAGES: [(&[(usize, Change)], &str, u8); 12] = [
+static IMAGES: [(&[(usize, Change)], &str, u8); 12] = [
     (&[], "life 1 generation 1\n", 0),
     (&[(0, Change::Zeros)], "life 1 refused sector 0 page 0\n", 6),
     (
@@ -112,7 +112,7 @@ const IMAGES: [(&[(usize, Change)], &str, u8); 12] = [
 ];
 
 /// Scripts that are none, each with what is told of it.
-const REFUSED: [(&[u8], &str); 12] = [
+static REFUSED: [(&[u8], &str); 12] = [
     (b"# \x80\n", "script line 1 byte\n"),
     (b"nothing\n", "script line 1 word\n"),
     (b"event 0 count 1 1 1 1\n", "script line 1 form\n"),
@@ -191,6 +191,39 @@ fn run_blank<R: Threads + Wait + Sync>(
     Ok((status, sink))
 }
 
+/// Over this flash, the command ends with this status and writes this.
+fn is_told<R: Threads + Wait + Sync + Abort>(
+    rt: &R,
+    alloc: Global,
+    flash: FlashMem,
+    command: (&str, &[u8]),
+    told: &str,
+    status: u8,
+) -> Result<(), Fail> {
+    let (ended, sink, _) = run_over(rt, alloc, flash, command.0, command.1, (NONE, NONE))?;
+    assert!(rt; sink.bytes() == told.as_bytes(), "{told}");
+    assert!(rt; ended == status, "{told}");
+    Ok(())
+}
+
+/// The same over a blank flash.
+fn is_told_of_a_blank<R: Threads + Wait + Sync + Abort>(
+    rt: &R,
+    alloc: Global,
+    command: (&str, &[u8]),
+    told: &str,
+    status: u8,
+) -> Result<(), Fail> {
+    is_told(
+        rt,
+        alloc,
+        FlashMem::blank(alloc, PAGES, BOOTS)?,
+        command,
+        told,
+        status,
+    )
+}
+
 /// The pages of a flash, sector 0's first.
 fn pages_of(alloc: Global, flash: &FlashMem) -> Result<Vec<[u8; 32]>, AllocError> {
     let mut image = Vec::new(alloc);
@@ -250,24 +283,22 @@ fn image_with<R: Threads + Wait + Sync + Abort>(
 }
 
 /// Both versions, each by the changes that make an image of it.
-const VERSIONS: [&[(usize, Change)]; 2] = [&[], OLD];
+static VERSIONS: [&[(usize, Change)]; 2] = [&[], OLD];
 
 #[test]
 fn changed_images_are_told(rt: HostRuntime) -> Result<(), Fail> {
     let alloc = rt.alloc();
-    for version in VERSIONS {
-        for (changes, told, status) in IMAGES {
+    for version in &VERSIONS {
+        for (changes, told, status) in &IMAGES {
             let flash = image_with(&rt, alloc, version, changes)?;
-            let (ended, sink, _) = run_over(
+            is_told(
                 &rt,
                 alloc,
                 flash,
-                "run",
-                CONFIGURED.as_bytes(),
-                (NONE, NONE),
+                ("run", CONFIGURED.as_bytes()),
+                told,
+                *status,
             )?;
-            assert_eq!(rt; sink.bytes(), told.as_bytes(), "{told}");
-            assert_eq!(rt; ended, status, "{told}");
         }
     }
     Ok(())
@@ -285,16 +316,14 @@ fn an_image_of_version_1_is_restored(rt: HostRuntime) -> Result<(), Fail> {
              save -> flash\nlife 2 generation {number}\n"
         )?;
         let flash = image_with(&rt, alloc, OLD, &[])?;
-        let (status, sink, _) = run_over(
+        is_told(
             &rt,
             alloc,
             flash,
-            "run",
-            script.as_bytes(),
-            (NONE, NONE),
+            ("run", script.as_bytes()),
+            told.as_str(),
+            0,
         )?;
-        assert_eq!(rt; sink.bytes(), told.as_bytes());
-        assert_eq!(rt; status, 0);
     }
     Ok(())
 }
@@ -308,80 +337,108 @@ fn event_lines(alloc: Global, count: u32) -> Result<String, AllocError> {
     Ok(lines)
 }
 
-/// A configuration of 256 events, the most of a script, and one event more.
+/// A configuration of 256 events, the most of a script.
 #[test]
 fn many_events_are_told(rt: HostRuntime) -> Result<(), Fail> {
     let alloc = rt.alloc();
-    let lines = event_lines(alloc, 256)?;
-    let (status, sink) = run_blank(&rt, alloc, "check", lines.as_bytes(), (NONE, NONE))?;
+    let mut script = event_lines(alloc, 256)?;
     let told = "ok events 256 entries 16 needed 334 pages 512 steps 0 lives 1\n";
-    assert_eq!(rt; sink.bytes(), told.as_bytes());
-    assert_eq!(rt; status, 0);
-    let mut script = lines;
+    is_told_of_a_blank(&rt, alloc, ("check", script.as_bytes()), told, 0)?;
     script.push_str("t A 19 01 50\ncycle 0\nfail 200\nsave\npower\nt A 19 02 08\n")?;
-    let (status, sink) = run_blank(&rt, alloc, "run", script.as_bytes(), (NONE, NONE))?;
     let told =
         "life 1 generation 0\nt A 19 01 50 -> 59 01 FF 01 01 00\ncycle 0 -> taken\nfail 200 -> taken\nsave -> 1\n\
                 life 2 generation 1\nt A 19 02 08 -> 59 02 FF 02 00 C8 2F\n";
-    assert_eq!(rt; sink.bytes(), told.as_bytes());
-    assert_eq!(rt; status, 0);
-    let more = event_lines(alloc, 257)?;
-    for word in ["run", "check"] {
-        let (status, sink) = run_blank(&rt, alloc, word, more.as_bytes(), (NONE, NONE))?;
-        assert_eq!(rt; sink.bytes(), "script line 257 many\n".as_bytes(), "{word}");
-        assert_eq!(rt; status, 2, "{word}");
+    is_told_of_a_blank(&rt, alloc, ("run", script.as_bytes()), told, 0)
+}
+
+/// The words that read a script.
+static READERS: [&str; 2] = ["run", "check"];
+
+#[test]
+fn one_event_too_many_is_told(rt: HostRuntime) -> Result<(), Fail> {
+    let more = event_lines(rt.alloc(), 257)?;
+    for word in &READERS {
+        let told = "script line 257 many\n";
+        is_told_of_a_blank(&rt, rt.alloc(), (word, more.as_bytes()), told, 2)?;
     }
     Ok(())
 }
 
 #[test]
 fn scripts_are_refused(rt: HostRuntime) -> Result<(), Fail> {
-    let alloc = rt.alloc();
-    for word in ["run", "check"] {
-        let (status, _) = run_blank(&rt, alloc, word, ACCEPTED, (NONE, NONE))?;
-        assert_eq!(rt; status, 0, "{word}");
-        for (script, told) in REFUSED {
-            let (status, sink) = run_blank(&rt, alloc, word, script, (NONE, NONE))?;
-            assert_eq!(rt; sink.bytes(), told.as_bytes(), "{word} {told}");
-            assert_eq!(rt; status, 2, "{word} {told}");
+    for word in &READERS {
+        for (script, told) in &REFUSED {
+            is_told_of_a_blank(&rt, rt.alloc(), (word, script), told, 2)?;
         }
-        let mut large = Vec::new(alloc);
-        large.resize(TOO_MANY, b'#')?;
-        let (status, sink) = run_blank(&rt, alloc, word, &large, (NONE, NONE))?;
-        assert_eq!(rt; sink.bytes(), "script line 0 large\n".as_bytes(), "{word}");
-        assert_eq!(rt; status, 2, "{word}");
     }
     Ok(())
+}
+
+#[test]
+fn large_scripts_are_refused(rt: HostRuntime) -> Result<(), Fail> {
+    let mut large = Vec::new(rt.alloc());
+    large.resize(TOO_MANY, b'#')?;
+    for word in &READERS {
+        is_told_of_a_blank(&rt, rt.alloc(), (word, &large), "script line 0 large\n", 2)?;
+    }
+    Ok(())
+}
+
+#[test]
+fn line_ends_are_accepted(rt: HostRuntime) -> Result<(), Fail> {
+    for word in &READERS {
+        let (status, _) = run_blank(&rt, rt.alloc(), word, ACCEPTED, (NONE, NONE))?;
+        assert!(rt; status == 0, "{word}");
+    }
+    Ok(())
+}
+
+/// The status of a run whose source fails at this call, and whether what it writes is due: `read fault`, or what is told of the script.
+fn status_of_a_pull<R: Threads + Wait + Sync>(
+    rt: &R,
+    alloc: Global,
+    call: u32,
+) -> Result<(u8, bool), AllocError> {
+    let (status, sink) = run_blank(rt, alloc, "run", UNFORMED, (&[call], NONE))?;
+    let told = if status == 3 {
+        "read fault\n"
+    } else {
+        UNFORMED_TOLD
+    };
+    Ok((status, sink.bytes() == told.as_bytes()))
+}
+
+/// The status of a run whose sink fails at this call, and whether what it writes is due: all that is told of the script, or a front of it.
+fn status_of_a_push<R: Threads + Wait + Sync>(
+    rt: &R,
+    alloc: Global,
+    call: u32,
+) -> Result<(u8, bool), AllocError> {
+    let (status, sink) = run_blank(rt, alloc, "run", UNFORMED, (NONE, &[call]))?;
+    let is_whole = sink.bytes().len() == UNFORMED_TOLD.len();
+    let is_front = UNFORMED_TOLD.as_bytes().starts_with(sink.bytes());
+    Ok((status, is_front && (status == 4 || is_whole)))
 }
 
 /// Each call of the source, and then of the sink, is the one that fails: the first ones are made, and those from some call on are not.
 #[test]
 fn streams_fail_at_each_call(rt: HostRuntime) -> Result<(), Fail> {
-    let alloc = rt.alloc();
     let mut read = 3;
     let mut write = 4;
     for call in 0..CALLS {
-        let (status, sink) = run_blank(&rt, alloc, "run", UNFORMED, (&[call], NONE))?;
-        let told = if status == 3 {
-            "read fault\n"
-        } else {
-            UNFORMED_TOLD
-        };
-        assert_eq!(rt; sink.bytes(), told.as_bytes(), "pull {call}");
-        assert!(rt; status == read || status == 2 && call > 0, "pull {call}");
+        let (status, is_due) = status_of_a_pull(&rt, rt.alloc(), call)?;
+        assert!(rt;
+            is_due && (status == read || status == 2 && call > 0),
+            "pull {call}"
+        );
         read = status;
-        let (status, sink) = run_blank(&rt, alloc, "run", UNFORMED, (NONE, &[call]))?;
+        let (status, is_due) = status_of_a_push(&rt, rt.alloc(), call)?;
         assert!(rt;
-            UNFORMED_TOLD.as_bytes().starts_with(sink.bytes()),
+            is_due && (status == write || status == 2 && call > 0),
             "push {call}"
         );
-        assert!(rt;
-            status == 4 || sink.bytes().len() == UNFORMED_TOLD.len(),
-            "push {call}"
-        );
-        assert!(rt; status == write || status == 2 && call > 0, "push {call}");
         write = status;
     }
-    assert_eq!(rt; (read, write), (2, 2));
+    assert!(rt; (read, write) == (2, 2));
     Ok(())
 }

@@ -73,23 +73,28 @@ fn memory_fails_at_the_given_calls(rt: HostRuntime) -> Result<(), Fail> {
     let bytes = vec![in alloc; 1, 2, 3, 4, 5]?;
     let mut source = MemSource::new(bytes, vec![in alloc; 1]?);
     let mut out = [0; 3];
-    assert_eq!(rt; source.pull(&mut out).ok(), Some(3));
-    assert_eq!(rt; source.pull(&mut out).ok(), None);
-    assert_eq!(rt; source.pull(&mut out).ok(), Some(2));
-    assert_eq!(rt; out, [4, 5, 3]);
-    assert_eq!(rt; source.pull(&mut out).ok(), Some(0));
-
-    let mut sink = MemSink::new(alloc, 4, vec![in alloc; 1]?)?;
-    assert_eq!(rt; sink.push(b"abc").is_ok(), true);
-    assert_eq!(rt; sink.push(b"d").is_ok(), false);
-    assert_eq!(rt; sink.push(b"de").is_ok(), false);
-    assert_eq!(rt; sink.push(b"d").is_ok(), true);
-    assert_eq!(rt; sink.bytes(), b"abcd".as_slice());
+    assert!(rt; source.pull(&mut out).ok() == Some(3));
+    assert!(rt; source.pull(&mut out).ok() == None);
+    assert!(rt; source.pull(&mut out).ok() == Some(2));
+    assert!(rt; out == [4, 5, 3]);
+    assert!(rt; source.pull(&mut out).ok() == Some(0));
     Ok(())
 }
 
 #[test]
-fn streams_stutter(rt: HostRuntime) -> Result<(), Fail> {
+fn memory_takes_what_fits_but_at_the_given_calls(rt: HostRuntime) -> Result<(), Fail> {
+    let alloc = rt.alloc();
+    let mut sink = MemSink::new(alloc, 4, vec![in alloc; 1]?)?;
+    assert!(rt; sink.push(b"abc").is_ok());
+    assert!(rt; sink.push(b"d").is_err());
+    assert!(rt; sink.push(b"de").is_err());
+    assert!(rt; sink.push(b"d").is_ok());
+    assert!(rt; sink.bytes() == b"abcd".as_slice());
+    Ok(())
+}
+
+#[test]
+fn sources_stutter(rt: HostRuntime) -> Result<(), Fail> {
     let alloc = rt.alloc();
     let bytes = vec![in alloc; 1, 2, 3]?;
     let turns = vec![in alloc;
@@ -99,30 +104,47 @@ fn streams_stutter(rt: HostRuntime) -> Result<(), Fail> {
     ]?;
     let mut source = ReadSource::new(Stuttering::new(bytes, turns));
     let mut out = [0; 3];
-    assert_eq!(rt; source.pull(&mut out).ok(), Some(1));
-    assert_eq!(rt; source.pull(&mut out).ok(), None);
-    assert_eq!(rt; source.pull(&mut out).ok(), Some(2));
-    assert_eq!(rt; out, [2, 3, 0]);
+    assert!(rt; source.pull(&mut out).ok() == Some(1));
+    assert!(rt; source.pull(&mut out).ok() == None);
+    assert!(rt; source.pull(&mut out).ok() == Some(2));
+    assert!(rt; out == [2, 3, 0]);
+    Ok(())
+}
+
+#[test]
+fn sources_are_interrupted_too_often(rt: HostRuntime) -> Result<(), Fail> {
+    let alloc = rt.alloc();
+    let mut out = [0; 3];
     let mut source = ReadSource::new(Stuttering::new(
         Vec::new(alloc),
         vec![in alloc; INTERRUPTED; 17]?,
     ));
-    assert_eq!(rt; source.pull(&mut out).ok(), None);
-    assert_eq!(rt; source.pull(&mut out).ok(), Some(0));
+    assert!(rt; source.pull(&mut out).ok() == None);
+    assert!(rt; source.pull(&mut out).ok() == Some(0));
+    Ok(())
+}
 
-    // A short write in mid-stream, and then a write of no byte.
+/// A short write in mid-stream, and then a write of no byte.
+#[test]
+fn sinks_stutter(rt: HostRuntime) -> Result<(), Fail> {
+    let alloc = rt.alloc();
     let turns = vec![in alloc; Turn::Moves(2), INTERRUPTED, Turn::Moves(2), Turn::Moves(0)]?;
     let mut sink = WriteSink::new(Stuttering::new(Vec::new(alloc), turns));
-    assert_eq!(rt; sink.push(b"abc").is_ok(), true);
-    assert_eq!(rt; sink.push(b"de").is_ok(), false);
-    assert_eq!(rt; sink.push(b"fg").is_ok(), true);
-    assert_eq!(rt; sink.into_inner().bytes.as_slice(), b"abcfg".as_slice());
+    assert!(rt; sink.push(b"abc").is_ok());
+    assert!(rt; sink.push(b"de").is_err());
+    assert!(rt; sink.push(b"fg").is_ok());
+    assert!(rt; sink.into_inner().bytes.as_slice() == b"abcfg".as_slice());
+    Ok(())
+}
 
-    // An error that is no interruption is a fault at once.
+/// An error that is no interruption is a fault at once.
+#[test]
+fn sinks_break(rt: HostRuntime) -> Result<(), Fail> {
+    let alloc = rt.alloc();
     let turns = vec![in alloc; Turn::Fails(ErrorKind::BrokenPipe)]?;
     let mut sink = WriteSink::new(Stuttering::new(Vec::new(alloc), turns));
-    assert_eq!(rt; sink.push(b"a").is_ok(), false);
-    assert_eq!(rt; sink.push(b"b").is_ok(), true);
-    assert_eq!(rt; sink.into_inner().bytes.as_slice(), b"b".as_slice());
+    assert!(rt; sink.push(b"a").is_err());
+    assert!(rt; sink.push(b"b").is_ok());
+    assert!(rt; sink.into_inner().bytes.as_slice() == b"b".as_slice());
     Ok(())
 }
