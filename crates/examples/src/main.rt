@@ -29,67 +29,67 @@ const BOTH: &[&str] = &["run", "ea"];
 const CHECK: &[&str] = &["check"];
 
 /// The scripts by their names, each with the words under which it is run and the status that it ends with.
-const EXAMPLES: [(&str, &[&str], u8); 60] = [
+static EXAMPLES: [(&str, &[&str], u8); 60] = [
     ("before_a_cycle", BOTH, 0),
     ("checked", CHECK, 0),
     ("checked_room", CHECK, 2),
     ("checked_twice", CHECK, 2),
     ("clear", BOTH, 0),
     ("confirmed_at_two", BOTH, 0),
-    ("cut", RUN, 0),
-    ("cut_all", RUN, 0),
+    ("cut", BOTH, 0),
+    ("cut_all", BOTH, 0),
     ("cut_before_a_commit", BOTH, 0),
     ("cut_behind_a_commit", BOTH, 0),
     ("cut_between_commits", BOTH, 0),
     ("cut_in_a_switch", BOTH, 0),
-    ("cycles", RUN, 0),
-    ("dark", RUN, 0),
+    ("cycles", BOTH, 0),
+    ("dark", BOTH, 0),
     ("dark_end", BOTH, 5),
     ("dark_life", BOTH, 0),
     ("debounce_by_count", BOTH, 0),
     ("debounce_by_time", BOTH, 0),
-    ("did", RUN, 0),
-    ("did_unknown", RUN, 2),
-    ("did_wide", RUN, 2),
-    ("displaced", RUN, 0),
-    ("drain_cut", RUN, 0),
+    ("did", BOTH, 0),
+    ("did_unknown", BOTH, 2),
+    ("did_wide", BOTH, 2),
+    ("displaced", BOTH, 0),
+    ("drain_cut", BOTH, 0),
     ("empty", BOTH, 0),
-    ("enable", RUN, 0),
-    ("events", RUN, 0),
+    ("enable", BOTH, 0),
+    ("events", BOTH, 0),
     ("failed_save", BOTH, 0),
-    ("first", RUN, 0),
+    ("first", BOTH, 0),
     ("five_lanes", BOTH, 0),
     ("forty_events", BOTH, 0),
     ("frames", BOTH, 0),
     ("healing_and_aging", BOTH, 0),
-    ("jobs", RUN, 0),
-    ("jobs_full", RUN, 0),
+    ("jobs", BOTH, 0),
+    ("jobs_full", BOTH, 0),
     ("jobs_in_lanes", BOTH, 0),
-    ("lanes", RUN, 0),
-    ("lives", RUN, 0),
-    ("many_events", RUN, 0),
+    ("lanes", BOTH, 0),
+    ("lives", BOTH, 0),
+    ("many_events", BOTH, 0),
     ("mute_copy", RUN, 0),
-    ("profile", RUN, 0),
+    ("profile", BOTH, 0),
     ("queue_full", BOTH, 0),
     ("refused_range", BOTH, 2),
-    ("refused_room", RUN, 2),
-    ("refused_store_lanes", RUN, 2),
+    ("refused_room", BOTH, 2),
+    ("refused_store_lanes", BOTH, 2),
     ("refused_tester", BOTH, 2),
-    ("refused_twice", RUN, 2),
-    ("reports", RUN, 0),
+    ("refused_twice", BOTH, 2),
+    ("reports", BOTH, 0),
     ("session_ends", BOTH, 0),
-    ("sessions", RUN, 0),
-    ("settings", RUN, 0),
-    ("sig", RUN, 0),
+    ("sessions", BOTH, 0),
+    ("settings", BOTH, 0),
+    ("sig", BOTH, 0),
     ("silent_tester", BOTH, 0),
-    ("spaces", RUN, 0),
+    ("spaces", BOTH, 0),
     ("status_bits", BOTH, 0),
-    ("store_lane", RUN, 0),
-    ("testers", RUN, 0),
-    ("ticks", RUN, 0),
-    ("two_blocks", RUN, 0),
+    ("store_lane", BOTH, 0),
+    ("testers", BOTH, 0),
+    ("ticks", BOTH, 0),
+    ("two_blocks", BOTH, 0),
     ("two_sessions", BOTH, 0),
-    ("urgent", RUN, 0),
+    ("urgent", BOTH, 0),
 ];
 
 /// How many bytes a report has at most.
@@ -150,9 +150,9 @@ fn is_as_written<R: Files + AllocGlobal + Threads + Wait + Sync>(
 /// Tells of each example whether it is as written, and answers whether all are.
 fn run_all<R: Files + AllocGlobal + Print + Threads + Wait + Sync>(rt: &R) -> io::Result<bool> {
     let mut all = true;
-    for (name, words, status) in EXAMPLES {
-        for word in words {
-            let same = is_as_written(rt, word, name, status)?;
+    for (name, words, status) in &EXAMPLES {
+        for word in *words {
+            let same = is_as_written(rt, word, name, *status)?;
             let told = if same { "as written" } else { "another report" };
             println!(rt; "{word} {name}: {told}")?;
             all = all && same;
