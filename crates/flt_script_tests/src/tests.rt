@@ -376,7 +376,7 @@ fn first_faults_of_settings(rt: HostRuntime) -> Result<(), Fail> {
 fn arms_are_made_as_written(rt: HostRuntime) -> Result<(), Fail> {
     let text = "cut 2 tail\npower\nfault 3 odd\nmute 1 5 7";
     let script = parse(rt.alloc(), text.as_bytes(), &table())?;
-    assert_eq!(rt; script.lives.len(), 2);
+    assert!(rt; script.lives.len() == 2);
     let cut = Part::One(Step::Arming(Arm::Cut {
         after: 2,
         pattern: Pattern::Tail,

@@ -62,7 +62,7 @@ fn possible_steps_are_told(rt: HostRuntime) {
         (cut(1), true),
         (cut(0), false),
     ] {
-        assert_eq!(rt; are_possible(&config, &[Part::One(step)]), possible);
+        assert!(rt; are_possible(&config, &[Part::One(step)]) == possible);
     }
 }
 
@@ -76,7 +76,7 @@ fn possible_blocks_are_told(rt: HostRuntime) -> Result<(), Fail> {
         (Step::Save, cut(1), false),
     ] {
         let block = block(rt.alloc(), first, second)?;
-        assert_eq!(rt; are_possible(&config, &[block]), possible);
+        assert!(rt; are_possible(&config, &[block]) == possible);
     }
     Ok(())
 }

@@ -46,19 +46,19 @@ fn ask(queue: &mut JobQueue, block: u8) -> QueueReply
 fn forty_blocks(rt: HostRuntime) -> Result<(), Fail> {
     let mut queue = JobQueue::new(40);
     for block in 0..32u8 {
-        assert_eq!(rt; post(&mut queue, false, block), QueueReply::Accepted);
+        assert!(rt; post(&mut queue, false, block) == QueueReply::Accepted);
     }
-    assert_eq!(rt; post(&mut queue, false, 32), QueueReply::QueueFull);
-    assert_eq!(rt; post(&mut queue, false, 0), QueueReply::BlockPending);
-    assert_eq!(rt; ask(&mut queue, 0), QueueReply::Last(LastResult::Pending));
-    assert_eq!(rt; done(&mut queue, 0), QueueReply::NotTaken);
+    assert!(rt; post(&mut queue, false, 32) == QueueReply::QueueFull);
+    assert!(rt; post(&mut queue, false, 0) == QueueReply::BlockPending);
+    assert!(rt; ask(&mut queue, 0) == QueueReply::Last(LastResult::Pending));
+    assert!(rt; done(&mut queue, 0) == QueueReply::NotTaken);
     for block in 0..32u8 {
-        assert_eq!(rt; queue.apply(&QueueOp::Take), QueueReply::Job(job(block, 1)));
-        assert_eq!(rt; done(&mut queue, block), QueueReply::Noted);
+        assert!(rt; queue.apply(&QueueOp::Take) == QueueReply::Job(job(block, 1)));
+        assert!(rt; done(&mut queue, block) == QueueReply::Noted);
     }
-    assert_eq!(rt; queue.apply(&QueueOp::Take), QueueReply::NoJob);
-    assert_eq!(rt; ask(&mut queue, 0), QueueReply::Last(LastResult::Written));
-    assert_eq!(rt; ask(&mut queue, 32), QueueReply::Last(LastResult::Never));
+    assert!(rt; queue.apply(&QueueOp::Take) == QueueReply::NoJob);
+    assert!(rt; ask(&mut queue, 0) == QueueReply::Last(LastResult::Written));
+    assert!(rt; ask(&mut queue, 32) == QueueReply::Last(LastResult::Never));
     Ok(())
 }
 
@@ -66,9 +66,9 @@ fn forty_blocks(rt: HostRuntime) -> Result<(), Fail> {
 #[test]
 fn urgent_first(rt: HostRuntime) -> Result<(), Fail> {
     let mut queue = JobQueue::new(40);
-    assert_eq!(rt; post(&mut queue, false, 0), QueueReply::Accepted);
-    assert_eq!(rt; post(&mut queue, true, 1), QueueReply::Accepted);
-    assert_eq!(rt; queue.apply(&QueueOp::Take), QueueReply::Job(job(1, 1)));
-    assert_eq!(rt; queue.apply(&QueueOp::Take), QueueReply::Job(job(0, 1)));
+    assert!(rt; post(&mut queue, false, 0) == QueueReply::Accepted);
+    assert!(rt; post(&mut queue, true, 1) == QueueReply::Accepted);
+    assert!(rt; queue.apply(&QueueOp::Take) == QueueReply::Job(job(1, 1)));
+    assert!(rt; queue.apply(&QueueOp::Take) == QueueReply::Job(job(0, 1)));
     Ok(())
 }

@@ -72,32 +72,32 @@ fn places_and_answers(rt: HostRuntime) -> Result<(), Fail> {
         return Err(Fail::from("memory"));
     };
     let mut lane = turn.split(&mut main, 2);
-    assert_eq!(rt; (main.left(), main.children(), main.waiting()), (1, 1, 1));
-    assert_eq!(rt; (lane.number(), lane.left()), (1, 2));
+    assert!(rt; (main.left(), main.children(), main.waiting()) == (1, 1, 1));
+    assert!(rt; (lane.number(), lane.left()) == (1, 2));
     let Ok(first) = turn.call(&rt, &mut lane, &(), 5, &mut ()) else {
         unreachable!()
     };
-    assert_eq!(rt; (first.place, first.reply), (0, 5));
+    assert!(rt; (first.place, first.reply) == (0, 5));
     let Ok(second) = turn.call(&rt, &mut lane, &(), 6, &mut ()) else {
         unreachable!()
     };
-    assert_eq!(rt; (second.place, second.reply), (1, 11));
+    assert!(rt; (second.place, second.reply) == (1, 11));
     let Err(full) = turn.call(&rt, &mut lane, &(), 9, &mut ()) else {
         unreachable!()
     };
-    assert_eq!(rt; full.op, 9);
+    assert!(rt; full.op == 9);
     turn.join(&mut main, lane);
-    assert_eq!(rt; main.waiting(), 0);
+    assert!(rt; main.waiting() == 0);
     let Ok(third) = turn.call(&rt, &mut main, &(), 7, &mut ()) else {
         unreachable!()
     };
-    assert_eq!(rt; (third.place, third.reply), (2, 18));
+    assert!(rt; (third.place, third.reply) == (2, 18));
     let vault = turn.close(main);
-    assert_eq!(rt; vault.journal.len(), 3);
-    assert_eq!(rt; (vault.journal[0].lane, vault.journal[0].op), (1, 5));
-    assert_eq!(rt; (vault.journal[1].lane, vault.journal[1].op), (1, 6));
-    assert_eq!(rt; (vault.journal[2].lane, vault.journal[2].op), (0, 7));
-    assert_eq!(rt; vault.machine.sum, 18);
+    assert!(rt; vault.journal.len() == 3);
+    assert!(rt; (vault.journal[0].lane, vault.journal[0].op) == (1, 5));
+    assert!(rt; (vault.journal[1].lane, vault.journal[1].op) == (1, 6));
+    assert!(rt; (vault.journal[2].lane, vault.journal[2].op) == (0, 7));
+    assert!(rt; vault.machine.sum == 18);
     Ok(())
 }
 
@@ -112,18 +112,18 @@ fn answers_in_two_parts(rt: HostRuntime) -> Result<(), Fail> {
     let Ok(first) = turn.call_into(&rt, &mut main, &(), 1_234, &mut rest) else {
         unreachable!()
     };
-    assert_eq!(rt; (first.place, first.reply, rest), (0, 234, 1_000));
+    assert!(rt; (first.place, first.reply, rest) == (0, 234, 1_000));
     let Ok(second) = turn.call_into(&rt, &mut main, &(), 9_999, &mut rest) else {
         unreachable!()
     };
-    assert_eq!(rt; (second.place, second.reply, rest), (1, 233, 11_000));
+    assert!(rt; (second.place, second.reply, rest) == (1, 233, 11_000));
     let Err(full) = turn.call_into(&rt, &mut main, &(), 8, &mut rest) else {
         unreachable!()
     };
-    assert_eq!(rt; (full.op, rest), (8, 11_000));
+    assert!(rt; (full.op, rest) == (8, 11_000));
     let vault = turn.close(main);
-    assert_eq!(rt; vault.journal.len(), 2);
-    assert_eq!(rt; vault.machine.sum, 11_233);
+    assert!(rt; vault.journal.len() == 2);
+    assert!(rt; vault.machine.sum == 11_233);
     Ok(())
 }
 
@@ -184,18 +184,18 @@ fn lanes_share_one_journal(rt: HostRuntime) -> Result<(), Fail> {
         return Err(Fail::from("memory"));
     };
     let main = run_lanes(&rt, &turn, main, 8, 5_000);
-    assert_eq!(rt; main.waiting(), 0);
+    assert!(rt; main.waiting() == 0);
     let vault = turn.close(main);
-    assert_eq!(rt; vault.journal.len(), 40_000);
-    assert_eq!(rt; vault.machine.sum, 8 * 5_000 * 5_001 / 2);
+    assert!(rt; vault.journal.len() == 40_000);
+    assert!(rt; vault.machine.sum == 8 * 5_000 * 5_001 / 2);
     let mut left = [5_000u32; 8];
     for entry in vault.journal.iter() {
         let Some(count) = left.get_mut(entry.lane.wrapping_sub(1) as usize) else {
             return Err(Fail::from("a lane that was not run"));
         };
-        assert_eq!(rt; entry.op, *count);
+        assert!(rt; entry.op == *count);
         *count = count.saturating_sub(1);
     }
-    assert_eq!(rt; left, [0; 8]);
+    assert!(rt; left == [0; 8]);
     Ok(())
 }

@@ -12,20 +12,14 @@ fn a_counter_of_the_whole_range_clamps_at_both_ends(rt: HostRuntime) {
         jump_down: None,
     };
     let mut state = rest(&rules);
-    assert_eq!(rt; fdc(&rules, &state), 0);
-    assert_eq!(rt; report(&rules, &mut state, Report::PrePassed), None);
-    assert_eq!(rt; fdc(&rules, &state), -127);
-    assert_eq!(rt;
-        report(&rules, &mut state, Report::PrePassed),
-        Some(Qualified::Passed)
-    );
-    assert_eq!(rt; state, DebState::Count(-32768));
-    assert_eq!(rt; fdc(&rules, &state), -128);
-    assert_eq!(rt;
-        report(&rules, &mut state, Report::Failed),
-        Some(Qualified::Failed)
-    );
-    assert_eq!(rt; fdc(&rules, &state), 127);
+    assert!(rt; fdc(&rules, &state) == 0);
+    assert!(rt; report(&rules, &mut state, Report::PrePassed).is_none());
+    assert!(rt; fdc(&rules, &state) == -127);
+    assert!(rt; report(&rules, &mut state, Report::PrePassed) == Some(Qualified::Passed));
+    assert!(rt; state == DebState::Count(-32768));
+    assert!(rt; fdc(&rules, &state) == -128);
+    assert!(rt; report(&rules, &mut state, Report::Failed) == Some(Qualified::Failed));
+    assert!(rt; fdc(&rules, &state) == 127);
 }
 
 #[test]
@@ -35,13 +29,13 @@ fn a_timer_of_the_longest_time_qualifies_once(rt: HostRuntime) {
         pass: 1,
     };
     let mut state = rest(&rules);
-    assert_eq!(rt; report(&rules, &mut state, Report::PreFailed), None);
-    assert_eq!(rt; tick(&rules, &mut state, 65534), None);
-    assert_eq!(rt; fdc(&rules, &state), 126);
-    assert_eq!(rt; report(&rules, &mut state, Report::PreFailed), None);
-    assert_eq!(rt; tick(&rules, &mut state, 65535), Some(Qualified::Failed));
-    assert_eq!(rt; tick(&rules, &mut state, 1), None);
-    assert_eq!(rt; fdc(&rules, &state), 127);
-    assert_eq!(rt; report(&rules, &mut state, Report::PrePassed), None);
-    assert_eq!(rt; tick(&rules, &mut state, 1), Some(Qualified::Passed));
+    assert!(rt; report(&rules, &mut state, Report::PreFailed).is_none());
+    assert!(rt; tick(&rules, &mut state, 65534).is_none());
+    assert!(rt; fdc(&rules, &state) == 126);
+    assert!(rt; report(&rules, &mut state, Report::PreFailed).is_none());
+    assert!(rt; tick(&rules, &mut state, 65535) == Some(Qualified::Failed));
+    assert!(rt; tick(&rules, &mut state, 1).is_none());
+    assert!(rt; fdc(&rules, &state) == 127);
+    assert!(rt; report(&rules, &mut state, Report::PrePassed).is_none());
+    assert!(rt; tick(&rules, &mut state, 1) == Some(Qualified::Passed));
 }

@@ -12,10 +12,10 @@ fn refuses_a_second_row_and_a_row_too_many(rt: HostRuntime) {
     assert!(&rt; table.add(0x0101, 2, did_0101).is_ok());
     assert!(&rt; table.add(0x0102, 2, did_0102).is_ok());
     assert!(&rt; table.add(0x0103, 1, did_0103).is_ok());
-    assert_eq!(rt; table.add(0x0101, 2, did_0101), Err(TableFault::DidTwice));
-    assert_eq!(rt; table.add(0x0104, 4, did_0104), Err(TableFault::TableFull));
-    assert_eq!(rt; table.width(0x0103), Some(1));
-    assert_eq!(rt; table.width(0x0104), None);
+    assert!(rt; table.add(0x0101, 2, did_0101) == Err(TableFault::DidTwice));
+    assert!(rt; table.add(0x0104, 4, did_0104) == Err(TableFault::TableFull));
+    assert!(rt; table.width(0x0103) == Some(1));
+    assert!(rt; table.width(0x0104).is_none());
 
     let mut uses: ArrayVec<DidUse, DIDS> = ArrayVec::new();
     uses.push(DidUse {
@@ -36,16 +36,16 @@ fn refuses_a_second_row_and_a_row_too_many(rt: HostRuntime) {
 #[test]
 fn tells_the_values_at_the_ends_of_the_signals(rt: HostRuntime) {
     let mut signals = Signals::zero();
-    assert_eq!(rt; did_0105(&signals), 0);
-    assert_eq!(rt; did_0107(&signals), 0);
+    assert!(rt; did_0105(&signals) == 0);
+    assert!(rt; did_0107(&signals) == 0);
     for index in 0..8u8 {
         signals.set(index, 65535);
     }
-    assert_eq!(rt; did_0101(&signals), 65535);
-    assert_eq!(rt; did_0102(&signals), 65535);
-    assert_eq!(rt; did_0103(&signals), 255);
-    assert_eq!(rt; did_0104(&signals), 4_294_967_295);
-    assert_eq!(rt; did_0105(&signals), 255);
-    assert_eq!(rt; did_0106(&signals), 65535);
-    assert_eq!(rt; did_0107(&signals), 18_446_744_073_709_551_615);
+    assert!(rt; did_0101(&signals) == 65535);
+    assert!(rt; did_0102(&signals) == 65535);
+    assert!(rt; did_0103(&signals) == 255);
+    assert!(rt; did_0104(&signals) == 4_294_967_295);
+    assert!(rt; did_0105(&signals) == 255);
+    assert!(rt; did_0106(&signals) == 65535);
+    assert!(rt; did_0107(&signals) == 18_446_744_073_709_551_615);
 }

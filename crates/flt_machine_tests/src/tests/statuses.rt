@@ -24,15 +24,15 @@ fn counts_stop_at_their_ends(rt: HostRuntime) {
             confirmed = confirmed.saturating_add(1);
         }
     }
-    assert_eq!(rt; confirmed, 1);
-    assert_eq!(rt;
-        state,
-        EventState {
-            status: 0xAF,
-            failed: 255,
-            clean: 0,
-            lit: true
-        }
+    assert!(rt; confirmed == 1);
+    assert!(rt;
+        state
+            == EventState {
+                status: 0xAF,
+                failed: 255,
+                clean: 0,
+                lit: true
+            }
     );
 
     let mut aged = 0u32;
@@ -42,15 +42,15 @@ fn counts_stop_at_their_ends(rt: HostRuntime) {
         }
         passed(&mut state);
     }
-    assert_eq!(rt; aged, 1);
-    assert_eq!(rt;
-        state,
-        EventState {
-            status: 0x20,
-            failed: 0,
-            clean: 510,
-            lit: false
-        }
+    assert!(rt; aged == 1);
+    assert!(rt;
+        state
+            == EventState {
+                status: 0x20,
+                failed: 0,
+                clean: 510,
+                lit: false
+            }
     );
 }
 
@@ -63,31 +63,31 @@ fn a_displaced_event_fails_anew_and_a_cleared_one_is_untested(rt: HostRuntime) {
     let mut state = UNTESTED;
     let _aged = cycle(&rules, &mut state);
     let first = failed(&rules, &mut state);
-    assert_eq!(rt;
-        first,
-        FailedMark {
-            entered: true,
-            confirmed: true
-        }
+    assert!(rt;
+        first
+            == FailedMark {
+                entered: true,
+                confirmed: true
+            }
     );
     displaced(&mut state);
-    assert_eq!(rt;
-        state,
-        EventState {
-            status: 0x27,
-            failed: 1,
-            clean: 0,
-            lit: false
-        }
+    assert!(rt;
+        state
+            == EventState {
+                status: 0x27,
+                failed: 1,
+                clean: 0,
+                lit: false
+            }
     );
     let again = failed(&rules, &mut state);
-    assert_eq!(rt;
-        again,
-        FailedMark {
-            entered: false,
-            confirmed: true
-        }
+    assert!(rt;
+        again
+            == FailedMark {
+                entered: false,
+                confirmed: true
+            }
     );
     clear(&mut state);
-    assert_eq!(rt; state, UNTESTED);
+    assert!(rt; state == UNTESTED);
 }

@@ -67,7 +67,7 @@ static CASES: [(&str, &str); 38] = [
 fn blocks_of_lanes(rt: HostRuntime) -> Result<(), Fail> {
     for case in &CASES {
         let told = outcome(rt.alloc(), case.0.as_bytes())?;
-        assert_eq!(rt; told.as_str(), case.1, "{:?}", case.0);
+        assert!(rt; told.as_str() == case.1, "{:?}", case.0);
     }
     Ok(())
 }

@@ -5,12 +5,12 @@ use flt_config::{Debounce, DidUse, EventCfg};
 fn nothing_written(rt: HostRuntime) -> Result<(), Fail> {
     let script = parse(rt.alloc(), b"", &table())?;
     let config = script.config.config();
-    assert_eq!(rt; config.id, 0);
-    assert_eq!(rt; config.memory, 16);
-    assert_eq!(rt; config.blocks, 8);
-    assert_eq!(rt; config.pages, 512);
-    assert_eq!(rt; config.events.len(), 0);
-    assert_eq!(rt; script.lives.len(), 1);
+    assert!(rt; config.id == 0);
+    assert!(rt; config.memory == 16);
+    assert!(rt; config.blocks == 8);
+    assert!(rt; config.pages == 512);
+    assert!(rt; config.events.len() == 0);
+    assert!(rt; script.lives.len() == 1);
     Ok(())
 }
 
@@ -22,11 +22,11 @@ fn whole_configuration(rt: HostRuntime) -> Result<(), Fail> {
          event 2 dtc 00000C\ndid 1 0107\ndid 1 0101\n";
     let script = parse(rt.alloc(), text.as_bytes(), &table())?;
     let config = script.config.config();
-    assert_eq!(rt; config.id, 7);
-    assert_eq!(rt; config.memory, 2);
-    assert_eq!(rt; config.blocks, 3);
-    assert_eq!(rt; config.pages, 100);
-    assert_eq!(rt; config.events.len(), 3);
+    assert!(rt; config.id == 7);
+    assert!(rt; config.memory == 2);
+    assert!(rt; config.blocks == 3);
+    assert!(rt; config.pages == 100);
+    assert!(rt; config.events.len() == 3);
     let first = EventCfg {
         dtc: 10,
         priority: 5,

@@ -30,21 +30,35 @@ static AS_MANY: [(&str, usize, usize); 5] = [
 
 /// This many bytes are told of the script.
 fn is_as_long(rt: &impl Abort, alloc: Global, script: String, length: usize) -> Result<(), Fail> {
-    assert!(rt; outcome(alloc, script.as_bytes())?.len() == length, "{length}");
+    assert!(rt;
+        outcome(alloc, script.as_bytes())?.len() == length,
+        "{length}"
+    );
     Ok(())
 }
 
 #[test]
 fn limits(rt: HostRuntime) -> Result<(), Fail> {
     for case in &AS_MANY {
-        is_as_long(&rt, rt.alloc(), repeated(rt.alloc(), case.0, case.1)?, case.2)?;
+        is_as_long(
+            &rt,
+            rt.alloc(),
+            repeated(rt.alloc(), case.0, case.1)?,
+            case.2,
+        )?;
     }
     is_as_long(&rt, rt.alloc(), events(rt.alloc(), 256)?, 0)
 }
 
 #[test]
 fn lines_end_at_a_feed(rt: HostRuntime) -> Result<(), Fail> {
-    is_told(&rt, rt.alloc(), repeated(rt.alloc(), "#", 512)?, "\r\n#", "")
+    is_told(
+        &rt,
+        rt.alloc(),
+        repeated(rt.alloc(), "#", 512)?,
+        "\r\n#",
+        "",
+    )
 }
 
 /// Pieces that are repeated, what stands behind them, and what is told of both.
@@ -100,7 +114,10 @@ fn is_told(
     told: &str,
 ) -> Result<(), Fail> {
     script.push_str(behind)?;
-    assert!(rt; outcome(alloc, script.as_bytes())?.as_str() == told, "{behind:?} {told:?}");
+    assert!(rt;
+        outcome(alloc, script.as_bytes())?.as_str() == told,
+        "{behind:?} {told:?}"
+    );
     Ok(())
 }
 
