@@ -27,7 +27,7 @@ marks_are_read held mark = (read_mark held mark, λ both. mark_read held mark bo
 pub commits_are_read : CommitsAreRead
 commits_are_read c held commit = (read_commit c held commit, λ both. commit_read c held commit both.0 both.1)
 
-sizes_of : (c : Config) → IsGiven c → HasSizes c
+pub sizes_of : (c : Config) → IsGiven c → HasSizes c
 sizes_of c given = record {
   memory = given.valid.memory.1;
   events = given.events;
@@ -45,14 +45,13 @@ pub parts_are_taken : PartsAreTaken
 parts_are_taken c given part held before after one_each = (taken_as c part held before after, as_taken c (sizes_of c given) before after one_each part held)
 
 -- ---- an image made of the blocks of a state
-zeros : Commit
+abbrev pub zeros : Commit
 zeros = record { generation = 1; index = replicate parts 0 }
 
-blocks_of : Persist → ℕ → Content
+abbrev pub blocks_of : Persist → ℕ → Content
 blocks_of p number = bytes (block_bytes p (number / 8))
 
-stands : (c : Config) (p q : Persist) → ((id : ℕ) → IsTrue (is_used c id) → block_bytes p id ≡ block_bytes q id) → BlocksHold c (blocks_of p) zeros q
-unfolding zeros blocks_of
+pub stands : (c : Config) (p q : Persist) → ((id : ℕ) → IsTrue (is_used c id) → block_bytes p id ≡ block_bytes q id) → BlocksHold c (blocks_of p) zeros q
 stands c p q same = λ id used.
     let range = and_parts _ _ (and_parts _ _ used).0 in
     let low : 3 ≤ id = leb-true 3 id range.0 in

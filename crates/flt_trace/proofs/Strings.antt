@@ -1,12 +1,12 @@
 -- Strings in arrays, and members of objects.
-use Rattle.std.proofs.Common.{◌≡◌, ◌≢◌, ℕ, ◌+◌, ◌<◌, List, [], ◌∷◌, ◌++◌, length, drop, get_or, add-one, Some, None, refl, ap, sym, ◌∙◌}
+use Rattle.std.proofs.Common.{◌≡◌, ◌≢◌, ℕ, zero, suc, ◌+◌, ◌<◌, List, [], ◌∷◌, ◌++◌, length, drop, get_or, add-one, Bor, Some, None, refl, ap, sym, ◌∙◌, arith}
 use Rattle.std.proofs.Math.Seq.{drop-cons}
 use Rattle.serde_json.specs.Data.{Data, null, boolean, number, string, array, object, Items, no_items, item, Members}
 use Rattle.serde_json.specs.Events.{members_len}
 use Rattle.serde_json.specs.Find.{as_array, as_object, as_str}
 use Rattle.serde_json.specs.View.{view, items_view}
 use Rattle.serde_json.specs.declared.value.Value.{Value}
-use Rattle.flt_trace.specs.Trace.{member_count, strings}
+use Rattle.flt_trace.specs.Trace.{member_count, seen, strings}
 
 -- Strings before other items.
 abbrev pub onto : List (List ℕ) → Items → Items
@@ -75,3 +75,9 @@ uncounted (number n) is = refl
 uncounted (string s) is = refl
 uncounted (array ds) is = refl
 uncounted (object ms) is = absurd cc
+
+-- A text among those that are seen.
+pub seen_at : (texts : List (Bor (List ℕ))) (place : ℕ) (d : Bor (List ℕ)) → place < length texts → (get_or texts place d).now ≡ get_or (seen texts) place d.now
+seen_at [] place d among = absurd (omega (arith, among))
+seen_at (text ∷ texts) zero d among = refl
+seen_at (text ∷ texts) (suc place) d among = seen_at texts place d (omega (arith, among))
