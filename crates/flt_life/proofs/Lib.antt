@@ -8,3 +8,4 @@ pub mod Sizes
 pub mod Rising
 pub mod Older
 pub mod WorkedLife
+pub mod PossibleSteps
