@@ -1,5 +1,5 @@
 -- Texts in two lists, and what a call answered.
-use Rattle.std.proofs.Common.{◌≡◌, ◌≢◌, ◌⊎◌, ℕ, zero, suc, ◌+◌, ◌<◌, ◌≤◌, List, [], ◌∷◌, ◌++◌, true, false, Option, Some, None, Result, Ok, Err, refl, sym, ap, subst, ◌∙◌, arith, get_or, take, length, inl, inr, Bor}
+use Rattle.std.proofs.Common.{◌≡◌, ◌≢◌, ◌⊎◌, ℕ, ◌+◌, ◌<◌, List, [], ◌∷◌, ◌++◌, true, false, Option, Some, None, Result, Ok, Err, refl, sym, ap, subst, ◌∙◌, get_or, take, length, inl, inr}
 use Rattle.std.specs.Prelude.{Bool, MatchOption, not}
 use Rattle.std.proofs.lemmas.Grind.{take_at_read}
 use Rattle.hex.specs.declared.error.FromHexError.{FromHexError}

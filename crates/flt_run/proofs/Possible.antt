@@ -1,22 +1,19 @@
 -- The parts of a script are possible, and few.
-use Rattle.std.proofs.Common.{◌≡◌, ℕ, ◌+◌, ◌≤◌, leb, ltb, arith, true, List, [], ◌∷◌, map, length, refl, ap, inl, inr}
+use Rattle.std.proofs.Common.{◌≡◌, ℕ, ◌+◌, ◌≤◌, leb, arith, true, List, [], ◌∷◌, map, length, refl, ap, inl, inr}
 use Rattle.std.specs.Prelude.{Vec, All, sum_by, ◌&&◌}
 use Rattle.std.specs.List.{list_all}
-use Rattle.std.proofs.lemmas.Bool.{and_parts, leb-true, ltb-true}
+use Rattle.std.proofs.lemmas.Bool.{and_parts, leb-true}
 use Rattle.std.proofs.lemmas.List.Elements.{All-nil, All-cons}
 use Rattle.std.proofs.lemmas.List.Sums.{sum_by-cons}
 use Rattle.flt_config.specs.declared.config.Config.{Config}
-use Rattle.flt_flash.specs.State.{CanArm}
-use Rattle.flt_flash.specs.declared.arm.Arm.{Arm}
-use Rattle.flt_flash.specs.declared.arm.Arm.TheVariants.{Cut, Fault, Mute}
 use Rattle.flt_script.specs.Part.{PartOf, part_of, parts_of}
-use Rattle.flt_script.specs.Step.{is_step_in, is_lane_step, is_lane_in, is_part_in, are_parts_in, is_arm_in, arms_of, arms_of_part, lanes_of, lanes_of_part, store_lanes}
+use Rattle.flt_script.specs.Step.{is_step_in, is_lane_step, is_lane_in, is_part_in, are_parts_in, arms_of, arms_of_part, lanes_of, lanes_of_part, store_lanes}
 use Rattle.flt_script.specs.Step as script
 use Rattle.flt_script.specs.declared.step.Part.{Part}
 use Rattle.flt_script.specs.declared.step.Part.TheVariants.{One, Lanes}
 use Rattle.flt_script.specs.declared.step.Step.{Step}
 use Rattle.flt_script.specs.declared.step.Step.TheVariants as steps
-use Rattle.flt_life.specs.Actions.{IsPossible, action_of, arm_count}
+use Rattle.flt_life.specs.Actions.{action_of, arm_count}
 use Rattle.flt_life.proofs.PossibleSteps.{possible_step}
 use Rattle.flt_life.specs.Parts.{IsPossiblePart, IsPossibleInLane, arms_in, widths}
 

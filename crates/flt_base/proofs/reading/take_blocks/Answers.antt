@@ -1,4 +1,4 @@
-use Rattle.std.proofs.Common.{◌≡◌, ◌∙◌, ◌-◌, ◌+◌, ◌<◌, ℕ, List, [], Ok, Some, None, sym, ap, subst, arith, true, false, length, drop, get_or, Bor}
+use Rattle.std.proofs.Common.{◌≡◌, ◌∙◌, ◌-◌, ◌+◌, ◌<◌, ℕ, List, [], Ok, sym, ap, subst, arith, true, false, length, drop, Bor}
 use Rattle.std.proofs.lemmas.List.{length-map}
 use Rattle.flt_config.specs.declared.persist.Persist.{Persist}
 use Rattle.flt_generation.specs.Form.{block_bytes}

@@ -1,4 +1,4 @@
-use Rattle.std.proofs.Common.{◌≡◌, ◌≢◌, ◌∙◌, ◌^◌, ◌+◌, ◌-◌, ◌<◌, ◌∷◌, ◌++◌, ℕ, length, take, drop, ap, sym, subst}
+use Rattle.std.proofs.Common.{◌≡◌, ◌≢◌, ◌∙◌, ◌^◌, ◌+◌, ◌-◌, ◌<◌, ◌∷◌, ◌++◌, ℕ, length, take, drop, sym, subst}
 use Rattle.std.specs.Fmt.{decimal}
 use Rattle.flt_model.specs.declared.call.Op.{Op}
 use Rattle.flt_call.specs.Call.{IsOpText}

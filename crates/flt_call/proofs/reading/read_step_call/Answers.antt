@@ -1,4 +1,4 @@
-use Rattle.std.proofs.Common.{◌≡◌, ◌∙◌, ap}
+use Rattle.std.proofs.Common.{◌∙◌, ap}
 use Rattle.flt_script.specs.Alone.{step_in}
 use Rattle.flt_call.proofs.Calls.{no_step}
 use Rattle.flt_call.proofs.reading.read_step_call.Goals as goal
