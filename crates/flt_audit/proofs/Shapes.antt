@@ -1,0 +1,79 @@
+-- Which texts tell no life, and what is due of them.
+use Rattle.std.proofs.Common.{◌≡◌, ◌≢◌, ◌⊎◌, ℕ, suc, List, [], ◌∷◌, length, refl, Option, Some, None, Result, Ok, Err, sym, ap, subst, ◌∙◌, inl, inr}
+use Rattle.std.specs.Prelude.{IfOk, IsUtf8, codes}
+use Rattle.serde_json.specs.Read.{read}
+use Rattle.serde_json.specs.Data.{Data}
+use Rattle.flt_config.specs.declared.config.Config.{Config}
+use Rattle.flt_config.specs.declared.config.DidUse.{DidUse}
+use Rattle.flt_config.specs.declared.persist.Persist.{Persist}
+use Rattle.flt_model.specs.declared.call.Op.{Op}
+use Rattle.flt_turn.specs.declared.vault.Entry.{Entry}
+use Rattle.flt_script.specs.declared.fault.ScriptFault.{ScriptFault}
+use Rattle.flt_script.specs.Script.{ScriptContent, script_of}
+use Rattle.flt_verdict.specs.Verdict.{due_of, line_due}
+use Rattle.flt_verdict.specs.declared.verdict.Verdict.{Verdict}
+use Rattle.flt_trace.specs.Trace.{IsTrace, Texts}
+use Rattle.flt_base.specs.Base.{IsBaseOf}
+use Rattle.flt_call.specs.Call.{AreCallTexts}
+use Rattle.flt_audit.specs.Shape.{Told, Tells}
+use Rattle.flt_audit.specs.Audit.{IsAudited, IsDueOf, IsDueOfTexts, TellsNone, due_texts, judged, no_json, no_trace, unlike_from, verdict_by}
+
+module _ (dids : List DidUse) (texts : Texts) where
+  -- The script is none.
+  pub no_script : (fault : ScriptFault) → script_of dids texts.script ≡ Err fault → TellsNone dids texts
+  no_script fault is told tells = let wrong : Err fault ≡ Ok tells.script = sym is ∙ tells.reads in absurd (cc wrong)
+
+  -- There is not an answer for each call.
+  pub not_as_many : length texts.answers ≢ length texts.journal → TellsNone dids texts
+  not_as_many other told tells = other tells.answers
+
+  module _ (script : ScriptContent) (reads : script_of dids texts.script ≡ Ok script) where
+    -- The configuration of the life is that of the script.
+    pub one_config : (told : Told) → Tells dids texts told → told.config ≡ script.config
+    one_config told tells =
+        let same : Ok tells.script ≡ Ok script = sym tells.reads ∙ reads in
+        let one : tells.script ≡ script = cc same in
+        sym tells.config ∙ ap (λ (s : ScriptContent). s.config) one
+
+    -- The base is that of no state.
+    pub no_base : ((state : Persist) → IsBaseOf script.config texts.base state → ⊥) → TellsNone dids texts
+    no_base none told tells = none told.base (subst (λ (c : Config). IsBaseOf c texts.base told.base) (one_config told tells) tells.base)
+
+    -- The journal is that of no calls.
+    pub no_calls : ((calls : List (Entry Op)) → AreCallTexts script.config calls texts.journal → ⊥) → TellsNone dids texts
+    no_calls none told tells = none told.journal (subst (λ (c : Config). AreCallTexts c told.journal texts.journal) (one_config told tells) tells.journal)
+
+-- ---- what a line tells, where memory was not wanting
+module _ (dids : List DidUse) where
+  pub json_due : {E : Type 0} (bytes : List ℕ) (line : Result Verdict E) → (IsUtf8 bytes → read bytes ≡ None)
+      → IfOk line (λ v. due_of v ≡ line_due 11 (codes "json")) → IfOk line (λ v. IsAudited dids bytes (due_of v))
+  json_due bytes (Ok v) none is = subst (IsAudited dids bytes) (sym is) (record { value = None; reads = none; due_is = no_json })
+  json_due bytes (Err e) none is = tt
+
+  pub no_trace_due : {E : Type 0} (d : Data) (line : Result Verdict E) → ((texts : Texts) → IsTrace d texts → ⊥)
+      → IfOk line (λ v. due_of v ≡ line_due 12 (codes "shape")) → IfOk line (λ v. IsDueOf dids (Some d) (due_of v))
+  no_trace_due d (Ok v) none is = subst (IsDueOf dids (Some d)) (sym is) (no_trace d none)
+  no_trace_due d (Err e) none is = tt
+
+  pub trace_due : {E : Type 0} (d : Data) (texts : Texts) (line : Result Verdict E) → IsTrace d texts
+      → IfOk line (λ v. IsDueOfTexts dids texts (due_of v)) → IfOk line (λ v. IsDueOf dids (Some d) (due_of v))
+  trace_due d texts (Ok v) is due = judged d texts (due_of v) is due
+  trace_due d texts (Err e) is due = tt
+
+  pub none_due : {E : Type 0} (texts : Texts) (line : Result Verdict E) → TellsNone dids texts
+      → IfOk line (λ v. due_of v ≡ line_due 12 (codes "shape")) → IfOk line (λ v. IsDueOfTexts dids texts (due_of v))
+  none_due texts (Ok v) none is = inl (none, is)
+  none_due texts (Err e) none is = tt
+
+  pub told_due : {E : Type 0} (texts : Texts) (line : Result Verdict E) (count : ℕ) (unlike : Option ℕ) → count ≡ length texts.journal
+      → (told : Told) × Tells dids texts told × (unlike ≡ unlike_from 0 texts.answers (due_texts told))
+      → IfOk line (λ v. due_of v ≡ verdict_by count unlike) → IfOk line (λ v. IsDueOfTexts dids texts (due_of v))
+  told_due texts (Ok v) count unlike many told is = inr (told.0, told.1, is ∙ (λ i. verdict_by (many i) (told.2 i)))
+  told_due texts (Err e) count unlike many told is = tt
+
+-- There are as many calls as texts.
+pub as_many : (c : Config) (calls : List (Entry Op)) (texts : List (List ℕ)) → AreCallTexts c calls texts → length calls ≡ length texts
+as_many c [] [] are = refl
+as_many c [] (text ∷ texts) are = absurd are
+as_many c (call ∷ calls) [] are = absurd are
+as_many c (call ∷ calls) (text ∷ texts) are = ap suc (as_many c calls texts are.1)
