@@ -1,14 +1,27 @@
 // The words behind the program's name.
 ghost use Rattle.std.specs.Prelude.{◌≡◌, map};
 ghost use Rattle.std.specs.String.{string_bytes};
-ghost use Rattle.flt_inspect.specs.Command.{is_command};
+ghost use Rattle.flt_inspect.specs.Command.{command_of};
 
-/// Whether the words are the command: the one word `inspect`.
-pub(crate) fn is_command(words: &[String]) -> bool
-    ensures { result ≡ is_command (map string_bytes words.now) }
+/// What the program is asked for.
+#[derive(Clone, Copy)]
+pub(crate) enum Command {
+    /// What the image of a dump holds.
+    Inspect,
+    /// Whether a trace's answers are due.
+    Audit,
+}
+
+/// The command that the words are: the one word `inspect` or `audit`.
+pub(crate) fn command_of(words: &[String]) -> Option<Command>
+    ensures { result ≡ command_of (map string_bytes words.now) }
 {
     match words {
-        [word] => matches!(word.as_bytes(), b"inspect"),
-        _ => false,
+        [word] => match word.as_bytes() {
+            b"inspect" => Some(Command::Inspect),
+            b"audit" => Some(Command::Audit),
+            _ => None,
+        },
+        _ => None,
     }
 }

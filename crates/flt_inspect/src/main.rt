@@ -1,14 +1,16 @@
-//! A reader of dumps: `inspect` tells what the image of a dump holds, and what it says line by line.
+//! A reader of dumps and traces: `inspect` tells what the image of a dump holds, and what it says line by line; `audit` tells whether the
+//! answers of a trace are those of the status machine.
 //!
-//! It stands on `flt_dump` for the dump and its image, on `flt_verdict` for the input and what is told of it, and on `flt_report` for the
-//! text of a refusal; `main` makes its one call over the real streams. Read `specs/Inspection.antt` first.
+//! It stands on `flt_dump` for the dump and its image, on `flt_verdict` for the input and what is told of it, on `flt_report` for the
+//! text of a refusal, and on `flt_audit` for the audit; `main` makes one call over the real streams. Read `specs/Inspection.antt` first.
 #![tactic(auto)]
 
 mod command;
 mod inspecting;
 
-use crate::command::is_command;
+use crate::command::{Command, command_of};
 use crate::inspecting::inspect;
+use flt_audit::audit;
 use flt_did::{
     DID_ROWS, DidTable, did_0101, did_0102, did_0103, did_0104, did_0105, did_0106, did_0107,
 };
@@ -46,11 +48,16 @@ fn run_over<R: Env + AllocGlobal + Input + Print>(
     };
     let mut source = ReadSource::new(rt.reader());
     let mut sink = WriteSink::new(io::writer(rt));
-    if is_command(&words) {
-        return Ok(inspect(rt.alloc(), &mut source, &mut sink, &dids));
-    }
-    let usage = Verdict::line(rt.alloc(), USAGE, b"usage: flt_inspect inspect");
-    Ok(tell(usage.ok(), &mut sink))
+    let alloc = rt.alloc();
+    let status = match command_of(&words) {
+        Some(Command::Inspect) => inspect(alloc, &mut source, &mut sink, &dids),
+        Some(Command::Audit) => audit(alloc, &mut source, &mut sink, dids),
+        None => {
+            let usage = Verdict::line(alloc, USAGE, b"usage: flt_inspect inspect | audit");
+            tell(usage.ok(), &mut sink)
+        }
+    };
+    Ok(status)
 }
 
 /// The exit status of the program: the table has the data identifiers 0101 to 0107.

@@ -1,10 +1,8 @@
 -- The script of a load is served by all tables, and without lanes it has no block; it has no write job.
-use Rattle.std.proofs.Common.{◌≡◌, ℕ, ◌+◌, ◌%◌, ◌==◌, Bool, List, [], ◌∷◌, ◌++◌, Option, Some, map, filter, false, refl, sym, subst, inl, Global}
-use Rattle.std.specs.Prelude.{All, Vec, option_map}
+use Rattle.std.proofs.Common.{◌≡◌, ℕ, ◌+◌, ◌%◌, ◌==◌, List, [], ◌∷◌, ◌++◌, map, filter, false, sym, subst, inl, Global}
+use Rattle.std.specs.Prelude.{All, Vec}
 use Rattle.std.specs.List.{flat_map, range_with_len}
 use Rattle.std.proofs.lemmas.List.Elements.{All-nil, All-cons, All-head, All-tail, All-append}
-use Rattle.flt_flash.specs.State.{FlashState}
-use Rattle.flt_config.specs.declared.config.Config.{Config}
 use Rattle.flt_config.specs.declared.config.DidUse.{DidUse}
 use Rattle.flt_config.specs.declared.config.EventCfg.{EventCfg}
 use Rattle.flt_did.specs.Serves.{HasAll, Serves}
@@ -15,14 +13,7 @@ use Rattle.flt_script.specs.Load.{load_config, load_event, load_lane, load_life,
 use Rattle.flt_script.specs.Part.{parts_of}
 use Rattle.flt_life.specs.Actions.{action_of}
 use Rattle.flt_life.specs.Lives.{lists}
-use Rattle.flt_life.specs.Moment.{Medium}
 use Rattle.flt_lives.specs.Alone.{IsAlone, AreAlone, IsPlain}
-use Rattle.flt_run.specs.declared.command.Command.TheVariants.{Load}
-use Rattle.flt_run.specs.declared.ending.Ending.TheVariants.{Loaded}
-use Rattle.flt_run.specs.declared.made.Made.{Made}
-use Rattle.flt_run.specs.Ending.{ComesTo, MakesLives}
-use Rattle.flt_run.specs.Seen.{unread_inside}
-use Rattle.flt_run.proofs.Comes.{lived}
 
 served_events : (dids : List DidUse) (numbers : List ℕ) → Serves dids (map load_event numbers)
 served_events dids [] = All-nil _
@@ -59,10 +50,3 @@ of_lists (life ∷ rest) all =
 pub alone_lives : (count : ℕ) (lives : List (Vec Part Global)) → lists lives ≡ load_life count false ∷ shown_life ∷ [] → All (λ (life : Vec Part Global). AreAlone (parts_of life.items)) lives
 alone_lives count lives is =
     of_lists lives (subst (All AreAlone) (sym is) (All-cons AreAlone (load_life count false) (shown_life ∷ []) (alone_load count) (All-cons AreAlone shown_life [] (alone_steps steps.Show (λ _. tt) (range_with_len 0 16)) (All-nil _))))
-
--- What comes of a load, of whose script lives were made.
-pub comes_loaded : (dids : List DidUse) (left : Option (List ℕ)) (faults : ℕ) (media : Config → Medium) (before after : FlashState) (count : ℕ) (lanes : Bool) (made : Option Made)
-    → MakesLives media (load_script count lanes) before after made → ComesTo dids (unread_inside left faults media before after) (Some (Load count lanes)) (option_map Loaded made)
-comes_loaded dids left faults media before after count lanes made makes =
-    lived dids (unread_inside left faults media before after) (Some (Load count lanes)) Loaded made (load_script count lanes) refl makes
-    (λ one is. (count, lanes, refl, record { left = refl; faults = refl }, is))

@@ -2,7 +2,7 @@ use Rattle.std.specs.Prelude.{option_map}
 use Rattle.flt_did.specs.Table.{dids_of}
 use Rattle.flt_verdict.specs.Verdict.{Inside, Outside, due_of}
 use Rattle.flt_inspect.specs.Inspection.{IsInspected}
-use Rattle.flt_inspect.proofs.Told.{made_told}
+use Rattle.flt_verdict.proofs.Told.{made_told}
 use Rattle.flt_inspect.proofs.inspecting.inspect.Goals as goal
 
 pub returns : goal.returns

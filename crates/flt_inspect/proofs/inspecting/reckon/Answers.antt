@@ -4,7 +4,7 @@ use Rattle.flt_did.specs.Table.{dids_of}
 use Rattle.flt_verdict.specs.Verdict.{HasCome, Inside, IsMade, due_of, whole}
 use Rattle.flt_verdict.specs.declared.verdict.Verdict.{Verdict}
 use Rattle.flt_inspect.specs.Inspection.{IsInspected}
-use Rattle.flt_inspect.proofs.Told.{judged_made, fault_made}
+use Rattle.flt_verdict.proofs.Told.{judged_made, fault_made}
 use Rattle.flt_inspect.proofs.inspecting.reckon.Goals as goal
 
 pub returns-in-Ok : goal.returns-in-Ok

@@ -1,9 +1,13 @@
-use Rattle.std.proofs.Common.{false, ap, sym, subst}
+use Rattle.std.proofs.Common.{Some, false, ap, sym, subst, refl}
 use Rattle.flt_did.specs.Serves.{Serves}
 use Rattle.flt_did.specs.Table.{dids_of}
 use Rattle.flt_script.specs.Script.{ScriptContent}
-use Rattle.flt_run.specs.Ending.{MakesLives}
-use Rattle.flt_run.proofs.Loaded.{comes_loaded, served_load, alone_lives}
+use Rattle.flt_script.specs.Load.{load_script}
+use Rattle.flt_run.specs.declared.command.Command.TheVariants.{Load}
+use Rattle.flt_run.specs.declared.ending.Ending.TheVariants.{Loaded}
+use Rattle.flt_run.specs.Ending.{Inside, MakesLives}
+use Rattle.flt_run.proofs.Comes.{lived}
+use Rattle.flt_run.proofs.Loaded.{served_load, alone_lives}
 use Rattle.flt_run.proofs.performing.load_plain.Goals as goal
 
 pub unit_of-unit-requires : goal.unit_of-unit-requires
@@ -15,8 +19,9 @@ live_alone-requires-clause-alone g c = alone_lives c.args.count c.in-Ok.script.l
 pub returns-in-Ok : goal.returns-in-Ok
 returns-in-Ok g c = λ dids left faults.
     let before = g.D.Driver.device_state c.args.device in
-    let made = c.live_alone.result in
-    let after = g.D.Driver.device_state made.device in
+    let after = g.D.Driver.device_state c.live_alone.result.device in
+    let inside : Inside = record { left = left; left_after = left; read_faults = faults; read_faults_after = faults; media = g.D.Driver.medium; device = before; device_after = after } in
+    let script = load_script c.args.count false in
+    let makes = subst (λ script. MakesLives g.D.Driver.medium script before after c.live_alone.result.made) c.in-Ok.ensures c.live_alone.ensures in
     rw c.loaded.ensures
-    (comes_loaded dids left faults g.D.Driver.medium before after c.args.count false made.made
-    (subst (λ script. MakesLives g.D.Driver.medium script before after made.made) c.in-Ok.ensures c.live_alone.ensures))
+    (lived dids inside (Some (Load c.args.count false)) Loaded c.live_alone.result.made script refl makes (λ one is. (c.args.count, false, refl, record { left = refl; faults = refl }, is)))
