@@ -11,3 +11,4 @@ pub mod Written
 pub mod Refusal
 pub mod Proper
 pub mod Laws
+pub mod Examples

@@ -13,6 +13,7 @@ mod memory;
 mod place;
 mod record;
 mod scan;
+pub mod worked;
 
 pub use ea::Ea;
 pub use eeprom::Eeprom;
