@@ -28,7 +28,16 @@ module _ (P : ℕ → Type 0) (from : ℕ) where
   behind_is k is = subst P (let e : from + 1 + k ≡ from + suc k = omega arith in e) is
 
 module _ (units : List (List ℕ)) where
-  pub value_first : (from number : ℕ) (numbers : List ℕ) (block : ℕ) → value_from from (number ∷ numbers) units block ≡ (if number == block then content_of units from (current units from) else value_from (from + 1) numbers units block)
+  -- What the current place of a position holds.
+  abbrev content_at : ℕ → Content
+  content_at position = content_of units position (current units position)
+
+  -- It has the last sequence number.
+  abbrev last_at : ℕ → Bool
+  last_at position = is_last (current units position)
+
+  pub value_first : (from number : ℕ) (numbers : List ℕ) (block : ℕ)
+      → value_from from (number ∷ numbers) units block ≡ (if number == block then content_at from else value_from (from + 1) numbers units block)
   unfolding value_from
   value_first from number numbers block = refl
 
@@ -36,7 +45,8 @@ module _ (units : List (List ℕ)) where
   unfolding value_from
   value_none from block = refl
 
-  pub stuck_first : (from number : ℕ) (numbers : List ℕ) (block : ℕ) → stuck_from from (number ∷ numbers) units block ≡ (if number == block then is_last (current units from) else stuck_from (from + 1) numbers units block)
+  pub stuck_first : (from number : ℕ) (numbers : List ℕ) (block : ℕ)
+      → stuck_from from (number ∷ numbers) units block ≡ (if number == block then last_at from else stuck_from (from + 1) numbers units block)
   unfolding stuck_from
   stuck_first from number numbers block = refl
 
@@ -44,7 +54,7 @@ module _ (units : List (List ℕ)) where
   unfolding stuck_from
   stuck_none from block = refl
 
-  pub spent_first : (from number : ℕ) (numbers : List ℕ) → spent_from from (number ∷ numbers) units ≡ (is_last (current units from) || spent_from (from + 1) numbers units)
+  pub spent_first : (from number : ℕ) (numbers : List ℕ) → spent_from from (number ∷ numbers) units ≡ (last_at from || spent_from (from + 1) numbers units)
   unfolding spent_from
   spent_first from number numbers = refl
 
@@ -63,21 +73,27 @@ module _ (units : List (List ℕ)) where
   -- A block that is stuck is spent.
   pub stuck_spent : (from : ℕ) (numbers : List ℕ) (block : ℕ) → stuck_from from numbers units block ≡ true → spent_from from numbers units ≡ true
   stuck_spent from [] block is = absurd (cc (stuck_none from block, is))
-  stuck_spent from (number ∷ numbers) block is = spent_first from number numbers ∙ by_test (number == block) (λ rest. stuck_spent (from + 1) numbers block rest) (sym (stuck_first from number numbers block) ∙ is)
+  stuck_spent from (number ∷ numbers) block is =
+      spent_first from number numbers ∙ by_test (number == block) (λ rest. stuck_spent (from + 1) numbers block rest) (sym (stuck_first from number numbers block) ∙ is)
     where
-      by_test : (test : Bool) → (stuck_from (from + 1) numbers units block ≡ true → spent_from (from + 1) numbers units ≡ true) → (if test then is_last (current units from) else stuck_from (from + 1) numbers units block) ≡ true
-          → (is_last (current units from) || spent_from (from + 1) numbers units) ≡ true
-      by_test true rest last = either_first (is_last (current units from)) (spent_from (from + 1) numbers units) last
-      by_test false rest later = either_second (is_last (current units from)) (spent_from (from + 1) numbers units) (rest later)
+      abbrev stuck : Bool
+      stuck = stuck_from (from + 1) numbers units block
+
+      abbrev spent : Bool
+      spent = spent_from (from + 1) numbers units
+
+      by_test : (test : Bool) → (stuck ≡ true → spent ≡ true) → (if test then last_at from else stuck) ≡ true → (last_at from || spent) ≡ true
+      by_test true rest last = either_first (last_at from) spent last
+      by_test false rest later = either_second (last_at from) spent (rest later)
 
   -- Each block is short where each place is.
-  pub short_all : (from : ℕ) (numbers : List ℕ) (block : ℕ) → ((k : ℕ) → k < length numbers → size_of (content_of units (from + k) (current units (from + k))) ≤ 128) → size_of (value_from from numbers units block) ≤ 128
+  pub short_all : (from : ℕ) (numbers : List ℕ) (block : ℕ) → ((k : ℕ) → k < length numbers → IsShort (content_at (from + k))) → IsShort (value_from from numbers units block)
   short_all from [] block all = subst (λ (c : Content). size_of c ≤ 128) (sym (value_none from block)) (omega arith)
-  short_all from (number ∷ numbers) block all = subst (λ (c : Content). size_of c ≤ 128) (sym (value_first from number numbers block))
-      (by_test (number == block) (short_all (from + 1) numbers block (λ k within. behind (λ n. size_of (content_of units n (current units n)) ≤ 128) from k (all (suc k) (omega arith)))))
+  short_all from (number ∷ numbers) block all = subst (λ (c : Content). IsShort c) (sym (value_first from number numbers block))
+      (by_test (number == block) (short_all (from + 1) numbers block (λ k within. behind (λ n. IsShort (content_at n)) from k (all (suc k) (omega arith)))))
     where
-      by_test : (test : Bool) → size_of (value_from (from + 1) numbers units block) ≤ 128 → size_of (if test then content_of units from (current units from) else value_from (from + 1) numbers units block) ≤ 128
-      by_test true rest = here (λ n. size_of (content_of units n (current units n)) ≤ 128) from (all 0 (omega arith))
+      by_test : (test : Bool) → IsShort (value_from (from + 1) numbers units block) → IsShort (if test then content_at from else value_from (from + 1) numbers units block)
+      by_test true rest = here (λ n. IsShort (content_at n)) from (all 0 (omega arith))
       by_test false rest = rest
 
 pub stuck_is_spent : (numbers : List ℕ) (image : List (List (List ℕ))) (block : ℕ) → IsTrue (is_stuck_in numbers image block) → IsTrue (is_spent_in numbers image)
@@ -95,8 +111,10 @@ module _ (device : FlashState) (shape : HasUnits device) where
   -- So many bytes stand behind a gate, where so many units do.
   pub size_behind : (gate size : ℕ) → gate + 1 + byte_pages size ≤ length units → length (bytes_behind units gate size) ≡ size
   size_behind gate size room =
-      let many : length (slice_range units (gate + 1) (gate + 1 + byte_pages size)) ≡ byte_pages size = omega (arith, range_size units (gate + 1) (gate + 1 + byte_pages size) room) in
-      omega (arith, length-take size (flat (slice_range units (gate + 1) (gate + 1 + byte_pages size))), flat_size (slice_range units (gate + 1) (gate + 1 + byte_pages size)) (range_pages (gate + 1) (gate + 1 + byte_pages size) room), many)
+      let to = gate + 1 + byte_pages size in
+      let range : List (List ℕ) = slice_range units (gate + 1) to in
+      let many : length range ≡ byte_pages size = omega (arith, range_size units (gate + 1) to room) in
+      omega (arith, length-take size (flat range), flat_size range (range_pages (gate + 1) to room), many)
 
   -- As many bytes stand behind a gate as it says.
   pub held_size : (position : ℕ) (held : Held) → 10 * position + 10 ≤ device.pages → IsHeld held → length (bytes_behind units (gate_unit position held.place) held.gate.length) ≡ held.gate.length
