@@ -1,7 +1,8 @@
 -- What an EEPROM in memory means.
-use Rattle.std.specs.Prelude.{◌-◌, [], ◌∷◌, map, take, length, if◌then◌else◌, Some, None}
+use Rattle.std.specs.Prelude.{◌-◌, [], ◌∷◌, map, take, length}
 use Rattle.flt_flash.specs.State.{FlashState}
 use Rattle.flt_flash.specs.Boots.{one_sector}
+use Rattle.flt_flash.specs.Made.{arms_told}
 use Rattle.flt_flash.specs.Power.{PowerState, power_state}
 use Rattle.flt_ea.specs.declared.memory.EepromMem.{EepromMem}
 
@@ -17,7 +18,7 @@ state_of device = record {
   bench = record {
     boots = map one_sector (take device.boots_used device.boots.items);
     boots_left = length device.boots.items - device.boots_used;
-    arms = if device.tells_arms then Some device.made.items else None;
+    arms = arms_told device.arms;
     armed = length device.power.standing.items;
   };
 }

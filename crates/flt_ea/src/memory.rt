@@ -11,8 +11,8 @@ ghost use Rattle.flt_flash.specs.Boots.{HaveRoom};
 use crate::Eeprom;
 use arrayvec::ArrayVec;
 use flt_flash::{
-    Arm, ArmMade, FlashFailed, Power, SavedBoot, blank_pages, outcome, pages_of, reserved_boots,
-    write_page,
+    Arm, ArmMade, ArmsTold, FlashFailed, Power, SavedBoot, blank_pages, outcome, pages_of,
+    reserved_boots, write_page,
 };
 use std::alloc::{AllocError, Global};
 
@@ -21,8 +21,7 @@ use std::alloc::{AllocError, Global};
 pub struct EepromMem {
     image: Vec<[u8; 32]>,
     power: Power,
-    made: ArrayVec<ArmMade, 64>,
-    tells_arms: bool,
+    arms: ArmsTold,
     boots: Vec<SavedBoot>,
     boots_used: u16,
     ghost most: { length image.items < 65536 },
@@ -60,8 +59,7 @@ impl EepromMem {
                 operations: 0,
                 standing: ArrayVec::new(),
             },
-            made: ArrayVec::new(),
-            tells_arms: true,
+            arms: ArmsTold::none(),
             boots,
             boots_used: 0,
         })
@@ -146,15 +144,11 @@ impl Eeprom for EepromMem {
             (record { arm = arm; boots = length (state_of self.old).bench.boots; faults = (state_of self.old).faults }) }
     {
         self.power.standing.push(in_units(arm));
-        if self.made.is_full() {
-            self.tells_arms = false;
-        } else {
-            self.made.push(ArmMade {
-                arm,
-                boots: self.boots_used,
-                faults: self.power.faults,
-            });
-        }
+        self.arms.take(ArmMade {
+            arm,
+            boots: self.boots_used,
+            faults: self.power.faults,
+        });
     }
 
     fn power_up(&mut self)

@@ -4,6 +4,7 @@ pub mod State
 pub mod Arms
 pub mod Boots
 pub mod Power
+pub mod Made
 pub mod Memory
 pub mod Shape
 pub mod Content

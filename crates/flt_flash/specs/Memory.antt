@@ -1,8 +1,9 @@
 -- What a flash in memory means.
-use Rattle.std.specs.Prelude.{◌-◌, [], ◌∷◌, map, take, length, if◌then◌else◌, Some, None}
+use Rattle.std.specs.Prelude.{◌-◌, [], ◌∷◌, map, take, length}
 use Rattle.flt_flash.specs.declared.memory.FlashMem.{FlashMem}
 use Rattle.flt_flash.specs.State.{FlashState}
 use Rattle.flt_flash.specs.Boots.{two_sectors}
+use Rattle.flt_flash.specs.Made.{arms_told}
 use Rattle.flt_flash.specs.Power.{PowerState, power_state}
 
 -- The flash as every user of a flash sees it.
@@ -17,7 +18,7 @@ state_of flash = record {
   bench = record {
     boots = map (two_sectors flash.pages) (take flash.boots_used flash.boots.items);
     boots_left = length flash.boots.items - flash.boots_used;
-    arms = if flash.tells_arms then Some flash.made.items else None;
+    arms = arms_told flash.arms;
     armed = length flash.power.standing.items;
   };
 }

@@ -9,6 +9,7 @@ ghost use Rattle.flt_flash.specs.Power.{first_power};
 ghost use Rattle.flt_flash.specs.Boots.{HaveRoom, HoldPages, boot_at};
 
 use crate::boot::{SavedBoot, reserved_boots};
+use crate::made::ArmsTold;
 use crate::pages::{blank_pages, outcome, pages_of, write_page};
 use crate::power::Power;
 use crate::torn::{clear_sector, tear_sector};
@@ -25,8 +26,7 @@ pub struct FlashMem {
     power: Power,
     first_wear: u64,
     second_wear: u64,
-    made: ArrayVec<ArmMade, 64>,
-    tells_arms: bool,
+    arms: ArmsTold,
     boots: Vec<SavedBoot>,
     boots_used: u16,
     ghost most: { pages < 65536 },
@@ -101,8 +101,7 @@ impl FlashMem {
             },
             first_wear: 0,
             second_wear: 0,
-            made: ArrayVec::new(),
-            tells_arms: true,
+            arms: ArmsTold::none(),
             boots,
             boots_used: 0,
         })
@@ -248,15 +247,11 @@ impl Bench for FlashMem {
             (record { arm = arm; boots = length (state_of self.old).bench.boots; faults = (state_of self.old).faults }) }
     {
         self.power.standing.push(arm);
-        if self.made.is_full() {
-            self.tells_arms = false;
-        } else {
-            self.made.push(ArmMade {
-                arm,
-                boots: self.boots_used,
-                faults: self.power.faults,
-            });
-        }
+        self.arms.take(ArmMade {
+            arm,
+            boots: self.boots_used,
+            faults: self.power.faults,
+        });
     }
 
     fn power_up(&mut self)
