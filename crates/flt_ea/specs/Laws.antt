@@ -70,21 +70,18 @@ module _ (units : List (List ℕ)) where
   either_second true b is = refl
   either_second false b is = is
 
+  -- Of a block that is looked for and one that is not: what is stuck there is spent.
+  spent_by : (test last stuck spent : Bool) → (stuck ≡ true → spent ≡ true) → (if test then last else stuck) ≡ true → (last || spent) ≡ true
+  spent_by true last stuck spent rest is = either_first last spent is
+  spent_by false last stuck spent rest is = either_second last spent (rest is)
+
   -- A block that is stuck is spent.
   pub stuck_spent : (from : ℕ) (numbers : List ℕ) (block : ℕ) → stuck_from from numbers units block ≡ true → spent_from from numbers units ≡ true
   stuck_spent from [] block is = absurd (cc (stuck_none from block, is))
   stuck_spent from (number ∷ numbers) block is =
-      spent_first from number numbers ∙ by_test (number == block) (λ rest. stuck_spent (from + 1) numbers block rest) (sym (stuck_first from number numbers block) ∙ is)
-    where
-      abbrev stuck : Bool
-      stuck = stuck_from (from + 1) numbers units block
-
-      abbrev spent : Bool
-      spent = spent_from (from + 1) numbers units
-
-      by_test : (test : Bool) → (stuck ≡ true → spent ≡ true) → (if test then last_at from else stuck) ≡ true → (last_at from || spent) ≡ true
-      by_test true rest last = either_first (last_at from) spent last
-      by_test false rest later = either_second (last_at from) spent (rest later)
+      spent_first from number numbers
+      ∙ spent_by (number == block) (last_at from) (stuck_from (from + 1) numbers units block) (spent_from (from + 1) numbers units)
+      (stuck_spent (from + 1) numbers block) (sym (stuck_first from number numbers block) ∙ is)
 
   -- Each block is short where each place is.
   pub short_all : (from : ℕ) (numbers : List ℕ) (block : ℕ) → ((k : ℕ) → k < length numbers → IsShort (content_at (from + k))) → IsShort (value_from from numbers units block)
