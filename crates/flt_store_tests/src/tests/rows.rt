@@ -281,12 +281,17 @@ fn read_and_repair<B: Blocks + Drop>(rt: &impl Abort, nvm: &mut Nvm<B>) -> Resul
     Ok(())
 }
 
-// With the second copy muted a start-up can tell nothing, and the next one restores by it.
 #[test]
 fn a_missing_first_copy_is_repaired(rt: HostRuntime) -> Result<(), Fail> {
     let config = configured(1, 0, 1)?;
     let flash = without_first_copy(&rt, rt.alloc())?;
-    read_and_repair(&rt, &mut blocks_over(rt.alloc(), flash, &config)?)?;
+    read_and_repair(&rt, &mut blocks_over(rt.alloc(), flash, &config)?)
+}
+
+// With the second copy muted a start-up can tell nothing, and the next one restores by it.
+#[test]
+fn a_missing_first_copy_beside_a_muted_one_is_dark(rt: HostRuntime) -> Result<(), Fail> {
+    let config = configured(1, 0, 1)?;
     let flash = without_first_copy(&rt, rt.alloc())?;
     let mut store = store_over(rt.alloc(), flash, &config)?;
     let mute = Arm::Mute {

@@ -43,9 +43,18 @@ fn blocks_are_kept_by_their_kind(rt: HostRuntime) -> Result<(), Fail> {
     assert!(rt; nvm.read(1, 0, &mut out)? == found(1, 1));
     assert!(rt; nvm.read(3, 0, &mut out)? == Got::Missing);
     assert!(rt; nvm.read(3, 1, &mut out)? == found(3, 1));
+    Ok(())
+}
+
+#[test]
+fn copies_outlive_the_power(rt: HostRuntime) -> Result<(), Fail> {
+    let driver = BlocksMem::blank(rt.alloc(), 32, 1)?;
+    let mut nvm = Nvm::make(driver, Vec::from_array(rt.alloc(), TABLE)?);
+    nvm.start()?;
     assert!(rt; !nvm.spent() && (nvm.boots_left(), nvm.armed()) == (1, 0));
     nvm.power_up();
     nvm.write(2, 0, &[9])?;
+    let mut out = [0xee; 128];
     assert!(rt; nvm.read_copy(2, 2, &mut out)? == found(1, 2));
     nvm.invalidate(2, 0)?;
     assert!(rt; nvm.read(2, 0, &mut out)? == Got::Invalid);
