@@ -11,7 +11,6 @@ use flt_ea::EepromMem;
 use flt_flash::FlashMem;
 use flt_io::{MemSink, MemSource};
 use flt_run::{Ended, OpenGate, program};
-use std::alloc::Global;
 use std::io::Print;
 use std::marker::Sync;
 use std::process::ExitCode;
@@ -105,50 +104,6 @@ const UNITS: u16 = 1090;
 /// How often the power may come.
 const BOOTS: u16 = 256;
 
-/// The data identifiers of the program.
-fn program_dids() -> DidTable<DID_ROWS> {
-    let mut dids: DidTable<DID_ROWS> = DidTable::new();
-    let _full = dids.add(0x0101, 2, did_0101).is_err()
-        || dids.add(0x0102, 2, did_0102).is_err()
-        || dids.add(0x0103, 1, did_0103).is_err()
-        || dids.add(0x0104, 4, did_0104).is_err()
-        || dids.add(0x0105, 1, did_0105).is_err()
-        || dids.add(0x0106, 2, did_0106).is_err()
-        || dids.add(0x0107, 8, did_0107).is_err();
-    dids
-}
-
-/// The status with which a script ends under this word. Its report goes to the sink.
-fn run_script<R: Threads + Wait + Sync>(
-    rt: &R,
-    alloc: Global,
-    word: &str,
-    script: &str,
-    sink: &mut MemSink,
-) -> io::Result<u8> {
-    let mut words = Vec::new(alloc);
-    words.push(String::from_str(alloc, word)?)?;
-    let bytes = Vec::from_slice(alloc, script.as_bytes())?;
-    let mut source = MemSource::new(bytes, Vec::new(alloc));
-    let flash = FlashMem::blank(alloc, PAGES, BOOTS)?;
-    let device = EepromMem::blank(alloc, UNITS, BOOTS)?;
-    let ended = program(
-        rt,
-        alloc,
-        &words,
-        &mut source,
-        sink,
-        flash,
-        device,
-        program_dids(),
-        &OpenGate,
-    );
-    Ok(match ended {
-        Ended::Bench(outcome) => outcome.status,
-        Ended::Device(outcome) => outcome.status,
-    })
-}
-
 /// Whether the script of this name, under this word, ends with this status, and writes the report of the same name.
 fn is_as_written<R: Files + AllocGlobal + Threads + Wait + Sync>(
     rt: &R,
@@ -159,8 +114,36 @@ fn is_as_written<R: Files + AllocGlobal + Threads + Wait + Sync>(
     let alloc = rt.alloc();
     let script = fs::read_to_string(rt, format!(in alloc; "{name}.script")?)?;
     let report = fs::read_to_string(rt, format!(in alloc; "{name}.report")?)?;
+    let mut words = Vec::new(alloc);
+    words.push(String::from_str(alloc, word)?)?;
+    let bytes = Vec::from_slice(alloc, script.as_bytes())?;
+    let mut source = MemSource::new(bytes, Vec::new(alloc));
     let mut sink = MemSink::new(alloc, ROOM, Vec::new(alloc))?;
-    let ended = run_script(rt, alloc, word, script.as_str(), &mut sink)?;
+    let mut dids: DidTable<DID_ROWS> = DidTable::new();
+    let _full = dids.add(0x0101, 2, did_0101).is_err()
+        || dids.add(0x0102, 2, did_0102).is_err()
+        || dids.add(0x0103, 1, did_0103).is_err()
+        || dids.add(0x0104, 4, did_0104).is_err()
+        || dids.add(0x0105, 1, did_0105).is_err()
+        || dids.add(0x0106, 2, did_0106).is_err()
+        || dids.add(0x0107, 8, did_0107).is_err();
+    let flash = FlashMem::blank(alloc, PAGES, BOOTS)?;
+    let device = EepromMem::blank(alloc, UNITS, BOOTS)?;
+    let ended = program(
+        rt,
+        alloc,
+        &words,
+        &mut source,
+        &mut sink,
+        flash,
+        device,
+        dids,
+        &OpenGate,
+    );
+    let ended = match ended {
+        Ended::Bench(outcome) => outcome.status,
+        Ended::Device(outcome) => outcome.status,
+    };
     Ok(ended == status && sink.bytes() == report.as_bytes())
 }
 
