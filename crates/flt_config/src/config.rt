@@ -22,11 +22,11 @@ pub enum Debounce {
         pass_at: i16,
         /// What a prefailed report adds, 1 to 32767.
         up: i16,
-        /// What a prepassed report takes away, 1 to 32767.
+        /// What a prepassed report subtracts, 1 to 32767.
         down: i16,
-        /// Where a prefailed report begins from a lower value, strictly between the two thresholds.
+        /// The value to which a prefailed report first raises a lower one, strictly between the two thresholds.
         jump_up: Option<i16>,
-        /// Where a prepassed report begins from a higher value, strictly between the two thresholds.
+        /// The value to which a prepassed report first lowers a higher one, strictly between the two thresholds.
         jump_down: Option<i16>,
     },
     /// By the time for which the reports have one direction, in ticks of 10 ms.
@@ -56,12 +56,12 @@ impl Default for Debounce {
     }
 }
 
-/// One event of a configuration. Its number is its place in the configuration.
+/// One event of a configuration. Its number is its position in the configuration.
 #[derive(Clone, Drop, PartialEq, Eq, Debug, Default)]
 pub struct EventCfg {
     /// The diagnostic trouble code (ISO 14229-1) of three bytes, 0x000001 to 0xFFFFFE.
     pub dtc: u32,
-    /// 1 to 255, of which 1 is the highest priority.
+    /// 1 to 255; 1 is the highest priority.
     pub priority: u8,
     /// The operation cycle in which the event is tested, 0 to 3.
     pub cycle: u8,
@@ -69,7 +69,7 @@ pub struct EventCfg {
     pub confirm: u8,
     /// After how many clean cycles the warning indicator heals, 1 to 255.
     pub heal: u8,
-    /// After how many clean cycles the event ages, 1 to 255; those for healing come before where it is lit.
+    /// After how many clean cycles the event ages, 1 to 255; if it is lit, those for healing come first.
     pub age: u8,
     /// Whether a confirmed failure lights the warning indicator.
     pub indicator: bool,
@@ -81,22 +81,22 @@ pub struct EventCfg {
     pub dids: ArrayVec<DidUse, DIDS>,
 }
 
-/// A whole configuration, as it was written down.
+/// A whole configuration, as it is written.
 #[derive(Clone, Drop, PartialEq, Eq, Debug)]
 pub struct Config {
-    /// The number by which an image tells its configuration.
+    /// The number by which an image identifies its configuration.
     pub id: u16,
-    /// For how many entries the fault memory has room, 1 to 16.
+    /// The number of entries that the fault memory has room for, 1 to 16.
     pub memory: u8,
     /// How many pages of 32 bytes of each flash sector are used, 64 to 1024.
     pub pages: u16,
-    /// How many application blocks there are, 0 to 40.
+    /// The number of application blocks, 0 to 40.
     pub blocks: u8,
     /// The events, by number.
     pub events: ArrayVec<EventCfg, EVENTS>,
 }
 
-/// A number of a configuration that has a range, in the order in which they are checked.
+/// A number of a configuration that has a range. The variants are in the order in which they are checked.
 #[derive(Clone, Copy, PartialEq, Eq, Debug)]
 pub enum Field {
     Memory,
@@ -122,16 +122,16 @@ pub enum Field {
     DidSum,
 }
 
-/// Why a configuration is refused. Nothing is kept of a configuration that is.
+/// Why a configuration is refused.
 #[derive(Clone, Copy, PartialEq, Eq, Debug)]
 pub enum CfgFault {
-    /// A number is out of its range: the event whose number it is, if it is an event's, which number, and its value.
+    /// A number is out of range: the event that it belongs to, if any, which number it is, and its value.
     Range {
         event: Option<u16>,
         field: Field,
         value: i64,
     },
-    /// Two events have one DTC: the second by its number, and the first before it that has its DTC.
+    /// Two events have the same DTC: the number of the second, and that of the first event before it with this DTC.
     DtcTwice {
         first: u16,
         second: u16,

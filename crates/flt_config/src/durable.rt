@@ -1,4 +1,4 @@
-//! The first durable state, and whether one fits a configuration.
+//! The first durable state, and whether a state fits a configuration.
 ghost use Rattle.std.specs.Prelude.{◌≡◌, ◌↔◌, ◌<◌, ◌≤◌, length, IsTrue, IfSome, All, AllPairs, position};
 ghost use Rattle.flt_config.specs.Durable.{initial_state, start_state, Fits, IsStateOf, IsEntryOf, IsOfOtherEvent, IsNoted, AreStatesOf, is_of_event};
 ghost use Rattle.flt_config.specs.Ranges.{frame_width};
@@ -35,8 +35,8 @@ fn is_state_of(event: &EventCfg, state: EventState) -> bool
         && (!state.lit || (state.status & 0x08 != 0 && event.indicator))
 }
 
-/// Whether these are states of these events, one for each: the indicator bit is set exactly while the state is lit and not healed,
-/// and it is lit only with a confirmed event that has an indicator.
+/// Whether these are states of these events, one for each: the indicator bit is set if and only if the state is lit and not
+/// healed, and only a confirmed event with an indicator is lit.
 pub fn are_states_of(events: &[EventCfg], states: &[EventState]) -> bool
     ensures { IsTrue result ↔ AreStatesOf events.now states.now }
 {
@@ -58,7 +58,7 @@ fn frame_length(dids: &[DidUse]) -> usize
     dids.iter().map(|did| did.width as usize).sum()
 }
 
-/// Whether the entry is one of these events, with frames of its width.
+/// Whether the entry belongs to one of these events, with frames of its width.
 pub fn is_entry_of(events: &[EventCfg], entry: &EntryState) -> bool
     ensures { IsTrue result ↔ IsEntryOf events.now entry.now }
 {
@@ -93,7 +93,7 @@ fn have_distinct_events(entries: &[EntryState]) -> bool
     true
 }
 
-/// The place of an event's entry among these, if there is one.
+/// The position of an event's entry among these, if there is one.
 pub fn place_of(entries: &[EntryState], event: u16) -> Option<usize>
     ensures { result ≡ position (is_of_event event) entries.now }
 {
@@ -110,10 +110,10 @@ pub fn is_noted(events: &[EventCfg], note: Option<u16>) -> bool
     }
 }
 
-/// Whether the state can be that of a controller of this configuration: one state for each event, whose
-/// indicator bit is set exactly while it is lit and not healed, and which is lit only with a confirmed
-/// event that has an indicator; at most `memory` entries of distinct events with frames of their widths;
-/// and noted events that are configured.
+/// Whether the state can be that of a controller of this configuration: there is one state for each event; its
+/// indicator bit is set if and only if it is lit and not healed; only a confirmed event with an indicator
+/// is lit; there are at most `memory` entries, of distinct events and with frames of their widths; and
+/// the noted events are configured.
 pub fn fits(config: &ValidConfig, state: &Persist) -> bool
     ensures { IsTrue result ↔ Fits config.now state.now }
 {

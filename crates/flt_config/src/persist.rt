@@ -1,4 +1,4 @@
-//! The state that outlives a power cut.
+//! The state that survives a power cut.
 use crate::{ENTRIES, EVENTS, FRAME};
 use arrayvec::ArrayVec;
 
@@ -10,15 +10,15 @@ pub type Frame = ArrayVec<u8, FRAME>;
 pub struct EventState {
     /// The status byte of the DTC (ISO 14229-1).
     pub status: u8,
-    /// In how many cycles the event failed since the last clean one, at most 255.
+    /// The number of cycles in which the event failed since the last clean one, at most 255.
     pub failed: u8,
-    /// How many clean cycles have ended since the last failure, at most 510.
+    /// The number of clean cycles that ended since the last failure, at most 510.
     pub clean: u16,
     /// Whether the event lights the warning indicator until it heals.
     pub lit: bool,
 }
 
-/// The state of an event that was not tested since it was cleared: bits 4 and 6 of its status alone (ISO 14229-1).
+/// The state of an event that was not tested since it was cleared: only bits 4 and 6 of its status are set (ISO 14229-1).
 pub const UNTESTED: EventState = EventState {
     status: 0x50,
     failed: 0,
@@ -44,9 +44,9 @@ pub struct EntryState {
 pub struct Persist {
     /// One state for each event, by number.
     pub events: ArrayVec<EventState, EVENTS>,
-    /// The entries, in the order in which they were added, each of another event.
+    /// The entries, of distinct events, in the order in which they were added.
     pub entries: ArrayVec<EntryState, ENTRIES>,
-    /// Whether an event found the fault memory full since all was cleared.
+    /// Whether an event found the fault memory full since the last clear of all.
     pub overflow: bool,
     /// The first event whose test failed.
     pub first_failed: Option<u16>,

@@ -1,4 +1,4 @@
-//! The ranges of the numbers, each table of settings in the order in which it is checked.
+//! The ranges of the numbers; each table of settings is in the order in which it is checked.
 ghost use Rattle.std.specs.Prelude.{◌≡◌, ◌≤◌, length};
 ghost use Rattle.flt_config.specs.Ranges.{ranges_result, plain_settings, debounce_settings, jump_setting, threshold_settings, counter_settings, jump_settings, did_width_settings, did_settings, frame_width as frame_width_of, event_settings, events_settings, global_settings, settings};
 
@@ -148,7 +148,7 @@ fn check_events(events: &[EventCfg]) -> Result<(), CfgFault>
     Ok(())
 }
 
-/// Tells the first number of the configuration that is out of its range.
+/// Returns the first number of the configuration that is out of range.
 #[tactic(auto, using(crate::proofs::RangesLemmas::first_faults))]
 pub fn check_all_ranges(config: &Config) -> Result<(), CfgFault>
     ensures { result ≡ ranges_result (settings config.now) }

@@ -1,4 +1,4 @@
-//! A number of a configuration beside its range.
+//! A number of a configuration with its range.
 ghost use Rattle.std.specs.Prelude.{◌≡◌};
 ghost use Rattle.flt_config.specs.Ranges.{setting, signed_setting, ranges_result, is_outside as is_outside_range};
 
@@ -58,7 +58,7 @@ fn is_outside(checked: &Setting) -> bool
     checked.value < checked.least || checked.greatest < checked.value
 }
 
-/// Tells the first number that is out of its range.
+/// Returns the first number that is out of range.
 #[tactic(auto, unfolding(crate::specs::Ranges::ranges_result))]
 pub fn check_ranges(checked: &[Setting]) -> Result<(), CfgFault>
     ensures { result ≡ ranges_result checked.now }

@@ -35,7 +35,7 @@ impl ValidConfig {
         &self.config
     }
 
-    /// Another configuration that equals this one.
+    /// A copy of this configuration.
     pub fn twin(&self) -> ValidConfig
         ensures { result ≡ self.now }
     {
@@ -45,8 +45,8 @@ impl ValidConfig {
     }
 }
 
-/// Accepts a configuration, or tells its first fault: first numbers out of range, in the order of
-/// `Field`, those of each event before those of the next; then two events of one DTC; then the room.
+/// Accepts a configuration, or returns its first fault: first numbers out of range, in the order of
+/// `Field`, those of each event before those of the next; then two events with the same DTC; then lack of room.
 #[tactic(auto, unfolding(crate::specs::Check::check_of))]
 pub fn check(config: Config) -> Result<ValidConfig, CfgFault>
     ensures { result ≡ check_of config }
@@ -78,8 +78,8 @@ fn first_with_dtc(events: &[EventCfg], dtc: u32) -> Option<usize>
     events.iter().position(|event| event.dtc == dtc)
 }
 
-/// How many pages of 32 bytes the records of the configuration take in a sector: 22, 8 for each 16
-/// events or part of them, 10 for each entry and 3 for each application block.
+/// The number of pages of 32 bytes that the records of the configuration take in a sector: 22, plus 8 for
+/// each 16 events or part of 16, 10 for each entry and 3 for each application block.
 pub fn needed_pages(config: &Config) -> u32
     ensures { result ≡ needed_pages_of config.now }
 {

@@ -6,17 +6,17 @@ pub fn ends_are_accepted()
     ensures { EndsAreAccepted }
 {}
 
-/// A number of an event below its range is told, of each field that has one.
+/// A number of an event below its range is reported, for each field that can be.
 pub fn below_is_told()
     ensures { BelowIsTold }
 {}
 
-/// A number of an event above its range is told, of each field.
+/// A number of an event above its range is reported, for each field.
 pub fn above_is_told()
     ensures { AboveIsTold }
 {}
 
-/// So are the numbers of no event, the first of several, DTCs that stand twice, and want of room.
+/// So are numbers that belong to no event, the first of several, DTCs that occur twice, and lack of room.
 pub fn others_are_told()
     ensures { OthersAreTold }
 {}

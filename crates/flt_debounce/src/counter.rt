@@ -8,7 +8,7 @@ ghost use Rattle.flt_model.specs.Debounce.{counted, qualified_at, IsOfKind, lift
 use flt_config::Debounce;
 use flt_model::{DebState, Qualified, Report};
 
-/// The value where a jump lifts it.
+/// The value to which a jump raises a lower one.
 fn lift(jump: Option<i16>, value: i16) -> i16
     ensures value { result ≡ lifted jump value }
     ensures bound { value ≤ℤ result }
@@ -19,7 +19,7 @@ fn lift(jump: Option<i16>, value: i16) -> i16
     }
 }
 
-/// The value where a jump lowers it.
+/// The value to which a jump lowers a higher one.
 fn lower(jump: Option<i16>, value: i16) -> i16
     ensures value { result ≡ lowered jump value }
     ensures bound { result ≤ℤ value }
@@ -74,7 +74,7 @@ pub fn after(rules: &Debounce, value: i16, report: Report) -> i16
     }
 }
 
-/// What a counter qualifies that a report left at this value.
+/// What a report qualifies that leaves the counter at this value.
 pub fn qualified(fail_at: i16, pass_at: i16, value: i16) -> Option<Qualified>
     ensures { result ≡ qualified_at fail_at pass_at value }
 {

@@ -18,7 +18,7 @@ fn share(scale: u8, part: u16, whole: u16) -> u8
 }
 
 /// The fault detection counter, from -128 (the test passed) to 127 (it failed): how far the debouncing
-/// is on its way to a threshold, cut toward zero (ISO 14229-1, service 0x19, sub-function 0x14; the
+/// is on its way to a threshold, truncated toward zero (ISO 14229-1, service 0x19, sub-function 0x14; the
 /// scale of timers is this profile's).
 pub fn fdc(rules: &Debounce, state: &DebState) -> i8
     requires in_range { IsDebounceInRange rules.now }
@@ -50,7 +50,7 @@ pub fn fdc(rules: &Debounce, state: &DebState) -> i8
     }
 }
 
-/// The number below 0.
+/// The negative of the number.
 fn negative(size: u8) -> i8
     requires { size ≤ 128 }
     ensures { result ≡ neg_ℤ (pos size) }

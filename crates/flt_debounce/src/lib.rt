@@ -1,7 +1,7 @@
-//! Debouncing of one event's reports, by a counter or by time (AUTOSAR Dem in outline). Stands on the
-//! definitions of `flt_model`. The layer above uses `report` and `tick`: where a state is what happened
-//! to its event makes of it, it is so with one happening more, and the answer is what that qualifies. Of
-//! each other state they tell one step too (`specs/Step`). Read `specs/Debounce` of `flt_model` first.
+//! Debouncing of one event's reports, by a counter or by time (AUTOSAR Dem in outline). It stands on the
+//! definitions of `flt_model`. The layer above uses `report` and `tick`: if a state is the one that the
+//! happenings to its event lead to, it is so after one more happening, and the answer is what that
+//! qualifies. They also specify one step from any state (`specs/Step`). Read `specs/Debounce` of `flt_model` first.
 #![tactic(auto)]
 
 mod counter;
@@ -31,8 +31,8 @@ pub fn rest(rules: &Debounce) -> DebState
     }
 }
 
-/// Takes a monitor's report that is not ignored. The answer is the result that it qualifies, and none
-/// where it qualifies nothing.
+/// Takes a monitor's report that is not ignored. The answer is the result that it qualifies, if it
+/// qualifies one.
 pub fn report(rules: &Debounce, state: &mut DebState, report: Report) -> Option<Qualified>
     requires { IsDebounceInRange rules.now }
     ensures kind { IsOfKind rules.now state.old → IsOfKind rules.now state.new }
@@ -62,8 +62,8 @@ pub fn report(rules: &Debounce, state: &mut DebState, report: Report) -> Option<
     }
 }
 
-/// Lets some ticks of 10 ms go by, with the setting on. The answer is the result that they qualify: a
-/// timer qualifies once, at the tick that brings it to its threshold, and a counter never.
+/// Lets some ticks of 10 ms pass, with the setting on. The answer is the result that they qualify, if any:
+/// a timer qualifies once, at the tick that brings it to its threshold, and a counter never.
 pub fn tick(rules: &Debounce, state: &mut DebState, ticks: u16) -> Option<Qualified>
     requires { IsDebounceInRange rules.now }
     ensures kind { IsOfKind rules.now state.old → IsOfKind rules.now state.new }

@@ -1,7 +1,7 @@
-//! Data identifiers (DIDs): stored functions on the eight signals of the vehicle, and the frames that
-//! they give. Stands on the definitions of frames in `flt_model`, `specs/Frame`. The layer above uses
+//! Data identifiers (DIDs): stored functions of the eight signals of the vehicle, and the frames that
+//! they give. It stands on the definitions of frames in `flt_model`, `specs/Frame`. The layer above uses
 //! `DidTable::frame`: for any table that was filled through `add`, the frame of a list of uses is the
-//! frame that is written down. Read `specs/Table` first.
+//! specified one. Read `specs/Table` first.
 #![tactic(auto)]
 
 mod readers;

@@ -36,7 +36,7 @@ pub fn did_0104(signals: &Signals) -> u64
     signals.values[3] as u64 * 65536 + signals.values[4] as u64
 }
 
-/// The weight of a signal's bit, where the signal is above 0.
+/// The weight of a signal's bit, or 0 if the signal is 0.
 fn weight_of(value: u16, weight: u64) -> u64
     ensures { result ≡ (if nat_lt 0 value then weight else 0) }
 {
@@ -67,7 +67,7 @@ pub fn did_0106(signals: &Signals) -> u64
     (signals.values[5] as u64 + signals.values[6] as u64).min(65535)
 }
 
-/// The first four signals, one behind another, in 8 bytes.
+/// The first four signals, one after another, in 8 bytes.
 pub fn did_0107(signals: &Signals) -> u64
     ensures value { did_value 0x0107 signals.now.values ≡ Some result }
     ensures narrow { result < 256 ^ 8 }

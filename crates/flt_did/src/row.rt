@@ -1,4 +1,4 @@
-//! One row of the table: a stored function beside what is known of it.
+//! One row of the table: a stored function with what is known of it.
 ghost use Rattle.std.specs.Prelude.{◌≡◌, ℕ, ◌<◌, ◌≤◌, ◌^◌, Some};
 ghost use Rattle.std.specs.Borrow.{Bor};
 ghost use Rattle.flt_model.specs.Frame.{did_value};
@@ -6,10 +6,10 @@ ghost use Rattle.flt_did.specs.declared.signals.Signals.{Signals as SignalValues
 
 use crate::Signals;
 
-/// What a data identifier tells of the signals.
+/// What a data identifier reads from the signals.
 pub type Reader = fn(&Signals) -> u64;
 
-/// A data identifier with its function, which may be called on all signals, tells the written value
+/// A data identifier with its function, which may be called on all signals, returns the specified value
 /// there and fits the width.
 #[derive(Drop)]
 pub struct Row {

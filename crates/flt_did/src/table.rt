@@ -15,9 +15,9 @@ use flt_config::{DIDS, DidUse, EventCfg, FRAME, Frame};
 /// Why a data identifier is not added. The table stays as it was.
 #[derive(Clone, Copy, PartialEq, Eq, Debug)]
 pub enum TableFault {
-    /// The table has the identifier already.
+    /// The table already has the identifier.
     DidTwice,
-    /// The table does not have it, and each of its rows is taken.
+    /// The table does not have it, and all its rows are taken.
     TableFull,
 }
 
@@ -41,9 +41,9 @@ impl<const ROWS: usize> DidTable<ROWS> {
         }
     }
 
-    /// Adds a data identifier of 1 to 8 bytes. Its function may be called on all signals, tells the
-    /// value that is written of the identifier, and fits the width: the table keeps these facts
-    /// beside it.
+    /// Adds a data identifier of 1 to 8 bytes. Its function must be callable on all signals, return the
+    /// specified value of the identifier, and fit the width: the table keeps these facts
+    /// with it.
     pub fn add(&mut self, id: u16, width: u8, read: Reader) -> Result<(), TableFault>
         requires width { (1 ≤ width) × (width ≤ 8) }
         requires callable { (s : Bor SignalValues) → Reader.pre read s }
@@ -64,7 +64,7 @@ impl<const ROWS: usize> DidTable<ROWS> {
         Ok(())
     }
 
-    /// The width of a data identifier in bytes, where it was added.
+    /// The width of a data identifier in bytes, if it was added.
     pub fn width(&self, id: u16) -> Option<u8>
         ensures { result ≡ option_map (λ did. did.width) (find (is_did id) (dids_of self.now)) }
     {

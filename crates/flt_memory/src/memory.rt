@@ -12,17 +12,17 @@ use std::marker::Model;
 /// What became of an event that was stored.
 #[derive(Clone, Copy, PartialEq, Eq, Debug)]
 pub enum Stored {
-    /// It has an entry, which is updated at its place.
+    /// It has an entry, which is updated in its position.
     Updated,
-    /// It has none, and one is added behind the others.
+    /// It has no entry, and one is added after the others.
     Added,
-    /// It has none, the memory is full, and the entry of the event with this number gives way to one of it.
+    /// It has no entry, the memory is full, and the entry of the event with this number gives way to it.
     Displaced(u16),
-    /// It has none, the memory is full, and no entry gives way: the entries stay.
+    /// It has no entry, the memory is full, and no entry gives way: the entries do not change.
     Refused,
 }
 
-/// The entries of the fault memory, at most 16, each of another event and in the order in which they
+/// The entries of the fault memory, at most 16, of distinct events and in the order in which they
 /// were added, and the overflow flag.
 #[derive(Drop)]
 pub struct EventMemory {
@@ -64,14 +64,14 @@ impl EventMemory {
         &self.entries
     }
 
-    /// The overflow flag: whether an event found the memory full since all was cleared.
+    /// The overflow flag: whether an event found the memory full since the last clear of all.
     pub fn overflow(&self) -> bool
         ensures { result ≡ self.now.overflow }
     {
         self.overflow
     }
 
-    /// Takes over saved entries, each of another event, and the overflow flag.
+    /// Takes over saved entries, of distinct events, and the overflow flag.
     pub fn load(&mut self, entries: &ArrayVec<EntryState, ENTRIES>, overflow: bool)
         requires { AllPairs IsOfOtherEvent entries.now.items }
         ensures { self.new ≡ record { entries = entries.now.items; overflow = overflow } }
@@ -80,7 +80,7 @@ impl EventMemory {
         self.overflow = overflow;
     }
 
-    /// Removes all entries, and takes the overflow flag back.
+    /// Removes all entries, and resets the overflow flag.
     pub fn clear(&mut self)
         ensures { self.new ≡ record { entries = []; overflow = false } }
     {
@@ -95,7 +95,7 @@ impl EventMemory {
         find_entry(&self.entries, event)
     }
 
-    /// Which events have an entry, by their numbers, found in one walk over the entries.
+    /// Which events have an entry, by their numbers, found in one pass over the entries.
     pub fn stored(&self) -> [bool; EVENTS]
         ensures { (event : ℕ) → event < EVENTS → slice_index_or result event false ≡ is_some (find (is_of_event event) self.now.entries) }
     {
@@ -144,7 +144,7 @@ fn entry_of(event: u16, frame: &Frame) -> EntryState
     }
 }
 
-/// The entry's event occurred once more: the occurrence rises, and stops at 255, and the recent frame is
+/// The entry's event occurred once more: the occurrence rises, up to 255, and the recent frame is
 /// replaced.
 fn update(entry: &mut EntryState, frame: &Frame)
     ensures { entry.new ≡ updated entry.old frame.now.items }
@@ -153,7 +153,7 @@ fn update(entry: &mut EntryState, frame: &Frame)
     entry.recent = frame.clone().unwrap();
 }
 
-/// The same of the entry at a place, which stays there.
+/// The same for the entry at a position, which does not change.
 fn update_at(entries: &mut ArrayVec<EntryState, ENTRIES>, place: usize, frame: &Frame)
     requires { place < length entries.old.items }
     ensures { (d : Entry) → entries.new.items ≡ slice_set entries.old.items place (updated (slice_index_or entries.old.items place d) frame.now.items) }
@@ -165,11 +165,11 @@ impl EventMemory {
     ghost use Rattle.flt_config.specs.Durable.{IsOfOtherEvent};
     ghost use Rattle.flt_memory.specs.Store.{StoresAs};
 
-    /// Stores an event with the frame of this moment: in its entry, in a new one, or in place of the worst
-    /// where the memory has its `memory` entries. Of two entries the one with the greater priority number
-    /// is worse; of equal numbers the one whose test did not fail last, its status bit 0 being 0; and of
+    /// Stores an event with the frame of this moment: in its entry, in a new one, or instead of the worst
+    /// entry if the memory has its `memory` entries. Of two entries the one with the greater priority number
+    /// is worse; of equal numbers the one whose last test did not fail (its status bit 0 is 0); and of
     /// those the older. The worst gives way to an event of a smaller number, and to one of the same number
-    /// where its own test did not fail last. A memory that is found full sets the overflow flag.
+    /// if its own last test did not fail. A memory that is found full sets the overflow flag.
     pub fn store(
         &mut self,
         config: &ValidConfig,

@@ -1,4 +1,4 @@
-//! How bad an entry is where the memory is full.
+//! How bad an entry is when the memory is full.
 ghost use Rattle.std.specs.Prelude.{◌≡◌, ◌<◌, ◌≤◌, ◌↔◌, IsTrue, IfSome, IfNone, length, All};
 ghost use Rattle.flt_model.specs.Entry.{IsWorse};
 ghost use Rattle.flt_memory.specs.Displacement.{rank_in as event_rank, ranks_of, priority_of, IsWorst, GivesWay, IsDisplaced, StaysFull};
@@ -25,7 +25,7 @@ pub fn rank_of(config: &Config, states: &[EventState], event: u16) -> Rank
     }
 }
 
-/// The place of the worst of the entries, of which there is one.
+/// The position of the worst of the entries, of which there is at least one.
 pub fn worst_of(config: &Config, states: &[EventState], entries: &[EntryState]) -> usize
     requires some { 0 < length entries.now }
     requires configured { All (λ entry. entry.event < length config.now.events.items) entries.now }
@@ -45,7 +45,7 @@ pub fn worst_of(config: &Config, states: &[EventState], entries: &[EntryState]) 
     worst
 }
 
-/// The place of the entry that gives way to the event in a full memory, if one does.
+/// The position of the entry that gives way to the event in a full memory, if one does.
 pub fn displaced_place(
     config: &Config,
     states: &[EventState],

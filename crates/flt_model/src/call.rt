@@ -15,27 +15,27 @@ pub enum Report {
     PreFailed,
 }
 
-/// A result that debouncing lets through.
+/// A qualified result.
 #[derive(Clone, Copy, PartialEq, Eq, Debug)]
 pub enum Qualified {
     Passed,
     Failed,
 }
 
-/// How far the debouncing of an event is. It is volatile, and rests at power-up.
+/// The state of an event's debouncing. It is volatile, and at rest at power-up.
 #[derive(Clone, Copy, PartialEq, Eq, Debug)]
 pub enum DebState {
     /// The value of a counter, from its passed threshold to its failed threshold.
     Count(i16),
-    /// A timer that no report started.
+    /// A timer that no report has started.
     Idle,
     /// A timer towards failed, with the ticks of 10 ms since it was started.
     Failing(u16),
     /// A timer towards passed, with the ticks of 10 ms since it was started.
     Passing(u16),
-    /// A timer that came to failed.
+    /// A timer that has reached failed.
     AtFailed,
-    /// A timer that came to passed.
+    /// A timer that has reached passed.
     AtPassed,
 }
 
@@ -68,11 +68,11 @@ pub enum Op {
         event: u16,
         report: Report,
     },
-    /// Time goes on by this many ticks of 10 ms.
+    /// Time passes by this many ticks of 10 ms.
     Tick {
         ticks: u16,
     },
-    /// This operation cycle (0 to 3) ends where it was started, and starts.
+    /// This operation cycle (0 to 3) ends, if it was started, and starts.
     Cycle {
         cycle: u8,
     },
@@ -81,7 +81,7 @@ pub enum Op {
         tester: u8,
         bytes: ArrayVec<u8, REQUEST>,
     },
-    /// An event is asked for its state.
+    /// The state of an event is asked for.
     Show {
         event: u16,
     },
@@ -111,13 +111,13 @@ pub struct Shown {
     pub status: u8,
     /// The fault detection counter, -128 (passed) to 127 (failed).
     pub fdc: i8,
-    /// In how many cycles the event failed since the last clean one, at most 255.
+    /// The number of cycles in which the event failed since the last clean one, at most 255.
     pub failed: u8,
-    /// How many clean cycles have ended since the last failure, at most 510.
+    /// The number of clean cycles that ended since the last failure, at most 510.
     pub clean: u16,
-    /// The occurrences that the event's entry counts, 1 to 255, and 0 without an entry.
+    /// The occurrences that the event's entry counts, 1 to 255, or 0 without an entry.
     pub stored: u8,
-    /// Whether an event found the fault memory full since all was cleared.
+    /// Whether an event found the fault memory full since the last clear of all.
     pub overflow: bool,
 }
 

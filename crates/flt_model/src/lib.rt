@@ -1,9 +1,9 @@
-//! What the status machine of a fault memory means: definitions, the types that they speak of, and laws about them.
+//! The meaning of the status machine of a fault memory: definitions, the types that they use, and laws about them.
 //!
-//! Stands on `flt_config`, whose types and ranges the definitions cite. Every crate of the status machine
-//! proves itself against `specs/Answer` (what is answered to a call after a list of calls) and
-//! `specs/Durable` (what is saved after it); nobody else states a rule of the machine. Read `specs/Life`,
-//! `specs/Mark` and `specs/Status` first; `docs/MODEL.md` tells the machine in plain words.
+//! It stands on `flt_config`, whose types and ranges the definitions cite. Every crate of the status machine
+//! is proved against `specs/Answer` (the answer to a call after a list of calls) and
+//! `specs/Durable` (what is saved after it); no other crate states a rule of the machine. Read `specs/Life`,
+//! `specs/Mark` and `specs/Status` first; `docs/MODEL.md` describes the machine in plain words.
 #![tactic(auto)]
 
 mod call;

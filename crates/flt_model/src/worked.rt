@@ -1,4 +1,4 @@
-//! Worked examples, which the check computes.
+//! Worked examples, which the checker computes.
 
 ghost use Rattle.flt_model.specs.StatusExamples.{OneEventLife, UntestedCycle, UntestedCycleKeepsPending, HealAndAge, CleanCountBeginsAnew, ReportsAreIgnored, DisabledReportsAreIgnored, EachNeededConditionCounts, NextLife, FailuresStopAtMost, CleanCyclesStopAtMost, UnlitEventAges, DisplacementKeepsCleanCount, CycleEndsWithSettingOff, UnconfirmedEntryAges, ConfirmedAnew};
 ghost use Rattle.flt_model.specs.DebounceExamples.{CounterWithJump, CounterJumpsDown, CountersOnTheirWay, TimerQualifiesOnce, TimerAtItsThreshold, TimerIsPassedAtOnce, RestStopsTimers, TimerTurnsBack, SettingOffStopsTimers, SilentTicksDoNotCount, DisabledTimerStandsStill, RepeatedFailureQualifies, EndsOfTheCounterList, TimerStaysAtItsThreshold};
@@ -15,7 +15,7 @@ pub fn untested_cycle()
     ensures { UntestedCycle }
 {}
 
-/// A cycle without a test keeps pendingDTC, and a clean one takes it back.
+/// A cycle without a test keeps pendingDTC, and a clean one clears it.
 pub fn untested_cycle_keeps_pending()
     ensures { UntestedCycleKeepsPending }
 {}
@@ -25,7 +25,7 @@ pub fn heal_and_age()
     ensures { HealAndAge }
 {}
 
-/// A failure begins the clean count anew, so aging counts from the last one.
+/// A failure restarts the clean count, so aging counts from the last one.
 pub fn clean_count_begins_anew()
     ensures { CleanCountBeginsAnew }
 {}
@@ -45,7 +45,7 @@ pub fn each_needed_condition_counts()
     ensures { EachNeededConditionCounts }
 {}
 
-/// What is saved goes on in the next life, and what is volatile does not.
+/// What is saved is kept in the next life, and what is volatile is not.
 pub fn next_life()
     ensures { NextLife }
 {}
@@ -55,32 +55,32 @@ pub fn failures_stop_at_most()
     ensures { FailuresStopAtMost }
 {}
 
-/// The clean count is told up to 255, and ages and stops at 510.
+/// The clean count is reported up to 255, and ages and stops at 510.
 pub fn clean_cycles_stop_at_most()
     ensures { CleanCyclesStopAtMost }
 {}
 
-/// An event whose indicator is not lit ages at its own threshold, also where it has an indicator.
+/// An event whose indicator is not lit ages at its own threshold, even if it has an indicator.
 pub fn unlit_event_ages()
     ensures { UnlitEventAges }
 {}
 
-/// A displacement leaves the clean count, and the bits but for confirmedDTC and warningIndicatorRequested.
+/// A displacement keeps the clean count, and all bits except confirmedDTC and warningIndicatorRequested.
 pub fn displacement_keeps_clean_count()
     ensures { DisplacementKeepsCleanCount }
 {}
 
-/// An operation cycle ends while the DTC setting is off, too, and a clear is carried out then.
+/// An operation cycle ends and a clear is carried out even while the DTC setting is off.
 pub fn cycle_ends_with_setting_off()
     ensures { CycleEndsWithSettingOff }
 {}
 
-/// An entry ages out also where its event is not confirmed.
+/// An entry ages out even if its event is not confirmed.
 pub fn unconfirmed_entry_ages()
     ensures { UnconfirmedEntryAges }
 {}
 
-/// A displaced event whose failed count is above its threshold is confirmed anew by a failure, and gets no entry, since its
+/// A displaced event whose failed count is above its threshold is confirmed again by a failure, but gets no entry, since its
 /// testFailed did not change.
 pub fn confirmed_anew()
     ensures { ConfirmedAnew }
@@ -91,7 +91,7 @@ pub fn counter_with_jump()
     ensures { CounterWithJump }
 {}
 
-/// A counter jumps down before it steps down, from above alone.
+/// A counter jumps down before it steps down, but only from above.
 pub fn counter_jumps_down()
     ensures { CounterJumpsDown }
 {}
@@ -121,12 +121,12 @@ pub fn rest_stops_timers()
     ensures { RestStopsTimers }
 {}
 
-/// A report of the other direction starts a timer anew.
+/// A report in the other direction restarts a timer.
 pub fn timer_turns_back()
     ensures { TimerTurnsBack }
 {}
 
-/// A timer stands still while the setting is off.
+/// A timer does not run while the setting is off.
 pub fn setting_off_stops_timers()
     ensures { SettingOffStopsTimers }
 {}
@@ -136,13 +136,13 @@ pub fn silent_ticks_do_not_count()
     ensures { SilentTicksDoNotCount }
 {}
 
-/// A timer stands still while a condition that its event needs is not fulfilled, and then goes on where it stood.
+/// A timer does not run while a condition that its event needs is not fulfilled, and then continues from the same state.
 pub fn disabled_timer_stands_still()
     ensures { DisabledTimerStandsStill }
 {}
 
 /// A report that leaves a counter or a timer at its threshold qualifies each time: an event that was displaced is confirmed
-/// anew, and gets no entry, since its testFailed did not change.
+/// again, but gets no entry, since its testFailed did not change.
 pub fn repeated_failure_qualifies()
     ensures { RepeatedFailureQualifies }
 {}
@@ -157,7 +157,7 @@ pub fn timer_stays_at_its_threshold()
     ensures { TimerStaysAtItsThreshold }
 {}
 
-/// A full memory keeps active entries and gives up a passive one.
+/// A full memory keeps active entries and removes a passive one.
 pub fn passive_gives_way()
     ensures { PassiveGivesWay }
 {}
@@ -167,22 +167,22 @@ pub fn greater_number_gives_way()
     ensures { GreaterNumberGivesWay }
 {}
 
-/// Of two passive entries of one priority the older one gives way.
+/// Of two passive entries of the same priority the older one gives way.
 pub fn oldest_gives_way()
     ensures { OldestGivesWay }
 {}
 
-/// The first and the most recent events, and what a clear of one takes away.
+/// The first and the most recent events, and what a clear of one of them removes.
 pub fn noted_events()
     ensures { NotedEvents }
 {}
 
-/// A clear of one event leaves the most recent other one.
+/// A clear of one event keeps the most recent other one.
 pub fn clear_of_another_event()
     ensures { ClearOfAnotherEvent }
 {}
 
-/// Of two timers that come due in one tick the one of the smaller event number gets the last entry.
+/// Of two timers that are due at the same tick the one of the smaller event number gets the last entry.
 pub fn timers_come_due_in_order()
     ensures { TimersComeDueInOrder }
 {}
@@ -197,7 +197,7 @@ pub fn frame_of_identifiers()
     ensures { FrameOfIdentifiers }
 {}
 
-/// Frames, occurrences, noted events and the overflow flag go on in the next life.
+/// Frames, occurrences, noted events and the overflow flag are kept in the next life.
 pub fn saved_memory_goes_on()
     ensures { SavedMemoryGoesOn }
 {}
@@ -207,7 +207,7 @@ pub fn drive()
     ensures { Drive }
 {}
 
-/// Its second and third lives: the confirmed events stay, and a clear of all takes them back.
+/// Its second and third lives: the confirmed events stay, and a clear of all removes them.
 pub fn drive_goes_on()
     ensures { DriveGoesOn }
 {}
@@ -217,7 +217,7 @@ pub fn number_comes_first()
     ensures { NumberComesFirst }
 {}
 
-/// An entry that is updated keeps its place: it is still the oldest. The snapshot records of unconfirmed DTCs are listed
+/// An entry that is updated keeps its position: it is still the oldest. The snapshot records of unconfirmed DTCs are listed
 /// too.
 pub fn update_keeps_the_place()
     ensures { UpdateKeepsThePlace }
@@ -229,7 +229,7 @@ pub fn confirmed_once()
     ensures { ConfirmedOnce }
 {}
 
-/// A DTC that was saved as noted is told with its status of now, whatever that says.
+/// A DTC that was saved as noted is reported with its current status, whatever that says.
 pub fn noted_as_saved()
     ensures { NotedAsSaved }
 {}
@@ -239,7 +239,7 @@ pub fn count_of_many_dtcs()
     ensures { CountOfManyDtcs }
 {}
 
-/// A clear of an unknown DTC, of wrong length, and of all.
+/// A clear of an unknown DTC, one of wrong length, and one of all.
 pub fn clear_requests()
     ensures { ClearRequests }
 {}
@@ -254,17 +254,17 @@ pub fn two_testers_hold()
     ensures { TwoTestersHold }
 {}
 
-/// A request for the extended session inside it keeps the hold, and one for the default session gives it up.
+/// A request for the extended session inside it keeps the hold, and one for the default session releases it.
 pub fn repeated_session_keeps_the_hold()
     ensures { RepeatedSessionKeepsTheHold }
 {}
 
-/// Another tester's requests leave a tester's silence.
+/// Another tester's requests do not end a tester's silence.
 pub fn others_do_not_break_silence()
     ensures { OthersDoNotBreakSilence }
 {}
 
-/// A request that is refused begins the silent time anew.
+/// A request that is refused restarts the silent time.
 pub fn refused_request_is_heard()
     ensures { RefusedRequestIsHeard }
 {}
@@ -279,34 +279,34 @@ pub fn negative_codes()
     ensures { NegativeCodes }
 {}
 
-/// The DTCs whose status meets a mask.
+/// The DTCs whose status has a bit in common with a mask.
 pub fn masked_lists()
     ensures { MaskedLists }
 {}
 
-/// Lists come in the order of the events, and a clear of one DTC leaves the other.
+/// Lists are in the order of the events, and a clear of one DTC does not change the other.
 pub fn lists_in_order()
     ensures { ListsInOrder }
 {}
 
 /// Silence of 5000 ms ends the extended session, and for good what the tester held in it; a request whose response is
-/// suppressed is heard.
+/// suppressed ends the silence.
 pub fn silence_ends_session_and_hold()
     ensures { SilenceEndsSessionAndHold }
 {}
 
 /// A mask of several bits selects the DTCs whose status has one of them; a snapshot record without data identifiers has its
-/// number and none.
+/// number and the count 0.
 pub fn mask_of_several_bits()
     ensures { MaskOfSeveralBits }
 {}
 
-/// All DTCs are supported, also one whose status is 0; no mask selects that one.
+/// All DTCs are supported, even one whose status is 0; no mask selects that one.
 pub fn supported_dtcs()
     ensures { SupportedDtcs }
 {}
 
-/// Each bit of a mask selects by itself: of two DTCs one has bits 4 and 6, and the other has the rest.
+/// Each bit of a mask selects on its own: of two DTCs one has bits 4 and 6, and the other has the rest.
 pub fn each_bit_of_a_mask()
     ensures { EachBitOfAMask }
 {}

@@ -1,4 +1,4 @@
-//! What each mark changes, over the status byte as its bits.
+//! How each mark changes a state, over the status byte as its bits.
 
 ghost use Rattle.std.specs.Prelude.{◌≡◌, ◌+◌, ◌∷◌, min, if◌then◌else◌};
 ghost use Rattle.flt_model.specs.Mark.{Past};
@@ -13,7 +13,7 @@ ghost use Rattle.flt_status.specs.Step.{after_passed, after_displaced, after_fai
 use flt_config::{EventCfg, EventState, UNTESTED};
 use flt_model::Status;
 
-/// What a failure changed besides the state, for the entries and the noted events.
+/// What a failure changed in addition to the state, for the entries and the noted events.
 #[derive(Clone, Copy, PartialEq, Eq, Debug)]
 pub struct FailedMark {
     /// Whether bit 0, testFailed, went from 0 to 1.
@@ -67,7 +67,7 @@ pub fn passed(state: &mut EventState)
     });
 }
 
-/// A tester cleared the event: it is as one that was never tested.
+/// A tester cleared the event: it becomes one that was never tested.
 pub fn clear(state: &mut EventState)
     ensures { (rules : EventCfg) (base : EventState) (past : Past) → IsDecidedBy rules base (Clear ∷ past) state.new }
 {
@@ -89,14 +89,14 @@ pub fn displaced(state: &mut EventState)
     });
 }
 
-/// The failed cycles, after the end of a cycle.
+/// The failed count after the end of a cycle.
 fn failed_cycles_left(failed: u8, is_clean: bool) -> u8
     ensures { result ≡ (if is_clean then 0 else failed) }
 {
     if is_clean { 0 } else { failed }
 }
 
-/// The clean cycles, with this one where it is clean.
+/// The clean count, including this cycle if it was clean.
 fn clean_cycles(clean: u16, is_clean: bool) -> u16
     ensures { result ≡ min 510 (if is_clean then clean + 1 else clean) }
 {
@@ -107,7 +107,7 @@ fn clean_cycles(clean: u16, is_clean: bool) -> u16
     }
 }
 
-/// How many clean cycles age the event.
+/// The number of clean cycles that age the event.
 fn aging_threshold(rules: &EventCfg, lit: bool) -> u16
     ensures { result ≡ (if lit then rules.now.heal + rules.now.age else rules.now.age) }
 {
@@ -119,8 +119,8 @@ fn aging_threshold(rules: &EventCfg, lit: bool) -> u16
 }
 
 /// The test failed. The first failure of a cycle raises the failed count, which stops at 255; at
-/// `confirm` failed cycles the event is confirmed, and lights the indicator where it has one. The
-/// clean count begins anew.
+/// `confirm` failed cycles the event is confirmed, and lights the indicator if it has one. The
+/// clean count restarts at 0.
 pub fn failed(rules: &EventCfg, state: &mut EventState) -> FailedMark
     ensures step { state.new ≡ after_failed rules.now state.old }
     ensures answer { result ≡ failed_mark rules.now state.old }
@@ -156,9 +156,9 @@ pub fn failed(rules: &EventCfg, state: &mut EventState) -> FailedMark
 }
 
 /// The event's operation cycle ended, and the next started. A clean cycle, one that was tested and did
-/// not fail, takes back bit 2 and the failed count, and raises the clean count, which stops at 510.
-/// The answer tells whether the event aged: whether the clean count came to `age`, or to `heal + age`
-/// where the event was lit. Then it is no longer confirmed, and its entry is to be removed.
+/// not fail, clears bit 2 and the failed count, and raises the clean count, which stops at 510.
+/// The answer says whether the event aged: whether the clean count reached `age`, or `heal + age`
+/// if the event was lit. Then it is no longer confirmed, and its entry is to be removed.
 pub fn cycle(rules: &EventCfg, state: &mut EventState) -> bool
     ensures step { state.new ≡ after_cycle rules.now state.old }
     ensures answer { result ≡ ages_now rules.now state.old }
