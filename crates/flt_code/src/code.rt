@@ -23,7 +23,7 @@ fn with_complements(bytes: &[u8; 16]) -> [u8; 32]
     page
 }
 
-/// The 16 bytes of a code word; `None` exactly where the page is none.
+/// The 16 bytes of a code word; `None` if and only if the page is not a code word.
 pub fn unseal(page: &[u8; 32]) -> Option<[u8; 16]>
     ensures bytes { IfSome result (λ bytes. IsCodeWordOf bytes page.now) }
     ensures none { IfNone result ((bytes : List ℕ) → IsCodeWordOf bytes page.now → ⊥) }

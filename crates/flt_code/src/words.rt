@@ -3,10 +3,10 @@ ghost use Rattle.std.specs.Prelude.{◌≡◌, ◌≢◌, Some, IfSome, IfNone};
 ghost use Rattle.flt_code.specs.declared.words.Word.{Word};
 ghost use Rattle.flt_code.specs.Word.{IsWord, IsWordOf, word_bytes, is_length, candidate, word_of};
 
-/// What the 16 bytes of a code word say. Numbers are big-endian, and bytes of 0 fill the word up.
+/// What the 16 bytes of a code word say. Numbers are big-endian, and the word is padded with bytes of 0.
 #[derive(Clone, Copy, Debug, PartialEq, Eq)]
 pub enum Word {
-    /// `53 01`, sequence, pages: the sector was erased and uses so many pages.
+    /// `53 01`, sequence, pages: the sector was erased and uses this many pages.
     Start {
         sequence: u32,
         pages: u16,
@@ -15,15 +15,15 @@ pub enum Word {
     Active {
         sequence: u32,
     },
-    /// `48`, `01` where it is valid and `02` where not, block, length, page: a record of so many bytes, whose head
-    /// stands at this page. A valid one has 1 to 128 bytes, an invalid one none.
+    /// `48`, `01` if it is valid and `02` if not, block, length, page: a record of this many bytes, whose head
+    /// is at this page. A valid one has 1 to 128 bytes, an invalid one 0.
     Head {
         block: u16,
         length: u16,
         valid: bool,
         page: u16,
     },
-    /// `47 01`, block, page: the record of this block whose head stands at this page is complete.
+    /// `47 01`, block, page: the record of this block whose head is at this page is complete.
     Gate {
         block: u16,
         page: u16,
@@ -121,7 +121,7 @@ fn candidate(bytes: &[u8; 16]) -> Option<Word>
     }
 }
 
-/// The word of these bytes; `None` exactly where they are no word.
+/// The word of these bytes; `None` if and only if they are not a word.
 pub fn get_word(bytes: &[u8; 16]) -> Option<Word>
     ensures word { IfSome result (λ word. IsWordOf word bytes.now) }
     ensures none { IfNone result ((word : Word) → IsWord word → bytes.now ≢ word_bytes word) }

@@ -16,15 +16,15 @@ pub(crate) const AVAILABILITY_MASK: u8 = 0xFF;
 /// A list of DTCs.
 #[derive(Clone, Copy)]
 pub(crate) enum Listing {
-    /// Those whose status meets the mask, each with its status.
+    /// Those whose status has a bit in common with the mask, each with its status.
     ByMask(u8),
     /// All, each with its status.
     Supported,
-    /// Those whose fault detection counter is from 1 to 126, each with it.
+    /// Those whose fault detection counter is from 1 to 126, each with this counter.
     Counters,
 }
 
-/// How many events are configured.
+/// The number of configured events.
 pub(crate) fn event_count(dem: &DemState) -> u16
     ensures count { result ≡ length dem.now.faults.config.events.items }
     ensures events { result ≤ EVENTS }
@@ -42,7 +42,7 @@ pub(crate) fn dtc_of(dem: &DemState, event: u16) -> u32
     dem.config().config().events[event as usize].dtc
 }
 
-/// Whether the status of an event meets a mask.
+/// Whether the status of an event has a bit in common with a mask.
 pub(crate) fn is_masked(dem: &DemState, event: u16, mask: u8) -> bool
     requires { event < length dem.now.faults.config.events.items }
     ensures { result ≡ is_masked mask (event_seen dem.now event) }
@@ -59,7 +59,7 @@ pub(crate) fn put_status(dem: &DemState, event: u16, out: &mut ArrayVec<u8, RESP
     put_dtc_with(dtc_of(dem, event), dem.state(event).status, out);
 }
 
-/// Appends the two snapshot record numbers of an event, where it has an entry.
+/// Appends the two snapshot record numbers of an event, if it has an entry.
 fn put_records(dem: &DemState, event: u16, has_entry: bool, out: &mut ArrayVec<u8, RESPONSE>)
     requires event { event < length dem.now.faults.config.events.items }
     requires entry { has_entry ≡ is_some (event_seen dem.now event).entry }
@@ -73,7 +73,7 @@ fn put_records(dem: &DemState, event: u16, has_entry: bool, out: &mut ArrayVec<u
     }
 }
 
-/// Appends the DTC of an event and its fault detection counter, where that is on its way to failed.
+/// Appends the DTC of an event and its fault detection counter, if that is on its way to failed.
 fn put_counter(dem: &DemState, event: u16, out: &mut ArrayVec<u8, RESPONSE>)
     requires event { event < length dem.now.faults.config.events.items }
     requires room { length out.old.items + length (listed Listing.Counters (event_seen dem.now event)) ≤ RESPONSE }
@@ -86,7 +86,7 @@ fn put_counter(dem: &DemState, event: u16, out: &mut ArrayVec<u8, RESPONSE>)
 }
 
 impl Listing {
-    /// Appends how a response with the list begins.
+    /// Appends the beginning of a response with the list.
     fn put_head(self, out: &mut ArrayVec<u8, RESPONSE>)
         requires { length out.old.items + length (head_of self) ≤ RESPONSE }
         ensures { out.new.items ≡ out.old.items ++ head_of self }
@@ -115,7 +115,7 @@ impl Listing {
         }
     }
 
-    /// Appends how a response with the list begins, and what the list has of each event in turn.
+    /// Appends the beginning of a response with the list, and what the list has of each event in turn.
     pub fn put(self, dem: &DemState, out: &mut ArrayVec<u8, RESPONSE>)
         requires { length out.old.items ≡ 0 }
         ensures { out.new.items ≡ head_of self ++ flat_map (listed self) (view_of dem.now).events }
@@ -127,8 +127,8 @@ impl Listing {
     }
 }
 
-/// Writes the response of the DTCs with an entry, each with its two snapshot record numbers: one walk over the entries
-/// tells which events have one.
+/// Writes the response of the DTCs with an entry, each with its two snapshot record numbers. One pass over the entries
+/// finds the events that have one.
 pub(crate) fn put_stored(dem: &DemState, out: &mut ArrayVec<u8, RESPONSE>)
     requires { length out.old.items ≡ 0 }
     ensures { out.new.items ≡ (0x59 ∷ 0x03 ∷ []) ++ flat_map records_of (view_of dem.now).events }

@@ -42,8 +42,8 @@ fn put_values(dids: &[DidUse], frame: &[u8], out: &mut ArrayVec<u8, RESPONSE>)
     }
 }
 
-/// Appends a snapshot record, where the record number asks for it: its number, how many data identifiers it has, and
-/// each with its value.
+/// Appends a snapshot record, if the record number asks for it: its number, the number of its data identifiers, and
+/// each of these with its value.
 fn put_snapshot(
     number: u8,
     which: u8,
@@ -82,7 +82,7 @@ fn dids_of(dem: &DemState, event: u16) -> &[DidUse]
     &dem.config().config().events[event as usize].dids
 }
 
-/// Appends the snapshot records of an event that the record number asks for, where it has an entry.
+/// Appends the snapshot records of an event that the record number asks for, if it has an entry.
 pub(crate) fn put_snapshots(
     dem: &DemState,
     event: u16,
@@ -98,7 +98,7 @@ pub(crate) fn put_snapshots(
     }
 }
 
-/// Appends a record of extended data of one byte, where the record number asks for it.
+/// Appends a record of extended data of one byte, if the record number asks for it.
 fn put_datum(number: u8, which: u8, datum: u8, out: &mut ArrayVec<u8, RESPONSE>)
     requires { length out.old.items + 2 ≤ RESPONSE }
     ensures { out.new.items ≡ out.old.items ++ where_selected number which (which ∷ datum ∷ []) }
@@ -108,7 +108,7 @@ fn put_datum(number: u8, which: u8, datum: u8, out: &mut ArrayVec<u8, RESPONSE>)
     }
 }
 
-/// Appends the extended data of an event that the record number asks for, where it has an entry: how often it
+/// Appends the extended data of an event that the record number asks for, if it has an entry: how often it
 /// occurred, and how many clean cycles have ended since it failed, at most 255.
 pub(crate) fn put_extended_data(
     dem: &DemState,

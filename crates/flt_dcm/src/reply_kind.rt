@@ -1,4 +1,4 @@
-//! The answer to a call with the bytes of a response beside it.
+//! The answer to a call, without the bytes of a response.
 ghost use Rattle.std.specs.Prelude.{◌≡◌, ℕ, List};
 ghost use Rattle.flt_model.specs.Response.{unless_silent};
 ghost use Rattle.flt_model.specs.Answer.{report_reply as cause_reply};
@@ -6,7 +6,7 @@ ghost use Rattle.flt_model.specs.Answer.{report_reply as cause_reply};
 use arrayvec::ArrayVec;
 use flt_model::{Cause, RESPONSE, Reply, Shown};
 
-/// The answer to a call, of which the bytes of a response stand beside it.
+/// The answer to a call. The bytes of a response are kept separately.
 #[derive(Clone, Copy, PartialEq, Eq, Debug)]
 pub enum ReplyKind {
     /// The call was taken.
@@ -15,7 +15,7 @@ pub enum ReplyKind {
     Ignored(Cause),
     /// What is shown of the event.
     Shown(Shown),
-    /// A response, positive or negative, whose bytes stand beside it.
+    /// A response, positive or negative, whose bytes are kept separately.
     Response,
     /// A positive response that the request suppressed.
     Silent,
@@ -45,7 +45,7 @@ impl ReplyKind {
         }
     }
 
-    /// The whole answer, with these bytes where it is a response.
+    /// The whole answer, with these bytes if it is a response.
     pub fn with(self, bytes: ArrayVec<u8, RESPONSE>) -> Reply
         ensures { result ≡ reply_with self bytes.items }
     {

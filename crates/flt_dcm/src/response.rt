@@ -48,7 +48,7 @@ fn sub_of_setting(on: bool) -> u8
     if on { 0x01 } else { 0x02 }
 }
 
-/// How many events have a status that meets a mask.
+/// The number of events whose status has a bit in common with a mask.
 fn count_masked(dem: &DemState, mask: u8) -> u16
     ensures { result ≡ length (filter (is_masked mask) (view_of dem.now).events) }
 {
@@ -73,8 +73,8 @@ fn which_of(sub: u8) -> Which
     }
 }
 
-/// Writes how many DTCs have a status that meets a mask, behind the mask of supported bits and the DTC format
-/// identifier of ISO 14229-1 (0x01).
+/// Writes the number of DTCs whose status has a bit in common with a mask, after the mask of supported bits and the DTC
+/// format identifier of ISO 14229-1 (0x01).
 fn put_count(dem: &DemState, mask: u8, out: &mut ArrayVec<u8, RESPONSE>)
     requires { out.old.items ≡ [] }
     ensures { positive (view_of dem.now) (Request.Count mask) ≡ Some out.new.items }
@@ -83,7 +83,7 @@ fn put_count(dem: &DemState, mask: u8, out: &mut ArrayVec<u8, RESPONSE>)
     put_bytes(&[0x59, 0x01, AVAILABILITY_MASK, 0x01, high, low], out);
 }
 
-/// Writes the noted DTC with its status, where one is noted.
+/// Writes the noted DTC with its status, if one is noted.
 fn put_noted(dem: &DemState, sub: u8, out: &mut ArrayVec<u8, RESPONSE>)
     requires { out.old.items ≡ [] }
     ensures { positive (view_of dem.now) (Request.Noted sub) ≡ Some out.new.items }
@@ -96,7 +96,7 @@ fn put_noted(dem: &DemState, sub: u8, out: &mut ArrayVec<u8, RESPONSE>)
     }
 }
 
-/// Writes that a DTC is cleared, or all are.
+/// Writes that a DTC, or all DTCs, are cleared.
 fn put_clear(dem: &DemState, dtc: u32, out: &mut ArrayVec<u8, RESPONSE>) -> Result<(), UnknownDtc>
     requires { out.old.items ≡ [] }
     ensures ok { OnOk result (positive (view_of dem.now) (Request.Clear dtc) ≡ Some out.new.items) }
@@ -112,7 +112,7 @@ fn put_clear(dem: &DemState, dtc: u32, out: &mut ArrayVec<u8, RESPONSE>) -> Resu
     Ok(())
 }
 
-/// Writes the snapshot records of a DTC that are asked for.
+/// Writes the requested snapshot records of a DTC.
 fn put_snapshots_of(
     dem: &DemState,
     dtc: u32,
@@ -130,7 +130,7 @@ fn put_snapshots_of(
     Ok(())
 }
 
-/// Writes the extended data of a DTC that are asked for.
+/// Writes the requested extended data of a DTC.
 fn put_extended_data_of(
     dem: &DemState,
     dtc: u32,
@@ -148,7 +148,7 @@ fn put_extended_data_of(
     Ok(())
 }
 
-/// Writes the positive response to a request. Where its DTC is unknown there is none, and nothing is written.
+/// Writes the positive response to a request. If its DTC is unknown there is no such response, and nothing is written.
 pub(crate) fn put_positive(
     dem: &DemState,
     request: Request,

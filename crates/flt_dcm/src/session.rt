@@ -38,7 +38,7 @@ impl Session {
         }
     }
 
-    /// The session after its tester is heard: the silent time begins anew.
+    /// The session after a request of its tester: the silent time restarts.
     pub fn heard(self) -> Session
         ensures { result ≡ heard self }
     {

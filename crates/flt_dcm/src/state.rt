@@ -30,7 +30,7 @@ use flt_model::{Cause, Op, REQUEST, Reply, Report, Shown};
 use flt_uds::{Asked, Negative, REQUEST_OUT_OF_RANGE, RESPONSE, Request, put_negative, read};
 use std::marker::Model;
 
-/// How many testers there are; they have the numbers 0 to 3.
+/// The number of testers; they have the numbers 0 to 3.
 pub const TESTERS: usize = 4;
 
 /// The whole status machine without its table of data identifiers: the event manager, the sessions of the four
@@ -52,14 +52,14 @@ impl Model for UnitState {
     ghost invariant = { λ u. IsUnitOf u.dem.faults.config u.sessions u.base };
 }
 
-/// A copy of a durable state, which takes no memory.
+/// A copy of a durable state, which allocates no memory.
 fn copy_of(base: &Persist) -> Persist
     ensures { result ≡ base.now }
 {
     base.clone().unwrap()
 }
 
-/// Writes a negative response in place of what `out` holds.
+/// Writes a negative response, replacing what `out` holds.
 fn refuse(service: u8, code: u8, out: &mut ArrayVec<u8, RESPONSE>)
     ensures { reply_of out.new.items ≡ negative service code }
 {
@@ -95,7 +95,7 @@ fn carry_out(dem: &mut DemState, session: &mut Session, request: Request)
     }
 }
 
-/// Answers a request that was read, of this service, and carries it out where its DTC is known. The answer tells
+/// Answers a request that was read, of this service, and carries it out if its DTC is known. The answer says
 /// whether the response is suppressed.
 fn respond(
     dem: &mut DemState,
@@ -123,8 +123,8 @@ fn respond(
     }
 }
 
-/// Answers a tester's request: the silent time begins anew, and what is asked is carried out where it is not refused.
-/// The answer tells whether the response is suppressed.
+/// Answers a tester's request: the silent time restarts, and the request is carried out if it is not refused.
+/// The answer says whether the response is suppressed.
 fn request(
     dem: &mut DemState,
     session: &mut Session,
@@ -164,7 +164,7 @@ fn ticked_sessions(sessions: [Session; TESTERS], ticks: u16) -> [Session; TESTER
 }
 
 impl UnitState {
-    /// A unit with nothing saved, to which no call was made: its manager is put at its beginning, and each tester is
+    /// A unit with nothing saved, to which no call was made: its manager is reset, and each tester is
     /// in the default session.
     pub fn make(dem: DemState) -> UnitState
         ensures config { result.dem.faults.config ≡ dem.faults.config }
@@ -219,7 +219,7 @@ impl UnitState {
         self.dem.enable(condition, fulfilled);
     }
 
-    /// Takes a monitor's report of an event. The answer tells why it is ignored, where it is: a tester holds the DTC setting off,
+    /// Takes a monitor's report of an event. If it is ignored, the answer says why: a tester holds the DTC setting off,
     /// else the event's operation cycle was not started since power-up, or else an enable condition that it needs is not fulfilled.
     fn report(&mut self, dids: &DidTable<DID_ROWS>, event: u16, report: Report) -> Option<Cause>
         requires served { Serves (dids_of dids.now) self.old.dem.faults.config.events.items }
@@ -234,7 +234,7 @@ impl UnitState {
         self.dem.report(dids, event, report, setting)
     }
 
-    /// Lets ticks of 10 ms go by, for the events where no tester holds the DTC setting off, and then for the testers.
+    /// Lets ticks of 10 ms pass, for the events unless a tester holds the DTC setting off, and then for the testers.
     fn tick(&mut self, dids: &DidTable<DID_ROWS>, ticks: u16)
         requires served { Serves (dids_of dids.now) self.old.dem.faults.config.events.items }
         ensures config { self.new.dem.faults.config ≡ self.old.dem.faults.config }
@@ -256,7 +256,7 @@ impl UnitState {
         self.dem.cycle(cycle);
     }
 
-    /// Takes the request of a tester, of the number 0 to 3, and writes the response in place of what `out` holds. The answer tells
+    /// Takes the request of a tester, of the number 0 to 3, and writes the response, replacing what `out` holds. The answer says
     /// whether the response is suppressed.
     fn request(
         &mut self,
@@ -280,7 +280,7 @@ impl UnitState {
         )
     }
 
-    /// What is shown of an event. To show it changes nothing.
+    /// What is shown of an event. Showing it changes nothing.
     fn show(&self, event: u16) -> Shown
         requires { event < length self.now.dem.faults.config.events.items }
         ensures answer { Answers (ops.Show event) self.now (replies.Shown result) }
@@ -289,7 +289,7 @@ impl UnitState {
         self.dem.show(event)
     }
 
-    /// Carries out a call, and answers it, as `apply_into` does, for callers that want no durable state: a snapshot writes none.
+    /// Carries out a call, and answers it, as `apply_into` does, for callers that need no durable state: a snapshot writes none.
     pub fn apply_alone_into(
         &mut self,
         dids: &DidTable<DID_ROWS>,
@@ -367,8 +367,8 @@ impl UnitState {
         self.apply_alone_into(dids, op, response)
     }
 
-    /// Carries out a call, and answers it: the one way in which a unit that runs is changed or asked. The bytes of a response are
-    /// written in place of what `response` holds. A snapshot writes the durable state to `out`; nothing else writes it.
+    /// Carries out a call, and answers it. A unit that runs is changed or asked only in this way. The bytes of a response
+    /// replace what `response` holds. A snapshot writes the durable state to `out`; nothing else writes it.
     pub fn apply_into(
         &mut self,
         dids: &DidTable<DID_ROWS>,

@@ -34,7 +34,7 @@ pub struct Unit {
 impl Unit {
     ghost use Rattle.flt_dcm.specs.Whole.{state_of, config_of, table_of};
 
-    /// A unit with nothing saved, to which no call was made: the manager that is handed in is put at its beginning,
+    /// A unit with nothing saved, to which no call was made: the manager that it is given is reset,
     /// and each tester is in the default session.
     pub fn make(dem: Dem) -> Unit
         ensures config { config_of result ≡ dem_config dem }
@@ -66,8 +66,8 @@ impl Unit {
         self.state.config()
     }
 
-    /// Carries out a call, and answers it: the one way in which a unit that runs is changed or asked. The bytes of a response are
-    /// written in place of what `response` holds. A snapshot writes the durable state to `out`; nothing else writes it.
+    /// Carries out a call, and answers it. A unit that runs is changed or asked only in this way. The bytes of a response
+    /// replace what `response` holds. A snapshot writes the durable state to `out`; nothing else writes it.
     pub fn apply_into(
         &mut self,
         op: &Op,

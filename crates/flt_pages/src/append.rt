@@ -9,8 +9,8 @@ ghost use Rattle.flt_pages.specs.Append.{Appends, AppendsPiece, BeginsSector, fi
 use flt_code::{Word, put_word, seal};
 use flt_flash::{BLANK_PAGE, Flash, FlashFailed};
 
-/// Programs the head of a record of `length` bytes, 1 to 128 for a valid one and none for an invalid one, on a blank page.
-/// After a failure the head stands there whole or the page is no code word.
+/// Programs the head of a record of `length` bytes, 1 to 128 for a valid one and 0 for an invalid one, on a blank page.
+/// After a failure the head is whole or the page is not a code word.
 pub fn append_head<F: Flash>(
     flash: &mut F,
     sector: u8,
@@ -34,8 +34,8 @@ pub fn append_head<F: Flash>(
     flash.program(sector, page, &seal(&put_word(&word)))
 }
 
-/// Programs the gate of the record of `block` whose head stands at the page `head`, on a blank page. After a failure the
-/// gate stands there whole or the page is no code word.
+/// Programs the gate of the record of `block` whose head is at the page `head`, on a blank page. After a failure the
+/// gate is whole or the page is not a code word.
 pub fn append_gate<F: Flash>(
     flash: &mut F,
     sector: u8,
@@ -52,7 +52,7 @@ pub fn append_gate<F: Flash>(
     flash.program(sector, page, &seal(&put_word(&word)))
 }
 
-/// The bytes, with ones behind them.
+/// The bytes, padded with ones.
 pub fn fill_up(bytes: &[u8]) -> [u8; 32]
     requires { length bytes.now ≤ 32 }
     ensures { result ≡ filled bytes.now }
@@ -62,7 +62,7 @@ pub fn fill_up(bytes: &[u8]) -> [u8; 32]
     page
 }
 
-/// Programs at most 32 plain bytes, filled up with ones, on a blank page. After a failure each bit is 1 or as asked.
+/// Programs at most 32 plain bytes, padded with ones, on a blank page. After a failure each bit is 1 or as asked.
 pub fn append_piece<F: Flash>(
     flash: &mut F,
     sector: u8,
@@ -78,8 +78,8 @@ pub fn append_piece<F: Flash>(
     flash.program(sector, page, &fill_up(bytes))
 }
 
-/// Programs the active gate on page 1, which is blank; with it the sector is valid. After a failure the gate stands there
-/// whole or the page is no code word.
+/// Programs the active gate on page 1, which is blank; this makes the sector valid. After a failure the gate is
+/// whole or the page is not a code word.
 pub fn activate<F: Flash>(flash: &mut F, sector: u8, sequence: u32) -> Result<(), FlashFailed>
     requires sector { sector < 2 }
     requires page { 1 < (F.state flash.old).pages }
@@ -91,7 +91,7 @@ pub fn activate<F: Flash>(flash: &mut F, sector: u8, sequence: u32) -> Result<()
 }
 
 /// Erases a sector and programs its start gate on page 0. After a failure each bit of the sector is as before or 1, or the
-/// sector is blank but for page 0, which is the start gate whole or no code word.
+/// sector is blank except for page 0, which has the whole start gate or no code word.
 pub fn begin<F: Flash>(
     flash: &mut F,
     sector: u8,

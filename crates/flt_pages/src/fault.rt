@@ -4,7 +4,7 @@ ghost use Rattle.flt_pages.specs.declared.fault.PageFault.TheVariants.{Flash};
 
 use flt_flash::FlashFailed;
 
-/// Why pages can't be told. The image of the flash stays.
+/// Why pages can't be judged. The image of the flash does not change.
 #[derive(Clone, Copy, Debug, PartialEq, Eq)]
 pub enum PageFault {
     /// A read failed: the flash's count of faults rose.

@@ -10,14 +10,14 @@ use flt_code::{Word, get_word, unseal};
 use flt_flash::BLANK_PAGE;
 use flt_sector::Item;
 
-/// An item as its first page tells it.
+/// An item as far as its first page determines it.
 #[derive(Clone, Copy)]
 pub(crate) enum Begin {
     /// The page is the whole item.
     Whole(Item),
-    /// The page is a code word that may not stand there.
+    /// The page is a code word that is not allowed there.
     Damaged,
-    /// A record whose gate is to stand at this page.
+    /// A record whose gate belongs at this page.
     Record {
         block: u16,
         length: u16,
@@ -26,7 +26,7 @@ pub(crate) enum Begin {
     },
 }
 
-/// The pages of plain bytes of a record of so many bytes: one for every 32 bytes or part of them.
+/// The pages of plain bytes of a record of this many bytes: one for every 32 bytes or part of 32.
 pub fn byte_pages(length: u16) -> u16
     ensures { result ≡ byte_pages length }
 {
@@ -86,7 +86,7 @@ fn is_gate(block: u16, head: u16, word: Option<Word>) -> bool
     }
 }
 
-/// Whether the record is complete, by the page in the place of its gate; `None` where another word stands there.
+/// Whether the record is complete, by the page in the place of its gate; `None` if another word is there.
 pub(crate) fn is_complete(block: u16, head: u16, bytes: &[u8; 32]) -> Option<bool>
     ensures { (length gate : ℕ) (valid : Bool) → item_by_gate block length valid head gate (unsealed bytes.now)
         ≡ item_completed block length valid gate result }

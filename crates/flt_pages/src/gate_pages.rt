@@ -10,7 +10,7 @@ use crate::items::read;
 use flt_code::{Word, get_word, is_spoiled, unseal};
 use flt_flash::Flash;
 
-// The number that a start gate names, or its page where it is at fault.
+// The number that a start gate names, or its page if it is faulty.
 fn started(used: u16, page: &[u8; 32]) -> Result<Option<u32>, u16>
     ensures { result ≡ gate_by (started_by used) 0 page.now }
 {
@@ -26,7 +26,7 @@ fn started(used: u16, page: &[u8; 32]) -> Result<Option<u32>, u16>
     }
 }
 
-// The number that an active gate names, or its page where it is at fault.
+// The number that an active gate names, or its page if it is faulty.
 fn activated(page: &[u8; 32]) -> Result<Option<u32>, u16>
     ensures { result ≡ gate_by activated_by 1 page.now }
 {
@@ -66,9 +66,9 @@ fn by_pages(used: u16, start: &[u8; 32], active: &[u8; 32]) -> Result<Option<u32
     both(start, active)
 }
 
-/// The sequence number of a valid sector with `used` pages; `None` where a gate is missing.
+/// The sequence number of a valid sector with `used` pages; `None` if a gate is missing.
 ///
-/// It reads pages 0 and 1. `Damaged` comes exactly where a gate page is spoiled or another code word, and at page 1 where the
+/// It reads pages 0 and 1. It returns `Damaged` if and only if a gate page is spoiled or another code word, or, at page 1, if the
 /// gates name two numbers. It changes nothing.
 pub fn gates<F: Flash>(flash: &mut F, sector: u8, used: u16) -> Result<Option<u32>, PageFault>
     requires sector { sector < 2 }

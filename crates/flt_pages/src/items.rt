@@ -1,4 +1,4 @@
-// The items of a sector's log, and the pages behind its end.
+// The items of a sector's log, and the pages after its end.
 ghost use Rattle.std.specs.Prelude.{◌≡◌, ◌+◌, ◌-◌, ◌<◌, ◌≤◌, ℕ, IfOk, OnErr, IsErrOf};
 ghost use Rattle.flt_flash.specs.Image.{page_at, sector_at};
 ghost use Rattle.flt_flash.specs.State.{OnlyReads, HasRisenBy};
@@ -27,8 +27,8 @@ pub(crate) fn read<F: Flash>(flash: &mut F, sector: u8, page: u16) -> Result<[u8
 
 /// The item at a page of the log of a sector with `used` pages, for these block numbers; at `used` it is the end.
 ///
-/// It reads the page, and for a record the page of its gate: two pages at most. `Damaged` comes exactly where the first
-/// page is a code word but no head of a record that may stand there, or where another code word stands in the place of
+/// It reads the page, and for a record the page of its gate: at most two pages. It returns `Damaged` if and only if the first
+/// page is a code word but not a head of a record that is allowed there, or if another code word is in the place of
 /// the gate. It changes nothing.
 pub fn item<F: Flash>(
     flash: &mut F,
@@ -72,8 +72,8 @@ pub fn item<F: Flash>(
     }
 }
 
-/// That all pages from `page` to `used - 1` are blank; the first that is not is `Damaged`. It reads each of them once, as far
-/// as that one, and changes nothing.
+/// Checks that all pages from `page` to `used - 1` are blank; the first that is not is `Damaged`. It reads each of them once, up
+/// to that one, and changes nothing.
 pub fn blank_from<F: Flash>(
     flash: &mut F,
     sector: u8,

@@ -9,8 +9,8 @@ ghost use Rattle.flt_sector.specs.Log.{item_at};
 ghost use Rattle.flt_sector.specs.Gates.{gates_of};
 ghost use Rattle.flt_pages.specs.Place.{IsPlace};
 
-/// The law of appending: what the appends program is told as what it is. A head makes a record that is not complete, its
-/// gate completes it, and the two gates of one number make a sector valid.
+/// The law of appending: what the appends program is read back as what it is. A head makes a record that is not complete, its
+/// gate completes it, and two gates with the same number make a sector valid.
 pub fn appending()
     ensures opened { (used page block size : ℕ) (valid : Bool) (numbers : List ℕ) (pages : List (List ℕ)) → IsPlace used numbers pages page block size valid
         → item_at used numbers (slice_set pages page (sealed (word_bytes (Head block size valid page)))) page ≡ Ok (Kept block size valid false) }

@@ -1,7 +1,7 @@
 //! The gates and the log of one sector on a flash: looks at them, and programs of them.
 //!
 //! It stands on `flt_flash`, `flt_code` and the definitions of `flt_sector`. The layer above uses its eight calls over any
-//! flash: `gates`, `item` and `blank_from` tell exactly what the definitions say of the image (`specs/Told.antt`), and `begin`,
+//! flash: `gates`, `item` and `blank_from` report exactly what the definitions say of the image (`specs/Told.antt`), and `begin`,
 //! the appends and `activate` leave the page that was asked for or, after a failure, a tearing of it (`specs/Append.antt`, to
 //! be read first).
 #![tactic(auto)]

@@ -5,15 +5,15 @@ ghost use Rattle.std.specs.List.{list_any};
 use std::alloc::{AllocError, Global};
 use std::marker::Model;
 
-/// A block number, and where it stands among those that were given.
+/// A block number, and its position among those that were given.
 #[derive(Clone, Copy)]
 struct Row {
     number: u16,
     index: usize,
 }
 
-/// The block numbers of a driver in the order in which they were given, with an index by which one is found in as many steps as
-/// halvings of the list.
+/// The block numbers of a driver in the order in which they were given, with an index in which one is found by binary
+/// search.
 #[derive(Drop)]
 pub struct Numbers {
     given: Vec<u16>,
@@ -35,7 +35,7 @@ impl Model for Numbers {
 impl Numbers {
     ghost use Rattle.flt_pages.specs.Next.{IsLeastFrom};
 
-    /// These numbers, with their index. The error is want of memory.
+    /// These numbers, with their index. The error means that memory ran out.
     pub fn make(alloc: Global, given: Vec<u16>) -> Result<Numbers, AllocError>
         ensures { IfOk result (λ numbers. numbers ≡ given.items) }
     {
@@ -50,14 +50,14 @@ impl Numbers {
         Ok(Numbers { given, rows })
     }
 
-    /// How many they are.
+    /// How many numbers there are.
     pub fn len(&self) -> usize
         ensures { result ≡ length self.now }
     {
         self.given.len()
     }
 
-    /// The number that stands at this index.
+    /// The number at this index.
     pub fn at(&self, index: usize) -> u16
         requires { index < length self.now }
         ensures { result ≡ slice_index_or self.now index 0 }

@@ -11,7 +11,7 @@ use crate::place::RecordPlace;
 use flt_flash::{Flash, FlashFailed};
 use flt_pages::{append_gate, append_head, append_piece, byte_pages};
 
-/// Reads the bytes of a record to the start of `out`. What lies past them, and all of `out` after a failure, stays.
+/// Reads the bytes of a record to the start of `out`. What is past them does not change, nor does any of `out` after a failure.
 pub fn read_record<F: Flash>(
     flash: &mut F,
     sector: u8,
@@ -38,7 +38,7 @@ pub fn read_record<F: Flash>(
     Ok(())
 }
 
-// How many bytes the page of this index has, of so many bytes.
+// The number of bytes on the page of this index, if the record has this many bytes.
 fn piece_size(length: u16, index: u16) -> usize
     requires { 32 * index < 65536 }
     ensures { result ≡ min 32 (length - 32 * index) }
@@ -72,8 +72,8 @@ fn copy_bytes<F: Flash>(
     Ok(())
 }
 
-/// Copies a complete record of `block` to a page of the other sector, from where on it is blank, in the order of an append:
-/// its head, then each page of its bytes as it is read, and its gate.
+/// Copies a complete record of `block` to a page of the other sector, which is blank from that page on, in the order of an
+/// append: its head, then each page of its bytes as it is read, and its gate.
 pub fn copy_record<F: Flash>(
     flash: &mut F,
     sector: u8,

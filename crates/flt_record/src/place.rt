@@ -5,12 +5,12 @@ ghost use Rattle.flt_record.specs.RecordPlace.{IsPlaceOf};
 
 use flt_pages::Numbers;
 
-/// Where a complete record stands, and what its head says of it.
+/// Where a complete record is, and what its head says of it.
 #[derive(Clone, Copy, Debug, PartialEq, Eq)]
 pub struct RecordPlace {
     /// The page of the head.
     pub page: u16,
-    /// The bytes that it holds, 1 to 128, or 0 where it makes its block invalid.
+    /// The number of bytes that it holds, 1 to 128, or 0 if it makes its block invalid.
     pub length: u16,
     /// Whether it holds bytes, and does not make its block invalid.
     pub valid: bool,
@@ -32,7 +32,7 @@ pub fn place_of(
     }
 }
 
-/// Notes a record as the current one of its block, where it is complete, in the table of places.
+/// Notes a record in the table of places as the current one of its block, if it is complete.
 pub fn note(
     numbers: &Numbers,
     places: &mut [Option<RecordPlace>],

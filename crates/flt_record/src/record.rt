@@ -1,4 +1,4 @@
-// Records behind the log of a sector.
+// Records after the log of a sector.
 ghost use Rattle.std.specs.Prelude.{◌≡◌, ◌+◌, ◌<◌, ◌≤◌, ℕ, true, length, OnOk};
 ghost use Rattle.flt_flash.specs.Image.{sector_at};
 ghost use Rattle.flt_code.specs.Word.{is_length};
@@ -30,10 +30,10 @@ fn fill<F: Flash>(flash: &mut F, sector: u8, first: u16, bytes: &[u8]) -> Result
     Ok(())
 }
 
-/// Appends a record at a page, from where on the sector is blank: its head, its bytes, 1 to 128 for a valid record and none
-/// for an invalid one, and its gate.
+/// Appends a record at a page from which on the sector is blank: its head, its bytes (1 to 128 for a valid record, none
+/// for an invalid one), and its gate.
 ///
-/// After a failure the record is whole, or stands without its gate, or its head is no code word; nothing else changed.
+/// After a failure the record is whole, or it lacks its gate, or its head is not a code word; nothing else changed.
 pub fn append_record<F: Flash>(
     flash: &mut F,
     sector: u8,

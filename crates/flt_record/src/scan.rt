@@ -14,10 +14,10 @@ use flt_flash::Flash;
 use flt_pages::{Item, Numbers, PageFault, blank_from, byte_pages, item};
 
 /// The page at which the log of a sector with `used` pages ends, for these block numbers; `Damaged` is its first fault, of an
-/// item or of the pages behind the end. It fills the table with the place of each block's current record.
+/// item or of the pages after the end. It fills the table with the place of each block's current record.
 ///
-/// It goes over the log once: it reads heads, gates and the pages behind the end, and changes nothing of the flash. After an error the
-/// table tells nothing.
+/// It goes over the log once: it reads heads, gates and the pages after the end, and changes nothing of the flash. After an error
+/// the table has no meaning.
 pub fn find_places<F: Flash>(
     flash: &mut F,
     sector: u8,

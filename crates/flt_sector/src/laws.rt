@@ -1,27 +1,27 @@
-//! What the definitions of an image come to.
+//! What follows from the definitions of an image.
 ghost use Rattle.flt_sector.specs.Laws.{LogIsWhole, LogEndsWithin, FirstFaultIsTold, NoFaultIsTold, GreaterIsCurrent, NoneIsCurrent, LastRecordCounts, BlankHoldsNothing};
 
-/// How far the log goes does not depend on how many items it may have, where these are enough for the used pages; it ends behind
+/// The length of the log does not depend on the bound on its items, if that is enough for the used pages; the log ends after
 /// the gates and within these pages.
 pub fn log_is_whole()
     ensures whole { LogIsWhole }
     ensures within { LogEndsWithin }
 {}
 
-/// The fault that is told is the first that a mount finds, of all that the image has; none is told exactly where it has none.
+/// The reported fault is the first that a mount finds, of all that the image has; no fault is reported exactly if it has none.
 pub fn first_fault_is_told()
     ensures told { FirstFaultIsTold }
     ensures none { NoFaultIsTold }
 {}
 
-/// Where the gates are sound, the current sector is the valid one of the greater number, and there is none exactly where no
+/// If the gates are sound, the current sector is the valid one with the greater number, and there is none exactly if no
 /// sector is valid.
 pub fn greater_sector_is_current()
     ensures current { GreaterIsCurrent }
     ensures none { NoneIsCurrent }
 {}
 
-/// A block holds what its last complete record in the current sector gives it, and nothing where it has none.
+/// A block holds what its last complete record in the current sector gives it, and nothing if it has none.
 pub fn last_record_counts()
     ensures { LastRecordCounts }
 {}

@@ -1,4 +1,4 @@
-//! What stands behind each sub-function (ISO 14229-1, in this profile).
+//! What follows each sub-function (ISO 14229-1, in this profile).
 ghost use Rattle.std.specs.Prelude.{◌≡◌, option_map};
 ghost use Rattle.flt_model.specs.Request.{form_of, has_sub_functions};
 ghost use Rattle.flt_uds.specs.Form.{meant};
@@ -8,7 +8,7 @@ use flt_model::Request;
 /// Diagnostic session control.
 pub(crate) const SESSION_CONTROL: u8 = 0x10;
 
-/// Clear diagnostic information, the one service without sub-functions.
+/// Clear diagnostic information, the only service without sub-functions.
 pub(crate) const CLEAR: u8 = 0x14;
 
 /// Read DTC information.
@@ -20,14 +20,14 @@ pub(crate) const TESTER_PRESENT: u8 = 0x3E;
 /// Control DTC setting.
 pub(crate) const DTC_SETTING: u8 = 0x85;
 
-/// What stands behind a sub-function.
+/// What follows a sub-function.
 #[derive(Clone, Copy)]
 pub(crate) enum Form {
     /// Nothing.
     Plain(Request),
-    /// A status mask, of which the DTCs are counted.
+    /// A status mask, whose DTCs are counted.
     Count,
-    /// A status mask, of which the DTCs are listed.
+    /// A status mask, whose DTCs are listed.
     ByMask,
     /// A DTC of three bytes, and the number of a snapshot record.
     Snapshot,
@@ -92,7 +92,7 @@ fn setting_form(sub: u8) -> Option<Form>
     }
 }
 
-/// What stands behind a sub-function of a service, where there is one.
+/// What follows a sub-function of a service, if the service has it.
 pub(crate) fn form_of(service: u8, sub: u8) -> Option<Form>
     ensures { option_map meant result ≡ form_of service sub }
 {

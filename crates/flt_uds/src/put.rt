@@ -1,4 +1,4 @@
-//! Bytes of a response. A put appends to what stands there, and takes no memory.
+//! Bytes of a response. A put appends to what is there, and allocates no memory.
 ghost use Rattle.std.specs.Prelude.{◌≡◌, ◌+◌, ◌<◌, ◌≤◌, ◌^◌, ◌∷◌, [], ◌++◌, length};
 ghost use Rattle.flt_model.specs.Response.{dtc_bytes};
 
@@ -8,7 +8,7 @@ use flt_model::{Negative, RESPONSE};
 /// The first byte of a negative response; the service and the code follow.
 pub const NEGATIVE_RESPONSE: u8 = 0x7F;
 
-/// Appends these bytes, which have room.
+/// Appends these bytes, for which there is room.
 pub fn put_bytes(bytes: &[u8], out: &mut ArrayVec<u8, RESPONSE>)
     requires { length out.old.items + length bytes.now ≤ RESPONSE }
     ensures { out.new.items ≡ out.old.items ++ bytes.now }
@@ -25,7 +25,7 @@ fn bytes_of(dtc: u32) -> [u8; 3]
     [high, middle, low]
 }
 
-/// Appends a DTC in three bytes, big-endian, which have room.
+/// Appends a DTC in three bytes, big-endian, for which there is room.
 pub fn put_dtc(dtc: u32, out: &mut ArrayVec<u8, RESPONSE>)
     requires three { dtc < 2 ^ 24 }
     requires room { length out.old.items + 3 ≤ RESPONSE }
@@ -34,7 +34,7 @@ pub fn put_dtc(dtc: u32, out: &mut ArrayVec<u8, RESPONSE>)
     put_bytes(&bytes_of(dtc), out);
 }
 
-/// Appends a DTC as `put_dtc` does, and the byte that is told of it, at once: the four bytes have room.
+/// Appends a DTC as `put_dtc` does, together with one byte that belongs to it; there is room for the four bytes.
 pub fn put_dtc_with(dtc: u32, told: u8, out: &mut ArrayVec<u8, RESPONSE>)
     requires three { dtc < 2 ^ 24 }
     requires room { length out.old.items + 4 ≤ RESPONSE }
@@ -44,7 +44,7 @@ pub fn put_dtc_with(dtc: u32, told: u8, out: &mut ArrayVec<u8, RESPONSE>)
     put_bytes(&[high, middle, low, told], out);
 }
 
-/// Appends a negative response, whose three bytes have room.
+/// Appends a negative response; there is room for its three bytes.
 pub fn put_negative(negative: &Negative, out: &mut ArrayVec<u8, RESPONSE>)
     requires { length out.old.items + 3 ≤ RESPONSE }
     ensures { out.new.items ≡ out.old.items ++ NEGATIVE_RESPONSE ∷ negative.now.service ∷ negative.now.code ∷ [] }

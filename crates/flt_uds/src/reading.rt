@@ -23,7 +23,7 @@ fn dtc_of(high: u8, middle: u8, low: u8) -> u32
     u32::from(high) * 65_536 + u32::from(middle) * 256 + u32::from(low)
 }
 
-/// The record number, which is the first, the second or both.
+/// The record number: the first, the second or both.
 fn record_number(number: u8) -> Result<u8, u8>
     ensures { result ≡ (if is_record_number number then Ok number else Err request_out_of_range) }
 {
@@ -33,7 +33,7 @@ fn record_number(number: u8) -> Result<u8, u8>
     }
 }
 
-/// What is asked by the bytes behind the sub-function, or the negative code.
+/// What is asked by the bytes after the sub-function, or the negative code.
 fn contents(asked: Form, rest: &[u8]) -> Result<Request, u8>
     ensures { result ≡ contents (meant asked) rest.now }
 {
@@ -79,7 +79,7 @@ fn asked_clear(rest: &[u8]) -> Result<Asked, Negative>
     }
 }
 
-/// What is asked by the bytes behind the service, which has sub-functions, or the negative code.
+/// What is asked by the bytes after the service, which has sub-functions, or the negative code.
 fn asked_with_sub(service: u8, rest: &[u8]) -> Result<Asked, Negative>
     ensures { result ≡ asked_with_sub service rest.now }
 {
@@ -98,7 +98,7 @@ fn asked_with_sub(service: u8, rest: &[u8]) -> Result<Asked, Negative>
     }
 }
 
-/// What is asked by a service and the bytes behind it.
+/// What is asked by a service and the bytes after it.
 fn asked_of(service: u8, rest: &[u8], extended: bool) -> Result<Asked, Negative>
     ensures { result ≡ asked extended (service ∷ rest.now) }
 {
@@ -113,13 +113,13 @@ fn asked_of(service: u8, rest: &[u8], extended: bool) -> Result<Asked, Negative>
     }
 }
 
-/// Reads a request of a tester whose session is the extended one, or the default one.
+/// Reads a request of a tester in the extended session, or in the default one.
 ///
-/// The bytes begin with the service, and with its sub-function where it has one, whose bit 7 suppresses a positive
-/// response. Where the request is refused, the error has its service and the first of these codes that holds:
-/// the service is none of this profile (0x11), it is not to be had in the session (0x7F), its sub-function is missing
-/// (0x13) or unknown (0x12), the length is wrong (0x13), a record number or option byte is unknown (0x31). Whether
-/// its DTC is known is for the layer above to look at.
+/// The bytes begin with the service and, if it has one, its sub-function, whose bit 7 suppresses a positive
+/// response. If the request is refused, the error has its service and the first of these codes that applies:
+/// the service is not one of this profile (0x11), it is not available in the session (0x7F), its sub-function is missing
+/// (0x13) or unknown (0x12), the length is wrong (0x13), a record number or option byte is unknown (0x31). The layer
+/// above checks whether its DTC is known.
 pub fn read(bytes: &[u8], extended: bool) -> Result<Asked, Negative>
     requires { 0 < length bytes.now }
     ensures exact { result ≡ asked extended bytes.now }
