@@ -4,16 +4,16 @@ ghost use Rattle.flt_generation.specs.Layout.{first_part, end_part, index_in};
 
 use crate::identifier::{END_PART, FIRST_PART, LATER_STATES};
 
-/// How many blocks a commit has an index for: those with the identifiers 3 to 35.
+/// The number of blocks that a commit has an index for: those with the identifiers 3 to 35.
 pub const INDICES: usize = (END_PART - FIRST_PART) as usize;
 
-/// How many of them a commit of version 1 has an index for: those with the identifiers 3 to 23.
+/// The number of those that a commit of version 1 has an index for: those with the identifiers 3 to 23.
 pub const FIRST_INDICES: usize = (LATER_STATES - FIRST_PART) as usize;
 
 /// The number of the last generation: no other follows it.
 pub const LAST_NUMBER: u32 = u32::MAX;
 
-/// The number of a generation, and at which index each of its blocks stands.
+/// The number of a generation, and the index at which each of its blocks is.
 #[derive(Clone, Copy, Debug, PartialEq, Eq)]
 pub struct Commit {
     /// The number of the generation, at least 1.
@@ -23,7 +23,7 @@ pub struct Commit {
 }
 
 impl Commit {
-    /// At which index the commit names the block of a part: 0 or 1, and 0xFF for one that is not used.
+    /// The index at which the commit names the block of a part: 0 or 1, and 0xFF for one that is not used.
     pub fn index_of(&self, id: u16) -> u8
         requires first { first_part ≤ id }
         requires end { id < end_part }

@@ -12,28 +12,28 @@ pub const FIRST_PART: u16 = 3;
 /// The first block of states.
 pub const FIRST_STATES: u16 = 4;
 
-/// How many blocks of states stand before the entries: those of the events up to 63.
+/// The number of blocks of states before the entries: those of the events up to 63.
 pub const STATES_BLOCKS: u16 = 4;
 
 /// The first block of an entry.
 pub const FIRST_ENTRY: u16 = 8;
 
-/// The first block of states behind the entries: those of the events from 64 on.
+/// The first block of states after the entries: that of the events from 64 on.
 pub const LATER_STATES: u16 = 24;
 
-/// How many blocks of states stand behind the entries.
+/// The number of blocks of states after the entries.
 pub const LATER_STATES_BLOCKS: u16 = 12;
 
-/// The identifier behind the last part's.
+/// The identifier after the last part's.
 pub const END_PART: u16 = LATER_STATES + LATER_STATES_BLOCKS;
 
 /// The first application block.
 pub const FIRST_APPLICATION: u16 = 64;
 
-/// How many application blocks the driver keeps.
+/// The number of application blocks that the driver keeps.
 pub const APPLICATIONS: u16 = 40;
 
-/// How many of the driver's numbers belong to a block: the first to its copy 1 or index 0, the next ones to the others.
+/// How many of the driver's numbers belong to a block: the first is that of its copy 1 or index 0, the next ones of the others.
 pub const NUMBERS_PER_BLOCK: u16 = 8;
 
 /// The number of the mark.

@@ -2,10 +2,10 @@
 //!
 //! It stands on `flt_config`, whose durable state a generation is, and on `flt_flash`, whose `Content` a block holds. The
 //! byte forms of `flt_image` and the generations of the store state their contracts by these definitions. Read
-//! `specs/Layout` first (which block holds what), then `specs/Form` (its bytes), `specs/Reading` (what bytes are taken) and
-//! `specs/Holding` (which generation an image holds, and where it is damaged); `specs/Successor` has what a save writes. That
-//! what is read is what stands is a law (`laws`), and that the fault which is told is the first of all that there are, each of
-//! which stands by itself in `specs/Faults`. The examples of `worked` are maps of blocks with what they hold.
+//! `specs/Layout` first (which block holds what), then `specs/Form` (its bytes), `specs/Reading` (which bytes are accepted) and
+//! `specs/Holding` (which generation an image holds, and where it is damaged); `specs/Successor` has what a save writes. `laws`
+//! say that what is read is what the blocks hold, and that the reported fault is the first of all that exist; `specs/Faults` states
+//! each of them on its own. The examples of `worked` are maps of blocks with what they hold.
 #![tactic(auto)]
 
 mod commit;

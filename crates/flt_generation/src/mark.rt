@@ -1,12 +1,12 @@
 // The block that names a configuration.
 
-/// What tells the image of a configuration from that of another.
+/// What identifies the configuration of an image.
 #[derive(Clone, Copy, Debug, PartialEq, Eq)]
 pub struct Mark {
     /// The number of the configuration.
     pub id: u16,
-    /// How many events it has.
+    /// The number of its events.
     pub events: u16,
-    /// For how many entries its fault memory has room.
+    /// The number of entries that its fault memory has room for.
     pub entries: u8,
 }

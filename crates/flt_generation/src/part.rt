@@ -9,14 +9,14 @@ use crate::length::{ENTRY_LENGTH, STATES_LENGTH, SUMMARY_LENGTH};
 pub enum Part {
     /// The overflow flag, the number of entries and the noted events.
     Summary,
-    /// The states of sixteen events, from the event `first` on.
+    /// The states of sixteen events, beginning with the event `first`.
     States { first: u16 },
     /// The entry at `place` of the list, from 0.
     Entry { place: u16 },
 }
 
 impl Part {
-    /// How many bytes the part has; an entry has the most.
+    /// The number of bytes of the part; an entry has the most.
     pub fn byte_length(self) -> usize
         ensures value { result ≡ part_length self }
         ensures most { result ≤ ENTRY_LENGTH }

@@ -1,18 +1,18 @@
-//! Worked examples, which the check computes.
+//! Worked examples, which the checker computes.
 ghost use Rattle.flt_generation.specs.Examples.{CopiesOfCommit, FaultsInOrder, OldImages, EachField, ManyEvents, ChangedPages};
 
-/// Which generations the copies of a commit name, before, in and after a save, and where a copy has no bytes.
+/// Which generations the copies of a commit name, before, during and after a save, and if a copy has no bytes.
 pub fn copies_of_commit()
     ensures { CopiesOfCommit }
 {}
 
-/// Where each block is wrong, the first is told, and the next one once that is mended.
+/// If each block is wrong, the first is reported, and the next one once that is corrected.
 pub fn faults_in_order()
     ensures { FaultsInOrder }
 {}
 
-/// Which generations the copies of a commit name where one of them or both are of version 1, and which bytes are of no version; and
-/// where each field of a generation stands in the bytes, in both versions.
+/// Which generations the copies of a commit name if one or both of them are of version 1, and which bytes are of no version; and
+/// where each field of a generation is in the bytes, in both versions.
 pub fn old_images()
     ensures copies { OldImages }
     ensures fields { EachField }
@@ -23,7 +23,7 @@ pub fn many_events()
     ensures { ManyEvents }
 {}
 
-/// How many pages the blocks have whose bytes changed.
+/// The number of pages of the blocks whose bytes changed.
 pub fn changed_pages()
     ensures { ChangedPages }
 {}

@@ -8,7 +8,7 @@ use std::alloc::{AllocError, Global};
 /// Why the bytes of a source could not be read.
 #[derive(Clone, Copy, Debug, PartialEq, Eq)]
 pub enum ReadFault {
-    /// Memory was wanting. It says nothing of the bytes.
+    /// Memory ran out. This says nothing about the bytes.
     Memory,
     /// The source failed, and its count of faults rose.
     Failed,
@@ -34,7 +34,7 @@ impl From<Failed> for ReadFault {
     }
 }
 
-/// Reads a source to its end, or as many bytes as `most`, whichever comes first.
+/// Reads a source to its end, or `most` bytes, whichever comes first.
 pub fn read_front<S: Source>(
     alloc: Global,
     most: usize,

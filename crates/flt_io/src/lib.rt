@@ -1,9 +1,9 @@
 //! Where bytes come from and where they go, each with a count of its faults.
 //!
 //! It stands on std alone. The crates above use two traits: `Source`, whose `pull` moves the next bytes, and `Sink`, whose
-//! `push` takes a whole piece or fails behind a front of it; a failure comes only where the object's count of faults rose.
-//! `read_front` reads a source to its end, or so many bytes.
-//! `MemSource` and `MemSink` are in memory and fail where they are told to; `ReadSource` and `WriteSink` are over std's
+//! `push` takes a whole piece or fails after a prefix of it; either fails only if the object's count of faults rose.
+//! `read_front` reads a source to its end, or up to a number of bytes.
+//! `MemSource` and `MemSink` are in memory and fail when they are told to; `ReadSource` and `WriteSink` are over std's
 //! readers and writers. Read `specs/Fault.antt` first, then `specs/Sink.antt`.
 #![tactic(auto)]
 
@@ -22,5 +22,5 @@ pub use read_source::ReadSource;
 pub use stream::{Failed, Sink, Source};
 pub use write_sink::WriteSink;
 
-/// How often an interrupted read or write is made, at most, before it is taken as a fault.
+/// How often an interrupted read or write is made at most before it counts as a fault.
 const TRIES: u32 = 16;

@@ -11,8 +11,8 @@ use std::alloc::{AllocError, Global};
 
 /// A sink that keeps up to `room` bytes in memory.
 ///
-/// It fails at the calls whose numbers, counted from 0, stand in `failing`, and where a piece would pass the room, and at
-/// no other. A call that fails keeps nothing of its piece.
+/// It fails exactly at the calls whose numbers, counted from 0, are in `failing`, and when a piece would exceed the room.
+/// A call that fails keeps nothing of its piece.
 #[derive(Debug, Drop)]
 pub struct MemSink {
     bytes: Vec<u8>,
@@ -27,11 +27,11 @@ pub struct MemSink {
 impl MemSink {
     ghost use Rattle.flt_io.specs.Memory.{bytes_held, room_of, failing_pushes, pushes_made, push_faults};
 
-    /// A sink that holds nothing. It takes all of its memory here, so a push takes none.
+    /// A sink that holds nothing. It allocates all of its memory here, so a push allocates none.
     ///
     /// # Errors
     ///
-    /// `AllocError` where there is no memory for `room` bytes.
+    /// `AllocError` if there is not enough memory for `room` bytes.
     pub fn new(alloc: Global, room: usize, failing: Vec<u32>) -> Result<MemSink, AllocError>
         ensures bytes { IfOk result (λ s. bytes_held s ≡ []) }
         ensures room { IfOk result (λ s. room_of s ≡ room) }

@@ -9,7 +9,7 @@ use crate::stream::{Failed, Source};
 
 /// A source over bytes in memory.
 ///
-/// It fails at the calls whose numbers, counted from 0, stand in `failing`, and at no other. A call that fails takes nothing.
+/// It fails exactly at the calls whose numbers, counted from 0, are in `failing`. A call that fails takes nothing.
 #[derive(Debug, Drop)]
 pub struct MemSource {
     bytes: Vec<u8>,
@@ -23,7 +23,7 @@ pub struct MemSource {
 impl MemSource {
     ghost use Rattle.flt_io.specs.Memory.{bytes_left, failing_pulls, pulls_made, pull_faults};
 
-    /// A source of these bytes, no call of which was made.
+    /// A source of these bytes, none of which was taken yet.
     #[must_use]
     pub fn new(bytes: Vec<u8>, failing: Vec<u32>) -> MemSource
         ensures bytes { bytes_left result ≡ bytes.items }

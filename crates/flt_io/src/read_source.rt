@@ -7,9 +7,9 @@ use crate::TRIES;
 use crate::stream::{Failed, Source};
 use std::io::{ErrorKind, Read};
 
-/// A source over any reader. It tells what is left where the reader does.
+/// A source over any reader. It reveals what is left if the reader does.
 ///
-/// A read that was interrupted is made again, up to 16 times. Every other error, and the last interruption, is a fault.
+/// A read that was interrupted is made again, at most 16 times in all. Every other error, and the last interruption, is a fault.
 #[derive(Debug, Drop)]
 pub struct ReadSource<R> {
     inner: R,

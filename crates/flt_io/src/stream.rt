@@ -10,13 +10,13 @@ pub struct Failed;
 
 /// Where bytes come from.
 pub trait Source {
-    /// The bytes that are left, where the source tells them.
+    /// The bytes that are left, if the source reveals them.
     ghost left: { Self → Option (List ℕ) };
 
-    /// How often the source has failed. The count stands still at 2^64 - 1.
+    /// How often the source has failed. The count stops at 2^64 - 1.
     ghost faults: { Self → ℕ };
 
-    /// Moves the next bytes, 1 to `out.len()` of them, to the front of `out`, and answers how many. It answers 0 only at
+    /// Moves the next bytes, 1 to `out.len()` of them, to the start of `out`, and returns how many. It returns 0 only at
     /// the end.
     ///
     /// # Errors
@@ -31,17 +31,17 @@ pub trait Source {
 
 /// Where bytes go.
 pub trait Sink {
-    /// The bytes that the sink holds, where it tells them.
+    /// The bytes that the sink holds, if it reveals them.
     ghost held: { Self → Option (List ℕ) };
 
-    /// How often the sink has failed. The count stands still at 2^64 - 1.
+    /// How often the sink has failed. The count stops at 2^64 - 1.
     ghost faults: { Self → ℕ };
 
     /// Takes the whole piece.
     ///
     /// # Errors
     ///
-    /// `Failed` only where the count of faults rose. A front of the piece may have been taken.
+    /// `Failed` only where the count of faults rose. A prefix of the piece may have been taken.
     fn push(&mut self, piece: &[u8]) -> Result<(), Failed>
         ensures ok { OnOk result (Appends (held self.old) (held self.new) piece.now) }
         ensures err { OnErr result (AppendsFront (held self.old) (held self.new) piece.now) }

@@ -8,9 +8,9 @@ use crate::TRIES;
 use crate::stream::{Failed, Sink};
 use std::io::{ErrorKind, Write};
 
-/// A sink over any writer. It tells what it holds where the writer does.
+/// A sink over any writer. It reveals what it holds if the writer does.
 ///
-/// A write that was interrupted is made again, up to 16 times. Every other error, the last interruption and a write of no
+/// A write that was interrupted is made again, at most 16 times in all. Every other error, the last interruption and a write of no
 /// byte are faults.
 #[derive(Debug, Drop)]
 pub struct WriteSink<W> {
@@ -42,7 +42,7 @@ impl<W> WriteSink<W> {
 impl<W: Write> WriteSink<W> {
     ghost use Rattle.flt_io.specs.Stream.{writer_of, write_faults};
 
-    /// Writes a front of a piece that is not empty, at least one byte, and answers how many.
+    /// Writes a prefix of a piece that is not empty, at least one byte, and returns how many.
     fn write_front(&mut self, piece: &[u8]) -> Result<usize, Failed>
         requires { 0 < length piece.now }
         ensures some { IfOk result (λ n. 0 < n) }

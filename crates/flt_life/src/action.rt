@@ -11,13 +11,13 @@ use flt_script::Step;
 /// What a step of a life does.
 #[derive(Drop)]
 pub enum Action {
-    /// A call of the status machine, but a snapshot or a save.
+    /// A call of the status machine other than a snapshot or the note of a save.
     Call(Op),
     /// A call of the queue of write jobs: a post or a question.
     Queue(QueueOp),
     /// The durable state is saved.
     Save,
-    /// The jobs that wait are taken and written, at most 32.
+    /// The waiting jobs are taken and written, at most 32.
     Drain,
     /// The application block of this number is read.
     Get(u8),
@@ -25,14 +25,14 @@ pub enum Action {
     Arm(Arm),
 }
 
-/// A copy of the bytes of a request, which takes no memory.
+/// A copy of the bytes of a request, which allocates no memory.
 fn copy_of(bytes: &ArrayVec<u8, REQUEST>) -> ArrayVec<u8, REQUEST>
     ensures { result ≡ bytes.now }
 {
     bytes.clone().unwrap()
 }
 
-/// A copy of the bytes of a job, which takes no memory.
+/// A copy of the bytes of a job, which allocates no memory.
 fn copy_of_job(bytes: &ArrayVec<u8, BYTES>) -> ArrayVec<u8, BYTES>
     ensures { result ≡ bytes.now }
 {
@@ -86,7 +86,7 @@ pub fn action_of(step: &Step) -> Action
     }
 }
 
-/// How many calls of the status machine a step makes at most: a save takes a snapshot, and is acknowledged.
+/// The number of calls of the status machine that a step makes at most: a save takes a snapshot, and is acknowledged.
 pub fn call_count(step: &Step) -> usize
     ensures { result ≡ call_count (action_of step.now) }
 {
@@ -104,7 +104,7 @@ pub fn call_count(step: &Step) -> usize
     }
 }
 
-/// How many calls of the queue a step makes at most: a drain takes 32 jobs and notes what became of each.
+/// The number of calls of the queue that a step makes at most: a drain takes 32 jobs and notes what became of each.
 pub fn queue_count(step: &Step) -> usize
     ensures { result ≡ queue_count (action_of step.now) }
 {
@@ -115,7 +115,7 @@ pub fn queue_count(step: &Step) -> usize
     }
 }
 
-/// The bytes of the longest response to a step: a request has one.
+/// The number of bytes of the longest response to a step: a request has one.
 pub fn response_size(step: &Step) -> usize
     ensures { result ≡ response_size (action_of step.now) }
 {

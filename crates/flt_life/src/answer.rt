@@ -1,4 +1,4 @@
-// What a step is answered.
+// The answers to steps.
 use arrayvec::ArrayVec;
 use flt_generation::APPLICATION_LENGTH;
 use flt_model::{Cause, Shown};
@@ -6,7 +6,7 @@ use flt_queue::QueueReply;
 use flt_store::SaveFault;
 use flt_turn::Answer;
 
-/// The reply to a call as a lane keeps it. A response is told by its place among the bytes of the lane's responses, so that an
+/// The reply to a call as a lane keeps it. A response is kept as a range of the bytes of the lane's responses, so that an
 /// answer takes few bytes.
 #[derive(Clone, Copy, Debug, PartialEq, Eq)]
 pub enum KeptReply {
@@ -16,7 +16,7 @@ pub enum KeptReply {
     Ignored(Cause),
     /// What is shown of the event.
     Shown(Shown),
-    /// The response to a tester, 1 to 1,040 bytes, from this one on.
+    /// The response to a tester, 1 to 1,040 bytes, and where they begin.
     Response { from: usize, length: usize },
     /// The request suppressed its positive response.
     Silent,
@@ -33,7 +33,7 @@ pub enum StepAnswer<R> {
     SaveFailed(SaveFault),
     /// The queue's reply to the call, and its place in the journal of the queue.
     Queue(Answer<QueueReply>),
-    /// How many jobs were taken and written, and how many were taken and could not be written; together at most 32.
+    /// The number of jobs that were taken and written, and of those that were taken and could not be written; together at most 32.
     Drained { written: u16, failed: u16 },
     /// What the application block holds, 1 to 32 bytes.
     Bytes(ArrayVec<u8, APPLICATION_LENGTH>),

@@ -1,11 +1,11 @@
-//! The lives of a controller, each from one power-up to the next: what a step calls and is answered, and what a life makes of
-//! the image that it found.
+//! The lives of a controller, each from one power-up to the next: the calls that a step makes and its answer, and what a life
+//! leaves of the image that it found.
 //!
-//! The definitions of the chain of lives stand here, over any machine that keeps blocks, and the types in which a life is told.
-//! It stands on `flt_script` for the steps, on `flt_model` and `flt_turn` for the calls and their answers, and on the column of
-//! the storage for what an image holds. The layers above make lives: without a lock, and in lanes. Read `specs/Played` first (which
-//! calls the parts of a life make, and how each step is answered), then `Chain` (what holds of a life and its two power-ups),
-//! `Journal`, `Saving` and `Causes`; `Mixing` and `Making` are stated over any machine and any kind of steps.
+//! This crate has the definitions of the chain of lives, over any machine that keeps blocks, and the types that describe a life.
+//! It stands on `flt_script` for the steps, on `flt_model` and `flt_turn` for the calls and their answers, on `flt_queue` for the
+//! write jobs, and on the storage for what an image holds. The layers above make lives: without a lock, and in lanes. Read
+//! `specs/Played` first (which calls the parts of a life make, and how each step is answered), then `Chain` (what holds of a life and
+//! its two power-ups), `Journal`, `Saving` and `Causes`; `Mixing` and `Making` hold for any machine and any kind of steps.
 #![tactic(auto)]
 
 mod action;

@@ -1,4 +1,4 @@
-// A life of the controller: what its power-up came to, its calls, and its answers.
+// A life of the controller: how it began, its calls, and its answers.
 use crate::replies::LaneReplies;
 use flt_config::Persist;
 use flt_model::Op;
@@ -20,12 +20,12 @@ pub enum Boot {
 /// A life: how it began, the calls that it made, and the answers to its steps, each in their order.
 #[derive(Drop)]
 pub struct Life {
-    /// What its power-up came to.
+    /// How its power-up ended.
     pub boot: Boot,
     /// The calls that were carried out under the lock, each with the number of its lane; empty in a life that was not started.
     pub journal: Vec<Entry<Op>>,
-    /// The calls of the queue of write jobs, likewise.
+    /// The calls of the queue of write jobs, in the same form.
     pub queue: Vec<Entry<QueueOp>>,
-    /// The answers in the order of the lanes, lane 0 first; none in a life that was refused.
+    /// The answers in the order of the lanes, lane 0 first; empty in a life that was refused.
     pub replies: Vec<LaneReplies>,
 }

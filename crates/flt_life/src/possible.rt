@@ -1,4 +1,4 @@
-// Whether parts are possible: the test of what the calls want that make lives.
+// Whether parts are possible: the test of what the calls require that make lives.
 ghost use Rattle.std.specs.Prelude.{◌≡◌, ◌≤◌, ◌↔◌, All, IsTrue, count_by};
 ghost use Rattle.flt_flash.specs.State.{CanArm};
 ghost use Rattle.flt_script.specs.Part.{part_of, parts_of};
@@ -10,7 +10,7 @@ use flt_config::Config;
 use flt_flash::Arm;
 use flt_script::{Part, Step};
 
-/// Whether a bench takes the arm: a cut or a fault comes after at least one operation.
+/// Whether a bench accepts the arm: a cut or a fault comes after at least one operation.
 fn can_arm(arm: &Arm) -> bool
     ensures { IsTrue result ↔ CanArm arm.now }
 {
@@ -42,7 +42,7 @@ fn is_possible_step(config: &Config, step: &Step) -> bool
     }
 }
 
-/// Whether the steps are possible in a lane, where none is an arm.
+/// Whether the steps are possible in a lane, where no step arms.
 fn is_possible_lane(config: &Config, steps: &[Step]) -> bool
     ensures { IsTrue result ↔ All (IsPossibleInLane config.now) steps.now }
 {
@@ -90,8 +90,8 @@ fn is_possible_part(config: &Config, part: &Part) -> bool
     }
 }
 
-/// Whether a life of this configuration can be made of these parts: the numbers of each step are in their ranges, no lane of a block arms
-/// the bench, and at most one saves, drains or gets.
+/// Whether a life of this configuration can be made of these parts: the numbers of each step are in their ranges, no lane of a
+/// block arms the bench, and at most one saves, drains or gets.
 pub fn are_possible(config: &Config, parts: &[Part]) -> bool
     ensures { IsTrue result ↔ All (IsPossiblePart config.now) (parts_of parts.now) }
 {

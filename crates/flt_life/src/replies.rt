@@ -14,14 +14,14 @@ use std::alloc::{AllocError, Global};
 pub struct LaneReplies {
     /// One answer for each step that was made, in their order.
     pub answers: Vec<StepAnswer<KeptReply>>,
-    /// The bytes of its responses, one after the other.
+    /// The bytes of its responses, one response after the other.
     pub responses: Vec<u8>,
     /// Each response lies within these bytes.
     pub ghost within: { All (IsAnswerWithin (length responses.items)) answers.items },
 }
 
 impl LaneReplies {
-    /// No answer, with room for so many, and for so many bytes of responses. The error means that there was no memory.
+    /// No answer yet, with room for this many, and for this many bytes of responses. The error means that memory ran out.
     pub fn with_room(alloc: Global, answers: usize, bytes: usize) -> Result<LaneReplies, AllocError>
         ensures none { IfOk result (λ replies. replies.answers.items ≡ []) }
         ensures no_bytes { IfOk result (λ replies. replies.responses.items ≡ []) }
@@ -33,7 +33,7 @@ impl LaneReplies {
         Ok(LaneReplies { answers, responses })
     }
 
-    /// Keeps the answer to one more step, with the bytes of its response where it has one.
+    /// Keeps the answer to one more step, with the bytes of its response if it has one.
     #[inline(always)]
     pub fn keep(&mut self, answer: StepAnswer<ReplyKind>, response: &[u8])
         requires answers { vec_len self.old.answers < vec_capacity self.old.answers }
@@ -50,7 +50,7 @@ impl LaneReplies {
     }
 }
 
-/// The reply of this kind as it is kept. The bytes of a response are put behind the others.
+/// The reply of this kind as it is kept. The bytes of a response are added after the others.
 #[inline(always)]
 fn kept_reply(kind: ReplyKind, response: &[u8], responses: &mut Vec<u8>) -> KeptReply
     requires { vec_len responses.old + size_of kind response.now ≤ vec_capacity responses.old }

@@ -1,4 +1,4 @@
-// What a life takes of memory for its answers: all of it at its start.
+// The memory that a life needs for its answers: all of it is allocated at its start.
 ghost use Rattle.std.specs.Prelude.{◌≡◌, ◌<◌, ◌≤◌, ◌+◌, ◌^◌, ◌++◌, ◌∷◌, [], List, All, IfOk, length, map, reverse, sum_by, vec_len};
 ghost use Rattle.std.specs.Vec.{vec_capacity};
 ghost use Rattle.flt_script.specs.declared.step.Step.{Step};
@@ -21,18 +21,18 @@ use std::alloc::{AllocError, Global};
 pub struct LaneRoom<'a> {
     /// The steps, in order.
     pub steps: &'a [Step],
-    /// Takes an answer to each of them.
+    /// Takes the answer to each of them.
     pub replies: LaneReplies,
 }
 
-/// Room for the answers of a life, with the places where they go in the end.
+/// Room for the answers of a life, with the places where they are put in the end.
 #[derive(Drop)]
 pub struct LifeRoom<'a> {
     /// For the answers of lane 0.
     pub own: LaneReplies,
     /// The lanes of all blocks, in order.
     pub lanes: Vec<LaneRoom<'a>>,
-    /// Takes the answers of the lanes that made their steps.
+    /// Takes the answers of the lanes that have made their steps.
     pub told: Vec<LaneReplies>,
     /// Takes the answers of all lanes in the end.
     pub replies: Vec<LaneReplies>,
@@ -109,7 +109,7 @@ fn own_room(alloc: Global, parts: &[Part]) -> Result<LaneReplies, AllocError>
 }
 
 impl<'a> LifeRoom<'a> {
-    /// Takes all memory that the answers of a life with these parts need: at most 65,536 steps. The error means that there was none.
+    /// Allocates all memory that the answers of a life with these parts need: at most 65,536 steps. The error means that memory ran out.
     pub fn for_parts(alloc: Global, parts: &'a [Part]) -> Result<LifeRoom<'a>, AllocError>
         requires few { sum_by steps_in (parts_of parts.now) ≤ 65536 }
         requires numbers { widths (parts_of parts.now) + 1 < 2 ^ 32 }
@@ -128,7 +128,8 @@ impl<'a> LifeRoom<'a> {
     }
 }
 
-/// The life that began so and made these calls, with the answers of lane 0 and of the other lanes, which go to the reserved places.
+/// The life that began in this way and made these calls, with the answers of lane 0 and of the other lanes, which are put in the
+/// reserved places.
 pub fn life_of(
     boot: Boot,
     journal: Vec<Entry<Op>>,

@@ -1,12 +1,12 @@
-//! A worked life, which the check computes.
+//! A worked life, which the checker computes.
 ghost use Rattle.flt_life.specs.Examples.{BlockHolds, FailuresHaveFaults, LifeLeaves, PlacesRise, StepsDo};
 
-/// What a life with a save that was acknowledged and one that failed leaves: one of the two generations, and none that is older.
+/// What a life with an acknowledged save and a failed one leaves: one of the two generations, and no older one.
 pub fn life_leaves()
     ensures { LifeLeaves }
 {}
 
-/// How many faults a save and a job that failed have behind them.
+/// How many faults are behind a save and a job that failed.
 pub fn failures_have_faults()
     ensures { FailuresHaveFaults }
 {}
@@ -16,7 +16,7 @@ pub fn places_rise()
     ensures { PlacesRise }
 {}
 
-/// What a block holds after two jobs, of which the second was not done as written.
+/// What a block holds after two jobs, of which the second did not finish as written.
 pub fn block_holds()
     ensures { BlockHolds }
 {}

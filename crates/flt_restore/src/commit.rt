@@ -16,8 +16,8 @@ pub struct CommitCopy {
 /// What a start-up finds in an image that holds a generation of the configuration.
 #[derive(Drop)]
 pub struct Restored {
-    /// The commit by which the image was judged; none in the first generation.
+    /// The commit by which the image was judged; `None` for the first generation.
     pub commit: Option<CommitCopy>,
-    /// Whether the mark has to be written: it is missing, or stands in version 1.
+    /// Whether the mark has to be written: it is missing, or in version 1.
     pub is_mark_due: bool,
 }

@@ -27,7 +27,7 @@ fn first_bytes(out: &[u8; 128], length: usize) -> BlockBytes
     bytes
 }
 
-/// What was got, whose bytes stand at the start of `out`.
+/// What was read, whose bytes are at the start of `out`.
 pub(crate) fn held_in(got: Got, out: &[u8; 128]) -> Held
     requires { IsShortRead got }
     ensures { (copy : ℕ) (content : Content) (before : List ℕ) → GotOf copy content got before out.now → content_of result ≡ content }

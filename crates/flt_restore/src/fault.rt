@@ -11,9 +11,9 @@ use flt_generation::{Mark, Place};
 pub enum StartFault {
     /// The device failed in three tries.
     Flash,
-    /// The image holds no generation: this place holds what nothing of this product writes, or what does not fit.
+    /// The image holds no generation: at this place is what nothing of this product writes, or what does not fit.
     Damaged(Place),
-    /// The image is another configuration's, whose mark was found.
+    /// The image belongs to another configuration, whose mark was found.
     OtherConfig { found: Mark, wanted: Mark },
     /// The last sequence number of the device is in use.
     SequenceSpent,

@@ -1,4 +1,4 @@
-//! What is judged of contents that were read.
+//! How contents that were read are judged.
 ghost use Rattle.std.specs.Prelude.{◌≡◌, ◌≤◌, ◌<◌, ℕ, ◌↔◌, IsTrue};
 ghost use Rattle.flt_flash.specs.Calls.{found_of};
 ghost use Rattle.flt_flash.specs.Content.{Content};
@@ -40,7 +40,7 @@ fn judge_own(config: &ValidConfig, read: Option<Mark>) -> Result<(), StartFault>
     }
 }
 
-/// The mark has to be the configuration's; it may be missing where the commit is.
+/// The mark has to be the configuration's; it may be missing if the commit is.
 #[tactic(auto, unfolding(flt_generation::specs::Holding::marked))]
 pub(crate) fn judge_mark(config: &ValidConfig, mark: &Held, commit: &Held) -> Result<(), StartFault>
     ensures { result ≡ as_told config.now (marked config.now (content_of mark.now) (content_of commit.now)) }
@@ -67,7 +67,7 @@ pub(crate) fn is_mark_due(config: &ValidConfig, mark: &Held) -> bool
     }
 }
 
-/// An application block has no more bytes than one may have, or was never written.
+/// An application block was never written, or has no more bytes than allowed.
 pub(crate) fn is_application(found: Found) -> bool
     ensures { (content : Content) → found ≡ found_of content → result ≡ is_application content }
 {

@@ -1,4 +1,4 @@
-//! What is judged of an image by the lengths of its records alone: the application blocks, and the excess. Nothing is read.
+//! What is judged of an image only by the lengths of its records: the application blocks, and the excess. Nothing is read.
 ghost use Rattle.std.specs.Prelude.{◌≡◌, ◌≤◌, ◌<◌, ◌+◌, ◌*◌, IsFalse};
 ghost use Rattle.flt_nvm.specs.Driver.{driver_of, table_of};
 ghost use Rattle.flt_nvm.specs.Table.{HasPlace};
@@ -37,7 +37,7 @@ fn judge_application<B: Blocks + Drop>(
     }
 }
 
-/// Judges the application blocks up to the first that is at fault.
+/// Judges the application blocks up to the first faulty one.
 pub(crate) fn judge_applications<B: Blocks + Drop>(
     nvm: &Nvm<B>,
     config: &ValidConfig,
@@ -117,7 +117,7 @@ fn excess<B: Blocks + Drop>(nvm: &Nvm<B>, config: &ValidConfig) -> u32
     mark + copies + parts + pages_beyond_of_applications(nvm, config)
 }
 
-/// The excess has to be borne by the pages that the configuration leaves.
+/// The excess must fit into the pages that the configuration leaves.
 #[tactic(auto, unfolding(flt_generation::specs::Holding::excess_judged))]
 pub(crate) fn judge_excess<B: Blocks + Drop>(
     nvm: &Nvm<B>,

@@ -16,7 +16,7 @@ use flt_generation::{Commit, END_PART, FIRST_PART};
 use flt_image::{LONGEST, StateBlocks, is_used};
 use flt_nvm::Nvm;
 
-// The bytes that a block of a state may have; none where there are none or more.
+// The bytes that a block of a state may have; empty if it has none or too many.
 fn part_in(held: &Held) -> &[u8]
     ensures bytes { result.now ≡ part_in (content_of held.now) }
     ensures short { length result.now ≤ LONGEST }
@@ -74,8 +74,8 @@ fn read_named_blocks<B: Blocks + Drop>(
     blocks
 }
 
-/// The bytes of the used blocks that a commit names. A block that can't be read in three tries is not known; where there is no commit,
-/// none is read.
+/// The bytes of the used blocks that a commit names. A block that can't be read in three tries is not known; without a commit
+/// no block is read.
 pub fn read_blocks<B: Blocks + Drop>(
     nvm: &mut Nvm<B>,
     config: &ValidConfig,

@@ -15,7 +15,7 @@ use flt_generation::{
 };
 use flt_image::{is_used, part_of};
 
-// The pages of a record of so many bytes.
+// The pages of a record of this many bytes.
 fn record_pages(length: usize) -> u32
     requires { length ≤ 128 }
     ensures { result ≡ record_pages length }
@@ -23,7 +23,7 @@ fn record_pages(length: usize) -> u32
     2 + length.div_ceil(32) as u32
 }
 
-/// The pages of the record that gives a block the content of which a read would find this.
+/// The pages of the record of a block, by what a read of the block would find.
 pub(crate) fn found_pages(found: Found) -> u32
     requires { size_found found ≤ 128 }
     ensures pages { (content : Content) → found ≡ found_of content → result ≡ pages_of content }
@@ -64,7 +64,7 @@ fn is_own_application(config: &ValidConfig, number: u16) -> bool
     index_of(number) == 0 && FIRST_APPLICATION <= id && id < end
 }
 
-/// The pages of the longest record that the configuration keeps under a number, 0 where it keeps none.
+/// The pages of the longest record that the configuration keeps under a number, or 0 if it keeps none.
 #[tactic(auto, unfolding(flt_generation::specs::Excess::own_pages))]
 pub(crate) fn own_pages(config: &ValidConfig, number: u16) -> u32
     ensures { result ≡ own_pages config.now number }

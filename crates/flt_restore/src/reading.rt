@@ -1,4 +1,4 @@
-//! Reads of a mounted driver, which fail only where the flash failed in three tries.
+//! Reads of a mounted driver, which fail only if the flash failed in three tries.
 ghost use Rattle.std.specs.Prelude.{◌≡◌, ◌-◌, ◌≤◌, ◌<◌, IfOk, OnOk, OnErr, IsTrue, IsFalse};
 ghost use Rattle.flt_flash.specs.State.{HasRisenBy};
 ghost use Rattle.flt_nvm.specs.Driver.{driver_of, table_of};
@@ -36,7 +36,7 @@ pub(crate) fn read_content<B: Blocks + Drop>(
     }
 }
 
-/// What counts as the commit, and the copy that it is of.
+/// What counts as the commit, and which copy it is.
 #[derive(Drop)]
 pub(crate) struct Source {
     pub held: Held,
@@ -66,8 +66,8 @@ fn read_source<B: Blocks + Drop>(nvm: &mut Nvm<B>, copy: u8) -> Result<Source, F
     }
 }
 
-/// Reads the copy of the commit that counts: copy 1 where it has bytes, else copy 2 where that has bytes, else copy 1. Where copy 1
-/// can't be read in three tries and copy 2 has bytes, that is read.
+/// Reads the copy of the commit that counts: copy 1 if it has bytes, else copy 2 if that has bytes, else copy 1. If copy 1
+/// can't be read in three tries and copy 2 has bytes, copy 2 is read.
 pub(crate) fn read_commit<B: Blocks + Drop>(nvm: &mut Nvm<B>) -> Result<Source, FlashFailed>
     requires table { table_of nvm.old ≡ block_table }
     requires mounted { IsTrue (driver_of nvm.old).has_mounted }

@@ -32,12 +32,12 @@ fn check_sequence<B: Blocks + Drop>(nvm: &Nvm<B>) -> Result<(), StartFault>
     }
 }
 
-/// Finds out what the image of a driver that is not stale holds: the commit by which it was judged, with its state in `out`, or none
-/// in the first generation; and whether its mark has to be written. It judges by copy 1 of the commit, or by copy 2 where copy 1 can't be read in three tries. Which sequence
-/// number the driver is at is no matter.
+/// Finds out what the image of a driver that is not stale holds: the commit by which it was judged, with its state in `out`, or
+/// `None` for the first generation; and whether its mark has to be written. It judges by copy 1 of the commit, or by copy 2 if copy 1
+/// can't be read in three tries. The driver's sequence number does not matter.
 ///
-/// It reads the mark, one copy of the commit and the blocks that it names, and goes by the lengths of all other records. Nothing is
-/// written. After an error `out` holds anything that fits its type.
+/// It reads the mark, one copy of the commit and the blocks that it names, and uses the lengths of all other records. It writes
+/// nothing. After an error `out` holds any value of its type.
 pub fn judge<B: Blocks + Drop>(
     nvm: &mut Nvm<B>,
     config: &ValidConfig,
@@ -69,8 +69,8 @@ pub fn judge<B: Blocks + Drop>(
     }
 }
 
-/// Finds out what the image of a driver that is not stale holds, as `judge` does, and that a sequence number is left for the records
-/// to come.
+/// Finds out what the image of a driver that is not stale holds, as `judge` does, and that a sequence number is left for the
+/// records to come.
 pub fn restore<B: Blocks + Drop>(
     nvm: &mut Nvm<B>,
     config: &ValidConfig,

@@ -1,13 +1,13 @@
 //! What the lock guards.
 ghost use Rattle.std.specs.Prelude.{◌≡◌, ◌++◌, ◌∷◌, [], List};
 
-/// What is said of a machine that takes one operation after another. Its answers are functions of what it began with, of the
-/// operations before and of the operation.
+/// What is specified of a machine that takes one operation after another. Its answers are functions of its start, the
+/// operations before and the operation.
 ///
-/// These meanings bound the types of the lock. The step itself is in [`Step`], so that a machine may call stored functions: no
+/// These members bound the types of the lock. The step itself is in [`Step`], so that a machine may call stored functions: no
 /// type can keep a fact about a machine whose bound mentions a function pointer.
 pub trait Machine {
-    /// What a machine begins with: plain data, which no step changes.
+    /// What a machine starts from: plain data, which no step changes.
     type Start;
 
     /// An operation.
@@ -19,29 +19,29 @@ pub trait Machine {
     /// A buffer of the caller's, which a step may write.
     type Out;
 
-    // Some start. It stands in the views of seats that were joined, which no clause reads.
+    // Some start. It is in the views of seats that were joined, and no clause reads it.
     ghost some_start: { Self.Start };
-    // What the machine began with.
+    // The start of the machine.
     ghost start: { Self → Self.Start };
     // The operations that may be asked of a machine with this start.
     ghost admits: { Self.Start → Self.Op → Type 0 };
-    // The machine is as after these operations from this start.
+    // The machine is in the state that these operations from this start lead to.
     ghost stands_for: { Self → Self.Start → List Self.Op → Type 0 };
-    // The answer to one operation more.
+    // The answer to one more operation.
     ghost answer: { Self.Start → List Self.Op → Self.Op → Self.Reply };
-    // What that operation makes of the caller's buffer.
+    // What that operation leaves in the caller's buffer.
     ghost written: { Self.Start → List Self.Op → Self.Op → Self.Out → Self.Out };
 }
 
-/// A machine that makes its steps with a context, which the caller lends. The functions that a machine calls stand there: they are
-/// read by all callers at once, and lie beside the lock.
+/// A machine that makes its steps with a context, which the caller lends. The context has the functions that the machine calls:
+/// all callers read them at the same time, so they are kept outside the lock.
 pub trait Step: Machine {
     type Context;
 
     // The context has what a machine with this start needs.
     ghost serves: { Self.Context → Self.Start → Type 0 };
 
-    /// Takes one operation. The start stays as it was.
+    /// Takes one operation. The start does not change.
     fn step(&mut self, context: &Self::Context, op: &Self::Op, out: &mut Self::Out) -> Self::Reply
         requires serves { serves context.now (Self.start self.old) }
         requires admitted { Self.admits (Self.start self.old) op.now }
@@ -53,19 +53,19 @@ pub trait Step: Machine {
             → out.new ≡ Self.written (Self.start self.old) ops op.now out.old };
 }
 
-/// A machine that makes its steps without its buffer too, for callers that want nothing written. What such a step returns is small,
-/// so that it is moved at little cost: the kind of the reply. The rest of the reply is written where the caller wants it.
+/// A machine that can also make its steps without its buffer, for callers that want nothing written. Such a step returns only the
+/// kind of the reply, which is small and cheap to move. The rest of the reply is written where the caller wants it.
 pub trait StepInto: Step {
     /// The small part of a reply.
     type Kind: Drop;
 
-    /// Where the rest of it is written.
+    /// The type of the rest, which is written elsewhere.
     type Payload;
 
-    // The reply that the two make.
+    // The whole reply, made of the two.
     ghost reply_with: { Self.Kind → Self.Payload → Self.Reply };
 
-    /// Takes one operation as [`Step::step`] does, but writes of its reply alone.
+    /// Takes one operation as [`Step::step`] does, but writes only the rest of its reply.
     fn step_into(
         &mut self,
         context: &Self::Context,

@@ -11,7 +11,7 @@ use atomic_table::{Join, Play, Split, TableRule};
 use std::marker::{Brand, PhantomData};
 use std::snapshot::Snapshot;
 
-/// The machine as it was handed in, and how many calls may be made.
+/// The machine as it was passed in, and how many calls may be made.
 pub struct Terms<M> {
     pub machine: Snapshot<M>,
     pub room: u32,
@@ -44,7 +44,7 @@ impl<M: Machine> Play<Option<Vault<M>>, View<M::Start, M::Op>> for Draw {
     ghost then = { draws };
 }
 
-/// Looks which ticket is served, and takes the vault where it is the seat's.
+/// Looks which ticket is served, and takes the vault if it is the seat's.
 pub struct Look<M> {
     machine: PhantomData<M>,
 }
@@ -60,7 +60,7 @@ impl<M: Machine> Play<Option<Vault<M>>, View<M::Start, M::Op>> for Serve {
     ghost then = { serves_next };
 }
 
-/// How many calls a new seat gets. Each `cut` picks it.
+/// The number of calls that a new seat gets. Each `cut` chooses it.
 pub trait Share {
     ghost calls: { ℕ };
 }

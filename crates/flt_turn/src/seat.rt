@@ -6,9 +6,9 @@ use crate::vault::Vault;
 use crate::view::View;
 use std::marker::Model;
 
-/// Makes the calls of one lane, as many as are left to it. Contracts see it as what it knows of its lock.
+/// Makes the calls of one lane, as many as it has left. Contracts see it as what it knows of its lock.
 ///
-/// A seat may go to any thread. One that is dropped and not joined takes its calls with it, and its lock can be closed no more.
+/// A seat may move to any thread. If it is dropped instead of joined, its calls are lost, and its lock can no longer be closed.
 #[derive(Drop)]
 pub struct Seat<M: Machine> {
     pub(crate) number: u32,
@@ -36,21 +36,21 @@ impl<M: Machine> Seat<M> {
         self.number
     }
 
-    /// How many calls it may still make.
+    /// The number of calls that it may still make.
     pub fn left(&self) -> u32
         ensures { result ≡ self.now.left }
     {
         self.left
     }
 
-    /// How many seats were split from it.
+    /// The number of seats that were split from it.
     pub fn children(&self) -> u32
         ensures { result ≡ self.now.children }
     {
         self.children
     }
 
-    /// How many of these were not joined yet. The lock can be closed where it is 0.
+    /// The number of these that were not joined yet. The lock can be closed if it is 0.
     pub fn waiting(&self) -> u32
         ensures { result + length self.now.ended ≡ self.now.children }
     {

@@ -54,10 +54,10 @@ impl<M: Machine> Model for Turn<M> {
 }
 
 impl<M: Machine> Turn<M> {
-    /// A lock over a machine that took no operation yet, and its main seat, to which all calls are left. `room` is how many calls
-    /// the lock takes in all: their entries in the journal are reserved here, and no later call takes memory.
+    /// A lock over a machine that took no operation yet, and its main seat, which has all calls. `room` is the number of calls
+    /// that the lock takes in all: their entries in the journal are reserved here, and no later call allocates memory.
     ///
-    /// `MachineBack` means that there was no memory.
+    /// `MachineBack` means that there was not enough memory.
     pub fn make(alloc: Global, machine: M, room: u32) -> Result<(Turn<M>, Seat<M>), MachineBack<M>>
         requires { M.stands_for machine (M.start machine) [] }
         ensures ok { IfOk result (λ made. made.1 ≡ main_seat made.0 (M.start machine) room) }
@@ -98,11 +98,11 @@ impl<M: Machine> Turn<M> {
         }
     }
 
-    /// Makes a call when its turn comes: after all calls that drew their tickets before, and before all later ones. It takes no
+    /// Makes a call when its turn comes: after all calls that drew their tickets before, and before all later ones. It allocates no
     /// memory.
     ///
-    /// The reply is the machine's answer after the operations that stand in the journal before the call's place. `HistoryFull`
-    /// comes exactly where no call is left to the seat; then nothing was changed, and the operation comes back.
+    /// The reply is the machine's answer after the operations before the call's place in the journal. `HistoryFull` is returned if
+    /// and only if the seat has no call left; then nothing was changed, and the operation is given back.
     pub fn call<R: Wait>(
         &self,
         rt: &R,
@@ -135,7 +135,7 @@ impl<M: Machine> Turn<M> {
     }
 
     /// Makes a call as `call` does, without the machine's buffer: what the operation would write is not written. The answer is small:
-    /// it has the kind of the reply alone, and the rest of the reply is in `payload`.
+    /// it has only the kind of the reply, and the rest of the reply is in `payload`.
     #[inline(always)]
     pub fn call_into<R: Wait>(
         &self,
@@ -196,7 +196,7 @@ impl<M: Machine> Turn<M> {
         unreachable!()
     }
 
-    // Puts the vault back, with one call more in its journal, and passes the turn on.
+    // Puts the vault back, with one more call in its journal, and passes the turn on.
     #[inline(always)]
     fn end_turn(&self, token: &mut Token<M>, vault: Vault<M>)
         requires lock { token.old.table_id ≡ self.now }
@@ -212,7 +212,7 @@ impl<M: Machine> Turn<M> {
         shared.fetch_add::<Serve>(token, SERVED, 1);
     }
 
-    // Wakes those who sleep until a ticket after this place is served, where there may be one.
+    // Wakes those who sleep until a ticket after this place is served, if there may be one.
     fn wake_after(&self, place: u32) {
         let shared = &self.table.shared;
         if shared.peek(NEXT) > u64::from(place) + 1 {
@@ -220,7 +220,7 @@ impl<M: Machine> Turn<M> {
         }
     }
 
-    /// Splits a seat from the main seat, with this many of its calls. The new seat knows what the main seat knows, and may go to
+    /// Splits a seat from the main seat, with this many of its calls. The new seat knows what the main seat knows, and may move to
     /// another thread.
     pub fn split(&self, main: &mut Seat<M>, calls: u32) -> Seat<M>
         requires lock { IsSeatOf self.now main.old }
@@ -254,7 +254,7 @@ impl<M: Machine> Turn<M> {
         self.table.shared.split_seat::<Cut<J>>(token)
     }
 
-    /// Takes a seat back into the main seat, with the calls that are left to it and all that it knows.
+    /// Takes a seat back into the main seat, with the calls that it has left and all that it knows.
     pub fn join(&self, main: &mut Seat<M>, other: Seat<M>)
         requires lock { IsSeatOf self.now main.old × IsSeatOf self.now other }
         requires main { main.old.number ≡ 0 }
@@ -274,7 +274,7 @@ impl<M: Machine> Turn<M> {
         main.waiting -= 1;
     }
 
-    /// Ends the lock, once each seat that was split from the main seat was joined: `waiting` is 0. The vault comes back with the
+    /// Ends the lock, once each seat that was split from the main seat was joined: `waiting` is 0. It gives back the vault with the
     /// whole journal, which has the calls of all seats and no others.
     pub fn close(self, main: Seat<M>) -> Vault<M>
         requires lock { IsSeatOf self main }

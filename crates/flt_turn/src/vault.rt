@@ -1,4 +1,4 @@
-//! What lies under the lock: the machine, beside the journal of its operations.
+//! What is under the lock: the machine with the journal of its operations.
 ghost use Rattle.std.specs.Prelude.{◌≡◌, ◌++◌, ◌∷◌, [], ◌<◌, List, length};
 ghost use Rattle.std.specs.Vec.{vec_capacity};
 ghost use Rattle.flt_turn.specs.Journal.{entry, ops_of};
@@ -22,7 +22,7 @@ pub struct Vault<M: Machine> {
 }
 
 impl<M: Machine> Vault<M> {
-    // Makes the machine's step, and writes it down in room that the journal has.
+    // Makes the machine's step, and records it in room that the journal has reserved.
     pub(crate) fn apply(
         &mut self,
         context: &M::Context,
@@ -46,7 +46,7 @@ impl<M: Machine> Vault<M> {
         reply
     }
 
-    // The same without the machine's buffer: the rest of the reply is written, and nothing else.
+    // The same without the machine's buffer: only the rest of the reply is written.
     #[inline(always)]
     pub(crate) fn apply_into(
         &mut self,
