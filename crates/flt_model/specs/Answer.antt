@@ -1,4 +1,4 @@
--- What is answered to a call (this profile; responses as ISO 14229-1).
+-- The answer to a call (this profile; responses as ISO 14229-1).
 use Rattle.std.specs.Prelude.{ℕ, Bool, true, false, if◌then◌else◌, ◌==◌, List, [], ◌∷◌, map, Option, Some, None, option_map, unwrap_or}
 use Rattle.flt_config.specs.declared.persist.Persist.{Persist}
 use Rattle.flt_config.specs.declared.persist.EntryState.{EntryState}
@@ -20,7 +20,7 @@ use Rattle.flt_model.specs.declared.call.Cause.{Cause}
 
 -- ---- what is seen of the events
 
--- The entry of an event, where it has one.
+-- The entry of an event, if it has one.
 abbrev pub entry_where : Life → ℕ → Trace → Bool → Option EntryState
 entry_where life event marks true = Some (entry_of life event marks)
 entry_where life event marks false = None
@@ -63,7 +63,7 @@ shown event overflow = record {
 
 -- ---- the answer
 
--- A report is ignored for a cause, and else taken.
+-- A report is ignored for a cause, or else taken.
 abbrev pub report_reply : Option Cause → Reply
 report_reply None = replies.Taken
 report_reply (Some cause) = replies.Ignored cause
@@ -72,14 +72,14 @@ report_reply (Some cause) = replies.Ignored cause
 abbrev pub answer_report : Readiness → Reply
 answer_report seen = report_reply (cause_of seen)
 
--- The answer to a call, in view of what the life began with and the calls before it.
+-- The answer to a call, given what the life began with and the calls before it.
 abbrev pub answer : Life → History → Op → Reply
 answer life past (ops.Report event report) = answer_report (readiness life event past)
 answer life past (ops.Show event) = replies.Shown (shown (event_view life past (trace life past) event) (overflow life (trace life past)))
 answer life past (ops.Request tester bytes) = response (view life past (trace life past)) (is_extended tester past) bytes.items
 answer life past _ = replies.Taken
 
--- The answers to calls in their order, each in view of those before it.
+-- The answers to calls in their order, each given those before it.
 abbrev pub answers : Life → History → List Op → List Reply
 answers life past [] = []
 answers life past (op ∷ calls) = answer life past op ∷ answers life (op ∷ past) calls

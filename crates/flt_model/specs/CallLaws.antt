@@ -37,12 +37,12 @@ ClearIsAboutItsEvent = (life : Life) (past : History) (op : Op) (event : ℕ) �
 abbrev pub IsLeftAlone : Past → Past → Type 0
 IsLeftAlone old new = (new ≡ old) ⊎ (new ≡ Displaced ∷ old)
 
--- A call about one event leaves every other event alone, but for one that is displaced.
+-- A call about one event does not change any other event, except one that is displaced.
 abbrev pub OthersAreLeftAlone : Type 0
 OthersAreLeftAlone = (life : Life) (past : History) (op : Op) (event other : ℕ) → IsAboutEvent life past op event → other ≢ event →
     IsLeftAlone (marks_of other (trace life past)) (marks_of other (trace life (op ∷ past)))
 
--- A displacement takes confirmedDTC and warningIndicatorRequested back, and leaves the other bits.
+-- A displacement clears confirmedDTC and warningIndicatorRequested, and does not change the other bits.
 abbrev pub DisplacementLeavesOtherBits : Type 0
 DisplacementLeavesOtherBits = (base : EventState) (event : EventCfg) (past : Past) →
     status base event (Displaced ∷ past) ≡ record (status base event past) { confirmed = false; indicator_requested = false }

@@ -10,7 +10,7 @@ use Rattle.flt_model.specs.declared.call.Reply.TheVariants.{Response, Silent}
 
 -- ---- the conditions
 
--- The service is none of this profile's.
+-- The service is not one of this profile.
 abbrev pub is_unknown_service : List ℕ → Bool
 is_unknown_service bytes = not (service_of bytes == 0x14) && not (has_sub_functions (service_of bytes))
 
@@ -22,7 +22,7 @@ is_not_in_session extended bytes = (service_of bytes == 0x85) && not extended
 abbrev pub is_without_sub_function : List ℕ → Bool
 is_without_sub_function bytes = has_sub_functions (service_of bytes) && (length bytes == 1)
 
--- What stands behind the sub-function, which is the second byte without its bit 7.
+-- What follows the sub-function, which is the second byte without its bit 7.
 abbrev pub form_asked : List ℕ → Option Form
 form_asked (service ∷ sub ∷ rest) = form_of service (sub % 128)
 form_asked _ = None
@@ -44,24 +44,24 @@ abbrev pub has_wrong_length : List ℕ → Bool
 has_wrong_length bytes =
     not (list_any (λ n. n == length bytes) (if service_of bytes == 0x14 then 4 ∷ [] else lengths_of (form_asked bytes)))
 
--- A DTC is none of the events'.
+-- No event has the DTC.
 abbrev pub is_unknown_dtc : View → ℕ → Bool
 is_unknown_dtc view dtc = is_none (find (is_of_dtc dtc) view.events)
 
--- What is behind the service of a clear: a DTC that is neither known nor the group of all.
+-- After the service of a clear: a DTC that is neither known nor the group of all.
 abbrev pub clears_unknown : View → List ℕ → Bool
 clears_unknown view (high ∷ middle ∷ low ∷ rest) =
     not (dtc_of high middle low == all_dtcs) && is_unknown_dtc view (dtc_of high middle low)
 clears_unknown view _ = false
 
--- What is behind a sub-function: an unknown DTC or record number, or other option bytes than FF FF FF.
+-- After a sub-function: an unknown DTC or record number, or option bytes other than FF FF FF.
 abbrev pub names_unknown : View → Option Form → List ℕ → Bool
 names_unknown view (Some (Recorded request)) (high ∷ middle ∷ low ∷ number ∷ rest) =
     not (is_record_number number) || is_unknown_dtc view (dtc_of high middle low)
 names_unknown view (Some (Optioned request)) (a ∷ b ∷ c ∷ rest) = not ((a == 0xFF) && (b == 0xFF) && (c == 0xFF))
 names_unknown view _ _ = false
 
--- What the request names is not there.
+-- What the request names does not exist.
 abbrev pub has_wrong_contents : View → List ℕ → Bool
 has_wrong_contents view (service ∷ sub ∷ rest) =
     if service == 0x14 then clears_unknown view (sub ∷ rest) else names_unknown view (form_of service (sub % 128)) rest
@@ -98,7 +98,7 @@ IsPositive service Silent = Unit {0}
 IsPositive service (Response bytes) = slice_get bytes.items 0 ≡ Some (service + 0x40)
 IsPositive service _ = ⊥
 
--- A request is refused with a code exactly where its condition holds and no earlier one does, and else answered.
+-- A request is refused with a code if and only if its condition holds and no earlier one does, and is otherwise answered.
 abbrev pub CodesComeInOrder : Type 0
 CodesComeInOrder = (view : View) (extended : Bool) (service : ℕ) (rest : List ℕ) →
     MatchOption (first_code (conditions view extended (service ∷ rest)))
@@ -109,7 +109,7 @@ CodesComeInOrder = (view : View) (extended : Bool) (service : ℕ) (rest : List 
 abbrev pub IsAccepted : View → Bool → List ℕ → Type 0
 IsAccepted view extended bytes = first_code (conditions view extended bytes) ≡ None
 
--- A response is suppressed exactly where it is positive and bit 7 of the sub-function is set; a clear has no sub-function.
+-- A response is suppressed if and only if it is positive and bit 7 of the sub-function is set; a clear has no sub-function.
 abbrev pub SilentWhereAsked : Type 0
 SilentWhereAsked = (view : View) (extended : Bool) (service second : ℕ) (rest : List ℕ) → second < 256 →
     (response view extended (service ∷ second ∷ rest) ≡ Silent)

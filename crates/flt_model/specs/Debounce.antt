@@ -1,4 +1,4 @@
--- What the reports, ticks and rests of an event come to (AUTOSAR Dem, debouncing by counter and by time).
+-- The effect of the reports, ticks and rests of an event (AUTOSAR Dem, debouncing by counter and by time).
 use Rattle.std.specs.Prelude.{ℕ, ◌+◌, ◌*◌, ◌/◌, unsigned_abs, int_lt, ◌<◌, nat_le, ℤ, pos, neg_ℤ, ◌+ℤ◌, ◌-ℤ◌, ◌≤ℤ◌, Bool, true, false, ◌||◌, if◌then◌else◌, List, [], ◌∷◌, Option, Some, None, not, ◌&&◌}
 use Rattle.std.specs.Int.{int_min, int_max}
 use Rattle.std.specs.Ordering.{int_eq}
@@ -17,23 +17,23 @@ pub data Happening : Type 0 where
   Reported : Report → Happening
   -- Ticks of time with the setting on.
   Ticked : ℕ → Happening
-  -- The end of its cycle, at which its debouncing rests.
+  -- The end of its cycle, which puts its debouncing at rest.
   Ended : Happening
-  -- A clear that reaches it, at which its debouncing rests.
+  -- A clear that reaches it, which puts its debouncing at rest.
   Cleared : Happening
 
--- What happened to an event, the newest first.
+-- What happened to an event, newest first.
 abbrev pub Happenings : Type 0
 Happenings = List Happening
 
 -- ---- by a counter
 
--- The value that a jump lifts to, where it is above.
+-- The value to which a jump raises a lower one.
 abbrev pub lifted : Option ℤ → ℤ → ℤ
 lifted None value = value
 lifted (Some jump) value = int_max value jump
 
--- The value that a jump lowers to, where it is below.
+-- The value to which a jump lowers a higher one.
 abbrev pub lowered : Option ℤ → ℤ → ℤ
 lowered None value = value
 lowered (Some jump) value = int_min value jump
@@ -78,19 +78,19 @@ last_direction (Cleared ∷ past) = None
 last_direction (Ticked ticks ∷ past) = last_direction past
 last_direction (Reported report ∷ past) = Some (direction report)
 
--- What happened goes on with a run of this direction: a report of it, or time.
+-- What happened continues a run of this direction: a report in it, or time.
 abbrev pub is_of : Qualified → Happening → Bool
 is_of way (Reported report) = is_same way (direction report)
 is_of way (Ticked ticks) = true
 is_of way Ended = false
 is_of way Cleared = false
 
--- What happened, where the newest goes on with them.
+-- What happened, if the newest continues them.
 abbrev pub joined : Bool → Happening → Happenings → Happenings
 joined true happening happenings = happening ∷ happenings
 joined false happening happenings = []
 
--- What happened back to the last rest or report of the other direction.
+-- What happened back to the last rest or report in the other direction.
 abbrev pub run : Qualified → Happenings → Happenings
 run way [] = []
 run way (happening ∷ past) = joined (is_of way happening) happening (run way past)
@@ -122,7 +122,7 @@ elapsed (Reported report ∷ past) = elapsed past
 elapsed (Ended ∷ past) = elapsed past
 elapsed (Cleared ∷ past) = elapsed past
 
--- These come to a threshold: by a report that needs no debouncing, or by time.
+-- These reach a threshold: by a report that needs no debouncing, or by time.
 abbrev pub is_at_threshold : ℕ → Happenings → Bool
 is_at_threshold threshold happenings = has_definite happenings || nat_le threshold (elapsed happenings)
 
@@ -131,11 +131,11 @@ abbrev pub threshold : ℕ → ℕ → Qualified → ℕ
 threshold fail pass Failed = fail
 threshold fail pass Passed = pass
 
--- The last run of this direction has come to its threshold.
+-- The last run of this direction has reached its threshold.
 abbrev pub is_reached : ℕ → ℕ → Qualified → Happenings → Bool
 is_reached fail pass way happenings = is_at_threshold (threshold fail pass way) (run way happenings)
 
--- A run of this direction that has come to its threshold.
+-- A run of this direction that has reached its threshold.
 abbrev pub reached : Qualified → DebState
 reached Failed = AtFailed
 reached Passed = AtPassed
@@ -145,19 +145,19 @@ abbrev pub running : Qualified → ℕ → DebState
 running Failed ticks = Failing ticks
 running Passed ticks = Passing ticks
 
--- How far a timer is, where the last report had this direction.
+-- The state of a timer, if the last report had this direction.
 abbrev pub timed : ℕ → ℕ → Happenings → Option Qualified → DebState
 timed fail pass happenings None = Idle
 timed fail pass happenings (Some way) = if is_reached fail pass way happenings then reached way else running way (elapsed (run way happenings))
 
 -- ---- the whole
 
--- How far the debouncing is after what happened.
+-- The state of the debouncing after what happened.
 abbrev pub debounced : Debounce → Happenings → DebState
 debounced (Counter fail_at pass_at up down jump_up jump_down) happenings = Count (counter (Counter fail_at pass_at up down jump_up jump_down) happenings)
 debounced (Time fail pass) happenings = timed fail pass happenings (last_direction happenings)
 
--- What a counter qualifies that a report leaves at a threshold.
+-- What a report qualifies that leaves a counter at a threshold.
 abbrev pub qualified_at : ℤ → ℤ → ℤ → Option Qualified
 qualified_at fail_at pass_at value =
     if int_eq value fail_at then Some Failed else (if int_eq value pass_at then Some Passed else None)
@@ -168,7 +168,7 @@ qualified_by_tick fail pass ticks past None = None
 qualified_by_tick fail pass ticks past (Some way) =
     if not (is_reached fail pass way past) && is_reached fail pass way (Ticked ticks ∷ past) then Some way else None
 
--- What a happening qualifies, in view of what happened before it.
+-- What a happening qualifies, given what happened before it.
 abbrev pub qualified : Debounce → Happenings → Happening → Option Qualified
 qualified (Counter fail_at pass_at up down jump_up jump_down) past (Reported report) =
     qualified_at fail_at pass_at (counter (Counter fail_at pass_at up down jump_up jump_down) (Reported report ∷ past))

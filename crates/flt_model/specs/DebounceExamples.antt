@@ -26,7 +26,7 @@ CounterWithJump =
     ∷ Show 0 ⇒ shows 0x2F (pos 101) 1 0 1 false
     ∷ [])
 
--- A counter jumps down before it steps down, and does not jump where it is below already.
+-- A counter jumps down before it steps down, and does not jump if it is below already.
 abbrev pub CounterJumpsDown : Type 0
 CounterJumpsDown =
     Replays (fresh (configured 16 (record (event 0x000001) { debounce = kinds.Counter (pos 10) (negsuc 9) (pos 3) (pos 2) None (Some (pos 0)) } ∷ [])))
@@ -68,7 +68,7 @@ TimerQualifiesOnce =
     ∷ Show 0 ⇒ shows 0x2F (pos 127) 1 0 1 false
     ∷ [])
 
--- A timer that came to its threshold, or beyond, does not qualify again: the event that was displaced stays unconfirmed.
+-- A timer that reached its threshold, or went beyond, does not qualify again: the event that was displaced stays unconfirmed.
 abbrev pub TimerAtItsThreshold : Type 0
 TimerAtItsThreshold =
     Replays (fresh (configured 1 (record (event 0x000001) { priority = 5; debounce = kinds.Time 10 5 } ∷ event 0x000002 ∷ [])))
@@ -114,7 +114,7 @@ RestStopsTimers =
     ∷ Show 0 ⇒ shows 0x50 (pos 0) 0 0 0 false
     ∷ [])
 
--- A report of the other direction starts a timer anew.
+-- A report in the other direction restarts a timer.
 abbrev pub TimerTurnsBack : Type 0
 TimerTurnsBack =
     Replays (fresh (configured 16 (record (event 0x000001) { debounce = kinds.Time 10 5 } ∷ [])))
@@ -130,7 +130,7 @@ TimerTurnsBack =
     ∷ Show 0 ⇒ shows 0x00 (minus 128) 0 0 0 false
     ∷ [])
 
--- A timer stands still while the setting is off.
+-- A timer does not run while the setting is off.
 abbrev pub SettingOffStopsTimers : Type 0
 SettingOffStopsTimers =
     Replays (fresh (configured 16 (record (event 0x000001) { debounce = kinds.Time 10 5 } ∷ [])))
@@ -146,7 +146,7 @@ SettingOffStopsTimers =
     ∷ Show 0 ⇒ shows 0x2F (pos 127) 1 0 1 false
     ∷ [])
 
--- Ticks that begin with the setting off do not count, even where they end the session that holds it off.
+-- Ticks that begin with the setting off do not count, even if they end the session that holds it off.
 abbrev pub SilentTicksDoNotCount : Type 0
 SilentTicksDoNotCount =
     Replays (fresh (configured 16 (record (event 0x000001) { debounce = kinds.Time 10 5 } ∷ [])))
@@ -162,7 +162,7 @@ SilentTicksDoNotCount =
     ∷ Show 0 ⇒ shows 0x2F (pos 127) 1 0 1 false
     ∷ [])
 
--- A timer stands still while a condition that its event needs is not fulfilled, and then goes on where it stood.
+-- A timer does not run while a condition that its event needs is not fulfilled, and then continues from the same state.
 abbrev pub DisabledTimerStandsStill : Type 0
 DisabledTimerStandsStill =
     Replays (fresh (configured 16 (record (event 0x000001) { debounce = kinds.Time 10 5; needs = 4 } ∷ [])))
@@ -177,7 +177,7 @@ DisabledTimerStandsStill =
     ∷ Show 0 ⇒ shows 0x2F (pos 127) 1 0 1 false
     ∷ [])
 
--- A report that leaves a counter or a timer at its threshold qualifies each time: an event that was displaced is confirmed anew, and
+-- A report that leaves a counter or a timer at its threshold qualifies each time: an event that was displaced is confirmed again, but
 -- gets no entry, since its testFailed did not change.
 abbrev pub RepeatedFailureQualifies : Type 0
 RepeatedFailureQualifies =

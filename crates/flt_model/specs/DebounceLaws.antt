@@ -29,12 +29,12 @@ pub record TellsThresholds (rules : Debounce) (state : DebState) : Type 0 where
 abbrev pub DetectionCounterTellsThresholds : Type 0
 DetectionCounterTellsThresholds = (rules : Debounce) (state : DebState) → IsDebounceInRange rules → IsOfKind rules state → TellsThresholds rules state
 
--- A run of this direction was broken off among these: by a rest, or by a report of the other direction.
+-- A run of this direction was interrupted among these: by a rest, or by a report in the other direction.
 abbrev pub is_broken_off : Qualified → Happenings → Bool
 is_broken_off way [] = false
 is_broken_off way (happening ∷ past) = not (is_of way happening) || is_broken_off way past
 
--- Between two results that ticks qualify there is a rest, or a report of the other direction than the first result's.
+-- Between two results that ticks qualify there is a rest, or a report in the other direction than the first result's.
 abbrev pub TicksQualifyOnce : Type 0
 TicksQualifyOnce = (rules : Debounce) (before between : Happenings) (ticks later : ℕ) (first second : Qualified) →
     qualified rules before (Ticked ticks) ≡ Some first → qualified rules (between ++ Ticked ticks ∷ before) (Ticked later) ≡ Some second →

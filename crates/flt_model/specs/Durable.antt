@@ -1,4 +1,4 @@
--- The state that outlives a power cut, as the base and the calls since decide it (this profile).
+-- The state that survives a power cut, as the base and the calls since decide it (this profile).
 use Rattle.std.specs.Prelude.{ℕ, zero, suc, List, [], ◌∷◌, ◌++◌, map}
 use Rattle.flt_config.specs.declared.persist.Persist.{Persist}
 use Rattle.flt_config.specs.declared.persist.EventState.{EventState}

@@ -29,7 +29,7 @@ CausesComeInOrder = (life : Life) (event : ℕ) (past : History) (report : Repor
 
 -- ---- a disabled event
 
--- While an event is disabled, reports and ticks are nothing to it.
+-- While an event is disabled, reports and ticks have no effect on it.
 pub record IsLeftByReportsAndTicks (life : Life) (event : ℕ) (past : History) : Type 0 where
   pub reports : (other : ℕ) (report : Report) → happening_of life event past (ops.Report other report) ≡ None
   pub ticks : (ticks : ℕ) → happening_of life event past (ops.Tick ticks) ≡ None
@@ -37,7 +37,7 @@ pub record IsLeftByReportsAndTicks (life : Life) (event : ℕ) (past : History) 
 abbrev pub DisabledEventsAreLeft : Type 0
 DisabledEventsAreLeft = (life : Life) (event : ℕ) (past : History) → is_enabled life event past ≡ false → IsLeftByReportsAndTicks life event past
 
--- The event is disabled while these calls come, the newest first: each is a report, ticks, or a call on a condition.
+-- The event is disabled during these calls, newest first: each is a report, ticks, or a call on a condition.
 abbrev pub IsDisabledThrough : Life → ℕ → History → History → Type 0
 IsDisabledThrough life event past [] = Unit {0}
 IsDisabledThrough life event past (ops.Enable condition fulfilled ∷ between) = IsDisabledThrough life event past between
@@ -45,7 +45,7 @@ IsDisabledThrough life event past (ops.Report other report ∷ between) = (is_en
 IsDisabledThrough life event past (ops.Tick ticks ∷ between) = (is_enabled life event (between ++ past) ≡ false) × IsDisabledThrough life event past between
 IsDisabledThrough life event past (_ ∷ between) = ⊥
 
--- Such calls leave what happened to it, so that its debouncing goes on where it stood.
+-- Such calls do not add to what happened to it, so its debouncing continues from the same state.
 abbrev pub DisabledEventsGoOnWhereTheyStood : Type 0
 DisabledEventsGoOnWhereTheyStood = (life : Life) (event : ℕ) (past between : History) → IsDisabledThrough life event past between →
     happenings life event (between ++ past) ≡ happenings life event past
@@ -56,7 +56,7 @@ DisabledEventsGoOnWhereTheyStood = (life : Life) (event : ℕ) (past between : H
 abbrev pub EventsWithoutNeedsAreEnabled : Type 0
 EventsWithoutNeedsAreEnabled = (life : Life) (event : ℕ) (past : History) → (event_of life event).needs ≡ 0 → is_enabled life event past ≡ true
 
--- There is no call on a condition.
+-- No call is on a condition.
 abbrev pub HasNoEnable : History → Type 0
 HasNoEnable [] = Unit {0}
 HasNoEnable (ops.Enable condition fulfilled ∷ past) = ⊥
@@ -70,7 +70,7 @@ EventsAreEnabledAtFirst = (life : Life) (event : ℕ) (past : History) → HasNo
 abbrev pub NeedsNothing : Life → Type 0
 NeedsNothing life = (event : ℕ) → (event_of life event).needs ≡ 0
 
--- The calls but for those on conditions.
+-- The calls other than those on conditions.
 abbrev pub without_conditions : History → History
 without_conditions [] = []
 without_conditions (ops.Enable condition fulfilled ∷ past) = without_conditions past
@@ -81,6 +81,6 @@ pub record IsAsWithoutConditions (life : Life) (past : History) : Type 0 where
   pub answers : (op : Op) → answer life past op ≡ answer life (without_conditions past) op
   pub state : saved_after life past ≡ saved_after life (without_conditions past)
 
--- So it is where no event needs a condition.
+-- This holds if no event needs a condition.
 abbrev pub ConditionsThatNobodyNeeds : Type 0
 ConditionsThatNobodyNeeds = (life : Life) (past : History) → NeedsNothing life → IsAsWithoutConditions life past

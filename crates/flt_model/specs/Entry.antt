@@ -17,7 +17,7 @@ use Rattle.flt_model.specs.Frame.{frame_bytes}
 abbrev pub base_entry : Life → ℕ → Option EntryState
 base_entry life event = find (is_of_event event) life.base.entries.items
 
--- Added gives an entry, and Aged, Displaced and Clear take it away.
+-- Added gives an entry, and Aged, Displaced and Clear remove it.
 abbrev pub entry_row : Row
 entry_row past Added = Some true
 entry_row past Aged = Some false
@@ -39,7 +39,7 @@ is_other event other = not (other == event)
 abbrev pub is_among : ℕ → List ℕ → Bool
 is_among event events = list_any (λ other. other == event) events
 
--- An event that is added comes last, and one that is removed leaves.
+-- An event that is added becomes the last, and one that is removed leaves the list.
 abbrev pub holders_after : Mark → ℕ → List ℕ → List ℕ
 holders_after Added event events = events ++ event ∷ []
 holders_after Aged event events = filter (is_other event) events
@@ -80,20 +80,20 @@ abbrev pub worst : (ℕ → Rank) → List ℕ → Option ℕ
 worst rank [] = None
 worst rank (event ∷ events) = Some (worse_of rank event (worst rank events))
 
--- An entry gives way to an event of a smaller number, and of an equal one where it is passive.
+-- An entry gives way to an event of a smaller number, and to one of an equal number if it is passive.
 abbrev pub gives_way : Rank → ℕ → Bool
 gives_way worst priority = nat_lt priority worst.priority || ((worst.priority == priority) && worst.passive)
 
 -- ---- the overflow flag
 
--- Displaced and Refused tell that the memory was full, and a clear of all takes that back.
+-- Displaced and Refused say that the memory was full, and a clear of all resets that.
 abbrev pub overflow_row : Trace → Traced → Option Bool
 overflow_row trace (Of event Displaced signals) = Some true
 overflow_row trace (Of event Refused signals) = Some true
 overflow_row trace AllCleared = Some false
 overflow_row trace _ = None
 
--- Since all was cleared, some event found the memory full.
+-- Some event found the memory full since the last clear of all.
 abbrev pub overflow : Life → Trace → Bool
 overflow life trace = decided overflow_row life.base.overflow trace
 
@@ -127,7 +127,7 @@ module _ (life : Life) (event : ℕ) where
   first_row trace (Of other Added signals) = if other == event then Some (frame signals) else None
   first_row trace _ = None
 
-  -- Each failure that changes the test result takes the recent frame anew.
+  -- Each failure that changes the test result captures the recent frame again.
   abbrev pub recent_row : Trace → Traced → Option (List ℕ)
   recent_row trace (Of other Failed signals) =
       if (other == event) && enters (base_of life event) (marks_of event trace) then Some (frame signals) else None
@@ -141,7 +141,7 @@ module _ (life : Life) (event : ℕ) where
   abbrev pub base_recent : List ℕ
   base_recent = unwrap_or (option_map (λ entry. entry.recent.items) (base_entry life event)) []
 
-  -- The entry of the event, where it has one.
+  -- The entry of the event, if it has one.
   abbrev pub entry_of : Trace → EntryState
   entry_of trace = record {
     event = event;
@@ -160,6 +160,6 @@ entries life trace = map (λ event. entry_of life event trace) (holders life tra
 abbrev pub new_entry : ℕ → List ℕ → EntryState
 new_entry event bytes = record { event = event; occurrence = 1; first = record { items = bytes }; recent = record { items = bytes } }
 
--- The entry where its event occurred once more.
+-- The entry after its event occurred once more.
 abbrev pub updated : EntryState → List ℕ → EntryState
 updated entry bytes = record entry { occurrence = min (entry.occurrence + 1) 255; recent = record { items = bytes } }

@@ -1,4 +1,4 @@
--- How a worked example is written: what a controller answers to a list of calls.
+-- How a worked example is written: the answers of a controller to a list of calls.
 use Rattle.std.specs.Prelude.{◌≡◌, ℕ, ℤ, pos, negsuc, neg_ℤ, map, Bool, false, List, [], ◌∷◌, None}
 use Rattle.flt_config.specs.declared.config.Config.{Config}
 use Rattle.flt_config.specs.declared.config.DidUse.{DidUse}
@@ -46,7 +46,7 @@ configured memory events =
 abbrev pub restarted : Life → History → Life
 restarted life past = record { config = life.config; base = saved_after life past }
 
--- A call, and what is answered to it.
+-- A call, and the answer to it.
 pub record Answered : Type 0 where
   pub call : Op
   pub reply : Reply
@@ -56,7 +56,7 @@ infix 70 ◌⇒◌
 abbrev pub ◌⇒◌ : Op → Reply → Answered
 call ⇒ reply = record { call = call; reply = reply }
 
--- A life answers these calls, from its beginning on, with these replies.
+-- A life answers these calls, from its beginning, with these replies.
 abbrev pub Replays : Life → List Answered → Type 0
 Replays life rows = answers life [] (map (λ row. row.call) rows) ≡ map (λ row. row.reply) rows
 

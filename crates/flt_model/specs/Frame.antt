@@ -11,13 +11,13 @@ Values = List ℕ
 abbrev pub active : Values → ℕ → ℕ
 active values i = if nat_lt 0 (slice_index values i) then 1 else 0
 
--- Bit i tells whether signal i is above 0.
+-- Bit i says whether signal i is above 0.
 abbrev pub active_bits : Values → ℕ
 active_bits values =
     active values 0 + 2 * active values 1 + 4 * active values 2 + 8 * active values 3
     + 16 * active values 4 + 32 * active values 5 + 64 * active values 6 + 128 * active values 7
 
--- What each data identifier tells, where it is one of the seven.
+-- The value of each data identifier, if it is one of the seven.
 abbrev pub did_value : ℕ → Values → Option ℕ
 did_value id values =
     if id == 0x0101 then Some (slice_index values 0)

@@ -123,7 +123,7 @@ readiness life event past = record {
   enabled = is_enabled life event past;
 }
 
--- A report is ignored while the setting is off, else while the cycle of its event was not started, and else while its event is not enabled.
+-- A report is ignored while the setting is off, else if the cycle of its event was not started, and else while its event is not enabled.
 abbrev pub cause_of : Readiness → Option Cause
 cause_of seen =
     if not seen.setting then Some SettingOff
@@ -131,7 +131,7 @@ cause_of seen =
     else if not seen.enabled then Some NotEnabled
     else None
 
--- A report counts where there is no cause to ignore it.
+-- A report counts if there is no cause to ignore it.
 abbrev pub counts_report : Life → ℕ → History → Bool
 counts_report life event past = is_none (cause_of (readiness life event past))
 
@@ -144,7 +144,7 @@ abbrev pub own_report : Life → ℕ → History → Bool → Option Bool
 own_report life event past true = Some (counts_report life event past)
 own_report life event past false = None
 
--- A report that counts, and none where it is ignored or on another event.
+-- A report that counts, or nothing if it is ignored or on another event.
 abbrev pub reported_where : Option Bool → Happening → Option Happening
 reported_where (Some true) report = Some report
 reported_where (Some false) report = None
@@ -159,12 +159,12 @@ happening_of life event past (ops.Cycle cycle) = if cycle == (event_of life even
 happening_of life event past (ops.Request tester bytes) = happening_of_clear life event (cleared_dtc (ops.Request tester bytes))
 happening_of life event past _ = None
 
--- One more happening, where there is one.
+-- One more happening, if there is one.
 abbrev pub with_happening : Option Happening → Happenings → Happenings
 with_happening None happenings = happenings
 with_happening (Some happening) happenings = happening ∷ happenings
 
--- What happened to an event in a list of calls, the newest first.
+-- What happened to an event in a list of calls, newest first.
 abbrev pub happenings : Life → ℕ → History → Happenings
 happenings life event [] = []
 happenings life event (op ∷ past) = with_happening (happening_of life event past op) (happenings life event past)

@@ -10,7 +10,7 @@ use Rattle.flt_model.specs.declared.status.Rank.{Rank}
 use Rattle.flt_model.specs.Trace.{trace}
 use Rattle.flt_model.specs.Durable.{saved_after}
 
--- An event is among the holders exactly where it was added, and not removed since.
+-- An event is among the holders if and only if it was added, and not removed since.
 abbrev pub HoldersHaveEntries : Type 0
 HoldersHaveEntries = (life : Life) (trace : Trace) (event : ℕ) →
     is_among event (holders life trace) ≡ has_entry life event trace
@@ -23,7 +23,7 @@ IsWorseEntry rank events i j =
     IsWorse (rank (slice_index events i)) (rank (slice_index events j))
     ⊎ ((rank (slice_index events i) ≡ rank (slice_index events j)) × (i < j))
 
--- The worst of the events is the one than which no other is worse.
+-- No event is worse than the worst.
 abbrev pub WorstIsUnique : Type 0
 WorstIsUnique = (rank : ℕ → Rank) (events : List ℕ) (place : ℕ) → place < length events →
     ((k : ℕ) → k < length events → ¬ IsWorseEntry rank events k place) → worst rank events ≡ Some (slice_index events place)
@@ -32,8 +32,8 @@ WorstIsUnique = (rank : ℕ → Rank) (events : List ℕ) (place : ℕ) → plac
 abbrev pub GivesWay : Rank → ℕ → Type 0
 GivesWay rank priority = (priority < rank.priority) ⊎ ((priority ≡ rank.priority) × IsTrue rank.passive)
 
--- A rank is worse than another exactly where its number is greater, or equal and it alone is passive; and it gives way to an event exactly
--- where the event's number is smaller, or equal and it is passive.
+-- A rank is worse than another if and only if its number is greater, or equal and it alone is passive; and it gives way to an event if
+-- and only if the event's number is smaller, or equal and it is passive.
 pub record AreCompared (rank other : Rank) (priority : ℕ) : Type 0 where
   pub worse : (is_worse rank other ≡ true) ↔ IsWorse rank other
   pub gives_way : (gives_way rank priority ≡ true) ↔ GivesWay rank priority
@@ -41,25 +41,25 @@ pub record AreCompared (rank other : Rank) (priority : ℕ) : Type 0 where
 abbrev pub RanksAreCompared : Type 0
 RanksAreCompared = (rank other : Rank) (priority : ℕ) → AreCompared rank other priority
 
--- ---- in which order the entries stand
+-- ---- the order of the entries
 
--- Of two events the one that is added goes behind the other.
+-- Of two events the one that is added is put after the other.
 abbrev pub behind_row : ℕ → ℕ → Trace → Traced → Option Bool
 behind_row first second trace (Of event Added signals) =
     if event == second then Some true else if event == first then Some false else None
 behind_row first second trace _ = None
 
--- The second of two events stands behind the first in a list.
+-- The second of two events is after the first in a list.
 abbrev pub is_behind : ℕ → ℕ → List ℕ → Bool
 is_behind first second [] = false
 is_behind first second (event ∷ events) = if event == first then is_among second events else is_behind first second events
 
--- The second event was added after the first, or stood behind it at power-up where neither was added since.
+-- The second event was added after the first, or was after it at power-up if neither was added since.
 abbrev pub was_added_later : Life → Trace → ℕ → ℕ → Bool
 was_added_later life trace first second =
     decided (behind_row first second) (is_behind first second (map (λ entry. entry.event) life.base.entries.items)) trace
 
--- The entries stand in the order in which they were added last.
+-- The entries are in the order in which they were last added.
 abbrev pub AreInOrder : Life → Trace → Type 0
 AreInOrder life trace = AllPairs (λ first second. was_added_later life trace first second ≡ true) (holders life trace)
 
@@ -78,11 +78,11 @@ pub record IsWithinMemory (life : Life) (marks : Trace) : Type 0 where
   pub distinct : Distinct (holders life marks)
   pub room : length (holders life marks) ≤ life.config.memory
 
--- The entries of a base that fits are so.
+-- This holds for the entries of a base that fits.
 abbrev pub FittingBaseHasRoom : Type 0
 FittingBaseHasRoom = (life : Life) → Fits life.config life.base → IsWithinMemory life []
 
--- The calls keep the entries so.
+-- The calls preserve it.
 abbrev pub EntriesKeepRoom : Type 0
 EntriesKeepRoom = (life : Life) (past : History) → IsWithinMemory life [] → IsWithinMemory life (trace life past)
 

@@ -16,11 +16,11 @@ Life = DemStart
 abbrev pub fresh : Config → Life
 fresh config = record { config = config; base = initial_state config }
 
--- The calls since power-up, the newest first.
+-- The calls since power-up, newest first.
 abbrev pub History : Type 0
 History = List Op
 
--- What stands past the last event, where nobody looks.
+-- The default past the last event, which nothing reads.
 abbrev pub no_event : EventCfg
 no_event = record {
   dtc = 0;
@@ -35,7 +35,7 @@ no_event = record {
   dids = record { items = [] };
 }
 
--- How many events are configured.
+-- The number of configured events.
 abbrev pub count : Life → ℕ
 count life = length life.config.events.items
 

@@ -19,32 +19,32 @@ pub data Mark : Type 0 where
   -- The event found no room for an entry.
   Refused : Mark
 
--- The marks of an event, the newest first.
+-- The marks of an event, newest first.
 abbrev pub Past : Type 0
 Past = List Mark
 
--- What a thing decides, in view of those before it: Some does, and None leaves it as it was.
+-- What a mark or a call decides, given those before it: Some does, and None leaves it as it was.
 abbrev pub Row : Type 0
 Row = Past → Mark → Option Bool
 
--- Something is as the last that decides it says, and as in the base where none does.
+-- Something is as the last that decides it says, and as in the base if none does.
 abbrev pub decided : {X A : Type 0} → (List X → X → Option A) → A → List X → A
 decided row base [] = base
 decided row base (x ∷ past) = unwrap_or (row past x) (decided row base past)
 
--- Which marks, in view of the marks before them.
+-- Which marks, given the marks before them.
 abbrev pub Kind : Type 0
 Kind = Past → Mark → Bool
 
--- With which number a mark begins a count anew: Some does, and None goes on.
+-- The number with which a mark restarts a count: Some does, and None does not.
 abbrev pub Restart : Type 0
 Restart = Past → Mark → Option ℕ
 
--- One more, where it counts.
+-- One more, if it counts.
 abbrev pub one_more : Bool → ℕ → ℕ
 one_more counts n = if counts then n + 1 else n
 
--- The number of marks of a kind since the count began anew, and on top of the base's number where it never did.
+-- The number of marks of a kind since the count was last restarted; if it never was, they are added to the base's number.
 abbrev pub count_since : Restart → Kind → ℕ → Past → ℕ
 count_since restart counted base [] = base
 count_since restart counted base (mark ∷ past) =
@@ -59,11 +59,11 @@ pub data Traced : Type 0 where
   -- All events were cleared at once.
   AllCleared : Traced
 
--- The marks of all events since power-up, the newest first.
+-- The marks of all events since power-up, newest first.
 abbrev pub Trace : Type 0
 Trace = List Traced
 
--- A mark, where it is of the event that is looked at.
+-- A mark, if it is of the event that is looked at.
 abbrev pub own : Bool → Mark → Past → Past
 own true mark past = mark ∷ past
 own false mark past = past

@@ -11,7 +11,7 @@ use Rattle.flt_model.specs.declared.call.Reply.TheVariants.{Taken, Ignored}
 use Rattle.flt_model.specs.declared.call.Cause.TheVariants.{NotStarted}
 use Rattle.flt_model.specs.Example.{event, recording, did, configured, restarted, ◌⇒◌, Replays, fail, pass, prefail, asks, responds, minus, shows}
 
--- A full memory keeps active entries and gives up a passive one.
+-- A full memory keeps active entries and removes a passive one.
 abbrev pub PassiveGivesWay : Type 0
 PassiveGivesWay =
     Replays (fresh (configured 2 (record (event 1) { priority = 5 } ∷ record (event 2) { priority = 5 } ∷ record (event 3) { priority = 5 }
@@ -45,7 +45,7 @@ GreaterNumberGivesWay =
     ∷ Show 1 ⇒ shows 0x50 (pos 0) 0 0 0 false
     ∷ [])
 
--- Of two passive entries of one priority the older one gives way.
+-- Of two passive entries of the same priority the older one gives way.
 abbrev pub OldestGivesWay : Type 0
 OldestGivesWay =
     Replays (fresh (configured 2 (event 0x000001 ∷ event 0x000002 ∷ event 0x000003 ∷ [])))
@@ -60,7 +60,7 @@ OldestGivesWay =
     ∷ Show 2 ⇒ shows 0x2F (pos 127) 1 0 1 true
     ∷ [])
 
--- The first and the most recent events, and what a clear of one takes away.
+-- The first and the most recent events, and what a clear of one of them removes.
 abbrev pub NotedEvents : Type 0
 NotedEvents =
     Replays (fresh (configured 16 (event 0x000001 ∷ record (event 0x000002) { confirm = 2 } ∷ [])))
@@ -83,7 +83,7 @@ NotedEvents =
     ∷ asks 0 (0x19 ∷ 0x0B ∷ []) ⇒ responds (0x59 ∷ 0x0B ∷ 0xFF ∷ 0x00 ∷ 0x00 ∷ 0x02 ∷ 0x27 ∷ [])
     ∷ [])
 
--- The most recent events stay where another event is cleared.
+-- The most recent events stay when another event is cleared.
 abbrev pub ClearOfAnotherEvent : Type 0
 ClearOfAnotherEvent =
     Replays (fresh (configured 16 (event 0x000001 ∷ event 0x000002 ∷ [])))
@@ -97,7 +97,7 @@ ClearOfAnotherEvent =
     ∷ asks 0 (0x19 ∷ 0x0E ∷ []) ⇒ responds (0x59 ∷ 0x0E ∷ 0xFF ∷ 0x00 ∷ 0x00 ∷ 0x02 ∷ 0x2F ∷ [])
     ∷ [])
 
--- Two timers that come due in one tick, with room for one entry: the event of the smaller number gets it.
+-- Two timers that are due at the same tick, with room for one entry: the event of the smaller number gets it.
 abbrev pub TimersComeDueInOrder : Type 0
 TimersComeDueInOrder =
     Replays (fresh (configured 1 (map (λ dtc. record (event dtc) { debounce = kinds.Time 10 5 }) (1 ∷ 2 ∷ []))))
@@ -160,7 +160,7 @@ FrameOfIdentifiers =
     ∷ 0x01 ∷ 0x07 ∷ 0x00 ∷ 0x01 ∷ 0x00 ∷ 0x02 ∷ 0x01 ∷ 0x2C ∷ 0x00 ∷ 0x04 ∷ [])
     ∷ [])
 
--- The entries, the noted events and the overflow flag go on in the next life.
+-- The entries, the noted events and the overflow flag are kept in the next life.
 abbrev pub SavedMemoryGoesOn : Type 0
 SavedMemoryGoesOn =
     Replays (restarted (fresh (configured 2 (recording 0x000001 (did 0x0101 2 ∷ [])
@@ -178,7 +178,7 @@ SavedMemoryGoesOn =
     ∷ Show 1 ⇒ shows 0x2F (pos 0) 1 0 0 true
     ∷ [])
 
--- Events with the DTCs 0x010000, 0x010001 and so on, of one priority.
+-- Events with the DTCs 0x010000, 0x010001 and so on, of the same priority.
 abbrev pub number_events : ℕ → List EventCfg
 number_events n = map (λ e. record (event (0x010000 + e)) { priority = 5 }) (below n)
 
@@ -191,11 +191,11 @@ Drive =
     ≡ replicate 19 Taken ++ responds (0x59 ∷ 0x01 ∷ 0xFF ∷ 0x01 ∷ 0x00 ∷ 0x12 ∷ [])
     ∷ Taken ∷ Taken ∷ Taken ∷ Taken ∷ Taken ∷ Taken ∷ responds (0x59 ∷ 0x01 ∷ 0xFF ∷ 0x01 ∷ 0x00 ∷ 0x12 ∷ []) ∷ []
 
--- The calls of the first life of the drive, the newest first.
+-- The calls of the first life of the drive, newest first.
 abbrev pub first_life : History
 first_life = fail 19 ∷ fail 18 ∷ pass 3 ∷ pass 2 ∷ pass 1 ∷ pass 0 ∷ (reverse (map (λ e. fail e) (below 18)) ++ Cycle 0 ∷ [])
 
--- Its second and third lives: the confirmed events stay, and a clear of all takes them back.
+-- Its second and third lives: the confirmed events stay, and a clear of all removes them.
 abbrev pub DriveGoesOn : Type 0
 DriveGoesOn =
     answers (restarted (fresh (configured 16 (number_events 40))) first_life) []
@@ -231,7 +231,7 @@ NumberComesFirst =
     ∷ Show 3 ⇒ shows 0x2F (pos 127) 1 0 0 true
     ∷ [])
 
--- An entry that is updated keeps its place: it is still the oldest. The snapshot records of unconfirmed DTCs are listed too.
+-- An entry that is updated keeps its position: it is still the oldest. The snapshot records of unconfirmed DTCs are listed too.
 abbrev pub UpdateKeepsThePlace : Type 0
 UpdateKeepsThePlace =
     Replays (fresh (configured 2 (event 0x000001 ∷ event 0x000002 ∷ record (event 0x000003) { confirm = 2 } ∷ [])))
@@ -268,7 +268,7 @@ ConfirmedOnce =
     ∷ asks 0 (0x19 ∷ 0x06 ∷ 0x01 ∷ 0x00 ∷ 0x01 ∷ 0x01 ∷ []) ⇒ responds (0x59 ∷ 0x06 ∷ 0x01 ∷ 0x00 ∷ 0x01 ∷ 0x2F ∷ 0x01 ∷ 0x01 ∷ [])
     ∷ [])
 
--- A DTC that was saved as noted is told with its status of now, whatever that says.
+-- A DTC that was saved as noted is reported with its current status, whatever that says.
 abbrev pub NotedAsSaved : Type 0
 NotedAsSaved =
     Replays (record {

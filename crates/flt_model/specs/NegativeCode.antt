@@ -1,11 +1,11 @@
 -- The negative response codes (ISO 14229-1).
 use Rattle.std.specs.Prelude.{ℕ}
 
--- The service is none of this profile.
+-- The service is not one of this profile.
 abbrev pub service_not_supported : ℕ
 service_not_supported = 0x11
 
--- The sub-function is none of the service.
+-- The sub-function is not one of the service.
 abbrev pub sub_function_not_supported : ℕ
 sub_function_not_supported = 0x12
 
@@ -13,10 +13,10 @@ sub_function_not_supported = 0x12
 abbrev pub incorrect_length : ℕ
 incorrect_length = 0x13
 
--- What the request names is not there.
+-- What the request names does not exist.
 abbrev pub request_out_of_range : ℕ
 request_out_of_range = 0x31
 
--- The service is not to be had in the tester's session.
+-- The service is not available in the tester's session.
 abbrev pub service_not_supported_in_session : ℕ
 service_not_supported_in_session = 0x7F

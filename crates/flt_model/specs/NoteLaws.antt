@@ -15,7 +15,7 @@ cleared_row past _ = None
 abbrev pub is_cleared : ℕ → Trace → Bool
 is_cleared event trace = decided cleared_row false (marks_of event trace)
 
--- No clear stands behind a noted event.
+-- A noted event was not cleared after its note.
 abbrev pub NotedIsNotCleared : Type 0
 NotedIsNotCleared = (notable : Notable) (base : Option ℕ) (trace : Trace) (event : ℕ) →
     recent notable base trace ≡ Some event → is_cleared event trace ≡ false
@@ -42,26 +42,26 @@ abbrev pub unless_cleared : Trace → Option ℕ → Option ℕ
 unless_cleared later None = None
 unless_cleared later (Some event) = if was_cleared event later then None else Some event
 
--- No failure among the later marks is notable, in view of those before it.
+-- No failure among the later marks is notable, given those before it.
 abbrev pub IsQuiet : Notable → Trace → Trace → Type 0
 IsQuiet notable [] earlier = Unit {0}
 IsQuiet notable (Of event Failed signals ∷ later) earlier = (notable event (later ++ earlier) ≡ false) × IsQuiet notable later earlier
 IsQuiet notable (_ ∷ later) earlier = IsQuiet notable later earlier
 
--- The most recent event is that of the last notable failure, or none where that event was cleared since.
+-- The most recent event is that of the last notable failure, or none if that event was cleared since.
 abbrev pub RecentIsOfLastFailure : Type 0
 RecentIsOfLastFailure = (notable : Notable) (base : Option ℕ) (later earlier : Trace) (event : ℕ) (signals : List ℕ) →
     notable event earlier ≡ true → IsQuiet notable later (Of event Failed signals ∷ earlier) →
     recent notable base (later ++ Of event Failed signals ∷ earlier) ≡ unless_cleared later (Some event)
 
--- With no notable failure it is that of the base, or none where that event was cleared.
+-- Without a notable failure it is that of the base, or none if that event was cleared.
 abbrev pub RecentIsOfBase : Type 0
 RecentIsOfBase = (notable : Notable) (base : Option ℕ) (trace : Trace) → IsQuiet notable trace [] →
     recent notable base trace ≡ unless_cleared trace base
 
 -- ---- the first one
 
--- A notable failure of the event that found no other event noted as the first, and behind which no clear of it stands.
+-- A notable failure of the event that found no other event noted as the first, and after which the event was not cleared.
 pub record TakesNote (notable : Notable) (base : Option ℕ) (trace : Trace) (event : ℕ) : Type 0 where
   pub later : Trace
   pub signals : List ℕ
@@ -75,7 +75,7 @@ pub record TakesNote (notable : Notable) (base : Option ℕ) (trace : Trace) (ev
 abbrev pub HoldsNote : Notable → Option ℕ → Trace → ℕ → Type 0
 HoldsNote notable base trace event = TakesNote notable base trace event ⊎ ((base ≡ Some event) × (was_cleared event trace ≡ false))
 
--- An event is noted as the first exactly where it holds the note.
+-- An event is noted as the first if and only if it holds the note.
 abbrev pub FirstIsHolder : Type 0
 FirstIsHolder = (notable : Notable) (base : Option ℕ) (trace : Trace) (event : ℕ) →
     (first notable base trace ≡ Some event) ↔ HoldsNote notable base trace event

@@ -6,7 +6,7 @@ use Rattle.flt_model.specs.Mark.{Trace, Of, marks_of}
 use Rattle.flt_model.specs.Mark.Mark.{Failed, Clear}
 use Rattle.flt_model.specs.Status.{enters, confirms}
 
--- Which failures are noted, in view of the marks before them.
+-- Which failures are noted, given the marks before them.
 abbrev pub Notable : Type 0
 Notable = ℕ → Trace → Bool
 
@@ -18,7 +18,7 @@ is_entering_failure life event trace = enters (base_of life event) (marks_of eve
 abbrev pub is_confirming_failure : Life → Notable
 is_confirming_failure life event trace = confirms (base_of life event) (event_of life event) (marks_of event trace)
 
--- A clear takes the event's note away.
+-- A clear removes the event's note.
 abbrev pub without : ℕ → Option ℕ → Option ℕ
 without event None = None
 without event (Some other) = if other == event then None else Some other
@@ -35,13 +35,13 @@ recent notable base (Of event Failed signals ∷ trace) = recent_after (notable 
 recent notable base (Of event Clear signals ∷ trace) = without event (recent notable base trace)
 recent notable base (_ ∷ trace) = recent notable base trace
 
--- A failure that is notable is noted as the first where none is.
+-- A notable failure is noted as the first if no event is.
 abbrev pub first_after : Bool → ℕ → Option ℕ → Option ℕ
 first_after true event None = Some event
 first_after true event (Some other) = Some other
 first_after false event noted = noted
 
--- The event of the first notable failure since no note stood.
+-- The event of the first notable failure since there was no note.
 abbrev pub first : Notable → Option ℕ → Trace → Option ℕ
 first notable base [] = base
 first notable base (Of event Failed signals ∷ trace) = first_after (notable event trace) event (first notable base trace)

@@ -11,7 +11,7 @@ use Rattle.flt_model.specs.NegativeCode.{service_not_supported, sub_function_not
 abbrev pub RequestBytes : Type 0
 RequestBytes = ArrayVec ℕ
 
--- What stands behind a sub-function.
+-- What follows a sub-function.
 pub data Form : Type 0 where
   -- Nothing.
   Plain : Request → Form
@@ -22,7 +22,7 @@ pub data Form : Type 0 where
   -- Nothing, or three option bytes.
   Optioned : Request → Form
 
--- A row of the table: a service, a sub-function, and what stands behind it.
+-- A row of the table: a service, a sub-function, and what follows it.
 pub record SubFunction : Type 0 where
   pub service : ℕ
   pub sub : ℕ
@@ -57,7 +57,7 @@ sub_functions =
 abbrev pub has_sub_functions : ℕ → Bool
 has_sub_functions service = is_some (find (λ r. r.service == service) sub_functions)
 
--- What stands behind a sub-function of a service, where there is one.
+-- What follows a sub-function of a service, if the service has it.
 abbrev pub form_of : ℕ → ℕ → Option Form
 form_of service sub = option_map (λ r. r.form) (find (λ r. (r.service == service) && (r.sub == sub)) sub_functions)
 
@@ -65,11 +65,11 @@ form_of service sub = option_map (λ r. r.form) (find (λ r. (r.service == servi
 abbrev pub dtc_of : ℕ → ℕ → ℕ → ℕ
 dtc_of high middle low = high * 65536 + middle * 256 + low
 
--- The record number is the first, the second or both.
+-- The record number: the first, the second or both.
 abbrev pub is_record_number : ℕ → Bool
 is_record_number number = (number == 0x01) || (number == 0x02) || (number == 0xFF)
 
--- What is asked by the bytes behind the sub-function, or the negative code.
+-- What is asked by the bytes after the sub-function, or the negative code.
 abbrev pub contents : Form → List ℕ → Result Request ℕ
 contents (Plain request) [] = Ok request
 contents (Masked request) (mask ∷ []) = Ok (request mask)
@@ -104,7 +104,7 @@ abbrev pub asked_clear : List ℕ → Result Asked Negative
 asked_clear (high ∷ middle ∷ low ∷ []) = Ok (record { request = Clear (dtc_of high middle low); silent = false })
 asked_clear _ = refused 0x14 incorrect_length
 
--- What the bytes ask for in a session, the extended or the default one, or the first negative code, but for an
+-- What the bytes ask for in a session, the extended or the default one, or the first negative code, except for an
 -- unknown DTC.
 abbrev pub asked : Bool → List ℕ → Result Asked Negative
 asked extended [] = refused 0 incorrect_length

@@ -7,7 +7,7 @@ use Rattle.flt_model.specs.declared.call.Reply.TheVariants.{Taken, Ignored, Sile
 use Rattle.flt_model.specs.declared.call.Cause.TheVariants.{SettingOff}
 use Rattle.flt_model.specs.Example.{event, configured, ◌⇒◌, Replays, fail, pass, asks, responds, shows, extended, default_session}
 
--- A clear of an unknown DTC, of wrong length, and of all.
+-- A clear of an unknown DTC, one of wrong length, and one of all.
 abbrev pub ClearRequests : Type 0
 ClearRequests =
     Replays (fresh (configured 16 (event 0x123456 ∷ [])))
@@ -51,7 +51,7 @@ TwoTestersHold =
     ∷ fail 0 ⇒ Taken
     ∷ [])
 
--- A request for the extended session inside it keeps the hold, and one for the default session gives it up.
+-- A request for the extended session inside it keeps the hold, and one for the default session releases it.
 abbrev pub RepeatedSessionKeepsTheHold : Type 0
 RepeatedSessionKeepsTheHold =
     Replays (fresh (configured 16 (event 0x000001 ∷ [])))
@@ -64,7 +64,7 @@ RepeatedSessionKeepsTheHold =
     ∷ fail 0 ⇒ Taken
     ∷ [])
 
--- The requests of another tester leave a tester's silence.
+-- The requests of another tester do not end a tester's silence.
 abbrev pub OthersDoNotBreakSilence : Type 0
 OthersDoNotBreakSilence =
     Replays (fresh (configured 16 (event 0x000001 ∷ [])))
@@ -79,7 +79,7 @@ OthersDoNotBreakSilence =
     ∷ fail 0 ⇒ Taken
     ∷ [])
 
--- A request that is refused is heard: the silent time begins anew.
+-- A request that is refused restarts the silent time.
 abbrev pub RefusedRequestIsHeard : Type 0
 RefusedRequestIsHeard =
     Replays (fresh (configured 16 (event 0x000001 ∷ [])))
@@ -94,7 +94,7 @@ RefusedRequestIsHeard =
     ∷ fail 0 ⇒ Taken
     ∷ [])
 
--- Each of the four testers may hold the setting off, and asks anew for the session that it is in without giving the hold up.
+-- Each of the four testers may hold the setting off, and may ask again for its current session without releasing the hold.
 abbrev pub LastTestersHold : Type 0
 LastTestersHold =
     Replays (fresh (configured 16 (event 0x000001 ∷ [])))
@@ -137,7 +137,7 @@ NegativeCodes =
     ∷ asks 0 (0x85 ∷ 0x03 ∷ []) ⇒ responds (0x7F ∷ 0x85 ∷ 0x12 ∷ [])
     ∷ [])
 
--- The DTCs whose status meets a mask.
+-- The DTCs whose status has a bit in common with a mask.
 abbrev pub MaskedLists : Type 0
 MaskedLists =
     Replays (fresh (configured 16 (event 0x123456 ∷ [])))
@@ -145,7 +145,7 @@ MaskedLists =
     ∷ asks 0 (0x19 ∷ 0x02 ∷ 0x00 ∷ []) ⇒ responds (0x59 ∷ 0x02 ∷ 0xFF ∷ [])
     ∷ [])
 
--- Lists come in the order of the events, and a clear of one DTC leaves the other.
+-- Lists are in the order of the events, and a clear of one DTC does not change the other.
 abbrev pub ListsInOrder : Type 0
 ListsInOrder =
     Replays (fresh (configured 16 (event 0x123456 ∷ event 0x123457 ∷ [])))
@@ -166,7 +166,7 @@ ListsInOrder =
     ∷ Show 0 ⇒ shows 0x2F (pos 127) 1 0 1 false
     ∷ [])
 
--- Silence of 5000 ms ends the extended session, and for good what the tester held in it; a request whose response is suppressed is heard.
+-- Silence of 5000 ms ends the extended session, and for good what the tester held in it; a request whose response is suppressed ends the silence.
 abbrev pub SilenceEndsSessionAndHold : Type 0
 SilenceEndsSessionAndHold =
     Replays (fresh (configured 16 (event 0x000001 ∷ [])))
@@ -183,7 +183,7 @@ SilenceEndsSessionAndHold =
     ∷ fail 0 ⇒ Taken
     ∷ [])
 
--- A mask of several bits selects the DTCs whose status has one of them; a snapshot record without data identifiers has its number and none.
+-- A mask of several bits selects the DTCs whose status has one of them; a snapshot record without data identifiers has its number and the count 0.
 abbrev pub MaskOfSeveralBits : Type 0
 MaskOfSeveralBits =
     Replays (fresh (configured 16 (event 0x000001 ∷ event 0x000002 ∷ [])))
@@ -193,7 +193,7 @@ MaskOfSeveralBits =
     ∷ asks 0 (0x19 ∷ 0x04 ∷ 0x00 ∷ 0x00 ∷ 0x01 ∷ 0xFF ∷ []) ⇒ responds (0x59 ∷ 0x04 ∷ 0x00 ∷ 0x00 ∷ 0x01 ∷ 0x2F ∷ 0x01 ∷ 0x00 ∷ 0x02 ∷ 0x00 ∷ [])
     ∷ [])
 
--- All DTCs are supported, also one whose status is 0; no mask selects that one.
+-- All DTCs are supported, even one whose status is 0; no mask selects that one.
 abbrev pub SupportedDtcs : Type 0
 SupportedDtcs =
     Replays (fresh (configured 16 (event 0x000001 ∷ event 0x000002 ∷ [])))
@@ -203,11 +203,11 @@ SupportedDtcs =
     ∷ asks 0 (0x19 ∷ 0x02 ∷ 0xFF ∷ []) ⇒ responds (0x59 ∷ 0x02 ∷ 0xFF ∷ 0x00 ∷ 0x00 ∷ 0x02 ∷ 0x50 ∷ [])
     ∷ [])
 
--- The first DTC alone.
+-- Only the first DTC.
 abbrev pub first_selected : Reply
 first_selected = responds (0x59 ∷ 0x02 ∷ 0xFF ∷ 0x00 ∷ 0x00 ∷ 0x01 ∷ 0xAF ∷ [])
 
--- Each bit of a mask selects by itself: of two DTCs one has bits 4 and 6, and the other has the rest.
+-- Each bit of a mask selects on its own: of two DTCs one has bits 4 and 6, and the other has the rest.
 abbrev pub EachBitOfAMask : Type 0
 EachBitOfAMask =
     Replays (fresh (configured 16 (record (event 0x000001) { indicator = true } ∷ event 0x000002 ∷ [])))

@@ -58,7 +58,7 @@ is_masked mask event = not (bit_and event.state.status mask == 0)
 abbrev pub count_bytes : ℕ → List ℕ
 count_bytes n = (n / 256) ∷ (n % 256) ∷ []
 
--- The DTC with each of its two snapshot records, where it has an entry.
+-- The DTC with each of its two snapshot records, if it has an entry.
 abbrev pub records_of : EventView → List ℕ
 records_of event =
     if is_some event.entry then (dtc_bytes event.dtc ++ 0x01 ∷ []) ++ (dtc_bytes event.dtc ++ 0x02 ∷ []) else []
@@ -71,7 +71,7 @@ is_prefailed event = int_lt (pos 0) event.counter && int_lt event.counter (pos 1
 abbrev pub with_counter : EventView → List ℕ
 with_counter event = dtc_bytes event.dtc ++ nat_abs event.counter ∷ []
 
--- A noted DTC and its status byte of now, where one is noted.
+-- A noted DTC and its current status byte, if one is noted.
 abbrev pub noted_bytes : List EventView → Option ℕ → List ℕ
 noted_bytes events None = []
 noted_bytes events (Some event) = flat_map with_status (take 1 (drop event events))
@@ -92,35 +92,35 @@ values_of (did ∷ dids) frame =
 abbrev pub selects : ℕ → ℕ → Bool
 selects number record_number = (number == record_number) || (number == 0xFF)
 
--- The bytes of a record that is asked for.
+-- The bytes of a requested record.
 abbrev pub where_selected : ℕ → ℕ → List ℕ → List ℕ
 where_selected number record_number bytes = if selects number record_number then bytes else []
 
--- A snapshot record: its number, how many identifiers it has, and each with its value.
+-- A snapshot record: its number, the number of its identifiers, and each of these with its value.
 abbrev pub snapshot : List DidUse → ℕ → List ℕ → List ℕ
 snapshot dids number frame = (number ∷ length dids ∷ []) ++ values_of dids frame
 
--- The snapshot records that are asked for, the first and the most recent.
+-- The requested snapshot records, the first and the most recent.
 abbrev pub snapshots : List DidUse → ℕ → Option EntryState → List ℕ
 snapshots dids number None = []
 snapshots dids number (Some entry) =
     where_selected number 0x01 (snapshot dids 0x01 entry.first.items)
     ++ where_selected number 0x02 (snapshot dids 0x02 entry.recent.items)
 
--- The extended data records that are asked for, the occurrences and the clean cycles.
+-- The requested extended data records, the occurrences and the clean cycles.
 abbrev pub extended_data : EventState → ℕ → Option EntryState → List ℕ
 extended_data state number None = []
 extended_data state number (Some entry) =
     where_selected number 0x01 (0x01 ∷ entry.occurrence ∷ [])
     ++ where_selected number 0x02 (0x02 ∷ min state.clean 255 ∷ [])
 
--- ---- the positive response, where there is no negative one
+-- ---- the positive response, if there is no negative one
 
--- What is told of the event of a DTC, where there is one.
+-- What is reported about the event of a DTC, if there is one.
 abbrev pub of_known : ℕ → List EventView → (EventView → List ℕ) → Option (List ℕ)
 of_known dtc events bytes = option_map bytes (find (is_of_dtc dtc) events)
 
--- The positive response to each request, or none where its DTC is unknown.
+-- The positive response to each request, or none if its DTC is unknown.
 abbrev pub positive : View → Request → Option (List ℕ)
 positive view (Session extended) = Some (0x50 ∷ sub_of_session extended ∷ 0x00 ∷ 0x32 ∷ 0x01 ∷ 0xF4 ∷ [])
 positive view Present = Some (0x7E ∷ 0x00 ∷ [])
@@ -153,7 +153,7 @@ abbrev pub service_of : List ℕ → ℕ
 service_of [] = 0
 service_of (service ∷ rest) = service
 
--- A positive response, where it is not suppressed.
+-- A positive response, if it is not suppressed.
 abbrev pub unless_silent : Bool → List ℕ → Reply
 unless_silent true bytes = Silent
 unless_silent false bytes = reply_of bytes
@@ -163,7 +163,7 @@ abbrev pub responded : ℕ → Bool → Option (List ℕ) → Reply
 responded service silent None = negative service request_out_of_range
 responded service silent (Some bytes) = unless_silent silent bytes
 
--- The response to what is asked for.
+-- The response to a request that was read.
 abbrev pub response_to : View → ℕ → Result Asked Negative → Reply
 response_to view service (Err refused) = negative refused.service refused.code
 response_to view service (Ok request) = responded service request.silent (positive view request.request)

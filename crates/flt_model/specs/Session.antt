@@ -41,7 +41,7 @@ session_row tester past _ = None
 abbrev pub is_extended : ℕ → History → Bool
 is_extended tester past = decided (session_row tester) false past
 
--- Whether a request switches the setting off, where it is about the setting.
+-- Whether a request switches the setting off, if it is about the setting.
 abbrev pub off_of : Request → Option Bool
 off_of (Setting on) = Some (not on)
 off_of _ = None
@@ -51,7 +51,7 @@ abbrev pub off_asked : Result Asked Negative → Option Bool
 off_asked (Ok request) = off_of request.request
 off_asked (Err refused) = None
 
--- Only in the extended session the tester may switch it off, and its end gives that up.
+-- The tester may switch it off only in the extended session, whose end releases the hold.
 abbrev pub hold_row : ℕ → History → Op → Option Bool
 hold_row tester past (ops.Request other bytes) =
     if other == tester

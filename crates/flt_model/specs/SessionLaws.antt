@@ -14,14 +14,14 @@ pub record IsTesterLeft (tester : ℕ) (before after : History) : Type 0 where
   pub silence : silence tester after ≡ silence tester before
   pub hold : holds_off tester after ≡ holds_off tester before
 
--- A request leaves every tester but the one that sends it.
+-- A request does not change any tester but the one that sends it.
 abbrev pub RequestLeavesOtherTesters : Type 0
 RequestLeavesOtherTesters = (past : History) (tester other : ℕ) (bytes : RequestBytes) → tester ≢ other →
     IsTesterLeft other past (ops.Request tester bytes ∷ past)
 
 -- ---- which session a tester is in
 
--- A request for a session that is accepted: service 0x10 with this sub-function, whose bit 7 is no part of it, and nothing behind it.
+-- An accepted request for a session: service 0x10 with this sub-function, whose bit 7 does not belong to it, and nothing after it.
 abbrev pub asks_session : ℕ → List ℕ → Bool
 asks_session sub_function (service ∷ second ∷ []) = (service == 0x10) && (second % 128 == sub_function)
 asks_session sub_function _ = false
@@ -36,21 +36,21 @@ abbrev pub is_session_request : ℕ → Op → Bool
 is_session_request tester (ops.Request other bytes) = (other == tester) && (asks_session 0x01 bytes.items || asks_session 0x03 bytes.items)
 is_session_request tester _ = false
 
--- The ticks that a call lets go by.
+-- The ticks that a call lets pass.
 abbrev pub ticks_of : Op → ℕ
 ticks_of (ops.Tick ticks) = ticks
 ticks_of _ = 0
 
--- The ticks behind the last of these calls that is a request of the tester, answered or not.
+-- The ticks after the last of these calls that is a request of the tester, answered or not.
 abbrev pub unheard : ℕ → History → ℕ
 unheard tester calls = sum_by ticks_of (take_while (λ op. not (is_from tester op)) calls)
 
--- Through these calls the tester asks for no session, and at no moment 500 ticks went by since it was heard.
+-- In these calls the tester asks for no session, and is never silent for 500 ticks.
 abbrev pub StaysInSession : ℕ → History → Type 0
 StaysInSession tester [] = Unit {0}
 StaysInSession tester (op ∷ later) = (is_session_request tester op ≡ false) × (unheard tester (op ∷ later) < 500) × StaysInSession tester later
 
--- The last accepted session request of the tester was 10 03, and no silence since came to 500 ticks.
+-- The last accepted session request of the tester was 10 03, and it was not silent for 500 ticks since.
 pub record AskedForExtended (tester : ℕ) (past : History) : Type 0 where
   pub later : History
   pub bytes : RequestBytes

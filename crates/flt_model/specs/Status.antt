@@ -8,7 +8,7 @@ use Rattle.flt_config.specs.declared.persist.EventState.{EventState}
 use Rattle.flt_model.specs.declared.status.Status.{Status}
 use Rattle.flt_model.specs.Byte.{byte_of, is_bit_set}
 
--- ---- bits that the marks alone decide
+-- ---- bits that only the marks decide
 
 -- Bit 0, testFailed: the result of the last test.
 abbrev pub test_failed_row : Row
@@ -77,7 +77,7 @@ module _ (base : EventState) where
   is_clean_cycle past Cycle = ends_clean past
   is_clean_cycle past _ = false
 
-  -- Bit 2, pendingDTC: only a clean cycle, or a clear, takes it back.
+  -- Bit 2, pendingDTC: only a clean cycle, or a clear, clears it.
   abbrev pub pending_row : Row
   pending_row past Failed = Some true
   pending_row past Cycle = if ends_clean past then Some false else None
@@ -95,13 +95,13 @@ module _ (base : EventState) where
   is_first_failure_of_cycle past Failed = not (failed_this_cycle past)
   is_first_failure_of_cycle past _ = false
 
-  -- A clean cycle or a clear begins the failed count anew.
+  -- A clean cycle or a clear resets the failed count.
   abbrev pub restarts_failed : Restart
   restarts_failed past Cycle = if ends_clean past then Some 0 else None
   restarts_failed past Clear = Some 0
   restarts_failed past _ = None
 
-  -- In how many cycles the event failed since the last clean one, at most 255.
+  -- The number of cycles in which the event failed since the last clean one, at most 255.
   abbrev pub failed_count : Past → ℕ
   failed_count past = min 255 (count_since restarts_failed is_first_failure_of_cycle base.failed past)
 
@@ -119,17 +119,17 @@ module _ (base : EventState) where
 
   -- ---- the clean count, and what it heals and ages
 
-  -- A failure or a clear begins the clean count anew.
+  -- A failure or a clear resets the clean count.
   abbrev pub restarts_clean : Restart
   restarts_clean past Failed = Some 0
   restarts_clean past Clear = Some 0
   restarts_clean past _ = None
 
-  -- How many clean cycles have ended since the last failure, at most 510.
+  -- The number of clean cycles that ended since the last failure, at most 510.
   abbrev pub clean_count : Past → ℕ
   clean_count past = min 510 (count_since restarts_clean is_clean_cycle base.clean past)
 
-  -- A failure lights the indicator where the event has one and is confirmed.
+  -- A failure lights the indicator if the event has one and is confirmed.
   abbrev pub lit_row : EventCfg → Row
   lit_row event past Failed = Some (event.indicator && confirmed event (Failed ∷ past))
   lit_row event past Aged = Some false
@@ -145,7 +145,7 @@ module _ (base : EventState) where
   abbrev pub indicator_requested : EventCfg → Past → Bool
   indicator_requested event past = lit event past && nat_lt (clean_count past) event.heal
 
-  -- ---- what a mark means besides
+  -- ---- what else a mark means
 
   -- A failure after these marks changes the test result.
   abbrev pub enters : Past → Bool
@@ -155,11 +155,11 @@ module _ (base : EventState) where
   abbrev pub confirms : EventCfg → Past → Bool
   confirms event past = not (confirmed event past) && confirmed event (Failed ∷ past)
 
-  -- How many clean cycles age the event.
+  -- The number of clean cycles that age the event.
   abbrev pub aging_threshold : EventCfg → Past → ℕ
   aging_threshold event past = if lit event past then event.heal + event.age else event.age
 
-  -- The end of a cycle after these marks ages the event: the clean count comes to the threshold.
+  -- The end of a cycle after these marks ages the event: the clean count reaches the threshold.
   abbrev pub ages : EventCfg → Past → Bool
   ages event past =
       nat_lt (clean_count past) (clean_count (Cycle ∷ past)) && (clean_count (Cycle ∷ past) == aging_threshold event past)
@@ -179,7 +179,7 @@ module _ (base : EventState) where
     indicator_requested = indicator_requested event past;
   }
 
-  -- The state that the base and the marks behind it decide.
+  -- The state that the base and the marks after it decide.
   abbrev pub durable : EventCfg → Past → EventState
   durable event past = record {
     status = byte_of (status event past);

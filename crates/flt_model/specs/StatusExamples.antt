@@ -37,7 +37,7 @@ UntestedCycle =
     ∷ Show 0 ⇒ shows 0x2F (pos 127) 2 0 1 false
     ∷ [])
 
--- A cycle without a test keeps pendingDTC, and a clean one takes it back.
+-- A cycle without a test keeps pendingDTC, and a clean one clears it.
 abbrev pub UntestedCycleKeepsPending : Type 0
 UntestedCycleKeepsPending =
     Replays (fresh (configured 16 (event 0x123456 ∷ [])))
@@ -80,7 +80,7 @@ HealAndAge =
     ∷ Show 0 ⇒ shows 0x60 (pos 0) 0 3 0 false
     ∷ [])
 
--- A failure begins the clean count anew, so aging counts from the last one.
+-- A failure resets the clean count, so aging counts from the last one.
 abbrev pub CleanCountBeginsAnew : Type 0
 CleanCountBeginsAnew =
     Replays (fresh (configured 16 (record (event 0x123456) { age = 2 } ∷ [])))
@@ -152,7 +152,7 @@ EachNeededConditionCounts =
     ∷ pass 0 ⇒ Taken
     ∷ [])
 
--- What is saved goes on in the next life, and what is volatile does not.
+-- What is saved is kept in the next life, and what is volatile is not.
 abbrev pub NextLife : Type 0
 NextLife =
     Replays (restarted (fresh (configured 16 (event 0x123456 ∷ []))) (fail 0 ∷ Cycle 0 ∷ []))
@@ -190,7 +190,7 @@ FailuresStopAtMost =
     ∷ Show 0 ⇒ shows 0xAF (pos 127) 255 0 255 false
     ∷ [])
 
--- The clean count is told to a tester up to 255, ages the event at 510, which is the most that heal and age come to, and stops there.
+-- The clean count is reported to a tester up to 255, ages the event at 510, which is the most that heal and age add up to, and stops there.
 abbrev pub CleanCyclesStopAtMost : Type 0
 CleanCyclesStopAtMost =
     Replays (saved_once 0x68 0 508 1)
@@ -207,7 +207,7 @@ CleanCyclesStopAtMost =
     ∷ Show 0 ⇒ shows 0x60 (pos 0) 0 510 0 false
     ∷ [])
 
--- An event whose indicator is not lit ages at its own threshold, also where it has an indicator.
+-- An event whose indicator is not lit ages at its own threshold, even if it has an indicator.
 abbrev pub UnlitEventAges : Type 0
 UnlitEventAges =
     Replays (fresh (configured 16 (record (event 0x000001) { indicator = true; confirm = 2; heal = 2; age = 1 } ∷ [])))
@@ -219,7 +219,7 @@ UnlitEventAges =
     ∷ Show 0 ⇒ shows 0x60 (pos 0) 0 1 0 false
     ∷ [])
 
--- A displacement leaves the clean count, and the bits but for confirmedDTC and warningIndicatorRequested.
+-- A displacement keeps the clean count, and all bits except confirmedDTC and warningIndicatorRequested.
 abbrev pub DisplacementKeepsCleanCount : Type 0
 DisplacementKeepsCleanCount =
     Replays (fresh (configured 1 (event 0x000001 ∷ event 0x000002 ∷ [])))
@@ -232,7 +232,7 @@ DisplacementKeepsCleanCount =
     ∷ Show 0 ⇒ shows 0x60 (pos 0) 0 1 0 true
     ∷ [])
 
--- An operation cycle ends while the DTC setting is off, too, and a clear is carried out then.
+-- An operation cycle ends and a clear is carried out even while the DTC setting is off.
 abbrev pub CycleEndsWithSettingOff : Type 0
 CycleEndsWithSettingOff =
     Replays (fresh (configured 16 (event 0x000001 ∷ [])))
@@ -246,7 +246,7 @@ CycleEndsWithSettingOff =
     ∷ Show 0 ⇒ shows 0x50 (pos 0) 0 0 0 false
     ∷ [])
 
--- An entry ages out also where its event is not confirmed.
+-- An entry ages out even if its event is not confirmed.
 abbrev pub UnconfirmedEntryAges : Type 0
 UnconfirmedEntryAges =
     Replays (fresh (configured 16 (record (event 0x000001) { confirm = 2; age = 1 } ∷ [])))
@@ -259,7 +259,7 @@ UnconfirmedEntryAges =
     ∷ Show 0 ⇒ shows 0x60 (pos 0) 0 1 0 false
     ∷ [])
 
--- A displaced event whose failed count is above its threshold is confirmed anew by a failure, and gets no entry, since its testFailed did not change.
+-- A displaced event whose failed count is above its threshold is confirmed again by a failure, but gets no entry, since its testFailed did not change.
 abbrev pub ConfirmedAnew : Type 0
 ConfirmedAnew =
     Replays (fresh (configured 1 (record (event 0x000001) { priority = 5 } ∷ event 0x000002 ∷ [])))

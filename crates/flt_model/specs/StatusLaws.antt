@@ -13,13 +13,13 @@ use Rattle.flt_model.specs.Status.{test_failed, pending, durable}
 abbrev pub ByteTellsBits : Type 0
 ByteTellsBits = (status : Status) → status_of (byte_of status) ≡ status
 
--- An event that is lit is confirmed, where that holds of the base.
+-- An event that is lit is confirmed, if that holds of the base.
 abbrev pub LitIsConfirmed : Type 0
 LitIsConfirmed = (base : EventState) (event : EventCfg) (past : Past) →
     (base.lit ≡ true → is_bit_set base.status 3 ≡ true) →
     (durable base event past).lit ≡ true → is_bit_set (durable base event past).status 3 ≡ true
 
--- warningIndicatorRequested is set exactly while the event is lit and has not healed.
+-- warningIndicatorRequested is set if and only if the event is lit and has not healed.
 abbrev pub IndicatorIsLit : Type 0
 IndicatorIsLit = (base : EventState) (event : EventCfg) (past : Past) →
     is_bit_set (durable base event past).status 7 ≡ ((durable base event past).lit && nat_lt (durable base event past).clean event.heal)
@@ -57,7 +57,7 @@ last_failed (Failed ∷ past) = true
 last_failed (Passed ∷ past) = false
 last_failed (_ ∷ past) = last_failed past
 
--- Some cycle that ended behind the last failure had a passed test and no failed one.
+-- Some cycle that ended after the last failure had a passed test and no failed one.
 abbrev pub passed_cycle_since_failure : Past → Bool
 passed_cycle_since_failure [] = false
 passed_cycle_since_failure (Failed ∷ past) = false
@@ -69,7 +69,7 @@ passed_cycle_since_failure (_ ∷ past) = passed_cycle_since_failure past
 abbrev pub TestFailedIsLastResult : Type 0
 TestFailedIsLastResult = (past : Past) → test_failed start_state past ≡ last_failed (since_clear past)
 
--- pendingDTC says that a test failed since the last clear, and that no cycle with passed tests alone ended since.
+-- pendingDTC says that a test failed since the last clear, and that no cycle with only passed tests ended since.
 abbrev pub PendingIsUnrefutedFailure : Type 0
 PendingIsUnrefutedFailure = (past : Past) →
     pending start_state past ≡ (has_failed (since_clear past) && not (passed_cycle_since_failure (since_clear past)))

@@ -13,33 +13,33 @@ use Rattle.flt_model.specs.declared.call.Qualified.TheVariants as results
 
 -- ---- a failure
 
--- An event of this priority in place of the worst entry, where that gives way.
+-- An event of this priority instead of the worst entry, if that gives way.
 abbrev pub added_for : Life → List ℕ → ℕ → ℕ → Bool → Trace → Trace
 added_for life signals event worst true trace = Of event Added signals ∷ Of worst Displaced signals ∷ trace
 added_for life signals event worst false trace = Of event Refused signals ∷ trace
 
--- An event in a full memory, of which the worst entry may give way.
+-- An event in a full memory, whose worst entry may give way.
 abbrev pub added_in_full : Life → List ℕ → ℕ → Option ℕ → Trace → Trace
 added_in_full life signals event None trace = Of event Refused signals ∷ trace
 added_in_full life signals event (Some worst) trace =
     added_for life signals event worst (gives_way (rank_of life trace worst) (event_of life event).priority) trace
 
--- An event without an entry, where there is room and where there is none.
+-- An event without an entry, with room and without room.
 abbrev pub added : Life → List ℕ → ℕ → Bool → Trace → Trace
 added life signals event true trace = Of event Added signals ∷ trace
 added life signals event false trace = added_in_full life signals event (worst (rank_of life trace) (holders life trace)) trace
 
--- What a failure that enters makes of the entries.
+-- What a failure that changes the test result does to the entries.
 abbrev pub stored : Life → List ℕ → ℕ → Bool → Trace → Trace
 stored life signals event true trace = trace
 stored life signals event false trace = added life signals event (nat_lt (length (holders life trace)) life.config.memory) trace
 
--- A failure that enters is stored.
+-- A failure that changes the test result is stored.
 abbrev pub stored_where : Life → List ℕ → ℕ → Bool → Trace → Trace
 stored_where life signals event true trace = stored life signals event (has_entry life event trace) trace
 stored_where life signals event false trace = trace
 
--- A failure of an event, and what it makes of the entries.
+-- A failure of an event, and what it does to the entries.
 abbrev pub with_failed : Life → List ℕ → ℕ → Trace → Trace
 with_failed life signals event trace =
     stored_where life signals event (enters (base_of life event) (marks_of event trace)) (Of event Failed signals ∷ trace)
@@ -58,7 +58,7 @@ with_cycle life signals event trace =
 
 -- ---- a call
 
--- The marks of a test result, where there is one.
+-- The marks of a test result, if there is one.
 abbrev pub with_result : Life → List ℕ → ℕ → Option Qualified → Trace → Trace
 with_result life signals event None trace = trace
 with_result life signals event (Some results.Failed) trace = with_failed life signals event trace
@@ -76,11 +76,11 @@ with_marks life event past (Some (Ticked ticks)) trace = with_result life (signa
 with_marks life event past (Some Ended) trace = with_cycle life (signals past) event trace
 with_marks life event past (Some Cleared) trace = Of event Clear (signals past) ∷ trace
 
--- The event's part of a call.
+-- What a call does to one event.
 abbrev pub event_part : Life → History → Op → ℕ → Trace → Trace
 event_part life past op event trace = with_marks life event past (happening_of life event past op) trace
 
--- The parts of the events below a number, in order of number.
+-- What it does to the events below a number, in order of number.
 abbrev pub in_order : (ℕ → Trace → Trace) → ℕ → Trace → Trace
 in_order part zero trace = trace
 in_order part (suc event) trace = part event (in_order part event trace)
@@ -90,7 +90,7 @@ abbrev pub with_clear : Option ℕ → Trace → Trace
 with_clear None trace = trace
 with_clear (Some dtc) trace = if dtc == all_dtcs then AllCleared ∷ trace else trace
 
--- The marks of all events after a list of calls, the newest first.
+-- The marks of all events after a list of calls, newest first.
 abbrev pub trace : Life → History → Trace
 trace life [] = []
 trace life (op ∷ past) = with_clear (cleared_dtc op) (in_order (event_part life past op) (count life) (trace life past))
