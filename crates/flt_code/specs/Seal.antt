@@ -2,7 +2,7 @@
 use Rattle.std.specs.Prelude.{◌≡◌, ◌-◌, ◌&&◌, ◌==◌, ◌<◌, ℕ, List, ◌++◌, map, length, take, if◌then◌else◌, Option, Some, None, slice_index}
 use Rattle.std.specs.Str.{bytes_eq}
 
--- The byte with every bit turned.
+-- The byte with every bit inverted.
 abbrev pub complement : ℕ → ℕ
 complement byte = 255 - byte
 

@@ -5,7 +5,7 @@ use Rattle.std.specs.Str.{bytes_eq}
 use Rattle.flt_code.specs.declared.words.Word.{Word}
 use Rattle.flt_code.specs.declared.words.Word.TheVariants.{Start, Active, Head, Gate}
 
--- A head of 1 to 128 bytes, or of none where it makes its block invalid.
+-- A head of 1 to 128 bytes, or of 0 if it makes its block invalid.
 abbrev pub is_length : Bool → ℕ → Bool
 is_length true length = nat_le 1 length && nat_le length 128
 is_length false length = length == 0
@@ -30,7 +30,7 @@ pub record IsWordOf (word : Word) (bytes : List ℕ) : Type 0 where
   pub proper : IsWord word
   pub is : bytes ≡ word_bytes word
 
--- The word that a tag and the fields behind it would give.
+-- The word that a tag and the fields after it would give.
 unfoldable pub candidate : List ℕ → Option Word
 candidate bytes =
     let tag = slice_index bytes 0 in

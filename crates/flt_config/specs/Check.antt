@@ -1,4 +1,4 @@
--- What is refused first of a configuration: ranges come before DTCs, and DTCs before the room.
+-- The order in which a configuration is checked: ranges first, then DTCs, then the room.
 use Rattle.std.specs.Prelude.{ℕ, nat_lt, Bool, true, false, List, [], ◌∷◌, ◌++◌, length, position, Option, Some, None, Result, Ok, Err}
 use Rattle.flt_config.specs.declared.config.Config.{Config}
 use Rattle.flt_config.specs.declared.config.EventCfg.{EventCfg}
@@ -12,12 +12,12 @@ abbrev pub and_then : Result (Unit {0}) CfgFault → Result (Unit {0}) CfgFault 
 and_then (Ok done) next = next
 and_then (Err fault) next = Err fault
 
--- An event at this place has the DTC of an earlier one.
+-- An event of this number has the DTC of an earlier one.
 abbrev pub fault_of_twice : Option ℕ → ℕ → Result (Unit {0}) CfgFault
 fault_of_twice None second = Ok tt
 fault_of_twice (Some first) second = Err (DtcTwice first second)
 
--- The first of these events whose DTC stands before it, there or among those before them all.
+-- The first of these events whose DTC an event before it has, there or among those before them all.
 unfoldable pub distinct_behind : List EventCfg → List EventCfg → Result (Unit {0}) CfgFault
 distinct_behind before [] = Ok tt
 distinct_behind before (event ∷ events) =
@@ -37,7 +37,7 @@ fault_of_room false needed pages = Ok tt
 abbrev pub room_result : Config → Result (Unit {0}) CfgFault
 room_result config = fault_of_room (nat_lt config.pages (needed_pages config)) (needed_pages config) config.pages
 
--- The configuration, where no check refuses it.
+-- The configuration, if no check refuses it.
 abbrev pub unless_faulty : Config → Result (Unit {0}) CfgFault → Result Config CfgFault
 unless_faulty config (Ok done) = Ok config
 unless_faulty config (Err fault) = Err fault

@@ -1,4 +1,4 @@
--- The state that outlives a power cut: what it is at first, and when it fits a configuration.
+-- The state that survives a power cut: what it is at first, and when it fits a configuration.
 use Rattle.std.specs.Prelude.{◌≡◌, ◌≢◌, ℕ, ◌<◌, ◌≤◌, ◌↔◌, IsTrue, false, Bool, ◌==◌, List, [], length, replicate, None, IfSome, Option, All, AllPairs, slice_index_or, IsBitSet}
 use Rattle.flt_config.specs.declared.config.Config.{Config}
 use Rattle.flt_config.specs.declared.config.EventCfg.{EventCfg}
@@ -8,7 +8,7 @@ use Rattle.flt_config.specs.declared.persist.EntryState.{EntryState}
 use Rattle.flt_config.specs.Ranges.{frame_width}
 use Rattle.flt_config.specs.Validity.{IsFromTo}
 
--- An event that was not tested since it was cleared: bits 4 and 6 alone (ISO 14229-1, status bits).
+-- An event that was not tested since it was cleared: only bits 4 and 6 are set (ISO 14229-1, status bits).
 abbrev pub start_state : EventState
 start_state = record { status = 80; failed = 0; clean = 0; lit = false }
 
@@ -25,7 +25,7 @@ initial_state config =
       recent_confirmed = None;
     }
 
--- The warning indicator is requested exactly while it is lit and not healed, and lit where the event is confirmed.
+-- The warning indicator is requested if and only if it is lit and not healed, and only a confirmed event with an indicator is lit.
 pub record IsStateOf (event : EventCfg) (state : EventState) : Type 0 where
   pub status : state.status ≤ 255
   pub failed : state.failed ≤ 255

@@ -1,4 +1,4 @@
--- Which number is told of a configuration that has several out of their ranges, and what it is.
+-- Which number is reported if several of a configuration are out of range, and what its value is.
 use Rattle.std.specs.Prelude.{◌≡◌, ℕ, ◌+◌, ◌*◌, ◌<◌, ◌≤◌, ℤ, pos, true, length, slice_index_or, All, Any, Option, Some, None, Err}
 use Rattle.flt_config.specs.declared.config.Config.{Config}
 use Rattle.flt_config.specs.declared.config.EventCfg.{EventCfg}
@@ -12,7 +12,7 @@ use Rattle.flt_config.specs.Check.{check_of}
 
 -- ---- their order
 
--- The place of a field among all fields.
+-- The position of a field among all fields.
 abbrev pub place_of : Field → ℕ
 place_of Memory = 0
 place_of Pages = 1
@@ -34,18 +34,18 @@ place_of PassTicks = 16
 place_of DidWidth = 17
 place_of DidSum = 18
 
--- The numbers of no event come first, and then those of each event.
+-- The numbers that belong to no event come first, and then those of each event.
 abbrev pub event_place : Option ℕ → ℕ
 event_place None = 0
 event_place (Some event) = event + 1
 
--- The place of a number: by its event, and among those of one event by its field.
+-- The position of a number: by its event, and among those of one event by its field.
 abbrev pub number_place : Option ℕ → Field → ℕ
 number_place event field = event_place event * 19 + place_of field
 
 -- ---- their values
 
--- The number by which an event is debounced, where its debouncing has the field.
+-- The number by which an event is debounced, if its debouncing has the field.
 abbrev pub debounce_number : Debounce → Field → Option ℤ
 debounce_number (Counter fail_at pass_at up down jump_up jump_down) FailAt = Some fail_at
 debounce_number (Counter fail_at pass_at up down jump_up jump_down) PassAt = Some pass_at
@@ -57,7 +57,7 @@ debounce_number (Time fail pass) FailTicks = Some (pos fail)
 debounce_number (Time fail pass) PassTicks = Some (pos pass)
 debounce_number rules _ = None
 
--- The number that a field of an event has; of the widths of its data identifiers there are several.
+-- The number that a field of an event has; the widths of its data identifiers are several.
 abbrev pub IsNumberOf : EventCfg → Field → ℤ → Type 0
 IsNumberOf event Dtc value = value ≡ pos event.dtc
 IsNumberOf event Priority value = value ≡ pos event.priority
@@ -69,7 +69,7 @@ IsNumberOf event DidWidth value = Any (λ did. value ≡ pos did.width) event.di
 IsNumberOf event DidSum value = value ≡ pos (frame_width event.dids.items)
 IsNumberOf event field value = debounce_number event.debounce field ≡ Some value
 
--- The number that a field of no event has.
+-- The number of a field that belongs to no event.
 abbrev pub IsGlobalNumber : Config → Field → ℤ → Type 0
 IsGlobalNumber config Memory value = value ≡ pos config.memory
 IsGlobalNumber config Pages value = value ≡ pos config.pages
@@ -83,9 +83,9 @@ HasNumber config (Some number) field value =
     (number < length config.events.items)
     × ((d : EventCfg) → IsNumberOf (slice_index_or config.events.items number d) field value)
 
--- ---- what is told
+-- ---- what is reported
 
--- A number of the configuration is told, and of those that are out of their ranges none comes before it.
+-- The reported number is the configuration's, and no other number out of range comes before it.
 pub record IsFirstOutside (config : Config) (event : Option ℕ) (field : Field) (value : ℤ) : Type 0 where
   pub number : HasNumber config event field value
   pub first : All (λ other. is_outside other ≡ true → number_place event field ≤ number_place other.event other.field) (settings config)

@@ -1,4 +1,4 @@
--- What the check of a configuration comes to.
+-- What the check of a configuration answers.
 use Rattle.std.specs.Prelude.{◌≡◌, ◌≢◌, ℕ, ◌<◌, ◌↔◌, List, length, take, slice_index_or, AllPairs, Ok, Err}
 use Rattle.flt_config.specs.declared.config.Config.{Config}
 use Rattle.flt_config.specs.declared.config.EventCfg.{EventCfg}
@@ -26,10 +26,10 @@ IsFirstFault config (NoRoom needed pages) =
     (ranges_result (settings config) ≡ Ok tt) × AllPairs HasOtherDtc config.events.items
     × (needed ≡ needed_pages config) × (pages ≡ config.pages) × (pages < needed)
 
--- A configuration is accepted exactly where it is valid.
+-- A configuration is accepted if and only if it is valid.
 abbrev pub AcceptedWhereValid : Type 0
 AcceptedWhereValid = (config : Config) → (check_of config ≡ Ok config) ↔ IsValid config
 
--- What is told of one that is refused is its first fault.
+-- One that is refused is reported with its first fault.
 abbrev pub ToldFaultIsFirst : Type 0
 ToldFaultIsFirst = (config : Config) (fault : CfgFault) → check_of config ≡ Err fault → IsFirstFault config fault

@@ -1,4 +1,4 @@
--- Worked examples of the check: both ends of each range are accepted, and one beyond is told.
+-- Worked examples of the check: both ends of each range are accepted, and one beyond is reported.
 use Rattle.std.specs.Prelude.{◌≡◌, ℕ, ℤ, pos, negsuc, true, false, List, [], ◌∷◌, map, replicate, Some, None, Result, Ok, Err}
 use Rattle.flt_config.specs.declared.config.Config.{Config}
 use Rattle.flt_config.specs.declared.config.EventCfg.{EventCfg}
@@ -68,7 +68,7 @@ EndsAreAccepted =
 abbrev pub checked_each : List EventCfg → List (Result Config CfgFault)
 checked_each events = map (λ event. check_of (with_events (event ∷ []))) events
 
--- A number below its range is told.
+-- A number below its range is reported.
 abbrev pub BelowIsTold : Type 0
 BelowIsTold =
     checked_each (record least_event { dtc = 0 } ∷ record least_event { priority = 0 } ∷ record least_event { confirm = 0 }
@@ -85,7 +85,7 @@ BelowIsTold =
     ∷ told FailAt (pos 0) ∷ told PassAt (negsuc 32768) ∷ told Up (pos 0) ∷ told Down (pos 0) ∷ told JumpUp (negsuc 1) ∷ told JumpDown (negsuc 1)
     ∷ told FailTicks (pos 0) ∷ told PassTicks (pos 0) ∷ told DidWidth (pos 0) ∷ []
 
--- A number above its range is told.
+-- A number above its range is reported.
 abbrev pub AboveIsTold : Type 0
 AboveIsTold =
     checked_each (record least_event { dtc = 0xFFFFFF } ∷ record least_event { priority = 256 } ∷ record least_event { cycle = 4 }
@@ -103,7 +103,7 @@ AboveIsTold =
     ∷ told FailAt (pos 32768) ∷ told PassAt (pos 0) ∷ told Up (pos 32768) ∷ told Down (pos 32768) ∷ told JumpUp (pos 1) ∷ told JumpDown (pos 1)
     ∷ told FailTicks (pos 65536) ∷ told PassTicks (pos 65536) ∷ told DidWidth (pos 9) ∷ told DidSum (pos 33) ∷ []
 
--- The numbers of no event, DTCs that stand twice, and want of room: 22 pages, 8 for each 16 events, 10 an entry and 3 a block.
+-- Numbers that belong to no event, DTCs that occur twice, and lack of room: 22 pages, 8 for each 16 events, 10 an entry and 3 a block.
 abbrev pub OthersAreTold : Type 0
 OthersAreTold =
     map check_of (record (with_events []) { memory = 0 } ∷ record (with_events []) { memory = 17 } ∷ record (with_events []) { pages = 63 }

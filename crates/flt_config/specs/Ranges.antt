@@ -20,7 +20,7 @@ signed_setting event field value least greatest =
 abbrev pub setting : Option ℕ → Field → ℕ → ℕ → ℕ → Setting
 setting event field value least greatest = signed_setting event field (pos value) (pos least) (pos greatest)
 
--- The numbers that no event has.
+-- The numbers that belong to no event.
 unfoldable pub global_settings : Config → List Setting
 global_settings config =
     setting None Memory config.memory 1 16
@@ -39,12 +39,12 @@ plain_settings number event =
     ∷ setting (Some number) Age event.age 1 255
     ∷ []
 
--- A jump lies strictly between the two thresholds.
+-- A jump is strictly between the two thresholds.
 abbrev pub jump_setting : ℕ → Field → ℤ → ℤ → ℤ → Setting
 jump_setting number field pass_at fail_at jump =
     signed_setting (Some number) field jump (pass_at +ℤ pos 1) (fail_at -ℤ pos 1)
 
--- A jump, where there is one.
+-- A jump, if there is one.
 unfoldable pub jump_settings : ℕ → Field → ℤ → ℤ → Option ℤ → List Setting
 jump_settings number field pass_at fail_at None = []
 jump_settings number field pass_at fail_at (Some jump) = jump_setting number field pass_at fail_at jump ∷ []
@@ -72,7 +72,7 @@ debounce_settings number (Counter fail_at pass_at up down jump_up jump_down) =
 debounce_settings number (Time fail pass) =
     setting (Some number) FailTicks fail 1 65535 ∷ setting (Some number) PassTicks pass 1 65535 ∷ []
 
--- How many bytes the data identifiers take together.
+-- The total number of bytes of the data identifiers.
 abbrev pub frame_width : List DidUse → ℕ
 frame_width dids = sum_by (λ did. did.width) dids
 
@@ -80,7 +80,7 @@ frame_width dids = sum_by (λ did. did.width) dids
 unfoldable pub did_width_settings : ℕ → List DidUse → List Setting
 did_width_settings number dids = map (λ did. setting (Some number) DidWidth did.width 1 8) dids
 
--- The widths, and what they come to.
+-- The widths, and their sum.
 unfoldable pub did_settings : ℕ → List DidUse → List Setting
 did_settings number dids =
     did_width_settings number dids ++ setting (Some number) DidSum (frame_width dids) 0 32 ∷ []
@@ -90,7 +90,7 @@ unfoldable pub event_settings : ℕ → EventCfg → List Setting
 event_settings number event =
     plain_settings number event ++ debounce_settings number event.debounce ++ did_settings number event.dids.items
 
--- The numbers of the events, of which the first has this number.
+-- The numbers of the events, the first of which has this number.
 unfoldable pub events_settings : ℕ → List EventCfg → List Setting
 events_settings number [] = []
 events_settings number (event ∷ events) = event_settings number event ++ events_settings (number + 1) events
@@ -103,15 +103,15 @@ settings config = global_settings config ++ events_settings 0 config.events.item
 abbrev pub is_outside : Setting → Bool
 is_outside checked = int_lt checked.value checked.least || int_lt checked.greatest checked.value
 
--- What is told of a number that is out of its range.
+-- The report of a number that is out of range.
 abbrev pub range_fault : Setting → CfgFault
 range_fault outside = Range outside.event outside.field outside.value
 
--- The fault of a number that was found out of its range.
+-- The fault of a number that was found out of range.
 abbrev pub fault_of_range : Option Setting → Result (Unit {0}) CfgFault
 fault_of_range None = Ok tt
 fault_of_range (Some outside) = Err (range_fault outside)
 
--- The first number that is out of its range is the fault.
+-- The first number that is out of range is the fault.
 unfoldable pub ranges_result : List Setting → Result (Unit {0}) CfgFault
 ranges_result checked = fault_of_range (find is_outside checked)

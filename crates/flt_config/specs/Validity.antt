@@ -6,7 +6,7 @@ use Rattle.flt_config.specs.declared.config.Debounce.{Debounce}
 use Rattle.flt_config.specs.declared.config.Debounce.TheVariants.{Counter, Time}
 use Rattle.flt_config.specs.Ranges.{frame_width}
 
--- A number lies from the first to the second.
+-- A number is in the range from the first to the second.
 abbrev pub IsFromTo : ℕ → ℕ → ℕ → Type 0
 IsFromTo least greatest number = (least ≤ number) × (number ≤ greatest)
 
@@ -14,11 +14,11 @@ IsFromTo least greatest number = (least ≤ number) × (number ≤ greatest)
 abbrev pub IsSignedFromTo : ℤ → ℤ → ℤ → Type 0
 IsSignedFromTo least greatest number = (least ≤ℤ number) × (number ≤ℤ greatest)
 
--- A jump, where there is one, lies strictly between the two thresholds.
+-- A jump, if there is one, is strictly between the two thresholds.
 abbrev pub IsJumpBetween : ℤ → ℤ → Option ℤ → Type 0
 IsJumpBetween pass_at fail_at jump = IfSome jump (λ value. (pass_at <ℤ value) × (value <ℤ fail_at))
 
--- A counter's thresholds stand on both sides of 0, its steps go towards them, and its jumps lie between them.
+-- A counter's thresholds are on both sides of 0, its steps go towards them, and its jumps are between them.
 pub record IsCounterInRange (fail_at pass_at up down : ℤ) (jump_up jump_down : Option ℤ) : Type 0 where
   pub fail_at_above : IsSignedFromTo (pos 1) (pos 32767) fail_at
   pub pass_at_below : IsSignedFromTo (negsuc 32767) (negsuc 0) pass_at
@@ -45,7 +45,7 @@ pub record IsEventInRange (event : EventCfg) : Type 0 where
   pub did_widths : All (λ did. IsFromTo 1 8 did.width) event.dids.items
   pub frame : frame_width event.dids.items ≤ 32
 
--- How many blocks of 16 states hold this many events.
+-- The number of blocks of 16 states that hold this many events.
 abbrev pub state_blocks : ℕ → ℕ
 state_blocks events = (events + 15) / 16
 

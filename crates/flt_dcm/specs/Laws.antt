@@ -3,6 +3,6 @@ use Rattle.flt_model.specs.Life.{Life, History}
 use Rattle.flt_dcm.specs.Unit.{UnitView, Stands}
 use Rattle.flt_dcm.specs.Standard.{SaysStandard}
 
--- Whatever the calls so far, the six bits say what the standard says.
+-- After any calls, the six bits say what the standard says.
 abbrev pub StandingUnitSaysStandard : Type 0
 StandingUnitSaysStandard = (life : Life) (past : History) (unit : UnitView) → Stands life past unit → SaysStandard life past unit.dem

@@ -10,7 +10,7 @@ listed (ByMask mask) event = if is_masked mask event then with_status event else
 listed Supported event = with_status event
 listed Counters event = if is_prefailed event then with_counter event else []
 
--- How a response with the list begins.
+-- The beginning of a response with the list.
 abbrev pub head_of : Listing → List ℕ
 head_of (ByMask mask) = 0x59 ∷ 0x02 ∷ 0xFF ∷ []
 head_of Supported = 0x59 ∷ 0x0A ∷ 0xFF ∷ []

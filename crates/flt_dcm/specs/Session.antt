@@ -21,14 +21,14 @@ abbrev pub has_hold : Session → Bool
 has_hold Default = false
 has_hold (Extended holds silent) = holds
 
--- The silent time of the session is this one; the default session keeps none.
+-- The silent time of the session is this one; the default session has none.
 abbrev pub IsSilentFor : Session → ℕ → Type 0
 IsSilentFor Default ticks = Unit {0}
 IsSilentFor (Extended holds silent) ticks = ticks ≡ silent
 
--- ---- what becomes of it
+-- ---- how it changes
 
--- The tester is heard.
+-- The tester sends a request.
 abbrev pub heard : Session → Session
 heard Default = Default
 heard (Extended holds silent) = Extended holds 0
@@ -55,7 +55,7 @@ abbrev pub after_asked : Session → Result Asked Negative → Session
 after_asked session (Ok request) = after session request.request
 after_asked session (Err refused) = session
 
--- Ticks go by.
+-- Ticks pass.
 abbrev pub ticked : ℕ → Session → Session
 ticked ticks Default = Default
 ticked ticks (Extended holds silent) =
@@ -63,7 +63,7 @@ ticked ticks (Extended holds silent) =
 
 -- ---- what it stands for
 
--- A tester's session, hold and silent time are what the calls so far make of them.
+-- A tester's session, hold and silent time are those that the calls so far lead to.
 pub record SessionStands (tester : ℕ) (past : History) (session : Session) : Type 0 where
   pub extended : is_extended tester past ≡ is_extended_one session
   pub hold : holds_off tester past ≡ has_hold session

@@ -35,7 +35,7 @@ has_cleared [] = false
 has_cleared (Clear ∷ marks) = true
 has_cleared (_ ∷ marks) = has_cleared marks
 
--- An event begins as one that was never tested, or was cleared since.
+-- An event began as one that was never tested, or was cleared since.
 abbrev pub IsFromStart : Life → ℕ → Past → Type 0
 IsFromStart life event marks = (base_of life event ≡ start_state) ⊎ (has_cleared marks ≡ true)
 

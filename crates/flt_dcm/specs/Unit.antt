@@ -31,11 +31,11 @@ pub record IsUnitOf (config : Config) (sessions : List Session) (base : Persist)
 abbrev pub session_at : List Session → ℕ → Session
 session_at sessions tester = unwrap_or (slice_get sessions tester) Default
 
--- Each tester's session is what the calls so far make of it.
+-- Each tester's session is the one that the calls so far lead to.
 abbrev pub SessionsStand : History → List Session → Type 0
 SessionsStand past sessions = (tester : ℕ) → tester < 4 → SessionStands tester past (session_at sessions tester)
 
--- A unit that is what the base and the calls since power-up make of it.
+-- A unit in the state that the base and the calls since power-up lead to.
 pub record Stands (life : Life) (past : History) (unit : UnitView) : Type 0 where
   pub dem : StandsFor life past unit.dem
   pub sessions : SessionsStand past unit.sessions
@@ -54,7 +54,7 @@ IsAdmitted config (ops.Show event) = event < length config.events.items
 IsAdmitted config ops.Snapshot = Unit {0}
 IsAdmitted config (ops.Saved generation) = Unit {0}
 
--- What a call leaves of the state that it may write: a snapshot writes the durable state, and no other call writes.
+-- What a call leaves in the state that it may write: a snapshot writes the durable state, and no other call writes.
 abbrev pub written : Life → History → Op → Persist → Persist
 written life past ops.Snapshot out = saved_after life past
 written life past _ out = out
@@ -81,9 +81,9 @@ abbrev pub IsNegative : Reply → Type 0
 IsNegative (replies.Response bytes) = slice_get bytes.items 0 ≡ Some 0x7F
 IsNegative _ = ⊥
 
--- ---- What a call makes of a unit, in words for contracts.
+-- ---- The effect of a call on a unit, in words for contracts.
 
--- It stands before the call, and stands with the call more after.
+-- It stands before the call, and stands with one more call after it.
 abbrev pub Takes : Op → UnitView → UnitView → Type 0
 Takes op old new = (life : Life) (past : History) → Stands life past old → Stands life (op ∷ past) new
 
@@ -91,11 +91,11 @@ Takes op old new = (life : Life) (past : History) → Stands life past old → S
 abbrev pub Answers : Op → UnitView → Reply → Type 0
 Answers op unit reply = (life : Life) (past : History) → Stands life past unit → reply ≡ answer life past op
 
--- It heard a tester: the silent time of that session begins anew, and nothing else is changed.
+-- A tester sent a request: the silent time of its session restarts, and nothing else changes.
 abbrev pub with_heard : ℕ → UnitView → UnitView
 with_heard tester unit = record unit { sessions = slice_set unit.sessions tester (heard (session_at unit.sessions tester)) }
 
--- Where the call is a request that gets a negative response, it heard the tester, and nothing else is changed.
+-- If the call is a request that gets a negative response, only the silent time of its tester's session restarts.
 abbrev pub OnlyHearsWhereNegative : Op → Reply → UnitView → UnitView → Type 0
 OnlyHearsWhereNegative op reply old new =
     (tester : ℕ) (bytes : RequestBytes) → op ≡ ops.Request tester bytes → IsNegative reply → new ≡ with_heard tester old

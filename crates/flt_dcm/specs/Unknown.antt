@@ -6,7 +6,7 @@ use Rattle.flt_model.specs.declared.request.Request.{Request}
 use Rattle.flt_model.specs.declared.request.Request.TheVariants.{Clear}
 use Rattle.flt_dem.specs.Manager.{Manager}
 
--- A request that is none for a clear, or is for a DTC that no event has.
+-- A request that is not for a clear, or is for a DTC that no event has.
 abbrev pub ClearsNone : Manager → Request → Type 0
 ClearsNone manager (Clear dtc) = (dtc ≢ all_dtcs) × (position (has_dtc dtc) manager.faults.config.events.items ≡ None)
 ClearsNone manager _ = Unit {0}

@@ -7,7 +7,7 @@ use Rattle.flt_flash.specs.declared.flash.FlashFailed.{FlashFailed}
 use Rattle.flt_code.specs.Seal.{unsealed}
 use Rattle.flt_code.specs.Spoiled.{is_spoiled}
 
--- The program of a code word on a blank page is torn: all of it took effect or no code word stands, and nothing else changed.
+-- The program of a code word on a blank page is torn: it is whole or no code word, and nothing else changed.
 pub record TornCode (before : List (List (List ℕ))) (sector page : ℕ) (asked : List ℕ) (after : List (List (List ℕ))) : Type 0 where
   pub torn : List ℕ
   pub tears : IsTornPage blank_page asked torn
@@ -15,14 +15,14 @@ pub record TornCode (before : List (List (List ℕ))) (sector page : ℕ) (asked
   pub unspoiled : is_spoiled torn ≡ false
   pub only : after ≡ programmed before sector page torn
 
--- A code word is programmed on a blank page: after Ok it stands there, and else it is torn.
+-- A code word is programmed on a blank page: after Ok it is there, and else it is torn.
 pub record Appends {T : Type 0} (before after : FlashState) (sector page : ℕ) (asked : List ℕ) (result : Result T FlashFailed) : Type 0 where
   pub done : OnOk result (after.image ≡ programmed before.image sector page asked)
   pub torn : OnErr result (TornCode before.image sector page asked after.image)
   pub wear : after.wear ≡ before.wear
   pub operation : Operates before after result
 
--- A page of plain bytes, filled up with ones.
+-- A page of plain bytes, padded with ones.
 abbrev pub filled : List ℕ → List ℕ
 filled bytes = bytes ++ drop (length bytes) blank_page
 
@@ -32,7 +32,7 @@ pub record TornPiece (before : List (List (List ℕ))) (sector page : ℕ) (aske
   pub tears : IsTornPage blank_page asked torn
   pub only : after ≡ programmed before sector page torn
 
--- Plain bytes are programmed on a blank page: after Ok they stand there, and else they are torn.
+-- Plain bytes are programmed on a blank page: after Ok they are there, and else they are torn.
 pub record AppendsPiece {T : Type 0} (before after : FlashState) (sector page : ℕ) (asked : List ℕ) (result : Result T FlashFailed) : Type 0 where
   pub done : OnOk result (after.image ≡ programmed before.image sector page asked)
   pub torn : OnErr result (TornPiece before.image sector page asked after.image)
@@ -45,7 +45,7 @@ pub record TornErase (before : List (List (List ℕ))) (sector : ℕ) (after : L
   pub tears : IsTornSector (sector_at before sector) (replicate (length (sector_at before sector)) blank_page) torn
   pub only : after ≡ slice_set before sector torn
 
--- A sector is erased and its start gate programmed: after Ok all else of it is blank, and else the erase or the program is torn.
+-- A sector is erased and its start gate programmed: after Ok the rest of it is blank, and else the erase or the program is torn.
 pub record BeginsSector {T : Type 0} (before after : FlashState) (sector : ℕ) (asked : List ℕ) (result : Result T FlashFailed) : Type 0 where
   pub done : OnOk result (after.image ≡ programmed (erased before.image sector) sector 0 asked)
   pub torn : OnErr result (TornErase before.image sector after.image ⊎ TornCode (erased before.image sector) sector 0 asked after.image)

@@ -7,13 +7,13 @@ use Rattle.flt_sector.specs.declared.log.Item.TheVariants.{Kept}
 use Rattle.flt_pages.specs.declared.first.Begin.{Begin}
 use Rattle.flt_pages.specs.declared.first.Begin.TheVariants.{Whole, Damaged, Record}
 
--- The item that begins so at this page.
+-- The item that begins at this page with this first page.
 abbrev pub item_begun : Begin → List (List ℕ) → ℕ → Result Item ℕ
 item_begun (Whole item) pages page = Ok item
 item_begun Damaged pages page = Err page
 item_begun (Record block length valid gate) pages page = item_by_gate block length valid page gate (unsealed (slice_index_or pages gate []))
 
--- A record's gate lies below the used pages.
+-- A record's gate is below the used pages.
 abbrev pub GateBelow : ℕ → Begin → Type 0
 GateBelow used (Whole item) = Unit {0}
 GateBelow used Damaged = Unit {0}

@@ -9,12 +9,12 @@ use Rattle.flt_pages.specs.declared.numbers.Numbers.TheInside.{Inside}
 abbrev pub given_of : Inside → List ℕ
 given_of a = a.given.items
 
--- A row names the number that stands at its index.
+-- A row names the number that is at its index.
 pub record IsRowOf (numbers : List ℕ) (row : Row) : Type 0 where
   pub within : row.index < length numbers
   pub is : slice_index numbers row.index ≡ row.number
 
--- The rows are in ascending order of their numbers, each names a number where it stands, and each number has one.
+-- The rows are in ascending order of their numbers, each names a number at its index, and each number has one row.
 pub record IsIndex (numbers : List ℕ) (rows : List Row) : Type 0 where
   pub sorted : IsNonDecreasingBy (λ row. row.number) rows
   pub named : All (IsRowOf numbers) rows

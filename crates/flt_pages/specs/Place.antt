@@ -5,7 +5,7 @@ use Rattle.flt_flash.specs.Blocks.{byte_pages, record_pages}
 use Rattle.flt_code.specs.Word.{IsWord}
 use Rattle.flt_code.specs.declared.words.Word.TheVariants.{Head}
 
--- A record of one of the numbers fits at this page of a sector, and no gate of it stands yet.
+-- A record of one of the numbers fits at this page of a sector, and its gate is not there yet.
 pub record IsPlace (used : ℕ) (numbers : List ℕ) (pages : List (List ℕ)) (page block size : ℕ) (valid : Bool) : Type 0 where
   pub word : IsWord (Head block size valid page)
   pub number : Contains numbers block

@@ -1,4 +1,4 @@
--- What a look at pages tells.
+-- What a look at pages answers.
 use Rattle.std.specs.Prelude.{◌≡◌, ◌⊎◌, ℕ, Option, Some, None, Result, Ok, Err}
 use Rattle.flt_pages.specs.declared.fault.PageFault.{PageFault}
 use Rattle.flt_pages.specs.declared.fault.PageFault.TheVariants.{Flash, Damaged}
@@ -13,6 +13,6 @@ abbrev pub told_fault : ℕ → Option ℕ → Result (Unit {0}) PageFault
 told_fault sector None = Ok tt
 told_fault sector (Some page) = Err (Damaged sector page)
 
--- This answer, or that of a read that failed.
+-- This answer, or that of a failed read.
 abbrev pub TellsOrFails : {T : Type 0} → Result T PageFault → Result T PageFault → Type 0
 TellsOrFails result answer = (result ≡ Err Flash) ⊎ (result ≡ answer)

@@ -7,11 +7,11 @@ use Rattle.flt_code.specs.declared.words.Word.TheVariants.{Head, Gate}
 use Rattle.flt_flash.specs.Blocks.{byte_pages}
 use Rattle.flt_sector.specs.Blocks.{bytes_behind}
 
--- Bytes as they stand on whole pages, of which the last one is filled up with ones.
+-- Bytes as they are on whole pages, the last of which is padded with ones.
 abbrev pub on_pages : List ℕ → List ℕ
 on_pages bytes = bytes ++ replicate (32 * byte_pages (length bytes) - length bytes) 255
 
--- All pages but those from one to another are as they were.
+-- All pages outside a range are as they were.
 pub record KeptApart (pages after : List (List ℕ)) (from to : ℕ) : Type 0 where
   pub size : length after ≡ length pages
   pub before : (k : ℕ) → k < from → slice_index_or after k [] ≡ slice_index_or pages k []
@@ -22,13 +22,13 @@ pub record IsTornAtHead (pages after : List (List ℕ)) (page : ℕ) : Type 0 wh
   pub apart : KeptApart pages after page (page + 1)
   pub torn : unsealed (slice_index_or after page []) ≡ None
 
--- The head stands, and no gate.
+-- The head is there, and the gate is not.
 pub record IsOpen (pages after : List (List ℕ)) (page block length : ℕ) (valid : Bool) : Type 0 where
   pub apart : KeptApart pages after page (page + 2 + byte_pages length)
   pub head : slice_index_or after page [] ≡ sealed (word_bytes (Head block length valid page))
   pub gate : unsealed (slice_index_or after (page + 1 + byte_pages length) []) ≡ None
 
--- Head, bytes and gate stand; the pages of the bytes are filled up with ones.
+-- Head, bytes and gate are there; the pages of the bytes are padded with ones.
 pub record IsWhole (pages after : List (List ℕ)) (page block : ℕ) (bytes : List ℕ) (valid : Bool) : Type 0 where
   pub apart : KeptApart pages after page (page + 2 + byte_pages (length bytes))
   pub head : slice_index_or after page [] ≡ sealed (word_bytes (Head block (length bytes) valid page))
@@ -36,7 +36,7 @@ pub record IsWhole (pages after : List (List ℕ)) (page block : ℕ) (bytes : L
   pub holds : bytes_behind after (record { page = page; block = block; length = length bytes; valid = valid; complete = true }) ≡ bytes
   pub filled : flat_map (λ page. page) (slice_range after (page + 1) (page + 1 + byte_pages (length bytes))) ≡ on_pages bytes
 
--- Whatever a record that is being appended may leave.
+-- What an append of a record may leave.
 abbrev pub RecordLeft : List (List ℕ) → List (List ℕ) → ℕ → ℕ → List ℕ → Bool → Type 0
 RecordLeft pages after page block bytes valid = IsTornAtHead pages after page ⊎ IsOpen pages after page block (length bytes) valid
     ⊎ IsWhole pages after page block bytes valid

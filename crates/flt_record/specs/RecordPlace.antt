@@ -1,4 +1,4 @@
--- Where a record stands in a log.
+-- Where a record is in a log.
 use Rattle.std.specs.Prelude.{◌≡◌, ◌+◌, ◌<◌, ◌≤◌, ℕ, true, List, length, Option, Some, None, IfSome, slice_index_or}
 use Rattle.flt_flash.specs.Content.{Content, missing}
 use Rattle.flt_flash.specs.Blocks.{record_pages}
@@ -8,16 +8,16 @@ use Rattle.flt_sector.specs.Blocks.{bytes_behind}
 use Rattle.flt_record.specs.LogHolds.{asked_of}
 use Rattle.flt_record.specs.declared.place.RecordPlace.{RecordPlace}
 
--- The complete record of a block that stands at a place.
+-- The complete record of a block at a place.
 abbrev pub record_at : ℕ → RecordPlace → Entry
 record_at block place = record { page = place.page; block = block; length = place.length; valid = place.valid; complete = true }
 
--- The complete record of a block, where there is one.
+-- The complete record of a block, if there is one.
 abbrev pub record_found : ℕ → Option RecordPlace → Option Entry
 record_found block None = None
 record_found block (Some place) = Some (record_at block place)
 
--- A record at this place lies below a page, and has a length of its kind.
+-- A record at this place is below a page, and has a length of its kind.
 pub record IsPlaceWithin (bound : ℕ) (place : RecordPlace) : Type 0 where
   pub below : place.page + record_pages place.length ≤ bound
   pub kind : is_length place.valid place.length ≡ true
@@ -31,7 +31,7 @@ abbrev pub pages_found : Option RecordPlace → ℕ
 pages_found None = 0
 pages_found (Some place) = record_pages place.length
 
--- A record at this place lies in the log that ends at a page.
+-- A record at this place is in the log that ends at a page.
 pub record IsInLog (end : ℕ) (place : RecordPlace) : Type 0 where
   pub begun : 2 ≤ place.page
   pub within : IsPlaceWithin end place
@@ -46,7 +46,7 @@ pub record IsAt (pages : List (List ℕ)) (end : ℕ) (content : Content) (found
   pub holds : content ≡ content_at pages found
   pub inside : IfSome found (λ place. IsInLog end place)
 
--- The place of each number, in the order of the numbers, tells what its block holds.
+-- The place of each number, in the order of the numbers, gives what its block holds.
 abbrev pub TellsPlaces : List ℕ → List (Option RecordPlace) → List (List ℕ) → ℕ → (ℕ → Content) → Type 0
 TellsPlaces numbers places pages end value = (k : ℕ) → k < length numbers → IsAt pages end (value (slice_index_or numbers k 0)) (slice_index_or places k None)
 

@@ -7,13 +7,13 @@ use Rattle.flt_flash.specs.declared.flash.FlashFailed.{FlashFailed}
 use Rattle.flt_flash.specs.Blocks.{byte_pages}
 use Rattle.flt_record.specs.Record.{KeptApart, IsWhole, RecordLeft, on_pages}
 
--- This sector has these pages, and all else of the image is as it was.
+-- This sector has these pages, and everything else of the image is as it was.
 pub record OnSector (before after : FlashState) (sector : ℕ) (pages : List (List ℕ)) : Type 0 where
   pub image : after.image ≡ slice_set before.image sector pages
   pub wear : after.wear ≡ before.wear
   pub runs : MakesOperations before after
 
--- The pages of plain bytes behind a head, filled up with ones.
+-- The pages of plain bytes after a head, padded with ones.
 pub record Fills {T : Type 0} (before after : FlashState) (sector first : ℕ) (bytes : List ℕ) (result : Result T FlashFailed) : Type 0 where
   pub pages : List (List ℕ)
   pub on : OnSector before after sector pages

@@ -41,7 +41,7 @@ IsIndexOf (Dataset indices) index = index < indices
 abbrev pub IsSingle : ℕ → ℕ → Type 0
 IsSingle id index = IsSomeAnd (block_in block_table id) (λ block. IsIndexOf block.kind index)
 
--- Any number of reads, which change no block and use no sequence number; they leave the image of a driver that is not stale.
+-- Any number of reads, which change no block and never make the driver spent; they leave the image of a driver that is not stale.
 pub record Reads (before after : BlocksState) : Type 0 where
   pub values : SameValues before after
   pub follows : Follows before after

@@ -1,4 +1,4 @@
--- What each step of a start-up judges, and what it tells.
+-- What each step of a start-up judges, and what it answers.
 use Rattle.std.specs.Prelude.{◌≡◌, ◌⊎◌, ℕ, ◌+◌, ◌-◌, if◌then◌else◌, List, Option, Some, None, Result, Ok, Err, sum_by}
 use Rattle.std.specs.List.{range_with_len}
 use Rattle.flt_flash.specs.Content.{Content, missing, bytes}
@@ -47,16 +47,16 @@ beyond_of_applications c value count = sum_by (λ block. beyond c value (applica
 abbrev pub application_judged : (ℕ → Content) → ℕ → Result (Unit {0}) Fault
 application_judged value block = if is_application (value (application_number block)) then Ok tt else damaged_at (first_application + block)
 
--- A commit was read from these bytes of this copy; none where the copy is missing.
+-- A commit was read from these bytes of this copy; no commit if the copy is missing.
 abbrev pub IsReadFrom : Content → ℕ → Option CommitCopy → Type 0
 IsReadFrom content copy None = content ≡ missing
 IsReadFrom content copy (Some found) = (found.copy ≡ copy) × (content ≡ bytes found.bytes.items) × IsBytesOfCommit found.commit found.bytes.items
 
--- The bytes are those of the copy that is told, the first or the second.
+-- The bytes are those of the named copy, the first or the second.
 abbrev pub IsOfCopy : Content → Content → Content → ℕ → Type 0
 IsOfCopy first second content copy = (raw : List ℕ) → content ≡ bytes raw → ((copy ≡ 1) × (first ≡ bytes raw)) ⊎ ((copy ≡ 2) × (second ≡ bytes raw))
 
--- This content is that of the copy of the commit that counts; or that of the second, which has bytes, where the flash failed three times.
+-- This content is that of the copy of the commit that counts; or that of the second, which has bytes, if the flash failed three times.
 abbrev pub IsSource : BlocksState → BlocksState → Content → ℕ → Type 0
 IsSource before after content copy =
     ((content ≡ either_copy (before.value first_commit) (before.value second_commit))

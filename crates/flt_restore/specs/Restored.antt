@@ -19,13 +19,13 @@ HasBytes missing = ⊥
 HasBytes invalid = ⊥
 HasBytes (bytes raw) = Unit {0}
 
--- This is what the image holds; or, where the flash failed three times, what it holds by the second copy of its commit, which has bytes.
+-- This is what the image holds; or, if the flash failed three times, what it holds by the second copy of its commit, which has bytes.
 abbrev pub IsJudged : Config → BlocksState → BlocksState → Result Generation Fault → Type 0
 IsJudged c before after judged =
     (held c before.value ≡ judged)
     ⊎ ((spare c before.value ≡ judged) × HasBytes (before.value second_commit) × HasRisenBy 3 before.device.faults after.device.faults)
 
--- The generation of this state that the commit names; none names the one of number 0.
+-- The generation of this state that the commit names; without a commit it is number 0.
 abbrev pub generation : Option CommitCopy → Persist → Generation
 generation None state = record { number = 0; state = state }
 generation (Some found) state = record { number = found.commit.generation; state = state }
@@ -37,12 +37,12 @@ pub record IsCopy (value : ℕ → Content) (found : CommitCopy) : Type 0 where
   pub holds : value (number_of commit_id (found.copy - 1)) ≡ bytes found.bytes.items
   pub form : IsBytesOfCommit found.commit found.bytes.items
 
--- The commit that this content of a copy has; none where it is missing.
+-- The commit that this content of a copy has; none if it is missing.
 abbrev pub IsCommitOf : (ℕ → Content) → Content → Option CommitCopy → Type 0
 IsCommitOf value content None = content ≡ missing
 IsCommitOf value content (Some found) = (content ≡ bytes found.bytes.items) × IsCopy value found
 
--- The image holds the generation of this commit and state; or, where the flash failed three times, it does so by the second copy of
+-- The image holds the generation of this commit and state; or, if the flash failed three times, it does so by the second copy of
 -- its commit, which has bytes; the commit is that of the copy that decides.
 abbrev pub IsRestored : Config → BlocksState → BlocksState → Option CommitCopy → Persist → Type 0
 IsRestored c before after commit state =
@@ -51,7 +51,7 @@ IsRestored c before after commit state =
     ⊎ ((spare c before.value ≡ Ok (generation commit state)) × IsCommitOf before.value (only_bytes (before.value second_commit)) commit
     × HasBytes (before.value second_commit) × HasRisenBy 3 before.device.faults after.device.faults)
 
--- A mark that has to be written: it is missing, or stands in version 1.
+-- A mark that has to be written: it is missing, or in version 1.
 abbrev pub IsMarkDue : Mark → Content → Type 0
 IsMarkDue mark content = (content ≡ missing) ⊎ (content ≡ bytes (mark_bytes_1 mark))
 
@@ -60,7 +60,7 @@ pub record Restores (c : Config) (before after : BlocksState) (commit : Option C
   pub restored : IsRestored c before after commit state
   pub usable : IsFalse after.is_spent
 
--- A fault comes by its cause: three faults of the flash, what was judged, or the last sequence number where a generation was judged.
+-- A fault has its cause: three faults of the flash, what was judged, or the last sequence number if a generation was judged.
 abbrev pub Refuses : Config → BlocksState → BlocksState → StartFault → Type 0
 Refuses c before after Flash = HasRisenBy 3 before.device.faults after.device.faults
 Refuses c before after (Damaged place) = IsJudged c before after (Err (damaged place))

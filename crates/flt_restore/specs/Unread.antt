@@ -1,4 +1,4 @@
--- What could not be read where a start-up answers that the flash failed it.
+-- What could not be read if a start-up answers that the flash failed.
 use Rattle.std.specs.Prelude.{◌⊎◌, ℕ, ◌≤◌, Err, IsTrue}
 use Rattle.flt_flash.specs.State.{HasRisenBy}
 use Rattle.flt_flash.specs.Blocks.{BlocksState}
@@ -10,7 +10,7 @@ use Rattle.flt_nvm.specs.Reads.{LooksInAJob}
 use Rattle.flt_config.specs.declared.config.Config.{Config}
 use Rattle.flt_generation.specs.Layout.{mark_number, first_commit, second_commit, number_of, is_used}
 
--- Among these calls three reads of a number in a row were failed by the flash.
+-- Among these calls the flash failed three reads of a number in a row.
 pub record FailsToRead (number : ℕ) (before after : BlocksState) : Type 0 where
   pub first : BlocksState
   pub last : BlocksState
@@ -18,8 +18,8 @@ pub record FailsToRead (number : ℕ) (before after : BlocksState) : Type 0 wher
   pub fails : LooksInAJob {T = Got} number first last (Err Flash)
   pub later : Follows last after
 
--- The first copy of the commit could not be read, and the second has no bytes or could not be read either; or the first has none, and
--- the second could not be read.
+-- The first copy of the commit could not be read, and the second has no bytes or could not be read either; or the first has no bytes,
+-- and the second could not be read.
 abbrev pub IsCommitUnread : BlocksState → BlocksState → Type 0
 IsCommitUnread before after =
     HasRisenBy 6 before.device.faults after.device.faults

@@ -7,7 +7,7 @@ use Rattle.flt_model.specs.Status.{durable, ages}
 use Rattle.flt_config.specs.declared.config.EventCfg.{EventCfg}
 use Rattle.flt_config.specs.declared.persist.EventState.{EventState}
 
--- The state is what the base and the marks behind it decide.
+-- The state is what the base and the marks after it decide.
 abbrev pub IsDecidedBy : EventCfg → EventState → Past → EventState → Type 0
 IsDecidedBy rules base past state = state ≡ durable base rules past
 
@@ -15,6 +15,6 @@ IsDecidedBy rules base past state = state ≡ durable base rules past
 abbrev pub with_cycle_end : EventCfg → EventState → Past → Past
 with_cycle_end rules base past = if ages base rules past then Aged ∷ Cycle ∷ past else Cycle ∷ past
 
--- A state that fits stands for itself, with no mark behind it.
+-- A state that fits stands for itself, with no marks after it.
 abbrev pub FittingStateLaw : Type 0
 FittingStateLaw = (rules : EventCfg) (state : EventState) → IsStateOf rules state → IsDecidedBy rules state [] state

@@ -1,4 +1,4 @@
--- What one mark makes of a state, whatever marks led to it, and if none did.
+-- How one mark changes a state, whatever marks led to it, or none.
 use Rattle.std.specs.Prelude.{Bool, false, [], ◌∷◌}
 use Rattle.flt_config.specs.declared.config.EventCfg.{EventCfg}
 use Rattle.flt_config.specs.declared.persist.EventState.{EventState}
@@ -13,12 +13,12 @@ use Rattle.flt_status.specs.declared.step.FailedMark.{FailedMark}
 abbrev pub with_bits : EventState → Status → EventState
 with_bits state bits = record state { status = byte_of bits }
 
--- After a passed test bits 0, 4 and 6 are 0, and all else is as before.
+-- After a passed test bits 0, 4 and 6 are 0, and everything else is as before.
 abbrev pub after_passed : EventState → EventState
 after_passed state =
     with_bits state (record (status_of state.status) { test_failed = false; not_completed_since_clear = false; not_completed_this_cycle = false })
 
--- After a displacement bits 3 and 7 are 0 and the event is not lit, and all else is as before.
+-- After a displacement bits 3 and 7 are 0 and the event is not lit, and everything else is as before.
 abbrev pub after_displaced : EventState → EventState
 after_displaced state =
     record (with_bits state (record (status_of state.status) { confirmed = false; indicator_requested = false })) { lit = false }
@@ -27,7 +27,7 @@ after_displaced state =
 abbrev pub after_failed : EventCfg → EventState → EventState
 after_failed rules state = durable state rules (Failed ∷ [])
 
--- What the failure changes besides.
+-- What else the failure changes.
 abbrev pub failed_mark : EventCfg → EventState → FailedMark
 failed_mark rules state = record { entered = enters state []; confirmed = confirms state rules [] }
 

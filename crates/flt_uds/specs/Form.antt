@@ -1,4 +1,4 @@
--- What stands behind a sub-function, as the model tells it.
+-- What follows a sub-function, as the model defines it.
 use Rattle.flt_model.specs.Request.{Form as Meant, Plain, Masked, Recorded, Optioned}
 use Rattle.flt_model.specs.declared.request.Request.TheVariants as request
 use Rattle.flt_uds.specs.declared.form.Form.{Form}

@@ -1,4 +1,4 @@
--- How each request is spelled (ISO 14229-1, in this profile): the other way round than it is read.
+-- How each request is spelled (ISO 14229-1, in this profile): the inverse of how it is read.
 use Rattle.std.specs.Prelude.{◌≡◌, ℕ, ◌+◌, ◌==◌, Bool, true, not, ◌||◌, if◌then◌else◌, List, [], ◌∷◌, ◌++◌}
 use Rattle.flt_model.specs.Request.{is_record_number}
 use Rattle.flt_model.specs.Response.{dtc_bytes, sub_of_session, sub_of_setting}
@@ -6,7 +6,7 @@ use Rattle.flt_model.specs.declared.request.Request.{Request}
 use Rattle.flt_model.specs.declared.request.Request.TheVariants.{Session, Present, Clear, Setting, Count, ByMask, Snapshots, Snapshot, Extended, Supported, Noted, Counters}
 use Rattle.flt_model.specs.declared.request.Asked.{Asked}
 
--- A sub-function, with bit 7 where the positive response is suppressed.
+-- A sub-function, with bit 7 if the positive response is suppressed.
 abbrev pub with_bit_7 : Bool → ℕ → ℕ
 with_bit_7 silent sub = if silent then sub + 128 else sub
 
@@ -33,12 +33,12 @@ is_known silent (Extended dtc number) = is_record_number number
 is_known silent (Noted sub) = (sub == 0x0B) || (sub == 0x0C) || (sub == 0x0D) || (sub == 0x0E)
 is_known silent _ = true
 
--- The request may be made in this session: the DTC setting in the extended one alone.
+-- The request may be made in this session: the DTC setting only in the extended one.
 abbrev pub is_open : Bool → Request → Bool
 is_open extended (Setting on) = extended
 is_open extended _ = true
 
--- What may stand behind these bytes: nothing, or the three option bytes FF of a setting.
+-- What may follow these bytes: nothing, or the three option bytes FF of a setting.
 abbrev pub IsEnd : Request → List ℕ → Type 0
 IsEnd request [] = Unit {0}
 IsEnd (Setting on) rest = rest ≡ 0xFF ∷ 0xFF ∷ 0xFF ∷ []
