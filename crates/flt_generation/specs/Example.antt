@@ -32,7 +32,7 @@ small = record { id = 7; memory = 1; pages = 64; blocks = 0; events = record { i
 abbrev pub many : Config
 many = record { id = 7; memory = 1; pages = 96; blocks = 0; events = record { items = replicate 65 event } }
 
--- It has four events, of which the third has an indicator.
+-- It has four events, the third of which has an indicator.
 abbrev pub four : Config
 four = record { id = 7; memory = 1; pages = 64; blocks = 0; events = record { items = event ∷ event ∷ record event { indicator = true } ∷ event ∷ [] } }
 
@@ -46,7 +46,7 @@ old_mark = bytes (0x01 ∷ 0x00 ∷ 0x07 ∷ 0x00 ∷ 0x01 ∷ 0x01 ∷ 0x00 ∷
 abbrev pub other_mark : Content
 other_mark = bytes (0x02 ∷ 0x00 ∷ 0x08 ∷ 0x00 ∷ 0x01 ∷ 0x01 ∷ 0x00 ∷ 0x00 ∷ [])
 
--- The commit of a generation, with these bits for the blocks 3 to 10: its blocks are 3, 4 and 8, of the bits 01, 02 and 20.
+-- The commit of a generation, with these bits for the blocks 3 to 10: its blocks are 3, 4 and 8, with the bits 01, 02 and 20.
 abbrev pub commit : ℕ → ℕ → Content
 commit generation bits = bytes (0x02 ∷ 0x00 ∷ 0x00 ∷ 0x00 ∷ generation ∷ bits ∷ 0x00 ∷ 0x00 ∷ 0x00 ∷ 0x00 ∷ [])
 
@@ -59,7 +59,7 @@ old_commit generation summary states entry =
 abbrev pub summary : Content
 summary = bytes (0x01 ∷ 0x00 ∷ 0x01 ∷ 0x00 ∷ replicate 28 0x00)
 
--- Sixteen states, of which the first has this status and failed count 1.
+-- Sixteen states, the first of which has this status and failed count 1.
 abbrev pub states : ℕ → Content
 states status = bytes (status ∷ 0x01 ∷ 0x00 ∷ 0x00 ∷ concat (replicate 15 (0x50 ∷ 0x00 ∷ 0x00 ∷ 0x00 ∷ [])))
 
@@ -68,7 +68,7 @@ abbrev pub entry : ℕ → ℕ → List ℕ → Content
 entry event occurrence recent =
     bytes (0x00 ∷ event ∷ occurrence ∷ 0x02 ∷ 0x01 ∷ 0x02 ∷ (replicate 30 0x00 ++ recent ++ replicate 30 0x00))
 
--- The state of the event after it failed this often, with this status and this recent frame.
+-- The state of the event after it failed this many times, with this status and this recent frame.
 abbrev pub failed_state : ℕ → ℕ → List ℕ → Persist
 failed_state status occurrence recent = record {
   events = record { items = record { status = status; failed = 1; clean = 0; lit = false } ∷ [] };
@@ -87,7 +87,7 @@ failed_state status occurrence recent = record {
   recent_confirmed = Some 0;
 }
 
--- What stands under a number.
+-- What a number holds.
 pub record Kept : Type 0 where
   pub number : ℕ
   pub content : Content
@@ -96,7 +96,7 @@ pub record Kept : Type 0 where
 abbrev pub block : ℕ → ℕ → Content → Kept
 block id index content = record { number = number_of id index; content = content }
 
--- Each number holds what stands first under it, and nothing where nothing does.
+-- Each number holds what comes first for it, and otherwise nothing.
 abbrev pub holds : List Kept → ℕ → Content
 holds [] number = missing
 holds (kept ∷ rest) number = if kept.number == number then kept.content else holds rest number
@@ -110,7 +110,7 @@ pub record Judged : Type 0 where
 abbrev pub judged : List Kept → Result Generation Fault → Result Generation Fault → Judged
 judged blocks by_first by_second = record { blocks = blocks; held = by_first; spare = by_second }
 
--- The maps are judged so.
+-- The maps are judged as given.
 pub record AreJudged (c : Config) (rows : List Judged) : Type 0 where
   pub by_first : map (λ row. held c (holds row.blocks)) rows ≡ map (λ row. row.held) rows
   pub by_second : map (λ row. spare c (holds row.blocks)) rows ≡ map (λ row. row.spare) rows

@@ -20,7 +20,7 @@ second = record { number = 2; state = failed_state 0x2F 2 (0x03 ∷ 0x04 ∷ [])
 abbrev pub first_entry : Content
 first_entry = entry 0 1 (0x01 ∷ 0x02 ∷ [])
 
--- Its blocks, where the summary and the states stayed and the entry changed.
+-- Its blocks, where the summary and the states are unchanged and the entry changed.
 abbrev pub blocks : List Kept
 blocks =
     block 1 0 own_mark ∷ block 3 0 summary ∷ block 4 0 (states 0x2F)
@@ -36,8 +36,8 @@ first_commit = commit 1 0x00
 abbrev pub second_commit : Content
 second_commit = commit 2 0x20
 
--- Which generation the two copies of the commit name: before and after each step of a save, and where a copy has no bytes. Nothing
--- stands in an image that was never saved.
+-- Which generation the two copies of the commit name: before and after each step of a save, and if a copy has no bytes. An image
+-- that was never saved holds nothing.
 abbrev pub CopiesOfCommit : Type 0
 CopiesOfCommit =
     AreJudged small
@@ -68,13 +68,13 @@ bad_applications = block 64 0 invalid ∷ block 65 0 (bytes (replicate 33 0)) �
 abbrev pub faulty : List Kept → Fault → Judged
 faulty kept fault = judged kept (Err fault) (Err fault)
 
--- A mark, both copies of the commit, the summary, the states, the entry and what stands beside them.
+-- A mark, both copies of the commit, the summary, the states, the entry and other blocks.
 abbrev pub standing : Content → Content → Content → Content → Content → List Kept → List Kept
 standing mark both third fourth eighth rest =
     block 1 0 mark ∷ block 2 0 both ∷ block 2 1 both ∷ block 3 0 third ∷ block 4 0 fourth ∷ block 8 0 eighth ∷ rest
 
--- Each block is wrong, and they are mended one after the other: the mark, the commit, the summary, the states, the entry, the application
--- blocks, the excess.
+-- Each block is wrong, and they are corrected one after the other: the mark, the commit, the summary, the states, the entry, the
+-- application blocks, the excess.
 abbrev pub FaultsInOrder : Type 0
 FaultsInOrder =
     AreJudged small
@@ -96,14 +96,14 @@ FaultsInOrder =
     ∷ judged (standing own_mark first_commit summary (states 0x2F) first_entry beyond) (Ok first) (Ok first)
     ∷ [])
 
--- Generation 1 as an image of version 1 has it: each byte of an index is as the block stands.
+-- Generation 1 as an image of version 1 has it: each byte of an index is where the block is.
 abbrev pub old_first_commit : Content
 old_first_commit = old_commit 1 0 0 0
 
 abbrev pub old_second_commit : Content
 old_second_commit = old_commit 2 0 0 1
 
--- The blocks beside a mark of version 1.
+-- The blocks with a mark of version 1.
 abbrev pub old_blocks : Content → Content → List Kept
 old_blocks copy_1 copy_2 = block 1 0 old_mark ∷ with_copies copy_1 copy_2
 
@@ -111,10 +111,10 @@ old_blocks copy_1 copy_2 = block 1 0 old_mark ∷ with_copies copy_1 copy_2
 abbrev pub twice : List ℕ → List Kept
 twice held = with_copies (bytes held) (bytes held)
 
--- What copy 1 and copy 2 name where they are of version 1 (old) or 2. An image of version 1, before its first save, in it and behind it, in
--- a second one; the same with its mark written anew. A save in version 2 that was cut between the copies; the same where copy 1 has no bytes
--- any more, and where the start-up behind it wrote copy 2 over copy 1, or copy 1 over copy 2. Copies of one commit in two versions, and a
--- mark of version 1 beside a commit of version 2. Bytes that are of neither version: a number 0, an index 2, a used block without an index,
+-- What copy 1 and copy 2 name if they are of version 1 (old) or 2. An image of version 1, before its first save, during it and after it, in
+-- a second one; the same with its mark written anew. A save in version 2 that was cut between the copies; the same where copy 1 has no
+-- bytes any more, and where the start-up after it wrote copy 2 over copy 1, or copy 1 over copy 2. Copies of one commit in two versions, and
+-- a mark of version 1 with a commit of version 2. Bytes that are of neither version: a number 0, an index 2, a used block without an index,
 -- one that is not used with an index, the length of the other version, and version 3.
 abbrev pub OldImages : Type 0
 OldImages =
@@ -159,7 +159,7 @@ noted = record {
   };
 }
 
--- Its blocks beside a mark of this version, both copies of a commit, and a summary with this byte for the overflow.
+-- Its blocks with a mark of this version, both copies of a commit, and a summary with this byte for the overflow.
 abbrev pub of_four : ℕ → Content → ℕ → List Kept
 of_four version both overflow =
     block 1 0 (bytes (version ∷ 0x00 ∷ 0x07 ∷ 0x00 ∷ 0x04 ∷ 0x01 ∷ 0x00 ∷ 0x00 ∷ []))
@@ -169,7 +169,7 @@ of_four version both overflow =
     ∷ concat (replicate 12 (0x50 ∷ 0x00 ∷ 0x00 ∷ 0x00 ∷ []))))
     ∷ block 8 0 (entry 2 254 (0x03 ∷ 0x04 ∷ [])) ∷ []
 
--- Where each field stands in the bytes, in both versions of the image; and an overflow is 00 or 01.
+-- Where each field is in the bytes, in both versions of the image; and an overflow is 00 or 01.
 abbrev pub EachField : Type 0
 EachField =
     AreJudged four
@@ -178,7 +178,7 @@ EachField =
     ∷ faulty (of_four 2 (commit 1 0x00) 0x02) (damaged (Block 3))
     ∷ [])
 
--- The last of 65 events failed once: its state is the first of the block 24, which the commit names at index 1.
+-- The last of 65 events failed once: its state is the first of block 24, which the commit names at index 1.
 abbrev pub last_failed : Generation
 last_failed = record {
   number = 1;
@@ -199,7 +199,7 @@ last_failed = record {
 abbrev pub start_states : Content
 start_states = bytes (concat (replicate 16 (0x50 ∷ 0x00 ∷ 0x00 ∷ 0x00 ∷ [])))
 
--- Its blocks beside both copies of a commit and what stands in the block 24 at index 1.
+-- Its blocks with both copies of a commit and this content of block 24 at index 1.
 abbrev pub of_many : List ℕ → Content → List Kept
 of_many both later =
     block 1 0 (bytes (0x02 ∷ 0x00 ∷ 0x07 ∷ 0x00 ∷ 0x41 ∷ 0x01 ∷ 0x00 ∷ 0x00 ∷ []))
@@ -208,7 +208,7 @@ of_many both later =
     ∷ map (λ id. block id 0 start_states) (4 ∷ 5 ∷ 6 ∷ 7 ∷ [])
     ++ block 8 0 (entry 0x40 1 (0x01 ∷ 0x02 ∷ [])) ∷ block 24 1 later ∷ []
 
--- The commit names the block 24 at index 1; the block 25, which is not used, has no index; and version 1 has none for the block 24.
+-- The commit names block 24 at index 1; block 25, which is not used, has no index; and version 1 has no index for block 24.
 abbrev pub ManyEvents : Type 0
 ManyEvents =
     AreJudged many
@@ -219,7 +219,7 @@ ManyEvents =
     ∷ faulty (of_many (0x01 ∷ 0x00 ∷ 0x00 ∷ 0x00 ∷ 0x01 ∷ replicate 6 0x00 ++ replicate 15 0xFF) (states 0x2F)) (damaged (Block 2))
     ∷ [])
 
--- The pages of the records that a save writes: none where no byte changed, the entry's 5 from generation 1 to 2, and where nothing was known
+-- The pages of the records that a save writes: 0 if no byte changed, the entry's 5 from generation 1 to 2, and if nothing was known
 -- before also the 3 of the summary and the 4 of the states.
 abbrev pub ChangedPages : Type 0
 ChangedPages =

@@ -14,7 +14,7 @@ is_own_part c number = is_used c (id_of number) && nat_le (index_of number) 1
 abbrev pub is_own_application : Config → ℕ → Bool
 is_own_application c number = (index_of number == 0) && nat_le first_application (id_of number) && nat_lt (id_of number) (first_application + c.blocks)
 
--- The pages of the longest record that this configuration keeps under a number, 0 where it keeps none.
+-- The pages of the longest record that this configuration keeps under a number, or 0 if it keeps none.
 unfoldable pub own_pages : Config → ℕ → ℕ
 own_pages c number =
     if number == mark_number then record_pages mark_length
@@ -27,6 +27,6 @@ own_pages c number =
 abbrev pub excess : Config → (ℕ → Content) → ℕ
 excess c value = sum_by (λ number. pages_of (value number) - own_pages c number) numbers
 
--- The pages that the configuration leaves bear it.
+-- They fit into the pages that the configuration leaves.
 abbrev pub IsBorne : Config → (ℕ → Content) → Type 0
 IsBorne c value = excess c value + needed_pages c ≤ c.pages

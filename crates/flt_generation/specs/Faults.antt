@@ -1,4 +1,4 @@
--- Why an image holds no generation: each fault by itself, and the order in which they are judged.
+-- Why an image holds no generation: each fault on its own, and the order in which they are judged.
 use Rattle.std.specs.Prelude.{◌≡◌, ◌≢◌, ◌⊎◌, ℕ, zero, suc, ◌+◌, ◌*◌, ◌<◌, List, length, IsTrue, IsFalse}
 use Rattle.flt_flash.specs.Content.{Content, missing, invalid, bytes}
 use Rattle.flt_config.specs.declared.config.Config.{Config}
@@ -12,7 +12,7 @@ use Rattle.flt_generation.specs.Fit.{part_fits}
 use Rattle.flt_generation.specs.Excess.{IsBorne}
 use Rattle.flt_generation.specs.Holding.{Fault, damaged, other, is_application}
 
--- The mark is missing beside a commit, invalid, or of bytes that are no mark.
+-- The mark is missing while there is a commit, or invalid, or of bytes that are not a mark.
 pub data IsMarkDamaged (mark commit : Content) : Type 0 where
   mark_missing : mark ≡ missing → commit ≢ missing → IsMarkDamaged mark commit
   mark_invalid : mark ≡ invalid → IsMarkDamaged mark commit
@@ -26,7 +26,7 @@ pub record IsOthers (c : Config) (mark : Content) (found : Mark) : Type 0 where
   pub reads : IsBytesOfMark found held
   pub differs : found ≢ mark_of c
 
--- The commit is invalid, or of bytes that are no commit of the configuration.
+-- The commit is invalid, or of bytes that are not a commit of the configuration.
 pub data IsCommitDamaged (c : Config) (commit : Content) : Type 0 where
   commit_invalid : commit ≡ invalid → IsCommitDamaged c commit
   no_commit : (held : List ℕ) → commit ≡ bytes held → ((form : Commit) → IsCommit c form → IsBytesOfCommit form held → ⊥) → IsCommitDamaged c commit
@@ -37,7 +37,7 @@ pub record HoldBelow (c : Config) (value : ℕ → Content) (commit : Commit) (b
   pub blocks : (id : ℕ) → IsTrue (is_used c id) → id < bound → value (number_of id (index_in commit id)) ≡ bytes (block_bytes state id)
   pub fits : (id : ℕ) → IsTrue (is_used c id) → id < bound → IsTrue (part_fits c state (part_of id))
 
--- There is a commit, and the blocks up to this used one hold the parts of no state.
+-- There is a commit, and the blocks up to this used one do not hold the parts of any state.
 pub record IsPartDamaged (c : Config) (value : ℕ → Content) (commit : Content) (id : ℕ) : Type 0 where
   pub held : List ℕ
   pub is : commit ≡ bytes held
@@ -54,7 +54,7 @@ pub record IsApplicationDamaged (value : ℕ → Content) (id : ℕ) : Type 0 wh
   pub within : block < applications
   pub damaged_there : IsFalse (is_application (value (application_number block)))
 
--- What may be told of an image with this commit: a fault of it.
+-- What may be reported about an image with this commit: a fault of it.
 abbrev pub HasFault : Config → (ℕ → Content) → Content → Fault → Type 0
 HasFault c value commit (other mark) = IsOthers c (value mark_number) mark
 HasFault c value commit (damaged (Page sector page)) = ⊥
@@ -65,8 +65,8 @@ HasFault c value commit (damaged (Block id)) =
     ⊎ IsApplicationDamaged value id
     ⊎ ((id ≡ 0) × (IsBorne c value → ⊥))
 
--- The place of a fault in the order of judging: the pages, then the blocks by their identifiers, another configuration's mark behind the
--- block of the mark, and the excess, which is told at 0, behind all others.
+-- The place of a fault in the order of judging: the pages, then the blocks by their identifiers, another configuration's mark after the
+-- block of the mark, and the excess, which is reported at 0, after all others.
 abbrev pub judging_order : Fault → ℕ
 judging_order (damaged (Page sector page)) = 0
 judging_order (damaged (Block zero)) = 2 * (first_application + applications)

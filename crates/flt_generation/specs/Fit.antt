@@ -15,7 +15,7 @@ use Rattle.flt_generation.specs.declared.part.Part.TheVariants.{Summary, States,
 abbrev pub has_bit : ℕ → ℕ → Bool
 has_bit status worth = not (bit_and status worth == 0)
 
--- The counts are in range; bit 7 is set exactly while the event is lit and not healed; it is lit with bit 3 and an indicator.
+-- The counts are in range; bit 7 is set if and only if the event is lit and not healed; it is lit only with bit 3 and an indicator.
 unfoldable pub state_fits : EventCfg → EventState → Bool
 state_fits event state =
     nat_le state.status 255 && nat_le state.failed 255 && nat_le state.clean 510
@@ -27,7 +27,7 @@ abbrev pub state_fits_at : Option EventCfg → EventState → Bool
 state_fits_at None state = true
 state_fits_at (Some event) state = state_fits event state
 
--- The states of so many events from this one on.
+-- The states of this many events from this one on.
 unfoldable pub states_fit : List EventCfg → List EventState → ℕ → ℕ → Bool
 states_fit events states first count =
     list_all (λ place. state_fits_at (slice_get events (first + place)) (slice_index_or states (first + place) start_state)) (range_with_len 0 count)
@@ -44,7 +44,7 @@ abbrev pub is_alone : List EntryState → ℕ → ℕ → Bool
 is_alone entries place event =
     is_none (position (is_of_event event) (take place entries)) && is_none (position (is_of_event event) (drop (place + 1) entries))
 
--- The entry at a place, if there is one, fits beside the others.
+-- The entry at a position, if there is one, fits together with the others.
 abbrev pub place_fits : List EventCfg → List EntryState → ℕ → Option EntryState → Bool
 place_fits events entries place None = true
 place_fits events entries place (Some entry) = entry_fits_at (slice_get events entry.event) entry && is_alone entries place entry.event
@@ -61,7 +61,7 @@ summary_fits c p =
     && note_fits c.events.items p.first_failed && note_fits c.events.items p.first_confirmed
     && note_fits c.events.items p.recent_failed && note_fits c.events.items p.recent_confirmed
 
--- A part of a state fits a configuration beside what the state holds else.
+-- A part of a state fits a configuration, together with the rest of the state.
 abbrev pub part_fits : Config → Persist → Part → Bool
 part_fits c p Summary = summary_fits c p
 part_fits c p (States first) = states_fit c.events.items p.events.items first 16

@@ -92,7 +92,7 @@ IsBytesOfCommit commit held = (held ≡ commit_bytes commit) ⊎ (HasNoLater com
 abbrev pub IsBytesOfMark : Mark → List ℕ → Type 0
 IsBytesOfMark mark held = (held ≡ mark_bytes mark) ⊎ (held ≡ mark_bytes_1 mark)
 
--- A noted event, or FFFF for none.
+-- A noted event, or FFFF if there is none.
 abbrev pub note_word : Option ℕ → ℕ
 note_word None = 0xFFFF
 note_word (Some event) = event
@@ -107,11 +107,11 @@ summary_bytes p =
     ∷ note_bytes p.first_failed ++ note_bytes p.first_confirmed ++ note_bytes p.recent_failed ++ note_bytes p.recent_confirmed
     ++ replicate 20 0
 
--- The status, the failed count, the clean count with its top bit set where the event is lit.
+-- The status, the failed count, the clean count with its top bit set if the event is lit.
 unfoldable pub state_bytes : EventState → List ℕ
 state_bytes state = state.status ∷ state.failed ∷ be16 (state.clean + 0x8000 * flag state.lit)
 
--- The states of so many events from this one on, those past the last in their start state.
+-- The states of this many events from this one on, those past the last in their start state.
 unfoldable pub first_states : List EventState → ℕ → ℕ → List ℕ
 first_states states first count =
     concat (map (λ place. state_bytes (slice_index_or states (first + place) start_state)) (range_with_len 0 count))
@@ -120,7 +120,7 @@ first_states states first count =
 abbrev pub states_bytes : List EventState → ℕ → List ℕ
 states_bytes states first = first_states states first states_per_block
 
--- A frame, filled up with 00 to 32 bytes.
+-- A frame, padded with 00 to 32 bytes.
 abbrev pub padded : List ℕ → List ℕ
 padded frame = frame ++ replicate (32 - length frame) 0
 
@@ -133,7 +133,7 @@ entry_bytes entry =
 unfoldable pub no_entry_bytes : List ℕ
 no_entry_bytes = 0xFF ∷ 0xFF ∷ replicate 66 0
 
--- The entry at a place, if there is one.
+-- The entry at a position, if there is one.
 abbrev pub place_bytes : Option EntryState → List ℕ
 place_bytes None = no_entry_bytes
 place_bytes (Some entry) = entry_bytes entry
@@ -148,7 +148,7 @@ part_bytes p (Entry place) = place_bytes (slice_get p.entries.items place)
 abbrev pub block_bytes : Persist → ℕ → List ℕ
 block_bytes p id = part_bytes p (part_of id)
 
--- How many bytes the mark, the summary, a block of states and an entry have, how many a commit may have and has in version 2, and how many
+-- The number of bytes that the mark, the summary, a block of states and an entry have, that a commit may have and has in version 2, and that
 -- an application block may have.
 abbrev pub mark_length : ℕ
 mark_length = 8
@@ -171,7 +171,7 @@ entry_length = 68
 abbrev pub application_length : ℕ
 application_length = 32
 
--- How many bytes a part has.
+-- The number of bytes of a part.
 abbrev pub part_length : Part → ℕ
 part_length Summary = summary_length
 part_length (States first) = states_length

@@ -38,14 +38,14 @@ later_states_id = first_entry_id + entries
 abbrev pub later_states_blocks : ℕ
 later_states_blocks = 12
 
--- Behind the last part, and how many there are.
+-- The identifier after the last part's, and the number of parts.
 abbrev pub end_part : ℕ
 end_part = later_states_id + later_states_blocks
 
 abbrev pub parts : ℕ
 parts = end_part - first_part
 
--- How many events have their states in one block, and the first event of the later blocks.
+-- The number of events whose states are in one block, and the first event of the later blocks.
 abbrev pub states_per_block : ℕ
 states_per_block = 16
 

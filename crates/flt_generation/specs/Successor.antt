@@ -9,34 +9,34 @@ use Rattle.flt_generation.specs.declared.commit.Commit.{Commit}
 use Rattle.flt_generation.specs.Layout.{first_part, end_part, parts, number_of, is_used, index_in}
 use Rattle.flt_generation.specs.Form.{commit_bytes, block_bytes, IsBytesOfCommit}
 
--- What is written as a commit; none before the first save.
+-- What is written as a commit; nothing before the first save.
 abbrev pub commit_content : Option Commit → Content
 commit_content None = missing
 commit_content (Some commit) = bytes (commit_bytes commit)
 
--- A commit copy has bytes of this commit, in a version that is read; none is written before the first save.
+-- A commit copy has bytes of this commit, in a version that is read; no copy is written before the first save.
 abbrev pub IsContentOf : Option Commit → Content → Type 0
 IsContentOf None content = content ≡ missing
 IsContentOf (Some commit) content = (held : List ℕ) × (content ≡ bytes held) × IsBytesOfCommit commit held
 
--- The number of the generation that a commit names; none names the first, of number 0.
+-- The number of the generation that a commit names; without a commit it is the first, of number 0.
 abbrev pub number_in : Option Commit → ℕ
 number_in None = 0
 number_in (Some commit) = commit.generation
 
--- Where the next commit names a used block: at 0 where there was no commit; else at the index where it stands, where its bytes stayed,
--- and at the other one, where they changed.
+-- The index at which the next commit names a used block: 0 if there was no commit; else its current index if its bytes did not change,
+-- and the other one if they did.
 abbrev pub IsPlaced : Option Commit → List ℕ → List ℕ → ℕ → ℕ → Type 0
 IsPlaced None before after id index = index ≡ 0
 IsPlaced (Some commit) before after id index =
     ((before ≡ after) × (index ≡ index_in commit id)) ⊎ ((before ≢ after) × (index ≤ 1) × (index_in commit id ≢ index))
 
--- What the next commit has for a block, by its bytes before and after: its place, or FF for one that is not used.
+-- What the next commit has for a block, by its bytes before and after: its index, or FF for one that is not used.
 pub record IsNextIndex (c : Config) (current : Option Commit) (before after : List ℕ) (id index : ℕ) : Type 0 where
   pub used : IsTrue (is_used c id) → IsPlaced current before after id index
   pub unused : IsFalse (is_used c id) → index ≡ 0xFF
 
--- The next commit has the next number, and such an index for each block; the bytes of the two generations are told by identifier.
+-- The next commit has the next number, and such an index for each block; the bytes of the two generations are given by identifier.
 pub record IsNext (c : Config) (current : Option Commit) (before after : ℕ → List ℕ) (next : Commit) : Type 0 where
   pub number : next.generation ≡ number_in current + 1
   pub size : length next.index ≡ parts
@@ -62,7 +62,7 @@ pub record IsNewBlock (c : Config) (current : Option Commit) (next : Commit) (af
   pub place : number ≡ number_of id (index_in next id)
   pub is : content ≡ bytes (after id)
 
--- Each number holds what it held, but that this block may have been written.
+-- Each number holds what it held, except that this block may have been written.
 abbrev pub OnlyNewBlock : Config → Option Commit → Commit → (ℕ → List ℕ) → ℕ → (ℕ → Content) → (ℕ → Content) → Type 0
 OnlyNewBlock c current next bytes_of id before after =
     (number : ℕ) → (after number ≡ before number) ⊎ IsNewBlock c current next bytes_of id number (after number)
@@ -72,7 +72,7 @@ abbrev pub OnlyNewBlocks : Config → Option Commit → Commit → (ℕ → List
 OnlyNewBlocks c current next bytes_of before after =
     (number : ℕ) → (after number ≡ before number) ⊎ ((id : ℕ) × IsNewBlock c current next bytes_of id number (after number))
 
--- Each used block whose bytes are those of the state before stands at the index at which it stood.
+-- Each used block whose bytes did not change is at the index at which it was.
 abbrev pub KeepsIndices : Config → Persist → Persist → Commit → Commit → Type 0
 KeepsIndices c before after current next =
     (id : ℕ) → IsTrue (is_used c id) → block_bytes before id ≡ block_bytes after id → index_in next id ≡ index_in current id

@@ -12,7 +12,7 @@ pub record Current : Type 0 where
   pub sector : ℕ
   pub sequence : ℕ
 
--- Of the valid sectors the one of the greater number; one number in both is a fault.
+-- Of the valid sectors the one with the greater number; the same number in both is a fault.
 abbrev pub greater_of : Option ℕ → Option ℕ → Result (Option Current) (ℕ × ℕ)
 greater_of None None = Ok None
 greater_of (Some first) None = Ok (Some record { sector = 0; sequence = first })
@@ -47,11 +47,11 @@ fault_by used numbers image (Ok (Some at)) = place_in at.sector (log used number
 abbrev pub first_fault : ℕ → List ℕ → List (List (List ℕ)) → Option (ℕ × ℕ)
 first_fault used numbers image = fault_by used numbers image (current used image)
 
--- The bytes behind a head.
+-- The bytes after a head.
 abbrev pub bytes_behind : List (List ℕ) → Entry → List ℕ
 bytes_behind pages entry = take entry.length (flat_map (λ page. page) (slice_range pages (entry.page + 1) (entry.page + 1 + byte_pages entry.length)))
 
--- A later record, or else this one, where it is complete and of the block.
+-- A later record, or else this one, if it is complete and of the block.
 abbrev pub or_earlier : Option Entry → Entry → ℕ → Option Entry
 or_earlier (Some later) entry block = Some later
 or_earlier None entry block = if entry.complete && (entry.block == block) then Some entry else None

@@ -1,4 +1,4 @@
--- The faults of an image, each by itself, and the order in which a mount looks for them.
+-- The faults of an image, each on its own, and the order in which a mount looks for them.
 use Rattle.std.specs.Prelude.{◌≡◌, ◌≢◌, ◌⊎◌, ℕ, ◌+◌, ◌*◌, ◌≤◌, ◌<◌, Bool, List, [], Some, IsTrue, IsFalse, slice_index_or}
 use Rattle.flt_flash.specs.Blocks.{byte_pages}
 use Rattle.flt_flash.specs.Image.{sector_at}
@@ -12,7 +12,7 @@ use Rattle.flt_sector.specs.Reached.{IsHead, IsReached, gate_page}
 
 -- ---- the gates
 
--- A start gate of so many used pages.
+-- A start gate of this many used pages.
 abbrev pub IsStart : ℕ → Word → Type 0
 IsStart used (Start sequence pages) = pages ≡ used
 IsStart used (Active sequence) = ⊥
@@ -26,11 +26,11 @@ IsActive (Start sequence pages) = ⊥
 IsActive (Head block length valid page) = ⊥
 IsActive (Gate block page) = ⊥
 
--- Page 0 is spoiled, or a code word but no start gate of the used pages.
+-- Page 0 is spoiled, or a code word other than a start gate of the used pages.
 abbrev pub HasWrongStart : ℕ → List (List ℕ) → Type 0
 HasWrongStart used pages = IsTrue (is_spoiled (slice_index_or pages 0 [])) ⊎ SaysOther (IsStart used) (slice_index_or pages 0 [])
 
--- The two gates name two numbers.
+-- The two gates name different numbers.
 pub record NamesTwo (used : ℕ) (pages : List (List ℕ)) : Type 0 where
   pub first : ℕ
   pub second : ℕ
@@ -38,21 +38,21 @@ pub record NamesTwo (used : ℕ) (pages : List (List ℕ)) : Type 0 where
   pub active : Says (Active second) (slice_index_or pages 1 [])
   pub differ : first ≢ second
 
--- Page 1 is spoiled, or a code word but no active gate, or names another number than page 0.
+-- Page 1 is spoiled, or a code word other than an active gate, or names another number than page 0.
 abbrev pub HasWrongActive : ℕ → List (List ℕ) → Type 0
 HasWrongActive used pages =
     IsTrue (is_spoiled (slice_index_or pages 1 [])) ⊎ SaysOther IsActive (slice_index_or pages 1 []) ⊎ NamesTwo used pages
 
--- Both gates stand and name this number.
+-- Both gates are there and name this number.
 pub record IsValidSector (used : ℕ) (pages : List (List ℕ)) (sequence : ℕ) : Type 0 where
   pub start : Says (Start sequence used) (slice_index_or pages 0 [])
   pub active : Says (Active sequence) (slice_index_or pages 1 [])
 
--- No sector of the two is valid.
+-- Neither sector is valid.
 abbrev pub HasNoSector : ℕ → List (List (List ℕ)) → Type 0
 HasNoSector used image = (sector sequence : ℕ) → sector < 2 → IsValidSector used (sector_at image sector) sequence → ⊥
 
--- Of the two sectors this one is valid, and the other one is not or has a lesser number.
+-- This one of the two sectors is valid, and the other one is not or has a smaller number.
 pub record IsCurrent (used : ℕ) (image : List (List (List ℕ))) (sector sequence : ℕ) : Type 0 where
   pub within : sector < 2
   pub valid : IsValidSector used (sector_at image sector) sequence
@@ -68,19 +68,19 @@ module _ (used : ℕ) (numbers : List ℕ) (pages : List (List ℕ)) where
     pub is_code : unsealed (slice_index_or pages page []) ≡ Some code
     pub no_head : (block length : ℕ) (valid : Bool) → IsHead used numbers pages page block length valid → ⊥
 
-  -- A record in the place of whose gate another code word stands.
+  -- A record with another code word in the place of its gate.
   pub record HasOtherGate (page block length : ℕ) (valid : Bool) : Type 0 where
     pub head : IsHead used numbers pages page block length valid
     pub other : SaysOther (λ word. word ≡ Gate block page) (gate_page pages page length)
 
-  -- The log ends at a blank page, and this is the first one behind it that is not blank.
+  -- The log ends at a blank page, and this is the first one after it that is not blank.
   pub record IsBehindEnd (end page : ℕ) : Type 0 where
     pub behind : end < page
     pub within : page < used
     pub blank : (k : ℕ) → end ≤ k → k < page → IsTrue (is_blank (slice_index_or pages k []))
     pub written : IsFalse (is_blank (slice_index_or pages page []))
 
-  -- What is wrong at a page of the log, as far as it goes.
+  -- What is wrong at a page of the log, up to its end.
   pub data IsWrongAt (wrong : ℕ) : Type 0 where
     begins_nothing : IsReached used numbers pages wrong → BeginsNothing wrong → IsWrongAt wrong
     other_gate : (page block length : ℕ) (valid : Bool) → IsReached used numbers pages page → HasOtherGate page block length valid
@@ -96,14 +96,14 @@ pub data Look : Type 0 where
   both_numbers : Look
   log_page : ℕ → ℕ → Look
 
--- At which step of the mount it is looked at.
+-- The step of the mount at which it is looked at.
 abbrev pub step_of : Look → ℕ
 step_of (start_gate sector) = 2 * sector
 step_of (active_gate sector) = 2 * sector + 1
 step_of both_numbers = 4
 step_of (log_page sector page) = 5 + page
 
--- The sector and the page at which a fault found there is told.
+-- The sector and the page at which a fault found there is reported.
 abbrev pub place_of : Look → ℕ × ℕ
 place_of (start_gate sector) = (sector, 0)
 place_of (active_gate sector) = (sector, 1)

@@ -11,23 +11,23 @@ use Rattle.flt_sector.specs.Blocks.{first_fault}
 abbrev pub says : Word → List ℕ
 says word = sealed (word_bytes word)
 
--- A page of plain bytes, filled up with FF.
+-- A page of plain bytes, padded with FF.
 abbrev pub piece : List ℕ → List ℕ
 piece bytes = bytes ++ replicate (32 - length bytes) 0xFF
 
--- A page of which the two first bytes were programmed before the power was cut.
+-- A page whose first two bytes were programmed before the power was cut.
 abbrev pub torn : List ℕ
 torn = piece (0x48 ∷ 0x01 ∷ [])
 
--- A page of which a bit and its complement are both 0.
+-- A page in which a bit and its complement are both 0.
 abbrev pub spoiled : List ℕ
 spoiled = replicate 32 0
 
--- A sector of so many pages, with these first ones.
+-- A sector of this many pages, with these first ones.
 abbrev pub sector_of : ℕ → List (List ℕ) → List (List ℕ)
 sector_of used pages = pages ++ replicate (used - length pages) blank_page
 
--- A valid sector of so many pages, of this number and with this log.
+-- A valid sector of this many pages, of this number and with this log.
 abbrev pub valid_sector : ℕ → ℕ → List (List ℕ) → List (List ℕ)
 valid_sector used sequence log = sector_of used (says (Start sequence used) ∷ says (Active sequence) ∷ log)
 
@@ -35,7 +35,7 @@ valid_sector used sequence log = sector_of used (says (Start sequence used) ∷ 
 abbrev pub image_of : List (List ℕ) → List (List ℕ) → List (List (List ℕ))
 image_of first second = first ∷ second ∷ []
 
--- An image, and where its first fault is told.
+-- An image, and where its first fault is reported.
 pub record Faulty : Type 0 where
   pub image : List (List (List ℕ))
   pub place : Option (ℕ × ℕ)
@@ -45,6 +45,6 @@ infix 70 ◌⇒◌
 abbrev pub ◌⇒◌ : List (List (List ℕ)) → Option (ℕ × ℕ) → Faulty
 image ⇒ place = record { image = image; place = place }
 
--- The faults are told so.
+-- The faults are reported there.
 abbrev pub TellsFaults : ℕ → List ℕ → List Faulty → Type 0
 TellsFaults used numbers rows = map (λ row. first_fault used numbers row.image) rows ≡ map (λ row. row.place) rows

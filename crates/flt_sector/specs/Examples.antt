@@ -33,7 +33,7 @@ abbrev pub every_image : List (List (List ℕ))
 every_image = image_of (valid_sector 24 7 every_log) (valid_sector 24 6 older_log)
 
 -- Block 8 has 40 bytes, 9 the byte of its one complete record, 10 is invalid since its last one, 11 is missing in the newer sector.
--- The log ends behind a torn head, and has no fault.
+-- The log ends after a torn head, and has no fault.
 pub record EveryItem : Type 0 where
   pub contents : map (block_value 24 blocks every_image) blocks ≡ bytes (replicate 40 7) ∷ bytes (5 ∷ []) ∷ invalid ∷ missing ∷ []
   pub end : (log 24 blocks (valid_sector 24 7 every_log)).end ≡ 22
@@ -41,7 +41,7 @@ pub record EveryItem : Type 0 where
 
 -- ---- the faults of the gates, in the order in which a mount looks
 
--- A sector of 8 pages of which these two are the first.
+-- A sector of 8 pages with these two as its first.
 abbrev pub gated : List ℕ → List ℕ → List (List ℕ)
 gated start active = sector_of 8 (start ∷ active ∷ [])
 
@@ -52,7 +52,7 @@ start sequence = says (Start sequence 8)
 abbrev pub active : ℕ → List ℕ
 active sequence = says (Active sequence)
 
--- All four gates are wrong, and are mended one after the other; then both sectors have one number. A sector with one gate is not valid, and no fault.
+-- All four gates are wrong, and are corrected one after the other; then both sectors have one number. A sector with one gate is not valid, and not a fault.
 abbrev pub GatesInOrder : Type 0
 GatesInOrder =
     TellsFaults 8 blocks
@@ -73,12 +73,12 @@ GatesInOrder =
 
 -- ---- the faults of a log
 
--- Sector 1 is the current one, and has this log; what stands in the log of the other one is not looked at.
+-- Sector 1 is the current one, and has this log; the log of the other one is not looked at.
 abbrev pub with_log : List (List ℕ) → List (List (List ℕ))
 with_log log = image_of (valid_sector 8 5 (says (Gate 8 2) ∷ [])) (valid_sector 8 6 log)
 
--- A head of another page, of an unknown block, of a record that passes the used pages; words that are no head; another word in the place of
--- a gate; pages that are written behind the end. A log may fill the sector.
+-- A head of another page, of an unknown block, of a record that passes the used pages; words that are not a head; another word in the
+-- place of a gate; pages that are written after the end. A log may fill the sector.
 abbrev pub LogFaults : Type 0
 LogFaults =
     TellsFaults 8 blocks

@@ -1,4 +1,4 @@
--- The log of a sector, from page 2 on: its items and its records. A fault is told by its page.
+-- The log of a sector, from page 2 on: its items and its records. A fault is reported by its page.
 use Rattle.std.specs.Prelude.{ℕ, ◌+◌, ◌-◌, ◌==◌, ◌&&◌, zero, suc, Bool, true, false, nat_le, if◌then◌else◌, List, [], ◌∷◌, Option, Some, None, Result, Ok, Err, slice_index_or}
 use Rattle.std.specs.List.{list_any}
 use Rattle.flt_flash.specs.Blocks.{byte_pages}
@@ -18,7 +18,7 @@ is_gate_of block head (Some (Active s)) = false
 is_gate_of block head (Some (Head b l v p)) = false
 is_gate_of block head None = false
 
--- The record of a head, by the page in the place of its gate: complete with its own gate, incomplete where no code word stands there.
+-- The record of a head, by the page in the place of its gate: complete with its own gate, incomplete with no code word there.
 abbrev pub item_by_gate : ℕ → ℕ → Bool → ℕ → ℕ → Option (List ℕ) → Result Item ℕ
 item_by_gate block length valid head gate None = Ok (Kept block length valid false)
 item_by_gate block length valid head gate (Some code) = if is_gate_of block head (word_of code) then Ok (Kept block length valid true) else Err gate
@@ -34,12 +34,12 @@ item_by_head used numbers pages page (Some (Start sequence own)) = Err page
 item_by_head used numbers pages page (Some (Active sequence)) = Err page
 item_by_head used numbers pages page None = Err page
 
--- The item that begins with this code word; a page that is none is a torn head.
+-- The item that begins with this code word; a page that is not a code word is a torn head.
 abbrev pub item_by_code : ℕ → List ℕ → List (List ℕ) → ℕ → Option (List ℕ) → Result Item ℕ
 item_by_code used numbers pages page None = Ok Torn
 item_by_code used numbers pages page (Some code) = item_by_head used numbers pages page (word_of code)
 
--- The item at a page, of a sector with so many used pages and for these block numbers; a blank page is the end.
+-- The item at a page, of a sector with this many used pages and for these block numbers; a blank page is the end.
 abbrev pub item_at : ℕ → List ℕ → List (List ℕ) → ℕ → Result Item ℕ
 item_at used numbers pages page =
     if (page == used) then Ok End
@@ -54,7 +54,7 @@ pub record Entry : Type 0 where
   pub valid : Bool
   pub complete : Bool
 
--- The first page from here on, of so many, that is not blank.
+-- The first page that is not blank, from here on, of this many.
 abbrev pub first_written : List (List ℕ) → ℕ → ℕ → Option ℕ
 first_written pages page zero = None
 first_written pages page (suc left) = if is_blank (slice_index_or pages page []) then first_written pages (page + 1) left else Some page
@@ -65,11 +65,11 @@ pub record LogFrom : Type 0 where
   pub end : ℕ
   pub fault : Option ℕ
 
--- The log with one record more before it.
+-- The log with one more record before it.
 abbrev pub with_entry : Entry → LogFrom → LogFrom
 with_entry entry rest = record { entries = entry ∷ rest.entries; end = rest.end; fault = rest.fault }
 
--- The log from an item on, where `onward` is the log from a later page on; behind the end every page is to be blank.
+-- The log from an item on, where `onward` is the log from a later page on; after the end every page has to be blank.
 abbrev pub log_after : ℕ → List (List ℕ) → ℕ → (ℕ → LogFrom) → Result Item ℕ → LogFrom
 log_after used pages page onward (Ok End) = record { entries = []; end = page; fault = first_written pages page (used - page) }
 log_after used pages page onward (Ok Torn) = onward (page + 1)
@@ -77,11 +77,11 @@ log_after used pages page onward (Ok (Kept block length valid complete)) =
     with_entry (record { page = page; block = block; length = length; valid = valid; complete = complete }) (onward (page + 2 + byte_pages length))
 log_after used pages page onward (Err fault) = record { entries = []; end = page; fault = Some fault }
 
--- The log from a page on, of so many items at most.
+-- The log from a page on, of at most this many items.
 unfoldable pub log_from : ℕ → List ℕ → List (List ℕ) → ℕ → ℕ → LogFrom
 log_from used numbers pages page zero = record { entries = []; end = page; fault = None }
 log_from used numbers pages page (suc left) = log_after used pages page (λ next. log_from used numbers pages next left) (item_at used numbers pages page)
 
--- The whole log of a sector, behind its two gates.
+-- The whole log of a sector, after its two gates.
 abbrev pub log : ℕ → List ℕ → List (List ℕ) → LogFrom
 log used numbers pages = log_from used numbers pages 2 (used + 1)

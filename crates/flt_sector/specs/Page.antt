@@ -1,4 +1,4 @@
--- What stands on a page.
+-- What is on a page.
 use Rattle.std.specs.Prelude.{ℕ, Bool, List}
 use Rattle.std.specs.Str.{bytes_eq}
 use Rattle.flt_flash.specs.Image.{blank_page}

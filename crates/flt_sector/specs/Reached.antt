@@ -1,4 +1,4 @@
--- The log of a sector, by what stands where: the pages at which its items begin, and its records.
+-- The log of a sector, as facts of single pages: the pages at which its items begin, and its records.
 use Rattle.std.specs.Prelude.{ℕ, ◌+◌, ◌≤◌, ◌<◌, Bool, true, false, List, [], Contains, IsFalse, slice_index_or}
 use Rattle.flt_flash.specs.Blocks.{byte_pages, record_pages}
 use Rattle.flt_code.specs.declared.words.Word.TheVariants.{Head, Gate}
@@ -10,7 +10,7 @@ abbrev pub gate_page : List (List ℕ) → ℕ → ℕ → List ℕ
 gate_page pages page length = slice_index_or pages (page + 1 + byte_pages length) []
 
 module _ (used : ℕ) (numbers : List ℕ) (pages : List (List ℕ)) where
-  -- A page on which something was written, but no code word.
+  -- A page on which something was written that is not a code word.
   pub record IsTornHead (page : ℕ) : Type 0 where
     pub within : page < used
     pub written : IsFalse (is_blank (slice_index_or pages page []))
@@ -22,7 +22,7 @@ module _ (used : ℕ) (numbers : List ℕ) (pages : List (List ℕ)) where
     pub known : Contains numbers block
     pub within : page + record_pages length ≤ used
 
-  -- What stands in that place: no code word, or the gate of this record, which is complete then.
+  -- What is in that place: no code word, or the gate of this record, which is then complete.
   abbrev pub IsGated : ℕ → ℕ → ℕ → Bool → Type 0
   IsGated page block length false = IsNoCode (gate_page pages page length)
   IsGated page block length true = Says (Gate block page) (gate_page pages page length)

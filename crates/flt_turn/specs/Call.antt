@@ -1,4 +1,4 @@
--- What a call of a lock tells, whatever machine is under the lock. The machine admits some operations at a start, and answers an
+-- What a call of a lock learns, whatever machine is under the lock. The machine admits some operations at a start, and answers an
 -- operation by its start and the operations before.
 use Rattle.std.specs.Prelude.{◌≡◌, ℕ, List, All, reverse}
 use Rattle.flt_turn.specs.declared.answer.Answer.{Answer}
@@ -6,21 +6,21 @@ use Rattle.flt_turn.specs.declared.answer.HistoryFull.{HistoryFull}
 use Rattle.flt_turn.specs.declared.vault.Entry.{Entry}
 use Rattle.flt_turn.specs.Seats.{Seated, Extends, ops_before}
 
--- The operations before a place, the newest first.
+-- The operations before a place, newest first.
 abbrev pub past : {O : Type 0} → ℕ → List (Entry O) → List O
 past place journal = reverse (ops_before place journal)
 
--- The whole answer, whose reply is made of its kind and of the rest, which stands beside it.
+-- The whole answer, whose reply is made of its kind and of the rest, which is kept separately.
 abbrev pub whole : {K P R : Type 0} → (K → P → R) → Answer K → P → Answer R
 whole reply_with told payload = record { place = told.place; reply = reply_with told.reply payload }
 
--- A call stands at the place that it was told, and its reply is the machine's after the operations before that place.
+-- A call is at the place that it was told, and its reply is the machine's after the operations before that place.
 pub record IsCall {S O R : Type 0} (admits : S → O → Type 0) (answer : S → List O → O → R) (before after : Seated S O) (op : O) (told : Answer R) : Type 0 where
   pub place : Extends before after op told.place
   pub reply : told.reply ≡ answer before.start (ops_before told.place after.seen) op
   pub admitted : All (λ entry. admits before.start entry.op) after.seen
 
--- No call was left to the seat, and nothing was done.
+-- The seat had no call left, and nothing was done.
 pub record IsRefusal {S O : Type 0} (before after : Seated S O) (op : O) (full : HistoryFull O) : Type 0 where
   pub op_is : full.op ≡ op
   pub same : after ≡ before

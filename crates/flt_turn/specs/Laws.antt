@@ -1,4 +1,4 @@
--- What the rule of a lock comes to while the lock is free.
+-- What follows from the rule of a lock while the lock is free.
 use Rattle.std.specs.Prelude.{◌≡◌, ℕ, ◌∷◌, [], length, Option, Some, false}
 use mathlib.Core.Option.{some}
 use lib.ListN.{get_elem?}
@@ -16,7 +16,7 @@ module _ {M S O R B : Type 0} (m : Ghosts M S O R B) where
   abbrev pub IsFree : State (Option (VaultOf m)) (View S O) → Type 0
   IsFree s = (ticket : ℕ) → total (serves ticket) s.views ≡ 0
 
-  -- In the slot lie the machine and the journal of all calls that were served, those of each seat that calls in its order; and the
+  -- The slot has the machine and the journal of all calls that were served, those of each seat that calls in its order; and the
   -- machine stands for the lock's start and the journal's operations.
   pub record HoldsReplay (start : S) (s : State (Option (VaultOf m)) (View S O)) : Type 0 where
     pub vault : VaultOf m
@@ -26,6 +26,6 @@ module _ {M S O R B : Type 0} (m : Ghosts M S O R B) where
     pub served : s.words ≡ next ∷ length (journal_of vault) ∷ []
     pub mine : (j : ℕ) (v : View S O) → get_elem? s.views j ≡ some v → is_spent v.stage ≡ false → calls_of v.number (journal_of vault) ≡ v.mine
 
-  -- At every moment at which a lock is free, the machine under it is the replay of the calls that were accepted there.
+  -- At every moment at which a lock is free, the machine under it is the replay of the calls accepted so far.
   abbrev pub FreeLockHoldsReplay : Type 0
   FreeLockHoldsReplay = (start : S) (room : ℕ) (s : State (Option (VaultOf m)) (View S O)) → Orderly start room s → IsFree s → HoldsReplay start s

@@ -13,7 +13,7 @@ use Rattle.flt_turn.specs.Sums.{total, one_if}
 use Rattle.flt_turn.specs.Vaults.{VaultOf, journal_of, start_of, room_of}
 use Rattle.flt_turn.specs.Views.{waits, serves, sits, is_spent, left_of, present, calls_made}
 
--- What the rule counts with: the next ticket and the one that is served, the journal so far, how many seats were split, and the calls of those that were joined.
+-- What the rule counts with: the next ticket and the one that is served, the journal so far, the number of split seats, and the calls of joined ones.
 pub record Tally (O : Type 0) : Type 0 where
   pub next : ℕ
   pub served : ℕ
@@ -22,11 +22,11 @@ pub record Tally (O : Type 0) : Type 0 where
   pub joined : List (ℕ × List O)
 
 module _ {S O : Type 0} where
-  -- How many seats hold this ticket.
+  -- The number of seats that hold this ticket.
   abbrev pub holders : ℕ → List (View S O) → ℕ
   holders ticket views = total (waits ticket) views + total (serves ticket) views
 
-  -- How many seats have this number, those that were joined among them.
+  -- The number of seats with this number, joined ones included.
   abbrev pub bearers : ℕ → List (View S O) → List (ℕ × List O) → ℕ
   bearers number views joined = total (sits number) views + total (λ seat. one_if (seat.0 == number)) joined
 
@@ -41,27 +41,27 @@ module _ {S O : Type 0} where
     pub main : v.number ≡ 0 → (v.children ≡ children) × (v.ended ≡ joined)
     pub turn : (ticket : ℕ) → v.stage ≡ Serving ticket → v.seen ≡ history
 
-  -- Each ticket that was drawn and not served is with one seat, and no other ticket is with any.
+  -- Each ticket that was drawn and not served is held by one seat, and no other ticket is held.
   pub record TicketsAreOut (t : Tally O) (views : List (View S O)) : Type 0 where
     pub in_order : t.served ≤ t.next
     pub out : (ticket : ℕ) → t.served ≤ ticket → ticket < t.next → holders ticket views ≡ 1
     pub past : (ticket : ℕ) → ticket < t.served → holders ticket views ≡ 0
     pub to_come : (ticket : ℕ) → t.next ≤ ticket → holders ticket views ≡ 0
 
-  -- The history has what was served, all of it admitted, and each seat that was not joined knows a beginning of it.
+  -- The history has what was served, all of it admitted, and each seat that was not joined knows a prefix of it.
   pub record HistoryIsKnown (admits : S → O → Type 0) (start : S) (room : ℕ) (t : Tally O) (views : List (View S O)) : Type 0 where
     pub length_is : length t.history ≡ t.served
     pub admitted : All (λ e. admits start e.op) t.history
     pub each : (j : ℕ) (v : View S O) → get_elem? views j ≡ some v → is_spent v.stage ≡ false → KnowsHistory start room t.history t.children t.joined v
 
-  -- The numbers from 0 to the last child are each of one seat, and each call is of one of these.
+  -- The numbers from 0 to the last child belong to one seat each, and each call to one of these.
   pub record NumbersAreGiven (t : Tally O) (views : List (View S O)) : Type 0 where
     pub one_each : (number : ℕ) → number ≤ t.children → bearers number views t.joined ≡ 1
     pub no_other : (number : ℕ) → t.children < number → (bearers number views t.joined ≡ 0) × (calls_of number t.history ≡ [])
     pub ended : All (λ seat. calls_of seat.0 t.history ≡ seat.1) t.joined
 
-  -- The seats together are main and all that were split from it, their calls are what was served, and each place of the journal is
-  -- served, or with a ticket, or left to some seat.
+  -- The seats together are the main seat and all that were split from it, their calls add up to what was served, and each place of the
+  -- journal is served, or with a ticket, or left to some seat.
   pub record SumsAgree (room : ℕ) (t : Tally O) (views : List (View S O)) : Type 0 where
     pub seats : total present views + length t.joined ≡ t.children + 1
     pub lengths : total calls_made views + total (λ seat. length seat.1) t.joined ≡ t.served
@@ -76,7 +76,7 @@ module _ {M S O R B : Type 0} {m : Ghosts M S O R B} where
     pub start_is : start_of vault ≡ start
     pub roomy : room ≤ room_of vault
 
-  -- The turn is with the ticket that is served, and the vault with the turn.
+  -- The seat with the ticket that is served has the turn, and the seat with the turn has the vault.
   pub record TurnHasVault (start : S) (room : ℕ) (t : Tally O) (s : State (Option (VaultOf m)) (View S O)) : Type 0 where
     pub no_other : (ticket : ℕ) → ticket ≢ t.served → total (serves ticket) s.views ≡ 0
     pub home : total (serves t.served) s.views ≡ 0 → IsHome start room t.history s.homes

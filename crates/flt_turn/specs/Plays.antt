@@ -1,4 +1,4 @@
--- What each step of a lock tells the seat that makes it: of the step, the seat before, the number found and the seat after.
+-- What each step of a lock lets the seat that makes it know: of the step, the seat before, the number found and the seat after.
 use Rattle.std.specs.Prelude.{◌≡◌, ◌≢◌, ℕ, ◌<◌, ◌≤◌, ◌^◌, [], ◌∷◌, ◌++◌, length, All, Option, Some}
 use mathlib.Core.List.{IsPrefix}
 use Rattle.atomic_table.specs.Table.{Me, Step}
@@ -31,7 +31,7 @@ module _ {M S O R B : Type 0} {m : Ghosts M S O R B} where
     pub own : calls_of v.number v.seen ≡ v.mine
     pub admitted : All (λ e. m.admits v.start e.op) (journal_of vault)
 
-  -- The seat has the turn, and the vault that it will give back has one call more in its journal, which is the seat's.
+  -- The seat has the turn, and the vault that it will give back has one more call in its journal, which is the seat's.
   pub record IsTurn (v : View S O) (vault : VaultOf m) : Type 0 where
     pub ticket : ℕ
     pub op : O
@@ -41,14 +41,14 @@ module _ {M S O R B : Type 0} {m : Ghosts M S O R B} where
     pub roomy : v.room ≤ room_of vault
     pub allowed : m.admits v.start op
 
-  -- Where its ticket is served the seat takes the vault out, and knows its journal.
+  -- If its ticket is served, the seat takes the vault out, and knows its journal.
   abbrev pub looks : Step (Option (VaultOf m)) → Me (Option (VaultOf m)) (View S O) → ℕ → Me (Option (VaultOf m)) (View S O) → Type 0
   looks st before found after = (ticket : ℕ) → before.0.stage ≡ Waiting ticket
       → (found ≢ ticket → after ≡ before)
       × (found ≡ ticket → (vault : VaultOf m) × (after ≡ (turned ticket (journal_of vault) before.0, (0, Some vault) ∷ before.1))
       × IsTakenOut ticket before.0 vault)
 
-  -- The seat gives the vault back, with one call more in its journal.
+  -- The seat gives the vault back, with one more call in its journal.
   abbrev pub serves_next : Step (Option (VaultOf m)) → Me (Option (VaultOf m)) (View S O) → ℕ → Me (Option (VaultOf m)) (View S O) → Type 0
   serves_next st before found after = (vault : VaultOf m) (op : O) → before.1 ≡ (0, Some vault) ∷ []
       → journal_of vault ≡ before.0.seen ++ entry before.0.number op ∷ []

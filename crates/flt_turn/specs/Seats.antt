@@ -1,4 +1,4 @@
--- What a seat knows of its lock, and what one call, a split and a join make of it.
+-- What a seat knows of its lock, and how one call, a split and a join change that.
 use Rattle.std.specs.Prelude.{◌≡◌, ℕ, ◌+◌, ◌-◌, List, [], ◌∷◌, ◌++◌, All, length, take}
 use mathlib.Core.List.{IsPrefix}
 use Rattle.atomic_table.specs.Seated.{TableId}
@@ -13,13 +13,13 @@ pub record Seated (S O : Type 0) : Type 0 where
   pub lock : TableId
   pub number : ℕ
   pub start : S
-  -- How many calls are left to it, and how many seats were split from it.
+  -- The number of calls that it has left, and of the seats that were split from it.
   pub left : ℕ
   pub children : ℕ
-  -- The beginning of the journal that it knows, and its own operations in it.
+  -- The prefix of the journal that it knows, and its own operations in it.
   pub seen : List (Entry O)
   pub mine : List O
-  -- Beginnings that joined seats knew, and the operations of each joined seat by its number.
+  -- Prefixes that joined seats knew, and the operations of each joined seat by its number.
   pub olds : List (List (Entry O))
   pub ended : List (ℕ × List O)
 
@@ -50,7 +50,7 @@ pub record FitsView {H S O : Type 0} (v : View S O) (held : List H) (number left
   pub children_is : v.children ≡ children
   pub waiting_is : waiting + length v.ended ≡ children
 
--- The operations that stand in the journal before a place.
+-- The operations before a place in the journal.
 abbrev pub ops_before : {O : Type 0} → ℕ → List (Entry O) → List O
 ops_before place journal = ops_of (take place journal)
 
@@ -61,7 +61,7 @@ pub record Extends {S O : Type 0} (before after : Seated S O) (op : O) (place : 
   pub seen : after.seen ≡ (before.seen ++ between) ++ entry before.number op ∷ []
   pub others : calls_of before.number between ≡ []
   pub place_is : length (before.seen ++ between) ≡ place
-  -- What joined seats knew stands before the call, and there the seat's operations are all that have its number.
+  -- What joined seats knew is before the call, and there the seat's operations are all that have its number.
   pub olds : All (λ old. IsPrefix old (before.seen ++ between)) before.olds
   pub own : calls_of before.number (before.seen ++ between) ≡ before.mine
   pub mine : after.mine ≡ before.mine ++ op ∷ []
@@ -74,7 +74,7 @@ pub record Extends {S O : Type 0} (before after : Seated S O) (op : O) (place : 
 abbrev pub main_seat : {S O : Type 0} → TableId → S → ℕ → Seated S O
 main_seat lock start room = record { lock = lock; number = 0; start = start; left = room; children = 0; seen = []; mine = []; olds = []; ended = [] }
 
--- The main seat, when a seat with these calls is split from it.
+-- The main seat after a seat with these calls was split from it.
 abbrev pub split_off : {S O : Type 0} → ℕ → Seated S O → Seated S O
 split_off calls main = record main { left = main.left - calls; children = main.children + 1 }
 
@@ -92,7 +92,7 @@ split_seat calls main = record {
   ended = [];
 }
 
--- The main seat, when it has taken in another.
+-- The main seat after another was joined into it.
 abbrev pub joined_seat : {S O : Type 0} → Seated S O → Seated S O → Seated S O
 joined_seat main other = record main {
   left = main.left + other.left;

@@ -1,11 +1,11 @@
--- What the rule of a lock reads of a vault. `m` has the meanings of the machine in it.
+-- What the rule of a lock reads of a vault. `m` has the ghost members of the machine in it.
 use Rattle.std.specs.Prelude.{ℕ, List}
 use Rattle.std.specs.Vec.{vec_capacity}
 use Rattle.flt_turn.specs.declared.machine.Machine.{Ghosts}
 use Rattle.flt_turn.specs.declared.vault.Entry.{Entry}
 use Rattle.flt_turn.specs.declared.vault.Vault.{Vault}
 
--- The vaults of the machines with these meanings.
+-- The vaults of the machines with these members.
 abbrev pub VaultOf : {M S O R B : Type 0} → Ghosts M S O R B → Type 0
 VaultOf {M} {S} {O} {R} {B} m = Vault M S O R B m
 
@@ -14,10 +14,10 @@ module _ {M S O R B : Type 0} {m : Ghosts M S O R B} where
   abbrev pub journal_of : VaultOf m → List (Entry O)
   journal_of vault = vault.journal.items
 
-  -- What its machine began with.
+  -- The start of its machine.
   abbrev pub start_of : VaultOf m → S
   start_of vault = m.start vault.machine
 
-  -- How many entries its journal has room for.
+  -- The number of entries that its journal has room for.
   abbrev pub room_of : VaultOf m → ℕ
   room_of vault = vec_capacity vault.journal
