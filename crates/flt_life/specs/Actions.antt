@@ -31,13 +31,13 @@ action_of (steps.Get block) = Get block
 action_of (steps.Ask block) = Queue (queue.Ask block)
 action_of (steps.Arming arm) = Arm arm
 
--- A call of a step is none that a save makes.
+-- A call of a step is not one that only a save makes.
 abbrev pub IsStepCall : Op → Type 0
 IsStepCall ops.Snapshot = ⊥
 IsStepCall (ops.Saved number) = ⊥
 IsStepCall _ = Unit {0}
 
--- A call of the queue is none that a drain makes.
+-- A call of the queue is not one that only a drain makes.
 abbrev pub IsQueueCall : QueueOp → Type 0
 IsQueueCall (queue.Post urgent job) = Unit {0}
 IsQueueCall queue.Take = ⊥
@@ -68,24 +68,24 @@ abbrev pub all_arms : List Action → List Arming
 all_arms [] = []
 all_arms (action ∷ rest) = arms_of action ++ all_arms rest
 
--- How many arms a step makes.
+-- The number of arms that a step makes.
 abbrev pub arm_count : Action → ℕ
 arm_count (Arm arm) = 1
 arm_count _ = 0
 
--- How many calls of the status machine a step makes at most: a save takes a snapshot, and is acknowledged.
+-- The number of calls of the status machine that a step makes at most: a save takes a snapshot, and is acknowledged.
 abbrev pub call_count : Action → ℕ
 call_count (Call op) = 1
 call_count Save = 2
 call_count _ = 0
 
--- How many calls of the queue a step makes at most: a drain takes 32 jobs, and notes what became of each.
+-- The number of calls of the queue that a step makes at most: a drain takes 32 jobs, and notes what became of each.
 abbrev pub queue_count : Action → ℕ
 queue_count (Queue op) = 1
 queue_count Drain = 64
 queue_count _ = 0
 
--- The bytes of the longest response to a step: a request has one.
+-- The number of bytes of the longest response to a step: a request has one.
 abbrev pub response_size : Action → ℕ
 response_size (Call (ops.Request tester bytes)) = RESPONSE
 response_size _ = 0

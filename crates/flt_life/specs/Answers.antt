@@ -15,7 +15,7 @@ use Rattle.flt_life.specs.declared.answer.StepAnswer.TheVariants.{Dem, Saved, Sa
 abbrev pub Told : Type 0
 Told = StepAnswer Reply
 
--- The reply of a call is changed so.
+-- The reply of a call is changed by a function.
 abbrev pub with_reply : {R S : Type 0} → (R → S) → StepAnswer R → StepAnswer S
 with_reply f (Dem told) = Dem (record { place = told.place; reply = f told.reply })
 with_reply f (Saved number) = Saved number
@@ -28,7 +28,7 @@ with_reply f BlockFlash = BlockFlash
 with_reply f Armed = Armed
 with_reply f Dark = Dark
 
--- The reply that is kept so beside these bytes of responses.
+-- The whole reply of a kept one, with these bytes of responses.
 abbrev pub reply_in : List ℕ → KeptReply → Reply
 reply_in bytes Taken = replies.Taken
 reply_in bytes (Ignored cause) = replies.Ignored cause
@@ -36,7 +36,7 @@ reply_in bytes (Shown shown) = replies.Shown shown
 reply_in bytes (Response from size) = reply_of (take size (drop from bytes))
 reply_in bytes Silent = replies.Silent
 
--- Where a response that is kept ends, or 0 where there is none.
+-- Where a kept response ends, or 0 if there is none.
 abbrev pub end_of_reply : KeptReply → ℕ
 end_of_reply (Response from size) = from + size
 end_of_reply _ = 0
@@ -46,7 +46,7 @@ abbrev pub end_of : StepAnswer KeptReply → ℕ
 end_of (Dem told) = end_of_reply told.reply
 end_of _ = 0
 
--- A response that is kept lies within so many bytes.
+-- A kept response is within this many bytes.
 abbrev pub IsReplyWithin : ℕ → KeptReply → Type 0
 IsReplyWithin bytes kept = end_of_reply kept ≤ bytes
 
@@ -54,7 +54,7 @@ IsReplyWithin bytes kept = end_of_reply kept ≤ bytes
 abbrev pub IsAnswerWithin : ℕ → StepAnswer KeptReply → Type 0
 IsAnswerWithin bytes answer = end_of answer ≤ bytes
 
--- The answers that are kept beside these bytes, in their order.
+-- The answers kept with these bytes, in their order.
 abbrev pub told_by : List ℕ → List (StepAnswer KeptReply) → List Told
 told_by bytes answers = map (with_reply (reply_in bytes)) answers
 
@@ -62,7 +62,7 @@ told_by bytes answers = map (with_reply (reply_in bytes)) answers
 abbrev pub told_with : List ℕ → StepAnswer ReplyKind → Told
 told_with response answer = with_reply (λ kind. reply_with kind response) answer
 
--- How many bytes of a response an answer of this kind has.
+-- The number of bytes of a response that an answer of this kind has.
 abbrev pub size_of : ReplyKind → List ℕ → ℕ
 size_of kinds.Response response = length response
 size_of _ response = 0
@@ -71,7 +71,7 @@ abbrev pub response_length : StepAnswer ReplyKind → List ℕ → ℕ
 response_length (Dem told) response = size_of told.reply response
 response_length _ response = 0
 
--- How many bytes a reply has that is a response, and the same of an answer.
+-- The number of bytes of a reply that is a response, and the same of an answer.
 abbrev pub reply_size : Reply → ℕ
 reply_size (replies.Response bytes) = length bytes.items
 reply_size _ = 0

@@ -12,7 +12,7 @@ use Rattle.flt_life.specs.Answers.{Told}
 use Rattle.flt_life.specs.Ordered.{Deed}
 use Rattle.flt_life.specs.declared.answer.StepAnswer.TheVariants.{Drained, Bytes, NoBlock}
 
--- The job that a take would hand out behind these calls.
+-- The job that a take would hand out after these calls.
 abbrev pub job_behind : History → Option Job
 job_behind past = next_of (waiting past)
 
@@ -32,8 +32,8 @@ abbrev pub Choose : Bool → Type 0 → Type 0 → Type 0
 Choose true first second = first
 Choose false first second = second
 
--- An application block may hold this behind these calls of the queue: the bytes of a job of its own that was taken, and not before
--- the last one that was done as written; where none was, also what it held at first.
+-- An application block may hold this after these calls of the queue: the bytes of a job that was taken for it, and not one before
+-- the last that was finished as written; if no job was, also what it held at first.
 abbrev pub MayHold : ℕ → Content → History → Content → Type 0
 MayHold block first [] held = held ≡ first
 MayHold block first (ops.Take ∷ past) held = (IsTrue (is_of block (job_behind past)) × IsBytesOf (job_behind past) held) ⊎ MayHold block first past held
@@ -45,7 +45,7 @@ MayHold block first (_ ∷ past) held = MayHold block first past held
 abbrev pub HoldApplications : (ℕ → Content) → History → (ℕ → Content) → Type 0
 HoldApplications first past held = (block : ℕ) → block < applications → MayHold block (first (application_number block)) past (held (application_number block))
 
--- How many jobs were done.
+-- The number of finished jobs.
 abbrev pub is_done : QueueOp → Bool
 is_done (ops.Done block written) = true
 is_done _ = false
@@ -54,18 +54,18 @@ abbrev pub done_count : History → ℕ
 done_count [] = 0
 done_count (op ∷ past) = if is_done op then done_count past + 1 else done_count past
 
--- The calls up to that by which so many jobs were done.
+-- The calls up to that by which this many jobs were finished.
 abbrev pub up_to_done : ℕ → History → History
 up_to_done jobs [] = []
 up_to_done jobs (op ∷ past) = if nat_le jobs (done_count past) then up_to_done jobs past else op ∷ past
 
--- How many jobs drains were told as done.
+-- The number of jobs that drains reported as finished.
 abbrev pub jobs_told : List Told → ℕ
 jobs_told [] = 0
 jobs_told (Drained written failed ∷ earlier) = jobs_told earlier + (written + failed)
 jobs_told (_ ∷ earlier) = jobs_told earlier
 
--- A read answers by the drains that stand before it.
+-- A read answers by the drains before it.
 abbrev pub GetsBy : (ℕ → Content) → History → List Deed → Step → Told → Type 0
 GetsBy first queue earlier (Get block) (Bytes bytes) =
     MayHold block (first (application_number block)) (up_to_done (jobs_told (map (λ d. d.1) earlier)) queue) (holding bytes.items)

@@ -9,14 +9,14 @@ use Rattle.flt_life.specs.Answers.{Told}
 use Rattle.flt_life.specs.declared.answer.StepAnswer.TheVariants.{SaveFailed, Drained, BlockFlash}
 use Rattle.flt_life.specs.Moment.{Moment}
 
--- How many saves and reads of application blocks the flash failed.
+-- The number of saves and reads of application blocks that failed for the flash.
 abbrev pub flash_failures : List Told → ℕ
 flash_failures [] = 0
 flash_failures (SaveFailed Flash ∷ earlier) = flash_failures earlier + 1
 flash_failures (BlockFlash ∷ earlier) = flash_failures earlier + 1
 flash_failures (_ ∷ earlier) = flash_failures earlier
 
--- How many jobs could not be written.
+-- The number of jobs that could not be written.
 abbrev pub jobs_failed : List Told → ℕ
 jobs_failed [] = 0
 jobs_failed (Drained written failed ∷ earlier) = jobs_failed earlier + failed
@@ -28,8 +28,8 @@ HasFailedBy fault [] = ⊥
 HasFailedBy fault (SaveFailed told ∷ earlier) = (told ≡ fault) ⊎ HasFailedBy fault earlier
 HasFailedBy fault (_ ∷ earlier) = HasFailedBy fault earlier
 
--- Each step that failed has its cause: three faults of the flash for each save, read and job, where a job needs none if the last
--- sequence number is in use at the next power-up; the last number of a generation there; or the last sequence number there.
+-- Each step that failed has its cause: three faults of the flash for each save, read and job (a job needs none if the last
+-- sequence number is in use at the next power-up); the last number of a generation there; or the last sequence number there.
 pub record AreCaused (c : Config) (boot next : Moment) (told : List Told) : Type 0 where
   pub flash : HasRisenBy (3 * flash_failures told) boot.faults next.faults
   pub jobs : IsFalse next.is_spent → HasRisenBy (3 * (flash_failures told + jobs_failed told)) boot.faults next.faults

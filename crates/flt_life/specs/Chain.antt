@@ -26,8 +26,8 @@ use Rattle.flt_life.specs.Journal.{Journal, Acknowledges}
 use Rattle.flt_life.specs.Causes.{AreCaused}
 use Rattle.flt_life.specs.Saving.{IsLeft, AreRising}
 
--- A life: the parts of its script, its calls of the status machine and of the queue, the newest first, and the answers of lane 0 and
--- of the other lanes, the oldest first.
+-- A life: the parts of its script, its calls of the status machine and of the queue, newest first, and the answers of lane 0 and
+-- of the other lanes, oldest first.
 pub record LifeView : Type 0 where
   pub parts : List (PartOf Step)
   pub boot : Boot
@@ -36,22 +36,22 @@ pub record LifeView : Type 0 where
   pub own : List Told
   pub lanes : List (List Told)
 
--- Its deeds, and their answers, the newest first.
+-- Its deeds, and their answers, newest first.
 abbrev pub deeds_of : LifeView → List Deed
 deeds_of life = reverse (deeds_in life.parts life.own life.lanes)
 
 abbrev pub told_of : LifeView → List Told
 told_of life = map (λ d. d.1) (deeds_of life)
 
--- The calls of the queue, the newest first.
+-- The calls of the queue, newest first.
 abbrev pub queue_of : LifeView → History
 queue_of life = map (λ e. e.op) life.queue
 
--- What the machine starts from.
+-- The start of the machine.
 abbrev pub start_from : Config → Persist → Life
 start_from c state = record { config = c; base = state }
 
--- This is what the image holds; or, where the count rose by three in the start of the life, what it holds by the second copy.
+-- This is what the image holds; or, if the count rose by three in the start of the life, what it holds by the second copy.
 module _ (c : Config) (boot : Moment) (ended : ℕ) where
   abbrev pub IsFound : Result Generation Fault → Type 0
   IsFound found = (held c boot.value ≡ found) ⊎ ((spare c boot.value ≡ found) × HasRisenBy 3 boot.faults ended)
@@ -61,8 +61,8 @@ module _ (c : Config) (boot : Moment) (ended : ℕ) where
     pub undamaged : boot.damage ≡ None
     pub found : IsFound (Ok g)
 
--- The next power-up finds a sound image: each of its two generations is the one that was acknowledged last, or one of a save since
--- then; and the numbers that were acknowledged rise.
+-- The next power-up finds a sound image: each of its two generations is the one acknowledged last, or one of a later save; and the
+-- numbers that were acknowledged rise.
 pub record Leaves (c : Config) (first : Generation) (life : LifeView) (next : Moment) : Type 0 where
   pub held : Generation
   pub spare : Generation
@@ -79,7 +79,7 @@ pub record KeepsApplications (boot next : Moment) (life : LifeView) : Type 0 whe
   pub held : HoldApplications boot.value (queue_of life) next.value
   pub got : AreGot boot.value (queue_of life) (deeds_of life)
 
--- Of a sound image the next power-up finds a sound one, which holds each as one of the two old generations.
+-- If the image is sound, the next power-up finds a sound one, which holds each as one of the two old generations.
 pub record Keeps (c : Config) (held spare : Generation) (next : Moment) : Type 0 where
   pub undamaged : next.damage ≡ None
   pub old : OldOrNew c next.value held spare held
@@ -101,7 +101,7 @@ IsRefused c boot next ended (faults.OtherConfig found wanted) = (boot.damage ≡
     × Unchanged boot next
 IsRefused c boot next ended faults.SequenceSpent = ((g : Generation) × Finds c boot ended g) × KeepsSound c boot next × IsTrue next.is_spent
 
--- What holds by how the life began.
+-- What holds, by how the life began.
 abbrev pub IsLifeBegunBy : Config → Moment → Moment → ℕ → LifeView → Boot → Type 0
 IsLifeBegunBy c boot next ended life (Started number state) = Finds c boot ended (numbered number state) × IsFalse boot.is_spent
     × Leaves c (numbered number state) life next × AreCaused c boot next (told_of life) × KeepsApplications boot next life
@@ -109,7 +109,7 @@ IsLifeBegunBy c boot next ended life Dark = HasRisenBy 3 boot.faults ended × (l
     × SameApplications boot.value next.value
 IsLifeBegunBy c boot next ended life (Refused fault) = IsRefused c boot next ended fault × (life.journal ≡ []) × SameApplications boot.value next.value
 
--- What holds of a life between two power-ups; the count of faults came to `ended` by the end of its start.
+-- What holds of a life between two power-ups; the count of faults was `ended` at the end of its start.
 abbrev pub IsLifeBetween : Config → Moment → Moment → ℕ → LifeView → Type 0
 IsLifeBetween c boot next ended life = IsLifeBegunBy c boot next ended life life.boot
 
@@ -118,19 +118,19 @@ abbrev pub count_at : Option ArmMade → ℕ → ℕ
 count_at None next = next
 count_at (Some made) next = made.faults
 
--- The count of faults at the end of the start of a life, which lasts to the first arm that was made in it, where arms are told and it
--- has one, and else to the next power-up; the life is told by the number of boots in it.
+-- The count of faults at the end of the start of a life. The start lasts until the first arm that was made in it, if arms are counted
+-- and it has one, and else until the next power-up; the life is identified by the number of boots in it.
 abbrev pub start_count : Option (List ArmMade) → ℕ → ℕ → ℕ
 start_count None boots next = next
 start_count (Some made) boots next = count_at (find (λ arm. arm.boots == boots) made) next
 
--- The arms that were made between two states of a bench, where both tell theirs.
+-- The arms that were made between two states of a bench, if both reveal theirs.
 abbrev pub arms_between : Option (List ArmMade) → Option (List ArmMade) → Option (List ArmMade)
 arms_between (Some earlier) (Some now) = Some (drop (length earlier) now)
 arms_between (Some earlier) None = None
 arms_between None now = None
 
--- Lives and their boots, the newest first, each life between its boot and the next one; the last stands before `next`.
+-- Lives and their boots, newest first, each life between its boot and the next one; the last is before `next`.
 abbrev pub AreLinked : Config → Medium → Option (List ArmMade) → ℕ → PowerUp → List PowerUp → List LifeView → Type 0
 AreLinked c medium arms earlier next [] [] = Unit {0}
 AreLinked c medium arms earlier next [] (life ∷ lives) = ⊥

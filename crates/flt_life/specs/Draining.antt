@@ -12,11 +12,11 @@ use Rattle.flt_life.specs.Mixing.{Call}
 abbrev pub QueueCall : Type 0
 QueueCall = Call QueueOp QueueReply
 
--- A take that was told this at a place.
+-- A take that had this answer at a place.
 abbrev pub take_at : ℕ → QueueReply → QueueCall
 take_at place reply = record { op = ops.Take; told = record { place = place; reply = reply } }
 
--- A job that was taken at a place, whether it was written, and what the queue said to that.
+-- A job that was taken at a place, whether it was written, and the queue's answer to that note.
 pub record Drained : Type 0 where
   pub place : ℕ
   pub job : Job
@@ -31,12 +31,12 @@ abbrev pub calls_for_all : List Drained → List QueueCall
 calls_for_all [] = []
 calls_for_all (d ∷ jobs) = calls_for d ++ calls_for_all jobs
 
--- The last take, which found no job; there is none behind the 32nd job.
+-- The last take, which found no job; after the 32nd job there is none.
 abbrev pub IsLastTake : ℕ → List QueueCall → Type 0
 IsLastTake jobs [] = jobs ≡ 32
 IsLastTake jobs (call ∷ calls) = (jobs < 32) × ((place : ℕ) × (call ≡ take_at place replies.NoJob)) × (calls ≡ [])
 
--- A drain takes jobs, at most 32, notes what became of each, and ends where no job waits.
+-- A drain takes jobs, at most 32, notes what became of each, and ends when no job waits.
 pub record DrainMakes (written failed : ℕ) (calls : List QueueCall) : Type 0 where
   pub jobs : List Drained
   pub last : List QueueCall

@@ -29,12 +29,12 @@ use Rattle.flt_life.specs.Moment.{Moment}
 use Rattle.flt_life.specs.Played.{dark_answer}
 use Rattle.flt_life.specs.Saving.{AreRising, IsLeft}
 
--- Its calls, the newest first.
+-- Its calls, newest first.
 abbrev pub journal : Journal
 journal =
     entry 1 (ops.Show 0) ∷ entry 2 ops.Snapshot ∷ entry 2 (ops.Saved 8) ∷ entry 1 (ops.Cycle 1) ∷ entry 2 ops.Snapshot ∷ entry 0 (ops.Cycle 0) ∷ []
 
--- What the two saves were told, the newest first.
+-- The answers to the two saves, newest first.
 abbrev pub told : List Told
 told = answers.SaveFailed Flash ∷ answers.Saved 8 ∷ []
 
@@ -46,8 +46,8 @@ saved start = record { number = 8; state = saved_after start (ops.Cycle 0 ∷ []
 abbrev pub taken : Life → Persist
 taken start = saved_after start (ops.Saved 8 ∷ ops.Cycle 1 ∷ ops.Snapshot ∷ ops.Cycle 0 ∷ [])
 
--- It was acknowledged last, and one more than the first. The life may leave it, or the one of the save that failed, of number 9, and no
--- other: none that is older.
+-- It was acknowledged last, and is one more than the first. The life may leave it, or the one of the failed save, of number 9, and no
+-- other, in particular none that is older.
 pub record LeavesOneOfTwo (start : Life) (first : Generation) : Type 0 where
   pub acknowledged : Acknowledges start first journal (saved start)
   pub rising : AreRising 7 told
@@ -57,12 +57,12 @@ pub record LeavesOneOfTwo (start : Life) (first : Generation) : Type 0 where
 abbrev pub LifeLeaves : Type 0
 LifeLeaves = (start : Life) (first : Generation) → LeavesOneOfTwo start first
 
--- A save that failed, and a job besides, has its cause in three faults each, where a sequence number is left.
+-- A save that failed, and also a job, have their cause in three faults each, if a sequence number is left.
 abbrev pub FailuresHaveFaults : Type 0
 FailuresHaveFaults = (c : Config) (boot next : Moment) → AreCaused c boot next (answers.Drained 1 1 ∷ told)
     → HasRisenBy 3 boot.faults next.faults × (IsFalse next.is_spent → HasRisenBy 6 boot.faults next.faults)
 
--- The calls of a lane at the places 1, 3 and 4 rise; of two calls at one place it is not so.
+-- The calls of a lane at the places 1, 3 and 4 rise; two calls at one place do not.
 pub record PlacesRise : Type 0 where
   pub rise : Rise 0 (take_at 1 replies.NoJob ∷ take_at 3 replies.NoJob ∷ take_at 4 replies.NoJob ∷ [])
   pub apart : ¬ Rise 0 (take_at 1 replies.NoJob ∷ take_at 1 replies.NoJob ∷ [])
@@ -71,7 +71,7 @@ pub record PlacesRise : Type 0 where
 abbrev pub for_zero : Job → Job
 for_zero job = record { block = 0; bytes = job.bytes }
 
--- A job was posted, taken and done as written, and then another was posted, taken and not done as written.
+-- A job was posted, taken and finished as written, and then another was posted, taken and not finished as written.
 abbrev pub calls : Job → Job → History
 calls first second = queue.Done 0 false ∷ queue.Take ∷ queue.Post false (for_zero second)
     ∷ queue.Done 0 true ∷ queue.Take ∷ queue.Post false (for_zero first) ∷ []
@@ -84,7 +84,7 @@ pub record HoldsOneOfTwo (before held : Content) (first second : Job) : Type 0 w
 abbrev pub BlockHolds : Type 0
 BlockHolds = (before held : Content) (first second : Job) → HoldsOneOfTwo before held first second
 
--- `urge` makes an urgent job, and `post` another; a dark life answers a read as any other step, and makes its arms.
+-- `urge` makes an urgent job, and `post` another; a dark life answers a read like any other step, and makes its arms.
 pub record StepsDo : Type 0 where
   pub urged : (job : Job) → action_of (steps.Post true job.block job.bytes) ≡ actions.Queue (queue.Post true job)
   pub posted : (job : Job) → action_of (steps.Post false job.block job.bytes) ≡ actions.Queue (queue.Post false job)

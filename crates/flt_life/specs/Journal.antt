@@ -1,4 +1,4 @@
--- The journal of a life, its newest entry first: which state was saved last, and which states were taken since.
+-- The journal of a life, newest entry first: which state was saved last, and which states were taken since.
 use Rattle.std.specs.Prelude.{◌≡◌, ◌⊎◌, ℕ, Bool, true, false, ◌&&◌, ◌==◌, if◌then◌else◌, List, [], ◌∷◌, map, Option, Some, None}
 use Rattle.flt_config.specs.declared.persist.Persist.{Persist}
 use Rattle.flt_model.specs.Life.{Life, History}
@@ -28,7 +28,7 @@ snapshot_of start lane [] = None
 snapshot_of start lane (e ∷ earlier) =
     if is_snapshot e.op && (e.lane == lane) then Some (saved_after start (calls_of earlier)) else snapshot_of start lane earlier
 
--- A save is acknowledged with its number, and with the state that its lane took last; another call acknowledges nothing.
+-- A save is acknowledged with its number, and with the state that its lane took last; no other call acknowledges anything.
 abbrev pub AcknowledgesBy : Life → ℕ → Journal → Op → Generation → Type 0 → Type 0
 AcknowledgesBy start lane earlier (ops.Saved number) g before = (g.number ≡ number) × (snapshot_of start lane earlier ≡ Some g.state)
 AcknowledgesBy start lane earlier _ g before = before
@@ -38,13 +38,13 @@ abbrev pub Acknowledges : Life → Generation → Journal → Generation → Typ
 Acknowledges start first [] g = g ≡ first
 Acknowledges start first (e ∷ earlier) g = AcknowledgesBy start e.lane earlier e.op g (Acknowledges start first earlier g)
 
--- A snapshot takes the state of its place; a save that is acknowledged leaves none behind it.
+-- A snapshot takes the state of its place; after an acknowledged save there is none.
 abbrev pub TakesBy : Life → Journal → Op → Persist → Type 0 → Type 0
 TakesBy start earlier ops.Snapshot state before = (state ≡ saved_after start (calls_of earlier)) ⊎ before
 TakesBy start earlier (ops.Saved number) state before = ⊥
 TakesBy start earlier _ state before = before
 
--- The state was taken by a snapshot behind the last save that was acknowledged.
+-- The state was taken by a snapshot after the last acknowledged save.
 abbrev pub IsTakenSince : Life → Journal → Persist → Type 0
 IsTakenSince start [] state = ⊥
 IsTakenSince start (e ∷ earlier) state = TakesBy start earlier e.op state (IsTakenSince start earlier state)

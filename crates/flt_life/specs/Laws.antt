@@ -1,4 +1,4 @@
--- What the chain of lives comes to where its first image is sound.
+-- What follows from the chain of lives if its first image is sound.
 use Rattle.std.specs.Prelude.{ℕ, ◌≤◌, List, [], ◌∷◌, All, Option}
 use Rattle.flt_flash.specs.declared.arm.ArmMade.{ArmMade}
 use Rattle.flt_flash.specs.State.{Boot as PowerUp}
@@ -23,7 +23,7 @@ abbrev pub first_boot : PowerUp → List PowerUp → PowerUp
 first_boot next [] = next
 first_boot next (boot ∷ boots) = first_boot boot boots
 
--- The life was not refused but for want of sequence numbers.
+-- The life was not refused, unless because no sequence number was left.
 abbrev pub IsUndamaged : Boot → Type 0
 IsUndamaged (Started number state) = Unit {0}
 IsUndamaged Dark = Unit {0}
@@ -32,7 +32,7 @@ IsUndamaged (Refused (faults.Damaged place)) = ⊥
 IsUndamaged (Refused (faults.OtherConfig found wanted)) = ⊥
 IsUndamaged (Refused faults.SequenceSpent) = Unit {0}
 
--- Where the first image is sound, each image is, also at the end, and no life is refused as damaged or of another configuration.
+-- If the first image is sound, every image is, also at the end, and no life is refused as damaged or of another configuration.
 abbrev pub SoundRunsStaySound : Type 0
 SoundRunsStaySound = (c : Config) → IsGiven c → (medium : Medium) (arms : Option (List ArmMade)) (earlier : ℕ) (next : PowerUp) (boots : List PowerUp)
     (lives : List LifeView)
@@ -46,12 +46,12 @@ abbrev pub number_by : Op → ℕ → ℕ
 number_by (ops.Saved number) before = number
 number_by _ before = before
 
--- The number that a journal acknowledges last, its newest entry first, or the one before it.
+-- The number that a journal acknowledges last, newest entry first, or the one before it.
 abbrev pub number_in : Journal → ℕ → ℕ
 number_in [] before = before
 number_in (e ∷ earlier) before = number_by e.op (number_in earlier before)
 
--- The number that was acknowledged last in lives, the newest first, 0 where none was.
+-- The number that was acknowledged last in lives, newest first, or 0 if none was.
 abbrev pub acknowledged_in : List LifeView → ℕ
 acknowledged_in [] = 0
 acknowledged_in (life ∷ earlier) = number_in life.journal (acknowledged_in earlier)
@@ -63,7 +63,7 @@ pub record IsNoOlder (c : Config) (number : ℕ) (moment : Moment) : Type 0 wher
   pub sound : IsSoundAt c moment held spare
   pub no_older : (number ≤ held.number) × (number ≤ spare.number)
 
--- Each of the power-ups of lives, the newest first, found a sound image, no older than what was acknowledged in the lives before it.
+-- Each of the power-ups of lives, newest first, found a sound image, no older than what was acknowledged in the lives before it.
 abbrev pub EachFindsNoOlder : Config → Medium → List PowerUp → List LifeView → Type 0
 EachFindsNoOlder c medium [] lives = Unit {0}
 EachFindsNoOlder c medium (boot ∷ boots) [] = Unit {0}
@@ -80,8 +80,8 @@ abbrev pub EachBeginsNoOlder : List LifeView → Type 0
 EachBeginsNoOlder [] = Unit {0}
 EachBeginsNoOlder (life ∷ earlier) = BeginsNoOlder (acknowledged_in earlier) life.boot × EachBeginsNoOlder earlier
 
--- Where the first image is sound, each power-up finds an image of which neither generation is older than the one that was acknowledged
--- last in all lives before it, dark ones among them, and so would a power-up at the end; and no life that is started begins with an
+-- If the first image is sound, each power-up finds an image of which neither generation is older than the one acknowledged
+-- last in all lives before it, dark ones included, and so would a power-up at the end; and no life that is started begins with an
 -- older one.
 abbrev pub AcknowledgedIsNeverLost : Type 0
 AcknowledgedIsNeverLost = (c : Config) → IsGiven c → (medium : Medium) (arms : Option (List ArmMade)) (earlier : ℕ) (next : PowerUp) (boots : List PowerUp)

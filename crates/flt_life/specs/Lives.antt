@@ -1,5 +1,5 @@
--- The lives of a run: how they follow the parts of a script, and how they are linked by their boots; all lists begin with the
--- newest.
+-- The lives of a run: how they follow the parts of a script, and how they are linked by their boots; all lists are newest
+-- first.
 use Rattle.std.specs.Prelude.{◌≡◌, ◌⊎◌, ℕ, ◌+◌, ◌<◌, Bool, true, false, List, [], ◌∷◌, ◌++◌, length, map, reverse, All, IfSome, Option, IsTrue, IsFalse, Vec}
 use Rattle.flt_flash.specs.declared.arm.Arm.{Arm}
 use Rattle.flt_flash.specs.declared.arm.ArmMade.{ArmMade}
@@ -42,7 +42,7 @@ view_of parts life = record {
   lanes = lanes_told life.replies.items;
 }
 
--- The lives of these parts, life by life; a life too many has no parts.
+-- The lives of these parts, life by life; surplus lives have no parts.
 abbrev pub views_of : List (List (PartOf Step)) → List Life → List LifeView
 views_of script [] = []
 views_of [] (life ∷ lives) = view_of [] life ∷ views_of [] lives
@@ -57,17 +57,17 @@ is_refused (Started number state) = false
 is_refused Dark = false
 is_refused (Refused fault) = true
 
--- No life but the last is refused, and where that one is not, there are as many as asked; and never more.
+-- No life but the last is refused; if that one is not refused, there are as many as asked; and never more.
 abbrev pub AreEnded : ℕ → List LifeView → Type 0
 AreEnded many [] = many ≡ 0
 AreEnded many (life ∷ earlier) = All (λ l. IsFalse (is_refused l.boot)) earlier × (length earlier < many)
     × (IsTrue (is_refused life.boot) ⊎ (many ≡ length earlier + 1))
 
--- The lives of a run, which are the first ones of this script, the newest first.
+-- The lives of a run, which are the first ones of this script, newest first.
 abbrev pub lives_seen : List (List (PartOf Step)) → List Life → List LifeView
 lives_seen script lives = reverse (views_of script lives)
 
--- Lives without where they lie in memory.
+-- Lives without their place in memory.
 abbrev pub lists : {A : Type 0} → List (Vec Part A) → List (List (PartOf Step))
 lists lives = map (λ life. parts_of life.items) lives
 
@@ -81,12 +81,12 @@ arms_by parts (Refused fault) = []
 abbrev pub arms_in_life : ℕ → List Arm → List (ℕ × Arm)
 arms_in_life boots arms = map (λ arm. (boots, arm)) arms
 
--- The arms of lives behind so many boots, in the order in which they are given, each with the number of boots in its life.
+-- The arms of lives after this many boots, in the order in which they are given, each with the number of boots in its life.
 abbrev pub arms_given : ℕ → List LifeView → List (ℕ × Arm)
 arms_given earlier [] = []
 arms_given earlier (life ∷ lives) = arms_given earlier lives ++ arms_in_life (earlier + length lives + 1) (arms_by life.parts life.boot)
 
--- The arms that were made between two states of a bench, where both tell theirs, are these, each in its life.
+-- The arms that were made between two states of a bench, if both reveal theirs, are these, each in its life.
 abbrev pub AreGiven : List (ℕ × Arm) → Option (List ArmMade) → Option (List ArmMade) → Type 0
 AreGiven arms before after = IfSome (arms_between before after) (λ made. map (λ a. (a.boots, a.arm)) made ≡ arms)
 

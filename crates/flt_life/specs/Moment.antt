@@ -15,11 +15,11 @@ pub record Moment : Type 0 where
   pub is_spent : Bool
   pub faults : ℕ
 
--- The moment as a driver tells it.
+-- The moment as a driver describes it.
 abbrev pub moment_of : BlocksState → Moment
 moment_of driver = record { value = driver.value; damage = driver.damage; is_spent = driver.is_spent; faults = driver.device.faults }
 
--- How a kind of device keeps blocks: what each number holds in an image, the first fault of an image, and whether it has come to the
+-- How a kind of device keeps blocks: what each number holds in an image, the first fault of an image, and whether it has reached the
 -- last sequence number.
 pub record Medium : Type 0 where
   pub value : List (List (List ℕ)) → ℕ → Content

@@ -10,7 +10,7 @@ use Rattle.flt_life.specs.Answers.{Told}
 abbrev pub Deed : Type 0
 Deed = Step × Told
 
--- A step more before these, where it touches the store.
+-- One more step before these, if it touches the store.
 abbrev pub deed_if : Bool → Step → Told → List Deed → List Deed
 deed_if true step told deeds = (step, told) ∷ deeds
 deed_if false step told deeds = deeds

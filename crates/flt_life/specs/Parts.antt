@@ -1,4 +1,4 @@
--- The parts of a life: the steps that lane 0 makes by itself, and the lanes of its blocks.
+-- The parts of a life: the steps that lane 0 makes outside blocks, and the lanes of its blocks.
 use Rattle.std.specs.Prelude.{ℕ, ◌+◌, ◌≤◌, List, [], ◌∷◌, ◌++◌, map, length, sum_by, All, IsTrue}
 use Rattle.std.proofs.Common.{inl, inr}
 use Rattle.flt_config.specs.declared.config.Config.{Config}
@@ -20,7 +20,7 @@ lanes_in [] = []
 lanes_in (inl step ∷ parts) = lanes_in parts
 lanes_in (inr lanes ∷ parts) = lanes ++ lanes_in parts
 
--- How many lanes the block of a part has, and those of all parts.
+-- The number of lanes of the block of a part, and of all parts.
 abbrev pub width : {T : Type 0} → PartOf T → ℕ
 width (inl step) = 0
 width (inr lanes) = length lanes
@@ -41,7 +41,7 @@ abbrev pub IsPossiblePart : Config → PartOf Step → Type 0
 IsPossiblePart c (inl step) = IsPossible c (action_of step)
 IsPossiblePart c (inr lanes) = All (λ lane. All (IsPossibleInLane c) lane) lanes × (store_lanes lanes ≤ 1)
 
--- How many calls steps make at most of the status machine, and of the queue.
+-- The number of calls that steps make at most of the status machine, and of the queue.
 abbrev pub calls_of : List Step → ℕ
 calls_of steps = sum_by (λ step. call_count (action_of step)) steps
 
@@ -57,11 +57,11 @@ abbrev pub queued_in : PartOf Step → ℕ
 queued_in (inl step) = queue_count (action_of step)
 queued_in (inr lanes) = sum_by queued_of lanes
 
--- How many steps a part has.
+-- The number of steps of a part.
 abbrev pub steps_in : PartOf Step → ℕ
 steps_in part = steps_of_part part
 
--- How many arms a part makes.
+-- The number of arms that a part makes.
 abbrev pub arms_in : PartOf Step → ℕ
 arms_in (inl step) = arm_count (action_of step)
 arms_in (inr lanes) = 0

@@ -27,25 +27,25 @@ use Rattle.flt_turn.specs.declared.vault.Entry.{Entry}
 use Rattle.flt_life.specs.Mixing.{Call, Block, HasInOrder, BlockTold, Rise, calls_in_lane}
 use Rattle.flt_life.specs.Parts.{own_actions, lanes_in}
 
--- The machine's reply after these calls, the oldest first.
+-- The machine's reply after these calls, oldest first.
 abbrev pub reply_after : Life → List Op → Op → Reply
 reply_after start calls op = answer start (reverse calls) op
 
--- A save takes a snapshot, and then, where it is answered with a number, is acknowledged by it.
+-- A save takes a snapshot, and then, if it is answered with a number, is acknowledged by it.
 abbrev pub SaveMakes : Told → List (Call Op Reply) → Type 0
 SaveMakes (answers.Saved number) calls =
     (taken : Answer Reply) × (noted : Answer Reply) × (calls ≡ record { op = ops.Snapshot; told = taken } ∷ record { op = ops.Saved number; told = noted } ∷ [])
 SaveMakes (answers.SaveFailed fault) calls = (taken : Answer Reply) × (calls ≡ record { op = ops.Snapshot; told = taken } ∷ [])
 SaveMakes _ calls = ⊥
 
--- What a read of an application block is answered.
+-- The answer to a read of an application block.
 abbrev pub IsGot : Told → Type 0
 IsGot (answers.Bytes bytes) = Unit {0}
 IsGot answers.NoBlock = Unit {0}
 IsGot answers.BlockFlash = Unit {0}
 IsGot _ = ⊥
 
--- The calls of the status machine that a step makes, where it was answered so: its answer is the machine's, the queue's or the store's.
+-- The calls of the status machine that a step with this answer makes: its answer is the machine's, the queue's or the store's.
 abbrev pub ActionMakes : Action → Told → List (Call Op Reply) → Type 0
 ActionMakes (actions.Call op) told calls = (reply : Answer Reply) × (told ≡ answers.Dem reply) × (calls ≡ record { op = op; told = reply } ∷ [])
 ActionMakes (actions.Queue op) told calls = calls ≡ []
@@ -61,7 +61,7 @@ abbrev pub DrainTold : Told → List (Call QueueOp QueueReply) → Type 0
 DrainTold (answers.Drained written failed) calls = DrainMakes written failed calls
 DrainTold _ calls = ⊥
 
--- The calls of the queue that a step makes, where it was answered so.
+-- The calls of the queue that a step with this answer makes.
 abbrev pub ActionQueues : Action → Told → List (Call QueueOp QueueReply) → Type 0
 ActionQueues (actions.Queue op) told calls = (reply : Answer QueueReply) × (told ≡ answers.Queue reply) × (calls ≡ record { op = op; told = reply } ∷ [])
 ActionQueues actions.Drain told calls = DrainTold told calls
@@ -70,9 +70,9 @@ ActionQueues _ told calls = calls ≡ []
 abbrev pub StepQueues : Step → Told → List (Call QueueOp QueueReply) → Type 0
 StepQueues step told calls = ActionQueues (action_of step) told calls
 
--- The journal of a machine has the calls of the parts, those of each part together and behind those of the parts before it, those of
--- each lane in its order, and no others; and each call, of lane 0 and of the lanes of the blocks, whose numbers go on from 1, is
--- answered at its place, and the places that a lane is told rise in the order of its calls.
+-- The journal of a machine has the calls of the parts, those of each part together and after those of the parts before it, those of
+-- each lane in its order, and no others. Each call, of lane 0 and of the lanes of the blocks, whose numbers count up from 1, is
+-- answered at its place, and the places of a lane's answers rise in the order of its calls.
 pub record IsMade {S O R : Type 0} (MadeBy : Step → Told → List (Call O R) → Type 0) (answer : S → List O → O → R) (start : S)
     (parts : List (PartOf Step)) (own : List Told) (lanes : List (List Told)) (journal : List (Entry O)) : Type 0 where
   pub blocks : List (Block O R)
@@ -81,7 +81,7 @@ pub record IsMade {S O R : Type 0} (MadeBy : Step → Told → List (Call O R) �
   pub told : All (BlockTold answer start journal) blocks
   pub rising : (number : ℕ) → Rise 0 (calls_in_lane number blocks)
 
--- So it is with the status machine and with the queue.
+-- This holds for the status machine and for the queue.
 pub record IsLife (start : Life) (parts : List (PartOf Step)) (own : List Told) (lanes : List (List Told)) (journal : Journal)
     (queue : List (Entry QueueOp)) : Type 0 where
   pub dem : IsMade StepMakes reply_after start parts own lanes journal
@@ -95,7 +95,7 @@ dark_answer _ = answers.Dark
 abbrev pub dark_answers : List Step → List Told
 dark_answers steps = map (λ step. dark_answer (action_of step)) steps
 
--- The calls and the answers of a life, the oldest first, are those of its parts, by how it began.
+-- The calls and the answers of a life, oldest first, are those of its parts, by how it began.
 abbrev pub IsPlayedBy : Config → List (PartOf Step) → Journal → List (Entry QueueOp) → List Told → List (List Told) → Boot → Type 0
 IsPlayedBy c parts journal queue own lanes (Started number state) = IsLife (start_from c state) parts own lanes journal queue
 IsPlayedBy c parts journal queue own lanes Dark = (journal ≡ []) × (queue ≡ []) × (own ≡ map dark_answer (own_actions parts))
