@@ -73,7 +73,7 @@ unspoiled_word bytes page word = unspoiled_from page (λ k lt.
     let high : get_or page (16 + k) 0 ≡ 255 - get_or bytes k 0 = ap (λ (l : List ℕ). get_or l (16 + k) 0) word.is ∙ sealed_high bytes word.size k lt in
     rw (low, high) (or_complement (get_or bytes k 0) (word.range k)))
 
--- A page that is no code word, or of which this holds where it is one.
+-- A page that is no code word, or a code word for which this holds.
 pub none_or : {A : Type 0} (page : List ℕ) → ((k : ℕ) → k < 32 → get_or page k 0 < 256) → ((found : List ℕ) → IsCodeWordOf found page → A) → A ⊎ (unsealed page ≡ None)
 unfolding unsealed
 none_or {A} page fits holds = by_test ((length page == 32) && bytes_eq page (sealed (take 16 page))) refl

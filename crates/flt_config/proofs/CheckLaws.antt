@@ -1,4 +1,4 @@
--- The check of a configuration tells its first fault, and none exactly where it is valid.
+-- The check of a configuration reports its first fault, and none exactly if it is valid.
 use Rattle.std.proofs.Common.{◌≡◌, ◌∙◌, ℕ, ◌+◌, ◌<◌, ◌≤◌, nat_lt, List, [], ◌∷◌, ◌++◌, length, take, drop, get_or, position, Option, Some, None, Result, Ok, Err, true, false, Bool, refl, sym, ap, subst, arith, AllPairs, eqb-true, eq-eqb, drop-cons, length-take, append_assoc, append-nil, add-one, length-append, ◌==◌, inl, inr}
 use Rattle.std.specs.Prelude.{◌⊎◌}
 use Rattle.std.specs.List.{find}
@@ -29,7 +29,7 @@ distinct_behind-step events n d h =
     let long : length (take n events) ≡ n = omega (arith, length-take n events) in
     rw (drop-cons events n d h) (rw (take_more events n d h) (rw long (rw add-one refl)))
 
--- An event whose DTC stands before it.
+-- An event whose DTC an event before it has.
 pub distinct_behind-twice : (events : List EventCfg) (n first : ℕ) (event : EventCfg) → n < length events → event ≡ get_or events n event
     → position (has_dtc event.dtc) (take n events) ≡ Some first → distinct_behind (take n events) (drop n events) ≡ Err (DtcTwice first n)
 distinct_behind-twice events n first event h is found =
@@ -135,7 +135,7 @@ pub check_of-ok : (config : Config) → NoneRefuses config → check_of config �
 unfolding check_of
 check_of-ok config r = rw r.ranges (rw r.distinct (rw r.room refl))
 
--- The first part that refuses tells the fault.
+-- The first part that refuses reports the fault.
 record RefusedBy (ranges distinct room : Result (Unit {0}) CfgFault) (fault : CfgFault) : Type 0 where
   pub by : (ranges ≡ Err fault) ⊎ (((ranges ≡ Ok tt) × (distinct ≡ Err fault)) ⊎ ((ranges ≡ Ok tt) × (distinct ≡ Ok tt) × (room ≡ Err fault)))
 
@@ -204,7 +204,7 @@ room_ok : (config : Config) (short : Bool) → nat_lt config.pages (needed_pages
 room_ok config true is h = let less = ltb-true config.pages (needed_pages config) is in absurd (omega arith)
 room_ok config false is h = refl
 
--- No pair of distinct events is told.
+-- No pair of distinct events is reported.
 not_twice : (events : List EventCfg) (fault : CfgFault) → AllPairs HasOtherDtc events → IsTwiceFault events fault → ⊥
 not_twice [] (DtcTwice first second) distinct twice = let within = twice.within in absurd (omega arith)
 not_twice (event ∷ events) (DtcTwice first second) distinct twice = distinct first second event twice.order twice.within (twice.same event)

@@ -1,4 +1,4 @@
--- One more element: its key stands before it, or the keys are still distinct.
+-- One more element: its key occurs before it, or the keys are still distinct.
 use Rattle.std.proofs.Common.{◌≡◌, ◌≢◌, ℕ, ◌+◌, ◌<◌, ◌≤◌, List, length, take, get_or, position, Some, None, true, false, Bool, ◌==◌, arith, ap, sym, ◌∙◌, eqb, eqb-true, eq-eqb, length-take, AllPairs}
 use Rattle.std.specs.List.{position_or_len}
 use Rattle.std.proofs.lemmas.List.{get_or-take, get_or_default, take_more}
@@ -20,7 +20,7 @@ module _ {X : Type 0} (key : X → ℕ) (xs : List X) (second : ℕ) (x : X) (h 
   key_before : (k : ℕ) (d : X) → k < second → key (get_or (take second xs) k d) ≡ key (get_or xs k d)
   key_before k d below = ap key (get_or-take second xs k d below)
 
-  -- The key of x stands at first, and at no place before.
+  -- The key of x occurs at first, and at no place before.
   pub record StandsFirst (first : ℕ) : Type 0 where
     pub order : first < second
     pub same : (d : X) → key (get_or xs first d) ≡ key (get_or xs second d)

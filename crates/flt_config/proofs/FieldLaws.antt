@@ -1,4 +1,4 @@
--- The first number that is out of its range is told, in the order of the fields, and with its value.
+-- The first number that is out of range is reported, in the order of the fields, and with its value.
 use Rattle.std.proofs.Common.{◌≡◌, ◌∙◌, ℕ, suc, ◌+◌, ◌*◌, ◌<◌, ◌≤◌, ℤ, pos, List, [], ◌∷◌, ◌++◌, length, get_or, Option, Some, None, Err, true, refl, sym, ap, subst, arith, All, Any, inl, inr}
 use Rattle.std.specs.List.{find}
 use Rattle.std.proofs.lemmas.Bool.{cases_Bool}
@@ -102,7 +102,7 @@ module _ (config : Config) where
       (field : Field) (value : ℤ) → IsNumberOf event field value → HasNumber config (Some number) field value
   own_of number event within at field value is = (within, λ d. subst (λ e. IsNumberOf e field value) (sym (at d)) is)
 
-  -- The events from one on, each behind the one before it.
+  -- The events from one on, each after the one before it.
   events_ascend : (number : ℕ) (events : List EventCfg) →
       ((k : ℕ) (d : EventCfg) → k < length events → (number + k < length config.events.items) × (get_or config.events.items (number + k) d ≡ get_or events k d)) →
       Ascend ((number + 1) * 19) ((number + length events + 1) * 19) (events_settings number events)

@@ -38,7 +38,7 @@ pub events_settings-end : (events : List EventCfg) (n : ℕ) → length events �
 unfolding events_settings ranges_result
 events_settings-end events n h = rw (drop_all n events h) refl
 
--- Where the event at n has no fault, the faults go on behind it.
+-- If the event at n has no fault, the faults continue after it.
 pub events_settings-ok : (events : List EventCfg) (n : ℕ) (d : EventCfg) → n < length events
     → ranges_result (event_settings n (get_or events n d)) ≡ Ok tt
     → ranges_result (events_settings n (drop n events)) ≡ ranges_result (events_settings (n + 1) (drop (n + 1) events))

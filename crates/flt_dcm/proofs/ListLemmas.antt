@@ -149,7 +149,7 @@ all_records_fit manager n room =
     let at_most = entries_at_most manager.faults.memory.entries n in
     omega (arith, sum, at_most, room)
 
--- The records of one event more fit behind those before it.
+-- The records of one more event fit after those before it.
 pub records_fit : (manager : Manager) (k n : ℕ) (out : List ℕ) → out ≡ (0x59 ∷ 0x03 ∷ []) ++ flat_map records_of (seen_to manager k) → k < n →
     length manager.faults.memory.entries ≤ ENTRIES → length out + length (records_of (event_seen manager k)) ≤ RESPONSE
 records_fit manager k n out is h room =
@@ -164,7 +164,7 @@ whole_list_fits (ByMask mask) manager n few = let at_most = four_each (listed (B
 whole_list_fits Supported manager n few = let at_most = four_each (listed Supported) manager n (λ event. omega arith) in omega (arith, at_most, few)
 whole_list_fits Counters manager n few = let at_most = four_each (listed Counters) manager n (λ event. if_prefailed (is_prefailed event) event) in omega (arith, at_most, few)
 
--- One event more fits behind those before it.
+-- One more event fits after those before it.
 pub list_fits : (listing : Listing) (manager : Manager) (k n : ℕ) (out : List ℕ) → out ≡ head_of listing ++ flat_map (listed listing) (seen_to manager k) → k < n → n ≤ EVENTS →
     length out + length (listed listing (event_seen manager k)) ≤ RESPONSE
 list_fits listing manager k n out is h few =

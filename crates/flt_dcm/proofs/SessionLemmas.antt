@@ -159,7 +159,7 @@ module _ (past : History) (tester : ℕ) (bytes : RequestBytes) where
 -- ---- ticks
 
 module _ (past : History) (tester ticks : ℕ) where
-  -- A session of which the silent time is known.
+  -- A session whose silent time is known.
   ticked_extended : (holds : Bool) (silent : ℕ) (late early : Bool) → nat_le session_timeout (silence tester past + ticks) ≡ late → nat_lt (silent + ticks) session_timeout ≡ early →
       early ≡ not late → SessionStands tester past (Extended holds silent) →
       SessionStands tester (ops.Tick ticks ∷ past) (cond early (Extended holds (silent + ticks)) Default)

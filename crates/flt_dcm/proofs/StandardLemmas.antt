@@ -13,7 +13,7 @@ use Rattle.flt_model.specs.StatusLaws.{since_clear, this_cycle, has_failed}
 use Rattle.flt_model.proofs.StatusLaws.{byte_tells_bits, test_failed_is_last_result, pending_is_unrefuted_failure}
 use Rattle.flt_dcm.specs.Standard.{StandardBits, has_test, has_cleared}
 
--- ---- what a base does not matter to, behind a clear
+-- ---- what does not depend on a base, after a clear
 
 -- A row that a clear decides.
 decided_alike : (row : Row) (value base other : Bool) → ((past : Past) → row past Clear ≡ Some value) → (past : Past) → has_cleared past ≡ true →

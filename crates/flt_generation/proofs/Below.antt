@@ -25,7 +25,7 @@ use Rattle.flt_generation.proofs.Whole.{blocks_read}
 
 module _ (c : Config) (sizes : HasSizes c) (value : ℕ → Content) (commit : Commit) (count : ℕ) (most : count ≤ parts) where
   module _ (p : Persist) (known : Sofar c value commit count p) where
-    -- An entry that was read fits beside the others.
+    -- An entry that was read fits together with the others.
     entry_fits : (place : ℕ) → place + 5 < count → (entry : EntryState) → place < length p.entries.items → slice_index_or p.entries.items place entry ≡ entry
         → (entry_fits_at (slice_get c.events.items entry.event) entry && is_alone p.entries.items place entry.event) ≡ true
     entry_fits place before entry within here =

@@ -1,4 +1,4 @@
--- What an image holds by its bytes is what stands where.
+-- What an image holds by its bytes is what its blocks have.
 use Rattle.std.proofs.Common.{◌≡◌, ℕ, zero, suc, ◌+◌, ◌-◌, ◌<◌, ◌≤◌, Bool, true, false, not, List, refl, sym, ◌∙◌, ap, subst, arith, inl, inr}
 use Rattle.std.specs.Prelude.{nat_le, find, Option, Some, None, Result, Ok, Err}
 use Rattle.std.specs.List.{range_with_len}

@@ -218,7 +218,7 @@ sized : (c : Config) (commit : Commit) → is_commit c commit ≡ true → lengt
 unfolding is_commit
 sized c commit is = eqb-true (length commit.index) parts (and_parts _ _ (and_parts _ _ is).0).1
 
--- The first byte tells the version.
+-- The first byte gives the version.
 in_version_1 : (c : Config) (held : List ℕ) → slice_index held 0 ≡ 1 → commit_in c held ≡ if_commit c held (commit_bytes_1 (commit_from_1 held)) (commit_from_1 held)
 unfolding commit_in
 in_version_1 c held is = chosen (slice_index held 0 == 1) _ _ (eq-eqb (slice_index held 0) 1 is)

@@ -1,4 +1,4 @@
--- What stands in the bytes of a part is read as it was.
+-- The bytes of a part are read back as what it was.
 use Rattle.std.proofs.Common.{◌≡◌, ℕ, zero, suc, ◌+◌, ◌-◌, ◌*◌, ◌%◌, ◌<◌, ◌≤◌, ◌++◌, ◌==◌, [], ◌∷◌, Bool, true, false, List, length, refl, sym, ◌∙◌, ap, subst, arith, inl, inr, min, take, drop, replicate}
 use Rattle.std.specs.Prelude.{slice_index_or, slice_index, nat_le, Option, Some, None, IfSome}
 use Rattle.std.specs.Int.{from_be_bytes, w16}

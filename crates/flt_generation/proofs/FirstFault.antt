@@ -1,4 +1,4 @@
--- The fault that is told is the first in the order of judging.
+-- The reported fault is the first in the order of judging.
 use Rattle.std.proofs.Common.{◌≡◌, ◌≢◌, ◌↔◌, ℕ, zero, suc, ◌+◌, ◌*◌, ◌<◌, ◌≤◌, List, refl, sym, ◌∙◌, ap, subst, arith, inl, inr}
 use Rattle.std.specs.Prelude.{Some, None, Result, Ok, Err, IsTrue, IsOk}
 use Rattle.std.proofs.lemmas.Bool.{cases_order, and_parts, leb-true, ltb-true}

@@ -77,7 +77,7 @@ mapped_sum f g first (suc count) =
     sum_more f (g first) (map g (range_with_len (first + 1) count)) ∙ ap (λ (n : ℕ). f (g first) + n) (mapped_sum f g (first + 1) count)
     ∙ sym (sum_more (λ n. f (g n)) first (range_with_len (first + 1) count))
 
--- The end of a range by itself.
+-- The end of a range on its own.
 split_sum : (f : ℕ → ℕ) (first one two : ℕ) → sum_by f (range_with_len first (one + two)) ≡ sum_by f (range_with_len first one) + sum_by f (range_with_len (first + one) two)
 split_sum f first zero two =
     let size : zero + two ≡ two = omega arith in
@@ -233,7 +233,7 @@ module _ (c : Config) where
       ∙ below_sum (λ n. own_pages c (application_number n)) 3 (λ n. omega arith) (omega arith) c.blocks 0 40 applications_of)
       (omega (arith, given.events)) given.valid.memory.1 given.valid.blocks
 
--- What stands or may be written, over a list of numbers.
+-- What is held or may be written, over a list of numbers.
 most_sum : (f own : ℕ → ℕ) (ns : List ℕ) → sum_by (λ n. max (f n) (own n)) ns ≡ sum_by own ns + sum_by (λ n. f n - own n) ns
 most_sum f own [] = refl
 most_sum f own (n ∷ ns) =

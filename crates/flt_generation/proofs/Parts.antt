@@ -1,4 +1,4 @@
--- Which parts fit, by their tests: beside the rest of any state with one state for each event.
+-- Which parts fit, by their tests: with the rest of any state that has one state for each event.
 use Rattle.std.proofs.Common.{◌≡◌, ◌⊎◌, ℕ, ◌+◌, ◌-◌, ◌<◌, ◌≤◌, [], ◌∷◌, true, List, length, refl, sym, ◌∙◌, subst, arith, inl, inr, ap, ◌&&◌}
 use Rattle.std.specs.Prelude.{slice_index_or, slice_get, Option}
 use Rattle.std.proofs.lemmas.Bool.{cases_lt, and_from, le-leb}
@@ -74,7 +74,7 @@ set_states_fit events held first states are fits = record { one_each = length-wi
       ]
     ]
 
--- The clean counts of states that fit leave room for the bit beside them.
+-- The clean counts of states that fit leave room for the bit next to them.
 pub states_short : (events : List EventCfg) (states : List EventState) → AreStatesOf events states → (k : ℕ) → (slice_index_or states k start_state).clean < 0x8000
 states_short events states are k = elim (cases_lt k (length events)) [
   | inl within ↦ inside events are k within

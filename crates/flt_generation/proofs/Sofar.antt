@@ -31,7 +31,7 @@ pub none_from : (o : Option ℕ) → is_none o ≡ true → o ≡ None
 none_from None is = refl
 none_from (Some k) is = absurd (cc)
 
--- What is known behind the first blocks, so many of them.
+-- What is known after this many first blocks.
 pub record Sofar (c : Config) (value : ℕ → Content) (commit : Commit) (count : ℕ) (p : Persist) : Type 0 where
   pub contents : (id : ℕ) → 3 ≤ id → id < 3 + count → IsTrue (is_used c id) → value (number_of id (index_in commit id)) ≡ bytes (part_bytes p (part_of id))
   pub states_are : AreStatesOf c.events.items p.events.items
@@ -55,7 +55,7 @@ notes_of c p fits =
     ((and_parts _ _ d.0).1, d.1, b.1, a.1)
 
 module _ (c : Config) (value : ℕ → Content) (commit : Commit) (count : ℕ) (p : Persist) (known : Sofar c value commit count p) where
-  -- The blocks before stay, and the one that was taken stands in the state.
+  -- The blocks before stay, and the one that was taken is in the state.
   contents_more : (held : List ℕ) (q : Persist) → with_part (part_of (3 + count)) held p ≡ q → held ≡ part_bytes q (part_of (3 + count)) → value (number_of (3 + count) (index_in commit (3 + count))) ≡ bytes held
       → (id : ℕ) → 3 ≤ id → id < 3 + (count + 1) → IsTrue (is_used c id) → value (number_of id (index_in commit id)) ≡ bytes (part_bytes q (part_of id))
   contents_more held q gives is content id low below used = elim (cases_lt id (3 + count)) [
@@ -262,7 +262,7 @@ sofar c value commit (suc count) p most is =
     subst (λ (n : ℕ). Sofar c value commit n p) more
     (one_block c value commit count before.0 p (sofar c value commit count before.0 (omega (arith, most)) before.1) (omega (arith, most)) before.2)
 
--- The state that was read fits, and stands in the blocks.
+-- The state that was read fits, and is in the blocks.
 pub read_fits : (c : Config) (value : ℕ → Content) (commit : Commit) (p : Persist) → c.memory ≤ 16 → Sofar c value commit parts p → Fits c p
 read_fits c value commit p memory known =
     let fits = known.summary_is (omega arith) in

@@ -19,7 +19,7 @@ use Rattle.flt_generation.specs.Holding.{Fault, ◌>>=◌, or_damaged, with_cont
 use Rattle.flt_generation.proofs.Choices.{chosen, not_chosen}
 use Rattle.flt_generation.proofs.States.{state_kept, same_states}
 
--- A value behind two steps was one behind the first.
+-- A value after two steps was one after the first.
 pub both_ok : {A B : Type 0} (first : Result A Fault) (next : A → Result B Fault) (last : B) → (first >>= next) ≡ Ok last → (value : A) × (first ≡ Ok value) × (next value ≡ Ok last)
 both_ok (Ok value) next last is = (value, refl, is)
 both_ok (Err fault) next last is = absurd (cc)
@@ -51,7 +51,7 @@ pub data Kind (id : ℕ) : Type 0 where
   is_entry : 8 ≤ id → id < later_states_id → part_of id ≡ Entry (id - 8) → Kind id
   are_later : later_states_id ≤ id → part_of id ≡ States (first_later_event + states_per_block * (id - later_states_id)) → Kind id
 
--- The part of a block behind the first states, and behind the summary.
+-- The part of a block after the first states, and after the summary.
 abbrev behind_states : ℕ → Part
 behind_states id = if nat_lt id later_states_id then Entry (id - 8) else States (first_later_event + states_per_block * (id - later_states_id))
 

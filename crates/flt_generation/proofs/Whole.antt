@@ -32,7 +32,7 @@ use Rattle.flt_generation.specs.Faults.{HoldBelow}
 use Rattle.flt_generation.proofs.Short.{HasSizes, entry_sizes, short_summary, clean_short}
 use Rattle.flt_config.specs.declared.TheConstants.{EVENTS}
 
--- The events whose states the first blocks hold, so many of them: none in the summary and the entries.
+-- The events whose states this many first blocks hold: none in the summary and the entries.
 abbrev pub states_before : ℕ → ℕ
 states_before count = 16 * (min (count - 1) 4 + (count - parts_1))
 
@@ -228,7 +228,7 @@ module _ (c : Config) (sizes : HasSizes c) (p : Persist) (one_each : length p.ev
         untaken = λ k d some from inside. get_or-set_other q.entries.items place k (entry_from (entry_bytes entry)) d (λ e. omega (arith, e, from, at)) ∙ agrees.untaken k d (omega (arith, at)) (omega (arith, from)) inside;
       }
 
-    -- No entry stands at the place.
+    -- There is no entry at the place.
     module _ (past : length p.entries.items ≤ place) where
       past_q : length q.entries.items ≤ place
       past_q = omega (arith, same_count, past)

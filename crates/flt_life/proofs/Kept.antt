@@ -10,7 +10,7 @@ use Rattle.flt_life.specs.declared.answer.StepAnswer.{StepAnswer}
 use Rattle.flt_life.specs.declared.answer.StepAnswer.TheVariants as answers
 use Rattle.flt_life.specs.Answers.{IsReplyWithin, IsAnswerWithin, reply_in, with_reply, told_by}
 
--- ---- more bytes behind those of the responses change no reply that is kept
+-- ---- more bytes after those of the responses change no reply that is kept
 
 piece_stays : (bytes more : List ℕ) (from size : ℕ) → from + size ≤ length bytes → take size (drop from (bytes ++ more)) ≡ take size (drop from bytes)
 piece_stays bytes more from size within =

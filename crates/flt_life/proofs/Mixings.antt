@@ -1,4 +1,4 @@
--- What stands in a journal stands in a longer one, and the calls of blocks behind those of others.
+-- What is in a journal is in a longer one, and the calls of blocks after those of others.
 use Rattle.std.proofs.Common.{◌≡◌, ℕ, zero, suc, List, [], ◌∷◌, ◌++◌, All, length, take, get_or, Some, arith, refl, sym, ap, subst, ◌∙◌}
 use Rattle.std.specs.Prelude.{slice_get}
 use Rattle.std.proofs.lemmas.List.{append-nil, append_assoc}
@@ -24,7 +24,7 @@ module _ {X : Type 0} where
   at_end (x ∷ front) e zero is = absurd (omega arith)
   at_end (x ∷ front) e (suc place) is = at_end front e place (omega arith)
 
--- What is told in a journal is told in a longer one.
+-- What is answered in a journal is answered in a longer one.
 module _ {S O R : Type 0} (answer : S → List O → O → R) (start : S) where
   pub told_longer : (journal longer : List (Entry O)) (lane : ℕ) (call : Call O R) → IsPrefix journal longer → IsToldInPlace answer start journal lane call → IsToldInPlace answer start longer lane call
   told_longer journal longer lane call pre is = subst (λ j. IsToldInPlace answer start j lane call) pre.1 record {

@@ -1,4 +1,4 @@
--- The places that the calls of a lane are told rise: of calls behind others, and of blocks behind others.
+-- The places of the calls of a lane rise: of calls after others, and of blocks after others.
 use Rattle.std.proofs.Common.{◌≡◌, ℕ, zero, suc, ◌<◌, ◌≤◌, ◌+◌, Bool, true, false, cond, eqb, eqb-true, ne_eqb, List, [], ◌∷◌, ◌++◌, All, length, get_or, Some, arith, refl, sym, ap, subst, ◌∙◌}
 use Rattle.std.specs.Prelude.{slice_get}
 use Rattle.std.proofs.lemmas.List.{append-nil, append_assoc}
@@ -15,7 +15,7 @@ module _ {O R : Type 0} where
   rise_lower low bound [] below rising = tt
   rise_lower low bound (call ∷ calls) below rising = (omega (arith, below, rising.0), rising.1)
 
-  -- From a place on, before which none of them stands.
+  -- From a place on, before which none of them is.
   pub rise_from : (low bound : ℕ) (calls : List (Call O R)) → All (λ call. bound ≤ call.told.place) calls → Rise low calls → Rise bound calls
   unfolding Rise
   rise_from low bound [] past rising = tt
@@ -75,7 +75,7 @@ module _ {O R : Type 0} where
   pub alone_rise : (low : ℕ) (calls : List (Call O R)) → Rise low (calls_in_lane 0 (((0, calls) ∷ []) ∷ [])) → Rise low calls
   alone_rise low calls rising = subst (Rise low) (append-nil (calls ++ []) ∙ append-nil calls) rising
 
--- ---- the calls of blocks that are told in a journal
+-- ---- the calls of blocks that are answered in a journal
 
 get_within : {X : Type 0} (xs : List X) (k : ℕ) (x : X) → slice_get xs k ≡ Some x → k < length xs
 get_within [] k x is = absurd (cc)
@@ -99,11 +99,11 @@ module _ {S O R : Type 0} (answer : S → List O → O → R) (start : S) (journ
       (told_in_block number lanes (All-head (BlockTold answer start journal) lanes blocks told))
       (told_in_lane number blocks (All-tail (BlockTold answer start journal) lanes blocks told))
 
-  -- They stand in it.
+  -- They are in it.
   pub places_within : (number : ℕ) (calls : List (Call O R)) → All (IsToldInPlace answer start journal number) calls → All (λ call. call.told.place < length journal) calls
   places_within number calls told k d within = get_within journal (get_or calls k d).told.place _ (told k d within).stands
 
-  -- Blocks whose calls stand behind it.
+  -- Blocks whose calls come after it.
   pub rise_more : (low : ℕ) (blocks more : List (Block O R)) → low ≤ length journal → All (BlockTold answer start journal) blocks → (number : ℕ) → Rise low (calls_in_lane number blocks)
       → Rise (length journal) (calls_in_lane number more) → Rise low (calls_in_lane number (blocks ++ more))
   rise_more low blocks more below told number first second = subst (Rise low) (sym (lane_append number blocks more))

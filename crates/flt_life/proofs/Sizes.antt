@@ -111,7 +111,7 @@ module _ (parts : List Part) (index : ℕ) (part : Part) (within : index < lengt
           let both = ap widths (sym (map-append part_of (take n all) (drop n all)) ∙ ap parts_of (take-append-drop n all)) in
           omega (arith, most, both)
 
-  -- A step by itself.
+  -- A step outside blocks.
   module _ (step : Step) (one : part ≡ One step) where
     one_is : parts_of (take (index + 1) parts) ≡ parts_of (take index parts) ++ inl step ∷ []
     one_is = parts_more_by ∙ ap (λ (p : Part). parts_of (take index parts) ++ part_of p ∷ []) one
@@ -167,7 +167,7 @@ lanes_count [] = refl
 lanes_count (inl step ∷ parts) = let rest = lanes_count parts in omega (arith, rest)
 lanes_count (inr lanes ∷ parts) = let rest = lanes_count parts in let sum = length-append lanes (lanes_in parts) in omega (arith, rest, sum)
 
--- Lanes of at most so many steps, wherever they lie in memory.
+-- Lanes of at most this many steps, wherever they are in memory.
 pub short_lanes : {A : Type 0} (most : ℕ) (lanes : List (Vec Step A)) → sum_by length (map (λ (lane : Vec Step A). lane.items) lanes) ≤ most → All (λ (lane : Vec Step A). length lane.items ≤ most) lanes
 short_lanes most [] few = All-nil _
 short_lanes {A} most (lane ∷ lanes) few =

@@ -228,7 +228,7 @@ cleared_first : (notable : Notable) (base : Option ℕ) (sent : List ℕ) (high 
 cleared_first notable base sent high zero marks noted_event = noted_event
 cleared_first notable base sent high (suc n) marks noted_event = note_next n high (first notable base (all_cleared sent n marks)) (cleared_first notable base sent high n marks noted_event)
 
--- An event behind those that were cleared.
+-- An event after those that were cleared.
 later_marks : (event : ℕ) (sent : List ℕ) (n : ℕ) (marks : Trace) → n ≤ event → marks_of event (all_cleared sent n marks) ≡ marks_of event marks
 later_marks event sent zero marks h = refl
 later_marks event sent (suc n) marks h = rw (ne_eqb n event (λ same. absurd (omega (arith, h, same)))) (later_marks event sent n marks (omega (arith, h)))

@@ -170,7 +170,7 @@ option_case : (view : View) (service : ℕ) (silent : Bool) (request : Request) 
 option_case view service silent request false sound = refl
 option_case view service silent request true sound = answered service silent (positive view request) sound
 
--- The conditions on what stands behind the service.
+-- The conditions on what follows the service.
 abbrev pub rows_behind : View → List ℕ → Option Form → List ℕ → List Condition
 rows_behind view bytes form rest =
     where_ (is_none form) sub_function_not_supported

@@ -49,7 +49,7 @@ set_bit_is byte k set =
     (λ ne. let zero : bit_at byte k ≡ 0 = omega arith in absurd (set (and_pow byte k ∙ ap (λ b. b * 2 ^ k) zero ∙ omega arith)))
     (cases_eq (bit_at byte k) 1)
 
--- The numbers below one: how many they are, and which stands where.
+-- The numbers below one: how many there are, and where each is.
 pub length_below : (n : ℕ) → length (below n) ≡ n
 length_below zero = refl
 length_below (suc n) = let before = length_below n in let more = length-append (below n) (n ∷ []) in omega (arith, before, more)

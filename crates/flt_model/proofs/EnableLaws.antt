@@ -1,4 +1,4 @@
--- A disabled event stands still, and an event that needs nothing is enabled.
+-- A disabled event is frozen, and an event that needs nothing is enabled.
 use Rattle.std.proofs.Common.{◌≡◌, ◌∙◌, ℕ, Bool, true, false, not, ◌||◌, ◌&&◌, ◌==◌, cond, [], ◌∷◌, ◌++◌, Some, None, refl, ap}
 use Rattle.std.specs.Prelude.{is_none}
 use Rattle.std.proofs.lemmas.Bool.{and_from, and_right, or_right}

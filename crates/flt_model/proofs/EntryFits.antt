@@ -48,7 +48,7 @@ abbrev pub IsNotAdded : Mark → Type 0
 IsNotAdded Added = ⊥
 IsNotAdded _ = Unit {0}
 
--- An event with an entry behind it had one before it.
+-- An event with an entry after it had one before it.
 pub still : (mark : Mark) → IsNotAdded mark → (flag b : Bool) (past : Past) → decided entry_row flag (own b mark past) ≡ true → decided entry_row flag past ≡ true
 still mark not flag false past held = held
 still Added not flag true past held = absurd not

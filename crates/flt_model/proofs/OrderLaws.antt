@@ -1,4 +1,4 @@
--- The entries stand in the order in which they were added last.
+-- The entries are in the order in which they were last added.
 use Rattle.std.proofs.Common.{◌≡◌, ℕ, ◌<◌, ◌≢◌, true, false, List, [], ◌∷◌, filter, get_or, length, arith, refl, subst, eq-eqb}
 use Rattle.std.specs.Prelude.{AllPairs}
 use Rattle.std.proofs.lemmas.Bool.{ne_eqb}
@@ -18,7 +18,7 @@ use Rattle.flt_model.proofs.KeptByCalls.{IsNoAdding, IsKept, calls_keep}
 among_at_any : (events : List ℕ) (place d : ℕ) → place < length events → is_among (get_or events place d) events ≡ true
 among_at_any events place d h = subst (λ event. is_among event events ≡ true) (get_or_default events place 0 d h) (among_at events place h)
 
--- The events of a list without repetition stand behind each other as they stand.
+-- The events of a list without repetition follow each other in the order of the list.
 behind_in_list : (events : List ℕ) → Distinct events → AllPairs (λ first second. is_behind first second events ≡ true) events
 behind_in_list [] distinct = λ i j d less within. absurd (omega (arith, within))
 behind_in_list (event ∷ events) distinct =
@@ -44,7 +44,7 @@ module _ (life : Life) where
   kept_by_mark event Added signals marks plain r = absurd plain
   kept_by_mark event Refused signals marks plain r = r
 
-  -- An event that is added stands behind all others, and leaves them as they stand.
+  -- An event that is added comes after all others, and does not change their order.
   kept_by_adding : (event : ℕ) (signals : List ℕ) (marks : Trace) → is_among event (holders life marks) ≡ false → AreInOrder life marks → AreInOrder life (Of event Added signals ∷ marks)
   kept_by_adding event signals marks absent r =
       let held = holders life marks in

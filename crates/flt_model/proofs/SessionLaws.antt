@@ -128,7 +128,7 @@ abbrev is_nil : List ℕ → Bool
 is_nil [] = true
 is_nil (byte ∷ bytes) = false
 
--- What a request of service 0x10 asks for, by its sub-function and by what stands behind it.
+-- What a request of service 0x10 asks for, by its sub-function and by what follows it.
 control : (silent default extended : Bool) (rest : List ℕ) →
     session_asked (asked_in 0x10 silent (option_map (λ (r : SubFunction). r.form) (cond default (Some (row 0x10 0x01 (Plain (Session false)))) (cond extended (Some (row 0x10 0x03 (Plain (Session true)))) None))) rest)
     ≡ cond (is_nil rest) (cond default (Some false) (cond extended (Some true) None)) None

@@ -21,11 +21,11 @@ nowhere : Row
 nowhere = record { number = 0; index = 0 }
 
 module _ (numbers : List ℕ) (rows : List Row) (index : IsIndex numbers rows) where
-  -- The row at a place names a number where it stands.
+  -- The row at a place names a number where that is.
   pub row_at : (at : ℕ) (row : Row) → at < length rows → row ≡ get_or rows at row → IsRowOf numbers row
   row_at at row within is = subst (IsRowOf numbers) (sym is) (All-get_or (IsRowOf numbers) rows at row within index.named)
 
-  -- A search that finds a row tells where the block stands among the numbers.
+  -- A search that finds a row gives the index of the block among the numbers.
   pub row_found : (block at : ℕ) (row : Row) → at < length rows → row ≡ get_or rows at row → IsBinarySearchResult (λ r. nat_cmp r.number block) rows (Ok at)
       → (row.index < length numbers) × (get_or numbers row.index 0 ≡ block)
   row_found block at row within is equal =
@@ -45,7 +45,7 @@ module _ (numbers : List ℕ) (rows : List Row) (index : IsIndex numbers rows) w
       let one = index.sorted i j nowhere le within in
       grind (arith, nat_tests))
 
-  -- A search that finds no row tells that the block is none of the numbers.
+  -- A search that finds no row shows that the block is not one of the numbers.
   pub no_row : (block at : ℕ) → IsBinarySearchResult (λ row. nat_cmp row.number block) rows (Err at) → (k : ℕ) → k < length numbers → get_or numbers k 0 ≢ block
   no_row block at parted k within same =
       let named = has_row k within in
@@ -60,7 +60,7 @@ module _ (numbers : List ℕ) (rows : List Row) (index : IsIndex numbers rows) w
       let rises = index.sorted i j d le within in
       grind (arith, nat_tests)
 
-  -- Where the rows from a number on begin, the row that stands there names the least of them.
+  -- Where the rows from a number on begin, the row there names the least of them.
   pub next_row : (from at : ℕ) (row : Row) → (IsPartitionedBy (λ row. nat_lt row.number from) rows → IsPartitionPoint (λ row. nat_lt row.number from ≡ true) (λ row. nat_lt row.number from ≡ false) rows at)
       → at < length rows → row ≡ get_or rows at row → IsLeastFrom from numbers (Some row.number)
   next_row from at row parted within is =

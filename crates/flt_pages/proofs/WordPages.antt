@@ -1,4 +1,4 @@
--- Pages on which a word stands.
+-- Pages that have a word.
 use Rattle.std.proofs.Common.{◌≡◌, ◌+◌, ◌^◌, ◌<◌, ◌≤◌, ℕ, Bool, true, false, List, [], get_or, set, get_or-set_same, get_or-set_other, Option, Some, None, Result, Ok, Err, refl, sym, ◌∙◌, ap, arith}
 use Rattle.std.specs.Prelude.{◌==◌, ◌&&◌, if◌then◌else◌, nat_le, Contains}
 use Rattle.std.specs.List.{list_any}
@@ -60,7 +60,7 @@ valid_gates used sequence pages fits number first second =
 among : (numbers : List ℕ) (block : ℕ) → Contains numbers block → list_any (λ number. number == block) numbers ≡ true
 among numbers block (place, within, is) = list_any_at (λ number. number == block) numbers place block within (eq-eqb _ block is)
 
--- The item of a head that stands, by the page in the place of its gate.
+-- The item of a whole head, by the page in the place of its gate.
 module _ (used : ℕ) (numbers : List ℕ) (page block size : ℕ) (valid : Bool) (word : IsWord (Head block size valid page)) (number : Contains numbers block) (room : page + 2 + byte_pages size ≤ used) where
   pub item_of_head : (pages : List (List ℕ)) → get_or pages page [] ≡ sealed (word_bytes (Head block size valid page))
       → item_at used numbers pages page ≡ item_by_gate block size valid page (page + 1 + byte_pages size) (unsealed (get_or pages (page + 1 + byte_pages size) []))

@@ -1,4 +1,4 @@
--- What a sector holds when a record was appended behind its log, whole or not.
+-- What a sector holds after a record was appended to its log, whole or not.
 use Rattle.std.proofs.Common.{◌≡◌, ◌⊎◌, inl, inr, ◌+◌, ◌<◌, ◌≤◌, ℕ, Bool, true, false, List, [], ◌∷◌, ◌++◌, append-nil, get_or, length, Some, refl, sym, ◌∙◌, ap, arith}
 use Rattle.std.specs.Prelude.{if◌then◌else◌, ◌==◌}
 use Rattle.std.specs.List.{list_any}
@@ -20,7 +20,7 @@ use Rattle.flt_record.proofs.AtEnd.{torn_item, open_item, whole_item}
 use Rattle.flt_record.proofs.Values.{last_more, same_content}
 
 module _ (used : ℕ) (numbers : List ℕ) (pages after : List (List ℕ)) (end : ℕ) (value : ℕ → Content) (begins : 2 ≤ used) (holds : LogHolds used numbers pages end value) where
-  -- The pages behind the end that nothing touched.
+  -- The pages after the end that nothing touched.
   still_blank : (to : ℕ) → end ≤ to → KeptApart pages after end to → AreBlank after to used
   still_blank to past apart k low high = apart.behind k low ∙ blank_behind used numbers pages after holds.entries end begins holds.is (λ j low lt. apart.before j lt) k (omega arith) high
 

@@ -122,7 +122,7 @@ module _ (before : FlashState) (shape : HasShape before) (sector other page bloc
       → Records before after other page block source place.valid result
   copy_head_failed after failed result fails is = head_failed before shape other page block source place.valid in_other room_source blank_source after failed result fails (head_of after (Err failed) is)
 
-  -- The head stands.
+  -- The head is whole.
   module _ (middle : FlashState) (shape_middle : HasShape middle) (headed : Appends {T = Unit {0}} before middle other page head (Ok tt)) where
     same_source : bytes_at (sector_at middle.image sector) place ≡ bytes_at (sector_at before.image sector) place
     same_source = ap (λ (pages : List (List ℕ)). bytes_at pages place)

@@ -10,7 +10,7 @@ use Rattle.flt_flash.specs.Image.{blank_page}
 use Rattle.flt_record.specs.Record.{on_pages}
 use Rattle.flt_record.proofs.Values.{same_range}
 
--- So many pages from one on hold the first bytes, and ones behind them.
+-- This many pages from one on hold the first bytes, and ones after them.
 pub record Filled (pages : List (List ℕ)) (first : ℕ) (bytes : List ℕ) (index : ℕ) : Type 0 where
   pub rest : List ℕ
   pub is : flat_map (λ page. page) (slice_range pages first (first + index)) ≡ take (32 * index) bytes ++ rest
@@ -31,7 +31,7 @@ piece_is bytes start end within (inl whole) = ap (λ n. take n (drop start bytes
 piece_is bytes start end within (inr last) =
     take_all (end - start) (drop start bytes) (omega (arith, length-drop start bytes, last.0)) ∙ sym (take_all 32 (drop start bytes) (omega (arith, length-drop start bytes, last.1)))
 
--- The ones behind the bytes of one page.
+-- The ones after the bytes of one page.
 pub ones_behind : (bytes : List ℕ) (index end : ℕ) → index < byte_pages (length bytes) → (end ≡ 32 * index + 32) ⊎ ((end ≡ length bytes) × (length bytes < 32 * index + 32))
     → drop (length (slice_range bytes (32 * index) end)) blank_page ≡ replicate (32 * (index + 1) - length bytes) 255
 unfolding blank_page
@@ -93,6 +93,6 @@ filled_all pages first bytes index last filled =
     ∙ ap (λ (l : List ℕ). l ++ filled.rest) (take_all (32 * index) bytes (omega arith))
     ∙ ap (λ (l : List ℕ). bytes ++ l) (filled.ones ∙ ap (λ n. replicate (32 * n - length bytes) 255) last)
 
--- The bytes at the start of what stands on whole pages.
+-- The bytes at the start of whole pages.
 pub bytes_on_pages : (bytes : List ℕ) → take (length bytes) (on_pages bytes) ≡ bytes
 bytes_on_pages bytes = take_at bytes (replicate (32 * byte_pages (length bytes) - length bytes) 255) (length bytes) refl

@@ -97,7 +97,7 @@ module _ (used : ℕ) (numbers : List ℕ) (pages : List (List ℕ)) (block : �
           inside = farther (page + 1) (omega arith) found is.inside;
         }
 
-    -- A record that stands here.
+    -- A record that is here.
     module _ (of size : ℕ) (valid complete : Bool) (here : item_at used numbers pages page ≡ Ok (Kept of size valid complete)) where
       pub record_most : size ≤ 128
       record_most = length_most valid size (proper_item used numbers pages page of size valid complete here).kind

@@ -1,4 +1,4 @@
--- An item is told by its own pages alone.
+-- An item depends only on its own pages.
 use Rattle.std.proofs.Common.{◌≡◌, ◌≢◌, ◌+◌, ◌<◌, ◌≤◌, ℕ, Bool, true, false, List, [], ◌∷◌, get_or, Option, Some, None, Result, Ok, Err, refl, sym, ◌∙◌, ap, arith}
 use Rattle.std.specs.Prelude.{if◌then◌else◌, ◌==◌, ◌&&◌, nat_le}
 use Rattle.std.specs.List.{list_any}
@@ -25,7 +25,7 @@ entry_of page End = []
 entry_of page Torn = []
 entry_of page (Kept block length valid complete) = record { page = page; block = block; length = length; valid = valid; complete = complete } ∷ []
 
--- Each record stands in the log and ends below a page.
+-- Each record is in the log and ends below a page.
 abbrev pub AllBelow : ℕ → List Entry → Type 0
 AllBelow bound [] = Unit {0}
 AllBelow bound (entry ∷ rest) = (2 ≤ entry.page) × (entry.page + 2 + byte_pages entry.length ≤ bound) × AllBelow bound rest

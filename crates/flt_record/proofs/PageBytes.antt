@@ -1,4 +1,4 @@
--- The plain bytes behind a head, page by page.
+-- The plain bytes after a head, page by page.
 use Rattle.std.proofs.Common.{◌≡◌, ◌+◌, ◌-◌, ◌*◌, ◌<◌, ◌≤◌, ℕ, zero, suc, Bool, true, false, List, [], ◌∷◌, ◌++◌, get_or, take, drop, length, length-take, length-drop, length-append, refl, sym, ◌∙◌, ap, arith}
 use Rattle.std.specs.Prelude.{slice_range, if◌then◌else◌, Some}
 use Rattle.std.specs.List.{flat_map}
@@ -12,7 +12,7 @@ use Rattle.flt_code.specs.Word.{is_length}
 use Rattle.flt_sector.specs.Log.{Entry}
 use Rattle.flt_sector.specs.Blocks.{bytes_behind, content_of}
 
--- The bytes of pages, one behind the other.
+-- The bytes of pages, one after the other.
 abbrev pub flat : List (List ℕ) → List ℕ
 flat pages = flat_map (λ page. page) pages
 

@@ -64,7 +64,7 @@ module _ (before : FlashState) (shape : HasShape before) (sector page block : â„
       let laid = laid_by before after sector page head (Err failed) is in
       record { pages = set pages page laid.laid; on = laid.on; done = tt; left = head_left laid.laid laid.word; cause = is.operation.cause }
 
-  -- The head stands.
+  -- The head is whole.
   module _ (middle : FlashState) (shape_middle : HasShape middle) (headed : Appends {T = Unit {0}} before middle sector page head (Ok tt)) where
     on_head : OnSector before middle sector (set pages page head)
     on_head = record { image = headed.done; wear = headed.wear; runs = one_run headed.operation }

@@ -19,7 +19,7 @@ pub record GoesOn (used : ℕ) (numbers : List ℕ) (pages : List (List ℕ)) (p
   pub end : (log used numbers pages).end ≡ (log_from used numbers pages page left).end
   pub fault : (log used numbers pages).fault ≡ (log_from used numbers pages page left).fault
 
--- The item that was told.
+-- The item that was answered.
 pub item_told : (sector : ℕ) (found : Item) (at : Result Item ℕ) → TellsOrFails (Ok found) (told sector at) → at ≡ Ok found
 item_told sector found (Ok item) tells = ⊎_elim (λ no. absurd (cc no)) (λ same. sym (cc same)) tells
 item_told sector found (Err page) tells = ⊎_elim (λ no. absurd (cc no)) (λ no. absurd (cc no)) tells

@@ -19,7 +19,7 @@ set_apart pages page bytes = record {
   behind = λ k le. get_or-set_other pages page k bytes [] (omega arith);
 }
 
--- One change behind or within another.
+-- One change after or within another.
 pub apart_on : (first second third : List (List ℕ)) (from to low high : ℕ) → from ≤ low → high ≤ to → KeptApart first second from to → KeptApart second third low high → KeptApart first third from to
 apart_on first second third from to low high le_low le_high one two = record {
   size = two.size ∙ one.size;

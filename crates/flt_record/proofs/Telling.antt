@@ -1,4 +1,4 @@
--- What a table of places tells, while the log goes on and after it moved.
+-- What a table of places gives, while the log grows and after it moved.
 use Rattle.std.proofs.Common.{◌≡◌, ◌+◌, ◌<◌, ◌≤◌, ℕ, suc, Bool, true, false, List, [], ◌∷◌, get_or, length, Option, Some, None, refl, sym, ◌∙◌, ap, subst, arith}
 use Rattle.std.specs.Prelude.{◌==◌, ◌&&◌, if◌then◌else◌, IfSome, sum_by}
 use Rattle.std.specs.List.{All}
@@ -39,7 +39,7 @@ module _ (pages after : List (List ℕ)) (end : ℕ) (size : length after ≡ le
   pub still_tells : (numbers : List ℕ) (places : List (Option RecordPlace)) (value : ℕ → Content) → TellsPlaces numbers places pages end value → TellsPlaces numbers places after end value
   still_tells numbers places value tells k within = still_at (value (get_or numbers k 0)) (get_or places k None) (tells k within)
 
--- A record that stands at the end of the log.
+-- A record at the end of the log.
 module _ (pages after : List (List ℕ)) (end block : ℕ) (held : List ℕ) (valid : Bool) (begun : 2 ≤ end) (kind : is_length valid (length held) ≡ true) (whole : IsWhole pages after end block held valid) where
   pub new_at : IsAt after (end + (2 + byte_pages (length held))) (asked_of valid held) (Some (record { page = end; length = length held; valid = valid }))
   new_at = record { holds = ap (asked_of valid) (sym whole.holds); inside = record { begun = begun; within = record { below = omega arith; kind = kind } } }

@@ -1,4 +1,4 @@
--- The gates of a sector whose erase was torn, and the current sector beside it.
+-- The gates of a sector whose erase was torn, and the current sector.
 use Rattle.std.proofs.Common.{◌≡◌, ◌⊎◌, inl, inr, ⊎_elim, ◌<◌, ◌≤◌, ℕ, Bool, true, false, List, [], get_or, replicate, length, Option, Some, None, Result, Ok, Err, refl, sym, ◌∙◌, ap, subst, arith}
 use Rattle.std.specs.Prelude.{◌==◌, nat_lt, if◌then◌else◌}
 use Rattle.std.proofs.lemmas.List.{get_or-replicate}
@@ -19,7 +19,7 @@ module _ (says : Option Word → Result (Option ℕ) ℕ) (fault : ℕ) (page to
       by_test true spoiled told = absurd (cc told)
       by_test false spoiled told = sym spoiled
 
-  -- A gate without a fault stands, or is gone.
+  -- A gate without a fault is whole, or is gone.
   torn_gate : (number : Option ℕ) → gate_by says fault page ≡ Ok number → (gate_by says fault torn ≡ gate_by says fault page) ⊎ (gate_by says fault torn ≡ Ok None)
   torn_gate number is =
       let fresh = not_spoiled number is in

@@ -1,4 +1,4 @@
--- What the records of a log hold, once one more stands behind them.
+-- What the records of a log hold after one more.
 use Rattle.std.proofs.Common.{◌≡◌, ◌+◌, ◌-◌, ◌<◌, ◌≤◌, ℕ, Bool, true, false, List, [], ◌∷◌, ◌++◌, get_or, take, drop, length, length-take, length-drop, Option, Some, None, refl, sym, ◌∙◌, ap, arith}
 use Rattle.std.specs.Prelude.{if◌then◌else◌, ◌==◌, ◌&&◌, slice_range}
 use Rattle.std.specs.List.{flat_map}
@@ -9,7 +9,7 @@ use Rattle.std.proofs.lemmas.List.{ext_get_or, get_or-take, get_or-drop}
 use Rattle.flt_record.proofs.Items.{AllBelow}
 use Rattle.flt_sector.specs.Blocks.{or_earlier, last_complete, bytes_behind, content_of}
 
--- A record of the block or of another behind the others.
+-- A record of the block or of another after the others.
 pub last_more : (block : ℕ) (entries : List Entry) (entry : Entry) → last_complete block (entries ++ entry ∷ []) ≡ (if entry.complete && (entry.block == block) then Some entry else last_complete block entries)
 last_more block [] entry = refl
 last_more block (first ∷ rest) entry = ap (λ later. or_earlier later first block) (last_more block rest entry) ∙ by_test (entry.complete && (entry.block == block))

@@ -1,4 +1,4 @@
--- What could not be read, told of more calls.
+-- What could not be read, stated for more calls.
 use Rattle.std.proofs.Common.{◌≡◌, ℕ, Result, Ok, Err, inl, inr, subst, arith}
 use Rattle.std.specs.Prelude.{IsErrOf, OnErr}
 use Rattle.std.specs.Result.{IsErrAnd}

@@ -1,4 +1,4 @@
--- Reads one after another, and what is told of steps one after another.
+-- Reads one after another, and what is answered by steps one after another.
 use Rattle.std.proofs.Common.{◌≡◌, refl, sym, ◌∙◌, ap, subst, arith}
 use Rattle.std.specs.Prelude.{Result, Ok, Err, IfErr}
 use Rattle.std.specs.Result.{IsErrAnd}
@@ -34,7 +34,7 @@ rises before middle after reads rose = omega (arith, reads.follows.counts, rose)
 pub stays_risen : (before middle after : BlocksState) → HasRisenBy 3 before.device.faults middle.device.faults → Reads middle after → HasRisenBy 3 before.device.faults after.device.faults
 stays_risen before middle after rose reads = omega (arith, reads.follows.counts, rose)
 
--- What is told of one fault is told of what hands it on.
+-- What holds of a fault holds of the answer that passes it on.
 pub handed_on : {T : Type 0} (P : StartFault → Type 0) (result : Result T StartFault) (fault : StartFault) → IsErrAnd result (λ e. e ≡ fault) → P fault → IfErr result P
 handed_on P (Ok value) fault is holds = absurd is
 handed_on P (Err e) fault is holds = subst P (sym is) holds
@@ -52,7 +52,7 @@ pub tells_next : {A B : Type 0} (c : Config) (before after : BlocksState) (judge
     → judged ≡ Ok value → Tells c before after (next value) fault → Tells c before after (judged >>= next) fault
 tells_next {A} {B} c before after judged next value fault is tells = subst (λ (r : Result A Fault). Tells c before after (r >>= next) fault) (sym is) tells
 
--- A fault that is told later is told from the beginning.
+-- A fault that is answered later is answered from the beginning.
 pub tells_from : {A : Type 0} (c : Config) (before middle after : BlocksState) (judged : Result A Fault) (fault : StartFault)
     → Reads before middle → Tells c middle after judged fault → Tells c before after judged fault
 tells_from c before middle after judged Flash reads tells = rises before middle after reads tells
@@ -60,7 +60,7 @@ tells_from c before middle after judged (Damaged place) reads tells = tells
 tells_from c before middle after judged (OtherConfig found wanted) reads tells = tells
 tells_from c before middle after judged SequenceSpent reads tells = absurd tells
 
--- What was judged without a read is told as it is.
+-- What was judged without a read is answered as it is.
 pub tells_judged : {A : Type 0} (c : Config) (before after : BlocksState) (judged : Result A Fault) (fault : StartFault) → Err fault ≡ as_told c judged → Tells c before after judged fault
 tells_judged {A} c before after (Ok value) fault is = absurd (cc)
 tells_judged {A} c before after (Err (damaged place)) fault is =
@@ -81,7 +81,7 @@ pub handed_as : {T : Type 0} (result answer : Result T StartFault) (fault : Star
 handed_as (Ok value) answer fault is same = absurd is
 handed_as {T} (Err e) answer fault is same = let the_err : StartFault → Result T StartFault = λ f. Err f in ap the_err is ∙ same
 
--- What is told of the fault of an answer is told of each fault that it is.
+-- What holds of the fault of an answer holds of each fault that it is.
 pub each_fault : {T : Type 0} (P : StartFault → Type 0) (result : Result T StartFault) → IfErr result P → (fault : StartFault) → result ≡ Err fault → P fault
 each_fault P (Ok value) holds fault is = absurd (cc is)
 each_fault P (Err told) holds fault is = let same : told ≡ fault = cc is in subst P same holds

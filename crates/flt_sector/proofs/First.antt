@@ -215,7 +215,7 @@ module _ (used : ℕ) (numbers : List ℕ) (image : List (List (List ℕ))) wher
     pub first_is : FirstIs (first_fault used numbers image)
     first_is = by_current (current used image) current_is
 
-    -- Two faults of one rank are told at one place.
+    -- Two faults of one rank are reported at one place.
     same_place : (first second : Look) → step_of first ≡ step_of second → Wrong first → Wrong second → place_of first ≡ place_of second
     same_place (start_gate s) (start_gate t) rank one two = let same : s ≡ t = omega (arith, rank) in ap (λ (n : ℕ). (n, 0)) same
     same_place (active_gate s) (active_gate t) rank one two = let same : s ≡ t = omega (arith, rank) in ap (λ (n : ℕ). (n, 1)) same
@@ -237,7 +237,7 @@ module _ (used : ℕ) (numbers : List ℕ) (image : List (List (List ℕ))) wher
     same_place both_numbers (log_page t page) rank one two = absurd (omega (arith, rank))
     same_place (log_page t page) both_numbers rank one two = absurd (omega (arith, rank))
 
-    -- The first fault is told.
+    -- The first fault is reported.
     pub told_first : (look : Look) → HasFirstDamage used numbers image look → first_fault used numbers image ≡ Some (place_of look)
     told_first look is = elim first_is [
       | has_fault other also told ↦ told ∙ ap Some (elim (cases_order (step_of look) (step_of other)) [

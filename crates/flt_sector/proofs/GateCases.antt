@@ -65,7 +65,7 @@ module _ (used : ℕ) (pages : List (List ℕ)) where
     valid : (HasWrongStart used pages → ⊥) → (HasWrongActive used pages → ⊥) → (sequence : ℕ) → IsValidSector used pages sequence → gates ≡ Ok (Some sequence) → GatesAre gates
     not_valid : (HasWrongStart used pages → ⊥) → (HasWrongActive used pages → ⊥) → ((sequence : ℕ) → IsValidSector used pages sequence → ⊥) → gates ≡ Ok None → GatesAre gates
 
-  -- A start gate that is none, or stands, is not wrong.
+  -- A start gate that is missing, or whole, is not wrong.
   no_start : is_spoiled (get_or pages 0 []) ≡ false → IsNoCode (get_or pages 0 []) → HasWrongStart used pages → ⊥
   no_start unspoiled none (inl spoiled) = cc
   no_start unspoiled none (inr differs) = let some = differs.is_code in cc
@@ -79,7 +79,7 @@ module _ (used : ℕ) (pages : List (List ℕ)) where
       let same : word_of differs.code ≡ Some (Start sequence used) = cc in
       differs.other (Start sequence used) same refl
 
-  -- An active gate that is none, or stands and names the same number, is not wrong.
+  -- An active gate that is missing, or whole with the same number, is not wrong.
   no_active : is_spoiled (get_or pages 1 []) ≡ false → IsNoCode (get_or pages 1 []) → HasWrongActive used pages → ⊥
   no_active unspoiled none (inl spoiled) = cc
   no_active unspoiled none (inr (inl differs)) = let some = differs.is_code in cc

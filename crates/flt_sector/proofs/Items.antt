@@ -1,4 +1,4 @@
--- The item at a page, by what stands there.
+-- The item at a page, by the facts about that page.
 use Rattle.std.proofs.Common.{◌≡◌, ◌⊎◌, ◌+◌, ◌<◌, ◌≤◌, ℕ, Bool, true, false, List, [], get_or, Option, Some, None, Result, Ok, Err, inl, inr, refl, ◌∙◌, ap, subst, arith}
 use Rattle.std.specs.Prelude.{if◌then◌else◌, ◌==◌, ◌&&◌, nat_le, Contains}
 use Rattle.std.specs.List.{list_any}
@@ -50,7 +50,7 @@ gate_found block head (Some (Gate b h)) is =
     cc
 
 module _ (used : ℕ) (numbers : List ℕ) (pages : List (List ℕ)) (page : ℕ) where
-  -- What stands at a page that the log has reached, and the item that it is.
+  -- The facts about a page that the log has reached, and the item that it is.
   pub data Stands (item : Result Item ℕ) : Type 0 where
     ends : (page ≡ used) ⊎ (is_blank (get_or pages page []) ≡ true) → item ≡ Ok End → Stands item
     torn : IsTornHead used numbers pages page → item ≡ Ok Torn → Stands item

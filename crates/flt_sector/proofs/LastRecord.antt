@@ -14,7 +14,7 @@ use Rattle.flt_sector.proofs.Items.{ends, torn, kept, nothing, other, stands}
 use Rattle.flt_sector.proofs.Told.{at_record}
 use Rattle.flt_sector.proofs.Logged.{log_on, log_step, goes_on}
 
--- A record that stands behind others is the last one.
+-- A record that comes after others is the last one.
 last_behind : (block : ℕ) (before rest : List Entry) (entry : Entry) → last_complete block rest ≡ Some entry → last_complete block (before ++ rest) ≡ Some entry
 last_behind block [] rest entry is = is
 last_behind block (first ∷ before) rest entry is = ap (λ (later : Option Entry). or_earlier later first block) (last_behind block before rest entry is)
@@ -73,7 +73,7 @@ module _ (used : ℕ) (numbers : List ℕ) (pages : List (List ℕ)) where
               })
 
   module _ (least : 2 ≤ used) (block : ℕ) where
-    -- The record that stands last is the last complete one.
+    -- The last record is the last complete one.
     last_found : (page size : ℕ) (valid : Bool) → IsLastAt used numbers pages block page size valid
         → last_complete block (log used numbers pages).entries ≡ Some record { page = page; block = block; length = size; valid = valid; complete = true }
     last_found page size valid is =

@@ -17,7 +17,7 @@ module _ (used : ℕ) (numbers : List ℕ) (pages : List (List ℕ)) where
   abbrev pub log_on : ℕ → LogFrom
   log_on page = log_from used numbers pages page (used + 1)
 
-  -- An item and the log behind it, where two logs behind it are one.
+  -- An item and the log after it, where two logs after it are equal.
   after_same : (page : ℕ) (first second : ℕ → LogFrom) → page ≤ used → ((next : ℕ) → page < next → next ≤ used → first next ≡ second next)
       → log_after used pages page first (item_at used numbers pages page) ≡ log_after used pages page second (item_at used numbers pages page)
   after_same page first second below same = elim (stands used numbers pages page below) [
@@ -43,7 +43,7 @@ module _ (used : ℕ) (numbers : List ℕ) (pages : List (List ℕ)) where
       ap (log_from used numbers pages page) count
       ∙ after_same page (λ next. log_from used numbers pages next (left + more)) (λ next. log_from used numbers pages next left) below (λ next past within. enough left more next within (omega (arith, past, fuel)))
 
-  -- The log goes on behind each item.
+  -- The log continues after each item.
   pub log_step : (page : ℕ) → page ≤ used → log_on page ≡ log_after used pages page log_on (item_at used numbers pages page)
   unfolding log_from
   log_step page below =
@@ -56,7 +56,7 @@ module _ (used : ℕ) (numbers : List ℕ) (pages : List (List ℕ)) where
       let count : left + (used + 1) ≡ used + 1 + left = omega arith in
       sym (enough left (used + 1) 2 least fuel) ∙ ap (log_from used numbers pages 2) count ∙ enough (used + 1) left 2 least (omega arith)
 
-  -- ---- the pages behind the end
+  -- ---- the pages after the end
   pub record IsFirstWritten (page to written : ℕ) : Type 0 where
     pub from : page ≤ written
     pub below : written < to

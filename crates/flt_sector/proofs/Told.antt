@@ -1,4 +1,4 @@
--- What stands at a page gives its item.
+-- The facts about a page give its item.
 use Rattle.std.proofs.Common.{◌≡◌, ◌⊎◌, ◌+◌, ◌<◌, ◌≤◌, ℕ, Bool, true, false, List, [], get_or, Some, Ok, Err, inl, inr, refl, sym, ◌∙◌, ap, arith}
 use Rattle.flt_flash.specs.Blocks.{byte_pages}
 use Rattle.flt_code.specs.Seal.{unsealed}
@@ -37,7 +37,7 @@ module _ (used : ℕ) (numbers : List ℕ) (pages : List (List ℕ)) (page : ℕ
   head_within : (block size : ℕ) (valid : Bool) → IsHead used numbers pages page block size valid → page < used
   head_within block size valid head = let fits = head.within in omega (arith, fits)
 
-  -- What stands in the place of its gate decides whether it is complete.
+  -- What is in the place of its gate decides whether it is complete.
   same_gate : (block size b s : ℕ) (complete c : Bool) → b ≡ block → s ≡ size → IsGated used numbers pages page block size complete → IsGated used numbers pages page b s c → c ≡ complete
   same_gate block size b s true true same_block same_size first second = refl
   same_gate block size b s false false same_block same_size first second = refl

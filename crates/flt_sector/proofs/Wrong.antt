@@ -13,7 +13,7 @@ use Rattle.flt_sector.proofs.Told.{at_nothing, at_other, at_blank}
 use Rattle.flt_sector.proofs.Logged.{log_on, log_step, goes_on, written_found, IsFirstWritten, found_written}
 
 module _ (used : ℕ) (numbers : List ℕ) (pages : List (List ℕ)) where
-  -- What is told from a page on is wrong.
+  -- What is reported from a page on is wrong.
   wrong_from : (left page wrong : ℕ) → page ≤ used → IsReached used numbers pages page → (log_from used numbers pages page left).fault ≡ Some wrong → IsWrongAt used numbers pages wrong
   unfolding log_from
   wrong_from zero page wrong below reached is = absurd (cc is)
@@ -43,7 +43,7 @@ module _ (used : ℕ) (numbers : List ℕ) (pages : List (List ℕ)) where
   pub wrong_where_told : 2 ≤ used → (wrong : ℕ) → (log used numbers pages).fault ≡ Some wrong → IsWrongAt used numbers pages wrong
   wrong_where_told least wrong is = wrong_from (used + 1) 2 wrong least begins is
 
-  -- What is wrong is told.
+  -- What is wrong is reported.
   told_by : (page : ℕ) (item : Result Item ℕ) → page ≤ used → (log used numbers pages).fault ≡ (log_on used numbers pages page).fault → item_at used numbers pages page ≡ item
       → (log used numbers pages).fault ≡ (log_after used pages page (log_on used numbers pages) item).fault
   told_by page item below is told = is ∙ ap (λ (l : LogFrom). l.fault) (log_step used numbers pages page below) ∙ ap (λ (i : Result Item ℕ). (log_after used pages page (log_on used numbers pages) i).fault) told

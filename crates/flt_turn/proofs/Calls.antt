@@ -1,4 +1,4 @@
--- A call, put together from what its steps tell.
+-- A call, put together from its steps.
 use Rattle.std.proofs.Common.{◌≡◌, ℕ, suc, zero, ◌<◌, [], ◌∷◌, ◌++◌, All, Option, length, take, refl, sym, ap, ◌∙◌, subst, arith}
 use Rattle.std.proofs.lemmas.List.Elements.{All-append}
 use mathlib.Core.List.{IsPrefix}
@@ -30,7 +30,7 @@ module _ {M S O R B : Type 0} {m : Ghosts M S O R B} where
     allowed = allowed;
   }
 
-  -- What a call tells, of a seat that showed this before it, and has this view and these slots after it.
+  -- What a call learns, for a seat that showed this before it, and has this view and these slots after it.
   pub record Called (shown : Seated S O) (lock : TableId) (v : View S O) (after : Me (Option (VaultOf m)) (View S O)) (found given : VaultOf m) (op : O) (ticket : ℕ) : Type 0 where
     pub view : after.0 ≡ done (journal_of given) op (at_turn ticket found v)
     pub empty : after.1 ≡ []

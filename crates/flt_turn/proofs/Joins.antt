@@ -158,7 +158,7 @@ module _ {M S O R B : Type 0} {m : Ghosts M S O R B} (start : S) (room : ℕ) wh
   pub joins : (some_start : S) (id other : ℕ) (v w : View S O) → v.stage ≡ Idle → w.stage ≡ Idle → v.number ≡ 0 → Joins (Orderly {m = m} start room) id v other w (joined_with v w) (spent some_start)
   joins some_start id other v w idle idle' main s h at apart there = merged s h some_start id other v w at apart there idle idle' main
 
-  -- A load that tells the main seat that its counts are small.
+  -- A load from which the main seat learns that its counts are small.
   pub counts_seats : (slots id : ℕ) (me : Me (Option (VaultOf m)) (View S O)) (st : Step (Option (VaultOf m))) → me.0.stage ≡ Idle → Allows (Orderly start room) slots id me 0 (λ n. n) (counts st me)
   counts_seats slots id me st idle s h deep at _ =
       let v : View S O = me.0 in

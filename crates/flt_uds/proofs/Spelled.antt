@@ -121,7 +121,7 @@ is_read extended silent Counters (a ∷ more) ends known opened = absurd ends
 abbrev pub are_bytes : List ℕ → Bool
 are_bytes bytes = list_all (λ byte. ltb byte 256) bytes
 
--- What is asked behind a sub-function of this form is spelled so.
+-- What is asked after a sub-function of this form is spelled in this way.
 abbrev IsSpelled : ℕ → ℕ → Form → Type 0
 IsSpelled service sub form = (extended silent : Bool) (rest : List ℕ) (request : Request) → are_bytes rest ≡ true → (nat_eq service 0x85 && not extended) ≡ false
     → contents form rest ≡ Ok request → IsRequest extended (service ∷ with_bit_7 silent sub ∷ rest) (record { request = request; silent = silent })
@@ -291,7 +291,7 @@ spelled_in (row ∷ rows) service sub form all e =
 bit_7 : (sub : ℕ) → sub < 256 → with_bit_7 (nat_le 128 sub) (sub % 128) ≡ sub
 bit_7 sub small = grind (arith, nat_tests)
 
--- What stands behind a service with sub-functions.
+-- What follows a service with sub-functions.
 contents_are_spelled : (extended : Bool) (service sub : ℕ) (form : Form) (rest : List ℕ) (told : Result Request ℕ) (answer : Asked) → IsSpelled service (sub % 128) form → sub < 256
     → are_bytes rest ≡ true → (nat_eq service 0x85 && not extended) ≡ false → contents form rest ≡ told → accepted service (nat_le 128 sub) told ≡ Ok answer
     → IsRequest extended (service ∷ sub ∷ rest) answer
@@ -363,7 +363,7 @@ pub all_bytes : (bytes : List ℕ) → ((i : ℕ) → get_or bytes i 0 < 256) �
 all_bytes [] small = refl
 all_bytes (byte ∷ bytes) small = rw (lt-ltb byte 256 (small 0), all_bytes bytes (λ i. small (suc i))) refl
 
--- The first byte and those behind it.
+-- The first byte and those after it.
 pub cons_again : (bytes : List ℕ) → 0 < length bytes → get_or bytes 0 0 ∷ take (length bytes - 1) (drop 1 bytes) ≡ bytes
 cons_again [] some = absurd (omega (arith, some))
 cons_again (byte ∷ bytes) some = ap (λ (rest : List ℕ). byte ∷ rest) (take_all (length (byte ∷ bytes) - 1) bytes (omega arith))

@@ -5,7 +5,7 @@ use Rattle.flt_config.specs.declared.TheConstants.{EVENTS}
 use Rattle.flt_config.specs.Durable.{is_of_event}
 use Rattle.flt_memory.proofs.memory.EventMemory.stored.Given as goal
 
--- The events of the entries that were passed are marked, and the others stand behind.
+-- The events of the entries that were passed are marked, and the others come after.
 abbrev pub invariant-loop-entry : goal.invariant-loop-entry
 invariant-loop-entry l = record {
   size : length l.stored ≡ EVENTS;
