@@ -1,4 +1,4 @@
--- Which calls the steps of a life make, by their answers: over any kind of steps, and any relation that says of a step,
+-- Which calls the steps of a life make, by what they are answered: over any kind of steps, and any relation that says of one step,
 -- its answer and some calls that the calls are those of the step.
 use Rattle.std.specs.Prelude.{◌≡◌, ℕ, ◌+◌, List, [], ◌∷◌, ◌++◌}
 use Rattle.std.proofs.Common.{inl, inr}
@@ -7,7 +7,7 @@ use Rattle.flt_life.specs.Mixing.{Call, Block}
 use Rattle.flt_life.specs.Parts.{width}
 
 module _ {T A O R : Type 0} (MadeBy : T → A → List (Call O R) → Type 0) where
-  -- The calls of steps with these answers: those of each step after those of the steps before it.
+  -- The calls of steps that were answered so: those of each step behind those of the steps before it.
   unfoldable pub AreMadeBy : List T → List A → List (Call O R) → Type 0
   AreMadeBy [] [] calls = calls ≡ []
   AreMadeBy [] (answer ∷ answers) calls = ⊥
