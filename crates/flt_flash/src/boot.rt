@@ -8,6 +8,7 @@ use std::alloc::{AllocError, Global};
 /// The count of faults and the image at a power-up, or the room for them.
 #[derive(Drop)]
 pub struct SavedBoot {
+    /// The count of faults at the power-up.
     pub faults: u64,
     /// The pages of the image; where it has two sectors those of the second stand behind those of the first.
     pub pages: Vec<[u8; 32]>,

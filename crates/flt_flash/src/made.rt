@@ -8,7 +8,9 @@ use arrayvec::ArrayVec;
 /// The arms that were made. It tells them all while they are at most 64, and after one more none.
 #[derive(Drop)]
 pub struct ArmsTold {
+    /// The first of them, at most 64, in the order in which they were made.
     pub made: ArrayVec<ArmMade, 64>,
+    /// Whether these are all: at most 64 were made.
     pub are_all: bool,
 }
 
