@@ -2,8 +2,9 @@
 """Checks the pages of the repository, and ends with 1 where one is wrong.
 
 It looks at README.md, docs/ and tools/. Each name that a page says to stand in a crate, or in a file of its definitions, stands there; each
-file that a page links or names by its path is there; and each report that a page shows is what its script prints: of a script in
-crates/examples/data the report beside it has those lines, and a script in a page is run, where the program is built.
+file that a page links or names by its path is there; each report that a page shows is what its script prints: of a script in
+crates/examples/data the report beside it has those lines, and a script in a page is run, where the program is built; and each picture that
+docs/PICTURES.md says to be made by a command is what the command prints, where flt_draw is built.
 """
 import glob
 import os
@@ -13,11 +14,13 @@ import sys
 
 TOP = os.path.dirname(os.path.dirname(os.path.abspath(__file__)))
 PROGRAM = f"{TOP}/crates/faultmem/out/faultmem"
+DRAW = f"{TOP}/crates/flt_draw/out/flt_draw"
 NAMED = re.compile(
     r"`([A-Za-z_:]+)`(?:, `([A-Za-z_:]+)`)? of \[?`?(?:\.\./)?(?:crates/)?(flt_[a-z_]+)`?\]?(?:/specs/([A-Za-z]+)\.antt)?(?:, `specs/([A-Za-z]+)\.antt`)?"
 )
 LINK = re.compile(r"\]\(([^)#\s]+)(?:#[^)]*)?\)")
 PATH = re.compile(r"`((?:crates|docs|bench|tools)/[A-Za-z0-9_./-]*[A-Za-z0-9_])`")
+PICTURE = re.compile(r"`(docs/pictures/[a-z_0-9]+\.svg)` \| `flt_draw (timeline|sectors) < (crates/[a-z_0-9/]+\.script)`")
 SCRIPT = re.compile(r"crates/examples/data/([a-z_0-9]+)\.script")
 
 
@@ -114,11 +117,21 @@ def wrong_reports(text):
                 yield f"{name}.script prints another report"
 
 
+def wrong_pictures(text):
+    if not os.access(DRAW, os.X_OK):
+        return
+    for picture, word, script in PICTURE.findall(text):
+        with open(f"{TOP}/{script}", "rb") as bytes_of:
+            ran = subprocess.run([DRAW, word], stdin=bytes_of, capture_output=True)
+        if ran.stdout != text_of(f"{TOP}/{picture}").encode():
+            yield f"{script} is drawn as another picture than {picture}"
+
+
 def main():
     wrong = 0
     for page in sorted([f"{TOP}/README.md", *glob.glob(f"{TOP}/docs/*.md"), *glob.glob(f"{TOP}/tools/*.md")]):
         text = text_of(page)
-        for what in [*wrong_names(text), *wrong_rows(text), *missing_files(page, text), *wrong_reports(text)]:
+        for what in [*wrong_names(text), *wrong_rows(text), *missing_files(page, text), *wrong_reports(text), *wrong_pictures(text)]:
             print(f"{os.path.relpath(page, TOP)}: {what}")
             wrong += 1
     print(f"pages: {'each is right' if not wrong else f'{wrong} faults'}")

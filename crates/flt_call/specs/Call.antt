@@ -1,13 +1,16 @@
 -- A call of a journal as its text: the number of its lane, a space, and the call.
-use Rattle.std.specs.Prelude.{◌≡◌, ◌⊎◌, ◌==◌, ℕ, Bool, ◌^◌, ◌<◌, List, [], ◌∷◌, ◌++◌, Some, codes}
+use Rattle.std.specs.Prelude.{◌≡◌, ◌⊎◌, ◌≤◌, ◌==◌, ℕ, Bool, IsTrue, length, ◌^◌, ◌<◌, List, [], ◌∷◌, ◌++◌, Option, Some, None, codes}
 use Rattle.std.specs.Fmt.{decimal}
+use Rattle.flt_config.specs.declared.TheConstants.{EVENTS}
 use Rattle.flt_config.specs.declared.config.Config.{Config}
 use Rattle.flt_model.specs.declared.call.Op.{Op}
 use Rattle.flt_model.specs.declared.call.Op.TheVariants.{Snapshot, Saved}
+use Rattle.flt_model.specs.declared.call.Op.TheVariants as ops
 use Rattle.flt_turn.specs.declared.vault.Entry.{Entry}
 use Rattle.flt_script.specs.declared.step.Step.{Step}
+use Rattle.flt_script.specs.declared.step.Step.TheVariants as steps
 use Rattle.flt_script.specs.Alone.{step_in}
-use Rattle.flt_script.specs.Step.{step_text, with_number}
+use Rattle.flt_script.specs.Step.{is_step_in, step_text, with_number}
 use Rattle.flt_life.specs.declared.action.Action.TheVariants.{Call}
 use Rattle.flt_life.specs.Actions.{action_of}
 
@@ -50,3 +53,32 @@ AreCallTexts c [] [] = Unit {0}
 AreCallTexts c [] (text ∷ texts) = ⊥
 AreCallTexts c (call ∷ calls) [] = ⊥
 AreCallTexts c (call ∷ calls) (text ∷ texts) = IsCallText c call text × AreCallTexts c calls texts
+
+-- The step that makes a call; none makes those of a save.
+abbrev pub step_of : Op → Option Step
+step_of (ops.Report event report) = Some (steps.Report event report)
+step_of (ops.Show event) = Some (steps.Show event)
+step_of (ops.Cycle cycle) = Some (steps.Cycle cycle)
+step_of (ops.Tick ticks) = Some (steps.Tick ticks)
+step_of (ops.Signal index value) = Some (steps.Signal index value)
+step_of (ops.Enable condition fulfilled) = Some (steps.Enable condition fulfilled)
+step_of (ops.Request tester bytes) = Some (steps.Request tester bytes)
+step_of Snapshot = None
+step_of (Saved number) = None
+
+-- A call that a save makes.
+abbrev pub IsSaveCall : Op → Type 0
+IsSaveCall Snapshot = Unit {0}
+IsSaveCall (Saved number) = Unit {0}
+IsSaveCall _ = ⊥
+
+-- A step makes this call, whose numbers are in their ranges under the configuration.
+pub record HasStep (c : Config) (op : Op) : Type 0 where
+  pub events : length c.events.items ≤ EVENTS
+  pub step : Step
+  pub calls : action_of step ≡ Call op
+  pub within : IsTrue (is_step_in c step)
+
+-- A call that a step or a save may make.
+abbrev pub CanBeMade : Config → Op → Type 0
+CanBeMade c op = IsSaveCall op ⊎ HasStep c op

@@ -1,12 +1,12 @@
 -- The bytes of a word are read as that word.
-use Rattle.std.proofs.Common.{◌≡◌, ℕ, Bool, true, false, List, Some, None, refl, sym, ◌∙◌, ap}
-use Rattle.std.specs.Prelude.{if◌then◌else◌}
+use Rattle.std.proofs.Common.{◌≡◌, ◌≢◌, ℕ, Bool, true, false, List, Option, Some, None, refl, sym, ◌∙◌, ap}
+use Rattle.std.specs.Prelude.{if◌then◌else◌, IfNone}
 use Rattle.std.specs.Str.{bytes_eq}
 use Rattle.std.proofs.lemmas.Slice.Eq.{bytes_eq-Decides}
 use Rattle.std.proofs.lemmas.Nat.{from_be_bytes-to_be_bytes_2, from_be_bytes-to_be_bytes_4}
 use Rattle.flt_code.specs.declared.words.Word.{Word}
 use Rattle.flt_code.specs.declared.words.Word.TheVariants.{Start, Active, Head, Gate}
-use Rattle.flt_code.specs.Word.{IsWord, IsWordOf, word_bytes, candidate, checked, word_of, is_length}
+use Rattle.flt_code.specs.Word.{IsWord, word_bytes, candidate, checked, word_of, is_length}
 
 kept : (test : Bool) (word : Word) → test ≡ true → (if test then Some word else None) ≡ Some word
 kept test word is = ap (λ b. if b then Some word else None) is
@@ -29,22 +29,12 @@ word_of-word_bytes word proper =
     ap (λ c. checked c (word_bytes word)) (candidate-word_bytes word proper)
     ∙ kept (bytes_eq (word_bytes word) (word_bytes word)) word ((bytes_eq-Decides (word_bytes word) (word_bytes word)).1 refl)
 
--- What is read by way of the candidate.
+-- What is no word is read as none.
 module _ (bytes : List ℕ) where
-  pub read_candidate : (word : Word) (written : List ℕ) (same : Bool) → candidate bytes ≡ Some word → written ≡ word_bytes word → same ≡ bytes_eq written bytes → word_of bytes ≡ (if same then Some word else None)
-  unfolding word_of
-  read_candidate word written same is by eq =
-      ap (λ c. checked c bytes) is
-      ∙ ap (λ (l : List ℕ). if bytes_eq l bytes then Some word else None) (sym by)
-      ∙ ap (λ b. if b then Some word else None) (sym eq)
-
-  pub read_nothing : candidate bytes ≡ None → word_of bytes ≡ None
-  unfolding word_of
-  read_nothing is = ap (λ c. checked c bytes) is
-
-  pub no_word : word_of bytes ≡ None → (word : Word) → IsWord word → bytes ≡ word_bytes word → ⊥
+  no_word : word_of bytes ≡ None → (word : Word) → IsWord word → bytes ≡ word_bytes word → ⊥
   no_word none word proper is =
       let some : word_of bytes ≡ Some word = ap word_of is ∙ word_of-word_bytes word proper in cc
 
-  pub found_word : (word : Word) (written : List ℕ) → IsWord word → written ≡ word_bytes word → true ≡ bytes_eq written bytes → IsWordOf word bytes
-  found_word word written proper by eq = record { proper = proper; is = sym ((bytes_eq-Decides written bytes).0 (sym eq)) ∙ by }
+  pub none_read : (read : Option Word) → read ≡ word_of bytes → IfNone read ((word : Word) → IsWord word → bytes ≢ word_bytes word)
+  none_read None is = λ word proper same. no_word (sym is) word proper same
+  none_read (Some word) is = tt

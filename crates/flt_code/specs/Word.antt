@@ -30,19 +30,30 @@ pub record IsWordOf (word : Word) (bytes : List ℕ) : Type 0 where
   pub proper : IsWord word
   pub is : bytes ≡ word_bytes word
 
+-- The words that the fields after a tag would give.
+abbrev pub start_in : List ℕ → Word
+start_in bytes = Start (from_be_bytes w32 (slice_range bytes 2 6)) (from_be_bytes w16 (slice_range bytes 6 8))
+
+abbrev pub active_in : List ℕ → Word
+active_in bytes = Active (from_be_bytes w32 (slice_range bytes 2 6))
+
+abbrev pub head_in : List ℕ → Option Word
+head_in bytes =
+    let valid = slice_index bytes 1 == 1 in
+    let length = from_be_bytes w16 (slice_range bytes 4 6) in
+    if is_length valid length then Some (Head (from_be_bytes w16 (slice_range bytes 2 4)) length valid (from_be_bytes w16 (slice_range bytes 6 8))) else None
+
+abbrev pub gate_in : List ℕ → Word
+gate_in bytes = Gate (from_be_bytes w16 (slice_range bytes 2 4)) (from_be_bytes w16 (slice_range bytes 4 6))
+
 -- The word that a tag and the fields after it would give.
 unfoldable pub candidate : List ℕ → Option Word
 candidate bytes =
     let tag = slice_index bytes 0 in
-    let valid = slice_index bytes 1 == 1 in
-    let sequence = from_be_bytes w32 (slice_range bytes 2 6) in
-    let first = from_be_bytes w16 (slice_range bytes 2 4) in
-    let second = from_be_bytes w16 (slice_range bytes 4 6) in
-    let third = from_be_bytes w16 (slice_range bytes 6 8) in
-    if tag == 0x53 then Some (Start sequence third)
-    else if tag == 0x41 then Some (Active sequence)
-    else if tag == 0x48 then (if is_length valid second then Some (Head first second valid third) else None)
-    else if tag == 0x47 then Some (Gate first second)
+    if tag == 0x53 then Some (start_in bytes)
+    else if tag == 0x41 then Some (active_in bytes)
+    else if tag == 0x48 then head_in bytes
+    else if tag == 0x47 then Some (gate_in bytes)
     else None
 
 -- A word whose bytes these are.

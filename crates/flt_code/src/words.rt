@@ -1,7 +1,7 @@
 // The words of a sector's pages.
 ghost use Rattle.std.specs.Prelude.{◌≡◌, ◌≢◌, Some, IfSome, IfNone};
 ghost use Rattle.flt_code.specs.declared.words.Word.{Word};
-ghost use Rattle.flt_code.specs.Word.{IsWord, IsWordOf, word_bytes, is_length, candidate, word_of};
+ghost use Rattle.flt_code.specs.Word.{IsWord, IsWordOf, word_bytes, active_in, checked, gate_in, head_in, is_length, start_in, word_of};
 
 /// What the 16 bytes of a code word say. Numbers are big-endian, and the word is padded with bytes of 0.
 #[derive(Clone, Copy, Debug, PartialEq, Eq)]
@@ -39,6 +39,7 @@ pub fn put_word(word: &Word) -> [u8; 16]
     word_to_bytes(word)
 }
 
+#[inline(always)]
 #[tactic(auto, unfolding(crate::specs::Word::word_bytes))]
 fn word_to_bytes(word: &Word) -> [u8; 16]
     ensures { result ≡ word_bytes word.now }
@@ -83,40 +84,95 @@ fn is_length(valid: bool, length: u16) -> bool
     }
 }
 
-// The word that its tag and its fields would give.
-#[tactic(auto, unfolding(crate::specs::Word::candidate))]
-fn candidate(bytes: &[u8; 16]) -> Option<Word>
-    ensures read { result ≡ candidate bytes.now }
-    ensures proper { IfSome result IsWord }
+// The word, where these are its bytes.
+#[inline(always)]
+fn checked(word: Word, bytes: &[u8; 16]) -> Option<Word>
+    requires { IsWord word }
+    ensures word { IfSome result (λ word. IsWordOf word bytes.now) }
+    ensures read { result ≡ checked (Some word) bytes.now }
 {
-    let [tag, kind, a, b, c, d, e, f, ..] = *bytes;
-    let sequence = u32::from_be_bytes([a, b, c, d]);
-    let first = u16::from_be_bytes([a, b]);
-    let second = u16::from_be_bytes([c, d]);
-    let third = u16::from_be_bytes([e, f]);
-    match tag {
-        0x53 => Some(Word::Start {
-            sequence,
-            pages: third,
-        }),
-        0x41 => Some(Word::Active { sequence }),
-        0x48 => {
-            let valid = kind == 1;
-            if is_length(valid, second) {
-                Some(Word::Head {
-                    block: first,
-                    length: second,
-                    valid,
-                    page: third,
-                })
-            } else {
-                None
-            }
-        }
-        0x47 => Some(Word::Gate {
-            block: first,
-            page: second,
-        }),
+    if word_to_bytes(&word) == *bytes {
+        Some(word)
+    } else {
+        None
+    }
+}
+
+// A start gate, where these are its bytes.
+#[inline(always)]
+fn read_start(bytes: &[u8; 16]) -> Option<Word>
+    ensures word { IfSome result (λ word. IsWordOf word bytes.now) }
+    ensures read { result ≡ checked (Some (start_in bytes.now)) bytes.now }
+{
+    let [_, _, a, b, c, d, e, f, ..] = *bytes;
+    let start = Word::Start {
+        sequence: u32::from_be_bytes([a, b, c, d]),
+        pages: u16::from_be_bytes([e, f]),
+    };
+    checked(start, bytes)
+}
+
+// An active gate, where these are its bytes.
+#[inline(always)]
+fn read_active(bytes: &[u8; 16]) -> Option<Word>
+    ensures word { IfSome result (λ word. IsWordOf word bytes.now) }
+    ensures read { result ≡ checked (Some (active_in bytes.now)) bytes.now }
+{
+    let [_, _, a, b, c, d, ..] = *bytes;
+    let active = Word::Active {
+        sequence: u32::from_be_bytes([a, b, c, d]),
+    };
+    checked(active, bytes)
+}
+
+// A head, where these are its bytes.
+#[inline(always)]
+fn read_head(bytes: &[u8; 16]) -> Option<Word>
+    ensures word { IfSome result (λ word. IsWordOf word bytes.now) }
+    ensures read { result ≡ checked (head_in bytes.now) bytes.now }
+{
+    let [_, kind, a, b, c, d, e, f, ..] = *bytes;
+    let valid = kind == 1;
+    let length = u16::from_be_bytes([c, d]);
+    if is_length(valid, length) {
+        let head = Word::Head {
+            block: u16::from_be_bytes([a, b]),
+            length,
+            valid,
+            page: u16::from_be_bytes([e, f]),
+        };
+        checked(head, bytes)
+    } else {
+        None
+    }
+}
+
+// A gate, where these are its bytes.
+#[inline(always)]
+fn read_gate(bytes: &[u8; 16]) -> Option<Word>
+    ensures word { IfSome result (λ word. IsWordOf word bytes.now) }
+    ensures read { result ≡ checked (Some (gate_in bytes.now)) bytes.now }
+{
+    let [_, _, a, b, c, d, ..] = *bytes;
+    let gate = Word::Gate {
+        block: u16::from_be_bytes([a, b]),
+        page: u16::from_be_bytes([c, d]),
+    };
+    checked(gate, bytes)
+}
+
+// The word that its tag and its fields give, where these are its bytes. Each kind is read by itself, so that its fixed bytes alone are
+// compared.
+#[tactic(auto, unfolding(crate::specs::Word::candidate, crate::specs::Word::word_of))]
+fn read_word(bytes: &[u8; 16]) -> Option<Word>
+    ensures word { IfSome result (λ word. IsWordOf word bytes.now) }
+    ensures read { result ≡ word_of bytes.now }
+{
+    match bytes[0] {
+        0x53 => read_start(bytes),
+        0x41 => read_active(bytes),
+        0x48 => read_head(bytes),
+        0x47 => read_gate(bytes),
         _ => None,
     }
 }
@@ -127,8 +183,5 @@ pub fn get_word(bytes: &[u8; 16]) -> Option<Word>
     ensures none { IfNone result ((word : Word) → IsWord word → bytes.now ≢ word_bytes word) }
     ensures read { result ≡ word_of bytes.now }
 {
-    match candidate(bytes) {
-        Some(word) if word_to_bytes(&word) == *bytes => Some(word),
-        _ => None,
-    }
+    read_word(bytes)
 }

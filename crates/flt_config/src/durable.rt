@@ -1,10 +1,24 @@
 //! The first durable state, and whether a state fits a configuration.
-ghost use Rattle.std.specs.Prelude.{◌≡◌, ◌↔◌, ◌<◌, ◌≤◌, length, IsTrue, IfSome, All, AllPairs, position};
+ghost use Rattle.std.specs.Prelude.{◌≡◌, ◌↔◌, ◌<◌, ◌≤◌, length, replicate, IsTrue, IfSome, All, AllPairs, position};
 ghost use Rattle.flt_config.specs.Durable.{initial_state, start_state, Fits, IsStateOf, IsEntryOf, IsOfOtherEvent, IsNoted, AreStatesOf, is_of_event};
 ghost use Rattle.flt_config.specs.Ranges.{frame_width};
 
-use crate::{DIDS, DidUse, EntryState, EventCfg, EventState, Persist, UNTESTED, ValidConfig};
+use crate::{
+    DIDS, DidUse, EVENTS, EntryState, EventCfg, EventState, Persist, UNTESTED, ValidConfig,
+};
 use arrayvec::ArrayVec;
+
+/// Puts the state of an event that was not tested for each event, in place of those that stand there.
+#[inline(always)]
+fn put_untested(config: &ValidConfig, events: &mut ArrayVec<EventState, EVENTS>)
+    ensures { events.new.items ≡ replicate (length config.now.events.items) start_state }
+{
+    let count = config.config().events.len();
+    events.clear();
+    for _made in 0..count {
+        events.push(UNTESTED);
+    }
+}
 
 /// The state of a controller that never saved one: each event as after a clear, no entry, no noted event.
 pub fn initial(config: &ValidConfig) -> Persist
@@ -12,10 +26,7 @@ pub fn initial(config: &ValidConfig) -> Persist
     ensures fits { Fits config.now result }
 {
     let mut events = ArrayVec::new();
-    let count = config.config().events.len();
-    for _made in 0..count {
-        events.push(UNTESTED);
-    }
+    put_untested(config, &mut events);
     Persist {
         events,
         entries: ArrayVec::new(),
@@ -25,6 +36,20 @@ pub fn initial(config: &ValidConfig) -> Persist
         recent_failed: None,
         recent_confirmed: None,
     }
+}
+
+/// Puts that state in place of another one.
+pub fn put_initial(config: &ValidConfig, state: &mut Persist)
+    ensures value { state.new ≡ initial_state config.now }
+    ensures fits { Fits config.now state.new }
+{
+    put_untested(config, &mut state.events);
+    state.entries.clear();
+    state.overflow = false;
+    state.first_failed = None;
+    state.first_confirmed = None;
+    state.recent_failed = None;
+    state.recent_confirmed = None;
 }
 
 fn is_state_of(event: &EventCfg, state: EventState) -> bool
@@ -74,12 +99,7 @@ pub fn is_entry_of(events: &[EventCfg], entry: &EntryState) -> bool
 fn are_entries_of(events: &[EventCfg], entries: &[EntryState]) -> bool
     ensures { IsTrue result ↔ All (IsEntryOf events.now) entries.now }
 {
-    for entry in entries {
-        if !is_entry_of(events, entry) {
-            return false;
-        }
-    }
-    true
+    entries.iter().all(|entry| is_entry_of(events, entry))
 }
 
 fn have_distinct_events(entries: &[EntryState]) -> bool

@@ -15,7 +15,7 @@ mod valid_config;
 pub mod worked;
 
 pub use config::{CfgFault, Config, Debounce, DidUse, EventCfg, Field};
-pub use durable::{are_states_of, fits, initial, is_entry_of, is_noted, place_of};
+pub use durable::{are_states_of, fits, initial, is_entry_of, is_noted, place_of, put_initial};
 pub use persist::{EntryState, EventState, Frame, Persist, UNTESTED};
 pub use valid_config::{ValidConfig, check, needed_pages};
 

@@ -1,9 +1,10 @@
 //! The whole status machine without the functions of its table of data identifiers.
-ghost use Rattle.std.specs.Prelude.{◌≡◌, ◌≢◌, ◌<◌, [], ◌∷◌, map, length, Some, IfSome};
+ghost use Rattle.std.specs.Prelude.{◌≡◌, ◌≢◌, ◌<◌, ◌≤◌, [], ◌∷◌, map, length, Some, IfSome};
 ghost use Rattle.std.specs.List.{list_any};
 ghost use Rattle.flt_config.specs.Durable.{Fits};
 ghost use Rattle.flt_model.specs.Life.{Life, History, fresh};
 ghost use Rattle.flt_model.specs.Answer.{answer};
+ghost use Rattle.flt_model.specs.Durable.{saved_after};
 ghost use Rattle.flt_model.specs.Happening.{dtc_of_clear};
 ghost use Rattle.flt_model.specs.Request.{asked};
 ghost use Rattle.flt_model.specs.Response.{negative, positive, reply_of, responded, response, unless_silent};
@@ -23,7 +24,7 @@ use crate::reply_kind::ReplyKind;
 use crate::response::{ALL_DTCS, UnknownDtc, put_positive};
 use crate::session::Session;
 use arrayvec::ArrayVec;
-use flt_config::{Persist, ValidConfig, initial};
+use flt_config::{EVENTS, EventState, Persist, ValidConfig, initial};
 use flt_dem::DemState;
 use flt_did::{DID_ROWS, DidTable};
 use flt_model::{Cause, Op, REQUEST, Reply, Report, Shown};
@@ -197,6 +198,16 @@ impl UnitState {
         ensures { result.now ≡ self.now.dem.faults.config }
     {
         self.dem.config()
+    }
+
+    /// The durable states of all events, by number.
+    pub fn states(&self) -> &[EventState]
+        ensures value { result.now ≡ self.now.dem.faults.states }
+        ensures one_each { length result.now ≡ length self.now.dem.faults.config.events.items }
+        ensures few { length result.now ≤ EVENTS }
+        ensures stands { (life : Life) (past : History) → Stands life past self.now → result.now ≡ (saved_after life past).events.items }
+    {
+        self.dem.states()
     }
 
     /// Sets a signal, of the number 0 to 7.

@@ -2,6 +2,7 @@
 use Rattle.std.specs.Prelude.{◌≡◌, ◌≢◌, ℕ, ◌<◌, Bool, false, not, List, ◌∷◌, slice_get, find, unwrap_or, Option, Some, None, IfSome}
 use Rattle.flt_config.specs.declared.config.Config.{Config}
 use Rattle.flt_config.specs.declared.persist.EntryState.{EntryState}
+use Rattle.flt_config.specs.declared.persist.EventState.{EventState}
 use Rattle.flt_config.specs.Durable.{is_of_event}
 use Rattle.flt_model.specs.Life.{Life, History, no_event}
 use Rattle.flt_model.specs.Happening.{Readiness, is_started, signals, conditions, are_met, cleared_dtc}
@@ -9,6 +10,7 @@ use Rattle.flt_model.specs.Session.{is_setting_off}
 use Rattle.flt_model.specs.Request.{RequestBytes}
 use Rattle.flt_model.specs.Entry.{has_entry}
 use Rattle.flt_model.specs.Trace.{trace}
+use Rattle.flt_model.specs.Durable.{saved_after}
 use Rattle.flt_model.specs.Answer.{answer, entry_where}
 use Rattle.flt_model.specs.declared.call.Op.{Op}
 use Rattle.flt_model.specs.declared.call.Op.TheVariants as ops
@@ -104,6 +106,10 @@ AnswersUnder setting op manager reply =
 -- The other events without an entry are untouched.
 abbrev pub LeavesOthers : ℕ → Manager → Manager → Type 0
 LeavesOthers event old new = (other : ℕ) → other ≢ event → find (is_of_event other) old.faults.memory.entries ≡ None → KeepsEvent other old new
+
+-- The states of the events that the calls so far make, by number.
+abbrev pub states_after : Life → History → List EventState
+states_after life past = (saved_after life past).events.items
 
 -- The entry of an event that the calls so far make, if they make one.
 abbrev pub entry_after : ℕ → Life → History → Option EntryState

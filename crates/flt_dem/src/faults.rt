@@ -131,6 +131,16 @@ impl Faults {
         self.states[event as usize]
     }
 
+    /// The states of all events, by number.
+    pub fn states(&self) -> &[EventState]
+        ensures value { result.now ≡ self.now.states }
+        ensures one_each { length result.now ≡ length self.now.config.events.items }
+        ensures few { length result.now ≤ EVENTS }
+        ensures stands { (life : Life) (marks : Trace) → FaultsStand life marks self.now → result.now ≡ (saved life marks).events.items }
+    {
+        &self.states
+    }
+
     /// The entry of an event, where it has one.
     pub fn entry(&self, event: u16) -> Option<&EntryState>
         ensures { option_copied result ≡ find (is_of_event event) self.now.memory.entries }
@@ -198,6 +208,7 @@ impl Faults {
     }
 
     /// Takes the result of an event, if there is one, at these signals.
+    #[inline(always)]
     pub fn take(
         &mut self,
         dids: &DidTable<DID_ROWS>,

@@ -14,7 +14,7 @@ ghost use Rattle.flt_did.specs.Serves.{Serves};
 ghost use Rattle.flt_dem.specs.View.{counter_of};
 ghost use Rattle.flt_dem.specs.Faults.{KeepsOthers};
 ghost use Rattle.flt_dem.specs.Manager.{StandsFor, KeepsEvent, IsOfOtherCycle, readiness_at};
-ghost use Rattle.flt_dem.specs.Manager.{Takes, TakesUnder, TakesClear, IsValueOf, Answers, AnswersUnder, LeavesOthers, entry_after, noted_after};
+ghost use Rattle.flt_dem.specs.Manager.{Takes, TakesUnder, TakesClear, IsValueOf, Answers, AnswersUnder, LeavesOthers, states_after, entry_after, noted_after};
 
 use crate::conditions::Conditions;
 use crate::events::Events;
@@ -217,6 +217,16 @@ impl DemState {
         ensures { slice_get self.now.faults.states event ≡ Some result }
     {
         self.events.faults().state(event)
+    }
+
+    /// The durable states of all events, by number.
+    pub fn states(&self) -> &[EventState]
+        ensures value { result.now ≡ self.now.faults.states }
+        ensures one_each { length result.now ≡ length self.now.faults.config.events.items }
+        ensures few { length result.now ≤ EVENTS }
+        ensures stands { IsValueOf states_after self.now result.now }
+    {
+        self.events.faults().states()
     }
 
     /// The fault detection counter of an event, from -128 (passed) to 127 (failed).

@@ -55,6 +55,7 @@ impl Power {
     }
 
     /// Counts a read of a page, and says whether it fails.
+    #[inline(always)]
     pub fn count_read(&mut self, sector: u8, page: u16) -> bool
         ensures fails { result ≡ read_fails sector page (power_state self.old) }
         ensures off { self.new.is_off ≡ self.old.is_off }

@@ -70,17 +70,28 @@ pub(crate) fn count_write(standing: &mut ArrayVec<Arm, 64>) -> Option<Arm>
     acts
 }
 
+// The same where arms stand. It is not inlined, so that a read without them is short.
+#[inline(never)]
+fn count_read_under(arms: &mut ArrayVec<Arm, 64>, sector: u8, page: u16) -> bool
+    ensures muted { result ≡ list_any (mutes sector page) arms.old.items }
+    ensures stand { arms.new.items ≡ standing_after_read sector page arms.old.items }
+    ensures fewer { array_vec_len arms.new ≤ array_vec_len arms.old }
+{
+    let muted = arms.as_slice().iter().any(|arm| arm.mutes(sector, page));
+    use_up(arms.as_mut_slice(), sector, page);
+    keep_standing(arms);
+    muted
+}
+
 /// Counts a read of a page, and says whether an arm makes it fail.
+#[inline(always)]
 pub(crate) fn count_read(standing: &mut ArrayVec<Arm, 64>, sector: u8, page: u16) -> bool
     ensures muted { result ≡ list_any (mutes sector page) standing.old.items }
     ensures stand { standing.new.items ≡ standing_after_read sector page standing.old.items }
     ensures fewer { array_vec_len standing.new ≤ array_vec_len standing.old }
 {
-    let muted = standing
-        .as_slice()
-        .iter()
-        .any(|arm| arm.mutes(sector, page));
-    use_up(standing.as_mut_slice(), sector, page);
-    keep_standing(standing);
-    muted
+    if standing.is_empty() {
+        return false;
+    }
+    count_read_under(standing, sector, page)
 }

@@ -1,1 +1,8 @@
-pub mod Told
+mod Told
+mod LastLife
+mod Last
+mod Made
+mod Blank
+mod Yes
+mod Line
+mod Examined

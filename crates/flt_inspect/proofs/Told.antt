@@ -1,5 +1,5 @@
--- What is told of an image, by what it was found to hold.
-use Rattle.std.proofs.Common.{◌≡◌, ◌≢◌, ℕ, List, [], ◌∷◌, ◌++◌, Result, Ok, Err, refl, ◌∙◌, ap}
+-- What is reported about an image, by what it was found to hold.
+use Rattle.std.proofs.Common.{◌≡◌, ◌≢◌, ℕ, [], ◌∷◌, ◌++◌, Result, Ok, Err, refl, ◌∙◌, ap}
 use Rattle.std.specs.Prelude.{codes}
 use Rattle.std.specs.Fmt.{decimal}
 use Rattle.flt_config.specs.declared.config.Config.{Config}
@@ -12,7 +12,7 @@ use Rattle.flt_restore.specs.declared.fault.StartFault.TheVariants.{Flash}
 use Rattle.flt_dump.specs.Held.{number_told}
 use Rattle.flt_inspect.specs.Inspection.{boot_of, generation_line, status_of}
 
--- A fault of the flash is told of no image.
+-- A fault of the flash is reported about no image.
 pub never_flash : (c : Config) (judged : Result Generation Fault) → number_told c judged ≢ Err Flash
 never_flash c (Ok g) is = cc is
 never_flash c (Err (damaged place)) is = cc is

@@ -2,12 +2,13 @@
 use Rattle.std.specs.Prelude.{ℕ, List, [], ◌∷◌, Option, Some, None, if◌then◌else◌, codes}
 use Rattle.std.specs.Str.{bytes_eq}
 use Rattle.flt_inspect.specs.declared.command.Command.{Command}
-use Rattle.flt_inspect.specs.declared.command.Command.TheVariants.{Inspect, Audit}
+use Rattle.flt_inspect.specs.declared.command.Command.TheVariants.{Inspect, Trace, Audit}
 
 -- The command that a word is.
 abbrev pub word_command : List ℕ → Option Command
 word_command word =
     if bytes_eq word (codes "inspect") then Some Inspect
+    else if bytes_eq word (codes "trace") then Some Trace
     else if bytes_eq word (codes "audit") then Some Audit
     else None
 

@@ -1,4 +1,4 @@
--- What an inspection tells of bytes: of a dump what its image holds and says, and of other bytes why they are no dump.
+-- What an inspection reports about bytes: for a dump what its image holds and says, and for other bytes why they are not a dump.
 use Rattle.std.specs.Prelude.{◌≡◌, ℕ, List, [], ◌∷◌, ◌++◌, Result, Ok, Err, codes}
 use Rattle.std.specs.Fmt.{decimal}
 use Rattle.flt_config.specs.declared.config.Config.{Config}

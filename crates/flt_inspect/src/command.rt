@@ -8,17 +8,20 @@ ghost use Rattle.flt_inspect.specs.Command.{command_of};
 pub(crate) enum Command {
     /// What the image of a dump holds.
     Inspect,
+    /// The trace of a script's last life.
+    Trace,
     /// Whether a trace's answers are due.
     Audit,
 }
 
-/// The command that the words are: the one word `inspect` or `audit`.
+/// The command that the words are: the one word `inspect`, `trace` or `audit`.
 pub(crate) fn command_of(words: &[String]) -> Option<Command>
     ensures { result ≡ command_of (map string_bytes words.now) }
 {
     match words {
         [word] => match word.as_bytes() {
             b"inspect" => Some(Command::Inspect),
+            b"trace" => Some(Command::Trace),
             b"audit" => Some(Command::Audit),
             _ => None,
         },

@@ -1,4 +1,4 @@
-// What is told of a dump.
+// What is reported about a dump.
 ghost use Rattle.std.specs.Prelude.{◌≡◌, ◌≢◌, ◌++◌, ◌∷◌, [], IfOk, OnOk, Result, Err, codes, option_map};
 ghost use Rattle.std.specs.Fmt.{decimal};
 ghost use Rattle.flt_config.specs.declared.config.Config.{Config};
@@ -30,7 +30,7 @@ const REFUSED: u8 = 6;
 
 const NO_PAGES: u8 = 10;
 
-/// What is told of a script that is none.
+/// What is reported about bytes that are not a script.
 fn script_verdict(alloc: Global, fault: &ScriptFault) -> Result<Verdict, AllocError>
     ensures { IfOk result (λ verdict. due_of verdict ≡ script_due fault.now) }
 {
@@ -42,7 +42,7 @@ fn script_verdict(alloc: Global, fault: &ScriptFault) -> Result<Verdict, AllocEr
     })
 }
 
-/// What is told of lines that are no pages, by the number of the first that is wrong.
+/// What is reported about lines that are not pages, by the number of the first that is wrong.
 fn line_verdict(alloc: Global, number: usize) -> Result<Verdict, AllocError>
     ensures { IfOk result (λ verdict. due_of verdict ≡ line_due 10 (codes "dump line " ++ decimal number)) }
 {
@@ -77,7 +77,7 @@ fn put_held(held: Result<u32, StartFault>, out: &mut Vec<u8>) -> Result<u8, Allo
     }
 }
 
-/// What is told of the image of a dump.
+/// What is reported about the image of a dump.
 fn image_verdict(alloc: Global, dump: Dump) -> Result<Verdict, AllocError>
     ensures { IfOk result (λ verdict. due_of verdict ≡ image_due (content_of dump)) }
 {
@@ -88,7 +88,7 @@ fn image_verdict(alloc: Global, dump: Dump) -> Result<Verdict, AllocError>
     Ok(Verdict { status, text })
 }
 
-/// What is told of bytes.
+/// What is reported about bytes.
 fn judge(alloc: Global, bytes: &[u8], dids: &DidTable<DID_ROWS>) -> Result<Verdict, AllocError>
     ensures { IfOk result (λ verdict. due_of verdict ≡ inspected (dids_of dids.now) bytes.now) }
 {
@@ -101,7 +101,7 @@ fn judge(alloc: Global, bytes: &[u8], dids: &DidTable<DID_ROWS>) -> Result<Verdi
     }
 }
 
-/// What is told of what a source has left; nothing where memory is wanting.
+/// What is reported about the rest of a source; nothing if memory runs out.
 fn reckon<S: Source>(alloc: Global, source: &mut S, dids: &DidTable<DID_ROWS>) -> Option<Verdict>
     ensures { IsMade (IsInspected (dids_of dids.now)) (record {
       left = S.left source.old;
@@ -118,7 +118,7 @@ fn reckon<S: Source>(alloc: Global, source: &mut S, dids: &DidTable<DID_ROWS>) -
 
 /// Tells what the image of a dump holds, and what it says line by line; and answers the exit status: 0 where it holds a generation, 6
 /// where it is damaged or of another configuration; 2 where the lines before the image are no configuration; 3 where the source failed; 4
-/// in place of another where the sink did; 7 where memory was wanting; 9 where more than 16,777,216 bytes came; 10 where the lines behind
+/// in place of another where the sink did; 7 if memory ran out; 9 if more than 16,777,216 bytes came; 10 where the lines behind
 /// are not the pages of both sectors.
 pub fn inspect<S: Source, K: Sink>(
     alloc: Global,

@@ -1,30 +1,31 @@
-//! A reader of dumps and traces: `inspect` tells what the image of a dump holds, and what it says line by line; `audit` tells whether the
-//! answers of a trace are those of the status machine.
+//! A reader of dumps and traces: `inspect` reports what the image of a dump holds, and lists it line by line; `trace` prints the last life
+//! of a script as JSON; `audit` says whether the answers of a trace are those of the status machine.
 //!
-//! It stands on `flt_dump` for the dump and its image, on `flt_verdict` for the input and what is told of it, on `flt_report` for the
-//! text of a refusal, and on `flt_audit` for the audit; `main` makes one call over the real streams. Read `specs/Inspection.antt` first.
+//! It stands on `flt_dump` for the dump and its image, on `flt_verdict` for the input and what is reported about it, on `flt_report` for the
+//! text of a refusal, on `flt_run`, `flt_told` and `flt_trace` for the trace, and on `flt_audit` for the audit; `main` makes one call,
+//! `examine`, over the real streams. Read `specs/Examination.antt` first, then `Inspection` and `Traced`.
 #![tactic(auto)]
 
 mod command;
+mod examining;
 mod inspecting;
+mod streams;
+mod tracing;
 
-use crate::command::{Command, command_of};
-use crate::inspecting::inspect;
-use flt_audit::audit;
+use crate::examining::examine;
 use flt_did::{
     DID_ROWS, DidTable, did_0101, did_0102, did_0103, did_0104, did_0105, did_0106, did_0107,
 };
 use flt_io::{ReadSource, WriteSink};
-use flt_verdict::{Verdict, tell};
 use std::io::{ErrorKind, Input, Print};
+use std::marker::Sync;
 use std::process::ExitCode;
 use std::rt::Env;
+use std::sync::Wait;
+use std::thread::Threads;
 use std::{env, io};
 
-/// The status where the words are no command.
-const USAGE: u8 = 1;
-
-/// The status where memory was wanting.
+/// The status if memory ran out.
 const OUT_OF_MEMORY: u8 = 7;
 
 /// The words behind the program's name.
@@ -37,31 +38,23 @@ fn words(rt: &(impl Env + AllocGlobal)) -> io::Result<Vec<String>> {
 }
 
 /// Runs the program over the real streams, with these data identifiers, and answers its exit status.
-fn run_over<R: Env + AllocGlobal + Input + Print>(
+fn run_over<R: Env + AllocGlobal + Input + Print + Threads + Wait + Sync>(
     rt: &R,
     dids: DidTable<DID_ROWS>,
 ) -> io::Result<u8> {
     let words = match words(rt) {
-        // Words that are no text are no command.
+        // Words that are not text are not a command.
         Err(error) if error.kind() != ErrorKind::OutOfMemory => Vec::new(rt.alloc()),
         words => words?,
     };
     let mut source = ReadSource::new(rt.reader());
     let mut sink = WriteSink::new(io::writer(rt));
-    let alloc = rt.alloc();
-    let status = match command_of(&words) {
-        Some(Command::Inspect) => inspect(alloc, &mut source, &mut sink, &dids),
-        Some(Command::Audit) => audit(alloc, &mut source, &mut sink, dids),
-        None => {
-            let usage = Verdict::line(alloc, USAGE, b"usage: flt_inspect inspect | audit");
-            tell(usage.ok(), &mut sink)
-        }
-    };
-    Ok(status)
+    let examined = examine(rt, rt.alloc(), &words, &mut source, &mut sink, dids);
+    Ok(examined.status)
 }
 
 /// The exit status of the program: the table has the data identifiers 0101 to 0107.
-fn perform<R: Env + AllocGlobal + Input + Print>(rt: &R) -> io::Result<u8> {
+fn perform<R: Env + AllocGlobal + Input + Print + Threads + Wait + Sync>(rt: &R) -> io::Result<u8> {
     let mut dids: DidTable<DID_ROWS> = DidTable::new();
     let lacks_room = dids.add(0x0101, 2, did_0101).is_err()
         || dids.add(0x0102, 2, did_0102).is_err()

@@ -43,6 +43,7 @@ impl<W: Write> WriteSink<W> {
     ghost use Rattle.flt_io.specs.Stream.{writer_of, write_faults};
 
     /// Writes a prefix of a piece that is not empty, at least one byte, and returns how many.
+    #[inline(always)]
     fn write_front(&mut self, piece: &[u8]) -> Result<usize, Failed>
         requires { 0 < length piece.now }
         ensures some { IfOk result (λ n. 0 < n) }

@@ -25,9 +25,10 @@ use Rattle.flt_life.specs.declared.answer.StepAnswer.TheVariants as answers
 use Rattle.flt_shared.specs.Call.{Seat}
 use Rattle.flt_lives.specs.Living.{IsCaused}
 use Rattle.flt_lives.proofs.Causing.{caused_arm}
-use Rattle.flt_lane.specs.Block.{AreJoined}
+use Rattle.flt_fork.specs.Seats.{AreJoined}
 use Rattle.flt_lane.specs.Draining.{DrainsOn}
-use Rattle.flt_lane.specs.Living.{AreHeld, Carries, HoldsBy, HoldsOn, IsKnownTo, IsLivingOn, answers_of, drains_by, drains_of, saves_by}
+use Rattle.flt_fork.specs.Known.{IsKnownTo}
+use Rattle.flt_lane.specs.Living.{AreHeld, Carries, HoldsBy, HoldsOn, IsLivingOn, answers_of, drains_by, drains_of, saves_by}
 use Rattle.flt_lane.specs.Runs.{QueueSeat}
 use Rattle.flt_lane.proofs.Keeping.{IsNoSave, kept_other}
 

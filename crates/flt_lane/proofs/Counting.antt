@@ -16,7 +16,7 @@ use Rattle.flt_turn.specs.Sums.{one_if}
 use Rattle.flt_life.specs.Answers.{Told}
 use Rattle.flt_life.specs.Draining.{DrainMakes, Drained, IsLastTake, QueueCall, calls_for_all}
 use Rattle.flt_life.specs.Journal.{Journal}
-use Rattle.flt_life.specs.Mixing.{Call, ops_asked}
+use Rattle.flt_fork.specs.Mixing.{Call, ops_asked}
 use Rattle.flt_life.specs.Ordered.{Deed, deeds_in}
 use Rattle.flt_life.specs.Played.{IsMade, StepMakes, StepQueues}
 use Rattle.flt_life.specs.declared.answer.StepAnswer.TheVariants as answers

@@ -29,13 +29,13 @@ use Rattle.flt_life.specs.Draining.{Drained, calls_for, calls_for_all}
 use Rattle.flt_life.specs.Ordered.{Deed}
 use Rattle.flt_life.specs.declared.answer.StepAnswer.TheVariants as answers
 use Rattle.flt_lives.specs.Living.{IsCaused}
-use Rattle.flt_lane.specs.Chain.{Chain}
+use Rattle.flt_fork.specs.Chain.{Chain}
 use Rattle.flt_lane.specs.Draining.{DrainsOn, HasDrained, MakesJobs, TakesJob}
 use Rattle.flt_lane.specs.Living.{AreHeld, HoldsBy, drain_call, drains_in}
 use Rattle.flt_lane.specs.Runs.{QueueSeat}
 use Rattle.flt_lane.proofs.Applying.{IsInHand, IsWritten, drains-append, hand_further, hand_taken, held_beside, held_done, held_further, newest_more, newest_of, queue_calls}
-use Rattle.flt_lane.proofs.Chains.{chain_fact, chain_more}
-use Rattle.flt_lane.proofs.Knowing.{Since, since, knows_all}
+use Rattle.flt_fork.proofs.Chains.{chain_fact, chain_more}
+use Rattle.flt_fork.proofs.Knowing.{Since, since, knows_all}
 use Rattle.flt_lane.proofs.Leaving.{leaves_nothing, leaves_further}
 
 abbrev IsCall : QueueSeat → QueueSeat → QueueOp → Answer QueueReply → Type 0

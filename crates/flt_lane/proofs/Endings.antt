@@ -1,7 +1,5 @@
 -- The end of a life: what its store holds by the journals that the closed locks left.
-use Rattle.std.proofs.Common.{◌≡◌, inl, ⊎_elim, ℕ, ◌≤◌, List, [], map, reverse, refl, sym, ap, subst, arith, ◌∙◌}
-use Rattle.std.proofs.lemmas.List.Elements.{All-contains}
-use mathlib.Core.List.{IsPrefix}
+use Rattle.std.proofs.Common.{inl, ℕ, ◌≤◌, List, [], map, reverse, refl, sym, ap, subst, arith, ◌∙◌}
 use Rattle.flt_config.specs.declared.config.Config.{Config}
 use Rattle.flt_flash.specs.Content.{Content}
 use Rattle.flt_flash.specs.declared.blocks.Blocks.{Ghosts}
@@ -12,28 +10,19 @@ use Rattle.flt_queue.specs.Queue.{History}
 use Rattle.flt_store.specs.declared.store.Store.{Store}
 use Rattle.flt_store.specs.Store.{IsRunning}
 use Rattle.flt_turn.specs.declared.vault.Entry.{Entry}
-use Rattle.flt_turn.specs.Seats.{Seated, main_seat}
 use Rattle.flt_life.specs.Applications.{AreGot, HoldApplications, jobs_told}
 use Rattle.flt_life.specs.Journal.{Journal}
 use Rattle.flt_life.specs.Ordered.{Deed}
 use Rattle.flt_shared.specs.Call.{Seat}
 use Rattle.flt_lives.specs.Living.{IsKeptSince}
-use Rattle.flt_lane.specs.Lived.{CouldClose}
-use Rattle.flt_lane.specs.Living.{AreHeld, HoldsOn, IsKnownTo, IsLivingOn, answers_of, drains_in, drains_of, saves_in, saves_of}
+use Rattle.flt_fork.specs.Lived.{CouldClose}
+use Rattle.flt_fork.specs.Known.{IsKnownTo}
+use Rattle.flt_lane.specs.Living.{AreHeld, HoldsOn, IsLivingOn, answers_of, drains_in, drains_of, saves_in, saves_of}
 use Rattle.flt_lane.specs.Runs.{QueueSeat}
 use Rattle.flt_lane.proofs.Applying.{drains-append, held_further, may_whole, newest_of, queue_calls}
-use Rattle.flt_lane.proofs.Journals.{prefix_trans}
+use Rattle.flt_fork.proofs.Closing.{known_whole}
 use Rattle.flt_lane.proofs.Keeping.{kept_first, kept_further}
 use Rattle.flt_lane.proofs.Saves.{map_reverse, saves-append, step_calls}
-
--- A seat that took no call.
-pub fresh_of : {S O : Type 0} (main : Seated S O) (lock : _) (start : S) (room : ℕ) → main ≡ main_seat lock start room → main ≡ main_seat main.lock main.start main.left
-fresh_of {S} {O} main lock start room is = subst (λ (m : Seated S O). m ≡ main_seat m.lock m.start m.left) (sym is) refl
-
--- What was known is a beginning of the journal that the closed lock left.
-pub known_whole : {S O : Type 0} (main : Seated S O) (journal known : List (Entry O)) → CouldClose main journal → IsKnownTo main known → IsPrefix known journal
-known_whole main journal known whole =
-    ⊎_elim (λ pre. prefix_trans known main.seen journal pre whole.seen) (λ old. prefix_trans known old.0 journal old.2 (All-contains (λ o. IsPrefix o journal) main.olds old.0 whole.olds old.1))
 
 -- ---- the generations
 

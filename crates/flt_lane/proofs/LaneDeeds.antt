@@ -8,8 +8,9 @@ use Rattle.flt_script.specs.declared.step.Step.{Step}
 use Rattle.flt_script.specs.Part.{PartOf}
 use Rattle.flt_script.specs.Step.{has_store_step, is_store_step}
 use Rattle.flt_life.specs.Answers.{Told}
-use Rattle.flt_life.specs.Making.{AreMadeBy, LanesMake, PartMakes, PartsMake}
-use Rattle.flt_life.specs.Mixing.{Block, Call}
+use Rattle.flt_fork.specs.Making.{AreMadeBy, LanesMake}
+use Rattle.flt_life.specs.Making.{PartMakes, PartsMake}
+use Rattle.flt_fork.specs.Mixing.{Block, Call}
 use Rattle.flt_life.specs.Ordered.{Deed, block_deeds, deed_if, deeds_in, lane_deeds, with_deed}
 use Rattle.flt_life.specs.Parts.{own_steps, width, widths}
 

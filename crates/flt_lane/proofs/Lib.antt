@@ -1,15 +1,8 @@
-pub mod Chains
 pub mod Swapping
 pub mod Sharing
-pub mod Journals
-pub mod Knowing
-pub mod Blocks
-pub mod Parts
-pub mod BlockRuns
 pub mod WorkRuns
 pub mod Seats
 pub mod Rooms
-pub mod PartWays
 pub mod Running
 pub mod Stepping
 pub mod Keeping

@@ -30,7 +30,7 @@ use Rattle.flt_shared.specs.Call.{Seat, reply_after}
 use Rattle.flt_lives.specs.Living.{IsCaused, IsKeptSince}
 use Rattle.flt_lives.proofs.Causing.{are_caused}
 use Rattle.flt_lane.specs.Block.{HaveRunParts}
-use Rattle.flt_lane.specs.Lived.{CouldClose}
+use Rattle.flt_fork.specs.Lived.{CouldClose}
 use Rattle.flt_lane.specs.Living.{Carries, answers_of, drains_in, drains_of, saves_in, saves_of}
 use Rattle.flt_lane.specs.Room.{IsLaneFor, IsPartFor}
 use Rattle.flt_lane.specs.Runs.{QueueSeat}

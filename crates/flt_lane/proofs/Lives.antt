@@ -18,7 +18,7 @@ use Rattle.flt_life.specs.declared.action.Action.{Action}
 use Rattle.flt_life.specs.declared.replies.LaneReplies.{LaneReplies}
 use Rattle.flt_life.specs.Actions.{action_of, all_arms, arms_of}
 use Rattle.flt_life.specs.Answers.{Told}
-use Rattle.flt_life.specs.Mixing.{Call}
+use Rattle.flt_fork.specs.Mixing.{Call}
 use Rattle.flt_life.specs.Ordered.{deeds_in}
 use Rattle.flt_life.specs.Parts.{arms_in, calls_in, own_actions, own_steps, queued_in, width, widths}
 use Rattle.flt_life.specs.Played.{StepMakes, StepQueues}
@@ -29,14 +29,15 @@ use Rattle.flt_shared.specs.Call.{Seat, MayBeAsked, reply_after}
 use Rattle.flt_shared.specs.Lock.{IsSeatOf}
 use Rattle.flt_lane.specs.declared.locks.Locks.{Locks}
 use Rattle.flt_lane.specs.declared.room.PartRoom.{PartRoom}
-use Rattle.flt_lane.specs.Block.{HasRunBlock, HasRunPart, HasRunParts, Gains}
+use Rattle.flt_fork.specs.Runs.{HasRunBlock, MakesBy}
+use Rattle.flt_lane.specs.Block.{HasRunPart, HasRunParts, Gains}
 use Rattle.flt_lane.specs.BlockRun.{GainsPart, HasRunLanes, StepsOne}
-use Rattle.flt_lane.specs.Lived.{IsMain, HasLived}
+use Rattle.flt_fork.specs.Lived.{IsMain, HasLived}
 use Rattle.flt_lane.specs.Living.{Carries}
 use Rattle.flt_lane.specs.Room.{part_in}
-use Rattle.flt_lane.specs.Runs.{MakesBy, QueueSeat, calls_by, queued_by}
+use Rattle.flt_lane.specs.Runs.{QueueSeat, calls_by, queued_by}
 use Rattle.flt_lane.proofs.LaneDeeds.{all_lanes_count, all_own_count, deeds_more, deeds_of_block, lanes_told_count, newest_of_one}
-use Rattle.flt_lane.proofs.Parts.{chain_part, lived_none, lived_more}
+use Rattle.flt_fork.proofs.Parts.{chain_part, lived_none, lived_more}
 use Rattle.flt_lane.proofs.Seats.{next_of}
 
 -- ---- on one lock

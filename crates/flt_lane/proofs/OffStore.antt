@@ -13,7 +13,7 @@ use Rattle.flt_store.specs.declared.store.Store.{Store}
 use Rattle.flt_lane.specs.Living.{Carries}
 use Rattle.flt_lane.specs.Runs.{Makes, QueueSeat, Queues}
 use Rattle.flt_lane.proofs.Carrying.{carries_beside}
-use Rattle.flt_lane.proofs.Knowing.{known_along}
+use Rattle.flt_fork.proofs.Knowing.{known_along}
 
 module _ {B : Type 0} {b : Ghosts B} (c : Config) where
   pub carries_call : (before after : Seat) (jobs jobs_after : QueueSeat) (step : Step) (told : Told) (store : Store B b) → is_store_step step ≡ false

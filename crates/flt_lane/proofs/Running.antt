@@ -26,8 +26,8 @@ use Rattle.flt_lane.specs.declared.lane.LaneWork.{LaneWork}
 use Rattle.flt_lane.specs.declared.locks.Locks.{Locks}
 use Rattle.flt_lane.specs.Runs.{QueueSeat, Makes, Queues, calls_by, queued_by}
 use Rattle.flt_lane.specs.Work.{AreSeatsOf, IsPrepared, HasRun}
-use Rattle.flt_lane.proofs.Chains.{chain_fact}
-use Rattle.flt_lane.proofs.PartWays.{PartBy, part_first, part_more, part_runs, part_start, part_number}
+use Rattle.flt_fork.proofs.Chains.{chain_fact}
+use Rattle.flt_fork.proofs.PartWays.{PartBy, part_first, part_more, part_runs, part_start, part_number}
 
 abbrev pub DemPart : Seat → Seat → List Step → List Told → Type 0
 DemPart = PartBy MayBeAsked reply_after StepMakes calls_by

@@ -39,10 +39,10 @@ use Rattle.flt_life.specs.Played.{ActionMakes, ActionQueues, StepMakes, StepQueu
 use Rattle.flt_life.specs.declared.action.Action.TheVariants as action
 use Rattle.flt_lives.proofs.Rooms.{answer_size}
 use Rattle.flt_life.specs.declared.answer.StepAnswer.TheVariants as answers
-use Rattle.flt_lane.specs.Chain.{Chain}
+use Rattle.flt_fork.specs.Chain.{Chain}
 use Rattle.flt_lane.specs.Draining.{FindsNone, HasDrained}
 use Rattle.flt_lane.specs.Runs.{Makes, Queues, QueueSeat, calls_by}
-use Rattle.flt_lane.proofs.Chains.{chain_fact, chain_more, chain_of_one}
+use Rattle.flt_fork.proofs.Chains.{chain_fact, chain_more, chain_of_one}
 
 -- ---- calls of the status machine
 

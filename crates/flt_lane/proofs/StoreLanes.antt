@@ -18,17 +18,18 @@ use Rattle.flt_life.specs.Ordered.{Deed, block_deeds, lane_deeds}
 use Rattle.flt_life.specs.Room.{told_in}
 use Rattle.flt_lane.specs.declared.lane.LaneWork.{LaneWork}
 use Rattle.flt_lane.specs.declared.locks.Locks.{Locks}
-use Rattle.flt_lane.specs.Block.{IsSplitSeat, AreSplit, IsSplitOff, AreJoined, RunsLanes}
+use Rattle.flt_fork.specs.Seats.{IsSplitSeat, IsSplitOff, AreJoined}
+use Rattle.flt_lane.specs.Block.{AreSplit, RunsLanes}
 use Rattle.flt_lane.specs.BlockRun.{HasRunLanes}
-use Rattle.flt_lane.specs.Lived.{IsMain}
+use Rattle.flt_fork.specs.Lived.{IsMain}
 use Rattle.flt_lane.specs.Living.{Carries}
 use Rattle.flt_lane.specs.Room.{all_calls, all_queued}
 use Rattle.flt_lane.specs.Runs.{QueueSeat}
 use Rattle.flt_lane.specs.Stored.{AreRun, HasRunStore, HaveRun, LeavesStore, RunsStore, StoresAt, is_store_lane}
 use Rattle.flt_lane.specs.Work.{HasRun}
 use Rattle.flt_lane.proofs.Carrying.{KnowsToo, carries_beside, carries_between, knows_joined, knows_still}
-use Rattle.flt_lane.proofs.Chains.{chain_fact}
-use Rattle.flt_lane.proofs.Knowing.{known_same}
+use Rattle.flt_fork.proofs.Chains.{chain_fact}
+use Rattle.flt_fork.proofs.Knowing.{known_same}
 use Rattle.flt_lane.proofs.LaneDeeds.{none_deeds, one_deeds}
 use Rattle.flt_lane.proofs.Seats.{all_steps_are}
 use Rattle.flt_lane.proofs.WorkRuns.{ran_lanes}

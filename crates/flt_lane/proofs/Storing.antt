@@ -26,7 +26,7 @@ use Rattle.flt_lane.specs.Work.{HasRun}
 use Rattle.flt_lane.proofs.Carrying.{carries_beside, carries_further}
 use Rattle.flt_lane.proofs.Leaving.{leaves_nothing, leaves_further}
 use Rattle.flt_lane.proofs.LaneDeeds.{lane_deeds_more, newest_deed, told_count}
-use Rattle.flt_lane.proofs.PartWays.{part_start}
+use Rattle.flt_fork.proofs.PartWays.{part_start}
 use Rattle.flt_lane.proofs.Running.{IsPartway}
 
 -- ---- what a step of a lane leaves of the bench

@@ -18,7 +18,7 @@ use Rattle.flt_lane.specs.Draining.{FindsNone, MakesJobs, TakesJob, WritesJob}
 use Rattle.flt_lane.specs.Living.{HoldsBy}
 use Rattle.flt_lane.specs.Runs.{QueueSeat}
 use Rattle.flt_lane.proofs.Applying.{IsWritten}
-use Rattle.flt_lane.proofs.Chains.{chain_more, chain_of_one}
+use Rattle.flt_fork.proofs.Chains.{chain_more, chain_of_one}
 use Rattle.flt_lane.proofs.Drains.{caused_job, caused_same, holds_noted, holds_taken}
 use Rattle.flt_lane.proofs.Leaving.{leaves_by_calls, leaves_nothing}
 

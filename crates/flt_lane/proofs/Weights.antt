@@ -10,11 +10,12 @@ use Rattle.flt_script.specs.Step.{is_store_step}
 use Rattle.flt_turn.specs.declared.vault.Entry.{Entry}
 use Rattle.flt_turn.specs.Journal.{calls_of}
 use Rattle.flt_life.specs.Answers.{Told}
-use Rattle.flt_life.specs.Making.{AreMadeBy, LanesMake, PartMakes, PartsMake}
-use Rattle.flt_life.specs.Mixing.{Block, Call, HasInOrder, Mixes, asked_of, ops_asked}
+use Rattle.flt_fork.specs.Making.{AreMadeBy, LanesMake}
+use Rattle.flt_life.specs.Making.{PartMakes, PartsMake}
+use Rattle.flt_fork.specs.Mixing.{Block, Call, HasInOrder, Mixes, asked_of, ops_asked}
 use Rattle.flt_life.specs.Ordered.{Deed, block_deeds, deed_if, deeds_in, lane_deeds}
 use Rattle.flt_life.specs.Parts.{width}
-use Rattle.flt_lane.proofs.Journals.{head_call, no_call_behind}
+use Rattle.flt_fork.proofs.Journals.{head_call, no_call_behind}
 use Rattle.flt_lane.proofs.LaneDeeds.{lanes_told_count}
 
 module _ {O : Type 0} (weight : O → ℕ) where

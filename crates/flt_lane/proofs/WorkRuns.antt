@@ -13,28 +13,30 @@ use Rattle.flt_life.specs.Played.{StepMakes, StepQueues}
 use Rattle.flt_life.specs.Room.{told_in}
 use Rattle.flt_lane.specs.declared.lane.LaneWork.{LaneWork}
 use Rattle.flt_lane.specs.declared.locks.Locks.{Locks}
-use Rattle.flt_lane.specs.Block.{IsSplitSeat, AreSplit, IsSplitOff, AreJoined, HasRunBlock, RunsLanes}
-use Rattle.flt_lane.specs.Lived.{IsMain}
+use Rattle.flt_fork.specs.Seats.{IsSplitSeat, IsSplitOff, AreJoined}
+use Rattle.flt_fork.specs.Runs.{HasRunBlock}
+use Rattle.flt_lane.specs.Block.{AreSplit, RunsLanes}
+use Rattle.flt_fork.specs.Lived.{IsMain}
 use Rattle.flt_lane.specs.Room.{all_calls, all_queued}
 use Rattle.flt_lane.specs.Runs.{QueueSeat, RunsSteps, RunsQueue, calls_by, queued_by}
 use Rattle.flt_lane.specs.Work.{HasRun}
-use Rattle.flt_lane.proofs.BlockRuns.{Lane, AreRunLanes, afters, ran_block, steps_all, tolds}
+use Rattle.flt_fork.proofs.BlockRuns.{Lane, AreRunLanes, afters, ran_block, steps_all, tolds}
 
 -- The lanes on each lock.
-abbrev pub dem_lanes : List LaneWork → List LaneWork → List (Lane DemStart Op)
+abbrev pub dem_lanes : List LaneWork → List LaneWork → List (Lane Step Told DemStart Op)
 dem_lanes [] after = []
 dem_lanes (w ∷ works) [] = []
 dem_lanes (w ∷ works) (a ∷ after) = record { steps = w.steps.now; before = w.seat; after = a.seat; told = told_in a.replies } ∷ dem_lanes works after
 
-abbrev pub queue_lanes : List LaneWork → List LaneWork → List (Lane ℕ QueueOp)
+abbrev pub queue_lanes : List LaneWork → List LaneWork → List (Lane Step Told ℕ QueueOp)
 queue_lanes [] after = []
 queue_lanes (w ∷ works) [] = []
 queue_lanes (w ∷ works) (a ∷ after) = record { steps = w.steps.now; before = w.queue_seat; after = a.queue_seat; told = told_in a.replies } ∷ queue_lanes works after
 
-abbrev DemRun : Seat → ℕ → List (Lane DemStart Op) → Type 0
+abbrev DemRun : Seat → ℕ → List (Lane Step Told DemStart Op) → Type 0
 DemRun main number lanes = AreRunLanes MayBeAsked reply_after StepMakes calls_by calls_of main number lanes
 
-abbrev QueueRun : QueueSeat → ℕ → List (Lane ℕ QueueOp) → Type 0
+abbrev QueueRun : QueueSeat → ℕ → List (Lane Step Told ℕ QueueOp) → Type 0
 QueueRun jobs number lanes = AreRunLanes queue.IsAdmitted queued.reply_after StepQueues queued_by queued_of jobs number lanes
 
 -- Each work after its steps.

@@ -1,65 +1,27 @@
 -- The seats of a block's lanes: split from the main seats, and joined again; and what a part of a life leaves.
-use Rattle.std.specs.Prelude.{◌≡◌, ℕ, ◌+◌, ◌≤◌, List, [], ◌∷◌, ◌++◌, map, length}
+use Rattle.std.specs.Prelude.{◌≡◌, ℕ, ◌+◌, List, [], ◌∷◌, ◌++◌}
 use Rattle.flt_script.specs.declared.step.Step.{Step}
 use Rattle.flt_script.specs.Part.{PartOf}
 use Rattle.flt_turn.specs.Seats.{Seated}
 use Rattle.flt_queue.specs.Call as queued
 use Rattle.flt_shared.specs.Call.{Seat, reply_after}
 use Rattle.flt_life.specs.Answers.{Told}
-use Rattle.flt_life.specs.Making.{LanesMake, PartMakes, PartsMake}
-use Rattle.flt_life.specs.Mixing.{Call, Block}
+use Rattle.flt_life.specs.Making.{PartMakes, PartsMake}
+use Rattle.flt_fork.specs.Mixing.{Call, Block}
 use Rattle.flt_life.specs.Parts.{calls_of, queued_of, width, widths}
 use Rattle.flt_life.specs.Played.{StepMakes, StepQueues}
 use Rattle.flt_life.specs.Room.{told_in}
 use Rattle.flt_lane.specs.declared.lane.LaneWork.{LaneWork}
 use Rattle.flt_lane.specs.declared.locks.Locks.{Locks}
-use Rattle.flt_lane.specs.Lived.{HasLived}
+use Rattle.flt_fork.specs.Lived.{HasLived}
+use Rattle.flt_fork.specs.Runs.{HasRunBlock}
+use Rattle.flt_fork.specs.Seats.{IsSplitSeat}
 use Rattle.flt_lane.specs.Runs.{Makes, Queues, QueueSeat}
 use Rattle.flt_lane.specs.Work.{IsPrepared}
 
 -- ---- on one lock
 
-module _ {S O : Type 0} where
-  -- A seat that was split from the main seat: it knows what that one knew, and has so many calls.
-  pub record IsSplitSeat (main : Seated S O) (number calls : ℕ) (seat : Seated S O) : Type 0 where
-    pub number_is : seat.number ≡ number
-    pub start_is : seat.start ≡ main.start
-    pub seen_is : seat.seen ≡ main.seen
-    pub olds_are : seat.olds ≡ main.olds
-    pub mine_is : seat.mine ≡ []
-    pub left_is : seat.left ≡ calls
-
-  -- The main seat, when so many seats with so many calls in all were split from it.
-  pub record IsSplitOff (main after : Seated S O) (seats calls : ℕ) : Type 0 where
-    pub number_is : after.number ≡ main.number
-    pub start_is : after.start ≡ main.start
-    pub lock_is : after.lock ≡ main.lock
-    pub seen_is : after.seen ≡ main.seen
-    pub mine_is : after.mine ≡ main.mine
-    pub olds_are : after.olds ≡ main.olds
-    pub ended_are : after.ended ≡ main.ended
-    pub children_is : after.children ≡ main.children + seats
-    pub left_is : after.left + calls ≡ main.left
-
-  -- The main seat, when it has joined these seats.
-  pub record AreJoined (main after : Seated S O) (seats : List (Seated S O)) : Type 0 where
-    pub number_is : after.number ≡ main.number
-    pub start_is : after.start ≡ main.start
-    pub lock_is : after.lock ≡ main.lock
-    pub seen_is : after.seen ≡ main.seen
-    pub mine_is : after.mine ≡ main.mine
-    pub children_is : after.children ≡ main.children
-    pub olds_are : after.olds ≡ main.olds ++ map (λ (s : Seated S O). s.seen) seats
-    pub ended_are : after.ended ≡ main.ended ++ map (λ (s : Seated S O). (s.number, s.mine)) seats
-    pub left_is : main.left ≤ after.left
-
 module _ {S O R : Type 0} (answer : S → List O → O → R) (MadeBy : Step → Told → List (Call O R) → Type 0) where
-  -- The lanes of a block were run, and were answered so.
-  pub record HasRunBlock (main after : Seated S O) (lanes : List (List Step)) (told : List (List Told)) : Type 0 where
-    pub made : Block O R
-    pub makes : LanesMake MadeBy (main.children + 1) lanes told made
-    pub lived : HasLived answer main after (length lanes) (made ∷ [])
-
   -- A part was carried out, and was answered so.
   pub record HasRunPart (main after : Seated S O) (part : PartOf Step) (own : List Told) (lanes : List (List Told)) : Type 0 where
     pub made : Block O R

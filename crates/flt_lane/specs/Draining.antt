@@ -20,7 +20,7 @@ use Rattle.flt_life.specs.Draining.{Drained, QueueCall, calls_for, calls_for_all
 use Rattle.flt_life.specs.Ordered.{Deed}
 use Rattle.flt_life.specs.declared.answer.StepAnswer.TheVariants as answers
 use Rattle.flt_lives.specs.Living.{IsCaused}
-use Rattle.flt_lane.specs.Chain.{Chain}
+use Rattle.flt_fork.specs.Chain.{Chain}
 use Rattle.flt_lane.specs.Living.{HoldsBy}
 use Rattle.flt_lane.specs.Runs.{QueueSeat}
 use Rattle.flt_lane.specs.Stored.{LeavesStore}

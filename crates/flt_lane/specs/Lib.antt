@@ -1,5 +1,3 @@
-pub mod Chain
-pub mod Lived
 pub mod Runs
 pub mod Room
 pub mod Work

@@ -1,6 +1,5 @@
 -- A life on its way: what holds of its store by what the seats of the lanes know of the two journals. Deeds are the newest first.
-use Rattle.std.specs.Prelude.{◌≡◌, ◌⊎◌, ℕ, ◌+◌, ◌*◌, ◌≤◌, nat_lt, Bool, true, false, List, [], ◌∷◌, map, reverse, Contains}
-use mathlib.Core.List.{IsPrefix}
+use Rattle.std.specs.Prelude.{◌≡◌, ℕ, ◌+◌, ◌*◌, ◌≤◌, nat_lt, Bool, true, false, List, [], ◌∷◌, map, reverse}
 use Rattle.flt_flash.specs.Content.{Content}
 use Rattle.flt_flash.specs.declared.blocks.Blocks.{Ghosts}
 use Rattle.flt_config.specs.declared.config.Config.{Config}
@@ -12,7 +11,7 @@ use Rattle.flt_queue.specs.declared.job.QueueOp.TheVariants as queue
 use Rattle.flt_queue.specs.Queue.{History}
 use Rattle.flt_turn.specs.declared.vault.Entry.{Entry}
 use Rattle.flt_turn.specs.Journal.{ops_of}
-use Rattle.flt_turn.specs.Seats.{Seated}
+use Rattle.flt_fork.specs.Known.{IsKnownTo}
 use Rattle.flt_store.specs.declared.store.Store.{Store}
 use Rattle.flt_store.specs.Store.{IsAlive, IsRunning, driver_of}
 use Rattle.flt_life.specs.Answers.{Told}
@@ -28,10 +27,6 @@ use Rattle.flt_lane.specs.Runs.{QueueSeat}
 -- The answers of deeds.
 abbrev pub answers_of : List Deed → List Told
 answers_of deeds = map (λ d. d.1) deeds
-
--- A beginning of the journal that the seat knows, or a seat that was joined knew.
-abbrev pub IsKnownTo : {S O : Type 0} → Seated S O → List (Entry O) → Type 0
-IsKnownTo {S} {O} seat known = IsPrefix known seat.seen ⊎ ((old : List (Entry O)) × Contains seat.olds old × IsPrefix known old)
 
 -- ---- how many calls touch the store
 

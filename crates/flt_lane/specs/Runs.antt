@@ -1,32 +1,14 @@
--- What the steps of a lane do on a lock: each makes its calls, each call at its own place of the journal, and is answered by them.
--- A machine is told by what it admits and answers, by the calls that a step makes of it, and by how many they are at most.
-use Rattle.std.specs.Prelude.{ℕ, ◌+◌, ◌≤◌, List, length}
+-- What the steps of a lane do on the two locks of a life: each makes its calls, each call at its own place of the journal, and is
+-- answered by them.
+use Rattle.std.specs.Prelude.{ℕ, List}
+use Rattle.flt_fork.specs.Runs.{MakesBy, RunsBy}
 use Rattle.flt_script.specs.declared.step.Step.{Step}
-use Rattle.flt_turn.specs.Seats.{Seated}
 use Rattle.flt_life.specs.Actions.{action_of, call_count, queue_count}
 use Rattle.flt_life.specs.Answers.{Told}
-use Rattle.flt_life.specs.Making.{AreMadeBy}
-use Rattle.flt_life.specs.Mixing.{Call, Rise}
 use Rattle.flt_life.specs.Played.{StepMakes, StepQueues}
 use Rattle.flt_queue.specs.Call as queued
 use Rattle.flt_queue.specs.Queue as queue
 use Rattle.flt_shared.specs.Call.{Seat, MayBeAsked, reply_after}
-use Rattle.flt_lane.specs.Chain.{Chain}
-
-module _ {S O R : Type 0} (admits : S → O → Type 0) (answer : S → List O → O → R) (MadeBy : Step → Told → List (Call O R) → Type 0) (count : Step → ℕ) where
-  -- One step, and what it leaves of its seat.
-  pub record MakesBy (before : Seated S O) (step : Step) (told : Told) (after : Seated S O) : Type 0 where
-    pub calls : List (Call O R)
-    pub made : MadeBy step told calls
-    pub chain : Chain admits answer before calls after
-    pub left : before.left ≤ after.left + count step
-
-  -- Steps in their order, each with its answer.
-  pub record RunsBy (before : Seated S O) (steps : List Step) (answers : List Told) (after : Seated S O) : Type 0 where
-    pub calls : List (Call O R)
-    pub made : AreMadeBy MadeBy steps answers calls
-    pub chain : Chain admits answer before calls after
-    pub rising : Rise (length before.seen) calls
 
 -- How many calls a step makes at most of the status machine, and of the queue.
 abbrev pub calls_by : Step → ℕ

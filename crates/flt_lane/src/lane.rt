@@ -8,13 +8,13 @@ ghost use Rattle.flt_lane.specs.Work.{AreSeatsOf, IsPrepared, HasRun, both};
 ghost use Rattle.flt_lane.specs.Stored.{AreRun, CanStore, HasRunStore, HaveRun, RunsStore, StoresAt, is_store_lane};
 ghost use Rattle.flt_lane.specs.declared.lane.LaneWork.{LaneWork};
 
-use crate::beside::{Owned, Work, work_beside, work_first};
 use crate::gate::Gate;
 use crate::locks::Locks;
 use crate::step::{do_step, make_call};
 use arrayvec::ArrayVec;
 use flt_config::ValidConfig;
 use flt_flash::Blocks;
+use flt_fork::{Owned, Work, work_beside, work_first};
 use flt_life::LaneReplies;
 use flt_queue::{QueueLock, QueueSeat};
 use flt_script::Step;
@@ -115,7 +115,7 @@ impl<G: Gate> Work<DemLock, QueueLock, G> for LaneWork<'_> {
     }
 }
 
-impl<'a, G: Gate, B: Blocks + Drop> Owned<DemLock, QueueLock, G, ValidConfig, LaneWork<'a>>
+impl<'a, G: Gate, B: Blocks + Drop> Owned<LaneWork<'a>, DemLock, QueueLock, G, ValidConfig>
     for Store<B> {
     ghost able = { λ dem queue config store lane. IsPrepared (both dem queue) lane × CanStore config lane store };
 

@@ -1,13 +1,12 @@
 //! The lanes of a life under the lock: lane 0 makes the steps by themselves, over the store where they need it, and the lanes of each
 //! block make theirs at the same time as one another, at most one of them over the store.
 //!
-//! Stands on `flt_shared` for the lock, on `flt_life` for what a life is told in, on `flt_store`, and on `flt_lives` for lives one after
-//! the other. The layer above uses `run_in_lanes`, whose `LockEngine` makes the steps of each life by `live_on_lock`; what the journal
+//! Stands on `flt_fork` for lanes at once, on `flt_shared` and `flt_queue` for the locks, on `flt_life` for what a life is told in, on
+//! `flt_store`, and on `flt_lives` for lives one after the other. The layer above uses `run_in_lanes`, whose `LockEngine` makes the steps of each life by `live_on_lock`; what the journal
 //! and the answers of a life are is said in `specs/Played.antt` of `flt_life`. Read `specs/Living.antt` first (what the saves leave while a life goes on), then
-//! `specs/Block.antt`; `specs/Chain.antt` and `Lived.antt` are stated over any machine.
+//! `specs/Block.antt`. What holds of lanes over any machine stands in `flt_fork`.
 #![tactic(auto)]
 
-mod beside;
 mod block;
 mod device;
 mod drain;

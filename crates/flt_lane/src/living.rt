@@ -15,7 +15,7 @@ ghost use Rattle.flt_turn.specs.Seats as turn;
 ghost use Rattle.flt_lives.specs.Going.{GoesOn, WereGiven};
 ghost use Rattle.flt_lane.specs.Block.{HaveRunParts};
 ghost use Rattle.flt_lane.specs.BlockRun.{GainsPart, StepsOne};
-ghost use Rattle.flt_lane.specs.Lived.{IsMain};
+ghost use Rattle.flt_fork.specs.Lived.{IsMain};
 ghost use Rattle.flt_lane.specs.Living.{Carries};
 ghost use Rattle.flt_lane.specs.Room.{IsPartFor, IsPartRoom, part_in};
 ghost use Rattle.flt_lane.specs.Runs.{calls_by, queued_by};

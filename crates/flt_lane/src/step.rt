@@ -74,6 +74,7 @@ fn copy_of(bytes: &ArrayVec<u8, BYTES>) -> ArrayVec<u8, BYTES>
 }
 
 /// Makes the call of a step that calls the queue on a seat that has one left.
+#[inline(always)]
 fn call_queue<R: Wait>(rt: &R, queue: &QueueLock, seat: &mut QueueSeat, step: &Step) -> QueueAnswer
     requires lock { turn.IsSeatOf queue.now.turn seat.old }
     requires one { (op : JobCall) × (action_of step.now ≡ action.Queue op) × queues.IsAdmitted seat.old.start op }

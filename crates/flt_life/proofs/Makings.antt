@@ -2,9 +2,9 @@
 use Rattle.std.proofs.Common.{◌≡◌, ℕ, ◌+◌, List, [], ◌∷◌, ◌++◌, arith, refl, sym, ap, subst, ◌∙◌}
 use Rattle.std.proofs.lemmas.List.{append-nil, append_assoc}
 use Rattle.flt_script.specs.Part.{PartOf}
-use Rattle.flt_life.specs.Mixing.{Call, Block}
+use Rattle.flt_fork.specs.Mixing.{Call, Block}
 use Rattle.flt_life.specs.Parts.{width, widths}
-use Rattle.flt_life.specs.Making.{AreMadeBy, PartMakes, PartsMake}
+use Rattle.flt_life.specs.Making.{PartMakes, PartsMake}
 
 module _ {T : Type 0} where
   pub widths_more : (parts : List (PartOf T)) (part : PartOf T) → widths (parts ++ part ∷ []) ≡ widths parts + width part
@@ -16,15 +16,6 @@ module _ {T : Type 0} where
   widths-append (p ∷ parts) more = let rest = widths-append parts more in omega (arith, rest)
 
 module _ {T A O R : Type 0} (MadeBy : T → A → List (Call O R) → Type 0) where
-  pub made_more : (steps : List T) (answers : List A) (calls : List (Call O R)) (step : T) (answer : A) (more : List (Call O R)) → AreMadeBy MadeBy steps answers calls → MadeBy step answer more
-      → AreMadeBy MadeBy (steps ++ step ∷ []) (answers ++ answer ∷ []) (calls ++ more)
-  unfolding AreMadeBy
-  made_more [] [] calls step answer more none made = (more, [], ap (λ l. l ++ more) none ∙ sym (append-nil more), made, refl)
-  made_more [] (a ∷ answers) calls step answer more are made = absurd are
-  made_more (s ∷ steps) [] calls step answer more are made = absurd are
-  made_more (s ∷ steps) (a ∷ answers) calls step answer more are made =
-      (are.0, are.1 ++ more, ap (λ l. l ++ more) are.2 ∙ append_assoc are.0 are.1 more, are.3, made_more steps answers are.1 step answer more are.4 made)
-
   pub parts_none : (number : ℕ) → PartsMake MadeBy number [] [] [] []
   unfolding PartsMake
   parts_none number = (refl, refl, refl)

@@ -5,7 +5,7 @@ use Rattle.flt_generation.specs.Holding.{Generation}
 use Rattle.flt_model.specs.Life.{Life}
 use Rattle.flt_queue.specs.Queue.{waiting, pending, taken}
 use Rattle.flt_life.specs.Examples.{journal, told, saved, taken as taken_last, LifeLeaves, PlacesRise, BlockHolds}
-use Rattle.flt_life.specs.Mixing.{Rise}
+use Rattle.flt_fork.specs.Mixing.{Rise}
 use Rattle.flt_life.specs.Saving.{IsUnacknowledged}
 
 same_generation : (g : Generation) (number : ℕ) (state : Persist) → g.number ≡ number → g.state ≡ state → g ≡ record { number = number; state = state }

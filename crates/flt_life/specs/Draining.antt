@@ -7,7 +7,7 @@ use Rattle.flt_queue.specs.declared.job.QueueOp.{QueueOp}
 use Rattle.flt_queue.specs.declared.job.QueueOp.TheVariants as ops
 use Rattle.flt_queue.specs.declared.job.QueueReply.{QueueReply}
 use Rattle.flt_queue.specs.declared.job.QueueReply.TheVariants as replies
-use Rattle.flt_life.specs.Mixing.{Call}
+use Rattle.flt_fork.specs.Mixing.{Call}
 
 abbrev pub QueueCall : Type 0
 QueueCall = Call QueueOp QueueReply

@@ -24,7 +24,7 @@ use Rattle.flt_life.specs.Applications.{MayHold, up_to_done}
 use Rattle.flt_life.specs.Causes.{AreCaused}
 use Rattle.flt_life.specs.Draining.{take_at}
 use Rattle.flt_life.specs.Journal.{Journal, Acknowledges, entry}
-use Rattle.flt_life.specs.Mixing.{Rise}
+use Rattle.flt_fork.specs.Mixing.{Rise}
 use Rattle.flt_life.specs.Moment.{Moment}
 use Rattle.flt_life.specs.Played.{dark_answer}
 use Rattle.flt_life.specs.Saving.{AreRising, IsLeft}

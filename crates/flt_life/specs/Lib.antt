@@ -9,7 +9,6 @@ pub mod Journal
 pub mod Laws
 pub mod Lives
 pub mod Making
-pub mod Mixing
 pub mod Moment
 pub mod Parts
 pub mod Played

@@ -1,33 +1,18 @@
--- Which calls the steps of a life make, by what they are answered: over any kind of steps, and any relation that says of one step,
+-- Which calls the parts of a life make, by what they are answered: over any kind of steps, and any relation that says of one step,
 -- its answer and some calls that the calls are those of the step.
 use Rattle.std.specs.Prelude.{◌≡◌, ℕ, ◌+◌, List, [], ◌∷◌, ◌++◌}
 use Rattle.std.proofs.Common.{inl, inr}
 use Rattle.flt_script.specs.Part.{PartOf}
-use Rattle.flt_life.specs.Mixing.{Call, Block}
+use Rattle.flt_fork.specs.Making.{LanesMake}
+use Rattle.flt_fork.specs.Mixing.{Call, Block}
 use Rattle.flt_life.specs.Parts.{width}
 
 module _ {T A O R : Type 0} (MadeBy : T → A → List (Call O R) → Type 0) where
-  -- The calls of steps that were answered so: those of each step behind those of the steps before it.
-  unfoldable pub AreMadeBy : List T → List A → List (Call O R) → Type 0
-  AreMadeBy [] [] calls = calls ≡ []
-  AreMadeBy [] (answer ∷ answers) calls = ⊥
-  AreMadeBy (step ∷ steps) [] calls = ⊥
-  AreMadeBy (step ∷ steps) (answer ∷ answers) calls =
-      (first : List (Call O R)) × (rest : List (Call O R)) × (calls ≡ first ++ rest) × MadeBy step answer first × AreMadeBy steps answers rest
-
-  -- The calls of lanes, whose numbers go on from this one.
-  unfoldable pub LanesMake : ℕ → List (List T) → List (List A) → Block O R → Type 0
-  LanesMake number [] [] made = made ≡ []
-  LanesMake number [] (answers ∷ more) made = ⊥
-  LanesMake number (steps ∷ lanes) [] made = ⊥
-  LanesMake number (steps ∷ lanes) (answers ∷ more) made =
-      (calls : List (Call O R)) × (rest : Block O R) × (made ≡ (number, calls) ∷ rest) × AreMadeBy steps answers calls × LanesMake (number + 1) lanes more rest
-
   -- The calls of a part, with its answers: those of lane 0, and those of the lanes of its block.
   abbrev pub PartMakes : ℕ → PartOf T → List A → List (List A) → Block O R → Type 0
   PartMakes number (inl step) own lanes made =
       (answer : A) × (calls : List (Call O R)) × (own ≡ answer ∷ []) × (lanes ≡ []) × (made ≡ (0, calls) ∷ []) × MadeBy step answer calls
-  PartMakes number (inr steps) own lanes made = (own ≡ []) × LanesMake number steps lanes made
+  PartMakes number (inr steps) own lanes made = (own ≡ []) × LanesMake MadeBy number steps lanes made
 
   -- The calls of all parts, with the answers by lane: a part has the first of the answers that the parts before it left.
   unfoldable pub PartsMake : ℕ → List (PartOf T) → List A → List (List A) → List (Block O R) → Type 0

@@ -24,7 +24,7 @@ use Rattle.flt_life.specs.Draining.{DrainMakes}
 use Rattle.flt_life.specs.Journal.{Journal}
 use Rattle.flt_life.specs.Making.{PartsMake}
 use Rattle.flt_turn.specs.declared.vault.Entry.{Entry}
-use Rattle.flt_life.specs.Mixing.{Call, Block, HasInOrder, BlockTold, Rise, calls_in_lane}
+use Rattle.flt_fork.specs.Mixing.{Call, Block, HasInOrder, BlockTold, Rise, calls_in_lane}
 use Rattle.flt_life.specs.Parts.{own_actions, lanes_in}
 
 -- The machine's reply after these calls, oldest first.

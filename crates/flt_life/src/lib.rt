@@ -2,10 +2,11 @@
 //! leaves of the image that it found.
 //!
 //! This crate has the definitions of the chain of lives, over any machine that keeps blocks, and the types that describe a life.
-//! It stands on `flt_script` for the steps, on `flt_model` and `flt_turn` for the calls and their answers, on `flt_queue` for the
+//! It stands on `flt_script` for the steps, on `flt_model`, `flt_turn` and `flt_fork` for the calls and their answers, on `flt_queue` for the
 //! write jobs, and on the storage for what an image holds. The layers above make lives: without a lock, and in lanes. Read
 //! `specs/Played` first (which calls the parts of a life make, and how each step is answered), then `Chain` (what holds of a life and
-//! its two power-ups), `Journal`, `Saving` and `Causes`; `Mixing` and `Making` hold for any machine and any kind of steps.
+//! its two power-ups), `Journal`, `Saving` and `Causes`; `Making` holds for any machine and any kind of steps, and so does
+//! `Mixing` of `flt_fork`.
 #![tactic(auto)]
 
 mod action;

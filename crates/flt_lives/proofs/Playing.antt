@@ -20,7 +20,7 @@ use Rattle.flt_life.specs.Actions.{action_of}
 use Rattle.flt_life.specs.Answers.{Told}
 use Rattle.flt_life.specs.Journal.{Journal}
 use Rattle.flt_life.specs.Making.{PartsMake}
-use Rattle.flt_life.specs.Mixing.{Call, Block, Mixes, HasInOrder, asked_of, ops_asked, IsToldInPlace, BlockTold, Rise}
+use Rattle.flt_fork.specs.Mixing.{Call, Block, Mixes, HasInOrder, asked_of, ops_asked, IsToldInPlace, BlockTold, Rise}
 use Rattle.flt_life.specs.Parts.{widths}
 use Rattle.flt_config.specs.declared.config.Config.{Config}
 use Rattle.flt_config.specs.declared.persist.Persist.{Persist}
@@ -32,8 +32,8 @@ use Rattle.flt_life.specs.Room.{told_in}
 use Rattle.flt_queue.specs.declared.job.QueueOp.{QueueOp}
 use Rattle.flt_life.specs.Played.{ActionMakes, ActionQueues, IsLife, IsMade, IsPlayed, StepMakes, StepQueues, reply_after}
 use Rattle.flt_life.proofs.Makings.{parts_more, parts_none}
-use Rattle.flt_life.proofs.Mixings.{blocks_longer, follow_more, one_follows}
-use Rattle.flt_life.proofs.Rising.{rise_alone, rise_more, rise_none}
+use Rattle.flt_fork.proofs.Mixings.{blocks_longer, follow_more, one_follows}
+use Rattle.flt_fork.proofs.Rising.{rise_alone, rise_more, rise_none}
 use Rattle.flt_lives.specs.Carried.{IsCarriedOut}
 
 module _ {X : Type 0} where

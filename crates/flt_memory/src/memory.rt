@@ -124,12 +124,7 @@ impl EventMemory {
 fn find_entry(entries: &[EntryState], event: u16) -> Option<&EntryState>
     ensures { option_copied result ≡ find (is_event event) entries.now }
 {
-    for entry in entries {
-        if entry.event == event {
-            return Some(entry);
-        }
-    }
-    None
+    entries.iter().find(|entry| entry.event == event)
 }
 
 /// A first entry of an event, with the frame of its first occurrence.

@@ -4,3 +4,4 @@ pub mod Kept
 pub mod Found
 pub mod Looking
 pub mod Counting
+pub mod Rows

@@ -1,5 +1,5 @@
 -- The table of blocks, and the numbers under which a driver keeps them.
-use Rattle.std.specs.Prelude.{◌≡◌, ◌<◌, ◌≤◌, ◌+◌, ◌*◌, ◌==◌, ◌&&◌, ℕ, Bool, true, List, find, Option, IfSome, IsSomeAnd, nat_lt}
+use Rattle.std.specs.Prelude.{◌≡◌, ◌≢◌, ◌<◌, ◌≤◌, ◌+◌, ◌*◌, ◌==◌, ◌&&◌, ℕ, Bool, true, List, find, Option, IfSome, IsSomeAnd, nat_lt, length, slice_index_or}
 use Rattle.std.specs.List.{list_any, list_all, range_with_len}
 use Rattle.flt_nvm.specs.declared.table.Kind.{Kind}
 use Rattle.flt_nvm.specs.declared.table.Kind.TheVariants.{Native, Redundant, Dataset}
@@ -56,6 +56,10 @@ FitsBlock table id size = IsSomeAnd (block_in table id) (λ block. size ≤ bloc
 -- The table has a redundant block of this identifier.
 abbrev pub IsRedundant : List BlockCfg → ℕ → Type 0
 IsRedundant table id = IsSomeAnd (block_in table id) (λ block. block.kind ≡ Redundant)
+
+-- No row is redundant from this one on, counted from 0.
+abbrev pub NoneFrom : ℕ → List BlockCfg → Type 0
+NoneFrom from table = (place : ℕ) (d : BlockCfg) → from ≤ place → place < length table → (slice_index_or table place d).kind ≢ Redundant
 
 -- The table has a block of this identifier that takes this number, counted from 0.
 abbrev pub HasPlace : List BlockCfg → ℕ → ℕ → Type 0

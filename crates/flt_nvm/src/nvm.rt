@@ -1,10 +1,10 @@
 //! Blocks by identifier.
-ghost use Rattle.std.specs.Prelude.{IsTrue};
-ghost use Rattle.flt_nvm.specs.Table.{serves};
+ghost use Rattle.std.specs.Prelude.{◌↔◌, ◌≤◌, ℕ, IsTrue, length};
+ghost use Rattle.flt_nvm.specs.Table.{serves, IsRedundant, NoneFrom};
 
 use crate::got::{Got, holds, or_flash};
 use crate::job;
-use crate::table::{BlockCfg, is_redundant};
+use crate::table::{BlockCfg, is_redundant, redundant_rows};
 use flt_flash::{Arm, BlockFault, Blocks, Found};
 
 /// A driver's blocks by identifier and index.
@@ -12,18 +12,22 @@ use flt_flash::{Arm, BlockFault, Blocks, Found};
 pub struct Nvm<B: Blocks + Drop> {
     blocks: B,
     table: Vec<BlockCfg>,
+    /// How many rows the table has up to its last redundant one, so that no more are looked at to tell which blocks are redundant.
+    redundant_rows: usize,
     ghost served: { IsTrue (serves (B.state blocks).numbers table.items) },
+    ghost within: { redundant_rows ≤ length table.items },
+    ghost none: { NoneFrom redundant_rows table.items },
 }
 
 impl<B: Blocks + Drop> Nvm<B> {
-    ghost use Rattle.std.specs.Prelude.{◌≡◌, ◌<◌, ◌≤◌, ◌-◌, ◌⊎◌, ℕ, length, Some, None, Result, Contains, IsFalse, IsErrOf, IfOk, OnOk, OnErr};
+    ghost use Rattle.std.specs.Prelude.{◌≡◌, ◌<◌, ◌-◌, ◌⊎◌, Some, None, Result, Contains, IsFalse, IsErrOf, IfOk, OnOk, OnErr};
     ghost use Rattle.flt_flash.specs.Content.{invalid, bytes as holding};
     ghost use Rattle.flt_flash.specs.State.{CanArm, HasRisenBy};
     ghost use Rattle.flt_flash.specs.Calls.{ArmsDriver, Follows, NeverFull, PowersUpDriver, ReadCosts, SameImage, SameSpent, SameValues, found_of};
     ghost use Rattle.flt_flash.specs.declared.blocks.BlockFault.{BlockFault};
     ghost use Rattle.flt_flash.specs.declared.blocks.BlockFault.TheVariants.{Flash};
     ghost use Rattle.flt_nvm.specs.declared.got.Got.{Got};
-    ghost use Rattle.flt_nvm.specs.Table.{number_of, HasIndex, HasPlace, FitsBlock, IsRedundant};
+    ghost use Rattle.flt_nvm.specs.Table.{number_of, HasIndex, HasPlace, FitsBlock};
     ghost use Rattle.flt_nvm.specs.Leaves.{GivesCopies, GotOfSecond, HasNoBytes, MountsInAJob};
     ghost use Rattle.flt_nvm.specs.Reads.{LooksInAJob, ReadsCopies};
     ghost use Rattle.flt_nvm.specs.Blocks.{GivesBlock, ReadsBlock, ReadsCopy, Repairs};
@@ -36,7 +40,19 @@ impl<B: Blocks + Drop> Nvm<B> {
         ensures driver { driver_of result ≡ B.state blocks }
         ensures table { table_of result ≡ table.items }
     {
-        Nvm { blocks, table }
+        let redundant_rows = redundant_rows(&table);
+        Nvm {
+            blocks,
+            table,
+            redundant_rows,
+        }
+    }
+
+    /// Whether the block of this identifier is a redundant one.
+    fn is_redundant(&self, id: u16) -> bool
+        ensures { IsTrue result ↔ IsRedundant (table_of self.now) id }
+    {
+        is_redundant(&self.table[..self.redundant_rows], id)
     }
 
     // The number under which the driver keeps an index, or a copy from 0.
@@ -83,7 +99,7 @@ impl<B: Blocks + Drop> Nvm<B> {
         requires fits { FitsBlock (table_of self.old) id (length bytes.now) }
         ensures { GivesBlock id index (holding bytes.now) (length bytes.now) self.old self.new result }
     {
-        if is_redundant(&self.table, id) {
+        if self.is_redundant(id) {
             self.write_both(id, bytes)
         } else {
             let number = self.number(id, index);
@@ -110,7 +126,7 @@ impl<B: Blocks + Drop> Nvm<B> {
         requires { HasIndex (table_of self.old) id index }
         ensures { GivesBlock id index invalid 0 self.old self.new result }
     {
-        if is_redundant(&self.table, id) {
+        if self.is_redundant(id) {
             self.invalidate_both(id)
         } else {
             let number = self.number(id, index);
@@ -185,7 +201,7 @@ impl<B: Blocks + Drop> Nvm<B> {
         requires { HasIndex (table_of self.old) id index }
         ensures { ReadsBlock id index self.old self.new out.old out.new result }
     {
-        if is_redundant(&self.table, id) {
+        if self.is_redundant(id) {
             self.read_both(id, out)
         } else {
             let number = self.number(id, index);

@@ -1,6 +1,6 @@
 //! The table of blocks.
-ghost use Rattle.std.specs.Prelude.{◌↔◌, IsTrue};
-ghost use Rattle.flt_nvm.specs.Table.{IsRedundant};
+ghost use Rattle.std.specs.Prelude.{◌↔◌, ◌≤◌, IsTrue, length};
+ghost use Rattle.flt_nvm.specs.Table.{IsRedundant, NoneFrom};
 
 /// How a block is kept (AUTOSAR NvM: the block management types).
 #[derive(Clone, Copy, Debug, PartialEq, Eq)]
@@ -33,4 +33,18 @@ pub fn is_redundant(table: &[BlockCfg], id: u16) -> bool
         }
     }
     false
+}
+
+/// How many rows the table has up to its last redundant one.
+pub(crate) fn redundant_rows(table: &[BlockCfg]) -> usize
+    ensures within { result ≤ length table.now }
+    ensures none { NoneFrom result table.now }
+{
+    let mut rows = 0;
+    for index in 0..table.len() {
+        if table[index].kind == Kind::Redundant {
+            rows = index + 1;
+        }
+    }
+    rows
 }

@@ -12,12 +12,29 @@ struct Row {
     index: usize,
 }
 
-/// The block numbers of a driver in the order in which they were given, with an index in which one is found by binary
-/// search.
+/// The block numbers of a driver in the order in which they were given, with an index by which a number below 1,024 is found at once,
+/// and any other in as many steps as halvings of the list.
 #[derive(Drop)]
 pub struct Numbers {
     given: Vec<u16>,
     rows: Vec<Row>,
+    hints: Vec<u16>,
+}
+
+// The numbers that have a hint are those below this one.
+const HINTS: usize = 1024;
+
+// A hint for each number below `HINTS`: at which row it stands, if it has one. A wrong hint costs a search, and no answer rests on it.
+fn hints_of(alloc: Global, rows: &[Row]) -> Result<Vec<u16>, AllocError> {
+    let mut hints = Vec::with_capacity(alloc, HINTS)?;
+    hints.resize(HINTS, 0)?;
+    for (at, row) in rows.iter().enumerate() {
+        let number = row.number as usize;
+        if number < hints.len() && at < 65536 {
+            hints[number] = at as u16;
+        }
+    }
+    Ok(hints)
 }
 
 impl Model for Numbers {
@@ -47,7 +64,8 @@ impl Numbers {
             })?;
         }
         rows.sort_unstable_by_key(|row| row.number);
-        Ok(Numbers { given, rows })
+        let hints = hints_of(alloc, &rows)?;
+        Ok(Numbers { given, rows, hints })
     }
 
     /// How many numbers there are.
@@ -65,11 +83,28 @@ impl Numbers {
         self.given[index]
     }
 
+    // The index of a block whose hint is right.
+    #[inline(always)]
+    fn hinted(&self, block: u16) -> Option<usize>
+        ensures { IfSome result (λ index. (index < length self.now) × (slice_index_or self.now index 0 ≡ block)) }
+    {
+        let hint = *self.hints.get(block as usize)?;
+        let row = self.rows.get(hint as usize)?;
+        if row.number == block {
+            Some(row.index)
+        } else {
+            None
+        }
+    }
+
     /// The index of a block among the numbers.
     pub fn index_of(&self, block: u16) -> Option<usize>
         ensures found { IfSome result (λ index. (index < length self.now) × (slice_index_or self.now index 0 ≡ block)) }
         ensures none { IfNone result ((k : ℕ) → k < length self.now → slice_index_or self.now k 0 ≢ block) }
     {
+        if let Some(index) = self.hinted(block) {
+            return Some(index);
+        }
         match self.rows.binary_search_by_key(&block, |row| row.number) {
             Ok(at) => Some(self.rows[at].index),
             Err(_) => None,

@@ -41,6 +41,7 @@ impl Step for Guarded {
 
     ghost serves = { λ _ _. Unit {0} };
 
+    #[inline(always)]
     fn step(&mut self, _context: &(), op: &QueueOp, _out: &mut ()) -> QueueReply {
         self.queue.apply(op)
     }

@@ -13,8 +13,8 @@ ghost use Rattle.flt_turn.specs.Seats.{IsSeatOf, main_seat, split_off, split_sea
 use crate::guarded::Guarded;
 use crate::job::{Job, QueueOp, QueueReply};
 use crate::queue::JobQueue;
-use flt_turn::{Answer, Entry, HistoryFull, MachineBack, Seat, Turn, Vault};
-use std::alloc::Global;
+use flt_turn::{Answer, Entry, HistoryFull, Seat, Turn, Vault};
+use std::alloc::{AllocError, Global};
 use std::sync::Wait;
 
 /// The right to call a locked queue.
@@ -41,35 +41,21 @@ impl QueueLock {
     /// A lock over a queue of this many blocks, at most 40, and its main seat, to which all calls are left. The lock takes `room`
     /// calls in all: their entries in the journal are reserved here, and no later call takes memory.
     ///
-    /// The error means that there was no memory. The queue comes back, and took no call.
-    pub fn make(
-        alloc: Global,
-        blocks: u8,
-        room: u32,
-    ) -> Result<(QueueLock, QueueSeat), MachineBack<JobQueue>>
+    /// The error means that there was no memory.
+    pub fn make(alloc: Global, blocks: u8, room: u32) -> Result<(QueueLock, QueueSeat), AllocError>
         requires { blocks ≤ 40 }
         ensures ok { IfOk result (λ made. made.1 ≡ main_seat made.0.turn blocks room) }
         ensures lock { IfOk result (λ made. IsSeatOf made.0.turn made.1) }
-        ensures err { IfErr result (λ back. Stands blocks [] back.machine) }
     {
-        let queue = match Box::new(alloc, JobQueue::new(blocks)) {
-            Ok(queue) => queue,
-            Err(failed) => {
-                let machine = failed.value;
-                return Err(MachineBack { machine });
-            }
-        };
+        let queue = Box::new(alloc, JobQueue::new(alloc, blocks)?)?;
         match Turn::make(alloc, Guarded { queue }, room) {
             Ok((turn, seat)) => Ok((QueueLock { turn }, seat)),
-            Err(MachineBack { machine }) => {
-                let Guarded { queue } = machine;
-                let machine = Box::into_inner(queue);
-                Err(MachineBack { machine })
-            }
+            Err(_) => Err(AllocError),
         }
     }
 
     /// Makes a call when its turn comes.
+    #[inline(always)]
     fn call<R: Wait>(&self, rt: &R, seat: &mut QueueSeat, op: QueueOp) -> QueueAnswer
         requires lock { IsSeatOf self.now.turn seat.old }
         requires admitted { IsAdmitted seat.old.start op }

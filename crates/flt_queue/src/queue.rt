@@ -1,10 +1,12 @@
 //! The queue itself: two lists of jobs, and a table of the blocks.
-ghost use Rattle.std.specs.Prelude.{◌≡◌, ◌≤◌, ◌<◌, ◌∷◌, [], ℕ, All, length, reverse};
+ghost use Rattle.std.specs.Prelude.{◌≡◌, ◌≤◌, ◌<◌, ◌∷◌, ◌++◌, [], ℕ, All, IfOk, length, reverse};
+ghost use Rattle.circular_buffer.specs.Buffer.{buffer};
 ghost use Rattle.flt_queue.specs.Queue.{History, IsAdmitted, IsFor, IsJob, answer_q, result_of as result_is};
 ghost use Rattle.flt_queue.specs.declared.job.QueueOp.TheVariants as ops;
 
 use crate::job::{BLOCKS, Job, LastResult, QueueOp, QueueReply, WAITING};
-use arrayvec::ArrayVec;
+use circular_buffer::HeapCircularBuffer;
+use std::alloc::{AllocError, Global};
 
 /// What is kept of a block.
 #[derive(Clone, Copy)]
@@ -17,15 +19,18 @@ pub struct BlockState {
     pub last: LastResult,
 }
 
-/// The jobs that wait, and what became of the others. No call takes memory.
+/// The jobs that wait, and what became of the others. The jobs of each kind stand in a ring, so that the first is taken without a move
+/// of the others. All memory is taken when the queue is made.
 #[derive(Drop)]
 pub struct JobQueue {
     pub(crate) blocks: u8,
-    pub(crate) urgent: ArrayVec<Job, WAITING>,
-    pub(crate) standard: ArrayVec<Job, WAITING>,
+    pub(crate) urgent: HeapCircularBuffer<Job>,
+    pub(crate) standard: HeapCircularBuffer<Job>,
     pub(crate) table: [BlockState; BLOCKS],
     ghost few: { blocks ≤ 40 },
     ghost whole: { length table ≡ 40 },
+    ghost urgent_room: { urgent.capacity ≡ 32 },
+    ghost standard_room: { standard.capacity ≡ 32 },
     ghost urgent_jobs: { All (IsJob blocks) urgent.items },
     ghost standard_jobs: { All (IsJob blocks) standard.items },
 }
@@ -51,29 +56,54 @@ fn copy_of(job: &Job) -> Job
     }
 }
 
+/// Puts a job behind those that wait.
+fn put_last(jobs: &mut HeapCircularBuffer<Job>, job: Job)
+    requires { length jobs.old.items < jobs.old.capacity }
+    ensures { jobs.new ≡ buffer (jobs.old.items ++ job ∷ []) jobs.old.capacity }
+{
+    let Ok(()) = jobs.try_push_back(job) else {
+        unreachable!()
+    };
+}
+
+/// Takes the first of the jobs that wait.
+fn take_first(jobs: &mut HeapCircularBuffer<Job>) -> Job
+    requires { 0 < length jobs.old.items }
+    ensures jobs { jobs.old.items ≡ result ∷ jobs.new.items }
+    ensures room { jobs.new.capacity ≡ jobs.old.capacity }
+{
+    let Some(job) = jobs.pop_front() else {
+        unreachable!()
+    };
+    job
+}
+
 impl JobQueue {
     ghost use Rattle.flt_queue.specs.Stands.{Stands};
 
-    /// A queue of this many blocks, at most 40, that took no call yet.
-    pub fn new(blocks: u8) -> JobQueue
+    /// A queue of this many blocks, at most 40, that took no call yet. The error is want of memory; no later call takes any.
+    pub fn new(alloc: Global, blocks: u8) -> Result<JobQueue, AllocError>
         requires { blocks ≤ 40 }
-        ensures blocks { result.blocks ≡ blocks }
-        ensures stands { Stands blocks [] result }
+        ensures blocks { IfOk result (λ queue. queue.blocks ≡ blocks) }
+        ensures stands { IfOk result (Stands blocks []) }
     {
         let resting = BlockState {
             pending: false,
             taken: false,
             last: LastResult::Never,
         };
-        JobQueue {
+        let urgent = HeapCircularBuffer::with_capacity(alloc, WAITING)?;
+        let standard = HeapCircularBuffer::with_capacity(alloc, WAITING)?;
+        Ok(JobQueue {
             blocks,
-            urgent: ArrayVec::new(),
-            standard: ArrayVec::new(),
+            urgent,
+            standard,
             table: [resting; BLOCKS],
-        }
+        })
     }
 
     /// Carries out a call, and answers it.
+    #[inline(always)]
     pub fn apply(&mut self, op: &QueueOp) -> QueueReply
         requires admitted { IsAdmitted self.old.blocks op.now }
         ensures blocks { self.new.blocks ≡ self.old.blocks }
@@ -89,6 +119,7 @@ impl JobQueue {
         }
     }
 
+    #[inline(always)]
     fn post(&mut self, urgent: bool, job: &Job) -> QueueReply
         requires { IsJob self.old.blocks job.now }
         ensures blocks { self.new.blocks ≡ self.old.blocks }
@@ -104,14 +135,15 @@ impl JobQueue {
             return QueueReply::QueueFull;
         }
         if urgent {
-            self.urgent.push(copy_of(job));
+            put_last(&mut self.urgent, copy_of(job));
         } else {
-            self.standard.push(copy_of(job));
+            put_last(&mut self.standard, copy_of(job));
         }
         self.table[block].pending = true;
         QueueReply::Accepted
     }
 
+    #[inline(always)]
     fn take(&mut self) -> QueueReply
         ensures blocks { self.new.blocks ≡ self.old.blocks }
         ensures stands { (past : History) → Stands self.old.blocks past self.old → Stands self.old.blocks (ops.Take ∷ past) self.new }
@@ -119,9 +151,9 @@ impl JobQueue {
         ensures job { IsFor self.old.blocks result }
     {
         let job = if !self.urgent.is_empty() {
-            self.urgent.remove(0)
+            take_first(&mut self.urgent)
         } else if !self.standard.is_empty() {
-            self.standard.remove(0)
+            take_first(&mut self.standard)
         } else {
             return QueueReply::NoJob;
         };
@@ -129,6 +161,7 @@ impl JobQueue {
         QueueReply::Job(job)
     }
 
+    #[inline(always)]
     fn done(&mut self, block: u8, written: bool) -> QueueReply
         requires { block < self.old.blocks }
         ensures blocks { self.new.blocks ≡ self.old.blocks }
@@ -147,6 +180,7 @@ impl JobQueue {
         QueueReply::Noted
     }
 
+    #[inline(always)]
     fn ask(&self, block: u8) -> QueueReply
         requires { block < self.now.blocks }
         ensures stands { (past : History) → Stands self.now.blocks past self.now → Stands self.now.blocks (ops.Ask block ∷ past) self.now }

@@ -173,19 +173,31 @@ fn kept_beside(kind: ReplyKind, response: &[u8]) -> KeptReply
     }
 }
 
-/// Puts the text of a reply of this kind, whose response stands beside it. Where memory is short it puts nothing.
-pub fn put_reply(kind: ReplyKind, response: &[u8], out: &mut Vec<u8>) -> Result<(), AllocError>
-    ensures ok { OnOk result (out.new.items ≡ out.old.items ++ reply_text (reply_with kind response.now)) }
+/// Puts the text of a reply as a lane keeps it, whose response lies among these bytes. Where memory is short it puts nothing.
+pub fn put_kept_reply(
+    reply: &KeptReply,
+    responses: &[u8],
+    out: &mut Vec<u8>,
+) -> Result<(), AllocError>
+    requires { IsReplyWithin (length responses.now) reply.now }
+    ensures ok { OnOk result (out.new.items ≡ out.old.items ++ reply_text (reply_in responses.now reply.now)) }
     ensures err { OnErr result (out.new.items ≡ out.old.items) }
 {
-    let reply = kept_beside(kind, response);
     let room = match reply {
         KeptReply::Response { length, .. } => length.checked_mul(3).ok_or(AllocError)?,
         _ => ANSWER_ROOM,
     };
     out.reserve(room)?;
-    put_kept(&reply, response, out);
+    put_kept(reply, responses, out);
     Ok(())
+}
+
+/// Puts the text of a reply of this kind, whose response stands beside it. Where memory is short it puts nothing.
+pub fn put_reply(kind: ReplyKind, response: &[u8], out: &mut Vec<u8>) -> Result<(), AllocError>
+    ensures ok { OnOk result (out.new.items ≡ out.old.items ++ reply_text (reply_with kind response.now)) }
+    ensures err { OnErr result (out.new.items ≡ out.old.items) }
+{
+    put_kept_reply(&kept_beside(kind, response), response, out)
 }
 
 /// Puts an answer.

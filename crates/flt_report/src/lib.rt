@@ -3,9 +3,9 @@
 //! It stands on `flt_script` for the steps and the faults of a script, and on `flt_life` for the answers and for how a life
 //! began. The layer above calls `put_step`, `put_boot`, `put_script_fault`, and for a block of lanes `put_par`, `put_lane` and
 //! `put_end`: by their clauses `ok` they put exactly the line of `specs/Answer`, `specs/Boot` or `specs/Block`, and by `err`,
-//! where memory is short, a front of it. `put_words` and `put_reply` put a step and the reply to a call alone, and `put_refused` why an
-//! image holds nothing. Digits are written by hand and not by the formatter, since a report has a line for
-//! each step. Read `specs/Answer` first.
+//! where memory is short, a front of it. `put_words` puts a step alone, `put_reply` and `put_kept_reply` the reply to a call,
+//! and `put_refused` why an image holds nothing. Digits are written by hand and not by the formatter, since a report has a line
+//! for each step. Read `specs/Answer` first.
 #![tactic(auto)]
 
 mod answer;
@@ -15,7 +15,7 @@ mod digits;
 mod fault;
 mod step;
 
-pub use answer::put_reply;
+pub use answer::{put_kept_reply, put_reply};
 pub use block::{put_end, put_lane, put_par};
 pub use boot::{put_boot, put_refused};
 pub use fault::put_script_fault;

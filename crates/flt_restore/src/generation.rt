@@ -17,7 +17,7 @@ use crate::fault::StartFault;
 use crate::judging::{damaged, judge_mark};
 use crate::lengths::{judge_applications, judge_excess};
 use crate::reading::{Source, read_content};
-use flt_config::{Persist, ValidConfig, initial};
+use flt_config::{Persist, ValidConfig, put_initial};
 use flt_flash::Blocks;
 use flt_generation::{COMMIT_ID, Commit, END_PART, FIRST_PART};
 use flt_image::{get_block, get_commit, is_used};
@@ -78,7 +78,7 @@ fn read_parts<B: Blocks + Drop>(
     ensures reads { Reads (driver_of nvm.old) (driver_of nvm.new) }
     ensures table { table_of nvm.new ≡ table_of nvm.old }
 {
-    *out = initial(config);
+    put_initial(config, out);
     for id in FIRST_PART..END_PART {
         read_part(nvm, config, commit, id, out)?;
     }
@@ -104,7 +104,7 @@ fn read_generation<B: Blocks + Drop>(
 {
     match held {
         Held::Missing => {
-            *out = initial(config);
+            put_initial(config, out);
             Ok(None)
         }
         Held::Invalid => Err(damaged(COMMIT_ID)),

@@ -61,8 +61,12 @@ fn pages_beyond<B: Blocks + Drop>(nvm: &Nvm<B>, config: &ValidConfig, id: u16, i
     ensures pages { result ≡ beyond config.now (driver_of nvm.now).value (number_of id index) }
     ensures most { result ≤ 6 }
 {
+    let pages = found_pages(nvm.look_up(id, index));
+    if pages == 0 {
+        return 0;
+    }
     let number = id * NUMBERS_PER_BLOCK + index as u16;
-    found_pages(nvm.look_up(id, index)).saturating_sub(own_pages(config, number))
+    pages.saturating_sub(own_pages(config, number))
 }
 
 fn pages_beyond_of_part<B: Blocks + Drop>(nvm: &Nvm<B>, config: &ValidConfig, id: u16) -> u32

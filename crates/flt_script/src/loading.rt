@@ -107,7 +107,7 @@ fn load_lane(alloc: Global, count: u32, lane: u32) -> Result<Vec<Step>, AllocErr
     requires { lane < 4 }
     ensures { IfOk result (λ steps. steps.items ≡ load_lane count lane count) }
 {
-    let mut steps = Vec::new(alloc);
+    let mut steps = Vec::with_capacity(alloc, (count / LOAD_LANES) as usize + 1)?;
     let mut number = count;
     for place in 0..count {
         number = next_number(number);
@@ -133,6 +133,7 @@ fn load_lanes(alloc: Global, count: u32) -> Result<Vec<Vec<Step>>, AllocError>
 fn add_steps(life: &mut Vec<Part>, steps: Vec<Step>) -> Result<(), AllocError>
     ensures { OnOk result (parts_of life.new.items ≡ parts_of life.old.items ++ plain_parts steps.items) }
 {
+    life.reserve(steps.len())?;
     for step in steps {
         life.push(Part::One(step))?;
     }

@@ -17,7 +17,8 @@ use flt_turn::{Machine, Step, StepInto};
 /// lock's slot and back with each call.
 #[derive(Drop)]
 pub struct Guarded {
-    pub(crate) state: Box<UnitState>,
+    /// The unit without the functions of its table.
+    pub state: Box<UnitState>,
 }
 
 impl Machine for Guarded {

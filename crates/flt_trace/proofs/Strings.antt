@@ -1,10 +1,13 @@
 -- Strings in arrays, and members of objects.
-use Rattle.std.proofs.Common.{◌≡◌, ◌≢◌, ℕ, zero, suc, ◌+◌, ◌<◌, List, [], ◌∷◌, ◌++◌, length, drop, get_or, add-one, Bor, Some, None, refl, ap, sym, ◌∙◌, arith}
+use Rattle.std.proofs.Common.{◌≡◌, ◌≢◌, ℕ, zero, suc, ◌+◌, ◌<◌, List, [], ◌∷◌, ◌++◌, length, drop, append-nil, get_or, map, add-one, Bor, Some, None, refl, ap, sym, ◌∙◌, arith}
 use Rattle.std.proofs.Math.Seq.{drop-cons}
 use Rattle.serde_json.specs.Data.{Data, null, boolean, number, string, array, object, Items, no_items, item, Members}
 use Rattle.serde_json.specs.Events.{members_len}
 use Rattle.serde_json.specs.Find.{as_array, as_object, as_str}
-use Rattle.serde_json.specs.View.{view, items_view}
+use Rattle.std.specs.Prelude.{String}
+use Rattle.std.specs.declared.alloc.Global.{Global}
+use Rattle.std.specs.String.{string_bytes}
+use Rattle.serde_json.specs.View.{view, items_of, items_view}
 use Rattle.serde_json.specs.declared.value.Value.{Value}
 use Rattle.flt_trace.specs.Trace.{member_count, seen, strings}
 
@@ -81,3 +84,13 @@ pub seen_at : (texts : List (Bor (List ℕ))) (place : ℕ) (d : Bor (List ℕ))
 seen_at [] place d among = absurd (omega (arith, among))
 seen_at (text ∷ texts) zero d among = refl
 seen_at (text ∷ texts) (suc place) d among = seen_at texts place d (omega (arith, among))
+
+-- Values that are strings, in an array.
+pub array_strings : (texts : List (String Global)) → items_of (map (λ (text : String Global). string (string_bytes text)) texts) ≡ strings (map string_bytes texts)
+array_strings [] = refl
+array_strings (text ∷ texts) = ap (item (string (string_bytes text))) (array_strings texts)
+
+-- Where nothing is left, what was gone over is all.
+pub gone_over : {A : Type 0} (done rest all : List A) → done ++ rest ≡ all → length rest ≡ 0 → done ≡ all
+gone_over done [] all is none = sym (append-nil done) ∙ is
+gone_over done (x ∷ rest) all is none = absurd (omega (arith, none))

@@ -1,9 +1,12 @@
 -- A trace: the texts of a life, and the JSON in which they stand.
-use Rattle.std.specs.Prelude.{◌≡◌, ℕ, List, [], ◌∷◌, Some, map, codes}
+use Rattle.std.specs.Prelude.{◌≡◌, ℕ, List, [], ◌∷◌, ◌++◌, Some, map, codes}
+use Rattle.std.specs.String.{string_bytes}
 use denote.Ref.{Bor}
-use Rattle.serde_json.specs.Data.{Data, string, array, object, Items, no_items, item}
+use Rattle.serde_json.specs.Data.{Data, string, array, object, Items, no_items, item, no_members, member}
 use Rattle.serde_json.specs.Events.{members_len}
 use Rattle.serde_json.specs.Find.{get}
+use Rattle.serde_json.specs.Written.{compact_text}
+use Rattle.flt_trace.specs.declared.trace.LifeTexts.{LifeTexts}
 use Rattle.flt_trace.specs.declared.trace.Trace.{Trace}
 
 -- The script; the used blocks of the state with which the life began; the calls of its journal; and the answer to each.
@@ -43,3 +46,21 @@ texts_of trace = record {
   journal = seen trace.journal.items;
   answers = seen trace.answers.items;
 }
+
+-- The same of texts to be printed.
+abbrev pub own_texts : LifeTexts → Texts
+own_texts texts = record {
+  script = string_bytes texts.script;
+  base = map string_bytes texts.base.items;
+  journal = map string_bytes texts.journal.items;
+  answers = map string_bytes texts.answers.items;
+}
+
+-- The value that texts are printed as: the keys stand in their order.
+unfoldable pub trace_data : Texts → Data
+trace_data texts = object (member (codes "answers") (array (strings texts.answers)) (member (codes "base") (array (strings texts.base))
+    (member (codes "journal") (array (strings texts.journal)) (member (codes "script") (string texts.script) no_members))))
+
+-- The line that is printed: the value without a space, and the end of the line.
+unfoldable pub trace_line : Texts → List ℕ
+trace_line texts = compact_text (trace_data texts) ++ 10 ∷ []

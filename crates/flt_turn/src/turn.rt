@@ -103,6 +103,7 @@ impl<M: Machine> Turn<M> {
     ///
     /// The reply is the machine's answer after the operations before the call's place in the journal. `HistoryFull` is returned if
     /// and only if the seat has no call left; then nothing was changed, and the operation is given back.
+    #[inline(always)]
     pub fn call<R: Wait>(
         &self,
         rt: &R,

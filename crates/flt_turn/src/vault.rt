@@ -23,6 +23,7 @@ pub struct Vault<M: Machine> {
 
 impl<M: Machine> Vault<M> {
     // Makes the machine's step, and records it in room that the journal has reserved.
+    #[inline(always)]
     pub(crate) fn apply(
         &mut self,
         context: &M::Context,

@@ -44,7 +44,7 @@ fn ask(queue: &mut JobQueue, block: u8) -> QueueReply
 // 32 jobs wait, and not one more; each is taken once, in order, and done.
 #[test]
 fn forty_blocks(rt: HostRuntime) -> Result<(), Fail> {
-    let mut queue = JobQueue::new(40);
+    let mut queue = JobQueue::new(rt.alloc(), 40)?;
     for block in 0..32u8 {
         assert!(rt; post(&mut queue, false, block) == QueueReply::Accepted);
     }
@@ -65,7 +65,7 @@ fn forty_blocks(rt: HostRuntime) -> Result<(), Fail> {
 // An urgent job is taken before a standard one that was posted earlier.
 #[test]
 fn urgent_first(rt: HostRuntime) -> Result<(), Fail> {
-    let mut queue = JobQueue::new(40);
+    let mut queue = JobQueue::new(rt.alloc(), 40)?;
     assert!(rt; post(&mut queue, false, 0) == QueueReply::Accepted);
     assert!(rt; post(&mut queue, true, 1) == QueueReply::Accepted);
     assert!(rt; queue.apply(&QueueOp::Take) == QueueReply::Job(job(1, 1)));

@@ -1,4 +1,5 @@
-use Rattle.std.proofs.Common.{◌≡◌, ◌∙◌, ◌++◌, ℕ, List, Option, Ok, ap, subst}
+use Rattle.std.proofs.Common.{◌≡◌, ◌∙◌, ◌++◌, ℕ, List, [], ◌∷◌, Option, None, Ok, ap, subst}
+use Rattle.std.specs.Prelude.{codes}
 use Rattle.flt_flash.specs.Image.{sector_at}
 use Rattle.flt_generation.specs.Layout.{numbers}
 use Rattle.flt_pages.specs.Told.{TellsOrFails}
@@ -9,8 +10,17 @@ use Rattle.flt_fee.specs.declared.place.CurrentSector.{CurrentSector}
 use Rattle.flt_dump.specs.Copy.{state_of}
 use Rattle.flt_dump.specs.Listed.{IsListed}
 use Rattle.flt_dump.specs.Listing.{sector_line}
-use Rattle.flt_dump.proofs.Listings.{lists_either}
+use Rattle.flt_dump.proofs.Listings.{lists_either, lists_no_sector}
 use Rattle.flt_dump.proofs.listing.list.Goals as goal
+
+pub returns-in-Ok-None-clause-lines : goal.returns-in-Ok-None-clause-lines
+returns-in-Ok-None-clause-lines c =
+    let image = (state_of c.args.copy.now).image in
+    let tells : TellsOrFails {T = Option CurrentSector} (Ok None) (told_current (current c.args.used image)) =
+    subst (λ (o : Option CurrentSector). TellsOrFails {T = Option CurrentSector} (Ok o) (told_current (current c.args.used image))) c.in-Ok-None.field-0-is c.in-Ok-None.ensures.current in
+    c.in_ok-extend_from_slice-in-Ok-None.ensures.items
+    ∙ ap (λ (l : List ℕ). l ++ (codes "no sector" ++ 10 ∷ [])) c.new-out.ensures.items
+    ∙ lists_no_sector c.args.used numbers image tells
 
 pub returns-then-is_whole-clause-lines : goal.returns-then-is_whole-clause-lines
 returns-then-is_whole-clause-lines c =

@@ -4,7 +4,7 @@ use Rattle.flt_config.specs.Durable.{Fits}
 use Rattle.flt_life.specs.Room.{steps_of, told_in}
 use Rattle.flt_script.specs.Step.{store_lanes}
 use Rattle.flt_lane.specs.declared.lane.LaneWork.{LaneWork}
-use Rattle.flt_lane.specs.Block.{IsSplitOff}
+use Rattle.flt_fork.specs.Seats.{IsSplitOff}
 use Rattle.flt_lane.specs.Room.{all_calls, all_queued}
 use Rattle.flt_lane.proofs.Seats.{all_ready, all_start, all_steps_are, steps_of_length}
 use Rattle.flt_lane.proofs.StoreLanes.{has_run_lanes, have_run}

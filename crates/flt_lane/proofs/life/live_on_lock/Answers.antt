@@ -10,9 +10,8 @@ use Rattle.flt_life.specs.Room.{told_in}
 use Rattle.flt_shared.specs.Call.{Seat}
 use Rattle.flt_lane.specs.Room.{IsPartFor}
 use Rattle.flt_lane.specs.Runs.{QueueSeat}
-use Rattle.flt_lane.proofs.Endings.{fresh_of}
+use Rattle.flt_fork.proofs.Closing.{fresh_of, closed}
 use Rattle.flt_lane.proofs.LifeEnds.{IsOver, caused_of, holds_of, left_of, over_of, parts_for, same_blocks, turned_life}
-use Rattle.flt_lane.proofs.WholeLife.{closed}
 use Rattle.flt_lane.proofs.life.live_on_lock.Given as given
 use Rattle.flt_lane.proofs.life.live_on_lock.Goals as goal
 

@@ -6,7 +6,7 @@ use Rattle.flt_life.specs.Parts.{lanes_in}
 use Rattle.flt_life.specs.Room.{IsLaneRoom, steps_of}
 use Rattle.flt_lane.specs.Room.{IsBlockRoom}
 use Rattle.flt_lane.specs.declared.room.BlockRoom.{BlockRoom}
-use Rattle.flt_lane.proofs.Blocks.{all_left, all_right}
+use Rattle.flt_fork.proofs.Blocks.{all_left, all_right}
 use Rattle.flt_lane.proofs.Rooms.{AreTaken, taken_rooms}
 use Rattle.flt_lane.proofs.room.part_room.Goals as goal
 use Rattle.flt_lane.proofs.room.part_room.Goals.{In_ok-room-in-Lanes}

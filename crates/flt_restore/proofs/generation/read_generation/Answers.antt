@@ -14,7 +14,7 @@ use Rattle.flt_restore.proofs.generation.read_generation.Goals as goal
 pub returns-in-Missing-clause-told : goal.returns-in-Missing-clause-told
 returns-in-Missing-clause-told g c =
     let is : content_of c.args.held ≡ missing = ap content_of c.in-Missing.is in
-    ap (named c.args.config.now (driver_of c.args.nvm.now).value) is ∙ named_first c.args.config.now (driver_of c.args.nvm.now).value c.initial.result c.initial.ensures.value
+    ap (named c.args.config.now (driver_of c.args.nvm.now).value) is ∙ named_first c.args.config.now (driver_of c.args.nvm.now).value c.put_initial.new.state c.put_initial.ensures.value
 
 pub returns-in-Invalid-clause-refused : goal.returns-in-Invalid-clause-refused
 returns-in-Invalid-clause-refused g c =

@@ -18,8 +18,8 @@ is_ok same = ap the_ok same
 pub loop-id-init : goal.loop-id-init
 unfolding parts_read
 loop-id-init g c = record {
-  told = is_ok (sym c.initial.ensures.value);
-  states = c.initial.ensures.fits.states.one_each;
+  told = is_ok (sym c.put_initial.ensures.value);
+  states = c.put_initial.ensures.fits.states.one_each;
   reads = no_reads (driver_of c.args.nvm.now);
   table = refl;
 }

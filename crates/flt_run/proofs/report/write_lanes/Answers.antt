@@ -4,10 +4,10 @@ use Rattle.std.specs.Io.KnownBytes.{Appends}
 use Rattle.flt_io.specs.Sink.{AppendsFront}
 use Rattle.flt_script.specs.declared.step.Step.{Step}
 use Rattle.flt_life.specs.Room.{told_in}
-use Rattle.flt_run.specs.Left.{lane_steps}
+use Rattle.flt_run.specs.Left.{IsWritten, lane_steps}
 use Rattle.flt_run.specs.Report.{lane_text, lanes_text}
 use Rattle.flt_run.proofs.Taken.{always_on_err}
-use Rattle.flt_run.proofs.Written.{IsWritten, goes_on, stops, ends, lanes_left, lanes_more, lanes_end}
+use Rattle.flt_run.proofs.Written.{goes_on, stops, ends, lanes_left, lanes_more, lanes_end}
 use Rattle.flt_run.proofs.report.write_lanes.Goals as goal
 
 pub loop-index-preserved : goal.loop-index-preserved

@@ -1,8 +1,8 @@
 use Rattle.std.proofs.Common.{◌≤◌, map}
 use Rattle.flt_life.specs.Room.{told_in}
-use Rattle.flt_run.specs.Left.{lane_steps}
+use Rattle.flt_run.specs.Left.{IsWritten, lane_steps}
 use Rattle.flt_run.specs.Report.{lanes_text}
-use Rattle.flt_run.proofs.Written.{IsWritten, lanes_left}
+use Rattle.flt_run.proofs.Written.{lanes_left}
 use Rattle.flt_run.proofs.report.write_lanes.Given as goal
 
 abbrev pub invariant-loop-index : goal.invariant-loop-index

@@ -4,10 +4,10 @@ use Rattle.std.specs.Io.KnownBytes.{Appends}
 use Rattle.flt_io.specs.Sink.{AppendsFront}
 use Rattle.flt_script.specs.declared.step.Part.{Part}
 use Rattle.flt_script.specs.Part.{parts_of}
-use Rattle.flt_run.specs.Left.{lives_left}
+use Rattle.flt_run.specs.Left.{IsWritten, lives_left}
 use Rattle.flt_run.specs.Report.{life_text}
 use Rattle.flt_run.proofs.Taken.{always_on_err}
-use Rattle.flt_run.proofs.Written.{IsWritten, goes_on, stops, ends, lives_more, lives_end}
+use Rattle.flt_run.proofs.Written.{goes_on, stops, ends, lives_more, lives_end}
 use Rattle.flt_run.proofs.report.write_lives.Goals as goal
 
 pub loop-index-preserved : goal.loop-index-preserved

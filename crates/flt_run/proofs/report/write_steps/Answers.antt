@@ -5,7 +5,8 @@ use Rattle.flt_life.specs.Answers.{with_reply, reply_in, told_by}
 use Rattle.flt_report.specs.Answer.{step_line}
 use Rattle.flt_run.specs.Report.{lines_text}
 use Rattle.flt_run.proofs.Taken.{always_on_err}
-use Rattle.flt_run.proofs.Written.{IsWritten, starts, goes_on, stops, so_far, ends, steps_left, steps_more, steps_end}
+use Rattle.flt_run.specs.Left.{IsWritten}
+use Rattle.flt_run.proofs.Written.{starts, goes_on, stops, so_far, ends, steps_left, steps_more, steps_end}
 use Rattle.flt_run.proofs.report.write_steps.Goals as goal
 
 pub loop-index-init : goal.loop-index-init

@@ -1,7 +1,8 @@
 use Rattle.std.proofs.Common.{◌≤◌}
 use Rattle.flt_life.specs.Room.{told_in}
 use Rattle.flt_run.specs.Report.{lines_text}
-use Rattle.flt_run.proofs.Written.{IsWritten, steps_left}
+use Rattle.flt_run.specs.Left.{IsWritten}
+use Rattle.flt_run.proofs.Written.{steps_left}
 use Rattle.flt_run.proofs.report.write_steps.Given as goal
 
 abbrev pub invariant-loop-index : goal.invariant-loop-index

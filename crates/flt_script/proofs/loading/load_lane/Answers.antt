@@ -9,7 +9,7 @@ use Rattle.flt_script.proofs.loading.load_lane.Goals as goal
 
 pub loop-place-init : goal.loop-place-init
 unfolding load_number load_lane
-loop-place-init c = record { steps = c.new-steps.ensures.items; number = refl }
+loop-place-init c = record { steps = c.in_ok-steps.ensures.items; number = refl }
 
 pub loop-place-preserved : goal.loop-place-preserved
 loop-place-preserved c =

@@ -1,0 +1,209 @@
+// What is reported about a script.
+ghost use Rattle.std.specs.Prelude.{◌≡◌, ℕ, ◌<◌, ◌≤◌, ◌^◌, IfOk, IfSome, Some, option_map};
+ghost use Rattle.std.specs.Borrow.{Bor};
+ghost use Rattle.flt_model.specs.Frame.{did_value};
+ghost use Rattle.flt_did.specs.declared.signals.Signals.{Signals as SignalValues};
+ghost use Rattle.flt_did.specs.Serves.{Serves};
+ghost use Rattle.flt_did.specs.Table.{dids_of};
+ghost use Rattle.flt_flash.specs.Memory.{state_of};
+ghost use Rattle.flt_verdict.specs.Verdict.{due_of};
+ghost use Rattle.flt_report.specs.Boot.{script_fault_line};
+ghost use Rattle.flt_draw.specs.Drawing.{Draws, IsDrawn, IsDue, IsRunOf};
+
+use crate::command::Command;
+use crate::quiet::Quiet;
+use flt_config::ValidConfig;
+use flt_did::{DID_ROWS, DidTable, Reader};
+use flt_flash::FlashMem;
+use flt_io::{MemSource, ReadFault, Sink, Source, read_front};
+use flt_picture::{sectors, timeline};
+use flt_report::put_script_fault;
+use flt_run::{OpenGate, Outcome, run};
+use flt_script::{ParseFault, Script, ScriptFault, parse};
+use flt_verdict::{Verdict, tell};
+use std::alloc::{AllocError, Global};
+use std::marker::Sync;
+use std::sync::Wait;
+use std::thread::Threads;
+
+/// One byte more than a script may have.
+const MOST: usize = 1_048_577;
+
+/// The status where the bytes are no script.
+const REFUSED: u8 = 2;
+
+/// The status where the source failed.
+const READ_FAULT: u8 = 3;
+
+/// The table of data identifiers, once for the run and once for the machine that makes its calls again.
+#[derive(Drop)]
+pub(crate) struct Tables {
+    pub(crate) run: DidTable<DID_ROWS>,
+    pub(crate) replay: DidTable<DID_ROWS>,
+    ghost same: { dids_of replay ≡ dids_of run },
+}
+
+impl Tables {
+    /// These tables with a data identifier of 1 to 8 bytes, or nothing if they have it or are full. Its function must be callable on all
+    /// signals, return the specified value, and fit the width.
+    pub(crate) fn add(self, id: u16, width: u8, read: Reader) -> Option<Tables>
+        requires width { (1 ≤ width) × (width ≤ 8) }
+        requires callable { (s : Bor SignalValues) → Reader.pre read s }
+        requires value { (s : Bor SignalValues) (r : ℕ) → Reader.post read s r → did_value id s.now.values ≡ Some r }
+        requires narrow { (s : Bor SignalValues) (r : ℕ) → Reader.post read s r → r < 256 ^ width }
+    {
+        let Tables {
+            mut run,
+            mut replay,
+        } = self;
+        run.add(id, width, read).ok()?;
+        replay.add(id, width, read).ok()?;
+        Some(Tables { run, replay })
+    }
+}
+
+/// Runs a script.
+fn run_bytes<R: Threads + Wait + Sync>(
+    rt: &R,
+    alloc: Global,
+    bytes: Vec<u8>,
+    flash: FlashMem,
+    dids: DidTable<DID_ROWS>,
+) -> Result<Outcome<FlashMem>, AllocError>
+    requires pages { (state_of flash).pages ≡ 1024 }
+    requires boots { 256 ≤ (state_of flash).bench.boots_left }
+    requires unarmed { (state_of flash).bench.armed ≡ 0 }
+    ensures { IfOk result (λ outcome. IsRunOf (dids_of dids) (state_of flash) bytes.items outcome.status outcome.lives.items) }
+{
+    let mut words = Vec::new(alloc);
+    words.push(String::from_str(alloc, "run")?)?;
+    let mut source = MemSource::new(bytes, Vec::new(alloc));
+    Ok(run(
+        rt,
+        alloc,
+        &words,
+        &mut source,
+        &mut Quiet,
+        flash,
+        dids,
+        &OpenGate,
+    ))
+}
+
+/// The picture of what a run made.
+fn picture_of(
+    alloc: Global,
+    command: Command,
+    config: &ValidConfig,
+    dids: DidTable<DID_ROWS>,
+    outcome: &Outcome<FlashMem>,
+) -> Result<String, AllocError>
+    requires { Serves (dids_of dids) config.now.events.items }
+{
+    match command {
+        Command::Timeline => timeline(alloc, config, dids, &outcome.lives),
+        Command::Sectors => sectors(alloc, config, &outcome.bench),
+    }
+}
+
+/// What is reported about bytes that are not a script.
+fn script_verdict(alloc: Global, fault: &ScriptFault) -> Result<Verdict, AllocError>
+    ensures { IfOk result (λ verdict. due_of verdict ≡ record { status = 2; text = script_fault_line fault.now }) }
+{
+    let mut text = Vec::new(alloc);
+    put_script_fault(fault, &mut text)?;
+    Ok(Verdict {
+        status: REFUSED,
+        text,
+    })
+}
+
+/// What is reported about bytes.
+fn judge<R: Threads + Wait + Sync>(
+    rt: &R,
+    alloc: Global,
+    command: Command,
+    bytes: Vec<u8>,
+    flash: FlashMem,
+    tables: Tables,
+) -> Result<Verdict, AllocError>
+    requires pages { (state_of flash).pages ≡ 1024 }
+    requires boots { 256 ≤ (state_of flash).bench.boots_left }
+    requires unarmed { (state_of flash).bench.armed ≡ 0 }
+    ensures { IfOk result (λ verdict. IsDrawn (dids_of tables.run) (state_of flash) bytes.items (due_of verdict)) }
+{
+    let script = match parse(alloc, &bytes, &tables.run) {
+        Ok(script) => script,
+        Err(ParseFault::Memory) => return Err(AllocError),
+        Err(ParseFault::At(fault)) => return script_verdict(alloc, &fault),
+    };
+    let Script { config, .. } = script;
+    let Tables { run, replay, .. } = tables;
+    let outcome = run_bytes(rt, alloc, bytes, flash, run)?;
+    let status = outcome.status;
+    // No other status comes, unless memory ran out: the bytes are a script, and neither stream fails.
+    if status != 0 && status != 5 && status != 6 && status != 8 {
+        return Err(AllocError);
+    }
+    let picture = picture_of(alloc, command, &config, replay, &outcome)?;
+    Ok(Verdict {
+        status,
+        text: picture.into_bytes(),
+    })
+}
+
+/// What is reported about the rest of a source; nothing if memory runs out.
+fn reckon<R: Threads + Wait + Sync, S: Source>(
+    rt: &R,
+    alloc: Global,
+    command: Command,
+    source: &mut S,
+    flash: FlashMem,
+    tables: Tables,
+) -> Option<Verdict>
+    requires pages { (state_of flash).pages ≡ 1024 }
+    requires boots { 256 ≤ (state_of flash).bench.boots_left }
+    requires unarmed { (state_of flash).bench.armed ≡ 0 }
+    ensures { IfSome (option_map due_of result) (IsDue (dids_of tables.run) (state_of flash) (record {
+      left = S.left source.old;
+      left_after = S.left source.new;
+      faults = S.faults source.old;
+      faults_after = S.faults source.new;
+    })) }
+{
+    match read_front(alloc, MOST, source) {
+        Ok(bytes) => judge(rt, alloc, command, bytes, flash, tables).ok(),
+        Err(ReadFault::Memory) => None,
+        Err(ReadFault::Failed) => Verdict::line(alloc, READ_FAULT, b"read fault").ok(),
+    }
+}
+
+/// Runs the script that a source has over a flash, draws what was asked of that, and answers the exit status: that of `run`. A picture is
+/// written with 0, 5, 6 and 8; with 2 and 3 the line of `run`; with 4, in place of another, the sink failed; with 7 memory ran out.
+pub(crate) fn draw<R: Threads + Wait + Sync, S: Source, K: Sink>(
+    rt: &R,
+    alloc: Global,
+    command: Command,
+    source: &mut S,
+    sink: &mut K,
+    flash: FlashMem,
+    tables: Tables,
+) -> u8
+    requires pages { (state_of flash).pages ≡ 1024 }
+    requires boots { 256 ≤ (state_of flash).bench.boots_left }
+    requires unarmed { (state_of flash).bench.armed ≡ 0 }
+    ensures { Draws (dids_of tables.run) (state_of flash) (record {
+      left = S.left source.old;
+      left_after = S.left source.new;
+      faults = S.faults source.old;
+      faults_after = S.faults source.new;
+    }) (record {
+      held = K.held sink.old;
+      held_after = K.held sink.new;
+      faults = K.faults sink.old;
+      faults_after = K.faults sink.new;
+    }) result }
+{
+    let verdict = reckon(rt, alloc, command, source, flash, tables);
+    tell(verdict, sink)
+}

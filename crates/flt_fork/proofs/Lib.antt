@@ -1,0 +1,12 @@
+pub mod Mixings
+pub mod Makings
+pub mod Rising
+pub mod Journals
+pub mod Chains
+pub mod Knowing
+pub mod Parts
+pub mod Blocks
+pub mod PartWays
+pub mod BlockRuns
+pub mod Seats
+pub mod Closing

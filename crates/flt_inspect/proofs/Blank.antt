@@ -1,0 +1,39 @@
+-- A run over a blank flash, as the streams and the flash of it tell.
+use Rattle.std.proofs.Common.{◌≡◌, ◌≢◌, ℕ, List, [], ◌∷◌, Option, Some, subst}
+use Rattle.std.specs.Prelude.{codes}
+use Rattle.flt_config.specs.declared.config.DidUse.{DidUse}
+use Rattle.flt_flash.specs.Memory.{state_of}
+use Rattle.flt_flash.specs.State.{FlashState}
+use Rattle.flt_flash.specs.declared.memory.FlashMem.{FlashMem}
+use Rattle.flt_lives.specs.Media.{sectors}
+use Rattle.flt_run.specs.Command.{command_of}
+use Rattle.flt_run.specs.declared.running.Outcome.{Outcome}
+use Rattle.flt_run.specs.Ending.{Inside, Runs}
+use Rattle.flt_inspect.specs.Traced.{RunsOnBlank, blank_flash, no_outside}
+
+-- The inside of a run that reads these bytes, over a flash.
+abbrev pub inside_over : List ℕ → Option (List ℕ) → FlashState → FlashMem → Inside
+inside_over bytes left device flash = record {
+  left = Some bytes;
+  left_after = left;
+  read_faults = 0;
+  read_faults_after = 0;
+  media = sectors;
+  device = device;
+  device_after = state_of flash;
+}
+
+module _ (dids : List DidUse) (left : Option (List ℕ)) (outcome : Outcome FlashMem) where
+  abbrev pub RunsOver : List ℕ → FlashState → List (List ℕ) → Type 0
+  RunsOver bytes device words = Runs dids (inside_over bytes left device outcome.bench) no_outside (command_of words) outcome.status outcome.lives.items
+
+  pub runs_on_blank : (held bytes : List ℕ) (device : FlashState) (words : List (List ℕ)) → held ≡ bytes → device ≡ blank_flash → words ≡ codes "run" ∷ []
+      → RunsOver held device words → outcome.status ≢ 7 → RunsOnBlank dids bytes outcome
+  runs_on_blank held bytes device words held_is device_is words_are runs memory =
+      let by_words = subst (λ (w : List (List ℕ)). RunsOver held device w) words_are runs in
+      let by_device = subst (λ (d : FlashState). RunsOver held d (codes "run" ∷ [])) device_is by_words in
+      record {
+        left = left;
+        runs = subst (λ (b : List ℕ). RunsOver b blank_flash (codes "run" ∷ [])) held_is by_device;
+        memory = memory;
+      }

@@ -1,0 +1,47 @@
+// The streams of a run that is traced: neither fails.
+ghost use Rattle.std.specs.Prelude.{◌≡◌, Some, None};
+ghost use Rattle.flt_inspect.specs.Streams.{bytes_in};
+
+use flt_io::{Failed, Sink, Source};
+
+/// A source of bytes in memory, which never fails.
+#[derive(Drop)]
+pub(crate) struct Held<'a> {
+    left: &'a [u8],
+}
+
+impl<'a> Held<'a> {
+    /// A source of these bytes.
+    pub(crate) fn new(bytes: &'a [u8]) -> Held<'a>
+        ensures { bytes_in result ≡ bytes.now }
+    {
+        Held { left: bytes }
+    }
+}
+
+impl Source for Held<'_> {
+    ghost left = { λ s. Some (bytes_in s) };
+
+    ghost faults = { λ s. 0 };
+
+    fn pull(&mut self, out: &mut [u8]) -> Result<usize, Failed> {
+        let count = self.left.len().min(out.len());
+        out[..count].copy_from_slice(&self.left[..count]);
+        self.left = &self.left[count..];
+        Ok(count)
+    }
+}
+
+/// A sink that takes every piece, keeps none, and never fails.
+#[derive(Drop)]
+pub(crate) struct Nowhere;
+
+impl Sink for Nowhere {
+    ghost held = { λ s. None };
+
+    ghost faults = { λ s. 0 };
+
+    fn push(&mut self, _piece: &[u8]) -> Result<(), Failed> {
+        Ok(())
+    }
+}

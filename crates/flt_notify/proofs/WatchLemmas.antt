@@ -1,0 +1,28 @@
+-- A watched machine goes on standing for its base and calls when a call's changes are told.
+use Rattle.std.proofs.Common.{◌≡◌, ◌∙◌, ℕ, ◌+◌, ◌-◌, ◌^◌, List, ◌∷◌, min, arith, ap}
+use Rattle.std.specs.Prelude.{fold}
+use Rattle.flt_model.specs.Life.{Life, History}
+use Rattle.flt_model.specs.declared.call.Op.{Op}
+use Rattle.flt_dcm.specs.Unit.{Stands, UnitView}
+use Rattle.flt_notify.specs.Changes.{changes_from, statuses_after}
+use Rattle.flt_notify.specs.Value.{next_values, values_after}
+use Rattle.flt_notify.specs.Watch.{IsWatching}
+use Rattle.flt_notify.proofs.ValueLemmas.{values_follow}
+
+pub watching_follows : (life : Life) (past : History) (op : Op) (old new : UnitView) (values now before : List ℕ) (calls later : ℕ)
+    → IsWatching life past old values calls
+    → Stands life (op ∷ past) new
+    → before ≡ statuses_after life past
+    → now ≡ fold (next_values 0) values (changes_from calls 0 before (statuses_after life (op ∷ past)))
+    → later ≡ min (calls + 1) (2 ^ 32 - 1)
+    → IsWatching life (op ∷ past) new now later
+watching_follows life past op old new values now before calls later watched stands bytes told counted =
+    let after = statuses_after life (op ∷ past) in
+    record {
+      unit_stands = stands;
+      values_stand = told
+          ∙ ap (λ vs. fold (next_values 0) vs (changes_from calls 0 before after)) watched.values_stand
+          ∙ ap (λ bs. fold (next_values 0) (values_after life past) (changes_from calls 0 bs after)) bytes
+          ∙ values_follow life past op calls;
+      counted = omega (arith, counted, watched.counted);
+    }

@@ -1,0 +1,93 @@
+//! The values of the three kinds.
+ghost use Rattle.std.specs.Prelude.{◌≡◌, ◌<◌, ◌≤◌, ◌^◌, ℕ, All, length, replicate, slice_get, slice_set, slice_index_or, fold};
+ghost use Rattle.flt_notify.specs.Changes.{changes_from, statuses};
+ghost use Rattle.flt_notify.specs.Value.{IsInRange, next_values};
+
+use crate::change::Change;
+use crate::kinds::KINDS;
+use crate::subscribers::Subscribers;
+use flt_config::EventState;
+use std::marker::Model;
+
+/// The value of each kind, from 0 to 2^32 - 1, by its number.
+#[derive(Drop)]
+pub(crate) struct Values {
+    by_kind: [u64; KINDS],
+    ghost one_each: { length by_kind ≡ 3 },
+    ghost small: { All (λ v. v < 2 ^ 32) by_kind },
+}
+
+impl Model for Values {
+    ghost use Rattle.std.specs.Prelude.{ℕ, List, ◌≡◌, length};
+
+    ghost Value = { List ℕ };
+
+    ghost view = { λ v. v.by_kind };
+
+    ghost invariant = { λ v. length v.by_kind ≡ 3 };
+}
+
+impl Values {
+    /// Each at its beginning.
+    pub(crate) fn zero() -> Values
+        ensures { result ≡ replicate 3 0 }
+    {
+        Values {
+            by_kind: [0; KINDS],
+        }
+    }
+
+    /// Puts the value of a kind at its beginning.
+    pub(crate) fn start(&mut self, kind: u8)
+        requires { kind ≤ 2 }
+        ensures { self.new ≡ slice_set self.old kind 0 }
+    {
+        self.by_kind[kind as usize] = 0;
+    }
+
+    /// The value of a kind.
+    pub(crate) fn of(&self, kind: u8) -> u64
+        requires { kind ≤ 2 }
+        ensures { result ≡ slice_index_or self.now kind 0 }
+    {
+        self.by_kind[kind as usize]
+    }
+
+    /// Takes each value through a change, by its subscriber.
+    fn take<const ROWS: usize>(&mut self, subscribers: &Subscribers<ROWS>, change: Change)
+        requires { IsInRange change }
+        ensures { self.new ≡ next_values 0 self.old change }
+    {
+        let [v0, v1, v2] = self.by_kind;
+        self.by_kind = [
+            subscribers.tell(0, v0, change),
+            subscribers.tell(1, v1, change),
+            subscribers.tell(2, v2, change),
+        ];
+    }
+
+    /// Tells each subscriber each change of a call at a place of the journal, in the order of the events' numbers.
+    pub(crate) fn tell_changes<const ROWS: usize>(
+        &mut self,
+        subscribers: &Subscribers<ROWS>,
+        place: u32,
+        before: &[u8],
+        states: &[EventState],
+    )
+        requires one_each { length before.now ≡ length states.now }
+        requires events { length before.now ≤ 65536 }
+        ensures { self.new ≡ fold (next_values 0) self.old (changes_from place 0 before.now (statuses states.now)) }
+    {
+        for event in 0..before.len() {
+            let change = Change {
+                place,
+                event: event as u16,
+                before: before[event],
+                after: states[event].status,
+            };
+            if change.before != change.after {
+                self.take(subscribers, change);
+            }
+        }
+    }
+}

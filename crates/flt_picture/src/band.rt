@@ -1,0 +1,130 @@
+// One event over all lives: what each column shows of it.
+use crate::columns::Columns;
+use crate::marks::{MARKS, Mark, begins, confirms, enters, leaving};
+use crate::replay::Machine;
+use flt_config::ValidConfig;
+use flt_model::{Op, Shown};
+use std::alloc::{AllocError, Global};
+
+/// What a column shows of an event.
+#[derive(Clone, Copy)]
+pub(crate) struct Moment {
+    /// Whether the machine runs in it.
+    pub(crate) is_on: bool,
+    /// The bits of the status that are set somewhere in it.
+    pub(crate) status: u8,
+    /// The least, the greatest and the last fault detection counter.
+    pub(crate) low: i8,
+    pub(crate) high: i8,
+    pub(crate) last: i8,
+    /// How many marks of each kind stand in it.
+    pub(crate) marks: [u32; MARKS],
+}
+
+/// A column in which the machine does not run.
+const OFF: Moment = Moment {
+    is_on: false,
+    status: 0,
+    low: 0,
+    high: 0,
+    last: 0,
+    marks: [0; MARKS],
+};
+
+impl Moment {
+    /// Notes what is shown of the event.
+    fn note(&mut self, shown: &Shown) {
+        let fdc = shown.fdc;
+        self.low = if self.is_on { self.low.min(fdc) } else { fdc };
+        self.high = if self.is_on { self.high.max(fdc) } else { fdc };
+        self.last = fdc;
+        self.status |= shown.status;
+        self.is_on = true;
+    }
+
+    /// How many marks of a kind stand in it.
+    pub(crate) fn count(&self, mark: Mark) -> u32 {
+        self.marks[mark.index()]
+    }
+
+    /// Adds a mark.
+    fn add(&mut self, mark: Mark) {
+        let count = self.count(mark);
+        self.marks[mark.index()] = count.saturating_add(1);
+    }
+
+    /// Adds the marks of a call, by what was shown before it and after it.
+    fn mark(&mut self, op: &Op, cycle: u8, before: &Shown, after: &Shown) {
+        if begins(op, cycle) {
+            self.add(Mark::Cycle);
+        }
+        if enters(before, after) {
+            self.add(Mark::Enters);
+        }
+        if confirms(before, after) {
+            self.add(Mark::Confirmed);
+        }
+        if let Some(mark) = leaving(op, before, after) {
+            self.add(mark);
+        }
+    }
+}
+
+/// An event, and what each column shows of it.
+#[derive(Drop)]
+pub(crate) struct Band {
+    pub(crate) event: u16,
+    /// Its DTC.
+    pub(crate) dtc: u32,
+    /// Its operation cycle.
+    cycle: u8,
+    /// What was shown of it last.
+    shown: Option<Shown>,
+    /// One for each column.
+    pub(crate) moments: Vec<Moment>,
+}
+
+impl Band {
+    /// What is shown of the event as a life begins.
+    pub(crate) fn rest(&mut self, machine: &mut Machine, column: usize) {
+        self.shown = machine.show(self.event);
+        if let Some(shown) = &self.shown
+            && let Some(moment) = self.moments.get_mut(column)
+        {
+            moment.note(shown);
+        }
+    }
+
+    /// What a call that was made makes of the event.
+    pub(crate) fn follow(&mut self, machine: &mut Machine, op: &Op, column: usize) {
+        let before = self.shown;
+        self.rest(machine, column);
+        if let (Some(before), Some(after)) = (&before, &self.shown)
+            && let Some(moment) = self.moments.get_mut(column)
+        {
+            moment.mark(op, self.cycle, before, after);
+        }
+    }
+}
+
+/// The bands of the first events of a configuration, before any call, `most` at most.
+pub(crate) fn bands_of(
+    alloc: Global,
+    config: &ValidConfig,
+    columns: &Columns,
+    most: usize,
+) -> Result<Vec<Band>, AllocError> {
+    let mut bands = Vec::new(alloc);
+    let mut number = 0;
+    for event in config.config().events.iter().take(most) {
+        bands.push(Band {
+            event: number,
+            dtc: event.dtc,
+            cycle: event.cycle,
+            shown: None,
+            moments: vec![in alloc; OFF; columns.spans.len()]?,
+        })?;
+        number = number.saturating_add(1);
+    }
+    Ok(bands)
+}

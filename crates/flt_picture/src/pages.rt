@@ -1,0 +1,363 @@
+// The picture of the two sectors of a flash.
+ghost use Rattle.std.specs.Prelude.{◌≤◌};
+
+use crate::cells::{Cell, Log, Record, page_at, read_log};
+use crate::layout::{
+    BLANK_HEIGHT, CELL_HEIGHT, CELL_LETTERS, CELL_WIDTH, CELLS, GAP, LABEL_Y, MARGIN, NOTE_Y, ROW,
+    ROWS_Y, SECTORS_Y, TITLE_Y,
+};
+use crate::svg::{Area, Svg};
+use flt_config::ValidConfig;
+use flt_fee::current_sector;
+use flt_flash::{BLANK_PAGE, Flash, FlashMem};
+use flt_generation::{
+    COMMIT_ID, COMMIT_LENGTH, END_PART, FIRST_APPLICATION, FIRST_PART, MARK_ID, NUMBERS_PER_BLOCK,
+    Part,
+};
+use flt_image::{get_commit, part_of};
+use std::alloc::{AllocError, Global};
+use std::fmt::Write;
+
+/// What the colours say.
+const NOTE: &str =
+    "blue: a gate; green: the current record of its block; grey: an older one, or blank; red: torn, or incomplete";
+
+/// A flash on which nothing fails, with the first pages of another one's sectors.
+fn copy_of(alloc: Global, flash: &FlashMem, used: u16) -> Result<FlashMem, AllocError>
+    requires least { 2 ≤ used }
+    requires most { used ≤ 1024 }
+{
+    let mut pages = vec![in alloc; BLANK_PAGE; 2 * used as usize]?;
+    for (index, bytes) in pages.iter_mut().enumerate() {
+        let sector = if index < used as usize { 0 } else { 1 };
+        let page = index % used as usize;
+        if let Some(found) = page_at(flash, sector, page as u16) {
+            *bytes = *found;
+        }
+    }
+    FlashMem::of(alloc, pages, 0)
+}
+
+/// The current sector, if there is one.
+fn current_of(flash: &mut FlashMem, used: u16) -> Option<u8> {
+    if used < 2 || flash.pages() < used {
+        return None;
+    }
+    match current_sector(flash, used) {
+        Ok(Some(at)) => Some(at.sector),
+        Ok(None) | Err(_) => None,
+    }
+}
+
+/// The name of the block that has a number of the driver.
+fn block_name(alloc: Global, number: u16) -> Result<String, AllocError> {
+    let id = number / NUMBERS_PER_BLOCK;
+    let copy = number % NUMBERS_PER_BLOCK;
+    if id == MARK_ID {
+        return format!(in alloc; "mark");
+    }
+    if id == COMMIT_ID {
+        let copy = copy + 1;
+        return format!(in alloc; "commit {copy}");
+    }
+    if FIRST_APPLICATION <= id {
+        let block = id - FIRST_APPLICATION;
+        return format!(in alloc; "block {block}");
+    }
+    let index = if copy == 0 { 'a' } else { 'b' };
+    if id < FIRST_PART || END_PART <= id {
+        return format!(in alloc; "{number}");
+    }
+    match part_of(id) {
+        Part::Summary => format!(in alloc; "summary {index}"),
+        Part::States { first } => format!(in alloc; "state{first}{index}"),
+        Part::Entry { place } => format!(in alloc; "entry {place}{index}"),
+    }
+}
+
+/// The generation that a record names, if it is a copy of the commit.
+fn generation_of(
+    config: &ValidConfig,
+    flash: &FlashMem,
+    sector: u8,
+    record: &Record,
+) -> Option<u32> {
+    let length = record.length as usize;
+    if record.block / NUMBERS_PER_BLOCK != COMMIT_ID || !record.complete || COMMIT_LENGTH < length {
+        return None;
+    }
+    let bytes = page_at(flash, sector, record.page.saturating_add(1))?;
+    let commit = get_commit(config, bytes.get(..length)?)?;
+    Some(commit.generation)
+}
+
+/// Whether each cell of a row is blank.
+fn is_blank(cells: &[Cell]) -> bool {
+    cells.iter().all(|cell| *cell == Cell::Blank)
+}
+
+/// How high a row of cells is.
+fn row_height(cells: &[Cell]) -> u32 {
+    if is_blank(cells) {
+        BLANK_HEIGHT
+    } else {
+        CELL_HEIGHT
+    }
+}
+
+/// A word and a number, or the word alone where a cell is too narrow for both.
+fn numbered(alloc: Global, word: &str, number: u32) -> Result<String, AllocError> {
+    let label = format!(in alloc; "{word} {number}")?;
+    if label.len() <= CELL_LETTERS {
+        return Ok(label);
+    }
+    String::from_str(alloc, word)
+}
+
+/// How a cell is drawn.
+#[derive(Drop)]
+struct Look {
+    class: &'static str,
+    label: String,
+    title: String,
+}
+
+/// A sector as it is drawn.
+#[derive(Drop)]
+struct Sector<'a> {
+    alloc: Global,
+    config: &'a ValidConfig,
+    flash: &'a FlashMem,
+    number: u8,
+    is_current: bool,
+    log: &'a Log,
+}
+
+impl Sector<'_> {
+    /// How a page of a record looks.
+    fn record_look(&self, index: usize, label: String, what: &str) -> Result<Look, AllocError> {
+        let alloc = self.alloc;
+        let Some(record) = self.log.records.get(index) else {
+            return Ok(Look {
+                class: "damaged",
+                label,
+                title: String::new(alloc),
+            });
+        };
+        let name = block_name(alloc, record.block)?;
+        let length = record.length;
+        let mut title = format!(in alloc; "{what} of {name}, {length} bytes")?;
+        if let Some(generation) = generation_of(self.config, self.flash, self.number, record) {
+            write!(title, ", generation {generation}")?;
+        }
+        if !record.valid {
+            title.push_str(", invalid")?;
+        }
+        let class = if !record.complete {
+            title.push_str(", incomplete")?;
+            "torn"
+        } else if self.is_current && self.log.is_last(index) {
+            title.push_str(", current")?;
+            "current"
+        } else {
+            "older"
+        };
+        Ok(Look {
+            class,
+            label,
+            title,
+        })
+    }
+
+    /// What stands in the cell of the bytes of a record.
+    fn bytes_label(&self, index: usize) -> Result<String, AllocError> {
+        let generation = self.log.records.get(index).and_then(|record| generation_of(
+            self.config,
+            self.flash,
+            self.number,
+            record,
+        ));
+        match generation {
+            Some(generation) => numbered(self.alloc, "gen", generation),
+            None => format!(in self.alloc; "bytes"),
+        }
+    }
+
+    /// How a cell looks.
+    fn look(&self, cell: Cell) -> Result<Look, AllocError> {
+        let alloc = self.alloc;
+        Ok(match cell {
+            Cell::Start { sequence } => Look {
+                class: "gate",
+                label: numbered(alloc, "start", sequence)?,
+                title: format!(in alloc; "start gate, sequence {sequence}")?,
+            },
+            Cell::Active { sequence } => Look {
+                class: "gate",
+                label: numbered(alloc, "active", sequence)?,
+                title: format!(in alloc; "active gate, sequence {sequence}")?,
+            },
+            Cell::Head { record } => {
+                let label = match self.log.records.get(record) {
+                    Some(found) => block_name(alloc, found.block)?,
+                    None => String::new(alloc),
+                };
+                self.record_look(record, label, "head")?
+            }
+            Cell::Bytes { record } => {
+                let label = self.bytes_label(record)?;
+                self.record_look(record, label, "bytes")?
+            }
+            Cell::Gate { record } => {
+                let label = format!(in alloc; "gate")?;
+                self.record_look(record, label, "gate")?
+            }
+            Cell::Torn => Look {
+                class: "torn",
+                label: format!(in alloc; "torn")?,
+                title: format!(in alloc; "torn")?,
+            },
+            Cell::Blank => Look {
+                class: "older",
+                label: String::new(alloc),
+                title: format!(in alloc; "blank")?,
+            },
+            Cell::Damaged => Look {
+                class: "damaged",
+                label: format!(in alloc; "damaged")?,
+                title: format!(in alloc; "damaged")?,
+            },
+        })
+    }
+
+    /// Draws a row of blank cells.
+    fn draw_blank(
+        &self,
+        svg: &mut Svg,
+        count: usize,
+        first: usize,
+        y: u32,
+    ) -> Result<(), AllocError> {
+        let width = CELL_WIDTH - GAP;
+        let height = BLANK_HEIGHT - GAP;
+        let mut path = String::new(self.alloc);
+        let mut x = MARGIN;
+        for _ in 0..count {
+            write!(path, "M{x} {y}h{width}v{height}h-{width}z")?;
+            x = x.saturating_add(CELL_WIDTH);
+        }
+        let last = first.saturating_add(count).saturating_sub(1);
+        let title = format!(in self.alloc; "pages {first} to {last}: blank")?;
+        svg.path("older", &path, &title)
+    }
+
+    /// Draws a row of cells.
+    fn draw_row(
+        &self,
+        svg: &mut Svg,
+        cells: &[Cell],
+        first: usize,
+        y: u32,
+    ) -> Result<(), AllocError> {
+        if is_blank(cells) {
+            return self.draw_blank(svg, cells.len(), first, y);
+        }
+        let mut x = MARGIN;
+        let mut page = first;
+        for cell in cells {
+            let Look {
+                class,
+                label,
+                title,
+            } = self.look(*cell)?;
+            let title = format!(in self.alloc; "page {page}: {title}")?;
+            let area = Area {
+                x,
+                y,
+                width: CELL_WIDTH - GAP,
+                height: CELL_HEIGHT - GAP,
+            };
+            svg.area(class, area, &title)?;
+            if !label.is_empty() {
+                let middle = x.saturating_add((CELL_WIDTH - GAP) / 2);
+                svg.text("middle", middle, y.saturating_add(LABEL_Y), &label)?;
+            }
+            x = x.saturating_add(CELL_WIDTH);
+            page = page.saturating_add(1);
+        }
+        Ok(())
+    }
+
+    /// Draws the sector below a height, and answers where it ends.
+    fn draw(&self, svg: &mut Svg, top: u32) -> Result<u32, AllocError> {
+        let number = self.number;
+        let wear = if number < 2 {
+            self.flash.wear(number)
+        } else {
+            0
+        };
+        let state = if self.is_current {
+            "current"
+        } else {
+            "not current"
+        };
+        let title = format!(in self.alloc; "sector {number}: {state}, wear {wear}")?;
+        svg.text("title", MARGIN, top, &title)?;
+        let mut y = top.saturating_add(ROWS_Y);
+        let mut first = 0;
+        for cells in self.log.cells.chunks(CELLS) {
+            self.draw_row(svg, cells, first, y)?;
+            y = y.saturating_add(row_height(cells));
+            first = first.saturating_add(cells.len());
+        }
+        Ok(y)
+    }
+}
+
+/// How high a sector is with its title.
+fn log_height(log: &Log) -> u32 {
+    log.cells.chunks(CELLS).fold(
+        ROWS_Y,
+        |height: u32, cells| height.saturating_add(row_height(cells)),
+    )
+}
+
+/// Draws the sectors of a flash, a cell a page of those that a configuration uses: its gates, the records of the log with the names of their
+/// blocks, which of them are current, the generation that each copy of the commit names, and how often each sector was erased.
+///
+/// # Errors
+///
+/// `AllocError` where memory is wanting.
+pub fn sectors(
+    alloc: Global,
+    config: &ValidConfig,
+    flash: &FlashMem,
+) -> Result<String, AllocError> {
+    let used = config.config().pages.clamp(2, 1024);
+    let mut copy = copy_of(alloc, flash, used)?;
+    let current = current_of(&mut copy, used);
+    let first = read_log(alloc, &mut copy, 0, used)?;
+    let second = read_log(alloc, &mut copy, 1, used)?;
+    let height = SECTORS_Y
+        .saturating_add(log_height(&first))
+        .saturating_add(log_height(&second))
+        .saturating_add(3 * ROW);
+    let operations = flash.operations();
+    let title = format!(in alloc; "sectors: {used} pages each, {operations} operations")?;
+    let mut svg = Svg::new(alloc, height, &title)?;
+    svg.text("title", MARGIN, TITLE_Y, &title)?;
+    svg.text("plain", MARGIN, NOTE_Y, NOTE)?;
+    let mut top = SECTORS_Y;
+    for (number, log) in [(0u8, &first), (1, &second)] {
+        let sector = Sector {
+            alloc,
+            config,
+            flash,
+            number,
+            is_current: current == Some(number),
+            log,
+        };
+        top = sector.draw(&mut svg, top)?.saturating_add(2 * ROW);
+    }
+    svg.end()
+}

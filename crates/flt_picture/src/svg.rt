@@ -1,0 +1,123 @@
+// The text of an SVG.
+use crate::layout::{BASE, LETTER_HEIGHT, WIDTH};
+use std::alloc::{AllocError, Global};
+use std::fmt::Write;
+
+/// How the parts of a picture are drawn: each colour is as far from white as from black, so that both can lie behind it.
+const STYLE: &str = "\
+text{font-family:monospace;fill:#767676;white-space:pre}\
+.title{font-weight:bold}\
+.right{text-anchor:end}\
+.middle{text-anchor:middle}\
+.line{fill:none;stroke:#767676;stroke-width:6}\
+.faint{fill:none;stroke:#767676;stroke-width:3;stroke-opacity:.5}\
+.power{fill:none;stroke:#d03c2b;stroke-width:12;stroke-dasharray:40 30}\
+.counter{fill:none;stroke:#b06a00;stroke-width:14}\
+.bit{fill:#4a82bd}\
+.life{fill:#767676;fill-opacity:.2;stroke:#767676;stroke-width:6}\
+.dark{fill:#767676;fill-opacity:.5}\
+.refused{fill:#d03c2b;fill-opacity:.5}\
+.cycle{fill:#767676}\
+.enters{fill:#2f8a4c}\
+.confirmed{fill:#d03c2b}\
+.left{fill:#a259b5}\
+.taken{fill:none;stroke:#2f8a4c;stroke-width:10}\
+.gate{fill:#4a82bd;fill-opacity:.2;stroke:#4a82bd;stroke-width:6}\
+.current{fill:#2f8a4c;fill-opacity:.2;stroke:#2f8a4c;stroke-width:6}\
+.older{fill:none;stroke:#767676;stroke-width:6}\
+.torn{fill:#d03c2b;fill-opacity:.2;stroke:#d03c2b;stroke-width:6}\
+.damaged{fill:#d03c2b}";
+
+/// Where a rectangle stands, and how large it is.
+#[derive(Clone, Copy)]
+pub(crate) struct Area {
+    pub(crate) x: u32,
+    pub(crate) y: u32,
+    pub(crate) width: u32,
+    pub(crate) height: u32,
+}
+
+/// An SVG that is written from its front to its end.
+#[derive(Drop)]
+pub(crate) struct Svg {
+    text: String,
+}
+
+impl Svg {
+    /// The beginning of a picture of this height and title.
+    pub(crate) fn new(alloc: Global, height: u32, title: &str) -> Result<Svg, AllocError> {
+        let mut svg = Svg {
+            text: String::new(alloc),
+        };
+        write!(
+            svg.text,
+            "<svg xmlns=\"http://www.w3.org/2000/svg\" viewBox=\"0 0 {WIDTH} {height}\" font-size=\"{LETTER_HEIGHT}\" role=\"img\">\n"
+        )?;
+        svg.put_title(title)?;
+        write!(svg.text, "\n<style>{STYLE}</style>\n")?;
+        Ok(svg)
+    }
+
+    /// Puts words, with each letter that has a meaning in SVG as a reference to it.
+    fn put_words(&mut self, words: &str) -> Result<(), AllocError> {
+        for letter in words.chars() {
+            match letter {
+                '<' => self.text.push_str("&lt;")?,
+                '>' => self.text.push_str("&gt;")?,
+                '&' => self.text.push_str("&amp;")?,
+                _ => self.text.push(letter)?,
+            }
+        }
+        Ok(())
+    }
+
+    /// Puts what is shown of the element around it under the pointer.
+    fn put_title(&mut self, title: &str) -> Result<(), AllocError> {
+        self.text.push_str("<title>")?;
+        self.put_words(title)?;
+        self.text.push_str("</title>")
+    }
+
+    /// Puts a text, whose first letter, or whose end or middle by its class, stands at `x`, below `y`.
+    pub(crate) fn text(
+        &mut self,
+        class: &str,
+        x: u32,
+        y: u32,
+        words: &str,
+    ) -> Result<(), AllocError> {
+        let base = y.saturating_add(BASE);
+        write!(self.text, "<text class=\"{class}\" x=\"{x}\" y=\"{base}\">")?;
+        self.put_words(words)?;
+        self.text.push_str("</text>\n")
+    }
+
+    /// Puts a rectangle with its title.
+    pub(crate) fn area(&mut self, class: &str, area: Area, title: &str) -> Result<(), AllocError> {
+        let Area {
+            x,
+            y,
+            width,
+            height,
+        } = area;
+        write!(
+            self.text,
+            "<rect class=\"{class}\" x=\"{x}\" y=\"{y}\" width=\"{width}\" height=\"{height}\">"
+        )?;
+        self.put_title(title)?;
+        self.text.push_str("</rect>\n")
+    }
+
+    /// Puts a path with its title.
+    pub(crate) fn path(&mut self, class: &str, path: &str, title: &str) -> Result<(), AllocError> {
+        write!(self.text, "<path class=\"{class}\" d=\"{path}\">")?;
+        self.put_title(title)?;
+        self.text.push_str("</path>\n")
+    }
+
+    /// The whole picture, with its end.
+    pub(crate) fn end(mut self) -> Result<String, AllocError> {
+        self.text.push_str("</svg>\n")?;
+        Ok(self.text)
+    }
+}

@@ -1,0 +1,7 @@
+mod Each
+mod Filled
+mod Covered
+mod Paired
+mod Calling
+pub mod Due
+mod Put
