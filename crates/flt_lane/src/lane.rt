@@ -27,9 +27,13 @@ use std::thread::Threads;
 /// The steps of a lane, with the seats on which it makes their calls, and the answers so far.
 #[derive(Drop)]
 pub struct LaneWork<'a> {
+    /// The number of the lane, 1 or more.
     pub number: u32,
+    /// Its steps, in order.
     pub steps: &'a [Step],
+    /// Its seat on the lock of the status machine.
     pub seat: DemSeat,
+    /// Its seat on the lock of the queue.
     pub queue_seat: QueueSeat,
     /// Has room for an answer to each step.
     pub replies: LaneReplies,

@@ -18,6 +18,7 @@ pub enum Kind {
 pub struct BlockCfg {
     /// Its identifier, 1 to 8191. 0 is the identifier of a call on all blocks, and no block has it.
     pub id: u16,
+    /// How it is kept.
     pub kind: Kind,
     /// The most bytes that it holds, 1 to 128.
     pub length: u8,

@@ -28,12 +28,14 @@ pub type QueueAnswer = Result<Answer<QueueReply>, HistoryFull<QueueOp>>;
 pub struct QueueEnd {
     /// All calls in their order, each with the number of its seat.
     pub journal: Vec<Entry<QueueOp>>,
+    /// The queue as it was left.
     pub queue: Box<JobQueue>,
 }
 
 /// The queue for many lanes.
 #[derive(Drop)]
 pub struct QueueLock {
+    /// The ticket lock over the queue.
     pub turn: Turn<Guarded>,
 }
 
