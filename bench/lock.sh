@@ -5,9 +5,9 @@
 set -eu
 cd "$(dirname "$0")/.."
 calls=${1:-800000}
-program=crates/lock_bench/out/lock_bench
+program=crates/bench/out/bench
 if [ ! -x "$program" ]; then
-    (cd crates/lock_bench && rt run >&2)
+    (cd crates/bench && rt run -- lock turn 1 1 >&2)
 fi
 
 # The nanoseconds of the shortest of three runs on lock $1 with $2 lanes of $3 calls.
@@ -15,7 +15,7 @@ shortest() {
     best=
     for _ in 1 2 3; do
         from=$(date +%s%N)
-        "$program" "$1" "$2" "$3" >/dev/null
+        "$program" lock "$1" "$2" "$3" >/dev/null
         took=$(($(date +%s%N) - from))
         if [ -z "$best" ] || [ "$took" -lt "$best" ]; then
             best=$took

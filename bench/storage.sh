@@ -4,17 +4,17 @@
 # there) and time, less what the preparation costs. A first save is told by itself.
 set -eu
 cd "$(dirname "$0")/.."
-program=crates/storage_bench/out/storage_bench
-(cd crates/storage_bench && rt run -- flash mounts 0 >&2)
+program=crates/bench/out/bench
+(cd crates/bench && rt run -- storage flash mounts 0 >&2)
 
 # The operations of $3 calls of the kind $2 on the device $1, of $4 events where that is told.
 operations() {
-    "$program" "$@" | sed 's/ .*//'
+    "$program" storage "$@" | sed 's/ .*//'
 }
 
 # The instructions of such a run, by callgrind, which gives the same number each time.
 instructions() {
-    valgrind --tool=callgrind --callgrind-out-file=/dev/null "$program" "$@" 2>&1 >/dev/null |
+    valgrind --tool=callgrind --callgrind-out-file=/dev/null "$program" storage "$@" 2>&1 >/dev/null |
         sed -n 's/.*Collected : \([0-9]*\).*/\1/p'
 }
 
@@ -23,7 +23,7 @@ shortest() {
     best=
     for _ in 1 2 3 4 5; do
         from=$(date +%s%N)
-        "$program" "$@" >/dev/null
+        "$program" storage "$@" >/dev/null
         took=$((($(date +%s%N) - from) / 1000))
         if [ -z "$best" ] || [ "$took" -lt "$best" ]; then
             best=$took

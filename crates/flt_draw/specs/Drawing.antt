@@ -7,8 +7,9 @@ use Rattle.flt_config.specs.declared.config.DidUse.{DidUse}
 use Rattle.flt_life.specs.declared.life.Life.{Life}
 use Rattle.flt_lives.specs.Media.{sectors}
 use Rattle.flt_report.specs.Boot.{script_fault_line}
+use Rattle.flt_report.specs.Fetched.{read_of}
 use Rattle.flt_run.specs.declared.command.Command.TheVariants.{Run}
-use Rattle.flt_run.specs.Ending.{Inside, Outside, Runs, read_of}
+use Rattle.flt_run.specs.Ending.{Inside, Outside, Runs}
 use Rattle.flt_script.specs.declared.fault.ScriptFault.{ScriptFault}
 use Rattle.flt_script.specs.Script.{ScriptContent, script_of}
 use Rattle.flt_verdict.specs.Verdict as verdict

@@ -1,4 +1,4 @@
--- The line that begins a life.
+-- The line that begins a life, and those that stand where no script was read.
 use Rattle.std.specs.Prelude.{ℕ, List, [], ◌∷◌, ◌++◌, codes}
 use Rattle.std.specs.Fmt.{decimal}
 use Rattle.flt_generation.specs.declared.mark.Mark.{Mark}
@@ -41,3 +41,7 @@ boot_line life boot = codes "life " ++ decimal life ++ 32 ∷ boot_text boot ++ 
 -- The line that tells why bytes are no script.
 abbrev pub script_fault_line : ScriptFault → List ℕ
 script_fault_line fault = script_fault_text fault ++ 10 ∷ []
+
+-- The line that tells that the source of a script failed.
+abbrev pub unread_line : List ℕ
+unread_line = codes "read fault" ++ 10 ∷ []

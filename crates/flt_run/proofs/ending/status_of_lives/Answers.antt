@@ -1,5 +1,4 @@
 use Rattle.std.proofs.Common.{◌∙◌, sym}
-use Rattle.std.specs.Prelude.{Some}
 use Rattle.flt_run.proofs.Seen.{status_of_last}
 use Rattle.flt_run.proofs.ending.status_of_lives.Goals as goal
 

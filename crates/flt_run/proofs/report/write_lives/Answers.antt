@@ -3,11 +3,13 @@ use Rattle.std.specs.Prelude.{Vec}
 use Rattle.std.specs.Io.KnownBytes.{Appends}
 use Rattle.flt_io.specs.Sink.{AppendsFront}
 use Rattle.flt_script.specs.declared.step.Part.{Part}
+use Rattle.flt_life.specs.declared.life.Life.{Life}
 use Rattle.flt_script.specs.Part.{parts_of}
-use Rattle.flt_run.specs.Left.{IsWritten, lives_left}
-use Rattle.flt_run.specs.Report.{life_text}
-use Rattle.flt_run.proofs.Taken.{always_on_err}
-use Rattle.flt_run.proofs.Written.{goes_on, stops, ends, lives_more, lives_end}
+use Rattle.flt_report.specs.Left.{IsWritten}
+use Rattle.flt_run.specs.Left.{lives_left}
+use Rattle.flt_report.specs.Life.{life_text}
+use Rattle.flt_report.proofs.Written.{always_on_err, goes_on, stops, ends}
+use Rattle.flt_run.proofs.LivesLeft.{lives_more, lives_end}
 use Rattle.flt_run.proofs.report.write_lives.Goals as goal
 
 pub loop-index-preserved : goal.loop-index-preserved
@@ -25,11 +27,13 @@ loop-index-preserved g c =
     let in_script : index < length script = omega (arith, there, count, scripts, script_size) in
     let in_lives : index < length lives = omega (arith, there, count, many, size) in
     let parts = c.index.result.now in
-    let life = c.index-in-loop-index.result.now in
+    let life = c.index-life.result.now in
     let left = lives_more script lives index parts life in_script in_lives in
     let on = subst (λ left. IsWritten (g.K.Sink.held c.args.sink.now) (g.K.Sink.held c.loop-index.sink) left whole) left c.loop-index.invariant.written in
-    let piece = life_text (index + 1) (parts_of (get_or script index parts).items) (get_or lives index life) in
-    let same : life_text (index + 1) (parts_of c.deref.result.now) life ≡ piece = λ i. life_text (index + 1) (parts_of ((c.deref.ensures.value ∙ ap (λ (v : Vec Part _). v.items) c.index.ensures) i)) (c.index-in-loop-index.ensures i) in
+    let piece = life_text (index + 1) (parts_of (get_or script index parts).items) (get_or lives index life).boot (get_or lives index life).replies.items in
+    let same : life_text (index + 1) (parts_of c.deref.result.now) life.boot c.deref-in-loop-index.result.now ≡ piece =
+    λ i. life_text (index + 1) (parts_of ((c.deref.ensures.value ∙ ap (λ (v : Vec Part _). v.items) c.index.ensures) i)) (c.index-life.ensures i).boot
+        ((c.deref-in-loop-index.ensures.value ∙ ap (λ (l : Life). l.replies.items) c.index-life.ensures) i) in
     let was = c.loop-index.invariant.later in
     let later = c.in_ok-write_life.ensures.later in
     record {
@@ -53,11 +57,13 @@ returns-in_err-write_life-clause-err g c =
     let in_script : index < length script = omega (arith, there, count, scripts, script_size) in
     let in_lives : index < length lives = omega (arith, there, count, many, size) in
     let parts = c.index.result.now in
-    let life = c.index-in-loop-index.result.now in
+    let life = c.index-life.result.now in
     let left = lives_more script lives index parts life in_script in_lives in
     let on = subst (λ left. IsWritten (g.K.Sink.held c.args.sink.now) (g.K.Sink.held c.loop-index.sink) left whole) left c.loop-index.invariant.written in
-    let piece = life_text (index + 1) (parts_of (get_or script index parts).items) (get_or lives index life) in
-    let same : life_text (index + 1) (parts_of c.deref.result.now) life ≡ piece = λ i. life_text (index + 1) (parts_of ((c.deref.ensures.value ∙ ap (λ (v : Vec Part _). v.items) c.index.ensures) i)) (c.index-in-loop-index.ensures i) in
+    let piece = life_text (index + 1) (parts_of (get_or script index parts).items) (get_or lives index life).boot (get_or lives index life).replies.items in
+    let same : life_text (index + 1) (parts_of c.deref.result.now) life.boot c.deref-in-loop-index.result.now ≡ piece =
+    λ i. life_text (index + 1) (parts_of ((c.deref.ensures.value ∙ ap (λ (v : Vec Part _). v.items) c.index.ensures) i)) (c.index-life.ensures i).boot
+        ((c.deref-in-loop-index.ensures.value ∙ ap (λ (l : Life). l.replies.items) c.index-life.ensures) i) in
     always_on_err c.from_residual.result
     (stops _ _ piece (lives_left script lives (index + 1)) whole on _ (subst (AppendsFront (g.K.Sink.held c.loop-index.sink) (g.K.Sink.held c.write_life.new.sink)) same c.in_err-write_life.ensures.err))
 

@@ -1,0 +1,196 @@
+//! Saves and start-ups of a state of so many events and a full memory.
+ghost use Rattle.std.specs.Prelude.{IfSome};
+ghost use Rattle.flt_store.specs.Cause.{HasRoom};
+ghost use Rattle.flt_store.specs.Store.{driver_of};
+
+use crate::storage::PAGES;
+use arrayvec::ArrayVec;
+use flt_config::{Config, EntryState, EventCfg, Frame, Persist, ValidConfig, check, fits, initial};
+use flt_flash::Blocks;
+use flt_image::{block_table, fee_numbers, laws};
+use flt_lives::Driver;
+use flt_nvm::Nvm;
+use flt_store::Store;
+use std::alloc::Global;
+
+// Which blocks of the state change from save to save.
+#[derive(Clone, Copy, PartialEq, Eq)]
+enum Changed {
+    Nothing,
+    One,
+    All,
+}
+
+/// So many events, room for 16 entries, and no application block.
+pub fn config(count: u16) -> Option<ValidConfig> {
+    let mut events = ArrayVec::new();
+    for number in 0..count {
+        if !events.is_full() {
+            events.push(EventCfg {
+                dtc: 1 + number as u32,
+                priority: 1,
+                cycle: 0,
+                confirm: 1,
+                heal: 3,
+                age: 40,
+                indicator: false,
+                needs: 0,
+                debounce: Default::default(),
+                dids: ArrayVec::new(),
+            });
+        }
+    }
+    check(Config {
+        id: 0,
+        memory: 16,
+        pages: PAGES,
+        blocks: 0,
+        events,
+    })
+    .ok()
+}
+
+// A state with an entry of each of the first 16 events.
+fn full_state(config: &ValidConfig) -> Persist {
+    let mut state = initial(config);
+    for event in 0..16 {
+        if !state.entries.is_full() {
+            state.entries.push(EntryState {
+                event,
+                occurrence: 1,
+                first: Frame::new(),
+                recent: Frame::new(),
+            });
+        }
+    }
+    state
+}
+
+// Changes the state as asked, the `turn`th time.
+fn change(state: &mut Persist, changed: Changed, turn: u16) {
+    if changed == Changed::Nothing {
+        return;
+    }
+    let count = 1 + (turn % 255) as u8;
+    for event in state.events.iter_mut() {
+        event.failed = count;
+        if changed == Changed::One {
+            return;
+        }
+    }
+    for entry in state.entries.iter_mut() {
+        entry.occurrence = count;
+    }
+    state.overflow = turn % 2 == 0;
+}
+
+// Saves the state, changed before each save.
+fn save_again<B: Blocks + Drop>(
+    store: &mut Store<B>,
+    config: &ValidConfig,
+    changed: Changed,
+    times: u16,
+) -> Option<()>
+    requires { HasRoom config.now (driver_of store.old).room }
+{
+    let mut found = initial(config);
+    let Ok(_number) = store.start_up(config, &mut found) else {
+        return None;
+    };
+    let mut state = full_state(config);
+    if !fits(config, &state) {
+        return None;
+    }
+    store.save(config, &state).ok()?;
+    for turn in 0..times {
+        change(&mut state, changed, turn);
+        if !fits(config, &state) {
+            return None;
+        }
+        store.save(config, &state).ok()?;
+    }
+    Some(())
+}
+
+// Starts up again and again on the image of a save.
+fn start_again<B: Blocks + Drop>(
+    store: &mut Store<B>,
+    config: &ValidConfig,
+    times: u16,
+) -> Option<()>
+    requires { HasRoom config.now (driver_of store.old).room }
+{
+    let mut found = initial(config);
+    let Ok(_number) = store.start_up(config, &mut found) else {
+        return None;
+    };
+    let state = full_state(config);
+    if !fits(config, &state) {
+        return None;
+    }
+    store.save(config, &state).ok()?;
+    for _turn in 0..times {
+        store.start_up(config, &mut found).ok()?;
+    }
+    Some(())
+}
+
+// A store over a device.
+fn store_over<D: Driver>(alloc: Global, device: D::Device, config: &ValidConfig) -> Option<Store<D>>
+    requires { D.serves config.now (D.device_state device) }
+    ensures { IfSome result (λ store. HasRoom config.now (driver_of store).room) }
+{
+    laws::numbers_are_distinct();
+    laws::numbers_serve_table();
+    let driver = D::open(alloc, device, config, fee_numbers(alloc).ok()?).ok()?;
+    Some(Store::make(Nvm::make(driver, block_table(alloc).ok()?)))
+}
+
+/// Starts up on a blank device, and no more.
+pub fn run_first_start_up<D: Driver>(
+    alloc: Global,
+    device: D::Device,
+    config: &ValidConfig,
+) -> Option<D::Device>
+    requires { D.serves config.now (D.device_state device) }
+{
+    let mut store: Store<D> = store_over(alloc, device, config)?;
+    let mut found = initial(config);
+    store.start_up(config, &mut found).ok()?;
+    Some(store.retire().close())
+}
+
+/// Starts up on a blank device, saves a state whose every block is new, and then starts up again as often as asked.
+pub fn run_start_ups<D: Driver>(
+    alloc: Global,
+    device: D::Device,
+    config: &ValidConfig,
+    times: u16,
+) -> Option<D::Device>
+    requires { D.serves config.now (D.device_state device) }
+{
+    let mut store: Store<D> = store_over(alloc, device, config)?;
+    start_again(&mut store, config, times)?;
+    Some(store.retire().close())
+}
+
+/// Starts up on a blank device, saves a state whose every block is new, and then saves as often as asked what the word names.
+pub fn run_saves<D: Driver>(
+    alloc: Global,
+    device: D::Device,
+    config: &ValidConfig,
+    what: &str,
+    times: u16,
+) -> Option<D::Device>
+    requires { D.serves config.now (D.device_state device) }
+{
+    let changed = match what {
+        "saves-of-nothing" => Changed::Nothing,
+        "saves-of-one" => Changed::One,
+        "saves-of-all" => Changed::All,
+        _ => return None,
+    };
+    let mut store: Store<D> = store_over(alloc, device, config)?;
+    save_again(&mut store, config, changed, times)?;
+    Some(store.retire().close())
+}

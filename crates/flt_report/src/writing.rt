@@ -1,0 +1,407 @@
+//! The lines of a life, written to a sink in pieces, and what is written where a script has none.
+ghost use Rattle.std.specs.Prelude.{◌≡◌, ◌≢◌, ◌+◌, ◌++◌, ◌≤◌, ◌<◌, ◌^◌, [], OnOk, OnErr, IsErrOf, drop, length, map, slice_index_or, vec_len};
+ghost use Rattle.std.specs.Io.KnownBytes.{Appends};
+ghost use Rattle.flt_io.specs.Fault.{Rose};
+ghost use Rattle.flt_io.specs.Sink.{AppendsFront};
+ghost use Rattle.flt_restore.specs.declared.fault.StartFault.TheVariants.{Flash};
+ghost use Rattle.flt_script.specs.Part.{parts_of};
+ghost use Rattle.flt_life.specs.declared.answer.StepAnswer.TheVariants as answers;
+ghost use Rattle.flt_life.specs.declared.life.Boot.TheVariants.{Refused};
+ghost use Rattle.flt_life.specs.Answers.{IsAnswerWithin, reply_in, with_reply};
+ghost use Rattle.flt_life.specs.Parts.{widths};
+ghost use Rattle.flt_life.specs.Room.{told_in};
+ghost use Rattle.flt_report.specs.Answer.{step_line};
+ghost use Rattle.flt_report.specs.Boot.{boot_line, script_fault_line, unread_line};
+ghost use Rattle.flt_report.specs.Left.{IsWritten};
+ghost use Rattle.flt_report.specs.Life.{block_text, lane_steps, lane_text, lanes_text, life_text, lines_text, parts_text, told_text};
+
+use crate::block::{put_end, put_lane, put_par};
+use crate::boot::put_boot;
+use crate::fault::put_script_fault;
+use crate::step::put_step;
+use flt_io::{Failed, Sink};
+use flt_life::{Boot, KeptReply, LaneReplies, StepAnswer};
+use flt_script::{Part, ScriptFault, Step};
+use std::alloc::{AllocError, Global};
+
+const UNREAD: &[u8] = b"read fault\n";
+
+/// The lines of steps are pushed once they have come to so many bytes.
+const PIECE: usize = 2048;
+
+/// Why a report could not be written.
+#[derive(Clone, Copy)]
+pub enum WriteFault {
+    /// Memory was wanting.
+    Memory,
+    /// The sink failed, and its count of faults rose.
+    Failed,
+}
+
+impl From<AllocError> for WriteFault {
+    ghost use Rattle.flt_report.specs.declared.writing.WriteFault.TheVariants.{Memory};
+
+    ghost from_gives = { λ _ fault. fault ≡ Memory };
+
+    fn from(_: AllocError) -> WriteFault {
+        WriteFault::Memory
+    }
+}
+
+impl From<Failed> for WriteFault {
+    ghost use Rattle.flt_report.specs.declared.writing.WriteFault.TheVariants as faults;
+
+    ghost from_gives = { λ _ fault. fault ≡ faults.Failed };
+
+    fn from(_: Failed) -> WriteFault {
+        WriteFault::Failed
+    }
+}
+
+/// Writes a text.
+pub fn write_text<K: Sink>(text: &[u8], sink: &mut K) -> Result<(), WriteFault>
+    ensures ok { OnOk result (Appends (K.held sink.old) (K.held sink.new) text.now) }
+    ensures err { OnErr result (AppendsFront (K.held sink.old) (K.held sink.new) text.now) }
+    ensures later { K.faults sink.old ≤ K.faults sink.new }
+    ensures cause { IsErrOf result WriteFault.Failed → Rose (K.faults sink.old) (K.faults sink.new) }
+{
+    sink.push(text)?;
+    Ok(())
+}
+
+/// Puts the line of a step and its answer in place of what `line` holds.
+fn put_answered(
+    line: &mut Vec<u8>,
+    step: &Step,
+    answer: &StepAnswer<KeptReply>,
+    responses: &[u8],
+) -> Result<(), AllocError>
+    requires { IsAnswerWithin (length responses.now) answer.now }
+    ensures { OnOk result (line.new.items ≡ step_line step.now (with_reply (reply_in responses.now) answer.now)) }
+{
+    line.clear();
+    put_step(step, answer, responses, line)
+}
+
+/// Writes a line for each step that was answered.
+fn write_steps<K: Sink>(
+    line: &mut Vec<u8>,
+    steps: &[Step],
+    replies: &LaneReplies,
+    sink: &mut K,
+) -> Result<(), WriteFault>
+    ensures ok { OnOk result (Appends (K.held sink.old) (K.held sink.new) (lines_text steps.now (told_in replies.now))) }
+    ensures err { OnErr result (AppendsFront (K.held sink.old) (K.held sink.new) (lines_text steps.now (told_in replies.now))) }
+    ensures later { K.faults sink.old ≤ K.faults sink.new }
+    ensures cause { IsErrOf result WriteFault.Failed → Rose (K.faults sink.old) (K.faults sink.new) }
+{
+    let count = steps.len().min(replies.answers.len());
+    for index in 0..count {
+        put_answered(
+            line,
+            &steps[index],
+            &replies.answers[index],
+            &replies.responses,
+        )?;
+        sink.push(line)?;
+    }
+    Ok(())
+}
+
+/// Writes the lines of a lane of this number.
+fn write_lane<K: Sink>(
+    line: &mut Vec<u8>,
+    number: u32,
+    steps: &[Step],
+    replies: &LaneReplies,
+    sink: &mut K,
+) -> Result<(), WriteFault>
+    ensures ok { OnOk result (Appends (K.held sink.old) (K.held sink.new) (lane_text number steps.now (told_in replies.now))) }
+    ensures err { OnErr result (AppendsFront (K.held sink.old) (K.held sink.new) (lane_text number steps.now (told_in replies.now))) }
+    ensures later { K.faults sink.old ≤ K.faults sink.new }
+    ensures cause { IsErrOf result WriteFault.Failed → Rose (K.faults sink.old) (K.faults sink.new) }
+{
+    line.clear();
+    put_lane(number, line)?;
+    sink.push(line)?;
+    write_steps(line, steps, replies, sink)
+}
+
+/// Writes the lines of lanes, from this number on.
+fn write_lanes<K: Sink>(
+    line: &mut Vec<u8>,
+    number: u32,
+    lanes: &[Vec<Step>],
+    told: &[LaneReplies],
+    sink: &mut K,
+) -> Result<(), WriteFault>
+    requires { number + length lanes.now < 2 ^ 32 }
+    ensures ok { OnOk result (Appends (K.held sink.old) (K.held sink.new) (lanes_text number (lane_steps lanes.now) (map told_in told.now))) }
+    ensures err { OnErr result (AppendsFront (K.held sink.old) (K.held sink.new) (lanes_text number (lane_steps lanes.now) (map told_in told.now))) }
+    ensures later { K.faults sink.old ≤ K.faults sink.new }
+    ensures cause { IsErrOf result WriteFault.Failed → Rose (K.faults sink.old) (K.faults sink.new) }
+{
+    let count = lanes.len().min(told.len());
+    for index in 0..count {
+        write_lane(
+            line,
+            number + index as u32,
+            &lanes[index],
+            &told[index],
+            sink,
+        )?;
+    }
+    Ok(())
+}
+
+/// Writes the lines of a block, whose lanes go on from this number.
+fn write_block<K: Sink>(
+    line: &mut Vec<u8>,
+    number: u32,
+    lanes: &[Vec<Step>],
+    told: &[LaneReplies],
+    sink: &mut K,
+) -> Result<(), WriteFault>
+    requires { number + length lanes.now < 2 ^ 32 }
+    ensures ok { OnOk result (Appends (K.held sink.old) (K.held sink.new) (block_text number (lane_steps lanes.now) (map told_in told.now))) }
+    ensures err { OnErr result (AppendsFront (K.held sink.old) (K.held sink.new) (block_text number (lane_steps lanes.now) (map told_in told.now))) }
+    ensures later { K.faults sink.old ≤ K.faults sink.new }
+    ensures cause { IsErrOf result WriteFault.Failed → Rose (K.faults sink.old) (K.faults sink.new) }
+{
+    line.clear();
+    put_par(line)?;
+    sink.push(line)?;
+    write_lanes(line, number, lanes, told, sink)?;
+    line.clear();
+    put_end(line)?;
+    sink.push(line)?;
+    Ok(())
+}
+
+/// Pushes the lines that `piece` holds where they have come to a piece, and keeps them else.
+fn push_piece<K: Sink>(piece: &mut Vec<u8>, sink: &mut K) -> Result<(), WriteFault>
+    ensures ok { OnOk result (IsWritten (K.held sink.old) (K.held sink.new) piece.new.items piece.old.items) }
+    ensures err { OnErr result (AppendsFront (K.held sink.old) (K.held sink.new) piece.old.items) }
+    ensures later { K.faults sink.old ≤ K.faults sink.new }
+    ensures cause { IsErrOf result WriteFault.Failed → Rose (K.faults sink.old) (K.faults sink.new) }
+{
+    if piece.len() < PIECE {
+        return Ok(());
+    }
+    sink.push(piece)?;
+    piece.clear();
+    Ok(())
+}
+
+/// Puts the line of the next step of lane 0, which was answered, behind the lines that `piece` holds.
+fn put_next(
+    piece: &mut Vec<u8>,
+    step: &Step,
+    own: &LaneReplies,
+    index: usize,
+) -> Result<(), AllocError>
+    requires { index < vec_len own.now.answers }
+    ensures { OnOk result (piece.new.items ≡ piece.old.items ++ step_line step.now (slice_index_or (told_in own.now) index answers.Dark)) }
+{
+    put_step(step, &own.answers[index], &own.responses, piece)
+}
+
+/// Puts the line of the next step of lane 0, which was answered, behind the lines that `piece` holds, and pushes them where they
+/// have come to a piece.
+fn write_one<K: Sink>(
+    piece: &mut Vec<u8>,
+    step: &Step,
+    own: &LaneReplies,
+    index: usize,
+    sink: &mut K,
+) -> Result<(), WriteFault>
+    requires { index < vec_len own.now.answers }
+    ensures ok { OnOk result (IsWritten (K.held sink.old) (K.held sink.new) piece.new.items
+        (piece.old.items ++ step_line step.now (slice_index_or (told_in own.now) index answers.Dark))) }
+    ensures err { OnErr result (AppendsFront (K.held sink.old) (K.held sink.new)
+        (piece.old.items ++ step_line step.now (slice_index_or (told_in own.now) index answers.Dark))) }
+    ensures later { K.faults sink.old ≤ K.faults sink.new }
+    ensures cause { IsErrOf result WriteFault.Failed → Rose (K.faults sink.old) (K.faults sink.new) }
+{
+    put_next(piece, step, own, index)?;
+    push_piece(piece, sink)
+}
+
+/// Pushes the lines that `piece` holds, and writes the lines of a block behind them. No line is kept.
+fn write_next_block<K: Sink>(
+    piece: &mut Vec<u8>,
+    number: u32,
+    lanes: &[Vec<Step>],
+    told: &[LaneReplies],
+    sink: &mut K,
+) -> Result<(), WriteFault>
+    requires { number + length lanes.now < 2 ^ 32 }
+    ensures ok { OnOk result (Appends (K.held sink.old) (K.held sink.new) (piece.old.items ++ block_text number (lane_steps lanes.now) (map told_in told.now))) }
+    ensures none { OnOk result (piece.new.items ≡ []) }
+    ensures err { OnErr result (AppendsFront (K.held sink.old) (K.held sink.new)
+        (piece.old.items ++ block_text number (lane_steps lanes.now) (map told_in told.now))) }
+    ensures later { K.faults sink.old ≤ K.faults sink.new }
+    ensures cause { IsErrOf result WriteFault.Failed → Rose (K.faults sink.old) (K.faults sink.new) }
+{
+    sink.push(piece)?;
+    write_block(piece, number, lanes, told, sink)?;
+    piece.clear();
+    Ok(())
+}
+
+/// The answers of the lanes from an index on.
+fn rest_of(told: &[LaneReplies], from: usize) -> &[LaneReplies]
+    ensures { result.now ≡ drop from told.now }
+{
+    if from < told.len() {
+        &told[from..]
+    } else {
+        &told[told.len()..]
+    }
+}
+
+/// Puts the lines of parts that were made, with the answers of lane 0 and those of the other lanes, behind those that `piece` holds,
+/// pushes them in pieces, and keeps the last ones.
+fn put_parts<K: Sink>(
+    piece: &mut Vec<u8>,
+    parts: &[Part],
+    own: &LaneReplies,
+    told: &[LaneReplies],
+    sink: &mut K,
+) -> Result<(), WriteFault>
+    requires { widths (parts_of parts.now) + 1 < 2 ^ 32 }
+    ensures ok { OnOk result (IsWritten (K.held sink.old) (K.held sink.new) piece.new.items
+        (piece.old.items ++ parts_text 1 (parts_of parts.now) (told_in own.now) (map told_in told.now))) }
+    ensures err { OnErr result (AppendsFront (K.held sink.old) (K.held sink.new)
+        (piece.old.items ++ parts_text 1 (parts_of parts.now) (told_in own.now) (map told_in told.now))) }
+    ensures later { K.faults sink.old ≤ K.faults sink.new }
+    ensures cause { IsErrOf result WriteFault.Failed → Rose (K.faults sink.old) (K.faults sink.new) }
+{
+    let mut answered = 0;
+    let mut lanes_told = 0;
+    for part in parts {
+        match part {
+            Part::One(step) => {
+                if own.answers.len() <= answered {
+                    return Ok(());
+                }
+                write_one(piece, step, own, answered, sink)?;
+                answered += 1;
+            }
+            Part::Lanes(lanes) => {
+                let number = lanes_told as u32 + 1;
+                write_next_block(piece, number, lanes, rest_of(told, lanes_told), sink)?;
+                lanes_told += lanes.len();
+            }
+        }
+    }
+    Ok(())
+}
+
+/// Writes the lines of parts that were made, with the answers of lane 0 and those of the other lanes.
+fn write_parts<K: Sink>(
+    piece: &mut Vec<u8>,
+    parts: &[Part],
+    own: &LaneReplies,
+    told: &[LaneReplies],
+    sink: &mut K,
+) -> Result<(), WriteFault>
+    requires { widths (parts_of parts.now) + 1 < 2 ^ 32 }
+    ensures ok { OnOk result (Appends (K.held sink.old) (K.held sink.new) (parts_text 1 (parts_of parts.now) (told_in own.now) (map told_in told.now))) }
+    ensures err { OnErr result (AppendsFront (K.held sink.old) (K.held sink.new) (parts_text 1 (parts_of parts.now) (told_in own.now) (map told_in told.now))) }
+    ensures later { K.faults sink.old ≤ K.faults sink.new }
+    ensures cause { IsErrOf result WriteFault.Failed → Rose (K.faults sink.old) (K.faults sink.new) }
+{
+    piece.clear();
+    put_parts(piece, parts, own, told, sink)?;
+    write_text(piece, sink)
+}
+
+/// Writes the lines of parts that were made, with the answers of all lanes, lane 0 first.
+fn write_told<K: Sink>(
+    line: &mut Vec<u8>,
+    parts: &[Part],
+    replies: &[LaneReplies],
+    sink: &mut K,
+) -> Result<(), WriteFault>
+    requires { widths (parts_of parts.now) + 1 < 2 ^ 32 }
+    ensures ok { OnOk result (Appends (K.held sink.old) (K.held sink.new) (told_text (parts_of parts.now) replies.now)) }
+    ensures err { OnErr result (AppendsFront (K.held sink.old) (K.held sink.new) (told_text (parts_of parts.now) replies.now)) }
+    ensures later { K.faults sink.old ≤ K.faults sink.new }
+    ensures cause { IsErrOf result WriteFault.Failed → Rose (K.faults sink.old) (K.faults sink.new) }
+{
+    match replies {
+        [own, told @ ..] => write_parts(line, parts, own, told, sink),
+        [] => Ok(()),
+    }
+}
+
+/// Writes the line that begins a life of this number.
+fn write_boot<K: Sink>(
+    line: &mut Vec<u8>,
+    number: u32,
+    boot: &Boot,
+    sink: &mut K,
+) -> Result<(), WriteFault>
+    requires { boot.now ≢ Refused Flash }
+    ensures ok { OnOk result (Appends (K.held sink.old) (K.held sink.new) (boot_line number boot.now)) }
+    ensures err { OnErr result (AppendsFront (K.held sink.old) (K.held sink.new) (boot_line number boot.now)) }
+    ensures later { K.faults sink.old ≤ K.faults sink.new }
+    ensures cause { IsErrOf result WriteFault.Failed → Rose (K.faults sink.old) (K.faults sink.new) }
+{
+    line.clear();
+    put_boot(number, boot, line)?;
+    sink.push(line)?;
+    Ok(())
+}
+
+/// Writes the lines of a life of this number: how it began, and the steps of its parts that were answered. `line` is used again for
+/// them.
+pub fn write_life<K: Sink>(
+    line: &mut Vec<u8>,
+    number: u32,
+    parts: &[Part],
+    boot: &Boot,
+    replies: &[LaneReplies],
+    sink: &mut K,
+) -> Result<(), WriteFault>
+    requires flash { boot.now ≢ Refused Flash }
+    requires lanes { widths (parts_of parts.now) + 1 < 2 ^ 32 }
+    ensures ok { OnOk result (Appends (K.held sink.old) (K.held sink.new) (life_text number (parts_of parts.now) boot.now replies.now)) }
+    ensures err { OnErr result (AppendsFront (K.held sink.old) (K.held sink.new) (life_text number (parts_of parts.now) boot.now replies.now)) }
+    ensures later { K.faults sink.old ≤ K.faults sink.new }
+    ensures cause { IsErrOf result WriteFault.Failed → Rose (K.faults sink.old) (K.faults sink.new) }
+{
+    write_boot(line, number, boot, sink)?;
+    match boot {
+        Boot::Started { .. } => write_told(line, parts, replies, sink),
+        Boot::Dark => write_told(line, parts, replies, sink),
+        Boot::Refused(_) => Ok(()),
+    }
+}
+
+/// Writes that the source of a script failed.
+pub fn write_unread<K: Sink>(sink: &mut K) -> Result<(), WriteFault>
+    ensures ok { OnOk result (Appends (K.held sink.old) (K.held sink.new) unread_line) }
+    ensures err { OnErr result (AppendsFront (K.held sink.old) (K.held sink.new) unread_line) }
+    ensures later { K.faults sink.old ≤ K.faults sink.new }
+    ensures cause { IsErrOf result WriteFault.Failed → Rose (K.faults sink.old) (K.faults sink.new) }
+{
+    write_text(UNREAD, sink)
+}
+
+/// Writes why bytes are no script.
+pub fn write_script_fault<K: Sink>(
+    alloc: Global,
+    fault: &ScriptFault,
+    sink: &mut K,
+) -> Result<(), WriteFault>
+    ensures ok { OnOk result (Appends (K.held sink.old) (K.held sink.new) (script_fault_line fault.now)) }
+    ensures err { OnErr result (AppendsFront (K.held sink.old) (K.held sink.new) (script_fault_line fault.now)) }
+    ensures later { K.faults sink.old ≤ K.faults sink.new }
+    ensures cause { IsErrOf result WriteFault.Failed → Rose (K.faults sink.old) (K.faults sink.new) }
+{
+    let mut line = Vec::new(alloc);
+    put_script_fault(fault, &mut line)?;
+    write_text(&line, sink)
+}

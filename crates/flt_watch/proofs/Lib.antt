@@ -1,0 +1,9 @@
+pub mod Running
+pub mod Seats
+pub mod WorkRuns
+pub mod PartsSoFar
+pub mod TurnedAway
+pub mod Watchable
+pub mod MadeScript
+pub mod OneLife
+pub mod Sharing

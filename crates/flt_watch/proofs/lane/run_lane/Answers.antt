@@ -1,0 +1,30 @@
+use Rattle.std.proofs.Common.{refl, rules}
+use Rattle.flt_life.specs.Answers.{told_with}
+use Rattle.flt_lane.proofs.Running.{whole_size, whole_told}
+use Rattle.flt_watch.proofs.Running.{begins, call_left, goes_on, has_run, possible_next}
+use Rattle.flt_watch.proofs.lane.run_lane.Goals as goal
+
+pub loop-index-init : goal.loop-index-init
+loop-index-init g c = begins c.args.lock.now _ c.requires.ready
+
+pub make_call-answer-requires-clause-step : goal.make_call-answer-requires-clause-step
+make_call-answer-requires-clause-step g c =
+    possible_next c.args.lock.now c.args.lane.now c.loop-index.lane c.loop-index.index c.index-steps-index.result c.requires.ready c.loop-index.invariant (search rules) c.index-steps-index.is
+
+pub make_call-answer-requires-clause-left : goal.make_call-answer-requires-clause-left
+make_call-answer-requires-clause-left g c =
+    call_left c.args.lock.now c.args.lane.now c.loop-index.lane c.loop-index.index c.index-steps-index.result c.requires.ready c.loop-index.invariant (search rules) c.index-steps-index.is
+
+pub loop-index-preserved : goal.loop-index-preserved
+loop-index-preserved g c =
+    let kept = c.keep.ensures in
+    let made = c.make_call-answer.ensures in
+    let on = c.loop-index.invariant in
+    let answer = c.make_call-answer.result in
+    let response = c.make_call-answer.new.response.items in
+    let told = told_with response answer in
+    goes_on c.args.lock.now c.args.lane.now _ c.loop-index.index c.index-steps-index.result c.requires.ready on (search rules) c.index-steps-index.is _ told
+    made.made made.size (whole_told _ _ answer response _ c.as_slice.ensures.value kept.told) kept.answers kept.room (whole_size _ _ answer response _ c.as_slice.ensures.value kept.responses) kept.bytes refl refl made.lock
+
+pub returns-clause-ran : goal.returns-clause-ran
+returns-clause-ran g c = has_run c.args.lock.now _ _ c.loop-index.index c.loop-index.invariant (search rules)

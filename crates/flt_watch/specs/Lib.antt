@@ -1,0 +1,6 @@
+pub mod Lane
+pub mod Block
+pub mod Asked
+pub mod Watched
+pub mod Text
+pub mod Watch

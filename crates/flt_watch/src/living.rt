@@ -1,0 +1,166 @@
+//! The parts of a life, one after the other, on its lock.
+ghost use Rattle.std.specs.Prelude.{◌≡◌, ◌<◌, ◌≤◌, ◌+◌, ◌^◌, ◌++◌, ◌∷◌, [], List, All, IfOk, OnOk, length, map, sum_by, vec_len};
+ghost use Rattle.std.specs.Vec.{vec_capacity};
+ghost use Rattle.flt_fork.specs.Lived.{IsMain};
+ghost use Rattle.flt_script.specs.Part.{PartOf, part_of, parts_of};
+ghost use Rattle.flt_script.specs.declared.step.Step.{Step};
+ghost use Rattle.flt_life.specs.Parts.{calls_in, lanes_in, own_steps, width, widths};
+ghost use Rattle.flt_life.specs.Room.{HasRoomForSteps, IsLaneRoom, steps_of, told_in};
+ghost use Rattle.flt_watch.specs.Block.{Gains, HasStepped, HaveRunParts, IsPartFor};
+ghost use Rattle.flt_watch.specs.Lane.{IsSeatOf, IsWatchable};
+
+use crate::block::run_block;
+use crate::lane::make_call;
+use crate::lock::{WatchLock, WatchSeat};
+use arrayvec::ArrayVec;
+use flt_lane::Gate;
+use flt_life::{LaneReplies, LaneRoom};
+use flt_model::RESPONSE;
+use flt_script::{Part, Step};
+use std::alloc::{AllocError, Global};
+use std::marker::Sync;
+use std::sync::Wait;
+use std::thread::Threads;
+use std::vec::IntoIter;
+
+/// Makes a step of lane 0, between the two calls of the gate.
+fn run_one<R: Wait, G: Gate>(
+    rt: &R,
+    lock: &WatchLock,
+    gate: &G,
+    main: &mut WatchSeat,
+    step: &Step,
+    own: &mut LaneReplies,
+    response: &mut ArrayVec<u8, RESPONSE>,
+)
+    requires lock { IsSeatOf lock.now main.old }
+    requires step { IsWatchable main.old.start.config step.now }
+    requires left { 1 ≤ main.old.left }
+    requires index { vec_len own.old.answers < 2 ^ 32 }
+    requires room { HasRoomForSteps own.old (step.now ∷ []) }
+    ensures stepped { HasStepped main.old main.new step.now (told_in own.old) (told_in own.new) }
+    ensures lock { IsSeatOf lock.now main.new }
+    ensures len { vec_len own.new.answers ≡ vec_len own.old.answers + 1 }
+    ensures room { (rest : List Step) → HasRoomForSteps own.old (step.now ∷ rest) → HasRoomForSteps own.new rest }
+{
+    let index = own.answers.len() as u32;
+    gate.before(rt, 0, index);
+    let answer = make_call(rt, lock, main, step, response);
+    own.keep(answer, response.as_slice());
+    gate.after(rt, 0, index);
+}
+
+/// Takes the next lanes, so many.
+fn next_lanes<'a>(
+    alloc: Global,
+    count: usize,
+    lanes: &mut IntoIter<LaneRoom<'a>>,
+) -> Result<Vec<LaneRoom<'a>>, AllocError>
+    requires { count ≤ length lanes.old.rest.items }
+    ensures lanes { IfOk result (λ rooms. rooms.items ++ lanes.new.rest.items ≡ lanes.old.rest.items) }
+    ensures count { IfOk result (λ rooms. length rooms.items ≡ count) }
+{
+    let mut rooms = Vec::with_capacity(alloc, count)?;
+    for taken in 0..count {
+        let Some(room) = lanes.next() else {
+            unreachable!()
+        };
+        rooms.push(room)?;
+    }
+    Ok(rooms)
+}
+
+/// Carries out a part of a life, and puts its answers behind those that are there. The lanes of a block are the next ones.
+fn run_part<'a, R: Threads + Wait + Sync, G: Gate + Sync>(
+    rt: &R,
+    alloc: Global,
+    lock: &WatchLock,
+    gate: &G,
+    main: &mut WatchSeat,
+    part: &Part,
+    lanes: &mut IntoIter<LaneRoom<'a>>,
+    own: &mut LaneReplies,
+    told: &mut Vec<LaneReplies>,
+    response: &mut ArrayVec<u8, RESPONSE>,
+) -> Result<(), AllocError>
+    requires lock { IsSeatOf lock.now main.old × IsMain main.old }
+    requires steps { IsPartFor main.old.start.config (part_of part.now) }
+    requires calls { calls_in (part_of part.now) ≤ main.old.left }
+    requires children { main.old.children + width (part_of part.now) < 2 ^ 32 }
+    requires index { vec_len own.old.answers < 2 ^ 32 }
+    requires own_room { HasRoomForSteps own.old (own_steps (part_of part.now ∷ [])) }
+    requires told_room { vec_len told.old + width (part_of part.now) ≤ vec_capacity told.old }
+    requires lanes { (later : List (List Step)) × (steps_of lanes.old.rest.items ≡ lanes_in (part_of part.now ∷ []) ++ later) }
+    requires ready { All IsLaneRoom lanes.old.rest.items }
+    ensures gains { OnOk result (Gains main.old main.new (part_of part.now) (told_in own.old) (told_in own.new)
+        (map told_in told.old.items) (map told_in told.new.items)) }
+    ensures lock { OnOk result (IsSeatOf lock.now main.new) }
+    ensures left { OnOk result (main.old.left ≤ main.new.left + calls_in (part_of part.now)) }
+    ensures own_len { OnOk result (vec_len own.new.answers ≤ vec_len own.old.answers + 1) }
+    ensures own_room { OnOk result ((rest : List (PartOf Step)) → HasRoomForSteps own.old (own_steps (part_of part.now ∷ rest))
+        → HasRoomForSteps own.new (own_steps rest)) }
+    ensures told_len { OnOk result (vec_len told.new ≡ vec_len told.old + width (part_of part.now)) }
+    ensures told_capacity { OnOk result (vec_capacity told.new ≡ vec_capacity told.old) }
+    ensures later { OnOk result ((later : List (List Step)) → steps_of lanes.old.rest.items ≡ lanes_in (part_of part.now ∷ []) ++ later
+        → steps_of lanes.new.rest.items ≡ later) }
+    ensures ready { OnOk result (All IsLaneRoom lanes.new.rest.items) }
+{
+    match part {
+        Part::One(step) => {
+            run_one(rt, lock, gate, main, step, own, response);
+            Ok(())
+        }
+        Part::Lanes(block) => {
+            let rooms = next_lanes(alloc, block.len(), lanes)?;
+            let works = Vec::with_capacity(alloc, block.len())?;
+            run_block(rt, lock, gate, main, rooms, works, told);
+            Ok(())
+        }
+    }
+}
+
+/// Carries out the parts of a life, one after the other, with room for the answers of all of them.
+pub(crate) fn run_parts<'a, R: Threads + Wait + Sync, G: Gate + Sync>(
+    rt: &R,
+    alloc: Global,
+    lock: &WatchLock,
+    gate: &G,
+    main: &mut WatchSeat,
+    parts: &[Part],
+    lanes: Vec<LaneRoom<'a>>,
+    own: &mut LaneReplies,
+    told: &mut Vec<LaneReplies>,
+) -> Result<(), AllocError>
+    requires lock { IsSeatOf lock.now main.old × IsMain main.old }
+    requires steps { All (IsPartFor main.old.start.config) (parts_of parts.now) }
+    requires calls { sum_by calls_in (parts_of parts.now) ≤ main.old.left }
+    requires children { main.old.children + widths (parts_of parts.now) < 2 ^ 32 }
+    requires indices { length parts.now < 2 ^ 32 }
+    requires no_answers { (told_in own.old ≡ []) × (vec_len own.old.answers ≡ 0) }
+    requires own_room { HasRoomForSteps own.old (own_steps (parts_of parts.now)) }
+    requires none_told { (told.old.items ≡ []) × (vec_len told.old ≡ 0) }
+    requires told_room { widths (parts_of parts.now) ≤ vec_capacity told.old }
+    requires lanes { steps_of lanes.items ≡ lanes_in (parts_of parts.now) }
+    requires ready { All IsLaneRoom lanes.items }
+    ensures lived { OnOk result (HaveRunParts main.old main.new (parts_of parts.now) (told_in own.new) (map told_in told.new.items)) }
+    ensures lock { OnOk result (IsSeatOf lock.now main.new) }
+    ensures told_len { OnOk result (vec_len told.new ≡ widths (parts_of parts.now)) }
+{
+    let mut response = ArrayVec::new();
+    let mut lanes = lanes.into_iter();
+    for part in parts {
+        run_part(
+            rt,
+            alloc,
+            lock,
+            gate,
+            main,
+            part,
+            &mut lanes,
+            own,
+            told,
+            &mut response,
+        )?;
+    }
+    Ok(())
+}

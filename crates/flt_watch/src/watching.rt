@@ -1,0 +1,181 @@
+//! A watch: a script of one life is made on a lock over the watched machine, and told with the values of the subscribers.
+ghost use Rattle.std.specs.Prelude.{◌≡◌, ◌⊎◌, IsTrue};
+ghost use Rattle.flt_config.specs.declared.persist.Persist.{Persist};
+ghost use Rattle.flt_did.specs.Serves.{Serves};
+ghost use Rattle.flt_did.specs.Table.{dids_of};
+ghost use Rattle.flt_life.specs.declared.life.Boot.TheVariants.{Started};
+ghost use Rattle.flt_notify.specs.Table.{IsAtZero, kinds_in, values_in};
+ghost use Rattle.flt_script.specs.Script.{content};
+ghost use Rattle.flt_watch.specs.Asked.{is_watchable};
+ghost use Rattle.flt_watch.specs.Watch.{IsMadeOf, IsNoState, IsUnmade, WantsMemory, Watches, reading_of, status_by, writing_of};
+
+use crate::asking::{Asked, ask};
+use crate::life::{WatchedLife, live};
+use crate::telling::{write_other, write_watched};
+use arrayvec::ArrayVec;
+use flt_config::Persist;
+use flt_did::{DID_ROWS, DidTable};
+use flt_io::{Sink, Source};
+use flt_lane::Gate;
+use flt_life::{Boot, Entry, LaneReplies, Life};
+use flt_notify::{KINDS, SubTable};
+use flt_report::{WriteFault, write_script_fault, write_unread};
+use flt_script::Script;
+use flt_shared::Op;
+use std::alloc::Global;
+use std::marker::Sync;
+use std::sync::Wait;
+use std::thread::Threads;
+
+/// What a watch leaves.
+#[derive(Drop)]
+pub struct WatchOutcome {
+    /// 0 where the life was made and told, 2 where the script was refused or is another one, 3 where the source failed, 4 where the sink
+    /// did, and 7 where memory was wanting.
+    pub status: u8,
+    /// The state from which the life began; without events where no life was made.
+    pub base: Persist,
+    /// All calls of the life, each with the number of its lane.
+    pub journal: Vec<Entry<Op>>,
+    /// The answers of each lane, lane 0 first.
+    pub answers: Vec<LaneReplies>,
+    /// The subscribers, with the values that the changes of the journal gave them.
+    pub subs: SubTable<KINDS>,
+}
+
+const REFUSED: u8 = 2;
+
+const UNREAD: u8 = 3;
+
+const UNWRITTEN: u8 = 4;
+
+const OUT_OF_MEMORY: u8 = 7;
+
+/// The state of no event.
+fn no_state() -> Persist
+    ensures { IsNoState result }
+{
+    Persist {
+        events: ArrayVec::new(),
+        entries: ArrayVec::new(),
+        overflow: false,
+        first_failed: None,
+        first_confirmed: None,
+        recent_failed: None,
+        recent_confirmed: None,
+    }
+}
+
+/// The status, by whether the text that is due was written.
+fn status_by(due: u8, written: Result<(), WriteFault>) -> u8
+    ensures { result ≡ status_by due written }
+{
+    match written {
+        Ok(()) => due,
+        Err(WriteFault::Failed) => UNWRITTEN,
+        Err(WriteFault::Memory) => OUT_OF_MEMORY,
+    }
+}
+
+/// No life was made.
+fn unmade(alloc: Global, status: u8, subs: SubTable<KINDS>) -> WatchOutcome
+    ensures status { result.status ≡ status }
+    ensures unmade { IsUnmade (kinds_in subs) (values_in subs) result }
+{
+    WatchOutcome {
+        status,
+        base: no_state(),
+        journal: Vec::new(alloc),
+        answers: Vec::new(alloc),
+        subs,
+    }
+}
+
+/// A life was made, and told with this status.
+fn made(status: u8, watched: WatchedLife) -> WatchOutcome
+    requires { (base : Persist) × (watched.life.boot ≡ Started 0 base) }
+    ensures status { result.status ≡ status }
+    ensures boot { watched.life.boot ≡ Started 0 result.base }
+    ensures journal { result.journal.items ≡ watched.life.journal.items }
+    ensures answers { result.answers.items ≡ watched.life.replies.items }
+    ensures subs { (kinds_in result.subs ≡ kinds_in watched.subs) × (values_in result.subs ≡ values_in watched.subs) }
+{
+    let WatchedLife { life, subs } = watched;
+    let Life {
+        boot,
+        journal,
+        queue: _,
+        replies: answers,
+    } = life;
+    let Boot::Started { start: base, .. } = boot else {
+        unreachable!()
+    };
+    WatchOutcome {
+        status,
+        base,
+        journal,
+        answers,
+        subs,
+    }
+}
+
+/// Makes the life of a script, and tells it.
+fn watch_script<R: Threads + Wait + Sync, K: Sink, G: Gate + Sync>(
+    rt: &R,
+    alloc: Global,
+    script: &Script,
+    sink: &mut K,
+    dids: DidTable<DID_ROWS>,
+    subs: SubTable<KINDS>,
+    gate: &G,
+) -> WatchOutcome
+    requires watchable { IsTrue (is_watchable (content script.now)) }
+    requires served { Serves (dids_of dids) script.now.config.events.items }
+    requires zero { IsAtZero subs }
+    ensures { IsMadeOf (writing_of K.held K.faults sink.old sink.new) (content script.now) (kinds_in subs) result
+        ⊎ WantsMemory (writing_of K.held K.faults sink.old sink.new) result }
+{
+    let parts = &script.lives[0];
+    let Ok(watched) = live(rt, alloc, gate, &script.config, parts, dids, subs) else {
+        return unmade(alloc, OUT_OF_MEMORY, SubTable::new());
+    };
+    match write_watched(alloc, parts, &watched, sink) {
+        Ok(()) => made(0, watched),
+        Err(WriteFault::Failed) => made(UNWRITTEN, watched),
+        Err(WriteFault::Memory) => unmade(alloc, OUT_OF_MEMORY, watched.subs),
+    }
+}
+
+/// Reads a script from `source`, makes its one life on a lock over a watched machine, the lanes of a block at the same time on threads of
+/// `rt`, and tells `sink` its lines and then the value of each kind that has a subscriber. The life begins as one of a controller that
+/// never saved a state, and keeps none. Each step is made between the two calls of `gate`.
+pub fn watch<R: Threads + Wait + Sync, S: Source, K: Sink, G: Gate + Sync>(
+    rt: &R,
+    alloc: Global,
+    source: &mut S,
+    sink: &mut K,
+    dids: DidTable<DID_ROWS>,
+    subs: SubTable<KINDS>,
+    gate: &G,
+) -> WatchOutcome
+    requires { IsAtZero subs }
+    ensures { Watches (dids_of dids) (reading_of S.left S.faults source.old source.new) (writing_of K.held K.faults sink.old sink.new)
+        (kinds_in subs) (values_in subs) result }
+{
+    match ask(alloc, source, &dids) {
+        Asked::Watch(script) => watch_script(rt, alloc, &script, sink, dids, subs, gate),
+        Asked::Other => {
+            let status = status_by(REFUSED, write_other(sink));
+            unmade(alloc, status, subs)
+        }
+        Asked::Refused(fault) => {
+            let status = status_by(REFUSED, write_script_fault(alloc, &fault, sink));
+            unmade(alloc, status, subs)
+        }
+        Asked::Unread => {
+            let status = status_by(UNREAD, write_unread(sink));
+            unmade(alloc, status, subs)
+        }
+        Asked::Memory => unmade(alloc, OUT_OF_MEMORY, subs),
+    }
+}

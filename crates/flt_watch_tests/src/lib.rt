@@ -1,0 +1,7 @@
+//! Tests of watches: worked scripts with their reports and values, the scripts that a watch does not make, and lanes that are held by a gate.
+//!
+//! It stands on `flt_watch` and has nothing for the crates above. Read the table of `src/tests/rows.rt`.
+#![tactic(auto)]
+
+#[cfg(test)]
+mod tests;

@@ -1,0 +1,3 @@
+// Watches of whole scripts.
+mod orders;
+mod rows;

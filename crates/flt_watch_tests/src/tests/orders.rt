@@ -1,0 +1,77 @@
+// Two lanes of a watch, held by a gate so that the one or the other makes its call first.
+use super::rows::watched;
+use flt_lane::Gate;
+use std::sync::Wait;
+use std::sync::atomic::{AtomicU64, Ordering};
+use std::test::Fail;
+use std::thread::yield_now;
+
+/// How often a lane looks for the other.
+const TURNS: u32 = 1_000_000;
+
+const SCRIPT: &str = "event 0 dtc 000001\ncycle 0\npar\nlane\nfail 0\nlane\npass 0\nend\n";
+
+const LINES: &str =
+    "life 1 generation 0\ncycle 0 -> taken\npar\nlane 1\nfail 0 -> taken\nlane 2\npass 0 -> taken\nend\n";
+
+/// Each order, by the lane that goes first, with the lines of the kinds: those of its own journal.
+static ORDERS: [(u32, &str); 2] = [
+    (
+        1,
+        "watch 0 value 2\nwatch 1 value 12078\nwatch 2 value 648415\n",
+    ),
+    (
+        2,
+        "watch 0 value 2\nwatch 1 value 47\nwatch 2 value 634927\n",
+    ),
+];
+
+/// Holds the other lane before its step until the first has made its own.
+#[derive(Drop)]
+struct Order {
+    first: u32,
+    made: AtomicU64,
+    vain: AtomicU64,
+}
+
+impl Gate for Order {
+    fn before<R: Wait>(&self, _rt: &R, lane: u32, _step: u32) {
+        if lane == 0 || lane == self.first {
+            return;
+        }
+        for _ in 0..TURNS {
+            if self.made.load(Ordering::SeqCst) > 0 {
+                return;
+            }
+            yield_now();
+        }
+        self.vain.fetch_add(1, Ordering::SeqCst);
+    }
+
+    fn after<R: Wait>(&self, _rt: &R, lane: u32, _step: u32) {
+        if lane == self.first {
+            self.made.fetch_add(1, Ordering::SeqCst);
+        }
+    }
+}
+
+#[test]
+fn each_order_has_the_values_of_its_journal(rt: HostRuntime) -> Result<(), Fail> {
+    for (first, values) in &ORDERS {
+        let order = Order {
+            first: *first,
+            made: AtomicU64::new(0),
+            vain: AtomicU64::new(0),
+        };
+        let (outcome, sink) = watched(&rt, &order, SCRIPT, (&[], &[]), rt.alloc())?;
+        let told = sink.bytes();
+        assert!(rt;
+            outcome.status == 0
+                && told.starts_with(LINES.as_bytes())
+                && told.ends_with(values.as_bytes()),
+            "{values}"
+        );
+        assert!(rt; order.vain.load(Ordering::SeqCst) == 0);
+    }
+    Ok(())
+}

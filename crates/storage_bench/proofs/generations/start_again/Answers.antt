@@ -1,4 +1,0 @@
-use Rattle.storage_bench.proofs.generations.start_again.Goals as goal
-
-pub save-requires-clause-alive : goal.save-requires-clause-alive
-save-requires-clause-alive g c = record { held = _; spare = _; running = c.in-Ok.ensures.started.running }
