@@ -1,62 +1,33 @@
-//! The worked examples with testers, and the answers to every service and sub-function at every length against a table
-//! written from the standard's request forms.
+//! The answers to every service and sub-function at every length against a table written from the standard's request forms. Worked
+//! rows with testers stand in the scripts of the examples.
 ghost use Rattle.std.specs.Prelude.{◌<◌, ◌↔◌, IsTrue, length};
 ghost use Rattle.flt_dcm.specs.Whole.{config_of};
 
 use arrayvec::ArrayVec;
-use flt_config::{Config, DIDS, Debounce, DidUse, EVENTS, EventCfg, Persist, check, initial};
+use flt_config::{Config, EventCfg, Persist, check, initial};
 use flt_dcm::*;
 use flt_dem::DemState;
-use flt_did::{DID_ROWS, DidTable, did_0101, did_0103};
+use flt_did::DidTable;
 use flt_model::{REQUEST, Report};
-use std::process::Abort;
 
-/// A call, a request of a tester with the bytes that are to come (none where the response is suppressed), or the
-/// status that an event is to have.
-#[derive(Clone, Copy)]
-enum Step<'a> {
-    Signal(u8, u16),
-    Fail(u16),
-    Pass(u16),
-    PreFail(u16),
-    Enable(u8, bool),
-    Ignored(u16, Cause),
-    Tick(u16),
-    Cycle(u8),
-    Ask(u8, &'a [u8], &'a [u8]),
-    Status(u16, u8),
-}
-
-/// An event with the settings that a script gives it where it names none.
-fn event(dtc: u32) -> EventCfg {
-    EventCfg {
-        dtc,
+/// A configuration of one event, of DTC 123456.
+fn configured() -> Config {
+    let mut events = ArrayVec::new();
+    events.push(EventCfg {
+        dtc: 0x123456,
         priority: 1,
-        cycle: 0,
         confirm: 1,
         heal: 3,
         age: 40,
-        indicator: false,
-        needs: 0,
-        debounce: Debounce::default(),
-        dids: ArrayVec::new(),
-    }
-}
-
-fn configured(memory: u8, events: ArrayVec<EventCfg, EVENTS>) -> Config {
+        ..EventCfg::default()
+    });
     Config {
         id: 0,
-        memory,
+        memory: 16,
         pages: 512,
         blocks: 8,
         events,
     }
-}
-
-fn one(event: EventCfg) -> Config {
-    let mut events = ArrayVec::new();
-    events.push(event);
-    configured(16, events)
 }
 
 /// A unit, and room for a snapshot.
@@ -66,27 +37,24 @@ struct Server {
     saved: Persist,
 }
 
-/// A unit, where the configuration is valid and the table has what it uses.
-fn served(config: Config, dids: DidTable<DID_ROWS>) -> Option<Server> {
-    match check(config) {
-        Ok(config) => {
-            let saved = initial(&config);
-            if dids.serves(&config.config().events) {
-                let state = UnitState::make(DemState::make(config));
-                let unit = Unit { state, dids };
-                Some(Server { unit, saved })
-            } else {
-                None
-            }
-        }
-        Err(_) => None,
+/// A unit of this configuration, where it is valid.
+fn served() -> Option<Server> {
+    let dids = DidTable::new();
+    let config = check(configured()).ok()?;
+    let saved = initial(&config);
+    if dids.serves(&config.config().events) {
+        let state = UnitState::make(DemState::make(config));
+        let unit = Unit { state, dids };
+        Some(Server { unit, saved })
+    } else {
+        None
     }
 }
 
-fn has_event(unit: &Unit, event: u16) -> bool
-    ensures { IsTrue result ↔ (event < length (config_of unit.now).events.items) }
+fn has_event(unit: &Unit) -> bool
+    ensures { IsTrue result ↔ (0 < length (config_of unit.now).events.items) }
 {
-    (event as usize) < unit.config().config().events.len()
+    0 < unit.config().config().events.len()
 }
 
 impl Server {
@@ -102,367 +70,23 @@ impl Server {
         }
     }
 
-    /// Whether the response has these bytes, or is suppressed where they are none.
-    fn answers(&mut self, tester: u8, request: &[u8], wanted: &[u8]) -> bool {
-        match self.ask(tester, request) {
-            Some(Reply::Response(bytes)) => bytes.as_slice() == wanted,
-            Some(Reply::Silent) => wanted.is_empty(),
-            _ => false,
-        }
-    }
-
-    /// Whether a report of a configured event has this reply.
-    fn reports(&mut self, event: u16, report: Report, wanted: Reply) -> bool {
-        if has_event(&self.unit, event) {
-            let op = Op::Report { event, report };
-            self.unit.apply(&op, &mut self.saved) == wanted
+    /// Whether a failure of the event is taken.
+    fn fails(&mut self) -> bool {
+        if has_event(&self.unit) {
+            let op = Op::Report {
+                event: 0,
+                report: Report::Failed,
+            };
+            self.unit.apply(&op, &mut self.saved) == Reply::Taken
         } else {
             false
         }
     }
 
-    fn shows(&mut self, event: u16, status: u8) -> bool {
-        if has_event(&self.unit, event) {
-            match self.unit.apply(&Op::Show { event }, &mut self.saved) {
-                Reply::Shown(shown) => shown.status == status,
-                _ => false,
-            }
-        } else {
-            false
-        }
+    /// Whether the first cycle starts.
+    fn starts(&mut self) -> bool {
+        self.unit.apply(&Op::Cycle { cycle: 0 }, &mut self.saved) == Reply::Taken
     }
-
-    /// Makes a step. The answer tells whether the reply is the one that is to come.
-    fn agrees(&mut self, step: Step) -> bool {
-        match step {
-            Step::Signal(index, value) => {
-                if index < 8 {
-                    let op = Op::Signal { index, value };
-                    self.unit.apply(&op, &mut self.saved) == Reply::Taken
-                } else {
-                    false
-                }
-            }
-            Step::Fail(event) => self.reports(event, Report::Failed, Reply::Taken),
-            Step::Pass(event) => self.reports(event, Report::Passed, Reply::Taken),
-            Step::PreFail(event) => self.reports(event, Report::PreFailed, Reply::Taken),
-            Step::Enable(condition, fulfilled) => {
-                if condition < 8 {
-                    let op = Op::Enable {
-                        condition,
-                        fulfilled,
-                    };
-                    self.unit.apply(&op, &mut self.saved) == Reply::Taken
-                } else {
-                    false
-                }
-            }
-            Step::Ignored(event, cause) => {
-                self.reports(event, Report::Failed, Reply::Ignored(cause))
-            }
-            Step::Tick(ticks) => {
-                self.unit.apply(&Op::Tick { ticks }, &mut self.saved) == Reply::Taken
-            }
-            Step::Cycle(cycle) => {
-                if cycle < 4 {
-                    self.unit.apply(&Op::Cycle { cycle }, &mut self.saved) == Reply::Taken
-                } else {
-                    false
-                }
-            }
-            Step::Ask(tester, request, wanted) => self.answers(tester, request, wanted),
-            Step::Status(event, status) => self.shows(event, status),
-        }
-    }
-}
-
-/// The place of the first step that does not agree, if one does not.
-fn first_difference(config: Config, dids: DidTable<DID_ROWS>, steps: &[Step]) -> Option<usize> {
-    let mut server = match served(config, dids) {
-        Some(server) => server,
-        None => return Some(0),
-    };
-    for place in 0..steps.len() {
-        if !server.agrees(steps[place]) {
-            return Some(place);
-        }
-    }
-    None
-}
-
-/// Each step agrees.
-fn agree(rt: &impl Abort, config: Config, dids: DidTable<DID_ROWS>, steps: &[Step]) {
-    assert_eq!(rt; first_difference(config, dids, steps), None);
-}
-
-/// What a mask lists, and what a clear leaves.
-static MASKS: [Step<'static>; 15] = [
-    Step::Ask(
-        0,
-        &[0x19, 0x02, 0x10],
-        &[0x59, 0x02, 0xFF, 0x12, 0x34, 0x56, 0x50],
-    ),
-    Step::Ask(0, &[0x19, 0x02, 0x00], &[0x59, 0x02, 0xFF]),
-    Step::Cycle(0),
-    Step::Fail(0),
-    Step::Ask(3, &[0x14, 0x12, 0x34, 0x57], &[0x7F, 0x14, 0x31]),
-    Step::Ask(3, &[0x14, 0xFF, 0xFF], &[0x7F, 0x14, 0x13]),
-    Step::Status(0, 0x2F),
-    Step::Ask(
-        0,
-        &[0x19, 0x01, 0x08],
-        &[0x59, 0x01, 0xFF, 0x01, 0x00, 0x01],
-    ),
-    Step::Ask(
-        0,
-        &[0x19, 0x03],
-        &[0x59, 0x03, 0x12, 0x34, 0x56, 0x01, 0x12, 0x34, 0x56, 0x02],
-    ),
-    Step::Ask(
-        0,
-        &[0x19, 0x0C],
-        &[0x59, 0x0C, 0xFF, 0x12, 0x34, 0x56, 0x2F],
-    ),
-    Step::Ask(0, &[0x14, 0xFF, 0xFF, 0xFF], &[0x54]),
-    Step::Status(0, 0x50),
-    Step::Ask(
-        0,
-        &[0x19, 0x0A],
-        &[0x59, 0x0A, 0xFF, 0x12, 0x34, 0x56, 0x50],
-    ),
-    Step::Ask(0, &[0x19, 0x0D], &[0x59, 0x0D, 0xFF]),
-    Step::Ask(
-        0,
-        &[0x19, 0x01, 0x08],
-        &[0x59, 0x01, 0xFF, 0x01, 0x00, 0x00],
-    ),
-];
-
-/// A counter on its way to a threshold.
-static COUNTER: [Step<'static>; 5] = [
-    Step::Cycle(0),
-    Step::Pass(0),
-    Step::Ask(0, &[0x19, 0x14], &[0x59, 0x14]),
-    Step::PreFail(0),
-    Step::Ask(0, &[0x19, 0x14], &[0x59, 0x14, 0x00, 0x00, 0x01, 0x26]),
-];
-
-#[test]
-fn dtcs_are_listed_cleared_and_counted(rt: HostRuntime) {
-    agree(&rt, one(event(0x123456)), DidTable::new(), &MASKS);
-
-    let counted = EventCfg {
-        debounce: Debounce::Counter {
-            fail_at: 10,
-            pass_at: -10,
-            up: 3,
-            down: 2,
-            jump_up: Some(0),
-            jump_down: None,
-        },
-        ..event(0x000001)
-    };
-    agree(&rt, one(counted), DidTable::new(), &COUNTER);
-}
-
-/// A tester that holds the setting off, until it is silent for too long.
-static SESSION: [Step<'static>; 16] = [
-    Step::Cycle(0),
-    Step::Ask(0, &[0x85, 0x02], &[0x7F, 0x85, 0x7F]),
-    Step::Ask(0, &[0x10, 0x03], &[0x50, 0x03, 0x00, 0x32, 0x01, 0xF4]),
-    Step::Ask(0, &[0x85, 0x02], &[0xC5, 0x02]),
-    Step::Ask(0, &[0x85, 0x82], &[]),
-    Step::Ignored(0, Cause::SettingOff),
-    Step::Tick(499),
-    Step::Ignored(0, Cause::SettingOff),
-    Step::Tick(1),
-    Step::Fail(0),
-    Step::Ask(0, &[0x85, 0x82], &[0x7F, 0x85, 0x7F]),
-    Step::Ask(0, &[0x10, 0x83], &[]),
-    Step::Ask(0, &[0x85, 0x82, 0xFF, 0xFF, 0xFF], &[]),
-    Step::Ask(0, &[0x10, 0x03], &[0x50, 0x03, 0x00, 0x32, 0x01, 0xF4]),
-    Step::Tick(65535),
-    Step::Fail(0),
-];
-
-/// Two testers that hold the setting off.
-static TWO_TESTERS: [Step<'static>; 10] = [
-    Step::Cycle(0),
-    Step::Ask(0, &[0x10, 0x03], &[0x50, 0x03, 0x00, 0x32, 0x01, 0xF4]),
-    Step::Ask(1, &[0x10, 0x03], &[0x50, 0x03, 0x00, 0x32, 0x01, 0xF4]),
-    Step::Ask(0, &[0x85, 0x02], &[0xC5, 0x02]),
-    Step::Ask(1, &[0x85, 0x02], &[0xC5, 0x02]),
-    Step::Ask(0, &[0x10, 0x01], &[0x50, 0x01, 0x00, 0x32, 0x01, 0xF4]),
-    Step::Ignored(0, Cause::SettingOff),
-    Step::Ask(1, &[0x3E, 0x80], &[]),
-    Step::Ask(1, &[0x10, 0x01], &[0x50, 0x01, 0x00, 0x32, 0x01, 0xF4]),
-    Step::Fail(0),
-];
-
-#[test]
-fn the_setting_is_off_while_a_tester_holds_it(rt: HostRuntime) {
-    agree(&rt, one(event(0x000001)), DidTable::new(), &SESSION);
-
-    agree(&rt, one(event(0x000001)), DidTable::new(), &TWO_TESTERS);
-}
-
-/// Frames and extended data, of an event with and of one without.
-static SNAPSHOTS: [Step<'static>; 13] = [
-    Step::Signal(0, 258),
-    Step::Signal(2, 7),
-    Step::Cycle(0),
-    Step::Fail(0),
-    Step::Ask(
-        0,
-        &[0x19, 0x04, 0x12, 0x34, 0x56, 0x02],
-        &[
-            0x59, 0x04, 0x12, 0x34, 0x56, 0x2F, 0x02, 0x02, 1, 1, 1, 2, 1, 3, 7,
-        ],
-    ),
-    Step::Signal(0, 3),
-    Step::Pass(0),
-    Step::Fail(0),
-    Step::Ask(
-        0,
-        &[0x19, 0x04, 0x12, 0x34, 0x56, 0xFF],
-        &[
-            0x59, 0x04, 0x12, 0x34, 0x56, 0x2F, 0x01, 0x02, 1, 1, 1, 2, 1, 3, 7, 0x02, 0x02, 1, 1,
-            0, 3, 1, 3, 7,
-        ],
-    ),
-    Step::Ask(
-        0,
-        &[0x19, 0x04, 0x12, 0x34, 0x56, 0x03],
-        &[0x7F, 0x19, 0x31],
-    ),
-    Step::Ask(
-        0,
-        &[0x19, 0x04, 0x12, 0x34, 0x57, 0x01],
-        &[0x59, 0x04, 0x12, 0x34, 0x57, 0x50],
-    ),
-    Step::Ask(
-        0,
-        &[0x19, 0x06, 0x12, 0x34, 0x56, 0xFF],
-        &[0x59, 0x06, 0x12, 0x34, 0x56, 0x2F, 0x01, 0x02, 0x02, 0x00],
-    ),
-    Step::Ask(
-        0,
-        &[0x19, 0x86, 0x12, 0x34, 0x58, 0x01],
-        &[0x7F, 0x19, 0x31],
-    ),
-];
-
-#[test]
-fn snapshots_and_extended_data_are_told(rt: HostRuntime) {
-    let mut table: DidTable<DID_ROWS> = DidTable::new();
-    assert!(&rt; table.add(0x0101, 2, did_0101).is_ok());
-    assert!(&rt; table.add(0x0103, 1, did_0103).is_ok());
-    let mut dids: ArrayVec<DidUse, DIDS> = ArrayVec::new();
-    dids.push(DidUse {
-        id: 0x0101,
-        width: 2,
-    });
-    dids.push(DidUse {
-        id: 0x0103,
-        width: 1,
-    });
-    let mut events = ArrayVec::new();
-    events.push(EventCfg {
-        dids,
-        ..event(0x123456)
-    });
-    events.push(event(0x123457));
-    agree(&rt, configured(16, events), table, &SNAPSHOTS);
-}
-
-#[test]
-fn a_request_meets_the_session_that_silence_left(rt: HostRuntime) {
-    let extended: &[u8] = &[0x50, 0x03, 0x00, 0x32, 0x01, 0xF4];
-    let refused: &[u8] = &[0x7F, 0x85, 0x7F];
-    let switched_off: &[u8] = &[0xC5, 0x02];
-    let answers = [
-        (498, switched_off),
-        (499, switched_off),
-        (500, refused),
-        (501, refused),
-    ];
-    for (ticks, answer) in answers {
-        let asked = [
-            Step::Cycle(0),
-            Step::Tick(300),
-            Step::Ask(0, &[0x10, 0x03], extended),
-            Step::Tick(ticks),
-            Step::Ask(0, &[0x85, 0x02], answer),
-        ];
-        agree(&rt, one(event(0x000001)), DidTable::new(), &asked);
-    }
-    for (ticks, report) in [
-        (498, Step::Ignored(0, Cause::SettingOff)),
-        (499, Step::Ignored(0, Cause::SettingOff)),
-        (500, Step::Fail(0)),
-        (501, Step::Fail(0)),
-    ] {
-        let held = [
-            Step::Cycle(0),
-            Step::Ask(0, &[0x10, 0x03], extended),
-            Step::Ask(0, &[0x85, 0x02], switched_off),
-            Step::Tick(499),
-            Step::Ask(0, &[0x10, 0x03], extended),
-            Step::Tick(ticks),
-            report,
-        ];
-        agree(&rt, one(event(0x000001)), DidTable::new(), &held);
-    }
-}
-
-/// Requests of four testers, two of which hold the setting off.
-static FOUR_TESTERS: [Step<'static>; 33] = [
-    Step::Cycle(0),
-    Step::Fail(0),
-    Step::Ask(0, &[0x10, 0x03], &[0x50, 0x03, 0x00, 0x32, 0x01, 0xF4]),
-    Step::Ask(1, &[0x10, 0x03], &[0x50, 0x03, 0x00, 0x32, 0x01, 0xF4]),
-    Step::Ask(0, &[0x85, 0x02], &[0xC5, 0x02]),
-    Step::Ask(1, &[0x85, 0x02], &[0xC5, 0x02]),
-    Step::Ask(2, &[0x85, 0x01], &[0x7F, 0x85, 0x7F]),
-    Step::Ask(
-        2,
-        &[0x19, 0x02, 0xFF],
-        &[0x59, 0x02, 0xFF, 0x00, 0x00, 0x01, 0x2F],
-    ),
-    Step::Ask(
-        0,
-        &[0x19, 0x01, 0xFF],
-        &[0x59, 0x01, 0xFF, 0x01, 0x00, 0x01],
-    ),
-    Step::Ask(2, &[0x14, 0x00, 0x00, 0x02], &[0x7F, 0x14, 0x31]),
-    Step::Ask(2, &[0x14, 0x00, 0x00, 0x01], &[0x54]),
-    Step::Status(0, 0x50),
-    Step::Ignored(0, Cause::SettingOff),
-    Step::Tick(400),
-    Step::Ask(1, &[0x3E, 0x80], &[]),
-    Step::Tick(99),
-    Step::Ignored(0, Cause::SettingOff),
-    Step::Tick(1),
-    Step::Ask(0, &[0x85, 0x81], &[0x7F, 0x85, 0x7F]),
-    Step::Ignored(0, Cause::SettingOff),
-    Step::Tick(399),
-    Step::Ask(3, &[0x10, 0x03], &[0x50, 0x03, 0x00, 0x32, 0x01, 0xF4]),
-    Step::Ignored(0, Cause::SettingOff),
-    Step::Tick(1),
-    Step::Fail(0),
-    Step::Status(0, 0x2F),
-    Step::Ask(1, &[0x85, 0x02], &[0x7F, 0x85, 0x7F]),
-    Step::Ask(3, &[0x85, 0x02, 0xFF, 0xFF, 0xFE], &[0x7F, 0x85, 0x31]),
-    Step::Pass(0),
-    Step::Ask(3, &[0x85, 0x82], &[]),
-    Step::Ignored(0, Cause::SettingOff),
-    Step::Ask(3, &[0x85, 0x01], &[0xC5, 0x01]),
-    Step::Fail(0),
-];
-
-#[test]
-fn requests_go_on_while_two_testers_hold_the_setting_off(rt: HostRuntime) {
-    agree(&rt, one(event(0x000001)), DidTable::new(), &FOUR_TESTERS);
 }
 
 /// A request of the profile: the service, the sub-function where it has one, the two lengths that it may have, and the
@@ -652,7 +276,7 @@ fn differences(server: &mut Server, service: u8, second: u8, rest: Rest, extende
     let mut differences = 0u32;
     for length in 1..17usize {
         server.ask(2, &[0x10, 0x81]);
-        let failed = server.reports(0, Report::Failed, Reply::Taken);
+        let failed = server.fails();
         if extended {
             server.ask(2, &[0x10, 0x83]);
         }
@@ -675,11 +299,8 @@ static RESTS: [(Rest, bool); 4] = [
 
 #[test]
 fn each_request_is_answered_as_the_table_says(rt: HostRuntime) {
-    let mut server = served(one(event(0x123456)), DidTable::new()).expect(
-        &rt,
-        "the configuration is valid",
-    );
-    assert!(&rt; server.agrees(Step::Cycle(0)));
+    let mut server = served().expect(&rt, "the configuration is valid");
+    assert!(&rt; server.starts());
     for service in 0..=255u8 {
         let is_known = REQUESTS.iter().any(|row| row.0 == service);
         for second in 0..=255u8 {
@@ -691,28 +312,4 @@ fn each_request_is_answered_as_the_table_says(rt: HostRuntime) {
             }
         }
     }
-}
-
-/// Reports that are ignored for each cause.
-static CAUSES: [Step<'static>; 11] = [
-    Step::Enable(2, false),
-    Step::Ignored(0, Cause::NotStarted),
-    Step::Cycle(0),
-    Step::Ignored(0, Cause::NotEnabled),
-    Step::Ask(0, &[0x10, 0x03], &[0x50, 0x03, 0x00, 0x32, 0x01, 0xF4]),
-    Step::Ask(0, &[0x85, 0x02], &[0xC5, 0x02]),
-    Step::Ignored(0, Cause::SettingOff),
-    Step::Ask(0, &[0x85, 0x01], &[0xC5, 0x01]),
-    Step::Enable(2, true),
-    Step::Fail(0),
-    Step::Status(0, 0x2F),
-];
-
-#[test]
-fn the_setting_comes_first_and_the_conditions_last(rt: HostRuntime) {
-    let needy = EventCfg {
-        needs: 4,
-        ..event(0x000001)
-    };
-    agree(&rt, one(needy), DidTable::new(), &CAUSES);
 }
