@@ -70,47 +70,70 @@ fn held_by(block: u16, found: Found, bytes: &[u8; 128]) -> Held {
     }
 }
 
-// What the driver reads of both blocks.
+// What the driver reads of a block.
+fn read_one<B: Blocks>(driver: &mut B, block: u16) -> Result<Held, BlockFault>
+    requires { Contains (B.state driver.old).numbers block }
+    ensures { (B.state driver.new).numbers ≡ (B.state driver.old).numbers }
+{
+    let mut out = [0; 128];
+    let found = driver.read(block, &mut out)?;
+    Ok(held_by(block, found, &out))
+}
+
+// What it reads of both blocks.
 fn read_both<B: Blocks>(driver: &mut B) -> Result<(Held, Held), BlockFault>
     requires first { Contains (B.state driver.old).numbers 8 }
     requires second { Contains (B.state driver.old).numbers 9 }
     ensures { (B.state driver.new).numbers ≡ (B.state driver.old).numbers }
 {
-    let mut out = [0; 128];
-    let first = driver.read(8, &mut out)?;
-    let first = held_by(8, first, &out);
-    let second = driver.read(9, &mut out)?;
-    Ok((first, held_by(9, second, &out)))
+    let first = read_one(driver, 8)?;
+    Ok((first, read_one(driver, 9)?))
 }
 
-// How far the job came: what the blocks hold, and the change that failed, if one did.
+// A block of the job: what it holds, and what the change that failed asked for, or again what it holds.
+#[derive(Clone, Copy)]
+struct Changed {
+    held: Held,
+    asked: Held,
+}
+
+impl Changed {
+    // A block that holds this, and of which no change failed.
+    fn to(held: Held) -> Changed {
+        Changed { held, asked: held }
+    }
+
+    // Whether it may be found so.
+    fn allows(self, found: Held) -> bool {
+        found == self.held || found == self.asked
+    }
+}
+
+// How far the job came: both blocks, and whether all changes were made.
 #[derive(Drop)]
 struct Progress {
-    first: Held,
-    second: Held,
-    failed: Option<(bool, Held)>,
+    first: Changed,
+    second: Changed,
+    is_whole: bool,
 }
 
 impl Progress {
     // Takes a change that was made.
     fn take(&mut self, second: bool, asked: Held) {
         if second {
-            self.second = asked;
+            self.second = Changed::to(asked);
         } else {
-            self.first = asked;
+            self.first = Changed::to(asked);
         }
     }
 
-    // Whether these are the blocks, the one of the change that failed being as before or as asked.
-    fn allows(&self, first: Held, second: Held) -> bool {
-        match self.failed {
-            None => first == self.first && second == self.second,
-            Some((false, asked)) => {
-                (first == self.first || first == asked) && second == self.second
-            }
-            Some((true, asked)) => {
-                first == self.first && (second == self.second || second == asked)
-            }
+    // Takes the change that failed.
+    fn fail(&mut self, second: bool, asked: Held) {
+        self.is_whole = false;
+        if second {
+            self.second.asked = asked;
+        } else {
+            self.first.asked = asked;
         }
     }
 }
@@ -122,14 +145,14 @@ fn run_job<B: Blocks>(driver: &mut B) -> Progress
     ensures { (B.state driver.new).numbers ≡ (B.state driver.old).numbers }
 {
     let mut progress = Progress {
-        first: Held::Missing,
-        second: Held::Missing,
-        failed: None,
+        first: Changed::to(Held::Missing),
+        second: Changed::to(Held::Missing),
+        is_whole: true,
     };
     for change in &JOB {
         let (second, asked) = *change;
         if put(driver, second, asked).is_err() {
-            progress.failed = Some((second, asked));
+            progress.fail(second, asked);
             return progress;
         }
         progress.take(second, asked);
@@ -161,6 +184,9 @@ pub fn run_armed<B: Blocks>(
     let progress = run_job(driver);
     restart(driver);
     let (first, second) = read_again(driver)?;
-    assert!(rt; progress.allows(first, second), "{arm:?}");
-    Ok((progress.failed.is_none(), (first, second)))
+    assert!(rt;
+        progress.first.allows(first) && progress.second.allows(second),
+        "{arm:?}"
+    );
+    Ok((progress.is_whole, (first, second)))
 }

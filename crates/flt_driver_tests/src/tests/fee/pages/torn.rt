@@ -141,6 +141,33 @@ fn arm_at(operation: u32, pattern: Pattern, is_cut: bool) -> Arm
     }
 }
 
+// The first byte of the tail of a page, by an erase or a program.
+fn tail_from(is_erase: bool, page: u16) -> usize {
+    match (is_erase, page < 2) {
+        (false, _) => 16,
+        (true, true) => 32,
+        (true, false) => 0,
+    }
+}
+
+// The image before an operation of a call, of which the second is the first program of a sector that was erased.
+fn start_of(operation: u32) -> Image {
+    if operation == 2 {
+        erased(&image())
+    } else {
+        image()
+    }
+}
+
+// The image that the operation asks for.
+fn asked_of(call: Call, is_erase: bool, start: &Image) -> Image {
+    if is_erase {
+        erased(start)
+    } else {
+        asked(call, start)
+    }
+}
+
 // Each page is what the pattern leaves of an operation, which is an erase of the second sector or a program.
 fn compare(
     rt: &impl Abort,
@@ -155,14 +182,9 @@ fn compare(
     for sector in 0..2 {
         for page in 0..8 {
             let place = sector as usize * 8 + page as usize;
-            let tail = match (is_erase, page < 2) {
-                (false, _) => 16,
-                (true, true) => 32,
-                (true, false) => 0,
-            };
-            let left = torn(pattern, &start[place], &asked[place], tail);
+            let tail = tail_from(is_erase, page);
             assert!(rt;
-                *flash.page(sector, page) == left,
+                *flash.page(sector, page) == torn(pattern, &start[place], &asked[place], tail),
                 "{pattern:?} page {page} of sector {sector}"
             );
         }
@@ -190,17 +212,9 @@ fn try_case(
     let mut out = [0; 32];
     assert!(rt; flash.read_page(0, 0, &mut out).is_err() == (is_cut && !only_reads));
     flash.power_up();
-    let start = if operation == 2 {
-        erased(&image())
-    } else {
-        image()
-    };
     let is_erase = call == Call::Begin && operation == 1;
-    let asked = if is_erase {
-        erased(&start)
-    } else {
-        asked(call, &start)
-    };
+    let start = start_of(operation);
+    let asked = asked_of(call, is_erase, &start);
     compare(rt, &flash, &start, &asked, pattern, is_erase);
     tells(rt, &mut flash, &numbers, call, pattern);
     Ok(())
