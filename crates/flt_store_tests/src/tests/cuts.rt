@@ -238,40 +238,43 @@ fn run_case<B: Blocks + Drop>(
     Ok((done, stands))
 }
 
+// A cut, or a fault, at this operation.
+fn arm_at(is_cut: bool, after: u32, pattern: Pattern) -> Arm {
+    if is_cut {
+        Arm::Cut { after, pattern }
+    } else {
+        Arm::Fault { after, pattern }
+    }
+}
+
+// Where an operation of the job is cut, the job ends there; by a fault it goes on. Behind its last operation the arm stands.
+fn assert_ended(rt: &impl Abort, ended: (bool, bool), made: Arm, is_cut: bool, last: bool) {
+    assert!(rt; ended == (last || !is_cut, last), "{made:?}");
+}
+
+// The patterns, and whether an operation is cut by each, or fails.
+static KINDS: [(Pattern, bool); 8] = [
+    (Pattern::Nothing, true),
+    (Pattern::All, true),
+    (Pattern::Tail, true),
+    (Pattern::Odd, true),
+    (Pattern::Nothing, false),
+    (Pattern::All, false),
+    (Pattern::Tail, false),
+    (Pattern::Odd, false),
+];
+
 #[test]
 fn each_operation_is_cut_and_fails(rt: HostRuntime) -> Result<(), Fail> {
     let config = configured(1, 1, 1)?;
-    let mut stops: u32 = 0;
-    for pattern in &[Pattern::Nothing, Pattern::All, Pattern::Tail, Pattern::Odd] {
-        let pattern = *pattern;
+    for (pattern, is_cut) in &KINDS {
         for after in 1..OPERATIONS + 2 {
-            let last = after > OPERATIONS;
+            let made = arm_at(*is_cut, after, *pattern);
             let store = blank_store(rt.alloc(), &config)?;
-            let cut = run_case(
-                &rt,
-                store,
-                &config,
-                Told::blank(),
-                &JOB,
-                Arm::Cut { after, pattern },
-            )?;
-            assert!(&rt; cut == (last, last), "{after} {pattern:?}");
-            let store = blank_store(rt.alloc(), &config)?;
-            let fault = run_case(
-                &rt,
-                store,
-                &config,
-                Told::blank(),
-                &JOB,
-                Arm::Fault { after, pattern },
-            )?;
-            assert!(&rt; fault == (true, last), "{after} {pattern:?}");
-            if !last {
-                stops = stops.saturating_add(1);
-            }
+            let ended = run_case(&rt, store, &config, Told::blank(), &JOB, made)?;
+            assert_ended(&rt, ended, made, *is_cut, after > OPERATIONS);
         }
     }
-    println!(rt; "{stops} cuts and as many faults")?;
     Ok(())
 }
 
@@ -279,31 +282,12 @@ fn each_operation_is_cut_and_fails(rt: HostRuntime) -> Result<(), Fail> {
 #[test]
 fn each_operation_on_an_image_of_version_1_is_cut_and_fails(rt: HostRuntime) -> Result<(), Fail> {
     let config = configured(1, 1, 1)?;
-    let first = Told::old();
-    for pattern in &[Pattern::Nothing, Pattern::All, Pattern::Tail, Pattern::Odd] {
-        let pattern = *pattern;
+    for (pattern, is_cut) in &KINDS {
         for after in 1..OLD_OPERATIONS + 2 {
-            let last = after > OLD_OPERATIONS;
+            let made = arm_at(*is_cut, after, *pattern);
             let store = store_over(rt.alloc(), of_version_1(&rt, rt.alloc())?, &config)?;
-            let cut = run_case(
-                &rt,
-                store,
-                &config,
-                first,
-                &OLD_JOB,
-                Arm::Cut { after, pattern },
-            )?;
-            assert!(&rt; cut == (last, last), "{after} {pattern:?}");
-            let store = store_over(rt.alloc(), of_version_1(&rt, rt.alloc())?, &config)?;
-            let fault = run_case(
-                &rt,
-                store,
-                &config,
-                first,
-                &OLD_JOB,
-                Arm::Fault { after, pattern },
-            )?;
-            assert!(&rt; fault == (true, last), "{after} {pattern:?}");
+            let ended = run_case(&rt, store, &config, Told::old(), &OLD_JOB, made)?;
+            assert_ended(&rt, ended, made, *is_cut, after > OLD_OPERATIONS);
         }
     }
     Ok(())
@@ -312,30 +296,12 @@ fn each_operation_on_an_image_of_version_1_is_cut_and_fails(rt: HostRuntime) -> 
 #[test]
 fn each_write_to_an_eeprom_is_cut_and_fails(rt: HostRuntime) -> Result<(), Fail> {
     let config = configured(1, 1, 1)?;
-    for pattern in &[Pattern::Nothing, Pattern::All, Pattern::Tail, Pattern::Odd] {
-        let pattern = *pattern;
+    for (pattern, is_cut) in &KINDS {
         for after in 1..WRITES + 2 {
-            let last = after > WRITES;
+            let made = arm_at(*is_cut, after, *pattern);
             let store = units_store(rt.alloc())?;
-            let cut = run_case(
-                &rt,
-                store,
-                &config,
-                Told::blank(),
-                &JOB,
-                Arm::Cut { after, pattern },
-            )?;
-            assert!(&rt; cut == (last, last), "{after} {pattern:?}");
-            let store = units_store(rt.alloc())?;
-            let fault = run_case(
-                &rt,
-                store,
-                &config,
-                Told::blank(),
-                &JOB,
-                Arm::Fault { after, pattern },
-            )?;
-            assert!(&rt; fault == (true, last), "{after} {pattern:?}");
+            let ended = run_case(&rt, store, &config, Told::blank(), &JOB, made)?;
+            assert_ended(&rt, ended, made, *is_cut, after > WRITES);
         }
     }
     Ok(())

@@ -34,16 +34,122 @@ fn is_record(flash: &FlashMem, page: u16, block: u16, length: u16) -> bool {
     word_on(flash, page) == Some(head) && word_on(flash, end) == Some(Word::Gate { block, page })
 }
 
-// A fault at a program or erase, which takes no effect.
-fn fault_at(after: u32) -> Step {
-    let pattern = Pattern::Nothing;
-    Step::Arm(Arm::Fault { after, pattern })
-}
+// Faults at a program or erase by its number, which takes no effect.
+const FAULT_1: Step = Step::Arm(Arm::Fault {
+    after: 1,
+    pattern: Pattern::Nothing,
+});
 
-// A cut at a program or erase.
-fn cut_at(after: u32, pattern: Pattern) -> Step {
-    Step::Arm(Arm::Cut { after, pattern })
-}
+const FAULT_2: Step = Step::Arm(Arm::Fault {
+    after: 2,
+    pattern: Pattern::Nothing,
+});
+
+const FAULT_3: Step = Step::Arm(Arm::Fault {
+    after: 3,
+    pattern: Pattern::Nothing,
+});
+
+const FAULT_7: Step = Step::Arm(Arm::Fault {
+    after: 7,
+    pattern: Pattern::Nothing,
+});
+
+const FAULT_18: Step = Step::Arm(Arm::Fault {
+    after: 18,
+    pattern: Pattern::Nothing,
+});
+
+const FAULT_19: Step = Step::Arm(Arm::Fault {
+    after: 19,
+    pattern: Pattern::Nothing,
+});
+
+// Cuts at a program, which takes no effect or the whole one.
+const CUT_1: Step = Step::Arm(Arm::Cut {
+    after: 1,
+    pattern: Pattern::Nothing,
+});
+
+const CUT_4: Step = Step::Arm(Arm::Cut {
+    after: 4,
+    pattern: Pattern::Nothing,
+});
+
+const CUT_7: Step = Step::Arm(Arm::Cut {
+    after: 7,
+    pattern: Pattern::Nothing,
+});
+
+const CUT_15: Step = Step::Arm(Arm::Cut {
+    after: 15,
+    pattern: Pattern::Nothing,
+});
+
+const CUT_18: Step = Step::Arm(Arm::Cut {
+    after: 18,
+    pattern: Pattern::Nothing,
+});
+
+const CUT_21: Step = Step::Arm(Arm::Cut {
+    after: 21,
+    pattern: Pattern::Nothing,
+});
+
+const CUT_15_ALL: Step = Step::Arm(Arm::Cut {
+    after: 15,
+    pattern: Pattern::All,
+});
+
+// Pages of sector 0 that can't be read, by the page and how often.
+const MUTE_9_3: Step = Step::Arm(Arm::Mute {
+    sector: 0,
+    page: 9,
+    times: 3,
+});
+
+const MUTE_10_3: Step = Step::Arm(Arm::Mute {
+    sector: 0,
+    page: 10,
+    times: 3,
+});
+
+const MUTE_18_3: Step = Step::Arm(Arm::Mute {
+    sector: 0,
+    page: 18,
+    times: 3,
+});
+
+const MUTE_18_6: Step = Step::Arm(Arm::Mute {
+    sector: 0,
+    page: 18,
+    times: 6,
+});
+
+const MUTE_18_9: Step = Step::Arm(Arm::Mute {
+    sector: 0,
+    page: 18,
+    times: 9,
+});
+
+const MUTE_31_3: Step = Step::Arm(Arm::Mute {
+    sector: 0,
+    page: 31,
+    times: 3,
+});
+
+const MUTE_46_3: Step = Step::Arm(Arm::Mute {
+    sector: 0,
+    page: 46,
+    times: 3,
+});
+
+// The answer of a save that the flash stops.
+const FLASH: Result<u32, SaveFault> = Err(SaveFault::Flash);
+
+// Steps on a blank flash, and what stands on sector 0 behind them: a page, a block, a length, and whether a complete record of that
+// begins there.
+type Row = (&'static [Step], &'static [(u16, u16, u16, bool)]);
 
 // A flash after a start-up and the first save of an event that failed.
 pub(super) fn saved_flash(rt: &impl Abort, alloc: Global) -> Result<FlashMem, Fail> {
@@ -65,39 +171,235 @@ fn the_first_save_writes_each_block_once(rt: HostRuntime) -> Result<(), Fail> {
         assert!(&rt; is_record(&flash, page, block, length), "{page}");
     }
     assert!(&rt; page_of(&flash, 0, 23) == BLANK_PAGE);
-    let config = configured(1, 0, 1)?;
-    for (after, stands) in [(1, 0), (18, 0), (19, 1)] {
-        let steps = [fault_at(after), Step::Save(0, Ok(1)), Step::Armed(stands)];
-        play(&rt, rt.alloc(), &config, &[failed()], &steps)?;
+    Ok(())
+}
+
+// Rows of one event, of the states at first, of a failure, and of a pass behind it. The commit decides: where its first gate is cut, the
+// first generation or the new one is left by what takes effect, and the third fault is answered. Where the first copy of the commit can't
+// be read, a start-up and a save after a failed one go by the second, and write the first anew where that can't be read again. A
+// start-up reads neither page of the states of the generation before, so mutes of them stand; where the second copy of the commit can't
+// be read, it is written. The second save of a state that stays makes 6 programs, and of one in which each block changes 18; a save
+// after a failed one compares with what stands, and makes 6 again.
+static ROWS: [Row; 18] = [
+    // The programs of the first save.
+    (&[FAULT_1, Step::Save(1, Ok(1)), Step::Armed(0)], &[]),
+    (&[FAULT_18, Step::Save(1, Ok(1)), Step::Armed(0)], &[]),
+    (&[FAULT_19, Step::Save(1, Ok(1)), Step::Armed(1)], &[]),
+    // The gate of the first copy decides.
+    (&[CUT_15, Step::Save(1, FLASH), Step::Life(0, 0)], &[]),
+    (&[CUT_15_ALL, Step::Save(1, FLASH), Step::Life(1, 1)], &[]),
+    (
+        &[
+            FAULT_1,
+            FAULT_2,
+            FAULT_3,
+            Step::Save(1, FLASH),
+            Step::Save(1, Ok(1)),
+            Step::Life(1, 1),
+        ],
+        &[],
+    ),
+    // A muted first copy stops no start-up, and is written anew by the second one where that needs it.
+    (
+        &[
+            Step::Save(1, Ok(1)),
+            MUTE_18_3,
+            Step::Life(1, 1),
+            Step::Armed(0),
+            Step::Life(1, 1),
+        ],
+        &[(23, 16, 10, false)],
+    ),
+    (
+        &[
+            Step::Save(1, Ok(1)),
+            MUTE_18_6,
+            Step::Life(1, 1),
+            Step::Armed(0),
+            Step::Life(1, 1),
+        ],
+        &[(23, 16, 10, true)],
+    ),
+    (
+        &[
+            Step::Save(1, Ok(1)),
+            MUTE_18_9,
+            Step::Life(1, 1),
+            Step::Armed(1),
+            Step::Life(1, 1),
+        ],
+        &[(23, 16, 10, true)],
+    ),
+    // Nor does it stop a save after a failed one.
+    (
+        &[
+            Step::Save(1, Ok(1)),
+            FAULT_1,
+            FAULT_2,
+            FAULT_3,
+            Step::Save(2, FLASH),
+            MUTE_18_3,
+            Step::Save(2, Ok(2)),
+            Step::Armed(0),
+            Step::Life(2, 2),
+        ],
+        &[],
+    ),
+    (
+        &[
+            Step::Save(1, Ok(1)),
+            FAULT_1,
+            FAULT_2,
+            FAULT_3,
+            Step::Save(2, FLASH),
+            MUTE_18_6,
+            Step::Save(2, Ok(2)),
+            Step::Armed(0),
+            Step::Life(2, 2),
+        ],
+        &[],
+    ),
+    (
+        &[
+            Step::Save(1, Ok(1)),
+            FAULT_1,
+            FAULT_2,
+            FAULT_3,
+            Step::Save(2, FLASH),
+            MUTE_18_9,
+            Step::Save(2, Ok(2)),
+            Step::Armed(1),
+            Step::Life(2, 2),
+        ],
+        &[],
+    ),
+    // Pages that no generation needs may be worn.
+    (
+        &[
+            Step::Save(1, Ok(1)),
+            Step::Save(2, Ok(2)),
+            MUTE_9_3,
+            Step::Life(2, 2),
+            Step::Armed(1),
+        ],
+        &[(8, 32, 64, true), (30, 17, 10, true)],
+    ),
+    (
+        &[
+            Step::Save(1, Ok(1)),
+            Step::Save(2, Ok(2)),
+            MUTE_10_3,
+            Step::Life(2, 2),
+            Step::Armed(1),
+        ],
+        &[(8, 32, 64, true), (30, 17, 10, true)],
+    ),
+    (
+        &[
+            Step::Save(1, Ok(1)),
+            Step::Save(2, Ok(2)),
+            MUTE_31_3,
+            Step::Life(2, 2),
+            Step::Armed(0),
+        ],
+        &[(8, 32, 64, true), (30, 17, 10, true)],
+    ),
+    // Blocks that stay are not written.
+    (
+        &[
+            Step::Save(0, Ok(1)),
+            CUT_7,
+            Step::Save(0, Ok(2)),
+            Step::Save(0, FLASH),
+            Step::Life(2, 0),
+        ],
+        &[],
+    ),
+    (
+        &[
+            Step::Save(0, Ok(1)),
+            CUT_18,
+            Step::Save(1, FLASH),
+            Step::Save(1, FLASH),
+            Step::Life(2, 1),
+        ],
+        &[],
+    ),
+    (
+        &[
+            Step::Save(1, Ok(1)),
+            FAULT_1,
+            FAULT_2,
+            FAULT_3,
+            Step::Save(2, FLASH),
+            FAULT_7,
+            Step::Save(1, Ok(2)),
+            Step::Armed(1),
+            Step::Life(2, 1),
+        ],
+        &[],
+    ),
+];
+
+// Whether the flash has these records, and has not those that are not to stand.
+fn are_records(flash: &FlashMem, records: &[(u16, u16, u16, bool)]) -> bool {
+    for (page, block, length, stands) in records {
+        if is_record(flash, *page, *block, *length) != *stands {
+            return false;
+        }
+    }
+    true
+}
+
+// Each row goes as it says.
+fn play_all(
+    rt: &impl Abort,
+    alloc: Global,
+    config: &ValidConfig,
+    states: &[Persist],
+    rows: &[Row],
+) -> Result<(), Fail> {
+    for (steps, records) in rows {
+        let flash = play(rt, alloc, config, states, steps)?;
+        assert!(rt; are_records(&flash, records));
     }
     Ok(())
 }
 
-// A cut there leaves the first generation or the new one, by what takes effect of the program; the third fault is answered.
 #[test]
-fn the_gate_of_the_first_copy_decides(rt: HostRuntime) -> Result<(), Fail> {
+fn saves_of_one_event_go_as_written(rt: HostRuntime) -> Result<(), Fail> {
     let config = configured(1, 0, 1)?;
-    let states = [initial(&config), failed()];
-    let fails = Step::Save(1, Err(SaveFault::Flash));
-    let saves = Step::Save(1, Ok(1));
-    let steps = [cut_at(15, Pattern::Nothing), fails, Step::Life(0, 0)];
-    play(&rt, rt.alloc(), &config, &states, &steps)?;
-    let steps = [cut_at(15, Pattern::All), fails, Step::Life(1, 1)];
-    play(&rt, rt.alloc(), &config, &states, &steps)?;
-    let steps = [
-        fault_at(1),
-        fault_at(2),
-        fault_at(3),
-        fails,
-        saves,
-        Step::Life(1, 1),
-    ];
-    play(&rt, rt.alloc(), &config, &states, &steps)?;
-    Ok(())
+    let states = [initial(&config), failed(), state(&[PASSED], &[1])];
+    play_all(&rt, rt.alloc(), &config, &states, &ROWS)
 }
 
-// The second save is cut at the head of the second copy of its commit. Where the first copy is muted then, both lives after it have
-// the generation before.
+// Rows of two events. The second save is cut at the head of the second copy of its commit. Where the first copy is muted then, both
+// lives after it have the generation before.
+static ROWS_OF_TWO: [Row; 2] = [
+    (
+        &[
+            Step::Save(0, Ok(1)),
+            CUT_21,
+            Step::Save(1, FLASH),
+            MUTE_46_3,
+            Step::Life(1, 0),
+            Step::Life(1, 0),
+        ],
+        &[(45, 16, 10, true)],
+    ),
+    (
+        &[
+            Step::Save(0, Ok(1)),
+            CUT_21,
+            Step::Save(1, FLASH),
+            Step::Armed(0),
+            Step::Life(2, 1),
+            Step::Life(2, 1),
+        ],
+        &[(45, 16, 10, true)],
+    ),
+];
+
 #[test]
 fn a_muted_first_copy_gives_the_generation_before(rt: HostRuntime) -> Result<(), Fail> {
     let config = configured(2, 0, 2)?;
@@ -105,125 +407,7 @@ fn a_muted_first_copy_gives_the_generation_before(rt: HostRuntime) -> Result<(),
         state(&[FAILED, NOT_TESTED], &[1]),
         state(&[FAILED, FAILED], &[2, 1]),
     ];
-    let mute = Step::Arm(Arm::Mute {
-        sector: 0,
-        page: 46,
-        times: 3,
-    });
-    let unmuted = Step::Armed(0);
-    for (muting, number, place) in [(mute, 1, 0), (unmuted, 2, 1)] {
-        let steps = [
-            Step::Save(0, Ok(1)),
-            cut_at(21, Pattern::Nothing),
-            Step::Save(1, Err(SaveFault::Flash)),
-            muting,
-            Step::Life(number, place),
-            Step::Life(number, place),
-        ];
-        let flash = play(&rt, rt.alloc(), &config, &states, &steps)?;
-        assert!(&rt; is_record(&flash, 45, 16, 10));
-    }
-    Ok(())
-}
-
-// Where the first copy of the commit can't be read, a start-up and a save after a failed one go by the second, and write the first
-// anew where that can't be read again.
-#[test]
-fn a_muted_first_copy_stops_nothing(rt: HostRuntime) -> Result<(), Fail> {
-    let config = configured(1, 0, 1)?;
-    let states = [failed(), state(&[PASSED], &[1])];
-    for (times, stands) in [(3, 0), (6, 0), (9, 1)] {
-        let mute = Step::Arm(Arm::Mute {
-            sector: 0,
-            page: 18,
-            times,
-        });
-        let steps = [
-            Step::Save(0, Ok(1)),
-            mute,
-            Step::Life(1, 0),
-            Step::Armed(stands),
-            Step::Life(1, 0),
-        ];
-        let flash = play(&rt, rt.alloc(), &config, &states, &steps)?;
-        assert!(&rt; is_record(&flash, 23, 16, 10) == (times > 3), "{times}");
-        let steps = [
-            Step::Save(0, Ok(1)),
-            fault_at(1),
-            fault_at(2),
-            fault_at(3),
-            Step::Save(1, Err(SaveFault::Flash)),
-            mute,
-            Step::Save(1, Ok(2)),
-            Step::Armed(stands),
-            Step::Life(2, 1),
-        ];
-        play(&rt, rt.alloc(), &config, &states, &steps)?;
-    }
-    Ok(())
-}
-
-// A start-up reads neither page of the states of the generation before, so mutes of them stand; and where the second copy of the
-// commit can't be read, it is written.
-#[test]
-fn pages_that_no_generation_needs_may_be_worn(rt: HostRuntime) -> Result<(), Fail> {
-    let config = configured(1, 0, 1)?;
-    let states = [failed(), state(&[PASSED], &[1])];
-    for (page, stands) in [(9, 1), (10, 1), (31, 0)] {
-        let mute = Step::Arm(Arm::Mute {
-            sector: 0,
-            page,
-            times: 3,
-        });
-        let steps = [
-            Step::Save(0, Ok(1)),
-            Step::Save(1, Ok(2)),
-            mute,
-            Step::Life(2, 1),
-            Step::Armed(stands),
-        ];
-        let flash = play(&rt, rt.alloc(), &config, &states, &steps)?;
-        assert!(&rt; is_record(&flash, 8, 32, 64) && is_record(&flash, 30, 17, 10));
-    }
-    Ok(())
-}
-
-// The second save of a state that stays makes 6 programs, and of one in which each block changes 18; a save after a failed one
-// compares with what stands, and makes 6 again.
-#[test]
-fn blocks_that_stay_are_not_written(rt: HostRuntime) -> Result<(), Fail> {
-    let config = configured(1, 0, 1)?;
-    let states = [initial(&config), failed(), state(&[PASSED], &[1])];
-    let fault = Err(SaveFault::Flash);
-    let steps = [
-        Step::Save(0, Ok(1)),
-        cut_at(7, Pattern::Nothing),
-        Step::Save(0, Ok(2)),
-        Step::Save(0, fault),
-        Step::Life(2, 0),
-    ];
-    play(&rt, rt.alloc(), &config, &states, &steps)?;
-    let steps = [
-        Step::Save(0, Ok(1)),
-        cut_at(18, Pattern::Nothing),
-        Step::Save(1, fault),
-        Step::Save(1, fault),
-        Step::Life(2, 1),
-    ];
-    play(&rt, rt.alloc(), &config, &states, &steps)?;
-    let steps = [
-        Step::Save(1, Ok(1)),
-        fault_at(1),
-        fault_at(2),
-        fault_at(3),
-        Step::Save(2, fault),
-        fault_at(7),
-        Step::Save(1, Ok(2)),
-        Step::Armed(1),
-        Step::Life(2, 1),
-    ];
-    play(&rt, rt.alloc(), &config, &states, &steps)?;
-    Ok(())
+    play_all(&rt, rt.alloc(), &config, &states, &ROWS_OF_TWO)
 }
 
 // The pages of both sectors.
@@ -318,6 +502,12 @@ fn name_last(image: &mut Vec<[u8; 32]>, page: usize)
     }
 }
 
+// A save behind the last generation, and the life after it.
+static LAST: [Step; 2] = [
+    Step::Save(0, Err(SaveFault::Spent)),
+    Step::Life(u32::MAX, 0),
+];
+
 #[test]
 fn the_last_generation_is_not_followed(rt: HostRuntime) -> Result<(), Fail> {
     let config = configured(1, 0, 1)?;
@@ -326,16 +516,8 @@ fn the_last_generation_is_not_followed(rt: HostRuntime) -> Result<(), Fail> {
     name_last(&mut image, 21);
     let flash = FlashMem::of(rt.alloc(), image, 2)?;
     let mut store = store_over(rt.alloc(), flash, &config)?;
-    let last = 4294967295;
-    let steps = [Step::Save(0, Err(SaveFault::Spent)), Step::Life(last, 0)];
-    play_on(
-        &rt,
-        &mut store,
-        &config,
-        (last, failed()),
-        &[failed()],
-        &steps,
-    )
+    let first = (u32::MAX, failed());
+    play_on(&rt, &mut store, &config, first, &[failed()], &LAST)
 }
 
 #[test]
@@ -397,19 +579,28 @@ pub(super) fn of_version_1(rt: &impl Abort, alloc: Global) -> Result<FlashMem, F
 
 // A start-up writes the mark anew; the save behind it is cut at its first program, or at the fourth, where the first copy of its
 // commit stands in version 2 and the second still names the generation before in version 1.
+static OLD_ROWS: [[Step; 4]; 2] = [
+    [
+        CUT_1,
+        Step::Save(0, FLASH),
+        Step::Life(1, 0),
+        Step::Save(0, Ok(2)),
+    ],
+    [
+        CUT_4,
+        Step::Save(0, FLASH),
+        Step::Life(2, 0),
+        Step::Save(0, Ok(3)),
+    ],
+];
+
 #[test]
 fn an_image_of_version_1_is_restored(rt: HostRuntime) -> Result<(), Fail> {
     let config = configured(1, 0, 1)?;
-    for (program, number) in [(1, 1), (4, 2)] {
+    for steps in &OLD_ROWS {
         let flash = of_version_1(&rt, rt.alloc())?;
         let mut store = store_over(rt.alloc(), flash, &config)?;
-        let steps = [
-            cut_at(program, Pattern::Nothing),
-            Step::Save(0, Err(SaveFault::Flash)),
-            Step::Life(number, 0),
-            Step::Save(0, Ok(number + 1)),
-        ];
-        play_on(&rt, &mut store, &config, (1, failed()), &[failed()], &steps)?;
+        play_on(&rt, &mut store, &config, (1, failed()), &[failed()], steps)?;
         let flash = store.retire().retire();
         assert!(&rt; is_record(&flash, 23, 8, 8));
     }
