@@ -130,7 +130,15 @@ fn lanes_overlap(rt: HostRuntime) -> Result<(), Fail> {
          lane 3\nsave -> 1\nget 0 -> missing\nend\nsave -> 2\n";
     let flash = FlashMem::blank(rt.alloc(), 1024, 256)?;
     let failing: (&[u32], &[u32]) = (&[], &[]);
-    let (status, sink, _) = run_held(&rt, &meeting, flash, &["run"], script, failing, rt.alloc())?;
+    let (status, sink, _) = run_held(
+        &rt,
+        &meeting,
+        flash,
+        &["run"],
+        script.as_bytes(),
+        failing,
+        rt.alloc(),
+    )?;
     assert!(rt; status == 0 && sink.bytes() == report.as_bytes());
     assert!(rt; meeting.alone.load(Ordering::SeqCst) == 0);
     assert!(rt; meeting.own.is_asked(3));
@@ -275,7 +283,15 @@ fn reports_are_answered_while_the_store_writes(rt: HostRuntime) -> Result<(), Fa
         report: &report,
     };
     let failing: (&[u32], &[u32]) = (&[], &[]);
-    let (status, sink, _) = run_held(&rt, &report, flash, &["run"], script, failing, rt.alloc())?;
+    let (status, sink, _) = run_held(
+        &rt,
+        &report,
+        flash,
+        &["run"],
+        script.as_bytes(),
+        failing,
+        rt.alloc(),
+    )?;
     assert!(rt; status == 0 && sink.bytes() == told.as_bytes());
     assert!(rt; report.programs.load(Ordering::SeqCst) == 1);
     assert!(rt; report.answered.load(Ordering::SeqCst) == 1);

@@ -1,9 +1,8 @@
 // Tables of images, scripts and streams, each with what a run tells of it.
+use super::reports::run_over;
 use flt_code::seal;
-use flt_did::{DidTable, did_0101};
-use flt_flash::{Bench, Flash, FlashMem};
-use flt_io::{MemSink, MemSource};
-use flt_run::{OpenGate, Outcome, run};
+use flt_flash::{Flash, FlashMem};
+use flt_io::MemSink;
 use std::alloc::{AllocError, Global};
 use std::marker::Sync;
 use std::process::Abort;
@@ -145,40 +144,7 @@ const UNFORMED_TOLD: &str = "script line 1 form\n";
 /// How many calls of a stream are made to fail, one in each run.
 const CALLS: u32 = 10;
 
-/// Carries out a command of one word on these bytes, of a source and a sink that fail at these calls, and answers the status, what was
-/// written and the flash.
-fn run_over<R: Threads + Wait + Sync>(
-    rt: &R,
-    alloc: Global,
-    flash: FlashMem,
-    word: &str,
-    script: &[u8],
-    failing: (&[u32], &[u32]),
-) -> Result<(u8, MemSink, FlashMem), AllocError> {
-    let mut words = Vec::new(alloc);
-    words.push(String::from_str(alloc, word)?)?;
-    let bytes = Vec::from_slice(alloc, script)?;
-    let mut source = MemSource::new(bytes, Vec::from_slice(alloc, failing.0)?);
-    let mut sink = MemSink::new(alloc, 8000, Vec::from_slice(alloc, failing.1)?)?;
-    let mut dids = DidTable::new();
-    let _added = dids.add(0x0101, 2, did_0101).is_ok();
-    if flash.pages() != PAGES || flash.boots_left() < BOOTS || flash.armed() != 0 {
-        return Err(AllocError);
-    }
-    let Outcome { status, bench, .. } = run(
-        rt,
-        alloc,
-        &words,
-        &mut source,
-        &mut sink,
-        flash,
-        dids,
-        &OpenGate,
-    );
-    Ok((status, sink, bench))
-}
-
-/// The same over a blank flash, of which nothing is asked.
+/// Runs these bytes under a word over a blank flash, of a source and a sink that fail at these calls: the status and what was written.
 fn run_blank<R: Threads + Wait + Sync>(
     rt: &R,
     alloc: Global,
@@ -187,7 +153,7 @@ fn run_blank<R: Threads + Wait + Sync>(
     failing: (&[u32], &[u32]),
 ) -> Result<(u8, MemSink), AllocError> {
     let flash = FlashMem::blank(alloc, PAGES, BOOTS)?;
-    let (status, sink, _) = run_over(rt, alloc, flash, word, script, failing)?;
+    let (status, sink, _) = run_over(rt, flash, &[word], script, failing, alloc)?;
     Ok((status, sink))
 }
 
@@ -200,7 +166,7 @@ fn is_told<R: Threads + Wait + Sync + Abort>(
     told: &str,
     status: u8,
 ) -> Result<(), Fail> {
-    let (ended, sink, _) = run_over(rt, alloc, flash, command.0, command.1, (NONE, NONE))?;
+    let (ended, sink, _) = run_over(rt, flash, &[command.0], command.1, (NONE, NONE), alloc)?;
     assert!(rt; sink.bytes() == told.as_bytes(), "{told}");
     assert!(rt; ended == status, "{told}");
     Ok(())
@@ -271,14 +237,14 @@ fn image_with<R: Threads + Wait + Sync + Abort>(
     changes: &[(usize, Change)],
 ) -> Result<FlashMem, AllocError> {
     let blank = FlashMem::blank(alloc, PAGES, BOOTS)?;
-    let (status, _, saved) = run_over(rt, alloc, blank, "run", SAVED.as_bytes(), (NONE, NONE))?;
-    assert_eq!(rt; status, 0);
+    let (status, _, saved) = run_over(rt, blank, &["run"], SAVED.as_bytes(), (NONE, NONE), alloc)?;
+    assert!(rt; status == 0);
     let mut image = pages_of(alloc, &saved)?;
     for (page, what) in version.iter().chain(changes.iter()) {
         assert!(rt; *page < image.len());
         image[*page] = changed(&image[*page], *what);
     }
-    assert_eq!(rt; image.len(), 2048);
+    assert!(rt; image.len() == 2048);
     FlashMem::of(alloc, image, BOOTS)
 }
 
