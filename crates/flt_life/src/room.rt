@@ -5,7 +5,7 @@ ghost use Rattle.flt_script.specs.declared.step.Step.{Step};
 ghost use Rattle.flt_script.specs.Part.{PartOf, parts_of};
 ghost use Rattle.flt_life.specs.Lives.{view_of};
 ghost use Rattle.flt_life.specs.Parts.{own_steps, lanes_in, steps_in, widths};
-ghost use Rattle.flt_life.specs.Room.{HasRoomForSteps, IsEmpty, IsLaneRoom, IsLifeRoom, steps_of, told_in};
+ghost use Rattle.flt_life.specs.Room.{IsLaneRoom, IsLifeRoom, sizes_of, steps_of, told_in};
 
 use crate::action::response_size;
 use crate::life::{Boot, Life};
@@ -71,41 +71,40 @@ fn add_lanes<'a>(
     Ok(())
 }
 
-/// The lanes of all blocks of these parts, each with room for its answers.
-fn lane_rooms<'a>(alloc: Global, parts: &'a [Part]) -> Result<Vec<LaneRoom<'a>>, AllocError>
-    requires few { sum_by steps_in (parts_of parts.now) ≤ 65536 }
-    requires numbers { widths (parts_of parts.now) + 1 < 2 ^ 32 }
-    ensures lanes { IfOk result (λ rooms. steps_of rooms.items ≡ lanes_in (parts_of parts.now)) }
-    ensures ready { IfOk result (λ rooms. All IsLaneRoom rooms.items) }
-{
-    let mut rooms = Vec::new(alloc);
-    for part in parts {
-        match part {
-            Part::One(_step) => {}
-            Part::Lanes(lanes) => add_lanes(alloc, lanes, &mut rooms)?,
-        }
-    }
-    Ok(rooms)
+/// What the answers to some parts need: how many lane 0 gives, the bytes of its responses, and the lanes of all blocks.
+#[derive(Drop)]
+struct Needs<'a> {
+    answers: usize,
+    bytes: usize,
+    lanes: Vec<LaneRoom<'a>>,
 }
 
-/// Room for the answers of lane 0 to these parts.
-fn own_room(alloc: Global, parts: &[Part]) -> Result<LaneReplies, AllocError>
+/// What the answers to these parts need, found in one walk over them. Each lane comes with room for its answers.
+fn needs_of<'a>(alloc: Global, parts: &'a [Part]) -> Result<Needs<'a>, AllocError>
     requires few { sum_by steps_in (parts_of parts.now) ≤ 65536 }
-    ensures empty { IfOk result IsEmpty }
-    ensures room { IfOk result (λ replies. HasRoomForSteps replies (own_steps (parts_of parts.now))) }
+    requires numbers { widths (parts_of parts.now) + 1 < 2 ^ 32 }
+    ensures answers { IfOk result (λ needs. needs.answers ≡ length (own_steps (parts_of parts.now))) }
+    ensures bytes { IfOk result (λ needs. needs.bytes ≡ sizes_of (own_steps (parts_of parts.now))) }
+    ensures lanes { IfOk result (λ needs. steps_of needs.lanes.items ≡ lanes_in (parts_of parts.now)) }
+    ensures ready { IfOk result (λ needs. All IsLaneRoom needs.lanes.items) }
 {
     let mut answers = 0;
     let mut bytes = 0;
+    let mut rooms = Vec::new(alloc);
     for part in parts {
         match part {
             Part::One(step) => {
                 answers += 1;
                 bytes += response_size(step);
             }
-            Part::Lanes(_) => {}
+            Part::Lanes(lanes) => add_lanes(alloc, lanes, &mut rooms)?,
         }
     }
-    LaneReplies::with_room(alloc, answers, bytes)
+    Ok(Needs {
+        answers,
+        bytes,
+        lanes: rooms,
+    })
 }
 
 impl<'a> LifeRoom<'a> {
@@ -115,8 +114,12 @@ impl<'a> LifeRoom<'a> {
         requires numbers { widths (parts_of parts.now) + 1 < 2 ^ 32 }
         ensures { IfOk result (λ room. IsLifeRoom (parts_of parts.now) room) }
     {
-        let own = own_room(alloc, parts)?;
-        let lanes = lane_rooms(alloc, parts)?;
+        let Needs {
+            answers,
+            bytes,
+            lanes,
+        } = needs_of(alloc, parts)?;
+        let own = LaneReplies::with_room(alloc, answers, bytes)?;
         let told = Vec::with_capacity(alloc, lanes.len())?;
         let replies = Vec::with_capacity(alloc, lanes.len() + 1)?;
         Ok(LifeRoom {
