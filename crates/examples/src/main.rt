@@ -1,7 +1,7 @@
-//! The examples: runs each script of `data/` over a blank flash in memory, and most over a blank EEPROM too, and compares its status and its
-//! report with what is written down for it.
+//! The examples: runs each script of `data/` over a blank flash in memory, and most over a blank EEPROM too, or watches it, and compares its
+//! status and its report with what is written down for it.
 //!
-//! It stands on `flt_run`, and makes the one call `program` as `faultmem` does, over streams in memory.
+//! It stands on `flt_program`, and makes the one call `program` as `faultmem` does, over streams in memory.
 #![tactic(auto)]
 
 use flt_did::{
@@ -10,7 +10,8 @@ use flt_did::{
 use flt_ea::EepromMem;
 use flt_flash::FlashMem;
 use flt_io::{MemSink, MemSource};
-use flt_run::{Ended, OpenGate, program};
+use flt_notify::{KINDS, SubTable, note_0, note_1, note_2};
+use flt_program::{Ended, OpenGate, program};
 use std::io::Print;
 use std::marker::Sync;
 use std::process::ExitCode;
@@ -28,8 +29,11 @@ const BOTH: &[&str] = &["run", "ea"];
 /// A script that is checked.
 const CHECK: &[&str] = &["check"];
 
+/// A script that is watched.
+const WATCH: &[&str] = &["watch"];
+
 /// The scripts by their names, each with the words under which it is run and the status that it ends with.
-static EXAMPLES: [(&str, &[&str], u8); 68] = [
+static EXAMPLES: [(&str, &[&str], u8); 70] = [
     ("before_a_cycle", BOTH, 0),
     ("causes", BOTH, 0),
     ("checked", CHECK, 0),
@@ -98,6 +102,8 @@ static EXAMPLES: [(&str, &[&str], u8); 68] = [
     ("two_blocks", BOTH, 0),
     ("two_sessions", BOTH, 0),
     ("urgent", BOTH, 0),
+    ("watched", WATCH, 0),
+    ("watched_save", WATCH, 2),
 ];
 
 /// How many bytes a report has at most.
@@ -135,6 +141,10 @@ fn is_as_written<R: Files + AllocGlobal + Threads + Wait + Sync>(
         || dids.add(0x0105, 1, did_0105).is_err()
         || dids.add(0x0106, 2, did_0106).is_err()
         || dids.add(0x0107, 8, did_0107).is_err();
+    let mut subs: SubTable<KINDS> = SubTable::new();
+    let _taken = subs.add(0, note_0).is_err()
+        || subs.add(1, note_1).is_err()
+        || subs.add(2, note_2).is_err();
     let flash = FlashMem::blank(alloc, PAGES, BOOTS)?;
     let device = EepromMem::blank(alloc, UNITS, BOOTS)?;
     let ended = program(
@@ -146,11 +156,13 @@ fn is_as_written<R: Files + AllocGlobal + Threads + Wait + Sync>(
         flash,
         device,
         dids,
+        subs,
         &OpenGate,
     );
     let ended = match ended {
         Ended::Bench(outcome) => outcome.status,
         Ended::Device(outcome) => outcome.status,
+        Ended::Watch(outcome) => outcome.status,
     };
     Ok(ended == status && sink.bytes() == report.as_bytes())
 }

@@ -1,5 +1,5 @@
 -- What the words behind the program's name say.
-use Rattle.std.specs.Prelude.{ℕ, ◌≤◌, List, [], ◌∷◌, Bool, true, false, Option, Some, None, is_some, option_map, nat_le, length, codes, if◌then◌else◌}
+use Rattle.std.specs.Prelude.{ℕ, ◌≤◌, List, [], ◌∷◌, Bool, true, false, Option, Some, None, option_map, nat_le, length, codes, if◌then◌else◌}
 use Rattle.std.specs.Str.{bytes_eq}
 use Rattle.flt_script.specs.Gives.{◌⇒◌}
 use Rattle.flt_script.specs.Numeral.{number, from_to}
@@ -76,8 +76,3 @@ abbrev pub ea_command_of : List (List ℕ) → Option Command
 ea_command_of [] = None
 ea_command_of (word ∷ []) = ea_command_named word
 ea_command_of (word ∷ next ∷ more) = None
-
--- The first word asks for an EEPROM.
-abbrev pub begins_ea : List (List ℕ) → Bool
-begins_ea [] = false
-begins_ea (word ∷ more) = is_some (ea_command_named word)

@@ -1,6 +1,6 @@
 ghost use Rattle.std.specs.Prelude.{◌≡◌, ◌≤◌, map, IfSome};
 ghost use Rattle.std.specs.String.{string_bytes};
-ghost use Rattle.flt_run.specs.Command.{IsInRange, begins_ea, command_named, command_of, count_of, ea_command_named, ea_command_of, kind_of, load_of};
+ghost use Rattle.flt_run.specs.Command.{IsInRange, command_named, command_of, count_of, ea_command_named, ea_command_of, kind_of, load_of};
 
 use flt_script::read_number;
 
@@ -103,15 +103,5 @@ pub(crate) fn read_ea_command(words: &[String]) -> Option<Command>
     match words {
         [word] => ea_command_named(word.as_bytes()),
         _ => None,
-    }
-}
-
-/// Whether the first of the words asks for an EEPROM.
-pub(crate) fn begins_ea(words: &[String]) -> bool
-    ensures { result ≡ begins_ea (map string_bytes words.now) }
-{
-    match words {
-        [word, ..] => ea_command_named(word.as_bytes()).is_some(),
-        _ => false,
     }
 }

@@ -6,13 +6,14 @@ use Rattle.flt_io.specs.Fault.{Rose}
 use Rattle.flt_io.specs.Sink.{AppendsFront}
 use Rattle.flt_report.specs.declared.writing.WriteFault.{WriteFault}
 use Rattle.flt_report.specs.declared.writing.WriteFault.TheVariants.{Memory, Failed}
-use Rattle.flt_watch.specs.Watch.{IsTurnedAway, IsUnmade, WantsMemory, Writing, status_by}
+use Rattle.flt_verdict.specs.Verdict.{Outside}
+use Rattle.flt_watch.specs.Watch.{IsTurnedAway, IsUnmade, WantsMemory, due, status_by}
 use Rattle.flt_watch.specs.declared.watching.WatchOutcome.{WatchOutcome}
 
 -- The text was written, or the sink failed, or memory was wanting.
-pub turned_away : {T : Type 0} {F : _} {g : _} (writing : Writing) (due : ℕ) (text kinds values : List ℕ) (written : Result T WriteFault) (outcome : WatchOutcome F g) → OnOk written (Appends writing.held writing.held_after text)
-    → OnErr written (AppendsFront writing.held writing.held_after text) → (IsErrOf written Failed → Rose writing.faults writing.faults_after) → outcome.status ≡ status_by due written → IsUnmade kinds values outcome
-    → IsTurnedAway writing due text kinds values outcome ⊎ WantsMemory writing outcome
-turned_away writing due text kinds values (Ok done) outcome ok err cause status unmade = inl (record { told = inl (status, ok); unmade = unmade })
-turned_away writing due text kinds values (Err Failed) outcome ok err cause status unmade = inl (record { told = inr (status, cause refl, err); unmade = unmade })
-turned_away writing due text kinds values (Err Memory) outcome ok err cause status unmade = inr (record { status_is = status; journal = unmade.journal; answers = unmade.answers; kept = (take err.0 text, err.1) })
+pub turned_away : {T : Type 0} {F : _} {g : _} (writing : Outside) (status : ℕ) (text kinds values : List ℕ) (written : Result T WriteFault) (outcome : WatchOutcome F g) → OnOk written (Appends writing.held writing.held_after text)
+    → OnErr written (AppendsFront writing.held writing.held_after text) → (IsErrOf written Failed → Rose writing.faults writing.faults_after) → outcome.status ≡ status_by status written → IsUnmade kinds values outcome
+    → IsTurnedAway writing (due status text) kinds values outcome ⊎ WantsMemory writing outcome
+turned_away writing status text kinds values (Ok done) outcome ok err cause is unmade = inl (record { told = inl (is, ok); unmade = unmade })
+turned_away writing status text kinds values (Err Failed) outcome ok err cause is unmade = inl (record { told = inr (is, cause refl, err); unmade = unmade })
+turned_away writing status text kinds values (Err Memory) outcome ok err cause is unmade = inr (record { status_is = is; journal = unmade.journal; answers = unmade.answers; kept = (take err.0 text, err.1) })

@@ -2,7 +2,6 @@
 use Rattle.std.specs.Prelude.{◌≡◌, ◌⊎◌, ℕ, List, [], ◌∷◌, false, Option, None, Ok, Err, IsTrue, IsFalse, Result}
 use Rattle.std.specs.Io.KnownBytes.{Appends, IsAtEnd}
 use Rattle.flt_io.specs.Fault.{Rose}
-use Rattle.flt_io.specs.Sink.{AppendsFront}
 use Rattle.flt_config.specs.declared.config.DidUse.{DidUse}
 use Rattle.flt_config.specs.declared.persist.Persist.{Persist}
 use Rattle.flt_config.specs.Durable.{initial_state}
@@ -12,6 +11,7 @@ use Rattle.flt_script.specs.Part.{PartOf}
 use Rattle.flt_script.specs.Script.{ScriptContent}
 use Rattle.flt_life.specs.declared.life.Boot.TheVariants.{Started}
 use Rattle.flt_notify.specs.Table.{kinds_in, value_in, values_in}
+use Rattle.flt_verdict.specs.Verdict.{Due, Inside, IsTold, Outside}
 use Rattle.flt_report.specs.Boot.{script_fault_line, unread_line}
 use Rattle.flt_report.specs.Fetched.{AreNoScript, AreScript, HasLostRead}
 use Rattle.flt_report.specs.declared.writing.WriteFault.{WriteFault}
@@ -21,24 +21,12 @@ use Rattle.flt_watch.specs.Text.{other_line, watch_text}
 use Rattle.flt_watch.specs.Watched.{IsWatched}
 use Rattle.flt_watch.specs.declared.watching.WatchOutcome.{WatchOutcome}
 
--- What a watch reads, before it and after it: the bytes that the source has left, where it tells them, and its count of faults.
-pub record Reading : Type 0 where
-  pub left : Option (List ℕ)
-  pub left_after : Option (List ℕ)
-  pub faults : ℕ
-  pub faults_after : ℕ
-
-abbrev pub reading_of : {S : Type 0} → (S → Option (List ℕ)) → (S → ℕ) → S → S → Reading
+-- What a watch reads, before it and after it.
+abbrev pub reading_of : {S : Type 0} → (S → Option (List ℕ)) → (S → ℕ) → S → S → Inside
 reading_of left faults source after = record { left = left source; left_after = left after; faults = faults source; faults_after = faults after }
 
--- What it writes to, before it and after it: the bytes that the sink holds, where it tells them, and its count of faults.
-pub record Writing : Type 0 where
-  pub held : Option (List ℕ)
-  pub held_after : Option (List ℕ)
-  pub faults : ℕ
-  pub faults_after : ℕ
-
-abbrev pub writing_of : {K : Type 0} → (K → Option (List ℕ)) → (K → ℕ) → K → K → Writing
+-- What it writes to, before it and after it.
+abbrev pub writing_of : {K : Type 0} → (K → Option (List ℕ)) → (K → ℕ) → K → K → Outside
 writing_of held faults sink after = record { held = held sink; held_after = held after; faults = faults sink; faults_after = faults after }
 
 -- No event, entry, note or overflow.
@@ -51,17 +39,15 @@ pub record IsNoState (state : Persist) : Type 0 where
   pub recent_failed : state.recent_failed ≡ None
   pub recent_confirmed : state.recent_confirmed ≡ None
 
--- The status, by whether the text that is due was written.
+-- The status, by whether the text was written with which this one is due.
 abbrev pub status_by : {T : Type 0} → ℕ → Result T WriteFault → ℕ
-status_by due (Ok done) = due
-status_by due (Err Failed) = 4
-status_by due (Err Memory) = 7
+status_by status (Ok done) = status
+status_by status (Err Failed) = 4
+status_by status (Err Memory) = 7
 
--- The text that is due was told whole and the status is the one that is due, or a front of it where the sink failed, and the status is 4.
-abbrev pub IsTold : Writing → ℕ → List ℕ → ℕ → Type 0
-IsTold writing due text status =
-    ((status ≡ due) × Appends writing.held writing.held_after text)
-    ⊎ ((status ≡ 4) × Rose writing.faults writing.faults_after × AppendsFront writing.held writing.held_after text)
+-- A status is due, with this text.
+abbrev pub due : ℕ → List ℕ → Due
+due status text = record { status = status; text = text }
 
 module _ {F : _} {g : _} where
   -- No life was made, and the subscribers are those that were given, with their values.
@@ -73,28 +59,28 @@ module _ {F : _} {g : _} where
     pub values_are : values_in outcome.subs ≡ values
 
   -- Memory was wanting: what the sink held stands, and some bytes behind it, if any; nothing is said of the state and of the subscribers.
-  pub record WantsMemory (writing : Writing) (outcome : WatchOutcome F g) : Type 0 where
+  pub record WantsMemory (writing : Outside) (outcome : WatchOutcome F g) : Type 0 where
     pub status_is : outcome.status ≡ 7
     pub journal : outcome.journal.items ≡ []
     pub answers : outcome.answers.items ≡ []
     pub kept : (bytes : List ℕ) × Appends writing.held writing.held_after bytes
 
   -- No life was made, and this text was told in place of it.
-  pub record IsTurnedAway (writing : Writing) (due : ℕ) (text : List ℕ) (kinds values : List ℕ) (outcome : WatchOutcome F g) : Type 0 where
-    pub told : IsTold writing due text outcome.status
+  pub record IsTurnedAway (writing : Outside) (answer : Due) (kinds values : List ℕ) (outcome : WatchOutcome F g) : Type 0 where
+    pub told : IsTold writing answer outcome.status
     pub unmade : IsUnmade kinds values outcome
 
   -- The one life of this script was made and told, on a lock over the watched machine.
-  pub record IsMadeOf (writing : Writing) (script : ScriptContent) (kinds : List ℕ) (outcome : WatchOutcome F g) : Type 0 where
+  pub record IsMadeOf (writing : Outside) (script : ScriptContent) (kinds : List ℕ) (outcome : WatchOutcome F g) : Type 0 where
     pub parts : List (PartOf Step)
     pub one : script.lives ≡ parts ∷ []
     pub base : outcome.base ≡ initial_state script.config
     pub life : IsWatched script.config parts outcome.journal.items outcome.answers.items outcome.subs
     pub kinds_are : kinds_in outcome.subs ≡ kinds
-    pub told : IsTold writing 0 (watch_text parts (Started 0 outcome.base) outcome.answers.items (value_in outcome.subs)) outcome.status
+    pub told : IsTold writing (due 0 (watch_text parts (Started 0 outcome.base) outcome.answers.items (value_in outcome.subs))) outcome.status
 
   -- The bytes are a script that a watch makes, and it was made.
-  pub record IsMade (dids : List DidUse) (reading : Reading) (writing : Writing) (kinds : List ℕ) (outcome : WatchOutcome F g) : Type 0 where
+  pub record IsMade (dids : List DidUse) (reading : Inside) (writing : Outside) (kinds : List ℕ) (outcome : WatchOutcome F g) : Type 0 where
     pub script : ScriptContent
     pub is : AreScript dids reading.left script
     pub watchable : IsTrue (is_watchable script)
@@ -102,27 +88,27 @@ module _ {F : _} {g : _} where
     pub made : IsMadeOf writing script kinds outcome
 
   -- The bytes are a script that a watch does not make: it has a second life, or a step of another kind.
-  pub record IsOther (dids : List DidUse) (reading : Reading) (writing : Writing) (kinds values : List ℕ) (outcome : WatchOutcome F g) : Type 0 where
+  pub record IsOther (dids : List DidUse) (reading : Inside) (writing : Outside) (kinds values : List ℕ) (outcome : WatchOutcome F g) : Type 0 where
     pub script : ScriptContent
     pub is : AreScript dids reading.left script
     pub other : IsFalse (is_watchable script)
     pub end : IsAtEnd reading.left_after
-    pub told : IsTurnedAway writing 2 other_line kinds values outcome
+    pub told : IsTurnedAway writing (due 2 other_line) kinds values outcome
 
   -- The bytes are no script, by this fault.
-  pub record IsRefused (dids : List DidUse) (reading : Reading) (writing : Writing) (kinds values : List ℕ) (outcome : WatchOutcome F g) : Type 0 where
+  pub record IsRefused (dids : List DidUse) (reading : Inside) (writing : Outside) (kinds values : List ℕ) (outcome : WatchOutcome F g) : Type 0 where
     pub fault : ScriptFault
     pub none : AreNoScript dids reading.left fault
     pub lost : HasLostRead reading.left reading.left_after
-    pub told : IsTurnedAway writing 2 (script_fault_line fault) kinds values outcome
+    pub told : IsTurnedAway writing (due 2 (script_fault_line fault)) kinds values outcome
 
   -- The source failed.
-  pub record IsUnread (reading : Reading) (writing : Writing) (kinds values : List ℕ) (outcome : WatchOutcome F g) : Type 0 where
+  pub record IsUnread (reading : Inside) (writing : Outside) (kinds values : List ℕ) (outcome : WatchOutcome F g) : Type 0 where
     pub rose : Rose reading.faults reading.faults_after
-    pub told : IsTurnedAway writing 3 unread_line kinds values outcome
+    pub told : IsTurnedAway writing (due 3 unread_line) kinds values outcome
 
   -- What a watch does: one of these five, so that its status is 0, 2, 3, 4 or 7.
-  abbrev pub Watches : List DidUse → Reading → Writing → List ℕ → List ℕ → WatchOutcome F g → Type 0
+  abbrev pub Watches : List DidUse → Inside → Outside → List ℕ → List ℕ → WatchOutcome F g → Type 0
   Watches dids reading writing kinds values outcome =
       IsMade dids reading writing kinds outcome
       ⊎ (IsOther dids reading writing kinds values outcome

@@ -1,3 +1,4 @@
-// Watches of whole scripts.
+// Watches of whole scripts, and the whole program.
 mod orders;
+mod program;
 mod rows;

@@ -19,9 +19,9 @@ const NONE: &[u32] = &[];
 const FIRST: &[u32] = &[0];
 
 /// An event fails and passes.
-const ONE: &str = "event 0 dtc 000001\ncycle 0\nfail 0\npass 0\n";
+pub(super) const ONE: &str = "event 0 dtc 000001\ncycle 0\nfail 0\npass 0\n";
 
-const ONE_TOLD: &str =
+pub(super) const ONE_TOLD: &str =
     "life 1 generation 0\ncycle 0 -> taken\nfail 0 -> taken\npass 0 -> taken\nwatch 0 value 2\nwatch 1 value 12078\nwatch 2 value 648415\n";
 
 /// Two events fail, and a tester clears all.
@@ -62,7 +62,7 @@ static CASES: [(&str, &[u32], &[u32], u8, &str); 8] = [
 ];
 
 /// The table of the program.
-fn table() -> SubTable<KINDS>
+pub(super) fn table() -> SubTable<KINDS>
     ensures { IsAtZero result }
 {
     let mut subs = SubTable::new();

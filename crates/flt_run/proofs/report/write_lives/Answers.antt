@@ -33,7 +33,7 @@ loop-index-preserved g c =
     let piece = life_text (index + 1) (parts_of (get_or script index parts).items) (get_or lives index life).boot (get_or lives index life).replies.items in
     let same : life_text (index + 1) (parts_of c.deref.result.now) life.boot c.deref-in-loop-index.result.now ≡ piece =
     λ i. life_text (index + 1) (parts_of ((c.deref.ensures.value ∙ ap (λ (v : Vec Part _). v.items) c.index.ensures) i)) (c.index-life.ensures i).boot
-        ((c.deref-in-loop-index.ensures.value ∙ ap (λ (l : Life). l.replies.items) c.index-life.ensures) i) in
+    ((c.deref-in-loop-index.ensures.value ∙ ap (λ (l : Life). l.replies.items) c.index-life.ensures) i) in
     let was = c.loop-index.invariant.later in
     let later = c.in_ok-write_life.ensures.later in
     record {
@@ -63,7 +63,7 @@ returns-in_err-write_life-clause-err g c =
     let piece = life_text (index + 1) (parts_of (get_or script index parts).items) (get_or lives index life).boot (get_or lives index life).replies.items in
     let same : life_text (index + 1) (parts_of c.deref.result.now) life.boot c.deref-in-loop-index.result.now ≡ piece =
     λ i. life_text (index + 1) (parts_of ((c.deref.ensures.value ∙ ap (λ (v : Vec Part _). v.items) c.index.ensures) i)) (c.index-life.ensures i).boot
-        ((c.deref-in-loop-index.ensures.value ∙ ap (λ (l : Life). l.replies.items) c.index-life.ensures) i) in
+    ((c.deref-in-loop-index.ensures.value ∙ ap (λ (l : Life). l.replies.items) c.index-life.ensures) i) in
     always_on_err c.from_residual.result
     (stops _ _ piece (lives_left script lives (index + 1)) whole on _ (subst (AppendsFront (g.K.Sink.held c.loop-index.sink) (g.K.Sink.held c.write_life.new.sink)) same c.in_err-write_life.ensures.err))
 
