@@ -1,5 +1,5 @@
 -- What a search in the index of block numbers finds.
-use Rattle.std.proofs.Common.{◌≡◌, ◌≢◌, ◌<◌, ◌≤◌, inl, inr, ℕ, true, false, List, Option, Some, None, Ok, Err, length, map, get_or, sym, ap, subst, ◌∙◌, arith}
+use Rattle.std.proofs.Common.{◌≡◌, ◌≢◌, ◌+◌, ◌<◌, ◌≤◌, inl, inr, ℕ, true, false, List, Option, Some, None, Ok, Err, length, map, get_or, sym, ap, subst, ◌∙◌, arith}
 use Rattle.std.specs.Prelude.{◌==◌, Contains, IfSome, IfNone, is_some, nat_lt}
 use Rattle.std.specs.Ordering.{nat_cmp, ordering_index}
 use Rattle.std.specs.declared.cmp.Ordering.TheVariants.{Equal}
@@ -84,6 +84,26 @@ module _ (numbers : List ℕ) (rows : List Row) (index : IsIndex numbers rows) w
             | inl before ↦ let less : nat_lt (get_or rows named.0 nowhere).number from ≡ true = sides.0 named.0 nowhere (omega arith) before in grind (arith, nat_tests, named.2)
             | inr behind ↦ let rises = index.sorted at named.0 nowhere behind named.1 in omega (arith, rises, named.2, ap (λ (r : Row). r.number) (get_or_read rows at row within is nowhere))
           ]
+
+  -- Where the row at a place names a number below one, and the next row a number from it on, the rows from it on begin there, and that row
+  -- names the least of the numbers.
+  pub row_behind : (from at : ℕ) (row next : Row) → at < length rows → row ≡ get_or rows at row → at + 1 < length rows → next ≡ get_or rows (at + 1) next
+      → row.number < from → from ≤ next.number → IsLeastFrom from numbers (Some next.number)
+  row_behind from at row next within is inside next_is below from_on = next_row from (at + 1) next parted inside next_is
+    where
+      parted : IsPartitionedBy (λ row. nat_lt row.number from) rows → IsPartitionPoint (λ row. nat_lt row.number from ≡ true) (λ row. nat_lt row.number from ≡ false) rows (at + 1)
+      parted _ = (
+        λ k d _ before.
+            let rises = index.sorted k at d (omega (arith, before)) within in
+            let here = ap (λ (r : Row). r.number) (get_or_read rows at row within is d) in
+            let less : (get_or rows k d).number < from = omega (arith, rises, here, below) in
+            grind (arith, nat_tests),
+        λ k d behind short.
+            let rises = index.sorted (at + 1) k d behind short in
+            let here = ap (λ (r : Row). r.number) (get_or_read rows (at + 1) next inside next_is d) in
+            let more : from ≤ (get_or rows k d).number = omega (arith, rises, here, from_on) in
+            grind (arith, nat_tests),
+      )
 
   -- Where no row is from a number on, no number is.
   pub no_next_row : (from at : ℕ) → (IsPartitionedBy (λ row. nat_lt row.number from) rows → IsPartitionPoint (λ row. nat_lt row.number from ≡ true) (λ row. nat_lt row.number from ≡ false) rows at)

@@ -1,5 +1,5 @@
 // The block numbers of a driver.
-ghost use Rattle.std.specs.Prelude.{◌≡◌, ◌≢◌, ◌<◌, ◌==◌, ℕ, length, IfOk, IfSome, IfNone, slice_index_or};
+ghost use Rattle.std.specs.Prelude.{◌≡◌, ◌≢◌, ◌<◌, ◌==◌, ℕ, length, IfOk, IfSome, IfNone, Some, slice_index_or};
 ghost use Rattle.std.specs.List.{list_any};
 
 use std::alloc::{AllocError, Global};
@@ -118,10 +118,29 @@ impl Numbers {
         self.index_of(block).is_some()
     }
 
+    // The number behind `from - 1` in ascending order, where the hint of that is right and the number is `from` or more.
+    #[inline(always)]
+    fn hinted_from(&self, from: u32) -> Option<u16>
+        ensures { IfSome result (λ number. IsLeastFrom from self.now (Some number)) }
+    {
+        let before = from.checked_sub(1)?;
+        let hint = *self.hints.get(before as usize)? as usize;
+        let row = self.rows.get(hint)?;
+        let next = self.rows.get(hint + 1)?;
+        if u32::from(row.number) < from && from <= u32::from(next.number) {
+            Some(next.number)
+        } else {
+            None
+        }
+    }
+
     /// The least of the numbers from `from` on.
     pub fn next_from(&self, from: u32) -> Option<u16>
         ensures { IsLeastFrom from self.now result }
     {
+        if let Some(number) = self.hinted_from(from) {
+            return Some(number);
+        }
         let at = self
             .rows
             .partition_point(|row| u32::from(row.number) < from);
