@@ -9,8 +9,8 @@ use Rattle.flt_model.specs.Durable.{saved_after}
 use Rattle.flt_model.specs.Request.{RequestBytes}
 use Rattle.flt_model.specs.declared.call.Op.{Op}
 use Rattle.flt_model.specs.declared.call.Op.TheVariants as ops
-use Rattle.flt_model.specs.declared.call.Reply.{Reply}
-use Rattle.flt_model.specs.declared.call.Reply.TheVariants as replies
+use Rattle.flt_model.specs.Reply.{Reply}
+use Rattle.flt_model.specs.declared.call.ReplyOf.TheVariants as replies
 use Rattle.flt_dem.specs.Manager.{Manager, StandsFor}
 use Rattle.flt_dcm.specs.Session.{SessionStands, heard}
 use Rattle.flt_dcm.specs.declared.session.Session.{Session}

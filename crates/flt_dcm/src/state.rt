@@ -9,7 +9,7 @@ ghost use Rattle.flt_model.specs.Happening.{dtc_of_clear};
 ghost use Rattle.flt_model.specs.Request.{asked};
 ghost use Rattle.flt_model.specs.Response.{negative, positive, reply_of, responded, response, unless_silent};
 ghost use Rattle.flt_model.specs.declared.call.Op.TheVariants as ops;
-ghost use Rattle.flt_model.specs.declared.call.Reply.TheVariants as replies;
+ghost use Rattle.flt_model.specs.declared.call.ReplyOf.TheVariants as replies;
 ghost use Rattle.flt_did.specs.Table.{dids_of};
 ghost use Rattle.flt_did.specs.Serves.{Serves};
 ghost use Rattle.flt_model.specs.Answer.{report_reply as cause_reply};
@@ -20,7 +20,7 @@ ghost use Rattle.flt_dcm.specs.Requests.{TakesClearOf, TakesBytes};
 ghost use Rattle.flt_dcm.specs.Unit.{Stands, Takes, Answers, IsAdmitted, IsIgnored, IsReading, IsNegative, IsTesterCall, OnlyHearsWhereNegative, written, with_heard};
 ghost use Rattle.flt_dcm.specs.ReplyKind.{reply_with};
 
-use crate::reply_kind::ReplyKind;
+use crate::reply_kind::{ReplyKind, kind_of_report, kind_of_request};
 use crate::response::{ALL_DTCS, UnknownDtc, put_positive};
 use crate::session::Session;
 use arrayvec::ArrayVec;
@@ -330,9 +330,7 @@ impl UnitState {
                 self.enable(*condition, *fulfilled);
                 ReplyKind::Taken
             }
-            Op::Report { event, report } => {
-                ReplyKind::of_report(self.report(dids, *event, *report))
-            }
+            Op::Report { event, report } => { kind_of_report(self.report(dids, *event, *report)) }
             Op::Tick { ticks } => {
                 self.tick(dids, *ticks);
                 ReplyKind::Taken
@@ -342,7 +340,7 @@ impl UnitState {
                 ReplyKind::Taken
             }
             Op::Request { tester, bytes } => {
-                ReplyKind::of_request(self.request(*tester, bytes, response))
+                kind_of_request(self.request(*tester, bytes, response))
             }
             Op::Show { event } => ReplyKind::Shown(self.show(*event)),
             Op::Snapshot => ReplyKind::Taken,

@@ -15,7 +15,7 @@ use Rattle.flt_model.specs.Answer.{answer, entry_where}
 use Rattle.flt_model.specs.declared.call.Op.{Op}
 use Rattle.flt_model.specs.declared.call.Op.TheVariants as ops
 use Rattle.flt_model.specs.declared.call.DebState.{DebState}
-use Rattle.flt_model.specs.declared.call.Reply.{Reply}
+use Rattle.flt_model.specs.Reply.{Reply}
 use Rattle.flt_dem.specs.declared.notes.Which.{Which}
 use Rattle.flt_dem.specs.Notes.{noted_by}
 use Rattle.flt_dem.specs.Faults.{FaultsView}

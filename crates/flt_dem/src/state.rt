@@ -8,7 +8,7 @@ ghost use Rattle.flt_model.specs.Happening.{all_dtcs, cause_of};
 ghost use Rattle.flt_model.specs.Answer.{report_reply};
 ghost use Rattle.flt_model.specs.Durable.{saved_after};
 ghost use Rattle.flt_model.specs.declared.call.Op.TheVariants as ops;
-ghost use Rattle.flt_model.specs.declared.call.Reply.TheVariants as replies;
+ghost use Rattle.flt_model.specs.declared.call.ReplyOf.TheVariants as replies;
 ghost use Rattle.flt_did.specs.Table.{dids_of};
 ghost use Rattle.flt_did.specs.Serves.{Serves};
 ghost use Rattle.flt_dem.specs.View.{counter_of};

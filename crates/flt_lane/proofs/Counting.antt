@@ -4,7 +4,7 @@ use Rattle.std.specs.Prelude.{nat_lt, sum_by}
 use Rattle.std.proofs.lemmas.Bool.{lt-ltb}
 use Rattle.std.proofs.lemmas.List.Sums.{sum_by-cons}
 use Rattle.flt_model.specs.declared.call.Op.{Op}
-use Rattle.flt_model.specs.declared.call.Reply.{Reply}
+use Rattle.flt_model.specs.Reply.{Reply}
 use Rattle.flt_queue.specs.declared.job.QueueOp.{QueueOp}
 use Rattle.flt_queue.specs.declared.job.QueueReply.{QueueReply}
 use Rattle.flt_script.specs.declared.step.Step.{Step}

@@ -11,12 +11,9 @@ use Rattle.flt_shared.specs.Call.{Seat, MayBeAsked, reply_after}
 use Rattle.flt_shared.specs.Lock.{IsSeatOf}
 use Rattle.flt_turn.specs.Seats as turn
 use Rattle.flt_life.specs.Actions.{action_of, response_size}
-use Rattle.flt_dcm.specs.ReplyKind.{reply_with}
-use Rattle.flt_dcm.specs.declared.reply_kind.ReplyKind.{ReplyKind}
-use Rattle.flt_dcm.specs.declared.reply_kind.ReplyKind.TheVariants as kinds
-use Rattle.flt_life.specs.Answers.{Told, reply_size, response_length, size_of, told_size, told_with}
+use Rattle.flt_dcm.specs.ReplyKind.{ReplyKind}
+use Rattle.flt_life.specs.Answers.{Told, response_length, told_size, told_with}
 use Rattle.flt_life.specs.declared.answer.StepAnswer.{StepAnswer}
-use Rattle.flt_life.specs.declared.answer.StepAnswer.TheVariants as answers
 use Rattle.flt_life.specs.Parts.{IsPossibleInLane}
 use Rattle.flt_life.specs.Played.{StepMakes, StepQueues}
 use Rattle.flt_life.specs.declared.replies.LaneReplies.{LaneReplies}
@@ -47,30 +44,11 @@ room_after before after step rest told room size len capacity responses bytes =
 
 -- ---- an answer whose response is beside it, in a buffer that is read as these bytes
 
-size_of_kind : (kind : ReplyKind) (bytes : List ℕ) → reply_size (reply_with kind bytes) ≡ size_of kind bytes
-size_of_kind kinds.Taken bytes = refl
-size_of_kind (kinds.Ignored cause) bytes = refl
-size_of_kind (kinds.Shown shown) bytes = refl
-size_of_kind kinds.Response bytes = refl
-size_of_kind kinds.Silent bytes = refl
-
-size_of_whole : (answer : StepAnswer ReplyKind) (bytes : List ℕ) → told_size (told_with bytes answer) ≡ response_length answer bytes
-size_of_whole (answers.Dem told) bytes = size_of_kind told.reply bytes
-size_of_whole (answers.Saved number) bytes = refl
-size_of_whole (answers.SaveFailed fault) bytes = refl
-size_of_whole (answers.Queue told) bytes = refl
-size_of_whole (answers.Drained written failed) bytes = refl
-size_of_whole (answers.Bytes content) bytes = refl
-size_of_whole answers.NoBlock bytes = refl
-size_of_whole answers.BlockFlash bytes = refl
-size_of_whole answers.Armed bytes = refl
-size_of_whole answers.Dark bytes = refl
-
 pub whole_told : (before after : List Told) (answer : StepAnswer ReplyKind) (response bytes : List ℕ) → bytes ≡ response → after ≡ before ++ told_with bytes answer ∷ [] → after ≡ before ++ told_with response answer ∷ []
 whole_told before after answer response bytes same is = is ∙ ap (λ b. before ++ told_with b answer ∷ []) same
 
 pub whole_size : (before after : ℕ) (answer : StepAnswer ReplyKind) (response bytes : List ℕ) → bytes ≡ response → after ≡ before + response_length answer bytes → after ≡ before + told_size (told_with response answer)
-whole_size before after answer response bytes same is = is ∙ ap (λ n. before + n) (ap (response_length answer) same ∙ sym (size_of_whole answer response))
+whole_size before after answer response bytes same is = is ∙ ap (λ b. before + response_length answer b) same
 
 -- ---- a lane on its way
 

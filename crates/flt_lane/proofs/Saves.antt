@@ -9,7 +9,7 @@ use Rattle.flt_generation.specs.Holding.{Generation}
 use Rattle.flt_model.specs.Durable.{saved_after}
 use Rattle.flt_model.specs.declared.call.Op.{Op}
 use Rattle.flt_model.specs.declared.call.Op.TheVariants as ops
-use Rattle.flt_model.specs.declared.call.Reply.{Reply}
+use Rattle.flt_model.specs.Reply.{Reply}
 use Rattle.flt_turn.specs.declared.answer.Answer.{Answer}
 use Rattle.flt_turn.specs.declared.vault.Entry.{Entry}
 use Rattle.flt_turn.specs.Call.{past}

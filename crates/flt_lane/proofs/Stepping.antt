@@ -7,9 +7,7 @@ use Rattle.flt_config.specs.declared.config.Config.{Config}
 use Rattle.flt_config.specs.declared.persist.Persist.{Persist}
 use Rattle.flt_config.specs.Durable.{Fits}
 use Rattle.flt_config.specs.Validity.{IsValid}
-use Rattle.flt_dcm.specs.ReplyKind.{reply_with}
-use Rattle.flt_dcm.specs.declared.reply_kind.ReplyKind.{ReplyKind}
-use Rattle.flt_dcm.specs.declared.reply_kind.ReplyKind.TheVariants as kinds
+use Rattle.flt_dcm.specs.ReplyKind.{ReplyKind, reply_with}
 use Rattle.flt_model.specs.declared.TheConstants.{RESPONSE}
 use Rattle.flt_model.specs.Life.{Life, History}
 use Rattle.flt_model.specs.Answer.{answer}
@@ -17,7 +15,7 @@ use Rattle.flt_model.specs.Durable.{saved_after}
 use Rattle.flt_model.proofs.SavedFits.{saved_states_fit}
 use Rattle.flt_model.specs.declared.call.Op.{Op}
 use Rattle.flt_model.specs.declared.call.Op.TheVariants as ops
-use Rattle.flt_model.specs.declared.call.Reply.{Reply}
+use Rattle.flt_model.specs.Reply.{Reply}
 use Rattle.flt_queue.specs.Call as queued
 use Rattle.flt_queue.specs.Queue as queue
 use Rattle.flt_queue.specs.declared.job.QueueOp.{QueueOp}
@@ -37,7 +35,7 @@ use Rattle.flt_life.specs.Draining.{calls_for_all, take_at}
 use Rattle.flt_life.specs.Parts.{IsPossibleInLane}
 use Rattle.flt_life.specs.Played.{ActionMakes, ActionQueues, StepMakes, StepQueues}
 use Rattle.flt_life.specs.declared.action.Action.TheVariants as action
-use Rattle.flt_lives.proofs.Rooms.{answer_size}
+use Rattle.flt_lives.proofs.Rooms.{answer_size, size_most}
 use Rattle.flt_life.specs.declared.answer.StepAnswer.TheVariants as answers
 use Rattle.flt_fork.specs.Chain.{Chain}
 use Rattle.flt_lane.specs.Draining.{FindsNone, HasDrained}
@@ -90,15 +88,8 @@ pub size_of_answer : (start : Life) (past : History) (op : Op) (reply : Reply) �
 size_of_answer start past (ops.Request tester bytes) reply is most = most
 size_of_answer start past op reply is most = let size = ap reply_size is ∙ answer_size start past op (λ tester. tester) in omega (arith, size)
 
-size_with : (kind : ReplyKind) (bytes : List ℕ) → length bytes ≤ RESPONSE → reply_size (reply_with kind bytes) ≤ RESPONSE
-size_with kinds.Taken bytes most = omega arith
-size_with (kinds.Ignored cause) bytes most = omega arith
-size_with (kinds.Shown shown) bytes most = omega arith
-size_with kinds.Response bytes most = most
-size_with kinds.Silent bytes most = omega arith
-
 pub size_of_told : (start : Life) (past : History) (op : Op) (kind : ReplyKind) (bytes : List ℕ) → reply_with kind bytes ≡ answer start past op → length bytes ≤ RESPONSE → reply_size (reply_with kind bytes) ≤ response_size (action.Call op)
-size_of_told start past op kind bytes is most = size_of_answer start past op (reply_with kind bytes) is (size_with kind bytes most)
+size_of_told start past op kind bytes is most = size_of_answer start past op (reply_with kind bytes) is (size_most kind bytes most)
 
 -- ---- calls of the queue
 

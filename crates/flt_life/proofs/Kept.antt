@@ -4,11 +4,10 @@ use Rattle.std.specs.Prelude.{All}
 use Rattle.std.proofs.lemmas.List.{take-append-le, drop-append-le, length-drop, map-append}
 use Rattle.std.proofs.lemmas.List.Elements.{All-head, All-tail, All-cons, All-nil, All-append, All-weaker}
 use Rattle.flt_model.specs.Response.{reply_of}
-use Rattle.flt_life.specs.declared.answer.KeptReply.{KeptReply}
-use Rattle.flt_life.specs.declared.answer.KeptReply.TheVariants as kept
+use Rattle.flt_model.specs.declared.call.ReplyOf.TheVariants as kept
 use Rattle.flt_life.specs.declared.answer.StepAnswer.{StepAnswer}
 use Rattle.flt_life.specs.declared.answer.StepAnswer.TheVariants as answers
-use Rattle.flt_life.specs.Answers.{IsReplyWithin, IsAnswerWithin, reply_in, with_reply, told_by}
+use Rattle.flt_life.specs.Answers.{KeptReply, IsReplyWithin, IsAnswerWithin, reply_in, with_reply, told_by}
 
 -- ---- more bytes after those of the responses change no reply that is kept
 
@@ -23,7 +22,7 @@ reply_stays : (bytes more : List ℕ) (reply : KeptReply) → IsReplyWithin (len
 reply_stays bytes more kept.Taken within = refl
 reply_stays bytes more (kept.Ignored cause) within = refl
 reply_stays bytes more (kept.Shown shown) within = refl
-reply_stays bytes more (kept.Response from size) within = ap reply_of (piece_stays bytes more from size within)
+reply_stays bytes more (kept.Response range) within = ap reply_of (piece_stays bytes more range.from range.length within)
 reply_stays bytes more kept.Silent within = refl
 
 answer_stays : (bytes more : List ℕ) (answer : StepAnswer KeptReply) → IsAnswerWithin (length bytes) answer → with_reply (reply_in (bytes ++ more)) answer ≡ with_reply (reply_in bytes) answer

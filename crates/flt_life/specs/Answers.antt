@@ -1,13 +1,9 @@
 -- The answers to steps, with the machine's replies whole.
 use Rattle.std.specs.Prelude.{◌≤◌, ℕ, ◌+◌, List, map, take, drop, length}
-use Rattle.flt_dcm.specs.declared.reply_kind.ReplyKind.{ReplyKind}
-use Rattle.flt_dcm.specs.declared.reply_kind.ReplyKind.TheVariants as kinds
-use Rattle.flt_dcm.specs.ReplyKind.{reply_with}
-use Rattle.flt_model.specs.Response.{reply_of}
-use Rattle.flt_model.specs.declared.call.Reply.{Reply}
-use Rattle.flt_model.specs.declared.call.Reply.TheVariants as replies
-use Rattle.flt_life.specs.declared.answer.KeptReply.{KeptReply}
-use Rattle.flt_life.specs.declared.answer.KeptReply.TheVariants.{Taken, Ignored, Shown, Response, Silent}
+use Rattle.flt_dcm.specs.ReplyKind.{ReplyKind, reply_with}
+use Rattle.flt_model.specs.Reply.{Reply, map_reply, of_response}
+use Rattle.flt_model.specs.declared.call.ReplyOf.{ReplyOf}
+use Rattle.flt_life.specs.declared.answer.KeptResponse.{KeptResponse}
 use Rattle.flt_life.specs.declared.answer.StepAnswer.{StepAnswer}
 use Rattle.flt_life.specs.declared.answer.StepAnswer.TheVariants.{Dem, Saved, SaveFailed, Queue, Drained, Bytes, NoBlock, BlockFlash, Armed, Dark}
 
@@ -28,18 +24,17 @@ with_reply f BlockFlash = BlockFlash
 with_reply f Armed = Armed
 with_reply f Dark = Dark
 
+-- A reply whose response is a range of the bytes of a lane.
+abbrev pub KeptReply : Type 0
+KeptReply = ReplyOf KeptResponse
+
 -- The whole reply of a kept one, with these bytes of responses.
 abbrev pub reply_in : List ℕ → KeptReply → Reply
-reply_in bytes Taken = replies.Taken
-reply_in bytes (Ignored cause) = replies.Ignored cause
-reply_in bytes (Shown shown) = replies.Shown shown
-reply_in bytes (Response from size) = reply_of (take size (drop from bytes))
-reply_in bytes Silent = replies.Silent
+reply_in bytes kept = map_reply (λ range. record { items = take range.length (drop range.from bytes) }) kept
 
 -- Where a kept response ends, or 0 if there is none.
 abbrev pub end_of_reply : KeptReply → ℕ
-end_of_reply (Response from size) = from + size
-end_of_reply _ = 0
+end_of_reply kept = of_response 0 (λ range. range.from + range.length) kept
 
 -- The same of the response in an answer.
 abbrev pub end_of : StepAnswer KeptReply → ℕ
@@ -62,20 +57,14 @@ told_by bytes answers = map (with_reply (reply_in bytes)) answers
 abbrev pub told_with : List ℕ → StepAnswer ReplyKind → Told
 told_with response answer = with_reply (λ kind. reply_with kind response) answer
 
--- The number of bytes of a response that an answer of this kind has.
-abbrev pub size_of : ReplyKind → List ℕ → ℕ
-size_of kinds.Response response = length response
-size_of _ response = 0
-
-abbrev pub response_length : StepAnswer ReplyKind → List ℕ → ℕ
-response_length (Dem told) response = size_of told.reply response
-response_length _ response = 0
-
 -- The number of bytes of a reply that is a response, and the same of an answer.
 abbrev pub reply_size : Reply → ℕ
-reply_size (replies.Response bytes) = length bytes.items
-reply_size _ = 0
+reply_size reply = of_response 0 (λ bytes. length bytes.items) reply
 
 abbrev pub told_size : Told → ℕ
 told_size (Dem told) = reply_size told.reply
 told_size _ = 0
+
+-- The number of bytes of a response that an answer of this kind has.
+abbrev pub response_length : StepAnswer ReplyKind → List ℕ → ℕ
+response_length answer response = told_size (told_with response answer)

@@ -1,26 +1,22 @@
 // The answers to steps.
 use arrayvec::ArrayVec;
 use flt_generation::APPLICATION_LENGTH;
-use flt_model::{Cause, Shown};
+use flt_model::ReplyOf;
 use flt_queue::QueueReply;
 use flt_store::SaveFault;
 use flt_turn::Answer;
 
-/// The reply to a call as a lane keeps it. A response is kept as a range of the bytes of the lane's responses, so that an
-/// answer takes few bytes.
+/// A response to a tester as a lane keeps it: a range of the bytes of the lane's responses, so that an answer takes few bytes.
 #[derive(Clone, Copy, Debug, PartialEq, Eq)]
-pub enum KeptReply {
-    /// The call was carried out.
-    Taken,
-    /// The report changed nothing.
-    Ignored(Cause),
-    /// What is shown of the event.
-    Shown(Shown),
-    /// The response to a tester, 1 to 1,040 bytes, and where they begin.
-    Response { from: usize, length: usize },
-    /// The request suppressed its positive response.
-    Silent,
+pub struct KeptResponse {
+    /// Where its bytes begin.
+    pub from: usize,
+    /// How many they are, 1 to 1,040.
+    pub length: usize,
 }
+
+/// The reply to a call as a lane keeps it.
+pub type KeptReply = ReplyOf<KeptResponse>;
 
 /// The answer to a step, in which the reply to a call is an `R`.
 #[derive(Drop)]

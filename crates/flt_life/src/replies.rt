@@ -2,9 +2,9 @@
 ghost use Rattle.std.specs.Prelude.{◌≡◌, ◌≤◌, ◌<◌, ◌+◌, ◌++◌, ◌∷◌, [], ℕ, List, All, IfOk, length, vec_len};
 ghost use Rattle.std.specs.Vec.{vec_capacity};
 ghost use Rattle.flt_dcm.specs.ReplyKind.{reply_with};
-ghost use Rattle.flt_life.specs.Answers.{IsReplyWithin, IsAnswerWithin, reply_in, with_reply, told_by, told_with, size_of, response_length};
+ghost use Rattle.flt_life.specs.Answers.{IsReplyWithin, IsAnswerWithin, reply_in, with_reply, told_by, told_with, reply_size, response_length};
 
-use crate::answer::{KeptReply, StepAnswer};
+use crate::answer::{KeptReply, KeptResponse, StepAnswer};
 use flt_dcm::ReplyKind;
 use flt_turn::Answer;
 use std::alloc::{AllocError, Global};
@@ -53,27 +53,23 @@ impl LaneReplies {
 /// The reply of this kind as it is kept. The bytes of a response are added after the others.
 #[inline(always)]
 fn kept_reply(kind: ReplyKind, response: &[u8], responses: &mut Vec<u8>) -> KeptReply
-    requires { vec_len responses.old + size_of kind response.now ≤ vec_capacity responses.old }
+    requires { vec_len responses.old + reply_size (reply_with kind response.now) ≤ vec_capacity responses.old }
     ensures reply { reply_in responses.new.items result ≡ reply_with kind response.now }
     ensures within { IsReplyWithin (length responses.new.items) result }
     ensures more { (more : List ℕ) × (responses.new.items ≡ responses.old.items ++ more) }
-    ensures bytes { vec_len responses.new ≡ vec_len responses.old + size_of kind response.now }
+    ensures bytes { vec_len responses.new ≡ vec_len responses.old + reply_size (reply_with kind response.now) }
     ensures room { vec_capacity responses.old ≤ vec_capacity responses.new }
 {
-    match kind {
-        ReplyKind::Taken => KeptReply::Taken,
-        ReplyKind::Ignored(cause) => KeptReply::Ignored(cause),
-        ReplyKind::Shown(shown) => KeptReply::Shown(shown),
-        ReplyKind::Response => {
-            let from = responses.len();
-            let length = response.len();
-            let Ok(()) = responses.extend_from_slice(response) else {
-                unreachable!()
-            };
-            KeptReply::Response { from, length }
-        }
-        ReplyKind::Silent => KeptReply::Silent,
+    let kept = KeptResponse {
+        from: responses.len(),
+        length: response.len(),
+    };
+    if let ReplyKind::Response(()) = kind {
+        let Ok(()) = responses.extend_from_slice(response) else {
+            unreachable!()
+        };
     }
+    kind.with(kept)
 }
 
 /// The answer as it is kept.

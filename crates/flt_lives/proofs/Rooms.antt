@@ -7,9 +7,8 @@ use Rattle.std.proofs.lemmas.List.Sums.{sum_by-cons}
 use Rattle.std.proofs.lemmas.List.Elements.{All-nil, All-cons, All-head, All-tail, All-append, All-weaker}
 use Rattle.flt_config.specs.declared.config.Config.{Config}
 use Rattle.flt_dcm.specs.Unit.{IsTesterCall}
-use Rattle.flt_dcm.specs.ReplyKind.{reply_with}
-use Rattle.flt_dcm.specs.declared.reply_kind.ReplyKind.{ReplyKind}
-use Rattle.flt_dcm.specs.declared.reply_kind.ReplyKind.TheVariants as kinds
+use Rattle.flt_dcm.specs.ReplyKind.{ReplyKind, reply_with}
+use Rattle.flt_model.specs.declared.call.ReplyOf.TheVariants as kinds
 use Rattle.flt_model.specs.Answer.{answer, report_reply}
 use Rattle.flt_model.specs.Happening.{readiness, cause_of}
 use Rattle.flt_model.specs.declared.call.Cause.{Cause}
@@ -17,7 +16,7 @@ use Rattle.flt_model.specs.Life.{Life, History}
 use Rattle.flt_model.specs.declared.TheConstants.{RESPONSE}
 use Rattle.flt_model.specs.declared.call.Op.{Op}
 use Rattle.flt_model.specs.declared.call.Op.TheVariants as ops
-use Rattle.flt_life.specs.Answers.{size_of, reply_size}
+use Rattle.flt_life.specs.Answers.{reply_size}
 use Rattle.flt_life.specs.declared.action.Action.{Action}
 use Rattle.flt_life.specs.declared.action.Action.TheVariants.{Call, Queue, Save, Drain, Get, Arm}
 use Rattle.flt_script.specs.declared.step.Part.{Part}
@@ -121,13 +120,10 @@ room_after before after action rest room calls call_room answers answer_room res
       responses = omega (arith, response_fits, response_sum, responses, response_room);
     }
 
--- A response is an answer to a request alone.
-size_most : (kind : ReplyKind) (response : List ℕ) → length response ≤ RESPONSE → size_of kind response ≤ RESPONSE
-size_most kinds.Taken response few = omega arith
-size_most (kinds.Ignored cause) response few = omega arith
-size_most (kinds.Shown shown) response few = omega arith
-size_most kinds.Response response few = few
-size_most kinds.Silent response few = omega arith
+-- A response has at most so many bytes.
+pub size_most : (kind : ReplyKind) (response : List ℕ) → length response ≤ RESPONSE → reply_size (reply_with kind response) ≤ RESPONSE
+size_most (kinds.Response _) response few = few
+size_most kind response few = omega arith
 
 -- A reply to a call of no tester is no response.
 report_size : (cause : Option Cause) → reply_size (report_reply cause) ≡ 0
@@ -145,18 +141,11 @@ answer_size life past (ops.Show event) other = refl
 answer_size life past ops.Snapshot other = refl
 answer_size life past (ops.Saved number) other = refl
 
-size_is : (kind : ReplyKind) (response : List ℕ) → size_of kind response ≡ reply_size (reply_with kind response)
-size_is kinds.Taken response = refl
-size_is (kinds.Ignored cause) response = refl
-size_is (kinds.Shown shown) response = refl
-size_is kinds.Response response = refl
-size_is kinds.Silent response = refl
-
 pub no_response : (life : Life) (past : History) (op : Op) (kind : ReplyKind) (response : List ℕ) → reply_with kind response ≡ answer life past op → ¬ IsTesterCall op →
-    size_of kind response ≡ 0
-no_response life past op kind response is other = size_is kind response ∙ ap reply_size is ∙ answer_size life past op other
+    reply_size (reply_with kind response) ≡ 0
+no_response life past op kind response is other = ap reply_size is ∙ answer_size life past op other
 
-pub size_of_call : (op : Op) (kind : ReplyKind) (response : List ℕ) → (¬ IsTesterCall op → size_of kind response ≡ 0) → length response ≤ RESPONSE → size_of kind response ≤ response_size (Call op)
+pub size_of_call : (op : Op) (kind : ReplyKind) (response : List ℕ) → (¬ IsTesterCall op → reply_size (reply_with kind response) ≡ 0) → length response ≤ RESPONSE → reply_size (reply_with kind response) ≤ response_size (Call op)
 size_of_call (ops.Request tester bytes) kind response none few = size_most kind response few
 size_of_call (ops.Signal index value) kind response none few = let is = none (λ no. no) in omega (arith, is)
 size_of_call (ops.Enable condition fulfilled) kind response none few = let is = none (λ no. no) in omega (arith, is)

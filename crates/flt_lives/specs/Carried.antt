@@ -5,7 +5,7 @@ use Rattle.flt_model.specs.Life.{Life}
 use Rattle.flt_model.specs.Answer.{answer}
 use Rattle.flt_model.specs.declared.call.Op.{Op}
 use Rattle.flt_model.specs.declared.call.Op.TheVariants as ops
-use Rattle.flt_model.specs.declared.call.Reply.{Reply}
+use Rattle.flt_model.specs.Reply.{Reply}
 use Rattle.flt_life.specs.declared.action.Action.{Action}
 use Rattle.flt_life.specs.declared.action.Action.TheVariants as actions
 use Rattle.flt_life.specs.Answers.{Told}

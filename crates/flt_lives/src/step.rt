@@ -12,7 +12,7 @@ ghost use Rattle.flt_dcm.specs.Unit.{Stands, IsAdmitted, IsTesterCall};
 ghost use Rattle.flt_dcm.specs.Whole.{config_of, state_of};
 ghost use Rattle.flt_store.specs.Store.{IsAlive, driver_of};
 ghost use Rattle.flt_life.specs.Actions.{IsPossible, IsStepCall, arm_count, arms_of, call_count, response_size};
-ghost use Rattle.flt_life.specs.Answers.{Told, told_with, response_length, size_of};
+ghost use Rattle.flt_life.specs.Answers.{Told, told_with, response_length, reply_size};
 ghost use Rattle.flt_lives.specs.Carried.{IsCarriedOut, SaveIsCarriedOut};
 ghost use Rattle.flt_life.specs.Chain.{start_from};
 ghost use Rattle.flt_life.specs.Journal.{entry, calls_of};
@@ -37,7 +37,7 @@ fn call(unit: &mut Unit, op: &Op, buffers: &mut Buffers) -> ReplyKind
     ensures stands { (life : Life) (past : History) → Stands life past (state_of unit.old) → Stands life (op.now ∷ past) (state_of unit.new) }
     ensures answer { (life : Life) (past : History) → Stands life past (state_of unit.old)
         → reply_with result buffers.new.response.items ≡ answer life past op.now }
-    ensures no_response { ¬ IsTesterCall op.now → size_of result buffers.new.response.items ≡ 0 }
+    ensures no_response { ¬ IsTesterCall op.now → reply_size (reply_with result buffers.new.response.items) ≡ 0 }
 {
     unit.apply_into(op, &mut buffers.state, &mut buffers.response)
 }

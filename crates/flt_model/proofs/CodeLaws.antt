@@ -9,8 +9,8 @@ use Rattle.flt_model.specs.NegativeCode.{sub_function_not_supported, incorrect_l
 use Rattle.flt_model.specs.Request.{Form, Plain, Masked, Recorded, Optioned, SubFunction, sub_functions, has_sub_functions, form_of, dtc_of, is_record_number, accepted, asked_in}
 use Rattle.flt_model.specs.Response.{EventView, View, is_of_dtc, positive, responded, response_to, response, negative, unless_silent}
 use Rattle.flt_model.specs.CodeLaws.{Condition, where_, first_code, conditions, lengths_of, names_unknown, IsPositive, CodesComeInOrder, SilentWhereAsked}
-use Rattle.flt_model.specs.declared.call.Reply.{Reply}
-use Rattle.flt_model.specs.declared.call.Reply.TheVariants.{Silent}
+use Rattle.flt_model.specs.Reply.{Reply}
+use Rattle.flt_model.specs.declared.call.ReplyOf.TheVariants.{Silent}
 use Rattle.flt_model.specs.declared.request.Request.{Request}
 
 -- ---- each row of the table answers for its service

@@ -5,8 +5,8 @@ use Rattle.flt_model.specs.Happening.{all_dtcs}
 use Rattle.flt_model.specs.NegativeCode.{service_not_supported, sub_function_not_supported, incorrect_length, request_out_of_range, service_not_supported_in_session}
 use Rattle.flt_model.specs.Request.{Form, Plain, Masked, Recorded, Optioned, has_sub_functions, form_of, dtc_of, is_record_number}
 use Rattle.flt_model.specs.Response.{View, is_of_dtc, service_of, response, negative}
-use Rattle.flt_model.specs.declared.call.Reply.{Reply}
-use Rattle.flt_model.specs.declared.call.Reply.TheVariants.{Response, Silent}
+use Rattle.flt_model.specs.Reply.{Reply}
+use Rattle.flt_model.specs.declared.call.ReplyOf.TheVariants.{Response, Silent}
 
 -- ---- the conditions
 

@@ -3,7 +3,7 @@ use Rattle.std.specs.Prelude.{true, false, [], ◌∷◌, map, pos, negsuc, None
 use Rattle.flt_config.specs.declared.config.Debounce.TheVariants as kinds
 use Rattle.flt_model.specs.Life.{fresh}
 use Rattle.flt_model.specs.declared.call.Op.TheVariants.{Tick, Cycle, Enable, Show}
-use Rattle.flt_model.specs.declared.call.Reply.TheVariants.{Taken}
+use Rattle.flt_model.specs.declared.call.ReplyOf.TheVariants.{Taken}
 use Rattle.flt_model.specs.Example.{event, configured, ◌⇒◌, Replays, fail, pass, prefail, prepass, asks, responds, minus, shows, extended}
 
 -- A counter jumps up, clamps at its threshold and steps down.

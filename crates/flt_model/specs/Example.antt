@@ -11,8 +11,8 @@ use Rattle.flt_model.specs.declared.call.Op.{Op}
 use Rattle.flt_model.specs.declared.call.Op.TheVariants.{Request}
 use Rattle.flt_model.specs.declared.call.Op.TheVariants as ops
 use Rattle.flt_model.specs.declared.call.Report.TheVariants as reports
-use Rattle.flt_model.specs.declared.call.Reply.{Reply}
-use Rattle.flt_model.specs.declared.call.Reply.TheVariants as replies
+use Rattle.flt_model.specs.Reply.{Reply}
+use Rattle.flt_model.specs.declared.call.ReplyOf.TheVariants as replies
 
 -- An event with the settings that a script gives it by default.
 abbrev pub event : ℕ → EventCfg

@@ -12,6 +12,7 @@ pub mod Entry
 pub mod Trace
 pub mod Noted
 pub mod Durable
+pub mod Reply
 pub mod Response
 pub mod Answer
 pub mod Example

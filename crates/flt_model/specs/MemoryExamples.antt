@@ -7,7 +7,7 @@ use Rattle.flt_model.specs.Answer.{answers}
 use Rattle.flt_model.specs.Life.{History, fresh}
 use Rattle.flt_model.specs.Durable.{below}
 use Rattle.flt_model.specs.declared.call.Op.TheVariants.{Signal, Tick, Cycle, Show}
-use Rattle.flt_model.specs.declared.call.Reply.TheVariants.{Taken, Ignored}
+use Rattle.flt_model.specs.declared.call.ReplyOf.TheVariants.{Taken, Ignored}
 use Rattle.flt_model.specs.declared.call.Cause.TheVariants.{NotStarted}
 use Rattle.flt_model.specs.Example.{event, recording, did, configured, restarted, ◌⇒◌, Replays, fail, pass, prefail, asks, responds, minus, shows}
 

@@ -2,8 +2,8 @@
 use Rattle.std.specs.Prelude.{true, false, [], ◌∷◌, pos}
 use Rattle.flt_model.specs.Life.{fresh}
 use Rattle.flt_model.specs.declared.call.Op.TheVariants.{Tick, Cycle, Show}
-use Rattle.flt_model.specs.declared.call.Reply.{Reply}
-use Rattle.flt_model.specs.declared.call.Reply.TheVariants.{Taken, Ignored, Silent}
+use Rattle.flt_model.specs.Reply.{Reply}
+use Rattle.flt_model.specs.declared.call.ReplyOf.TheVariants.{Taken, Ignored, Silent}
 use Rattle.flt_model.specs.declared.call.Cause.TheVariants.{SettingOff}
 use Rattle.flt_model.specs.Example.{event, configured, ◌⇒◌, Replays, fail, pass, asks, responds, shows, extended, default_session}
 

@@ -10,8 +10,8 @@ use Rattle.flt_model.specs.declared.request.Request.{Request}
 use Rattle.flt_model.specs.declared.request.Request.TheVariants.{Session, Present, Clear, Setting, Count, ByMask, Snapshots, Snapshot, Extended, Supported, Noted, Counters}
 use Rattle.flt_model.specs.declared.request.Asked.{Asked}
 use Rattle.flt_model.specs.declared.request.Negative.{Negative}
-use Rattle.flt_model.specs.declared.call.Reply.{Reply}
-use Rattle.flt_model.specs.declared.call.Reply.TheVariants.{Response, Silent}
+use Rattle.flt_model.specs.Reply.{Reply}
+use Rattle.flt_model.specs.declared.call.ReplyOf.TheVariants.{Response, Silent}
 
 -- What a tester may read of an event.
 pub record EventView : Type 0 where

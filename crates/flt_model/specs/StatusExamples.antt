@@ -3,7 +3,7 @@ use Rattle.std.specs.Prelude.{ℕ, true, false, [], ◌∷◌, pos}
 use Rattle.flt_config.specs.Durable.{initial_state}
 use Rattle.flt_model.specs.Life.{Life, fresh}
 use Rattle.flt_model.specs.declared.call.Op.TheVariants.{Cycle, Enable, Show}
-use Rattle.flt_model.specs.declared.call.Reply.TheVariants.{Taken, Ignored}
+use Rattle.flt_model.specs.declared.call.ReplyOf.TheVariants.{Taken, Ignored}
 use Rattle.flt_model.specs.declared.call.Cause.TheVariants.{SettingOff, NotStarted, NotEnabled}
 use Rattle.flt_model.specs.Example.{event, configured, restarted, ◌⇒◌, Replays, fail, pass, asks, responds, minus, shows, extended}
 

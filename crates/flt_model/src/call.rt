@@ -121,17 +121,38 @@ pub struct Shown {
     pub overflow: bool,
 }
 
-/// The answer to a call.
-#[derive(Clone, Drop, PartialEq, Eq, Debug)]
-pub enum Reply {
+/// The answer to a call, in which a response is a `B`.
+#[derive(Clone, Copy, Drop, PartialEq, Eq, Debug)]
+pub enum ReplyOf<B> {
     /// The call was taken.
     Taken,
     /// The report was ignored.
     Ignored(Cause),
     /// What is shown of the event.
     Shown(Shown),
-    /// The bytes of a response, positive or negative.
-    Response(ArrayVec<u8, RESPONSE>),
+    /// A response, positive or negative.
+    Response(B),
     /// A positive response that the request suppressed.
     Silent,
 }
+
+impl<B: Drop> ReplyOf<B> {
+    ghost use Rattle.std.specs.Prelude.{◌≡◌};
+    ghost use Rattle.flt_model.specs.Reply.{map_reply};
+
+    /// The same answer, in which a response is this one.
+    pub fn with<C: Drop>(self, response: C) -> ReplyOf<C>
+        ensures { result ≡ map_reply (λ _. response) self }
+    {
+        match self {
+            ReplyOf::Taken => ReplyOf::Taken,
+            ReplyOf::Ignored(cause) => ReplyOf::Ignored(cause),
+            ReplyOf::Shown(shown) => ReplyOf::Shown(shown),
+            ReplyOf::Response(_) => ReplyOf::Response(response),
+            ReplyOf::Silent => ReplyOf::Silent,
+        }
+    }
+}
+
+/// The answer to a call, with the bytes of a response.
+pub type Reply = ReplyOf<ArrayVec<u8, RESPONSE>>;

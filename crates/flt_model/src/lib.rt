@@ -13,7 +13,7 @@ mod request;
 mod status;
 pub mod worked;
 
-pub use call::{Cause, DebState, Op, Qualified, Reply, Report, Shown};
+pub use call::{Cause, DebState, Op, Qualified, Reply, ReplyOf, Report, Shown};
 pub use life::DemStart;
 pub use request::{Asked, Negative, Request};
 pub use status::{Rank, Status};

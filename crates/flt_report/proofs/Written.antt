@@ -12,9 +12,8 @@ use Rattle.flt_script.specs.declared.step.Step.{Step}
 use Rattle.flt_life.specs.declared.replies.LaneReplies.{LaneReplies}
 use Rattle.flt_life.specs.Room.{told_in}
 use Rattle.flt_report.specs.Left.{IsWritten}
-use Rattle.flt_life.specs.declared.answer.KeptReply.{KeptReply}
 use Rattle.flt_life.specs.declared.answer.StepAnswer.{StepAnswer}
-use Rattle.flt_life.specs.Answers.{Told, with_reply, reply_in, told_by}
+use Rattle.flt_life.specs.Answers.{KeptReply, Told, with_reply, reply_in, told_by}
 use Rattle.flt_report.specs.Answer.{step_line}
 use Rattle.flt_report.specs.Life.{lane_steps, lines_text, lane_text, lanes_text}
 

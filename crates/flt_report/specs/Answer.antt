@@ -4,8 +4,8 @@ use Rattle.std.specs.Fmt.{decimal, signed_decimal}
 use Rattle.flt_model.specs.declared.call.Cause.{Cause}
 use Rattle.flt_model.specs.declared.call.Cause.TheVariants.{SettingOff, NotStarted, NotEnabled}
 use Rattle.flt_model.specs.declared.call.Shown.{Shown as Event}
-use Rattle.flt_model.specs.declared.call.Reply.{Reply}
-use Rattle.flt_model.specs.declared.call.Reply.TheVariants.{Taken, Ignored, Shown, Response, Silent}
+use Rattle.flt_model.specs.Reply.{Reply}
+use Rattle.flt_model.specs.declared.call.ReplyOf.TheVariants.{Taken, Ignored, Shown, Response, Silent}
 use Rattle.flt_queue.specs.declared.job.LastResult.{LastResult}
 use Rattle.flt_queue.specs.declared.job.LastResult.TheVariants.{Never, Pending, Written, Failed}
 use Rattle.flt_queue.specs.declared.job.QueueReply.{QueueReply}

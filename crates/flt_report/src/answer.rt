@@ -3,14 +3,13 @@ ghost use Rattle.std.specs.Prelude.{◌≡◌, ◌≤◌, ◌+◌, ◌++◌, ◌
 ghost use Rattle.std.specs.Vec.{vec_capacity};
 ghost use Rattle.flt_dcm.specs.ReplyKind.{reply_with};
 ghost use Rattle.flt_life.specs.Answers.{IsReplyWithin, IsAnswerWithin, reply_in, with_reply};
-ghost use Rattle.flt_report.specs.Room.{reply_room, answer_room};
+ghost use Rattle.flt_report.specs.Room.{reply_room, kept_room, answer_room};
 ghost use Rattle.flt_report.specs.Answer.{flag_text, shown_text, ignored_text, reply_text, save_fault_text};
 ghost use Rattle.flt_report.specs.Answer.{last_text, queue_text, drained_text, answer_text, answer_part};
 
 use crate::digits::{put_byte, put_bytes, put_number, put_signed, put_text};
-use flt_dcm::ReplyKind;
 use flt_life::{Answer, KeptReply, StepAnswer};
-use flt_model::{Cause, Shown};
+use flt_model::{Cause, ReplyOf, Shown};
 use flt_queue::{LastResult, QueueReply};
 use flt_store::SaveFault;
 use std::alloc::AllocError;
@@ -137,40 +136,50 @@ fn put_drained(written: u16, failed: u16, out: &mut Vec<u8>)
     put_number(u32::from(failed), out);
 }
 
-/// Puts a reply as it is kept.
-fn put_kept(reply: &KeptReply, responses: &[u8], out: &mut Vec<u8>)
-    requires within { IsReplyWithin (length responses.now) reply.now }
-    requires room { vec_len out.old + reply_room reply.now ≤ vec_capacity out.old }
-    ensures items { out.new.items ≡ out.old.items ++ reply_text (reply_in responses.now reply.now) }
-    ensures len { vec_len out.new ≤ vec_len out.old + reply_room reply.now }
+/// Puts a reply, with these bytes if it is a response.
+fn put_beside<B>(reply: &ReplyOf<B>, response: &[u8], out: &mut Vec<u8>)
+    requires { vec_len out.old + reply_room reply.now response.now ≤ vec_capacity out.old }
+    ensures items { out.new.items ≡ out.old.items ++ reply_text (reply_with reply.now response.now) }
+    ensures len { vec_len out.new ≤ vec_len out.old + reply_room reply.now response.now }
     ensures room { vec_capacity out.old ≤ vec_capacity out.new }
 {
     match reply {
-        KeptReply::Taken => put_text(b"taken", out),
-        KeptReply::Ignored(cause) => put_ignored(*cause, out),
-        KeptReply::Shown(shown) => put_shown(shown, out),
-        KeptReply::Response { from, length } => {
-            put_bytes(&responses[*from..*from + *length], out);
-        }
-        KeptReply::Silent => put_text(b"silent", out),
+        ReplyOf::Taken => put_text(b"taken", out),
+        ReplyOf::Ignored(cause) => put_ignored(*cause, out),
+        ReplyOf::Shown(shown) => put_shown(shown, out),
+        ReplyOf::Response(_) => put_bytes(response, out),
+        ReplyOf::Silent => put_text(b"silent", out),
     }
 }
 
-/// The reply of this kind as it is kept beside its response.
-fn kept_beside(kind: ReplyKind, response: &[u8]) -> KeptReply
-    ensures reply { reply_in response.now result ≡ reply_with kind response.now }
-    ensures within { IsReplyWithin (length response.now) result }
+/// The bytes of a response that is kept among these, and none of another reply.
+fn response_in(reply: KeptReply, responses: &[u8]) -> &[u8]
+    requires { IsReplyWithin (length responses.now) reply }
+    ensures reply { reply_with reply result.now ≡ reply_in responses.now reply }
+    ensures room { reply_room reply result.now ≡ kept_room reply }
 {
-    match kind {
-        ReplyKind::Taken => KeptReply::Taken,
-        ReplyKind::Ignored(cause) => KeptReply::Ignored(cause),
-        ReplyKind::Shown(shown) => KeptReply::Shown(shown),
-        ReplyKind::Response => KeptReply::Response {
-            from: 0,
-            length: response.len(),
-        },
-        ReplyKind::Silent => KeptReply::Silent,
+    match reply {
+        ReplyOf::Response(kept) => &responses[kept.from..kept.from + kept.length],
+        _ => &[],
     }
+}
+
+/// Puts the text of a reply, with these bytes if it is a response. Where memory is short it puts nothing.
+pub fn put_reply<B: Drop>(
+    reply: ReplyOf<B>,
+    response: &[u8],
+    out: &mut Vec<u8>,
+) -> Result<(), AllocError>
+    ensures ok { OnOk result (out.new.items ≡ out.old.items ++ reply_text (reply_with reply response.now)) }
+    ensures err { OnErr result (out.new.items ≡ out.old.items) }
+{
+    let room = match reply {
+        ReplyOf::Response(_) => response.len().checked_mul(3).ok_or(AllocError)?,
+        _ => ANSWER_ROOM,
+    };
+    out.reserve(room)?;
+    put_beside(&reply, response, out);
+    Ok(())
 }
 
 /// Puts the text of a reply as a lane keeps it, whose response lies among these bytes. Where memory is short it puts nothing.
@@ -183,21 +192,7 @@ pub fn put_kept_reply(
     ensures ok { OnOk result (out.new.items ≡ out.old.items ++ reply_text (reply_in responses.now reply.now)) }
     ensures err { OnErr result (out.new.items ≡ out.old.items) }
 {
-    let room = match reply {
-        KeptReply::Response { length, .. } => length.checked_mul(3).ok_or(AllocError)?,
-        _ => ANSWER_ROOM,
-    };
-    out.reserve(room)?;
-    put_kept(reply, responses, out);
-    Ok(())
-}
-
-/// Puts the text of a reply of this kind, whose response stands beside it. Where memory is short it puts nothing.
-pub fn put_reply(kind: ReplyKind, response: &[u8], out: &mut Vec<u8>) -> Result<(), AllocError>
-    ensures ok { OnOk result (out.new.items ≡ out.old.items ++ reply_text (reply_with kind response.now)) }
-    ensures err { OnErr result (out.new.items ≡ out.old.items) }
-{
-    put_kept_reply(&kept_beside(kind, response), response, out)
+    put_reply(*reply, response_in(*reply, responses), out)
 }
 
 /// Puts an answer.
@@ -209,7 +204,9 @@ fn put_told(answer: &StepAnswer<KeptReply>, responses: &[u8], out: &mut Vec<u8>)
     ensures room { vec_capacity out.old ≤ vec_capacity out.new }
 {
     match answer {
-        StepAnswer::Dem(told) => put_kept(&told.reply, responses, out),
+        StepAnswer::Dem(told) => {
+            put_beside(&told.reply, response_in(told.reply, responses), out);
+        }
         StepAnswer::Saved(generation) => put_number(*generation, out),
         StepAnswer::SaveFailed(fault) => put_save_fault(*fault, out),
         StepAnswer::Queue(told) => put_queue_reply(&told.reply, out),
@@ -229,10 +226,10 @@ fn answer_room(answer: &StepAnswer<KeptReply>) -> Option<usize>
     match answer {
         StepAnswer::Dem(
             Answer {
-                reply: KeptReply::Response { length, .. },
+                reply: ReplyOf::Response(kept),
                 ..
             },
-        ) => length.checked_mul(3),
+        ) => kept.length.checked_mul(3),
         _ => Some(ANSWER_ROOM),
     }
 }

@@ -7,12 +7,11 @@ use Rattle.flt_model.specs.Mark.{marks_of}
 use Rattle.flt_model.specs.StatusLaws.{since_clear}
 use Rattle.flt_model.specs.Trace.{trace}
 use Rattle.flt_model.specs.declared.call.Op.{Op}
-use Rattle.flt_model.specs.declared.call.Reply.{Reply}
-use Rattle.flt_model.specs.declared.call.Reply.TheVariants as replies
+use Rattle.flt_model.specs.Reply.{Reply}
+use Rattle.flt_model.specs.declared.call.ReplyOf.TheVariants as replies
 use Rattle.flt_model.specs.declared.life.DemStart.{DemStart}
 use Rattle.flt_dcm.specs.Unit.{IsAdmitted}
-use Rattle.flt_dcm.specs.ReplyKind.{reply_with}
-use Rattle.flt_dcm.specs.declared.reply_kind.ReplyKind.{ReplyKind}
+use Rattle.flt_dcm.specs.ReplyKind.{ReplyKind, reply_with}
 use Rattle.flt_dcm.specs.Standard.{StandardBits, IsFromStart}
 use Rattle.flt_turn.specs.declared.answer.Answer.{Answer}
 use Rattle.flt_turn.specs.declared.vault.Entry.{Entry}

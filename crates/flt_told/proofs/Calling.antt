@@ -6,7 +6,7 @@ use Rattle.std.proofs.lemmas.Bool.{and_parts}
 use Rattle.flt_config.specs.declared.TheConstants.{EVENTS}
 use Rattle.flt_config.specs.declared.config.Config.{Config}
 use Rattle.flt_model.specs.declared.call.Op.{Op}
-use Rattle.flt_model.specs.declared.call.Reply.{Reply}
+use Rattle.flt_model.specs.Reply.{Reply}
 use Rattle.flt_script.specs.Part.{PartOf}
 use Rattle.flt_script.specs.Step.{are_parts_in, is_lane_in, is_lane_step, is_part_in, is_step_in, store_lanes}
 use Rattle.flt_script.specs.declared.step.Step.{Step}

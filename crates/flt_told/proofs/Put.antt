@@ -2,9 +2,8 @@
 use Rattle.std.proofs.Common.{◌≡◌, ℕ, suc, ◌+◌, ◌<◌, List, length, drop, get_or, map, arith, ap, ◌∙◌}
 use Rattle.std.proofs.Math.Seq.{drop-cons}
 use Rattle.std.proofs.lemmas.List.{get_or-map, length-map}
-use Rattle.flt_life.specs.Answers.{told_by, with_reply, reply_in}
+use Rattle.flt_life.specs.Answers.{KeptReply, told_by, with_reply, reply_in}
 use Rattle.flt_life.specs.Room.{told_in}
-use Rattle.flt_life.specs.declared.answer.KeptReply.{KeptReply}
 use Rattle.flt_life.specs.declared.answer.StepAnswer.{StepAnswer}
 use Rattle.flt_life.specs.declared.replies.LaneReplies.{LaneReplies}
 use Rattle.flt_told.specs.Answered.{with_lane, with_lanes, with_told}

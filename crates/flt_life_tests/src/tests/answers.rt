@@ -8,7 +8,7 @@ fn answers_are_kept(rt: HostRuntime) -> Result<(), Fail> {
     let mut replies = LaneReplies::with_room(rt.alloc(), 3, 2)?;
     let response = StepAnswer::Dem(Answer {
         place: 0,
-        reply: ReplyKind::Response,
+        reply: ReplyKind::Response(()),
     });
     replies.keep(response, &[0x51, 0x01]);
     let silent = StepAnswer::Dem(Answer {

@@ -6,7 +6,7 @@ ghost use Rattle.flt_restore.specs.declared.fault.StartFault.TheVariants as faul
 use arrayvec::ArrayVec;
 use flt_config::{CfgFault, Persist};
 use flt_generation::{Mark, Place};
-use flt_life::{Answer, Boot, KeptReply, StepAnswer};
+use flt_life::{Answer, Boot, KeptReply, KeptResponse, StepAnswer};
 use flt_model::{Cause, REQUEST, Report, Shown};
 use flt_report::{put_boot, put_end, put_lane, put_par, put_script_fault, put_step};
 use flt_restore::StartFault;
@@ -68,9 +68,9 @@ fn answers_to_calls(rt: HostRuntime) -> Result<(), Fail> {
     assert!(rt; is_answer(alloc, &ignored, "cycle 3 -> ignored enable\n")?);
     let silent = told(KeptReply::Silent);
     assert!(rt; is_answer(alloc, &silent, "cycle 3 -> silent\n")?);
-    let first = told(KeptReply::Response { from: 0, length: 3 });
+    let first = told(KeptReply::Response(KeptResponse { from: 0, length: 3 }));
     assert!(rt; is_answer(alloc, &first, "cycle 3 -> 7F 0A B9\n")?);
-    let second = told(KeptReply::Response { from: 3, length: 2 });
+    let second = told(KeptReply::Response(KeptResponse { from: 3, length: 2 }));
     assert!(rt; is_answer(alloc, &second, "cycle 3 -> FF 00\n")?);
     Ok(())
 }

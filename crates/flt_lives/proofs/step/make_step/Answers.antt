@@ -1,11 +1,11 @@
 use Rattle.std.proofs.Common.{◌≡◌, ◌∷◌, ◌∙◌, ap, sym, subst, ◌≤◌, reverse, length}
 use Rattle.std.proofs.lemmas.List.{length-reverse}
 use Rattle.flt_dcm.specs.ReplyKind.{reply_with}
-use Rattle.flt_model.specs.declared.call.Reply.{Reply}
+use Rattle.flt_model.specs.Reply.{Reply}
 use Rattle.flt_turn.specs.declared.answer.Answer.{Answer}
 use Rattle.flt_flash.specs.Blocks.{BlocksState}
 use Rattle.flt_generation.specs.Layout.{application_number}
-use Rattle.flt_life.specs.Answers.{size_of}
+use Rattle.flt_life.specs.Answers.{reply_size}
 use Rattle.flt_lives.specs.Carried.{answer_at}
 use Rattle.flt_life.specs.Actions.{arms_of}
 use Rattle.flt_lives.specs.Going.{WereGiven}
@@ -51,7 +51,7 @@ returns-in-Call-clause-given g c =
 
 pub returns-in-Call-clause-size : goal.returns-in-Call-clause-size
 returns-in-Call-clause-size g c = λ few.
-    subst (λ (step : Action). size_of c.call-reply.result c.call-reply.new.buffers.response.items ≤ response_size step) (sym c.in-Call.is)
+    subst (λ (step : Action). reply_size (reply_with c.call-reply.result c.call-reply.new.buffers.response.items) ≤ response_size step) (sym c.in-Call.is)
     (size_of_call c.in-Call.op c.call-reply.result c.call-reply.new.buffers.response.items c.call-reply.ensures.no_response few)
 
 pub returns-in-Call-clause-carried : goal.returns-in-Call-clause-carried

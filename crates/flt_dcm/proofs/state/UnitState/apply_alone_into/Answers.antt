@@ -46,8 +46,8 @@ no_report false bytes ignored = ignored
 
 pub returns-in-Report-clause-ignored : goal.returns-in-Report-clause-ignored
 returns-in-Report-clause-ignored g c = λ ignored.
-    with_cause c.report.result _ c.report.ensures.ignored (subst IsIgnored (c.of_report.ensures _) ignored)
+    with_cause c.report.result _ c.report.ensures.ignored (subst IsIgnored (c.kind_of_report.ensures _) ignored)
 
 pub returns-in-Request-clause-ignored : goal.returns-in-Request-clause-ignored
 returns-in-Request-clause-ignored g c = λ ignored.
-    absurd (no_report c.request.result _ (subst IsIgnored (c.of_request.ensures _) ignored))
+    absurd (no_report c.request.result _ (subst IsIgnored (c.kind_of_request.ensures _) ignored))

@@ -7,7 +7,7 @@ use Rattle.flt_model.specs.Life.{count}
 use Rattle.flt_model.specs.Durable.{state_at}
 use Rattle.flt_model.specs.Trace.{trace}
 use Rattle.flt_model.specs.declared.call.Op.TheVariants as ops
-use Rattle.flt_model.specs.declared.call.Reply.TheVariants as replies
+use Rattle.flt_model.specs.declared.call.ReplyOf.TheVariants as replies
 use Rattle.flt_dem.specs.Standing.{FaultsStand}
 use Rattle.flt_dem.specs.View.{counter_of}
 use Rattle.flt_dem.proofs.ViewLemmas.{counter_told}
