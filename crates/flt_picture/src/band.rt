@@ -2,7 +2,7 @@
 use crate::columns::Columns;
 use crate::marks::{MARKS, Mark, begins, confirms, enters, leaving};
 use crate::replay::Machine;
-use flt_config::ValidConfig;
+use flt_config::{EventCfg, ValidConfig};
 use flt_model::{Op, Shown};
 use std::alloc::{AllocError, Global};
 
@@ -85,6 +85,29 @@ pub(crate) struct Band {
 }
 
 impl Band {
+    /// The band of an event, with so many columns, before any call.
+    fn of(
+        alloc: Global,
+        number: u16,
+        event: &EventCfg,
+        columns: usize,
+    ) -> Result<Band, AllocError> {
+        Ok(Band {
+            event: number,
+            dtc: event.dtc,
+            cycle: event.cycle,
+            shown: None,
+            moments: vec![in alloc; OFF; columns]?,
+        })
+    }
+
+    /// Whether one of these bits of its status is set in a column.
+    pub(crate) fn is_set(&self, bits: u8, column: usize) -> bool {
+        self.moments
+            .get(column)
+            .is_some_and(|moment| moment.status & bits != 0)
+    }
+
     /// What is shown of the event as a life begins.
     pub(crate) fn rest(&mut self, machine: &mut Machine, column: usize) {
         self.shown = machine.show(self.event);
@@ -117,13 +140,7 @@ pub(crate) fn bands_of(
     let mut bands = Vec::new(alloc);
     let mut number = 0;
     for event in config.config().events.iter().take(most) {
-        bands.push(Band {
-            event: number,
-            dtc: event.dtc,
-            cycle: event.cycle,
-            shown: None,
-            moments: vec![in alloc; OFF; columns.spans.len()]?,
-        })?;
+        bands.push(Band::of(alloc, number, event, columns.spans.len())?)?;
         number = number.saturating_add(1);
     }
     Ok(bands)

@@ -6,7 +6,7 @@ use flt_pages::{Item, Numbers, byte_pages, item};
 use std::alloc::{AllocError, Global};
 
 /// What a page holds.
-#[derive(Clone, Copy, PartialEq, Eq)]
+#[derive(Clone, Copy)]
 pub(crate) enum Cell {
     /// The start gate, with its sequence number.
     Start { sequence: u32 },
@@ -98,6 +98,41 @@ impl Log {
         Ok(())
     }
 
+    /// Adds what is found at a page, and answers the page behind it.
+    fn add_found(
+        &mut self,
+        flash: &FlashMem,
+        sector: u8,
+        page: u16,
+        found: Option<Item>,
+    ) -> Result<u16, AllocError> {
+        let cell = match found {
+            Some(
+                Item::Kept {
+                    block,
+                    length,
+                    valid,
+                    complete,
+                },
+            ) => {
+                let gate = page.saturating_add(byte_pages(length)).saturating_add(1);
+                let record = Record {
+                    page,
+                    block,
+                    length,
+                    valid,
+                    complete,
+                };
+                self.add_record(record, lone_cell(flash, sector, gate))?;
+                return Ok(gate.saturating_add(1));
+            }
+            Some(Item::Torn) => Cell::Torn,
+            Some(Item::End) | None => lone_cell(flash, sector, page),
+        };
+        self.cells.push(cell)?;
+        Ok(page.saturating_add(1))
+    }
+
     /// Whether a record is the last complete one of its block.
     pub(crate) fn is_last(&self, record: usize) -> bool {
         let Some(found) = self.records.get(record) else {
@@ -129,33 +164,9 @@ pub(crate) fn read_log(
     log.cells.push(lone_cell(flash, sector, 1))?;
     let mut behind = 2;
     for page in 2..used {
-        if page < behind {
-            continue;
-        }
-        behind = page;
-        match item_at(flash, sector, used, page, &numbers) {
-            Some(Item::Torn) => log.cells.push(Cell::Torn)?,
-            Some(
-                Item::Kept {
-                    block,
-                    length,
-                    valid,
-                    complete,
-                },
-            ) => {
-                let gate = page.saturating_add(byte_pages(length)).saturating_add(1);
-                let missing = lone_cell(flash, sector, gate);
-                let record = Record {
-                    page,
-                    block,
-                    length,
-                    valid,
-                    complete,
-                };
-                log.add_record(record, missing)?;
-                behind = gate.saturating_add(1);
-            }
-            Some(Item::End) | None => log.cells.push(lone_cell(flash, sector, page))?,
+        if behind <= page {
+            let found = item_at(flash, sector, used, page, &numbers);
+            behind = log.add_found(flash, sector, page, found)?;
         }
     }
     Ok(log)

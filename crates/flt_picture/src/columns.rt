@@ -35,6 +35,13 @@ impl Span {
     }
 }
 
+/// The columns of a life: the index of the first, and the one behind the last.
+#[derive(Clone, Copy)]
+pub(crate) struct LifeColumns {
+    pub(crate) from: usize,
+    pub(crate) to: usize,
+}
+
 /// The columns of a timeline.
 #[derive(Drop)]
 pub(crate) struct Columns {
@@ -42,6 +49,8 @@ pub(crate) struct Columns {
     pub(crate) calls: usize,
     /// What each stands for, from left to right.
     pub(crate) spans: Vec<Span>,
+    /// Those of each life.
+    pub(crate) lives: Vec<LifeColumns>,
     /// How wide each is.
     width: u32,
     ghost narrow: { width ≤ 7350 },
@@ -60,8 +69,17 @@ pub(crate) fn is_started(life: &Life) -> bool {
     matches!(life.boot, Boot::Started { .. })
 }
 
-/// Puts the columns of a life behind those before it.
-fn put_life(
+/// Puts the columns of the power-up of a life behind those before them.
+fn put_power_up(index: usize, life: &Life, spans: &mut Vec<Span>) -> Result<(), AllocError> {
+    let columns = if is_started(life) { 1 } else { UNSTARTED };
+    for _ in 0..columns {
+        spans.push(Span::power_up(index))?;
+    }
+    Ok(())
+}
+
+/// Puts the columns of the calls of a life behind those before them.
+fn put_calls(
     index: usize,
     life: &Life,
     calls: usize,
@@ -69,12 +87,6 @@ fn put_life(
 ) -> Result<(), AllocError>
     requires { 0 < calls }
 {
-    spans.push(Span::power_up(index))?;
-    if !is_started(life) {
-        for _ in 1..UNSTARTED {
-            spans.push(Span::power_up(index))?;
-        }
-    }
     let mut from = 0usize;
     for piece in life.journal.chunks(calls) {
         let to = from.saturating_add(piece.len());
@@ -93,13 +105,19 @@ impl Columns {
     pub(crate) fn of(alloc: Global, lives: &[Life]) -> Result<Columns, AllocError> {
         let calls = count_calls(lives).div_ceil(CALL_COLUMNS).max(1);
         let mut spans = Vec::new(alloc);
+        let mut own = Vec::new(alloc);
         for (index, life) in lives.iter().enumerate() {
-            put_life(index, life, calls, &mut spans)?;
+            let from = spans.len();
+            put_power_up(index, life, &mut spans)?;
+            put_calls(index, life, calls, &mut spans)?;
+            let to = spans.len();
+            own.push(LifeColumns { from, to })?;
         }
         let count = spans.len().clamp(1, MOST) as u32;
         Ok(Columns {
             calls,
             spans,
+            lives: own,
             width: PLOT / count,
         })
     }

@@ -13,6 +13,7 @@ mod lives;
 mod marks;
 mod pages;
 mod replay;
+mod rows;
 mod svg;
 
 pub use lives::timeline;

@@ -1,7 +1,7 @@
 // What a call does to an event, as a mark of a timeline.
 ghost use Rattle.std.specs.Prelude.{◌<◌};
 
-use crate::svg::{Area, Svg};
+use crate::svg::{Area, Svg, path_in};
 use flt_model::{Op, Shown};
 use std::alloc::{AllocError, Global};
 
@@ -65,37 +65,27 @@ impl Mark {
         }
     }
 
+    /// Its outline, as `svg` reads one.
+    fn outline(self) -> &'static str {
+        match self {
+            Mark::Cycle => "MX YmT 0hTvHh-Tz",
+            Mark::Enters => "MX YlW Rl-W Rz",
+            Mark::Confirmed => "MX Ym0 RlF -RlF Rl-F Rz",
+            Mark::Displaced => "MX YlW Hh-WlW -Hh-Wz",
+            Mark::Aged => "MX Ym0 RaF R 0 0 0 W 0aF R 0 0 0 -W 0z",
+            Mark::Cleared => "MX YhWvHh-Wz",
+        }
+    }
+
     /// Draws it in an area.
     pub(crate) fn draw(
         self,
         alloc: Global,
-        area: Area,
+        area: &Area,
         title: &str,
         svg: &mut Svg,
     ) -> Result<(), AllocError> {
-        let Area {
-            x,
-            y,
-            width,
-            height,
-        } = area;
-        let half = width / 2;
-        let rise = height / 2;
-        let third = width / 3;
-        let path = match self {
-            Mark::Cycle => format!(in alloc; "M{x} {y}m{third} 0h{third}v{height}h-{third}z")?,
-            Mark::Enters => format!(in alloc; "M{x} {y}l{width} {rise}l-{width} {rise}z")?,
-            Mark::Confirmed => format!(in alloc;
-                "M{x} {y}m0 {rise}l{half} -{rise}l{half} {rise}l-{half} {rise}z"
-            )?,
-            Mark::Displaced => format!(in alloc;
-                "M{x} {y}l{width} {height}h-{width}l{width} -{height}h-{width}z"
-            )?,
-            Mark::Aged => format!(in alloc;
-                "M{x} {y}m0 {rise}a{half} {rise} 0 0 0 {width} 0a{half} {rise} 0 0 0 -{width} 0z"
-            )?,
-            Mark::Cleared => format!(in alloc; "M{x} {y}h{width}v{height}h-{width}z")?,
-        };
+        let path = path_in(alloc, self.outline(), area)?;
         svg.path(self.class(), &path, title)
     }
 }

@@ -3,10 +3,10 @@ ghost use Rattle.std.specs.Prelude.{◌≤◌};
 
 use crate::cells::{Cell, Log, Record, page_at, read_log};
 use crate::layout::{
-    BLANK_HEIGHT, CELL_HEIGHT, CELL_LETTERS, CELL_WIDTH, CELLS, GAP, LABEL_Y, MARGIN, NOTE_Y, ROW,
-    ROWS_Y, SECTORS_Y, TITLE_Y,
+    BLANK_HEIGHT, CELL_HEIGHT, CELL_LETTERS, CELL_WIDTH, CELLS, GAP, LABEL_Y, MARGIN, ROW, ROWS_Y,
+    SECTORS_Y,
 };
-use crate::svg::{Area, Svg};
+use crate::svg::{Area, Svg, put_outline};
 use flt_config::ValidConfig;
 use flt_fee::current_sector;
 use flt_flash::{BLANK_PAGE, Flash, FlashMem};
@@ -19,7 +19,7 @@ use std::alloc::{AllocError, Global};
 use std::fmt::Write;
 
 /// What the colours say.
-const NOTE: &str =
+static NOTE: &str =
     "blue: a gate; green: the current record of its block; grey: an older one, or blank; red: torn, or incomplete";
 
 /// A flash on which nothing fails, with the first pages of another one's sectors.
@@ -93,7 +93,7 @@ fn generation_of(
 
 /// Whether each cell of a row is blank.
 fn is_blank(cells: &[Cell]) -> bool {
-    cells.iter().all(|cell| *cell == Cell::Blank)
+    cells.iter().all(|cell| matches!(*cell, Cell::Blank))
 }
 
 /// How high a row of cells is.
@@ -122,6 +122,29 @@ struct Look {
     title: String,
 }
 
+/// How a cell looks that is no part of a record.
+fn plain_look(
+    alloc: Global,
+    class: &'static str,
+    label: &str,
+    title: &str,
+) -> Result<Look, AllocError> {
+    Ok(Look {
+        class,
+        label: String::from_str(alloc, label)?,
+        title: String::from_str(alloc, title)?,
+    })
+}
+
+/// How a gate of a sector looks.
+fn gate_look(alloc: Global, word: &str, sequence: u32) -> Result<Look, AllocError> {
+    Ok(Look {
+        class: "gate",
+        label: numbered(alloc, word, sequence)?,
+        title: format!(in alloc; "{word} gate, sequence {sequence}")?,
+    })
+}
+
 /// A sector as it is drawn.
 #[derive(Drop)]
 struct Sector<'a> {
@@ -134,34 +157,49 @@ struct Sector<'a> {
 }
 
 impl Sector<'_> {
-    /// How a page of a record looks.
-    fn record_look(&self, index: usize, label: String, what: &str) -> Result<Look, AllocError> {
+    /// How a record is coloured, and what is told of that.
+    fn state_of(&self, index: usize, record: &Record) -> (&'static str, &'static str) {
+        if !record.complete {
+            ("torn", ", incomplete")
+        } else if self.is_current && self.log.is_last(index) {
+            ("current", ", current")
+        } else {
+            ("older", "")
+        }
+    }
+
+    /// The generation that a record names, if it does.
+    fn generation(&self, record: &Record) -> Option<u32> {
+        generation_of(self.config, self.flash, self.number, record)
+    }
+
+    /// What is told of a page of a record.
+    fn record_title(&self, record: &Record, what: &str, state: &str) -> Result<String, AllocError> {
         let alloc = self.alloc;
-        let Some(record) = self.log.records.get(index) else {
-            return Ok(Look {
-                class: "damaged",
-                label,
-                title: String::new(alloc),
-            });
-        };
         let name = block_name(alloc, record.block)?;
         let length = record.length;
         let mut title = format!(in alloc; "{what} of {name}, {length} bytes")?;
-        if let Some(generation) = generation_of(self.config, self.flash, self.number, record) {
+        if let Some(generation) = self.generation(record) {
             write!(title, ", generation {generation}")?;
         }
         if !record.valid {
             title.push_str(", invalid")?;
         }
-        let class = if !record.complete {
-            title.push_str(", incomplete")?;
-            "torn"
-        } else if self.is_current && self.log.is_last(index) {
-            title.push_str(", current")?;
-            "current"
-        } else {
-            "older"
+        title.push_str(state)?;
+        Ok(title)
+    }
+
+    /// How a page of a record looks.
+    fn record_look(&self, index: usize, label: String, what: &str) -> Result<Look, AllocError> {
+        let Some(record) = self.log.records.get(index) else {
+            return Ok(Look {
+                class: "damaged",
+                label,
+                title: String::new(self.alloc),
+            });
         };
+        let (class, state) = self.state_of(index, record);
+        let title = self.record_title(record, what, state)?;
         Ok(Look {
             class,
             label,
@@ -169,65 +207,38 @@ impl Sector<'_> {
         })
     }
 
+    /// What stands in the cell of the head of a record.
+    fn head_label(&self, index: usize) -> Result<String, AllocError> {
+        match self.log.records.get(index) {
+            Some(record) => block_name(self.alloc, record.block),
+            None => Ok(String::new(self.alloc)),
+        }
+    }
+
     /// What stands in the cell of the bytes of a record.
     fn bytes_label(&self, index: usize) -> Result<String, AllocError> {
-        let generation = self.log.records.get(index).and_then(|record| generation_of(
-            self.config,
-            self.flash,
-            self.number,
-            record,
-        ));
-        match generation {
+        let record = self.log.records.get(index);
+        match record.and_then(|record| self.generation(record)) {
             Some(generation) => numbered(self.alloc, "gen", generation),
-            None => format!(in self.alloc; "bytes"),
+            None => String::from_str(self.alloc, "bytes"),
         }
     }
 
     /// How a cell looks.
     fn look(&self, cell: Cell) -> Result<Look, AllocError> {
         let alloc = self.alloc;
-        Ok(match cell {
-            Cell::Start { sequence } => Look {
-                class: "gate",
-                label: numbered(alloc, "start", sequence)?,
-                title: format!(in alloc; "start gate, sequence {sequence}")?,
-            },
-            Cell::Active { sequence } => Look {
-                class: "gate",
-                label: numbered(alloc, "active", sequence)?,
-                title: format!(in alloc; "active gate, sequence {sequence}")?,
-            },
-            Cell::Head { record } => {
-                let label = match self.log.records.get(record) {
-                    Some(found) => block_name(alloc, found.block)?,
-                    None => String::new(alloc),
-                };
-                self.record_look(record, label, "head")?
-            }
-            Cell::Bytes { record } => {
-                let label = self.bytes_label(record)?;
-                self.record_look(record, label, "bytes")?
-            }
+        match cell {
+            Cell::Start { sequence } => gate_look(alloc, "start", sequence),
+            Cell::Active { sequence } => gate_look(alloc, "active", sequence),
+            Cell::Head { record } => self.record_look(record, self.head_label(record)?, "head"),
+            Cell::Bytes { record } => self.record_look(record, self.bytes_label(record)?, "bytes"),
             Cell::Gate { record } => {
-                let label = format!(in alloc; "gate")?;
-                self.record_look(record, label, "gate")?
+                self.record_look(record, String::from_str(alloc, "gate")?, "gate")
             }
-            Cell::Torn => Look {
-                class: "torn",
-                label: format!(in alloc; "torn")?,
-                title: format!(in alloc; "torn")?,
-            },
-            Cell::Blank => Look {
-                class: "older",
-                label: String::new(alloc),
-                title: format!(in alloc; "blank")?,
-            },
-            Cell::Damaged => Look {
-                class: "damaged",
-                label: format!(in alloc; "damaged")?,
-                title: format!(in alloc; "damaged")?,
-            },
-        })
+            Cell::Torn => plain_look(alloc, "torn", "torn", "torn"),
+            Cell::Blank => plain_look(alloc, "older", "", "blank"),
+            Cell::Damaged => plain_look(alloc, "damaged", "damaged", "damaged"),
+        }
     }
 
     /// Draws a row of blank cells.
@@ -238,17 +249,49 @@ impl Sector<'_> {
         first: usize,
         y: u32,
     ) -> Result<(), AllocError> {
-        let width = CELL_WIDTH - GAP;
-        let height = BLANK_HEIGHT - GAP;
         let mut path = String::new(self.alloc);
-        let mut x = MARGIN;
+        let mut area = Area {
+            x: MARGIN,
+            y,
+            width: CELL_WIDTH - GAP,
+            height: BLANK_HEIGHT - GAP,
+        };
         for _ in 0..count {
-            write!(path, "M{x} {y}h{width}v{height}h-{width}z")?;
-            x = x.saturating_add(CELL_WIDTH);
+            put_outline(&mut path, "MX YhWvHh-Wz", &area)?;
+            area.x = area.x.saturating_add(CELL_WIDTH);
         }
         let last = first.saturating_add(count).saturating_sub(1);
         let title = format!(in self.alloc; "pages {first} to {last}: blank")?;
         svg.path("older", &path, &title)
+    }
+
+    /// Draws the cell of a page.
+    fn draw_cell(
+        &self,
+        svg: &mut Svg,
+        cell: Cell,
+        page: usize,
+        x: u32,
+        y: u32,
+    ) -> Result<(), AllocError> {
+        let Look {
+            class,
+            label,
+            title,
+        } = self.look(cell)?;
+        let title = format!(in self.alloc; "page {page}: {title}")?;
+        let area = Area {
+            x,
+            y,
+            width: CELL_WIDTH - GAP,
+            height: CELL_HEIGHT - GAP,
+        };
+        svg.area(class, &area, &title)?;
+        if label.is_empty() {
+            return Ok(());
+        }
+        let middle = x.saturating_add((CELL_WIDTH - GAP) / 2);
+        svg.text("middle", middle, y.saturating_add(LABEL_Y), &label)
     }
 
     /// Draws a row of cells.
@@ -265,31 +308,15 @@ impl Sector<'_> {
         let mut x = MARGIN;
         let mut page = first;
         for cell in cells {
-            let Look {
-                class,
-                label,
-                title,
-            } = self.look(*cell)?;
-            let title = format!(in self.alloc; "page {page}: {title}")?;
-            let area = Area {
-                x,
-                y,
-                width: CELL_WIDTH - GAP,
-                height: CELL_HEIGHT - GAP,
-            };
-            svg.area(class, area, &title)?;
-            if !label.is_empty() {
-                let middle = x.saturating_add((CELL_WIDTH - GAP) / 2);
-                svg.text("middle", middle, y.saturating_add(LABEL_Y), &label)?;
-            }
+            self.draw_cell(svg, *cell, page, x, y)?;
             x = x.saturating_add(CELL_WIDTH);
             page = page.saturating_add(1);
         }
         Ok(())
     }
 
-    /// Draws the sector below a height, and answers where it ends.
-    fn draw(&self, svg: &mut Svg, top: u32) -> Result<u32, AllocError> {
+    /// What is told of the sector.
+    fn title(&self) -> Result<String, AllocError> {
         let number = self.number;
         let wear = if number < 2 {
             self.flash.wear(number)
@@ -301,8 +328,12 @@ impl Sector<'_> {
         } else {
             "not current"
         };
-        let title = format!(in self.alloc; "sector {number}: {state}, wear {wear}")?;
-        svg.text("title", MARGIN, top, &title)?;
+        format!(in self.alloc; "sector {number}: {state}, wear {wear}")
+    }
+
+    /// Draws the sector below a height, and answers where it ends.
+    fn draw(&self, svg: &mut Svg, top: u32) -> Result<u32, AllocError> {
+        svg.text("title", MARGIN, top, &self.title()?)?;
         let mut y = top.saturating_add(ROWS_Y);
         let mut first = 0;
         for cells in self.log.cells.chunks(CELLS) {
@@ -344,9 +375,7 @@ pub fn sectors(
         .saturating_add(3 * ROW);
     let operations = flash.operations();
     let title = format!(in alloc; "sectors: {used} pages each, {operations} operations")?;
-    let mut svg = Svg::new(alloc, height, &title)?;
-    svg.text("title", MARGIN, TITLE_Y, &title)?;
-    svg.text("plain", MARGIN, NOTE_Y, NOTE)?;
+    let mut svg = Svg::headed(alloc, height, &title, NOTE)?;
     let mut top = SECTORS_Y;
     for (number, log) in [(0u8, &first), (1, &second)] {
         let sector = Sector {

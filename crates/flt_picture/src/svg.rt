@@ -1,10 +1,10 @@
 // The text of an SVG.
-use crate::layout::{BASE, LETTER_HEIGHT, WIDTH};
+use crate::layout::{BASE, LETTER_HEIGHT, MARGIN, NOTE_Y, TITLE_Y, WIDTH};
 use std::alloc::{AllocError, Global};
 use std::fmt::Write;
 
 /// How the parts of a picture are drawn: each colour is as far from white as from black, so that both can lie behind it.
-const STYLE: &str = "\
+static STYLE: &str = "\
 text{font-family:monospace;fill:#767676;white-space:pre}\
 .title{font-weight:bold}\
 .right{text-anchor:end}\
@@ -37,6 +37,51 @@ pub(crate) struct Area {
     pub(crate) height: u32,
 }
 
+impl Area {
+    /// The measure for which a letter of an outline stands, if it stands for one.
+    fn measure(&self, letter: char) -> Option<u32> {
+        match letter {
+            'X' => Some(self.x),
+            'Y' => Some(self.y),
+            'W' => Some(self.width),
+            'H' => Some(self.height),
+            'F' => Some(self.width / 2),
+            'R' => Some(self.height / 2),
+            'T' => Some(self.width / 3),
+            _ => None,
+        }
+    }
+}
+
+/// Puts an outline in an area behind a text: text of SVG in which X and Y stand for the corner of the area, W and H for its width and its
+/// height, F and R for half of these, and T for a third of the width.
+pub(crate) fn put_outline(text: &mut String, outline: &str, area: &Area) -> Result<(), AllocError> {
+    for letter in outline.chars() {
+        match area.measure(letter) {
+            Some(number) => write!(text, "{number}")?,
+            None => text.push(letter)?,
+        }
+    }
+    Ok(())
+}
+
+/// The path of an outline in an area.
+pub(crate) fn path_in(alloc: Global, outline: &str, area: &Area) -> Result<String, AllocError> {
+    let mut path = String::new(alloc);
+    put_outline(&mut path, outline, area)?;
+    Ok(path)
+}
+
+/// The reference to a letter that has a meaning in SVG.
+fn reference(letter: char) -> Option<&'static str> {
+    match letter {
+        '<' => Some("&lt;"),
+        '>' => Some("&gt;"),
+        '&' => Some("&amp;"),
+        _ => None,
+    }
+}
+
 /// An SVG that is written from its front to its end.
 #[derive(Drop)]
 pub(crate) struct Svg {
@@ -44,8 +89,21 @@ pub(crate) struct Svg {
 }
 
 impl Svg {
+    /// The beginning of a picture, with its title and a note below it in letters.
+    pub(crate) fn headed(
+        alloc: Global,
+        height: u32,
+        title: &str,
+        note: &str,
+    ) -> Result<Svg, AllocError> {
+        let mut svg = Svg::new(alloc, height, title)?;
+        svg.text("title", MARGIN, TITLE_Y, title)?;
+        svg.text("plain", MARGIN, NOTE_Y, note)?;
+        Ok(svg)
+    }
+
     /// The beginning of a picture of this height and title.
-    pub(crate) fn new(alloc: Global, height: u32, title: &str) -> Result<Svg, AllocError> {
+    fn new(alloc: Global, height: u32, title: &str) -> Result<Svg, AllocError> {
         let mut svg = Svg {
             text: String::new(alloc),
         };
@@ -54,18 +112,18 @@ impl Svg {
             "<svg xmlns=\"http://www.w3.org/2000/svg\" viewBox=\"0 0 {WIDTH} {height}\" font-size=\"{LETTER_HEIGHT}\" role=\"img\">\n"
         )?;
         svg.put_title(title)?;
-        write!(svg.text, "\n<style>{STYLE}</style>\n")?;
+        svg.text.push_str("\n<style>")?;
+        svg.text.push_str(STYLE)?;
+        svg.text.push_str("</style>\n")?;
         Ok(svg)
     }
 
     /// Puts words, with each letter that has a meaning in SVG as a reference to it.
     fn put_words(&mut self, words: &str) -> Result<(), AllocError> {
         for letter in words.chars() {
-            match letter {
-                '<' => self.text.push_str("&lt;")?,
-                '>' => self.text.push_str("&gt;")?,
-                '&' => self.text.push_str("&amp;")?,
-                _ => self.text.push(letter)?,
+            match reference(letter) {
+                Some(reference) => self.text.push_str(reference)?,
+                None => self.text.push(letter)?,
             }
         }
         Ok(())
@@ -93,16 +151,12 @@ impl Svg {
     }
 
     /// Puts a rectangle with its title.
-    pub(crate) fn area(&mut self, class: &str, area: Area, title: &str) -> Result<(), AllocError> {
-        let Area {
-            x,
-            y,
-            width,
-            height,
-        } = area;
-        write!(
-            self.text,
-            "<rect class=\"{class}\" x=\"{x}\" y=\"{y}\" width=\"{width}\" height=\"{height}\">"
+    pub(crate) fn area(&mut self, class: &str, area: &Area, title: &str) -> Result<(), AllocError> {
+        write!(self.text, "<rect class=\"{class}\" ")?;
+        put_outline(
+            &mut self.text,
+            "x=\"X\" y=\"Y\" width=\"W\" height=\"H\">",
+            area,
         )?;
         self.put_title(title)?;
         self.text.push_str("</rect>\n")

@@ -7,7 +7,7 @@ use arrayvec::ArrayVec;
 use std::fmt;
 
 /// A byte, which is printed in two hexadecimal digits, in upper case.
-#[derive(Clone, Copy, Debug)]
+#[derive(Clone, Copy)]
 pub struct HexByte(pub u8);
 
 impl fmt::Display for HexByte {
@@ -42,7 +42,7 @@ impl fmt::Display for Spaced<'_> {
 }
 
 /// Bytes, which are printed in two hexadecimal digits each, in upper case, with single spaces between them.
-#[derive(Clone, Copy, Debug)]
+#[derive(Clone, Copy)]
 pub struct HexBytes<'a>(pub &'a [u8]);
 
 impl fmt::Display for HexBytes<'_> {

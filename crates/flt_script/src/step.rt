@@ -15,7 +15,7 @@ pub const BLOCK_BYTES: usize = 32;
 
 /// A step of a script. It displays as its words, with single spaces and numbers without leading zeros, and is read
 /// again from that text as the same step.
-#[derive(Clone, Drop, Debug, PartialEq, Eq)]
+#[derive(Drop, PartialEq, Eq)]
 pub enum Step {
     /// `pass`, `fail`, `prepass` or `prefail`: a monitor's report on the event of this number.
     Report {
@@ -74,7 +74,7 @@ pub enum Step {
 }
 
 /// A part of a life, which is carried out before the next one.
-#[derive(Clone, Drop, Debug, PartialEq, Eq)]
+#[derive(Drop, PartialEq, Eq)]
 pub enum Part {
     /// A step by itself.
     One(Step),
