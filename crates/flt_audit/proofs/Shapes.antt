@@ -1,6 +1,6 @@
 -- Which texts tell no life, and what is due of them.
-use Rattle.std.proofs.Common.{◌≡◌, ◌≢◌, ◌⊎◌, ℕ, suc, List, [], ◌∷◌, length, refl, Option, Some, None, Result, Ok, Err, sym, ap, subst, ◌∙◌, inl, inr}
-use Rattle.std.specs.Prelude.{IfOk, IsUtf8, codes}
+use Rattle.std.proofs.Common.{◌≡◌, ◌≢◌, ℕ, suc, List, [], ◌∷◌, length, refl, Option, Some, None, Result, Ok, Err, sym, ap, subst, ◌∙◌, inl, inr}
+use Rattle.std.specs.Prelude.{IfOk, IfSome, IsUtf8, codes}
 use Rattle.serde_json.specs.Read.{read}
 use Rattle.serde_json.specs.Data.{Data}
 use Rattle.flt_config.specs.declared.config.Config.{Config}
@@ -12,7 +12,8 @@ use Rattle.flt_script.specs.declared.fault.ScriptFault.{ScriptFault}
 use Rattle.flt_script.specs.Script.{ScriptContent, script_of}
 use Rattle.flt_verdict.specs.Verdict.{due_of, line_due}
 use Rattle.flt_verdict.specs.declared.verdict.Verdict.{Verdict}
-use Rattle.flt_trace.specs.Trace.{IsTrace, Texts}
+use Rattle.flt_trace.specs.Trace.{IsTrace, Texts, trace_data}
+use Rattle.flt_trace.proofs.Line.{is_trace}
 use Rattle.flt_base.specs.Base.{IsBaseOf}
 use Rattle.flt_call.specs.Call.{AreCallTexts}
 use Rattle.flt_audit.specs.Shape.{Told, Tells}
@@ -43,6 +44,11 @@ module _ (dids : List DidUse) (texts : Texts) where
     pub no_calls : ((calls : List (Entry Op)) → AreCallTexts script.config calls texts.journal → ⊥) → TellsNone dids texts
     no_calls none told tells = none told.journal (subst (λ (c : Config). AreCallTexts c told.journal texts.journal) (one_config told tells) tells.journal)
 
+-- What is said of a value that is there.
+pub of_found : {A : Type 0} (Q : A → Type 0) (found : Option A) (x : A) → found ≡ Some x → IfSome found Q → Q x
+of_found Q None x is told = absurd (cc is)
+of_found Q (Some y) x is told = let same : y ≡ x = cc is in subst Q same told
+
 -- ---- what a line tells, where memory was not wanting
 module _ (dids : List DidUse) where
   pub json_due : {E : Type 0} (bytes : List ℕ) (line : Result Verdict E) → (IsUtf8 bytes → read bytes ≡ None)
@@ -70,6 +76,13 @@ module _ (dids : List DidUse) where
       → IfOk line (λ v. due_of v ≡ verdict_by count unlike) → IfOk line (λ v. IsDueOfTexts dids texts (due_of v))
   told_due texts (Ok v) count unlike many told is = inr (told.0, told.1, is ∙ (λ i. verdict_by (many i) (told.2 i)))
   told_due texts (Err e) count unlike many told is = tt
+
+  -- A line that is read as the value of these texts.
+  pub line_audited : {E : Type 0} (bytes : List ℕ) (texts : Texts) (line : Result Verdict E) → IsUtf8 bytes → read bytes ≡ Some (trace_data texts)
+      → IfOk line (λ v. IsDueOfTexts dids texts (due_of v)) → IfOk line (λ v. IsAudited dids bytes (due_of v))
+  line_audited bytes texts (Ok v) utf8 reads due =
+      record { value = Some (trace_data texts); reads = (utf8, reads); due_is = judged (trace_data texts) texts (due_of v) (is_trace texts) due }
+  line_audited bytes texts (Err e) utf8 reads due = tt
 
 -- There are as many calls as texts.
 pub as_many : (c : Config) (calls : List (Entry Op)) (texts : List (List ℕ)) → AreCallTexts c calls texts → length calls ≡ length texts

@@ -1,5 +1,5 @@
 -- The first place at which two lists of texts differ, gone over from the front.
-use Rattle.std.proofs.Common.{◌≡◌, ℕ, suc, ◌+◌, ◌<◌, ◌≤◌, List, [], ◌∷◌, true, false, Bool, cond, Option, Some, None, refl, sym, ap, ◌∙◌, arith, length, drop, take, get_or, map, reverse, inl, inr, ◌++◌}
+use Rattle.std.proofs.Common.{◌≡◌, ℕ, suc, ◌+◌, ◌<◌, ◌≤◌, List, [], ◌∷◌, true, false, Bool, cond, Some, None, refl, sym, ap, ◌∙◌, arith, length, drop, take, get_or, map, reverse, inl, inr}
 use Rattle.std.proofs.Math.Seq.{drop-cons}
 use Rattle.std.proofs.lemmas.List.{drop_all}
 use Rattle.std.proofs.lemmas.Bool.{cases_Bool}

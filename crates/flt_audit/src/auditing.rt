@@ -5,7 +5,7 @@ ghost use Rattle.flt_verdict.specs.Verdict.{IsMade, Tells, due_of};
 ghost use Rattle.serde_json.specs.View.{view};
 ghost use Rattle.flt_trace.specs.Trace.{texts_of};
 ghost use Rattle.flt_audit.specs.Shape.{Told, Tells as TellsLife};
-ghost use Rattle.flt_audit.specs.Audit.{IsAudited, IsDueOf, TellsNone, due_texts, unlike_from, verdict_by};
+ghost use Rattle.flt_audit.specs.Audit.{IsAudited, IsDueOf, IsDueOfTexts, TellsNone, due_texts, unlike_from, verdict_by};
 
 use crate::replay::first_unlike;
 use flt_base::read_base;
@@ -15,8 +15,9 @@ use flt_dem::Dem;
 use flt_did::{DID_ROWS, DidTable};
 use flt_io::{Sink, Source};
 use flt_script::{ParseFault, Script, parse};
-use flt_trace::{Trace, read_trace};
+use flt_trace::{Trace, read_line, read_trace};
 use flt_verdict::{Verdict, read_input, tell};
+use json::Scratch;
 use serde_json::Value;
 use std::alloc::{AllocError, Global};
 
@@ -78,6 +79,20 @@ fn judge_trace(
     Ok(Some(unlike))
 }
 
+/// What is told of the texts of a trace.
+fn judge_texts(
+    alloc: Global,
+    trace: &Trace<'_>,
+    dids: DidTable<DID_ROWS>,
+) -> Result<Verdict, AllocError>
+    ensures { IfOk result (λ verdict. IsDueOfTexts (dids_of dids) (texts_of trace.now) (due_of verdict)) }
+{
+    match judge_trace(alloc, trace, dids)? {
+        Some(unlike) => verdict_by(alloc, trace.journal.len(), unlike),
+        None => Verdict::line(alloc, SHAPE, b"shape"),
+    }
+}
+
 /// What is told of a value.
 fn judge_value(
     alloc: Global,
@@ -86,23 +101,31 @@ fn judge_value(
 ) -> Result<Verdict, AllocError>
     ensures { IfOk result (λ verdict. IsDueOf (dids_of dids) (Some (view value.now)) (due_of verdict)) }
 {
-    let Some(trace) = read_trace(alloc, value)? else {
-        return Verdict::line(alloc, SHAPE, b"shape");
-    };
-    match judge_trace(alloc, &trace, dids)? {
-        Some(unlike) => verdict_by(alloc, trace.journal.len(), unlike),
+    match read_trace(alloc, value)? {
+        Some(trace) => judge_texts(alloc, &trace, dids),
         None => Verdict::line(alloc, SHAPE, b"shape"),
     }
 }
 
-/// What is told of bytes.
-fn judge(alloc: Global, bytes: &[u8], dids: DidTable<DID_ROWS>) -> Result<Verdict, AllocError>
+/// What is told of bytes, by the value that they are.
+fn judge_any(alloc: Global, bytes: &[u8], dids: DidTable<DID_ROWS>) -> Result<Verdict, AllocError>
     ensures { IfOk result (λ verdict. IsAudited (dids_of dids) bytes.now (due_of verdict)) }
 {
     match Value::from_slice(alloc, bytes) {
         Ok(value) => judge_value(alloc, &value, dids),
         Err(error) if error.is_memory() => Err(AllocError),
         Err(_) => Verdict::line(alloc, JSON, b"json"),
+    }
+}
+
+/// What is told of bytes. A trace that stands as it is printed is read without a value, in a third of the time.
+fn judge(alloc: Global, bytes: &[u8], dids: DidTable<DID_ROWS>) -> Result<Verdict, AllocError>
+    ensures { IfOk result (λ verdict. IsAudited (dids_of dids) bytes.now (due_of verdict)) }
+{
+    let mut scratch = Scratch::new(alloc);
+    match read_line(alloc, bytes, &mut scratch)? {
+        Some(trace) => judge_texts(alloc, &trace, dids),
+        None => judge_any(alloc, bytes, dids),
     }
 }
 

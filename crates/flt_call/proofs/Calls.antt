@@ -1,6 +1,6 @@
 -- Texts of calls, one after the other.
 use Rattle.std.proofs.Common.{◌≡◌, ◌≢◌, ℕ, zero, suc, ◌+◌, ◌<◌, List, [], ◌∷◌, ◌++◌, length, get_or, take, drop, Option, Some, None, Result, Ok, Err, All, refl, sym, ap, subst, ◌∙◌, arith, inl, inr, ⊎_elim, true}
-use Rattle.std.specs.Prelude.{IfOk, IfSome, MatchOption, position}
+use Rattle.std.specs.Prelude.{IfSome, MatchOption, position}
 use Rattle.std.specs.Fmt.{decimal}
 use Rattle.std.proofs.lemmas.List.{take_at}
 use Rattle.std.proofs.lemmas.List.Elements.{All-cons, All-nil}
@@ -88,12 +88,11 @@ module _ (c : Config) (text : List ℕ) where
   by_step step read printed (Some op) made = record { step = step; reads = sym read; printed = printed; calls = made }
 
   -- It is that of no step.
-  pub by_save : {E : Type 0} → ((op : Op) → IsOfStep c op text → ⊥) → (found : Result (Option Op) E)
-      → IfOk found (λ o. MatchOption o ((op : Op) → IsOfSave op text → ⊥) (λ op. IsOfSave op text))
-      → IfOk found (λ o. MatchOption o ((op : Op) → IsOpText c op text → ⊥) (λ op. IsOpText c op text))
-  by_save none (Ok None) told = λ op is. ⊎_elim (none op) (told op) is
-  by_save none (Ok (Some op)) told = inr told
-  by_save none (Err e) told = tt
+  pub by_save : ((op : Op) → IsOfStep c op text → ⊥) → (found : Option Op)
+      → MatchOption found ((op : Op) → IsOfSave op text → ⊥) (λ op. IsOfSave op text)
+      → MatchOption found ((op : Op) → IsOpText c op text → ⊥) (λ op. IsOpText c op text)
+  by_save none None told = λ op is. ⊎_elim (none op) (told op) is
+  by_save none (Some op) told = inr told
 
 -- What is said of a value that may be there, where it is not.
 pub if_none : {A : Type 0} (P : Type 0) (Q : A → Type 0) (o : Option A) → o ≡ None → MatchOption o P Q → P

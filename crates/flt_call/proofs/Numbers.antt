@@ -1,14 +1,15 @@
 -- Numbers without a leading zero, and what stands before a space.
-use Rattle.std.proofs.Common.{◌≡◌, ◌≢◌, ℕ, suc, ◌+◌, ◌-◌, ◌<◌, ◌≤◌, ◌^◌, List, [], ◌∷◌, ◌++◌, true, false, Bool, cond, length, Some, None, refl, sym, ap, subst, ◌∙◌, arith, take, drop}
-use Rattle.std.specs.Prelude.{not, position, nat_lt}
+use Rattle.std.proofs.Common.{◌≡◌, ◌≢◌, ℕ, zero, suc, ◌&&◌, ◌+◌, ◌-◌, ◌<◌, ◌≤◌, ◌^◌, List, [], ◌∷◌, ◌++◌, true, false, Bool, cond, length, Some, None, refl, sym, ap, subst, ◌∙◌, arith, take, drop, get_or}
+use Rattle.std.specs.Prelude.{not, position, nat_lt, nat_le, if◌then◌else◌}
 use Rattle.std.specs.List.{prefix_len}
 use Rattle.std.specs.Fmt.{decimal}
-use Rattle.std.specs.Str.Parse.{AllDigits}
-use Rattle.std.proofs.lemmas.Bool.{eqb-true, lt-ltb, ltb-true, ne_eqb}
-use Rattle.std.proofs.lemmas.Fmt.{decimal_is_IsNumeral}
-use Rattle.std.proofs.lemmas.Str.Parse.{digit_from_value}
+use Rattle.std.specs.Char.{digit_value}
+use Rattle.std.specs.Str.Parse.{AllDigits, digits_value}
+use Rattle.std.proofs.lemmas.Bool.{and_parts, eqb-true, leb-true, lt-ltb, ltb-true, ne_eqb}
+use Rattle.std.proofs.lemmas.Fmt.{decimal-digits_value, decimal_digit, decimal_is_IsNumeral, first_decimal}
+use Rattle.std.proofs.lemmas.Str.Parse.{digit_from_value, numerals_by_value, tells_digits}
 use Rattle.std.proofs.lemmas.List.{length-append, length-drop, take_all}
-use Rattle.flt_script.specs.Numeral.{number}
+use Rattle.flt_script.specs.Numeral.{all_digits, number, numeral}
 use Rattle.flt_call.specs.Call.{is_space}
 use Rattle.flt_script.proofs.PrintedNumber.{number-decimal}
 
@@ -72,9 +73,46 @@ split_at text at found =
     let is = found_at count (length text) at (nat_lt count (length text)) refl found in
     subst (λ (n : ℕ). text ≡ take n text ++ 32 ∷ drop (n + 1) text) (sym is.0) (split_len text is.1)
 
--- Two texts of one number.
-pub one_text : (word shown : List ℕ) (n m : ℕ) → word ≡ decimal n → shown ≡ decimal m → m ≡ n → shown ≡ word
-one_text word shown n m is shown_is same = shown_is ∙ ap decimal same ∙ sym is
+-- What a word that spells a number is.
+all_are : (word : List ℕ) → all_digits 10 word ≡ true → AllDigits 10 word
+all_are [] is = tt
+all_are (digit ∷ word) is = let parts = and_parts (nat_lt (digit_value digit) 10) (all_digits 10 word) is in (ltb-true (digit_value digit) 10 parts.0, all_are word parts.1)
+
+of_digits : (word : List ℕ) (n : ℕ) (digits : Bool) → all_digits 10 word ≡ digits → (if digits then Some (digits_value 10 word) else None) ≡ Some n → AllDigits 10 word × (digits_value 10 word ≡ n)
+of_digits word n true is found = (all_are word is, cc found)
+of_digits word n false is found = absurd (cc found)
+
+in_length : (word : List ℕ) (n : ℕ) (some few : Bool) → nat_le 1 (length word) ≡ some → (if some && few then numeral 10 word else None) ≡ Some n → (0 < length word) × (numeral 10 word ≡ Some n)
+in_length word n true true is found = (leb-true 1 (length word) is, found)
+in_length word n true false is found = absurd (cc found)
+in_length word n false true is found = absurd (cc found)
+in_length word n false false is found = absurd (cc found)
+
+spelled : (word : List ℕ) (n : ℕ) → number word ≡ Some n → (0 < length word) × (AllDigits 10 word × (digits_value 10 word ≡ n))
+unfolding number numeral
+spelled word n found =
+    let some = in_length word n (nat_le 1 (length word)) (nat_le (length word) 10) refl found in
+    (some.0, of_digits word n (all_digits 10 word) refl some.1)
+
+lone : (count : ℕ) → 0 < count → (1 < count → ⊥) → count ≡ 1
+lone zero some never = absurd (omega (arith, some))
+lone (suc zero) some never = refl
+lone (suc (suc count)) some never = absurd (never (omega arith))
+
+-- Where no zero leads it, it is its number as printed.
+pub no_zero_leads : (word : List ℕ) (n : ℕ) → number word ≡ Some n → n < 2 ^ 32 → (1 < length word → get_or word 0 0 ≡ 48 → ⊥) → word ≡ decimal n
+no_zero_leads word n found small lead =
+    let is = spelled word n found in
+    let one : get_or word 0 0 ≡ 48 → length word ≡ 1 = λ first. lone (length word) is.0 (λ long. lead long first) in
+    sym (decimal-digits_value (numerals_by_value _ tells_digits) word is.1.0 is.0 one (omega (arith, is.1.1, small))) ∙ ap decimal is.1.1
+
+-- No number is printed with one.
+pub zero_leads : (word : List ℕ) (n : ℕ) → n < 2 ^ 32 → 1 < length word → get_or word 0 0 ≡ 48 → word ≢ decimal n
+zero_leads word zero small long first is = absurd (omega (arith, long, ap length (is ∙ decimal_digit 0 (omega arith))))
+zero_leads word (suc n) small long first is =
+    let above = first_decimal (suc n) (omega arith) (omega (arith, small)) in
+    let same : get_or (decimal (suc n)) 0 0 ≡ 48 = ap (λ (w : List ℕ). get_or w 0 0) (sym is) ∙ first in
+    absurd (omega (arith, above, same))
 
 pub all_behind : (text : List ℕ) (at : ℕ) → take (length text - at) (drop at text) ≡ drop at text
 all_behind text at = take_all (length text - at) (drop at text) (omega (arith, length-drop at text))

@@ -10,49 +10,62 @@ ghost use Rattle.flt_trace.specs.Trace.{seen};
 ghost use Rattle.flt_call.specs.Call.{AreCallTexts, IsCallText, IsOfSave, IsOfStep, IsOpText, is_space};
 
 use flt_config::ValidConfig;
-use flt_life::{Action, Entry, action_of};
+use flt_life::{Action, Entry};
 use flt_model::Op;
 use flt_report::put_words;
 use flt_script::{Step, read_number, read_step};
 use std::alloc::{AllocError, Global};
 
 /// The number below 2^32 that digits without a leading zero spell.
-fn read_plain(alloc: Global, word: &[u8]) -> Result<Option<u32>, AllocError>
-    ensures { IfOk result (λ found. MatchOption found
+fn read_plain(word: &[u8]) -> Option<u32>
+    ensures { MatchOption result
         ((n : ℕ) → n < 2 ^ 32 → word.now ≢ decimal n)
-        (λ n. (n < 2 ^ 32) × (word.now ≡ decimal n))) }
+        (λ n. (n < 2 ^ 32) × (word.now ≡ decimal n)) }
 {
-    let Some(value) = read_number(word) else {
-        return Ok(None);
-    };
+    let value = read_number(word)?;
     if value > u64::from(u32::MAX) {
-        return Ok(None);
+        return None;
     }
-    let number = value as u32;
-    let printed = format!(in alloc; "{number}")?;
-    if printed.as_bytes() != word {
-        return Ok(None);
+    if word.len() > 1 && word[0] == b'0' {
+        return None;
     }
-    Ok(Some(number))
+    Some(value as u32)
 }
 
-/// The call that a step makes, if it makes one.
-fn call_of(step: &Step) -> Option<Op>
+/// The call that a step makes, if it makes one. The bytes of a request are taken over.
+fn call_of(step: Step) -> Option<Op>
     ensures { MatchOption result
-        ((op : Call) → action_of step.now ≢ Action.Call op)
-        (λ op. action_of step.now ≡ Action.Call op) }
+        ((op : Call) → action_of step ≢ Action.Call op)
+        (λ op. action_of step ≡ Action.Call op) }
 {
-    match action_of(step) {
-        Action::Call(op) => Some(op),
-        _ => None,
+    match step {
+        Step::Report { event, report } => Some(Op::Report { event, report }),
+        Step::Show { event } => Some(Op::Show { event }),
+        Step::Cycle { cycle } => Some(Op::Cycle { cycle }),
+        Step::Tick { ticks } => Some(Op::Tick { ticks }),
+        Step::Signal { index, value } => Some(Op::Signal { index, value }),
+        Step::Enable {
+            condition,
+            fulfilled,
+        } => Some(Op::Enable {
+            condition,
+            fulfilled,
+        }),
+        Step::Request { tester, bytes } => Some(Op::Request { tester, bytes }),
+        Step::Save
+        | Step::Post { .. }
+        | Step::Drain
+        | Step::Get { .. }
+        | Step::Ask { .. }
+        | Step::Arming(_) => None,
     }
 }
 
 /// The call of the step whose text this is; none where it is that of no step within the configuration, or of one that makes no call.
 fn read_step_call(
-    alloc: Global,
     config: &ValidConfig,
     words: &[u8],
+    printed: &mut Vec<u8>,
 ) -> Result<Option<Op>, AllocError>
     ensures { IfOk result (λ found. MatchOption found
         ((op : Call) → IsOfStep config.now op words.now → ⊥)
@@ -61,39 +74,41 @@ fn read_step_call(
     let Some(step) = read_step(words, config.config()) else {
         return Ok(None);
     };
-    let mut printed = Vec::new(alloc);
-    put_words(&step, &mut printed)?;
+    printed.clear();
+    put_words(&step, printed)?;
     if printed.as_slice() != words {
         return Ok(None);
     }
-    Ok(call_of(&step))
+    Ok(call_of(step))
 }
 
 /// The call whose text this is, of those that a save makes.
-fn read_save_call(alloc: Global, words: &[u8]) -> Result<Option<Op>, AllocError>
-    ensures { IfOk result (λ found. MatchOption found
+fn read_save_call(words: &[u8]) -> Option<Op>
+    ensures { MatchOption result
         ((op : Call) → IsOfSave op words.now → ⊥)
-        (λ op. IsOfSave op words.now)) }
+        (λ op. IsOfSave op words.now) }
 {
     if words == b"snapshot".as_slice() {
-        return Ok(Some(Op::Snapshot));
+        return Some(Op::Snapshot);
     }
-    let Some(number) = words.strip_prefix(b"saved ") else {
-        return Ok(None);
-    };
-    let found = read_plain(alloc, number)?;
-    Ok(found.map(|generation| Op::Saved { generation }))
+    let number = words.strip_prefix(b"saved ")?;
+    let generation = read_plain(number)?;
+    Some(Op::Saved { generation })
 }
 
 /// The call whose text this is.
-fn read_op(alloc: Global, config: &ValidConfig, words: &[u8]) -> Result<Option<Op>, AllocError>
+fn read_op(
+    config: &ValidConfig,
+    words: &[u8],
+    printed: &mut Vec<u8>,
+) -> Result<Option<Op>, AllocError>
     ensures { IfOk result (λ found. MatchOption found
         ((op : Call) → IsOpText config.now op words.now → ⊥)
         (λ op. IsOpText config.now op words.now)) }
 {
-    match read_step_call(alloc, config, words)? {
+    match read_step_call(config, words, printed)? {
         Some(op) => Ok(Some(op)),
-        None => read_save_call(alloc, words),
+        None => Ok(read_save_call(words)),
     }
 }
 
@@ -106,9 +121,9 @@ fn first_space(text: &[u8]) -> Option<usize>
 
 /// The call of a lane whose text this is; none where it is that of no call.
 fn read_call(
-    alloc: Global,
     config: &ValidConfig,
     text: &[u8],
+    printed: &mut Vec<u8>,
 ) -> Result<Option<Entry<Op>>, AllocError>
     ensures { IfOk result (λ found. MatchOption found
         ((call : Made Call) → IsCallText config.now call text.now → ⊥)
@@ -117,10 +132,10 @@ fn read_call(
     let Some(at) = first_space(text) else {
         return Ok(None);
     };
-    let Some(lane) = read_plain(alloc, &text[..at])? else {
+    let Some(lane) = read_plain(&text[..at]) else {
         return Ok(None);
     };
-    match read_op(alloc, config, &text[at + 1..])? {
+    match read_op(config, &text[at + 1..], printed)? {
         Some(op) => Ok(Some(Entry { lane, op })),
         None => Ok(None),
     }
@@ -138,8 +153,9 @@ pub fn read_calls(
     ensures admitted { IfOk result (λ found. IfSome found (λ calls. All (IsAdmitted config.now) (ops_of calls.items))) }
 {
     let mut calls = Vec::with_capacity(alloc, texts.len())?;
+    let mut printed = Vec::new(alloc);
     for text in texts {
-        match read_call(alloc, config, text.as_bytes())? {
+        match read_call(config, text.as_bytes(), &mut printed)? {
             Some(call) => calls.push(call)?,
             None => return Ok(None),
         }

@@ -6,20 +6,16 @@ use Rattle.std.proofs.lemmas.Slice.Eq.{bytes_eq-Decides}
 use Rattle.serde_json.specs.Read.{read}
 use Rattle.flt_config.specs.declared.config.DidUse.{DidUse}
 use Rattle.flt_verdict.specs.Verdict.{line_due}
-use Rattle.flt_trace.specs.Trace.{IsTrace, Texts, trace_data}
+use Rattle.flt_trace.specs.Trace.{Texts, trace_data}
 use Rattle.flt_audit.specs.Audit.{IsAudited, due_texts, judged, unlike_from, verdict, verdict_by}
 use Rattle.flt_audit.specs.Shape.{Tells, Told}
+use Rattle.flt_trace.proofs.Line.{is_trace}
 use Rattle.flt_audit.proofs.Shapes.{as_many}
 
 -- Texts are not unlike themselves.
 alike : (place : ℕ) (texts : List (List ℕ)) → unlike_from place texts texts ≡ None
 alike place [] = refl
 alike place (text ∷ texts) = rw ((bytes_eq-Decides text text).1 refl) (alike (place + 1) texts)
-
--- The value of texts is a trace of them.
-is_trace : (texts : Texts) → IsTrace (trace_data texts) texts
-unfolding trace_data
-is_trace texts = record { count = refl; script = refl; base = refl; journal = refl; answers = refl }
 
 pub is_yes : (dids : List DidUse) (texts : Texts) (told : Told) (line : List ℕ) → Tells dids texts told → texts.answers ≡ due_texts told → IsUtf8 line → read line ≡ Some (trace_data texts)
     → IsAudited dids line (line_due 0 (codes "yes " ++ decimal (length told.journal)))

@@ -47,6 +47,13 @@ visible_is_plain (byte ∷ line) all =
     let parts = both_true (is_visible byte) (list_all is_visible line) all in
     rw (parts.0, visible_is_plain line parts.1) refl
 
+-- A line of visible bytes alone is plain.
+pub visible_all : (line : List ℕ) → position (λ byte. not (is_visible byte)) line ≡ None → all_plain line ≡ true
+visible_all line none =
+    let past = position_none (λ (byte : ℕ). not (is_visible byte)) line none in
+    let each : (k d : ℕ) → k < length line → is_visible (get_or line k d) ≡ true = λ k d within. not_false _ (fails_before_first (λ (byte : ℕ). not (is_visible byte)) line k d (omega (arith, past, within))) in
+    visible_is_plain line (list_all-from_AllPass is_visible line each)
+
 -- Nothing is stripped of what is visible.
 unstripped : (line : List ℕ) → list_all is_visible line ≡ true → strip_carriage_return line ≡ line
 unstripped [] all = refl

@@ -144,6 +144,7 @@ impl StepLine {
 }
 
 /// The number that the one word spells.
+#[inline(always)]
 pub(crate) fn only_number(mut words: Words<'_>) -> Option<u64>
     ensures { result ≡ only number words.entry }
 {
@@ -154,8 +155,9 @@ pub(crate) fn only_number(mut words: Words<'_>) -> Option<u64>
     read_number(word)
 }
 
-/// The numbers that the two words spell.
+/// The numbers that the two words spell. It stands apart, as other lines have one number.
 #[tactic(auto, unfolding(crate::specs::Line::two_numbers))]
+#[inline(never)]
 pub(crate) fn two_numbers(mut words: Words<'_>) -> Option<(u64, u64)>
     ensures { result ≡ two_numbers words.entry }
 {
@@ -358,6 +360,7 @@ fn is_comment(word: &[u8]) -> bool
 
 /// The keyword that a line begins with and the words behind it, or nothing where it is blank or a comment.
 #[tactic(auto, unfolding(crate::specs::Line::line_of, crate::specs::Line::by_words))]
+#[inline(always)]
 pub(crate) fn first_word(line: TextLine<'_>) -> Result<Option<(Keyword, Words<'_>)>, LineCause>
     ensures { line_of line.entry.text.now ≡ said_behind result }
 {

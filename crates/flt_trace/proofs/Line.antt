@@ -10,7 +10,7 @@ use Rattle.serde_json.specs.Data.{array, depth, items_depth}
 use Rattle.serde_json.specs.Read.{max_depth, of_json, read}
 use Rattle.serde_json.specs.Written.{comma_if, compact_text, has_float, items_have_float, items_text}
 use Rattle.std.specs.Prelude.{option_and_then, codes}
-use Rattle.flt_trace.specs.Trace.{Texts, strings, trace_data, trace_line}
+use Rattle.flt_trace.specs.Trace.{IsTrace, Texts, strings, trace_data, trace_line}
 
 -- What stands in a text is told by the text alone, whatever follows it.
 abbrev Closed : List ℕ → Type 0
@@ -148,3 +148,8 @@ flat (text ∷ texts) = rw (flat texts) refl
 pub shallow : (texts : Texts) → depth (trace_data texts) ≤ max_depth
 unfolding trace_data
 shallow texts = rw (flat texts.answers, flat texts.base, flat texts.journal) (omega arith)
+
+-- The value of texts is a trace of them.
+pub is_trace : (texts : Texts) → IsTrace (trace_data texts) texts
+unfolding trace_data
+is_trace texts = record { count = refl; script = refl; base = refl; journal = refl; answers = refl }

@@ -2,6 +2,8 @@
 use Rattle.std.specs.Prelude.{◌≡◌, ℕ, List, [], ◌∷◌, ◌++◌, Some, map, codes}
 use Rattle.std.specs.String.{string_bytes}
 use denote.Ref.{Bor}
+use Rattle.json.specs.Token.{Token}
+use Rattle.json.specs.Token as token
 use Rattle.serde_json.specs.Data.{Data, string, array, object, Items, no_items, item, no_members, member}
 use Rattle.serde_json.specs.Events.{members_len}
 use Rattle.serde_json.specs.Find.{get}
@@ -64,3 +66,20 @@ trace_data texts = object (member (codes "answers") (array (strings texts.answer
 -- The line that is printed: the value without a space, and the end of the line.
 unfoldable pub trace_line : Texts → List ℕ
 trace_line texts = compact_text (trace_data texts) ++ 10 ∷ []
+
+-- The tokens of strings in an array that is open, up to its end, before others.
+abbrev pub array_tokens : List (List ℕ) → List Token → List Token
+array_tokens texts rest = map token.string texts ++ token.end_array ∷ rest
+
+-- The tokens of a member that has strings, before others.
+abbrev pub list_tokens : List ℕ → List (List ℕ) → List Token → List Token
+list_tokens name texts rest = token.key name ∷ token.begin_array ∷ array_tokens texts rest
+
+-- The tokens of a member that has a string, and is the last of an object that is the whole text.
+abbrev pub last_tokens : List ℕ → List ℕ → List Token
+last_tokens name text = token.key name ∷ token.string text ∷ token.end_object ∷ []
+
+-- The tokens of a trace whose keys stand in their order.
+abbrev pub trace_tokens : Texts → List Token
+trace_tokens texts = token.begin_object ∷ list_tokens (codes "answers") texts.answers (list_tokens (codes "base") texts.base
+    (list_tokens (codes "journal") texts.journal (last_tokens (codes "script") texts.script)))

@@ -1,4 +1,4 @@
-use Rattle.std.proofs.Common.{◌≡◌, ℕ, [], drop, map, reverse, take}
+use Rattle.std.proofs.Common.{◌≡◌, [], drop, reverse, take}
 use Rattle.flt_model.specs.Life.{Life}
 use Rattle.flt_dcm.specs.Unit.{Stands}
 use Rattle.flt_dcm.specs.Whole.{config_of, state_of}

@@ -9,25 +9,21 @@ use Rattle.flt_call.proofs.reading.read_call.Goals as goal
 pub returns-in_default : goal.returns-in_default
 returns-in_default c = no_space c.args.config.now c.args.text.now c.in_default.ensures
 
-pub returns-in_default-2 : goal.returns-in_default-2
-returns-in_default-2 c =
-    λ call is.
-    let text = c.args.text.now in
-    let at = c.in-Some.at in
-    if_none ((n : ℕ) → n < 2 ^ 32 → take at text ≢ decimal n) (λ n. (n < 2 ^ 32) × (take at text ≡ decimal n)) c.in_ok-lane.field-0 c.in_default-2.is c.in_ok-lane.ensures
-    call.lane is.lane (parted c.args.config.now text at c.in-Some.ensures call is).0
+pub returns-in_default-read_plain : goal.returns-in_default-read_plain
+returns-in_default-read_plain c =
+    λ call is. c.in_default-read_plain.ensures call.lane is.lane (parted c.args.config.now c.args.text.now c.in-Some.at c.in-Some.ensures call is).0
 
-pub returns-in-Some-3 : goal.returns-in-Some-3
-returns-in-Some-3 c =
+pub returns-in-Some-2 : goal.returns-in-Some-2
+returns-in-Some-2 c =
     let text = c.args.text.now in
     let at = c.in-Some.at in
     let config = c.args.config.now in
     let behind = take (length text - (at + 1)) (drop (at + 1) text) in
-    let lane = if_some ((n : ℕ) → n < 2 ^ 32 → take at text ≢ decimal n) (λ n. (n < 2 ^ 32) × (take at text ≡ decimal n)) c.in_ok-lane.field-0 c.in-Some-2.lane c.in-Some-2.is c.in_ok-lane.ensures in
+    let lane = c.in-Some-read_plain.ensures in
     record {
       lane = lane.0;
       words = behind;
-      op = if_some ((op : Op) → IsOpText config op behind → ⊥) (λ op. IsOpText config op behind) c.in_ok-op.field-0 c.in-Some-3.op c.in-Some-3.is c.in_ok-op.ensures;
+      op = if_some ((op : Op) → IsOpText config op behind → ⊥) (λ op. IsOpText config op behind) c.in_ok-op.field-0 c.in-Some-2.op c.in-Some-2.is c.in_ok-op.ensures;
       printed = split_at text at c.in-Some.ensures ∙ (λ i. lane.1 i ++ 32 ∷ sym (all_behind text (at + 1)) i);
     }
 
