@@ -39,7 +39,8 @@ use Rattle.flt_life.specs.Played.{IsLife, IsPlayed, IsPlayedBy}
 use Rattle.flt_life.specs.Statuses.{status_by, status_of_lives}
 use Rattle.flt_lives.specs.Media.{sectors}
 use Rattle.flt_store.specs.Store.{numbered}
-use Rattle.flt_run.specs.Ending.{AreLived, EndingHasCause, Inside, IsTold, IsToldOf, WorksOn, lives_of, read_of, status_of}
+use Rattle.flt_report.specs.Fetched.{read_of}
+use Rattle.flt_run.specs.Ending.{AreLived, EndingHasCause, Inside, IsTold, IsToldOf, WorksOn, lives_of, status_of}
 use Rattle.flt_run.specs.declared.command.Command.TheVariants.{Run}
 use Rattle.flt_run.specs.declared.running.Outcome.{Outcome}
 use Rattle.flt_told.specs.Laws.{IsLifeInRange}
