@@ -1,5 +1,5 @@
 -- Calls that are printed.
-use Rattle.std.proofs.Common.{◌≡◌, ℕ, suc, ◌+◌, ◌<◌, ◌≤◌, List, [], ◌∷◌, ◌++◌, length, map, take, get_or, Option, Some, None, Result, Ok, Err, All, refl, sym, ap, subst, ◌∙◌, arith, inl, inr, true}
+use Rattle.std.proofs.Common.{◌≡◌, ℕ, suc, ◌+◌, ◌<◌, List, [], ◌∷◌, ◌++◌, length, take, get_or, Some, None, Result, Ok, Err, All, refl, sym, ap, subst, ◌∙◌, arith, inl, inr, true}
 use Rattle.std.specs.Prelude.{IfOk}
 use Rattle.std.specs.Prelude.{slice_index}
 use Rattle.std.proofs.lemmas.Bool.{lt-ltb}
@@ -14,12 +14,11 @@ use Rattle.flt_script.specs.Step.{is_step_in, step_text}
 use Rattle.flt_script.specs.declared.step.Step.{Step}
 use Rattle.flt_script.specs.declared.step.Step.TheVariants as steps
 use Rattle.flt_life.specs.Actions.{action_of}
-use Rattle.flt_life.specs.declared.action.Action.{Action}
 use Rattle.flt_life.specs.declared.action.Action.TheVariants.{Call}
 use Rattle.flt_turn.specs.declared.vault.Entry.{Entry}
 use Rattle.flt_turn.specs.Journal.{ops_of}
 use Rattle.flt_call.proofs.Calls.{one_more}
-use Rattle.flt_call.specs.Call.{AreCallTexts, CanBeMade, IsCallText, IsOfStep, IsOpText, IsSaveCall, step_of}
+use Rattle.flt_call.specs.Call.{AreCallTexts, CanBeMade, IsCallText, IsOfStep, IsSaveCall, step_of}
 
 pub ok_so : {A E : Type 0} (P Q : A → Type 0) → ((a : A) → P a → Q a) → (r : Result A E) → IfOk r P → IfOk r Q
 ok_so P Q so (Ok a) is = so a is

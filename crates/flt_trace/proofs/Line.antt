@@ -1,5 +1,5 @@
 -- A line that is printed is read as the value that it was printed of: the end of the line is passed over.
-use Rattle.std.proofs.Common.{◌≡◌, ℕ, zero, suc, IsAscii, List, [], ◌∷◌, ◌++◌, Bool, true, false, cond, Some, IsUtf8, ◌≤◌, ◌||◌, refl, sym, ap, ap₂, subst, ◌∙◌, append_assoc, append-nil, arith}
+use Rattle.std.proofs.Common.{◌≡◌, ℕ, zero, suc, IsAscii, List, [], ◌∷◌, ◌++◌, Bool, true, false, IsUtf8, ◌≤◌, refl, sym, ap, ap₂, subst, ◌∙◌, append_assoc, append-nil, arith}
 use Rattle.std.proofs.lemmas.Str.{IsUtf8-append, IsUtf8-from_ascii}
 use Rattle.json.specs.Lex.{Lexeme, token, operator_lexeme, string_token, lex, between, fresh, punctuate}
 use Rattle.json.specs.Json as json
@@ -10,7 +10,7 @@ use Rattle.serde_json.specs.Data.{array, depth, items_depth}
 use Rattle.serde_json.specs.Read.{max_depth, of_json, read}
 use Rattle.serde_json.specs.Written.{comma_if, compact_text, has_float, items_have_float, items_text}
 use Rattle.std.specs.Prelude.{option_and_then, codes}
-use Rattle.flt_trace.specs.Trace.{IsTrace, Texts, strings, trace_data, trace_line}
+use Rattle.flt_trace.specs.Trace.{IsTrace, Texts, strings, trace_data}
 
 -- What stands in a text is told by the text alone, whatever follows it.
 abbrev Closed : List ℕ → Type 0

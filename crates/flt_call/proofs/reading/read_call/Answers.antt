@@ -1,5 +1,4 @@
-use Rattle.std.proofs.Common.{◌≡◌, ◌≢◌, ◌∙◌, ◌^◌, ◌+◌, ◌-◌, ◌<◌, ◌∷◌, ◌++◌, ℕ, length, take, drop, sym, subst}
-use Rattle.std.specs.Fmt.{decimal}
+use Rattle.std.proofs.Common.{◌∙◌, ◌+◌, ◌-◌, ◌∷◌, ◌++◌, length, take, drop, sym, subst}
 use Rattle.flt_model.specs.declared.call.Op.{Op}
 use Rattle.flt_call.specs.Call.{IsOpText}
 use Rattle.flt_call.proofs.Calls.{if_none, if_some, no_space, parted}

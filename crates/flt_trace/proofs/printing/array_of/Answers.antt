@@ -1,4 +1,4 @@
-use Rattle.std.proofs.Common.{ap, arith, map, ◌≡◌, ◌∙◌}
+use Rattle.std.proofs.Common.{ap, arith, map, ◌∙◌}
 use Rattle.std.specs.String.{string_bytes}
 use Rattle.serde_json.specs.Data.{array, string}
 use Rattle.serde_json.specs.View.{items_of}

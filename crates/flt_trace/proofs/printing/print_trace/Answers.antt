@@ -1,9 +1,9 @@
-use Rattle.std.proofs.Common.{◌≡◌, ◌≤◌, ap, sym, subst, refl, ◌∙◌, Some, IsUtf8, ◌++◌, ◌∷◌, []}
+use Rattle.std.proofs.Common.{◌≤◌, ap, sym, subst, ◌∙◌, Some, IsUtf8, ◌++◌, ◌∷◌, []}
 use Rattle.serde_json.specs.Read.{read}
 use Rattle.serde_json.specs.Data.{depth}
 use Rattle.serde_json.specs.Read.{max_depth}
 use Rattle.serde_json.specs.Written.{compact_text, has_float}
-use Rattle.flt_trace.specs.Trace.{own_texts, trace_data, trace_line}
+use Rattle.flt_trace.specs.Trace.{own_texts, trace_line}
 use Rattle.flt_trace.proofs.Line.{line_read, line_utf8, no_float, shallow}
 use Rattle.flt_trace.proofs.printing.print_trace.Goals as goal
 
