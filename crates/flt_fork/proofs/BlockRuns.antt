@@ -1,5 +1,5 @@
 -- A block whose lanes were split off, ran and were joined: on each lock.
-use Rattle.std.proofs.Common.{◌≡◌, ℕ, ◌<◌, ◌≤◌, ◌+◌, List, [], ◌∷◌, ◌++◌, All, length, map, arith, refl, sym, ap, subst, ◌∙◌}
+use Rattle.std.proofs.Common.{◌≡◌, ℕ, suc, ◌<◌, ◌≤◌, ◌+◌, List, [], ◌∷◌, ◌++◌, All, length, map, get_or, arith, refl, sym, ap, subst, ◌∙◌}
 use Rattle.std.proofs.lemmas.List.{length-map}
 use Rattle.std.proofs.lemmas.List.Elements.{All-nil, All-cons}
 use Rattle.flt_turn.specs.Seats.{Seated}
@@ -9,6 +9,7 @@ use Rattle.flt_fork.proofs.Rising.{rise_block, rise_none}
 use Rattle.flt_fork.specs.Lived.{IsMain}
 use Rattle.flt_fork.specs.Runs.{RunsBy, HasRunBlock}
 use Rattle.flt_fork.specs.Seats.{IsSplitSeat, IsSplitOff, AreJoined}
+use Rattle.flt_fork.specs.Passed.{AreSplit}
 use Rattle.flt_fork.proofs.Blocks.{IsLane, AreLanes, IsNumberOf, lane_fact, block_part}
 
 -- A lane on one lock: its seat before and after, and its answers.
@@ -102,3 +103,46 @@ module _ {T A S O R : Type 0} (admits : S → O → Type 0) (answer : S → List
           ended_are = joined.ended_are ∙ ap (λ l. l ++ map (λ (s : Seated S O). (s.number, s.mine)) seats) is_off.ended_are;
         };
       }
+
+-- Works whose seats were split from the main seat of a lock: each has its steps, and its answers when it made them.
+module _ {W T A S O R : Type 0} (admits : S → O → Type 0) (answer : S → List O → O → R) (MadeBy : T → A → List (Call O R) → Type 0) (count : T → ℕ) (most : List T → ℕ)
+    (seat_of : W → Seated S O) (steps_of : W → List T) (told_of : W → List A) where
+  -- Each made its steps.
+  abbrev pub EachRan : List W → List W → Type 0
+  EachRan works ran = (k : ℕ) (d : W) → k < length works
+      → RunsBy admits answer MadeBy count (seat_of (get_or works k d)) (steps_of (get_or works k d)) (told_of (get_or ran k d)) (seat_of (get_or ran k d))
+
+  lanes_of : List W → List W → List (Lane T A S O)
+  lanes_of [] ran = []
+  lanes_of (w ∷ works) [] = []
+  lanes_of (w ∷ works) (r ∷ ran) = record { steps = steps_of w; before = seat_of w; after = seat_of r; told = told_of r } ∷ lanes_of works ran
+
+  -- The lanes that they were.
+  record AreLanesOf (main : Seated S O) (number : ℕ) (works ran : List W) : Type 0 where
+    pub are : AreRunLanes admits answer MadeBy count most main number (lanes_of works ran)
+    pub many : length (lanes_of works ran) ≡ length works
+    pub steps : steps_all (lanes_of works ran) ≡ map steps_of works
+    pub told : tolds (lanes_of works ran) ≡ map told_of ran
+    pub seats : afters (lanes_of works ran) ≡ map seat_of ran
+
+  are_lanes : (main : Seated S O) (number : ℕ) (works ran : List W) → AreSplit seat_of (λ w. most (steps_of w)) main number works → length ran ≡ length works → EachRan works ran → AreLanesOf main number works ran
+  unfolding lanes_of AreSplit AreRunLanes
+  are_lanes main number [] [] split same each = record { are = tt; many = refl; steps = refl; told = refl; seats = refl }
+  are_lanes main number [] (r ∷ ran) split same each = absurd (omega arith)
+  are_lanes main number (w ∷ works) [] split same each = absurd (omega arith)
+  are_lanes main number (w ∷ works) (r ∷ ran) split same each =
+      let more = are_lanes main (number + 1) works ran split.1 (omega arith) (λ k d inside. each (suc k) d (omega arith)) in
+      record {
+        are = (record { split = split.0; runs = each 0 w (omega arith) }, more.are);
+        many = let many = more.many in omega (arith, many);
+        steps = ap (λ l. steps_of w ∷ l) more.steps;
+        told = ap (λ l. told_of r ∷ l) more.told;
+        seats = ap (λ l. seat_of r ∷ l) more.seats;
+      }
+
+  pub works_ran : (main off after : Seated S O) (calls : ℕ) (works ran : List W) → IsMain main → AreSplit seat_of (λ w. most (steps_of w)) main (main.children + 1) works → IsSplitOff main off (length works) calls
+      → length ran ≡ length works → EachRan works ran → AreJoined off after (map seat_of ran) → HasRunBlock answer MadeBy main after (map steps_of works) (map told_of ran)
+  works_ran main off after calls works ran is split is_off same each joined =
+      let all = are_lanes main (main.children + 1) works ran split same each in
+      subst (HasRunBlock answer MadeBy main after (map steps_of works)) all.told (subst (λ l. HasRunBlock answer MadeBy main after l (tolds (lanes_of works ran))) all.steps
+      (ran_block admits answer MadeBy count most main off after calls (lanes_of works ran) is all.are (subst (λ n. IsSplitOff main off n calls) (sym all.many) is_off) (subst (AreJoined off after) (sym all.seats) joined)))

@@ -7,6 +7,7 @@ pub mod Knowing
 pub mod Parts
 pub mod Blocks
 pub mod PartWays
-pub mod BlockRuns
 pub mod Seats
+pub mod Passed
+pub mod BlockRuns
 pub mod Closing

@@ -5,3 +5,4 @@ pub mod Known
 pub mod Lived
 pub mod Runs
 pub mod Seats
+pub mod Passed

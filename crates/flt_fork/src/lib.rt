@@ -6,5 +6,7 @@
 #![tactic(auto)]
 
 mod beside;
+mod passing;
 
 pub use beside::{Owned, Work, work_beside, work_first};
+pub use passing::{Passing, pass_all};

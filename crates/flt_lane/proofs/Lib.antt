@@ -1,7 +1,7 @@
 pub mod Swapping
 pub mod Sharing
-pub mod WorkRuns
 pub mod Seats
+pub mod WorkRuns
 pub mod Rooms
 pub mod Running
 pub mod Stepping
@@ -18,9 +18,5 @@ pub mod LaneDeeds
 pub mod Storing
 pub mod StorePlaces
 pub mod StoreLanes
-pub mod Weights
-pub mod Counting
 pub mod Lives
 pub mod WholeLife
-pub mod Endings
-pub mod LifeEnds

@@ -127,7 +127,7 @@ room_of_first replies step rest room =
 room_of_none : (replies : LaneReplies) (steps : List Step) → HasRoomForSteps replies steps → HasRoomForSteps replies []
 room_of_none replies steps room = let answers = room.answers in let responses = room.responses in record { answers = omega (arith, answers); responses = omega (arith, responses) }
 
-room_of_part : (replies : LaneReplies) (part : PartOf Step) (rest : List (PartOf Step)) → HasRoomForSteps replies (own_steps (part ∷ rest)) → HasRoomForSteps replies (own_steps (part ∷ []))
+pub room_of_part : (replies : LaneReplies) (part : PartOf Step) (rest : List (PartOf Step)) → HasRoomForSteps replies (own_steps (part ∷ rest)) → HasRoomForSteps replies (own_steps (part ∷ []))
 room_of_part replies (inl step) rest room = room_of_first replies step (own_steps rest) room
 room_of_part replies (inr lanes) rest room = room_of_none replies (own_steps rest) room
 

@@ -18,16 +18,16 @@ use Rattle.std.proofs.option.Option.TheSendSync as option_sent
 use Rattle.arrayvec.proofs.array_vec.ArrayVec.TheSendSync as array_sent
 use Rattle.flt_shared.specs.contracts.lock.DemLock as lock
 
-unit_sync : IsSync unit
+pub unit_sync : IsSync unit
 unit_sync = search sendable
 
 snapshot_send : (Y : RattleType) → IsSend (snapshot.the_row Y)
 snapshot_send Y = record { owned = λ d vs. ((λ vss. (tt, ((λ uss. (tt, tt)), tt))), tt); leaving = λ k f vs. tt }
 
-snapshot_sync : (Y : RattleType) → IsSync (snapshot.the_row Y)
+pub snapshot_sync : (Y : RattleType) → IsSync (snapshot.the_row Y)
 snapshot_sync Y = record { shared = λ d b o κ q. part_keyless (snapshot.the_row Y) (snapshot_send Y) q d b o }
 
-row_sync : (F : RattleType) → (H : _) → IsSync F → IsSync (row.the_row F H)
+pub row_sync : (F : RattleType) → (H : _) → IsSync F → IsSync (row.the_row F H)
 row_sync F H sync = recorded_sync _ _ _ (row.the_type F H).to_one (struct_sync (shape (row.the_type F H)) (search sendable depth 20, (search sendable depth 20, (search sendable depth 20, tt))))
 
 fields : (F : RattleType) → (H : _) → IsSync F → IsSync (Struct (shape (lock.the_type F H)))

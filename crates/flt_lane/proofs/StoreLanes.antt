@@ -19,7 +19,7 @@ use Rattle.flt_life.specs.Room.{told_in}
 use Rattle.flt_lane.specs.declared.lane.LaneWork.{LaneWork}
 use Rattle.flt_lane.specs.declared.locks.Locks.{Locks}
 use Rattle.flt_fork.specs.Seats.{IsSplitSeat, IsSplitOff, AreJoined}
-use Rattle.flt_lane.specs.Block.{AreSplit, RunsLanes}
+use Rattle.flt_lane.specs.Block.{RunsLanes}
 use Rattle.flt_lane.specs.BlockRun.{HasRunLanes}
 use Rattle.flt_fork.specs.Lived.{IsMain}
 use Rattle.flt_lane.specs.Living.{Carries}
@@ -31,7 +31,10 @@ use Rattle.flt_lane.proofs.Carrying.{KnowsToo, carries_beside, carries_between, 
 use Rattle.flt_fork.proofs.Chains.{chain_fact}
 use Rattle.flt_fork.proofs.Knowing.{known_same}
 use Rattle.flt_lane.proofs.LaneDeeds.{none_deeds, one_deeds}
-use Rattle.flt_lane.proofs.Seats.{all_steps_are}
+use Rattle.flt_fork.proofs.Passed.{split_each}
+use Rattle.flt_life.specs.Parts.{calls_of, queued_of}
+use Rattle.flt_lane.specs.declared.locks.Seats.{Seats}
+use Rattle.flt_lane.specs.Seating.{AreSeated, HaveJoined}
 use Rattle.flt_lane.proofs.WorkRuns.{ran_lanes}
 use Rattle.flt_lane.proofs.Leaving.{leaves_nothing}
 
@@ -64,20 +67,12 @@ pub record IsWorkFrom (main : Seat) (jobs : QueueSeat) (work : LaneWork) : Type 
 split_from : {S O : Type 0} (main seat : Seated S O) (number calls : ℕ) → IsSplitSeat main number calls seat → IsFrom main seat
 split_from main seat number calls is = record { start = is.start_is; seen = is.seen_is; olds = is.olds_are }
 
-pub all_from : {F : _} {g : _} (locks : Locks F g) (main : Seat) (jobs : QueueSeat) (number job_number : ℕ) (lanes : List (List Step)) (works : List LaneWork) → AreSplit locks main jobs number job_number lanes works → All (IsWorkFrom main jobs) works
-unfolding AreSplit
-all_from locks main jobs number job_number [] [] are = All-nil (IsWorkFrom main jobs)
-all_from locks main jobs number job_number [] (w ∷ works) are = absurd are
-all_from locks main jobs number job_number (l ∷ lanes) [] are = absurd are
-all_from locks main jobs number job_number (l ∷ lanes) (w ∷ works) are =
-    let first = are.0 in
-    All-cons (IsWorkFrom main jobs) w works
-    (record {
-      dem = split_from main w.seat number _ first.dem;
-      queue = split_from jobs w.queue_seat job_number _ first.queue;
-      no_answers = first.no_answers;
-    })
-    (all_from locks main jobs (number + 1) (job_number + 1) lanes works are.1)
+all_from : {F : _} {g : _} (locks : Locks F g) (main off : Seats) (lanes : List (List Step)) (works : List LaneWork) → AreSeated locks main off lanes works → All (IsWorkFrom main.dem main.queue) works
+all_from locks main off lanes works seated = λ k d within. record {
+  dem = split_each (λ (w : LaneWork). w.seat) (λ w. calls_of w.steps.now) main.dem (λ w. IsFrom main.dem w.seat) (λ number w is. split_from main.dem w.seat number _ is) _ works seated.dem k d within;
+  queue = split_each (λ (w : LaneWork). w.queue_seat) (λ w. queued_of w.steps.now) main.queue (λ w. IsFrom main.queue w.queue_seat) (λ number w is. split_from main.queue w.queue_seat number _ is) _ works seated.queue k d within;
+  no_answers = seated.no_answers k d within;
+}
 
 -- ---- what the seat of a lane passes on to the main seat
 
@@ -165,20 +160,19 @@ module _ {B : Type 0} {b : Ghosts B} (c : Config) (works ran : List LaneWork) (s
 
 -- ---- all of it
 
-module _ {F : _} {g : _} {B : Type 0} {b : Ghosts B} (locks : Locks F g) (c : Config) (main off after : Seat) (jobs jobs_off jobs_after : QueueSeat) (lanes : List (List Step)) (works ran : List LaneWork) (told more : List (List Told)) (store now : Store B b) where
-  pub has_run_lanes : IsMain main → IsMain jobs → AreSplit locks main jobs (main.children + 1) (jobs.children + 1) lanes works → IsSplitOff main off (length lanes) (all_calls lanes) → IsSplitOff jobs jobs_off (length lanes) (all_queued lanes)
-      → AreRun c works ran store now → AreJoined off after (map (λ (w : LaneWork). w.seat) ran) → AreJoined jobs_off jobs_after (map (λ (w : LaneWork). w.queue_seat) ran) → more ≡ told ++ map (λ (w : LaneWork). told_in w.replies) ran
-      → HasRunLanes c main after jobs jobs_after lanes told more store now
-  has_run_lanes is is_queue are is_off is_job_off run joined jobs_joined told_are =
+module _ {F : _} {g : _} {B : Type 0} {b : Ghosts B} (locks : Locks F g) (c : Config) (main off after : Seats) (lanes : List (List Step)) (works ran : List LaneWork) (told more : List (List Told)) (store now : Store B b) where
+  pub has_run_lanes : IsMain main.dem → IsMain main.queue → AreSeated locks main off lanes works → AreRun c works ran store now → HaveJoined off after ran told more
+      → HasRunLanes c main.dem after.dem main.queue after.queue lanes told more store now
+  has_run_lanes is is_queue seated run joined =
       let have = have_run c works ran store now run in
-      let runs : RunsLanes main after jobs jobs_after lanes told more =
-      ran_lanes locks main off after jobs jobs_off jobs_after lanes works ran told more is is_queue are is_off is_job_off have.len have.each joined jobs_joined told_are in
-      let others : runs.others ≡ map (λ (w : LaneWork). told_in w.replies) ran = append_cancel_left told runs.others (map (λ (w : LaneWork). told_in w.replies) ran) (sym runs.told_are ∙ told_are) in
-      let steps = all_steps_are locks main jobs (main.children + 1) (jobs.children + 1) lanes works are in
-      let from = all_from locks main jobs (main.children + 1) (jobs.children + 1) lanes works are in
+      let runs : RunsLanes main.dem after.dem main.queue after.queue lanes told more =
+      ran_lanes locks main off after lanes works ran told more is is_queue seated have.len have.each joined in
+      let others : runs.others ≡ map (λ (w : LaneWork). told_in w.replies) ran = append_cancel_left told runs.others (map (λ (w : LaneWork). told_in w.replies) ran) (sym runs.told_are ∙ joined.told_are) in
+      let from = all_from locks main off lanes works seated in
       record {
         run = runs;
-        carries = λ earlier. subst (λ l. Carries c main after jobs jobs_after earlier (reverse (block_deeds lanes l) ++ earlier) store now) (sym others)
-            (carries_block c main off after jobs jobs_off jobs_after lanes works ran store now (length lanes) (all_calls lanes) (all_queued lanes) is_off is_job_off steps from joined jobs_joined earlier run);
+        carries = λ earlier. subst (λ l. Carries c main.dem after.dem main.queue after.queue earlier (reverse (block_deeds lanes l) ++ earlier) store now) (sym others)
+            (carries_block c main.dem off.dem after.dem main.queue off.queue after.queue lanes works ran store now (length works) (all_calls lanes) (all_queued lanes) seated.dem_off seated.queue_off seated.steps_are from
+            joined.dem joined.queue earlier run);
         leaves = leaves_block c works ran store now run;
       }

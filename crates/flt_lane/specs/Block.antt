@@ -1,4 +1,4 @@
--- The seats of a block's lanes: split from the main seats, and joined again; and what a part of a life leaves.
+-- What a part of a life leaves of the main seats.
 use Rattle.std.specs.Prelude.{◌≡◌, ℕ, ◌+◌, List, [], ◌∷◌, ◌++◌}
 use Rattle.flt_script.specs.declared.step.Step.{Step}
 use Rattle.flt_script.specs.Part.{PartOf}
@@ -8,16 +8,11 @@ use Rattle.flt_shared.specs.Call.{Seat, reply_after}
 use Rattle.flt_life.specs.Answers.{Told}
 use Rattle.flt_life.specs.Making.{PartMakes, PartsMake}
 use Rattle.flt_fork.specs.Mixing.{Call, Block}
-use Rattle.flt_life.specs.Parts.{calls_of, queued_of, width, widths}
+use Rattle.flt_life.specs.Parts.{width, widths}
 use Rattle.flt_life.specs.Played.{StepMakes, StepQueues}
-use Rattle.flt_life.specs.Room.{told_in}
-use Rattle.flt_lane.specs.declared.lane.LaneWork.{LaneWork}
-use Rattle.flt_lane.specs.declared.locks.Locks.{Locks}
 use Rattle.flt_fork.specs.Lived.{HasLived}
 use Rattle.flt_fork.specs.Runs.{HasRunBlock}
-use Rattle.flt_fork.specs.Seats.{IsSplitSeat}
 use Rattle.flt_lane.specs.Runs.{Makes, Queues, QueueSeat}
-use Rattle.flt_lane.specs.Work.{IsPrepared}
 
 -- ---- on one lock
 
@@ -35,23 +30,6 @@ module _ {S O R : Type 0} (answer : S → List O → O → R) (MadeBy : Step →
     pub lived : HasLived answer main after (widths parts) blocks
 
 -- ---- on both locks
-
--- A lane that was made ready: its seats have exactly the calls of its steps.
-pub record IsSplit {F : _} {g : _} (locks : Locks F g) (main : Seat) (jobs : QueueSeat) (number job_number : ℕ) (steps : List Step)
-    (work : LaneWork) : Type 0 where
-  pub ready : IsPrepared locks work
-  pub steps_are : work.steps.now ≡ steps
-  pub no_answers : told_in work.replies ≡ []
-  pub dem : IsSplitSeat main number (calls_of steps) work.seat
-  pub queue : IsSplitSeat jobs job_number (queued_of steps) work.queue_seat
-
--- So is each of them, with numbers that go on from these.
-unfoldable pub AreSplit : {F : _} {g : _} → Locks F g → Seat → QueueSeat → ℕ → ℕ → List (List Step) → List LaneWork → Type 0
-AreSplit locks main jobs number job_number [] [] = Unit {0}
-AreSplit locks main jobs number job_number [] (work ∷ works) = ⊥
-AreSplit locks main jobs number job_number (steps ∷ lanes) [] = ⊥
-AreSplit locks main jobs number job_number (steps ∷ lanes) (work ∷ works) =
-    IsSplit locks main jobs number job_number steps work × AreSplit locks main jobs (number + 1) (job_number + 1) lanes works
 
 -- The lanes of a block were run, and their answers were put behind those of the lanes before.
 pub record RunsLanes (main after : Seat) (jobs jobs_after : QueueSeat) (lanes : List (List Step)) (told told_after : List (List Told)) : Type 0 where

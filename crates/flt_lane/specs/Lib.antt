@@ -1,6 +1,7 @@
 pub mod Runs
 pub mod Room
 pub mod Work
+pub mod Seating
 pub mod Block
 pub mod Living
 pub mod Stored

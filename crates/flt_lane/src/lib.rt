@@ -2,26 +2,23 @@
 //! block make theirs at the same time as one another, at most one of them over the store.
 //!
 //! Stands on `flt_fork` for lanes at once, on `flt_shared` and `flt_queue` for the locks, on `flt_life` for what a life is told in, on
-//! `flt_store`, and on `flt_lives` for lives one after the other. The layer above uses `run_in_lanes`, whose `LockEngine` makes the steps of each life by `live_on_lock`; what the journal
-//! and the answers of a life are is said in `specs/Played.antt` of `flt_life`. Read `specs/Living.antt` first (what the saves leave while a life goes on), then
-//! `specs/Block.antt`. What holds of lanes over any machine stands in `flt_fork`.
+//! `flt_store`, and on `flt_lives` for what goes on in a life. The layer above, `flt_engine`, takes the memory of a life by `part_rooms`
+//! and carries out its parts by `run_parts`; what the journal and the answers of a life are is said in `specs/Played.antt` of `flt_life`.
+//! Read `specs/Living.antt` first (what the saves leave while a life goes on), then `specs/Block.antt`. What holds of lanes over any
+//! machine stands in `flt_fork`.
 #![tactic(auto)]
 
 mod block;
-mod device;
 mod drain;
-mod engine;
 mod gate;
 mod lane;
-mod life;
 mod living;
 mod locks;
 mod room;
 mod step;
 
-pub use device::run_in_lanes;
-pub use engine::LockEngine;
 pub use gate::{Gate, OpenGate, SharedGate};
 pub use lane::{LaneWork, run_block};
-pub use life::{Lived, live_on_lock};
-pub use locks::Locks;
+pub use living::run_parts;
+pub use locks::{Locks, Seats};
+pub use room::{BlockRoom, PartRoom, next_lanes, part_rooms};

@@ -22,17 +22,15 @@ ghost use Rattle.flt_lane.specs.Runs.{calls_by, queued_by};
 
 use crate::block::run_lanes;
 use crate::gate::{Gate, SharedGate};
-use crate::locks::Locks;
-use crate::room::{BlockRoom, PartRoom};
+use crate::locks::{Locks, Seats};
+use crate::room::PartRoom;
 use crate::step::{ask_queue, call_dem, do_step};
 use arrayvec::ArrayVec;
 use flt_config::ValidConfig;
 use flt_flash::Blocks;
 use flt_life::LaneReplies;
 use flt_model::RESPONSE;
-use flt_queue::QueueSeat;
 use flt_script::Step;
-use flt_shared::DemSeat;
 use flt_store::Store;
 use std::marker::Sync;
 use std::sync::Wait;
@@ -44,29 +42,28 @@ fn run_one<R: Wait, G: Gate, B: Blocks + Drop>(
     locks: &Locks,
     store: &mut Store<B>,
     config: &ValidConfig,
-    main: &mut DemSeat,
-    jobs: &mut QueueSeat,
+    seats: &mut Seats,
     step: &Step,
     own: &mut LaneReplies,
     gate: &G,
     response: &mut ArrayVec<u8, RESPONSE>,
 )
-    requires lock { IsSeatOf locks.now.dem main.old × (main.old.number ≡ 0) }
-    requires queue { turn.IsSeatOf locks.now.queue.turn jobs.old × (jobs.old.number ≡ 0) }
-    requires blocks { jobs.old.start ≡ main.old.start.config.blocks }
-    requires same { main.old.start.config ≡ config.now }
+    requires lock { IsSeatOf locks.now.dem seats.old.dem × (seats.old.dem.number ≡ 0) }
+    requires queue { turn.IsSeatOf locks.now.queue.turn seats.old.queue × (seats.old.queue.number ≡ 0) }
+    requires blocks { seats.old.queue.start ≡ seats.old.dem.start.config.blocks }
+    requires same { seats.old.dem.start.config ≡ config.now }
     requires valid { IsValid config.now }
-    requires fits { Fits config.now main.old.start.base }
+    requires fits { Fits config.now seats.old.dem.start.base }
     requires alive { IsAlive config.now store.old }
     requires step { IsPossible config.now (action_of step.now) }
     requires arms { (driver_of store.old).device.bench.armed + arm_count (action_of step.now) ≤ 64 }
-    requires calls { calls_by step.now ≤ main.old.left }
-    requires queued { queued_by step.now ≤ jobs.old.left }
+    requires calls { calls_by step.now ≤ seats.old.dem.left }
+    requires queued { queued_by step.now ≤ seats.old.queue.left }
     requires index { vec_len own.old.answers < 2 ^ 32 }
     requires room { HasRoomForSteps own.old (step.now ∷ []) }
-    ensures stepped { StepsOne config.now main.old main.new jobs.old jobs.new step.now (told_in own.old) (told_in own.new) store.old store.new }
-    ensures lock { IsSeatOf locks.now.dem main.new }
-    ensures queue { turn.IsSeatOf locks.now.queue.turn jobs.new }
+    ensures stepped { StepsOne config.now seats.old.dem seats.new.dem seats.old.queue seats.new.queue step.now (told_in own.old) (told_in own.new) store.old store.new }
+    ensures lock { IsSeatOf locks.now.dem seats.new.dem }
+    ensures queue { turn.IsSeatOf locks.now.queue.turn seats.new.queue }
     ensures len { vec_len own.new.answers ≡ vec_len own.old.answers + 1 }
     ensures room { (rest : List Step) → HasRoomForSteps own.old (step.now ∷ rest) → HasRoomForSteps own.new rest }
     ensures goes_on { GoesOn (driver_of store.old) (driver_of store.new) }
@@ -84,19 +81,19 @@ fn run_one<R: Wait, G: Gate, B: Blocks + Drop>(
                 &locks.queue,
                 store,
                 config,
-                main,
-                jobs,
+                &mut seats.dem,
+                &mut seats.queue,
                 step,
                 response,
             );
             own.keep(answer, response.as_slice());
         }
         Step::Post { .. } | Step::Ask { .. } => {
-            let answer = ask_queue(rt, &locks.queue, jobs, step);
+            let answer = ask_queue(rt, &locks.queue, &mut seats.queue, step);
             own.keep(answer, &[]);
         }
         _ => {
-            let answer = call_dem(rt, &locks.dem, main, step, response);
+            let answer = call_dem(rt, &locks.dem, &mut seats.dem, step, response);
             own.keep(answer, response.as_slice());
         }
     }
@@ -109,36 +106,35 @@ fn run_part<'a, R: Threads + Wait + Sync, G: SharedGate, B: Blocks + Drop>(
     locks: &Locks,
     store: &mut Store<B>,
     config: &ValidConfig,
-    main: &mut DemSeat,
-    jobs: &mut QueueSeat,
+    seats: &mut Seats,
     part: PartRoom<'a>,
     own: &mut LaneReplies,
     told: &mut Vec<LaneReplies>,
     gate: &G,
     response: &mut ArrayVec<u8, RESPONSE>,
 )
-    requires lock { IsSeatOf locks.now.dem main.old × IsMain main.old }
-    requires queue { turn.IsSeatOf locks.now.queue.turn jobs.old × IsMain jobs.old }
-    requires blocks { jobs.old.start ≡ main.old.start.config.blocks }
-    requires same { main.old.start.config ≡ config.now }
+    requires lock { IsSeatOf locks.now.dem seats.old.dem × IsMain seats.old.dem }
+    requires queue { turn.IsSeatOf locks.now.queue.turn seats.old.queue × IsMain seats.old.queue }
+    requires blocks { seats.old.queue.start ≡ seats.old.dem.start.config.blocks }
+    requires same { seats.old.dem.start.config ≡ config.now }
     requires valid { IsValid config.now }
-    requires fits { Fits config.now main.old.start.base }
+    requires fits { Fits config.now seats.old.dem.start.base }
     requires alive { IsAlive config.now store.old }
     requires part { IsPartRoom part }
     requires steps { IsPartFor config.now (part_in part) }
     requires arms { (driver_of store.old).device.bench.armed + arms_in (part_in part) ≤ 64 }
-    requires calls { calls_in (part_in part) ≤ main.old.left }
-    requires queued { queued_in (part_in part) ≤ jobs.old.left }
-    requires children { (main.old.children + width (part_in part) < 2 ^ 32) × (jobs.old.children + width (part_in part) < 2 ^ 32) }
+    requires calls { calls_in (part_in part) ≤ seats.old.dem.left }
+    requires queued { queued_in (part_in part) ≤ seats.old.queue.left }
+    requires children { (seats.old.dem.children + width (part_in part) < 2 ^ 32) × (seats.old.queue.children + width (part_in part) < 2 ^ 32) }
     requires index { vec_len own.old.answers < 2 ^ 32 }
     requires own_room { HasRoomForSteps own.old (own_steps (part_in part ∷ [])) }
     requires told_room { vec_len told.old + width (part_in part) ≤ vec_capacity told.old }
-    ensures gains { GainsPart config.now main.old main.new jobs.old jobs.new (part_in part.entry) (told_in own.old) (told_in own.new)
+    ensures gains { GainsPart config.now seats.old.dem seats.new.dem seats.old.queue seats.new.queue (part_in part.entry) (told_in own.old) (told_in own.new)
         (map told_in told.old.items) (map told_in told.new.items) store.old store.new }
-    ensures lock { IsSeatOf locks.now.dem main.new }
-    ensures queue { turn.IsSeatOf locks.now.queue.turn jobs.new }
-    ensures left { main.old.left ≤ main.new.left + calls_in (part_in part.entry) }
-    ensures queue_left { jobs.old.left ≤ jobs.new.left + queued_in (part_in part.entry) }
+    ensures lock { IsSeatOf locks.now.dem seats.new.dem }
+    ensures queue { turn.IsSeatOf locks.now.queue.turn seats.new.queue }
+    ensures left { seats.old.dem.left ≤ seats.new.dem.left + calls_in (part_in part.entry) }
+    ensures queue_left { seats.old.queue.left ≤ seats.new.queue.left + queued_in (part_in part.entry) }
     ensures own_len { vec_len own.new.answers ≤ vec_len own.old.answers + 1 }
     ensures own_room { (rest : List (PartOf Step)) → HasRoomForSteps own.old (own_steps (part_in part.entry ∷ rest))
         → HasRoomForSteps own.new (own_steps rest) }
@@ -152,54 +148,51 @@ fn run_part<'a, R: Threads + Wait + Sync, G: SharedGate, B: Blocks + Drop>(
     match part {
         PartRoom::One(step) => {
             run_one(
-                rt, locks, store, config, main, jobs, step, own, gate, response,
+                rt, locks, store, config, seats, step, own, gate, response,
             );
         }
         PartRoom::Lanes(room) => {
-            let BlockRoom { lanes, works } = Box::into_inner(room);
-            run_lanes(
-                rt, locks, store, config, main, jobs, lanes, works, told, gate,
-            );
+            let room = Box::into_inner(room);
+            run_lanes(rt, locks, store, config, seats, room, told, gate);
         }
     }
 }
 
 /// Carries out the parts of a life, one after the other. No memory is taken.
-pub(crate) fn run_parts<'a, R: Threads + Wait + Sync, G: SharedGate, B: Blocks + Drop>(
+pub fn run_parts<'a, R: Threads + Wait + Sync, G: SharedGate, B: Blocks + Drop>(
     rt: &R,
     locks: &Locks,
     store: &mut Store<B>,
     config: &ValidConfig,
-    main: &mut DemSeat,
-    jobs: &mut QueueSeat,
+    seats: &mut Seats,
     parts: Vec<PartRoom<'a>>,
     own: &mut LaneReplies,
     told: &mut Vec<LaneReplies>,
     gate: &G,
 )
-    requires lock { IsSeatOf locks.now.dem main.old × IsMain main.old }
-    requires queue { turn.IsSeatOf locks.now.queue.turn jobs.old × IsMain jobs.old }
-    requires blocks { jobs.old.start ≡ main.old.start.config.blocks }
-    requires same { main.old.start.config ≡ config.now }
+    requires lock { IsSeatOf locks.now.dem seats.old.dem × IsMain seats.old.dem }
+    requires queue { turn.IsSeatOf locks.now.queue.turn seats.old.queue × IsMain seats.old.queue }
+    requires blocks { seats.old.queue.start ≡ seats.old.dem.start.config.blocks }
+    requires same { seats.old.dem.start.config ≡ config.now }
     requires valid { IsValid config.now }
-    requires fits { Fits config.now main.old.start.base }
+    requires fits { Fits config.now seats.old.dem.start.base }
     requires alive { IsAlive config.now store.old }
     requires part { All IsPartRoom parts.items }
     requires steps { All (IsPartFor config.now) (map part_in parts.items) }
     requires arms { (driver_of store.old).device.bench.armed + sum_by arms_in (map part_in parts.items) ≤ 64 }
-    requires calls { sum_by calls_in (map part_in parts.items) ≤ main.old.left }
-    requires queued { sum_by queued_in (map part_in parts.items) ≤ jobs.old.left }
-    requires children { (main.old.children + widths (map part_in parts.items) < 2 ^ 32) × (jobs.old.children + widths (map part_in parts.items) < 2 ^ 32) }
+    requires calls { sum_by calls_in (map part_in parts.items) ≤ seats.old.dem.left }
+    requires queued { sum_by queued_in (map part_in parts.items) ≤ seats.old.queue.left }
+    requires children { (seats.old.dem.children + widths (map part_in parts.items) < 2 ^ 32) × (seats.old.queue.children + widths (map part_in parts.items) < 2 ^ 32) }
     requires few { length parts.items < 2 ^ 32 }
     requires no_answers { (told_in own.old ≡ []) × (vec_len own.old.answers ≡ 0) }
     requires own_room { HasRoomForSteps own.old (own_steps (map part_in parts.items)) }
     requires none_told { (told.old.items ≡ []) × (vec_len told.old ≡ 0) }
     requires told_room { widths (map part_in parts.items) ≤ vec_capacity told.old }
-    ensures lived { HaveRunParts main.old main.new jobs.old jobs.new (map part_in parts.entry.items) (told_in own.new) (map told_in told.new.items) }
-    ensures lock { IsSeatOf locks.now.dem main.new }
-    ensures queue { turn.IsSeatOf locks.now.queue.turn jobs.new }
+    ensures lived { HaveRunParts seats.old.dem seats.new.dem seats.old.queue seats.new.queue (map part_in parts.entry.items) (told_in own.new) (map told_in told.new.items) }
+    ensures lock { IsSeatOf locks.now.dem seats.new.dem }
+    ensures queue { turn.IsSeatOf locks.now.queue.turn seats.new.queue }
     ensures told_len { vec_len told.new ≡ widths (map part_in parts.entry.items) }
-    ensures carries { Carries config.now main.old main.new jobs.old jobs.new []
+    ensures carries { Carries config.now seats.old.dem seats.new.dem seats.old.queue seats.new.queue []
         (reverse (deeds_in (map part_in parts.entry.items) (told_in own.new) (map told_in told.new.items))) store.old store.new }
     ensures goes_on { GoesOn (driver_of store.old) (driver_of store.new) }
     ensures given { WereGiven (all_arms (own_actions (map part_in parts.entry.items)))
@@ -213,8 +206,7 @@ pub(crate) fn run_parts<'a, R: Threads + Wait + Sync, G: SharedGate, B: Blocks +
             locks,
             store,
             config,
-            main,
-            jobs,
+            seats,
             part,
             own,
             told,

@@ -1,10 +1,17 @@
-//! The two locks of a life.
-use flt_queue::QueueLock;
-use flt_shared::DemLock;
+//! The two locks of a life, and the seats on them.
+use flt_queue::{QueueLock, QueueSeat};
+use flt_shared::{DemLock, DemSeat};
 
 /// What the lanes of a life share: the status machine under its lock, and the queue of write jobs under its own.
 #[derive(Drop)]
 pub struct Locks {
     pub dem: DemLock,
     pub queue: QueueLock,
+}
+
+/// The main seats on the two locks.
+#[derive(Drop)]
+pub struct Seats {
+    pub dem: DemSeat,
+    pub queue: QueueSeat,
 }

@@ -14,20 +14,20 @@ use std::vec::IntoIter;
 
 /// The lanes of a block, and room for as many seats.
 #[derive(Drop)]
-pub(crate) struct BlockRoom<'a> {
-    pub(crate) lanes: Vec<LaneRoom<'a>>,
-    pub(crate) works: Vec<LaneWork<'a>>,
+pub struct BlockRoom<'a> {
+    pub lanes: Vec<LaneRoom<'a>>,
+    pub works: Vec<LaneWork<'a>>,
 }
 
 /// A part of a life, with the memory that it needs. A block's lies in a box, so that a step's part is small.
 #[derive(Drop)]
-pub(crate) enum PartRoom<'a> {
+pub enum PartRoom<'a> {
     One(&'a Step),
     Lanes(Box<BlockRoom<'a>>),
 }
 
 /// Takes the next lanes, so many.
-fn next_lanes<'a>(
+pub fn next_lanes<'a>(
     alloc: Global,
     count: usize,
     lanes: &mut IntoIter<LaneRoom<'a>>,
@@ -72,7 +72,7 @@ fn part_room<'a>(
 }
 
 /// The parts of a life, each block with its lanes, and with room for their seats.
-pub(crate) fn part_rooms<'a>(
+pub fn part_rooms<'a>(
     alloc: Global,
     parts: &'a [Part],
     lanes: Vec<LaneRoom<'a>>,

@@ -37,7 +37,6 @@ pub(crate) enum Keyword {
 
 /// The keyword that a word spells.
 #[tactic(auto, unfolding(crate::specs::Line::keyword_of))]
-#[inline(always)]
 pub(crate) fn read_keyword(word: &[u8]) -> Option<Keyword>
     ensures { result ≡ keyword_of word.now }
 {
@@ -48,7 +47,6 @@ pub(crate) fn read_keyword(word: &[u8]) -> Option<Keyword>
 }
 
 /// The keyword that a word spells, of those of calls and settings.
-#[inline(always)]
 fn read_call_keyword(word: &[u8]) -> Option<Keyword>
     ensures { result ≡ keyword_in call_keywords word.now }
 {
@@ -75,7 +73,6 @@ fn read_call_keyword(word: &[u8]) -> Option<Keyword>
 }
 
 /// The keyword that a word spells, of those for the store, the power and blocks.
-#[inline(never)]
 fn read_storage_keyword(word: &[u8]) -> Option<Keyword>
     ensures { result ≡ keyword_in storage_keywords word.now }
 {

@@ -144,7 +144,6 @@ impl StepLine {
 }
 
 /// The number that the one word spells.
-#[inline(always)]
 pub(crate) fn only_number(mut words: Words<'_>) -> Option<u64>
     ensures { result ≡ only number words.entry }
 {
@@ -155,9 +154,8 @@ pub(crate) fn only_number(mut words: Words<'_>) -> Option<u64>
     read_number(word)
 }
 
-/// The numbers that the two words spell. It stands apart, as other lines have one number.
+/// The numbers that the two words spell.
 #[tactic(auto, unfolding(crate::specs::Line::two_numbers))]
-#[inline(never)]
 pub(crate) fn two_numbers(mut words: Words<'_>) -> Option<(u64, u64)>
     ensures { result ≡ two_numbers words.entry }
 {

@@ -18,7 +18,7 @@ use Rattle.flt_life.proofs.Makings.{widths_more, widths-append}
 use Rattle.flt_shared.specs.Call.{Seat, MayBeAsked, reply_after}
 use Rattle.flt_fork.specs.Lived.{IsMain}
 use Rattle.flt_lane.specs.Runs.{calls_by}
-use Rattle.flt_lane.proofs.Lives.{no_parts, part_block, part_one, room_of_first, run_more}
+use Rattle.flt_lane.proofs.Lives.{no_parts, part_block, part_one, room_of_part, run_more}
 use Rattle.flt_lane.proofs.Rooms.{next_lanes}
 use Rattle.flt_lane.proofs.Seats.{next_of}
 use Rattle.flt_watch.specs.declared.lock.WatchLock.{WatchLock}
@@ -44,15 +44,6 @@ gains_block main after lanes own told told_after ran = record {
   lanes_are = ran.told_are;
   dem = part_block MayBeAsked reply_after StepMakes calls_by main after lanes ran.others ran.dem;
 }
-
--- ---- room
-
-room_of_none : (replies : LaneReplies) (steps : List Step) → HasRoomForSteps replies steps → HasRoomForSteps replies []
-room_of_none replies steps room = let answers = room.answers in let responses = room.responses in record { answers = omega (arith, answers); responses = omega (arith, responses) }
-
-room_of_part : (replies : LaneReplies) (part : PartOf Step) (rest : List (PartOf Step)) → HasRoomForSteps replies (own_steps (part ∷ rest)) → HasRoomForSteps replies (own_steps (part ∷ []))
-room_of_part replies (inl step) rest room = room_of_first replies step (own_steps rest) room
-room_of_part replies (inr lanes) rest room = room_of_none replies (own_steps rest) room
 
 -- ---- the parts so far, and those that are left
 

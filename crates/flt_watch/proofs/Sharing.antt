@@ -1,11 +1,10 @@
 -- A lock over a watched machine may be shared by threads.
-use denote.Param.Send.{sendable, recorded_sync, struct_sync, part_keyless, IsSend, IsSync}
+use denote.Param.Send.{sendable, recorded_sync, struct_sync, IsSync}
 use denote.RattleType.{RattleType}
 use Prim.{tt}
 use denote.Param.{number}
 use Rattle.flt_did.specs.contracts.table.DidTable as did
 use denote.Struct.Struct.{Struct}
-use Rattle.std.specs.contracts.snapshot.Snapshot as snapshot
 use denote.Builtin.{unit}
 use Rattle.std.specs.contracts.option.Option as option
 use denote.Struct.Declared.{shape}
@@ -19,26 +18,15 @@ use Rattle.flt_notify.proofs.watched.Watched.TheSendSync as watched_sent
 use Rattle.flt_model.proofs.call.Op.TheSendSync as op_sent
 use Rattle.std.proofs.option.Option.TheSendSync as option_sent
 use Rattle.arrayvec.proofs.array_vec.ArrayVec.TheSendSync as array_sent
+use Rattle.flt_lane.proofs.Sharing.{row_sync, snapshot_sync, unit_sync}
 use Rattle.flt_watch.specs.contracts.lock.WatchLock as lock
-
-unit_sync : IsSync unit
-unit_sync = search sendable
-
-snapshot_send : (Y : RattleType) → IsSend (snapshot.the_row Y)
-snapshot_send Y = record { owned = λ d vs. ((λ vss. (tt, ((λ uss. (tt, tt)), tt))), tt); leaving = λ k f vs. tt }
-
-snapshot_sync : (Y : RattleType) → IsSync (snapshot.the_row Y)
-snapshot_sync Y = record { shared = λ d b o κ q. part_keyless (snapshot.the_row Y) (snapshot_send Y) q d b o }
-
-did_row_sync : (F : RattleType) → (f : _) → IsSync F → IsSync (did_row.the_row F f)
-did_row_sync F f sync = recorded_sync _ _ _ (did_row.the_type F f).to_one (struct_sync (shape (did_row.the_type F f)) (search sendable depth 20, (search sendable depth 20, (search sendable depth 20, tt))))
 
 sub_row_sync : (G : RattleType) → (g : _) → IsSync G → IsSync (sub_row.the_row G g)
 sub_row_sync G g sync = recorded_sync _ _ _ (sub_row.the_type G g).to_one (struct_sync (shape (sub_row.the_type G g)) (search sendable depth 20, (search sendable depth 20, tt)))
 
 lent_sync : (F G : RattleType) → (f : _) → (g : _) → IsSync F → IsSync G → IsSync (Struct (shape (lent.the_type F G f g)))
 lent_sync F G f g dids subs = struct_sync (shape (lent.the_type F G f g)) (
-  struct_sync (shape (did.the_type (number 16) F f)) (array_sent.the_sync (option.the_row (did_row.the_row F f)) (number 16) unit (option_sent.the_sync _ (did_row_sync F f dids)) unit_sync, tt),
+  struct_sync (shape (did.the_type (number 16) F f)) (array_sent.the_sync (option.the_row (did_row.the_row F f)) (number 16) unit (option_sent.the_sync _ (row_sync F f dids)) unit_sync, tt),
   (struct_sync (shape (subscribers.the_type (number 3) G g)) (array_sent.the_sync (option.the_row (sub_row.the_row G g)) (number 3) unit (option_sent.the_sync _ (sub_row_sync G g subs)) unit_sync, tt), tt),
 )
 

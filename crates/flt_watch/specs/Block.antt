@@ -1,36 +1,17 @@
--- The seats of a block's lanes: split from the main seat, and joined again; and what a part of a life leaves.
-use Rattle.std.specs.Prelude.{◌≡◌, ℕ, ◌+◌, List, [], ◌∷◌, ◌++◌}
+-- What a part of a life leaves of the main seat.
+use Rattle.std.specs.Prelude.{◌≡◌, List, [], ◌∷◌, ◌++◌}
 use Rattle.std.proofs.Common.{inl, inr}
 use Rattle.flt_config.specs.declared.config.Config.{Config}
 use Rattle.std.specs.Prelude.{All}
 use Rattle.flt_fork.specs.Runs.{HasRunBlock}
-use Rattle.flt_fork.specs.Seats.{IsSplitSeat}
 use Rattle.flt_script.specs.declared.step.Step.{Step}
 use Rattle.flt_script.specs.Part.{PartOf}
 use Rattle.flt_shared.specs.Call.{Seat, reply_after}
 use Rattle.flt_life.specs.Answers.{Told}
-use Rattle.flt_life.specs.Parts.{calls_of}
 use Rattle.flt_life.specs.Played.{StepMakes}
-use Rattle.flt_life.specs.Room.{told_in}
 use Rattle.flt_lane.specs.Block.{HasRunPart, HasRunParts}
 use Rattle.flt_lane.specs.Runs.{Makes}
-use Rattle.flt_watch.specs.declared.lane.WatchLane.{WatchLane}
-use Rattle.flt_watch.specs.declared.lock.WatchLock.{WatchLock}
-use Rattle.flt_watch.specs.Lane.{IsLaneFor, IsPrepared, IsWatchable}
-
--- A lane that was made ready: its seat has exactly the calls of its steps.
-pub record IsSplit {F : _} {g : _} {H : _} {h : _} (lock : WatchLock F g H h) (main : Seat) (number : ℕ) (steps : List Step) (work : WatchLane) : Type 0 where
-  pub ready : IsPrepared lock work
-  pub steps_are : work.steps.now ≡ steps
-  pub no_answers : told_in work.replies ≡ []
-  pub dem : IsSplitSeat main number (calls_of steps) work.seat
-
--- So is each of them, with numbers that go on from this one.
-unfoldable pub AreSplit : {F : _} {g : _} {H : _} {h : _} → WatchLock F g H h → Seat → ℕ → List (List Step) → List WatchLane → Type 0
-AreSplit lock main number [] [] = Unit {0}
-AreSplit lock main number [] (work ∷ works) = ⊥
-AreSplit lock main number (steps ∷ lanes) [] = ⊥
-AreSplit lock main number (steps ∷ lanes) (work ∷ works) = IsSplit lock main number steps work × AreSplit lock main (number + 1) lanes works
+use Rattle.flt_watch.specs.Lane.{IsLaneFor, IsWatchable}
 
 -- The lanes of a block were run, and their answers were put behind those of the lanes before.
 pub record RunsLanes (main after : Seat) (lanes : List (List Step)) (told told_after : List (List Told)) : Type 0 where

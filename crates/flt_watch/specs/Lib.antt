@@ -1,4 +1,5 @@
 pub mod Lane
+pub mod Seating
 pub mod Block
 pub mod Asked
 pub mod Watched

@@ -1,17 +1,18 @@
 //! A block: its lanes get their seats, run, and are joined.
-ghost use Rattle.std.specs.Prelude.{◌≡◌, ◌<◌, ◌≤◌, ◌+◌, ◌^◌, ◌++◌, [], All, length, map, vec_len};
+ghost use Rattle.std.specs.Prelude.{◌≡◌, ◌<◌, ◌≤◌, ◌+◌, ◌^◌, ◌∷◌, [], All, List, length, map, vec_len};
 ghost use Rattle.std.specs.Vec.{vec_capacity};
-ghost use Rattle.flt_turn.specs.Seats.{split_off, split_seat};
 ghost use Rattle.flt_fork.specs.Lived.{IsMain};
-ghost use Rattle.flt_fork.specs.Seats.{AreJoined, IsSplitOff};
-ghost use Rattle.flt_life.specs.Parts.{calls_of};
 ghost use Rattle.flt_life.specs.Room.{IsLaneRoom, steps_of, told_in};
+ghost use Rattle.flt_life.specs.declared.room.LaneRoom.{LaneRoom as RoomView};
 ghost use Rattle.flt_lane.specs.Room.{all_calls};
-ghost use Rattle.flt_watch.specs.Block.{AreSplit, RunsLanes};
+ghost use Rattle.flt_watch.specs.Block.{RunsLanes};
 ghost use Rattle.flt_watch.specs.Lane.{HaveRun, IsLaneFor, IsPrepared, IsSeatOf};
+ghost use Rattle.flt_watch.specs.Seating.{CanJoin, CanSeat, IsJoined, IsSeated};
+ghost use Rattle.flt_watch.specs.declared.lane.WatchLane.{WatchLane as LaneView};
 
 use crate::lane::{WatchLane, run_beside};
 use crate::lock::{WatchLock, WatchSeat};
+use flt_fork::{Passing, pass_all};
 use flt_lane::Gate;
 use flt_life::{LaneReplies, LaneRoom};
 use flt_lives::CallRoom;
@@ -21,15 +22,8 @@ use std::thread::Threads;
 
 /// Splits a seat for a lane, with exactly the calls that its steps need.
 fn split_lane<'a>(lock: &WatchLock, main: &mut WatchSeat, room: LaneRoom<'a>) -> WatchLane<'a>
-    requires lock { IsSeatOf lock.now main.old × (main.old.number ≡ 0) }
-    requires few { length room.steps.now ≤ 65536 }
-    requires calls { calls_of room.steps.now ≤ main.old.left }
-    requires children { main.old.children + 1 < 2 ^ 32 }
-    ensures main { main.new ≡ split_off (calls_of room.entry.steps.now) main.old }
-    ensures seat { result.seat ≡ split_seat (calls_of room.entry.steps.now) main.old }
-    ensures number { result.number ≡ result.seat.number }
-    ensures steps { result.steps ≡ room.entry.steps }
-    ensures replies { result.replies ≡ room.entry.replies }
+    requires can { (later : List RoomView) × CanSeat lock.now main.old (room ∷ later) }
+    ensures seated { IsSeated lock.now main.old room.entry main.new result }
 {
     let LaneRoom { steps, replies } = room;
     let calls = CallRoom::for_lane(steps);
@@ -43,54 +37,38 @@ fn split_lane<'a>(lock: &WatchLock, main: &mut WatchSeat, room: LaneRoom<'a>) ->
     }
 }
 
-/// Splits a seat for each lane, with exactly the calls that its steps need.
-fn split_lanes<'a>(
-    lock: &WatchLock,
-    main: &mut WatchSeat,
-    rooms: Vec<LaneRoom<'a>>,
-    works: &mut Vec<WatchLane<'a>>,
-)
-    requires lock { IsSeatOf lock.now main.old × (main.old.number ≡ 0) }
-    requires room { All IsLaneRoom rooms.items }
-    requires steps { All (IsLaneFor main.old.start.config) (steps_of rooms.items) }
-    requires calls { all_calls (steps_of rooms.items) ≤ main.old.left }
-    requires children { main.old.children + length rooms.items < 2 ^ 32 }
-    requires none { works.old.items ≡ [] }
-    requires empty { vec_len works.old ≡ 0 }
-    requires seats { length rooms.items ≤ vec_capacity works.old }
-    ensures works { AreSplit lock.now main.old (main.old.children + 1) (steps_of rooms.entry.items) works.new.items }
-    ensures main { IsSplitOff main.old main.new (length rooms.entry.items) (all_calls (steps_of rooms.entry.items)) }
+/// Joins the seat of a lane, and gives its answers.
+fn join_lane(lock: &WatchLock, main: &mut WatchSeat, work: WatchLane<'_>) -> LaneReplies
+    requires can { (later : List LaneView) × CanJoin lock.now main.old (work ∷ later) }
+    ensures joined { IsJoined main.old work.entry main.new result }
 {
-    for room in rooms {
-        let work = split_lane(lock, main, room);
-        works.push_reserved(work);
+    let WatchLane {
+        number: _,
+        steps: _,
+        seat,
+        replies,
+    } = work;
+    lock.turn.join(main, seat);
+    replies
+}
+
+impl<'a> Passing<WatchSeat, LaneRoom<'a>, WatchLane<'a>> for WatchLock {
+    ghost can_pass = { CanSeat };
+
+    ghost passes = { IsSeated };
+
+    fn pass(&self, main: &mut WatchSeat, lane: LaneRoom<'a>) -> WatchLane<'a> {
+        split_lane(self, main, lane)
     }
 }
 
-/// Joins the seats of lanes, and puts their answers behind those that are there.
-fn join_lanes(
-    lock: &WatchLock,
-    main: &mut WatchSeat,
-    works: Vec<WatchLane<'_>>,
-    told: &mut Vec<LaneReplies>,
-)
-    requires lock { IsSeatOf lock.now main.old × (main.old.number ≡ 0) }
-    requires seats { All (λ work. IsSeatOf lock.now work.seat) works.items }
-    requires room { vec_len told.old + length works.items ≤ vec_capacity told.old }
-    ensures told { map told_in told.new.items ≡ map told_in told.old.items ++ map (λ work. told_in work.replies) works.entry.items }
-    ensures len { vec_len told.new ≡ vec_len told.old + length works.entry.items }
-    ensures capacity { vec_capacity told.new ≡ vec_capacity told.old }
-    ensures joined { AreJoined main.old main.new (map (λ work. work.seat) works.entry.items) }
-{
-    for work in works {
-        let WatchLane {
-            number: _,
-            steps: _,
-            seat,
-            replies,
-        } = work;
-        lock.turn.join(main, seat);
-        told.push_reserved(replies);
+impl<'a> Passing<WatchSeat, WatchLane<'a>, LaneReplies> for WatchLock {
+    ghost can_pass = { CanJoin };
+
+    ghost passes = { λ lock. IsJoined };
+
+    fn pass(&self, main: &mut WatchSeat, lane: WatchLane<'a>) -> LaneReplies {
+        join_lane(self, main, lane)
     }
 }
 
@@ -135,7 +113,7 @@ pub(crate) fn run_block<'a, R: Threads + Wait + Sync, G: Gate + Sync>(
     ensures left { main.old.left ≤ main.new.left + all_calls (steps_of rooms.entry.items) }
 {
     let mut works = works;
-    split_lanes(lock, main, rooms, &mut works);
+    pass_all(lock, main, rooms, &mut works);
     run_works(rt, lock, gate, &mut works);
-    join_lanes(lock, main, works, told);
+    pass_all(lock, main, works, told);
 }

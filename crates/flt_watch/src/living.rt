@@ -1,5 +1,5 @@
 //! The parts of a life, one after the other, on its lock.
-ghost use Rattle.std.specs.Prelude.{◌≡◌, ◌<◌, ◌≤◌, ◌+◌, ◌^◌, ◌++◌, ◌∷◌, [], List, All, IfOk, OnOk, length, map, sum_by, vec_len};
+ghost use Rattle.std.specs.Prelude.{◌≡◌, ◌<◌, ◌≤◌, ◌+◌, ◌^◌, ◌++◌, ◌∷◌, [], List, All, OnOk, length, map, sum_by, vec_len};
 ghost use Rattle.std.specs.Vec.{vec_capacity};
 ghost use Rattle.flt_fork.specs.Lived.{IsMain};
 ghost use Rattle.flt_script.specs.Part.{PartOf, part_of, parts_of};
@@ -13,7 +13,7 @@ use crate::block::run_block;
 use crate::lane::make_call;
 use crate::lock::{WatchLock, WatchSeat};
 use arrayvec::ArrayVec;
-use flt_lane::Gate;
+use flt_lane::{Gate, next_lanes};
 use flt_life::{LaneReplies, LaneRoom};
 use flt_model::RESPONSE;
 use flt_script::{Part, Step};
@@ -48,26 +48,6 @@ fn run_one<R: Wait, G: Gate>(
     let answer = make_call(rt, lock, main, step, response);
     own.keep(answer, response.as_slice());
     gate.after(rt, 0, index);
-}
-
-/// Takes the next lanes, so many.
-fn next_lanes<'a>(
-    alloc: Global,
-    count: usize,
-    lanes: &mut IntoIter<LaneRoom<'a>>,
-) -> Result<Vec<LaneRoom<'a>>, AllocError>
-    requires { count ≤ length lanes.old.rest.items }
-    ensures lanes { IfOk result (λ rooms. rooms.items ++ lanes.new.rest.items ≡ lanes.old.rest.items) }
-    ensures count { IfOk result (λ rooms. length rooms.items ≡ count) }
-{
-    let mut rooms = Vec::with_capacity(alloc, count)?;
-    for taken in 0..count {
-        let Some(room) = lanes.next() else {
-            unreachable!()
-        };
-        rooms.push(room)?;
-    }
-    Ok(rooms)
 }
 
 /// Carries out a part of a life, and puts its answers behind those that are there. The lanes of a block are the next ones.

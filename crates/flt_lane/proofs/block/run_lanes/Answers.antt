@@ -1,55 +1,71 @@
 use Rattle.std.proofs.Common.{◌≡◌, ◌≤◌, map, arith, ap, subst, sym, ◌∙◌}
-use Rattle.std.proofs.lemmas.List.Elements.{All-weaker}
 use Rattle.flt_config.specs.Durable.{Fits}
+use Rattle.flt_life.specs.Parts.{calls_of}
 use Rattle.flt_life.specs.Room.{steps_of, told_in}
 use Rattle.flt_script.specs.Step.{store_lanes}
+use Rattle.flt_fork.proofs.Passed.{split_each}
 use Rattle.flt_lane.specs.declared.lane.LaneWork.{LaneWork}
-use Rattle.flt_fork.specs.Seats.{IsSplitOff}
-use Rattle.flt_lane.specs.Room.{all_calls, all_queued}
-use Rattle.flt_lane.proofs.Seats.{all_ready, all_start, all_steps_are, steps_of_length}
-use Rattle.flt_lane.proofs.StoreLanes.{has_run_lanes, have_run}
-use Rattle.flt_lane.proofs.WorkRuns.{ran_count}
+use Rattle.flt_lane.proofs.StoreLanes.{has_run_lanes}
 use Rattle.flt_lane.proofs.block.run_lanes.Goals as goal
+
+pub seat_lanes-works-requires-clause-can : goal.seat_lanes-works-requires-clause-can
+seat_lanes-works-requires-clause-can g c = let r = c.requires in record {
+  dem = record { main_is = record { lock_is = r.lock.0.0; number_is = r.lock.1.number_is }; numbers = r.children.0; enough = r.calls };
+  queue = record { main_is = record { lock_is = r.queue.0; number_is = r.queue.1.number_is }; numbers = r.children.1; enough = r.queued };
+  config = r.lock.0.1;
+  blocks = r.blocks;
+  ready = r.room.ready;
+  steps = r.steps;
+}
 
 pub run_works-requires-clause-ready : goal.run_works-requires-clause-ready
 run_works-requires-clause-ready g c κs within =
-    all_ready c.args.locks.now c.args.main.now c.args.jobs.now _ _ (steps_of c.args.rooms.items) c.split_lanes.new.works.items c.split_lanes.ensures.works
+    c.seat_lanes-works.ensures.seated.ready
 
 pub run_works-requires-clause-one_stores : goal.run_works-requires-clause-one_stores
 run_works-requires-clause-one_stores g c κs within =
-    let steps = all_steps_are c.args.locks.now c.args.main.now c.args.jobs.now _ _ (steps_of c.args.rooms.items) c.split_lanes.new.works.items c.split_lanes.ensures.works in
-    subst (λ l. store_lanes l ≤ 1) (sym steps) c.requires.one_stores
+    subst (λ l. store_lanes l ≤ 1) (sym c.seat_lanes-works.ensures.seated.steps_are) c.requires.one_stores
 
 pub run_works-requires-clause-same : goal.run_works-requires-clause-same
 run_works-requires-clause-same g c κs within =
-    All-weaker (λ (w : LaneWork). w.seat.start ≡ c.args.main.now.start) (λ (w : LaneWork). w.seat.start.config ≡ c.args.config.now) (λ w is. ap (λ s. s.config) is ∙ c.requires.same) c.split_lanes.new.works.items
-    (all_start c.args.locks.now c.args.main.now c.args.jobs.now _ _ (steps_of c.args.rooms.items) c.split_lanes.new.works.items c.split_lanes.ensures.works)
+    split_each (λ (w : LaneWork). w.seat) (λ w. calls_of w.steps.now) c.args.seats.now.dem (λ w. w.seat.start.config ≡ c.args.config.now) (λ number w is. ap (λ s. s.config) is.start_is ∙ c.requires.same) _ c.seat_lanes-works.result.items c.seat_lanes-works.ensures.seated.dem
 
 pub run_works-requires-clause-fits : goal.run_works-requires-clause-fits
 run_works-requires-clause-fits g c κs within =
-    All-weaker (λ (w : LaneWork). w.seat.start ≡ c.args.main.now.start) (λ (w : LaneWork). Fits c.args.config.now w.seat.start.base) (λ w is. subst (λ s. Fits c.args.config.now s.base) (sym is) c.requires.fits) c.split_lanes.new.works.items
-    (all_start c.args.locks.now c.args.main.now c.args.jobs.now _ _ (steps_of c.args.rooms.items) c.split_lanes.new.works.items c.split_lanes.ensures.works)
+    split_each (λ (w : LaneWork). w.seat) (λ w. calls_of w.steps.now) c.args.seats.now.dem (λ w. Fits c.args.config.now w.seat.start.base) (λ number w is. subst (λ s. Fits c.args.config.now s.base) (sym is.start_is) c.requires.fits) _
+    c.seat_lanes-works.result.items c.seat_lanes-works.ensures.seated.dem
 
-pub join_lanes-requires-clause-room : goal.join_lanes-requires-clause-room
-join_lanes-requires-clause-room g c =
-    let have = have_run c.args.config.now c.split_lanes.new.works.items c.run_works.new.works.items c.args.store.now c.run_works.new.store c.run_works.ensures.ran in
-    let ran = ran_count c.args.locks.now c.args.main.now c.args.jobs.now _ _ (steps_of c.args.rooms.items) c.split_lanes.new.works.items c.run_works.new.works.items c.split_lanes.ensures.works have.len in
-    let lanes = steps_of_length c.args.rooms.items in
-    omega (arith, ran, lanes, c.requires.told)
+pub join_lanes-requires-clause-can : goal.join_lanes-requires-clause-can
+join_lanes-requires-clause-can g c =
+    let r = c.requires in
+    let dem = c.seat_lanes-works.ensures.seated.dem_off in
+    let queue = c.seat_lanes-works.ensures.seated.queue_off in
+    record {
+      dem = record { lock_is = dem.lock_is ∙ r.lock.0.0; number_is = dem.number_is ∙ r.lock.1.number_is };
+      queue = record { lock_is = queue.lock_is ∙ r.queue.0; number_is = queue.number_is ∙ r.queue.1.number_is };
+      config = ap (λ s. s.config) dem.start_is ∙ r.lock.0.1;
+      seats = c.run_works.ensures.seats;
+    }
 
 pub returns-clause-part : goal.returns-clause-part
 returns-clause-part g c =
-    let lanes = steps_of c.args.rooms.items in
-    let many = steps_of_length c.args.rooms.items in
-    let off = subst (λ n. IsSplitOff c.args.main.now c.split_lanes.new.main n (all_calls lanes)) (sym many) c.split_lanes.ensures.main in
-    let jobs_off = subst (λ n. IsSplitOff c.args.jobs.now c.split_lanes.new.jobs n (all_queued lanes)) (sym many) c.split_lanes.ensures.jobs in
-    has_run_lanes c.args.locks.now c.args.config.now c.args.main.now c.split_lanes.new.main c.join_lanes.new.main c.args.jobs.now c.split_lanes.new.jobs c.join_lanes.new.jobs lanes c.split_lanes.new.works.items c.run_works.new.works.items
-    (map told_in c.args.told.now.items) (map told_in c.join_lanes.new.told.items) c.args.store.now c.run_works.new.store c.requires.lock.1 c.requires.queue.1 c.split_lanes.ensures.works off jobs_off c.run_works.ensures.ran
-    c.join_lanes.ensures.joined c.join_lanes.ensures.joined_jobs c.join_lanes.ensures.told
+    has_run_lanes c.args.locks.now c.args.config.now c.args.seats.now c.seat_lanes-works.new.main c.join_lanes.new.main (steps_of c.args.room.lanes.items) c.seat_lanes-works.result.items c.run_works.new.works.items (map told_in c.args.told.now.items) (map told_in c.join_lanes.new.told.items) c.args.store.now c.run_works.new.store c.requires.lock.1 c.requires.queue.1 c.seat_lanes-works.ensures.seated c.run_works.ensures.ran c.join_lanes.ensures.joined
 
-pub returns-clause-len : goal.returns-clause-len
-returns-clause-len g c =
-    let have = have_run c.args.config.now c.split_lanes.new.works.items c.run_works.new.works.items c.args.store.now c.run_works.new.store c.run_works.ensures.ran in
-    let ran = ran_count c.args.locks.now c.args.main.now c.args.jobs.now _ _ (steps_of c.args.rooms.items) c.split_lanes.new.works.items c.run_works.new.works.items c.split_lanes.ensures.works have.len in
-    let lanes = steps_of_length c.args.rooms.items in
-    omega (arith, ran, lanes, c.join_lanes.ensures.len)
+pub returns-clause-lock : goal.returns-clause-lock
+returns-clause-lock g c =
+    (
+      c.join_lanes.ensures.joined.dem.lock_is ∙ c.seat_lanes-works.ensures.seated.dem_off.lock_is ∙ c.requires.lock.0.0,
+      ap (λ s. s.config) (c.join_lanes.ensures.joined.dem.start_is ∙ c.seat_lanes-works.ensures.seated.dem_off.start_is) ∙ c.requires.lock.0.1,
+    )
+
+pub returns-clause-queue : goal.returns-clause-queue
+returns-clause-queue g c =
+    c.join_lanes.ensures.joined.queue.lock_is ∙ c.seat_lanes-works.ensures.seated.queue_off.lock_is ∙ c.requires.queue.0
+
+pub returns-clause-left : goal.returns-clause-left
+returns-clause-left g c =
+    omega (arith, c.join_lanes.ensures.joined.dem.left_is, c.seat_lanes-works.ensures.seated.dem_off.left_is)
+
+pub returns-clause-queue_left : goal.returns-clause-queue_left
+returns-clause-queue_left g c =
+    omega (arith, c.join_lanes.ensures.joined.queue.left_is, c.seat_lanes-works.ensures.seated.queue_off.left_is)

@@ -34,8 +34,8 @@ use Rattle.flt_fork.specs.Lived.{CouldClose}
 use Rattle.flt_lane.specs.Living.{Carries, answers_of, drains_in, drains_of, saves_in, saves_of}
 use Rattle.flt_lane.specs.Room.{IsLaneFor, IsPartFor}
 use Rattle.flt_lane.specs.Runs.{QueueSeat}
-use Rattle.flt_lane.proofs.Counting.{life_drains, life_saves}
-use Rattle.flt_lane.proofs.Endings.{HoldsAll, held_at_end, holds_first, kept_at_end, living_first}
+use Rattle.flt_engine.proofs.Counting.{life_drains, life_saves}
+use Rattle.flt_engine.proofs.Endings.{HoldsAll, held_at_end, holds_first, kept_at_end, living_first}
 use Rattle.flt_lane.proofs.WholeLife.{made_of}
 
 -- ---- parts of few steps are such as lanes can make

@@ -21,7 +21,7 @@ use Rattle.flt_life.specs.Ordered.{Deed, deeds_in}
 use Rattle.flt_life.specs.Played.{IsMade, StepMakes, StepQueues}
 use Rattle.flt_life.specs.declared.answer.StepAnswer.TheVariants as answers
 use Rattle.flt_lane.specs.Living.{drain_call, drains_by, drains_in, drains_of, last_take, save_call, saves_by, saves_in, saves_of}
-use Rattle.flt_lane.proofs.Weights.{amount_newest, amount_of, follows_most, parts_most, weigh, weigh_ops}
+use Rattle.flt_engine.proofs.Weights.{amount_newest, amount_of, follows_most, parts_most, weigh, weigh_ops}
 
 -- ---- saves
 

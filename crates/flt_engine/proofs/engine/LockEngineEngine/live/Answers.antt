@@ -11,9 +11,9 @@ use Rattle.flt_shared.specs.Call.{Seat}
 use Rattle.flt_lane.specs.Room.{IsPartFor}
 use Rattle.flt_lane.specs.Runs.{QueueSeat}
 use Rattle.flt_fork.proofs.Closing.{fresh_of, closed}
-use Rattle.flt_lane.proofs.LifeEnds.{IsOver, caused_of, holds_of, left_of, over_of, parts_for, same_blocks, turned_life}
-use Rattle.flt_lane.proofs.life.live_on_lock.Given as given
-use Rattle.flt_lane.proofs.life.live_on_lock.Goals as goal
+use Rattle.flt_engine.proofs.LifeEnds.{IsOver, caused_of, holds_of, left_of, over_of, parts_for, same_blocks, turned_life}
+use Rattle.flt_engine.proofs.engine.LockEngineEngine.live.Given as given
+use Rattle.flt_engine.proofs.engine.LockEngineEngine.live.Goals as goal
 
 pub run_parts-requires-clause-steps : goal.run_parts-requires-clause-steps
 run_parts-requires-clause-steps g c κs within = subst (All (IsPartFor c.args.config.now)) (sym c.in_ok-rooms.ensures.parts) (parts_for c.args.config.now (parts_of c.args.parts.now) c.requires.possible c.requires.few)
@@ -24,38 +24,38 @@ run_parts-requires-clause-alive g c κs within = record { held = _; spare = _; r
 pub returns-clause-boot : goal.returns-clause-boot
 returns-clause-boot g c = ap (λ (view : LifeView). view.boot) (c.life_of-life.ensures (parts_of c.args.parts.now)) ∙ ap (λ s. boots.Started c.args.generation s) c.copy_of-start.ensures
 
-over : (g : given.Over) (c : goal.After-life_of-life g) → IsOver c.args.config.now c.args.state.now c.in-Ok.main c.run_parts.new.main c.in-Ok-make.jobs c.run_parts.new.jobs (parts_of c.args.parts.now) (told_in c.run_parts.new.own)
+over : (g : given.Over) (c : goal.After-life_of-life g) → IsOver c.args.config.now c.args.buffers.now.state c.in-Ok.main c.run_parts.new.seats.dem c.in-Ok-make.jobs c.run_parts.new.seats.queue (parts_of c.args.parts.now) (told_in c.run_parts.new.own)
     (map told_in c.run_parts.new.told.items) c.close-journal.result.journal.items c.close-queued.result.journal.items c.args.store.now c.run_parts.new.store
 over g c =
     let main = c.in-Ok.main in
-    let after = c.run_parts.new.main in
+    let after = c.run_parts.new.seats.dem in
     let jobs = c.in-Ok-make.jobs in
-    let jobs_after = c.run_parts.new.jobs in
+    let jobs_after = c.run_parts.new.seats.queue in
     let journal = c.close-journal.result.journal.items in
     let queue = c.close-queued.result.journal.items in
-    let begins : main.start ≡ start_from c.args.config.now c.args.state.now =
+    let begins : main.start ≡ start_from c.args.config.now c.args.buffers.now.state =
     ap (λ (s : Seat). s.start) c.in-Ok.ensures.ok ∙ (λ i. record { config = (c.boot.ensures.config ∙ c.requires.same) i; base = c.boot.ensures.stands.base i }) in
     let counted = ap (λ (s : QueueSeat). s.start) c.in-Ok-make.ensures.ok ∙ same_blocks c.config.result.now c.args.config.now c.config.ensures.value in
-    over_of c.args.config.now c.args.state.now main after jobs jobs_after _ (parts_of c.args.parts.now) (told_in c.run_parts.new.own) (map told_in c.run_parts.new.told.items) journal queue c.args.store.now c.run_parts.new.store
+    over_of c.args.config.now c.args.buffers.now.state main after jobs jobs_after _ (parts_of c.args.parts.now) (told_in c.run_parts.new.own) (map told_in c.run_parts.new.told.items) journal queue c.args.store.now c.run_parts.new.store
     (fresh_of main _ _ _ c.in-Ok.ensures.ok) (fresh_of jobs _ _ _ c.in-Ok-make.ensures.ok) begins counted c.in_ok-rooms.ensures.parts c.run_parts.ensures.lived
     (closed after journal c.close-journal.ensures.seen c.close-journal.ensures.olds c.close-journal.ensures.calls)
     (closed jobs_after queue c.close-queued.ensures.seen c.close-queued.ensures.olds c.close-queued.ensures.calls) c.run_parts.ensures.carries
 
 pub returns-clause-leaves : goal.returns-clause-leaves
 returns-clause-leaves g c =
-    let first = numbered c.args.generation c.args.state.now in
+    let first = numbered c.args.generation c.args.buffers.now.state in
     let parts = parts_of c.args.parts.now in
     let own = told_in c.run_parts.new.own in
     let lanes = map told_in c.run_parts.new.told.items in
     let journal = c.close-journal.result.journal.items in
     let queue = c.close-queued.result.journal.items in
-    let left = left_of c.args.config.now c.args.generation c.args.state.now _ _ _ _ parts own lanes journal queue c.args.store.now c.run_parts.new.store (over g c) c.requires.running in
+    let left = left_of c.args.config.now c.args.generation c.args.buffers.now.state _ _ _ _ parts own lanes journal queue c.args.store.now c.run_parts.new.store (over g c) c.requires.running in
     let view : LifeView = record { parts = parts; boot = _; journal = reverse journal; queue = reverse queue; own = own; lanes = lanes } in
     let leaves : Leaves c.args.config.now first view (moment_of (driver_of c.run_parts.new.store)) = record {
       held = left.held;
       spare = left.spare;
       last = left.kept.last;
-      sound = record { undamaged = g.met.B.Blocks.mounted_is_sound c.run_parts.new.store.nvm.blocks left.running.served.mounted; sound = left.running.sound };
+      sound = record { undamaged = g.met.D.Blocks.mounted_is_sound c.run_parts.new.store.nvm.blocks left.running.served.mounted; sound = left.running.sound };
       acknowledged = left.kept.acknowledged;
       held_is = left.kept.held_is;
       spare_is = left.kept.spare_is;
@@ -72,7 +72,7 @@ returns-clause-caused g c = λ boot rose.
     let queue = c.close-queued.result.journal.items in
     let view : LifeView = record { parts = parts; boot = _; journal = reverse journal; queue = reverse queue; own = own; lanes = lanes } in
     subst (λ (view : LifeView). AreCaused c.args.config.now boot (moment_of (driver_of c.run_parts.new.store)) (told_of view)) (sym {b = view} (c.life_of-life.ensures parts))
-    (caused_of c.args.config.now c.args.generation c.args.state.now _ _ _ _ parts own lanes journal queue c.args.store.now c.run_parts.new.store (over g c) c.requires.running boot rose)
+    (caused_of c.args.config.now c.args.generation c.args.buffers.now.state _ _ _ _ parts own lanes journal queue c.args.store.now c.run_parts.new.store (over g c) c.requires.running boot rose)
 
 pub returns-clause-played : goal.returns-clause-played
 returns-clause-played g c =
@@ -82,7 +82,7 @@ returns-clause-played g c =
     let journal = c.close-journal.result.journal.items in
     let queue = c.close-queued.result.journal.items in
     let view : LifeView = record { parts = parts; boot = _; journal = reverse journal; queue = reverse queue; own = own; lanes = lanes } in
-    let turned = turned_life (start_from c.args.config.now c.args.state.now) parts own lanes journal queue (over g c).ended.life in
+    let turned = turned_life (start_from c.args.config.now c.args.buffers.now.state) parts own lanes journal queue (over g c).ended.life in
     subst (λ (view : LifeView). IsPlayed c.args.config.now view) (sym {b = view} (c.life_of-life.ensures parts))
     (subst (λ (s : _). IsLife (start_from c.args.config.now s) parts own lanes (reverse (reverse journal)) (reverse (reverse queue))) (sym c.copy_of-start.ensures) turned)
 
@@ -94,6 +94,6 @@ returns-clause-kept g c =
     let journal = c.close-journal.result.journal.items in
     let queue = c.close-queued.result.journal.items in
     let view : LifeView = record { parts = parts; boot = _; journal = reverse journal; queue = reverse queue; own = own; lanes = lanes } in
-    let holds = holds_of c.args.config.now c.args.generation c.args.state.now _ _ _ _ parts own lanes journal queue c.args.store.now c.run_parts.new.store (over g c) c.requires.running in
+    let holds = holds_of c.args.config.now c.args.generation c.args.buffers.now.state _ _ _ _ parts own lanes journal queue c.args.store.now c.run_parts.new.store (over g c) c.requires.running in
     subst (λ (view : LifeView). KeepsApplications (moment_of (driver_of c.args.store.now)) (moment_of (driver_of c.run_parts.new.store)) view) (sym {b = view} (c.life_of-life.ensures parts))
     record { held = holds.held; got = holds.got }

@@ -8,9 +8,9 @@ ghost use Rattle.flt_life.specs.Lives.{ArePlayed, AreEnded, AreGiven, arms_given
 ghost use Rattle.flt_lives.specs.Devices.{IsRunOn, BeginsLives, DeviceStaysSound};
 
 use crate::engine::LockEngine;
-use crate::gate::SharedGate;
 use flt_config::ValidConfig;
 use flt_dcm::Unit;
+use flt_lane::SharedGate;
 use flt_lives::{Driver, Run, run_on_device};
 use flt_script::Part;
 use flt_shared::BoxedUnit;

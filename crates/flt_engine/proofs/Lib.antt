@@ -1,0 +1,4 @@
+pub mod Weights
+pub mod Counting
+pub mod Endings
+pub mod LifeEnds

@@ -1,0 +1,95 @@
+//! A whole life on two locks, from the state that a start-up restored to the unit for the next one.
+ghost use Rattle.std.specs.Prelude.{◌≡◌};
+ghost use Rattle.std.specs.Thread.{IsSync};
+ghost use Rattle.flt_shared.specs.Boxed.{config_in};
+
+use flt_config::{Persist, ValidConfig};
+use flt_flash::Blocks;
+use flt_lane::{Locks, Seats, SharedGate, part_rooms, run_parts};
+use flt_life::{Boot, LifeRoom, life_of};
+use flt_lives::{Buffers, CallRoom, Engine, Lived};
+use flt_queue::{QueueEnd, QueueLock};
+use flt_script::Part;
+use flt_shared::{BoxedUnit, DemEnd, DemLock};
+use flt_store::Store;
+use std::alloc::{AllocError, Global};
+use std::marker::Sync;
+use std::sync::Wait;
+use std::thread::Threads;
+
+/// Makes the steps of lives under a lock, with a runtime for the threads of their lanes and a gate that may hold them.
+#[derive(Drop)]
+pub struct LockEngine<'a, R, G> {
+    pub rt: &'a R,
+    pub gate: &'a G,
+    pub unit: BoxedUnit,
+}
+
+/// A copy of a state, which takes no memory.
+fn copy_of(state: &Persist) -> Persist
+    ensures { result ≡ state.now }
+{
+    state.clone().unwrap()
+}
+
+impl<D: Blocks + Drop, R: Threads + Wait + Sync, G: SharedGate> Engine<D> for LockEngine<'_, R, G> {
+    ghost machine_config = { λ engine. config_in engine.unit };
+
+    ghost can_make = { λ parts. IsSync R.row };
+
+    /// Lives on two locks, of the machine and of the queue: lane 0 makes its steps, and the lanes of each block at once. All memory is
+    /// taken before the first call.
+    fn live(
+        self,
+        alloc: Global,
+        store: &mut Store<D>,
+        config: &ValidConfig,
+        buffers: &mut Buffers,
+        generation: u32,
+        parts: &[Part],
+        room: LifeRoom<'_>,
+    ) -> Result<Lived<Self>, AllocError> {
+        let LockEngine { rt, gate, mut unit } = self;
+        let LifeRoom {
+            mut own,
+            lanes,
+            mut told,
+            replies,
+        } = room;
+        let rooms = part_rooms(alloc, parts, lanes)?;
+        let start = copy_of(&buffers.state);
+        unit.boot(&buffers.state);
+        let calls = CallRoom::for_parts(parts);
+        let Ok((dem, main)) = DemLock::make(alloc, unit, calls.machine) else {
+            return Err(AllocError);
+        };
+        let blocks = config.config().blocks;
+        let Ok((queue, jobs)) = QueueLock::make(alloc, blocks, calls.queue) else {
+            return Err(AllocError);
+        };
+        let locks = Locks { dem, queue };
+        let mut seats = Seats {
+            dem: main,
+            queue: jobs,
+        };
+        run_parts(
+            rt, &locks, store, config, &mut seats, rooms, &mut own, &mut told, gate,
+        );
+        let Locks { dem, queue } = locks;
+        let Seats {
+            dem: main,
+            queue: jobs,
+        } = seats;
+        let DemEnd { journal, unit } = dem.close(main);
+        let QueueEnd {
+            journal: queued,
+            ..
+        } = queue.close(jobs);
+        let boot = Boot::Started { generation, start };
+        let life = life_of(boot, journal, queued, own, told, replies);
+        Ok(Lived {
+            engine: LockEngine { rt, gate, unit },
+            life,
+        })
+    }
+}

@@ -1,0 +1,40 @@
+use Rattle.std.proofs.Common.{arith, ap, refl, ◌∙◌}
+use Rattle.flt_turn.specs.Seats.{split_off, split_seat}
+use Rattle.flt_lane.proofs.Seats.{calls_for, lane_for, queued_for, seated}
+use Rattle.flt_lane.proofs.block.split_lane.Goals as goal
+
+pub for_lane-calls-requires : goal.for_lane-calls-requires
+for_lane-calls-requires g c = (lane_for c.args.locks.now c.args.main.now c.args.room c.requires.can.0 c.requires.can.1).1
+
+pub split-seat-requires : goal.split-seat-requires
+split-seat-requires g c =
+    let can = c.requires.can.1 in
+    let calls = calls_for c.args.locks.now c.args.main.now c.args.room c.requires.can.0 can in
+    record {
+      lock = (can.dem.main_is.lock_is, can.config);
+      main = can.dem.main_is.number_is;
+      calls = omega (arith, calls, c.for_lane-calls.ensures.machine);
+      children = omega (arith, can.dem.numbers);
+    }
+
+pub split-queue_seat-requires : goal.split-queue_seat-requires
+split-queue_seat-requires g c =
+    let can = c.requires.can.1 in
+    let queued = queued_for c.args.locks.now c.args.main.now c.args.room c.requires.can.0 can in
+    record {
+      lock = can.queue.main_is.lock_is;
+      main = can.queue.main_is.number_is;
+      calls = omega (arith, queued, c.for_lane-calls.ensures.queue);
+      children = omega (arith, can.queue.numbers);
+    }
+
+pub returns : goal.returns
+returns g c =
+    let calls = c.for_lane-calls.ensures in
+    let dem = c.args.main.now.dem in
+    let queue = c.args.main.now.queue in
+    record {
+      seated = seated c.args.locks.now c.args.main.now c.args.room c.requires.can.0 c.requires.can.1 _ _
+          (c.split-seat.ensures.main ∙ ap (λ n. split_off n dem) calls.machine) (c.split-queue_seat.ensures.main ∙ ap (λ n. split_off n queue) calls.queue)
+          (c.split-seat.ensures.seat ∙ ap (λ n. split_seat n dem) calls.machine) (c.split-queue_seat.ensures.seat ∙ ap (λ n. split_seat n queue) calls.queue) c.number-number.ensures refl refl;
+    }

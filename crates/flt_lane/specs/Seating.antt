@@ -1,0 +1,63 @@
+-- The lanes of a block at the main seats: there each gets its own, and there each gives them back.
+use Rattle.std.specs.Prelude.{◌≡◌, ◌+◌, List, [], ◌++◌, All, length, map}
+use Rattle.flt_turn.specs.Seats.{joined_seat}
+use Rattle.flt_fork.specs.Passed.{AreSplit, CanSplit, IsMainOf, Splits}
+use Rattle.flt_fork.specs.Seats.{AreJoined, IsSplitOff}
+use Rattle.flt_script.specs.declared.step.Step.{Step}
+use Rattle.flt_life.specs.Answers.{Told}
+use Rattle.flt_life.specs.declared.replies.LaneReplies.{LaneReplies}
+use Rattle.flt_life.specs.declared.room.LaneRoom.{LaneRoom}
+use Rattle.flt_life.specs.Parts.{calls_of, queued_of}
+use Rattle.flt_life.specs.Room.{IsLaneRoom, steps_of, told_in}
+use Rattle.flt_lane.specs.declared.lane.LaneWork.{LaneWork}
+use Rattle.flt_lane.specs.declared.locks.Locks.{Locks}
+use Rattle.flt_lane.specs.declared.locks.Seats.{Seats}
+use Rattle.flt_lane.specs.Room.{IsLaneFor, all_calls, all_queued}
+use Rattle.flt_lane.specs.Work.{AreSeatsOf, IsPrepared}
+
+module _ {F : _} {g : _} (locks : Locks F g) where
+  -- The main seats have the calls of the steps of these lanes, which are ready for them, and numbers.
+  pub record CanSeat (main : Seats) (rooms : List LaneRoom) : Type 0 where
+    pub dem : CanSplit locks.dem.turn main.dem (length rooms) (all_calls (steps_of rooms))
+    pub queue : CanSplit locks.queue.turn main.queue (length rooms) (all_queued (steps_of rooms))
+    pub config : main.dem.start.config ≡ locks.dem.config.value
+    pub blocks : main.queue.start ≡ main.dem.start.config.blocks
+    pub ready : All IsLaneRoom rooms
+    pub steps : All (IsLaneFor main.dem.start.config) (steps_of rooms)
+
+  -- A lane got its seats, with exactly the calls of its steps.
+  pub record IsSeated (before : Seats) (room : LaneRoom) (after : Seats) (work : LaneWork) : Type 0 where
+    pub ready : IsPrepared locks work
+    pub steps_are : work.steps.now ≡ room.steps.now
+    pub no_answers : told_in work.replies ≡ []
+    pub dem : Splits before.dem (calls_of work.steps.now) after.dem work.seat
+    pub queue : Splits before.queue (queued_of work.steps.now) after.queue work.queue_seat
+
+  -- All lanes of a block got theirs.
+  pub record AreSeated (main off : Seats) (lanes : List (List Step)) (works : List LaneWork) : Type 0 where
+    pub ready : All (IsPrepared locks) works
+    pub steps_are : map (λ (w : LaneWork). w.steps.now) works ≡ lanes
+    pub no_answers : All (λ (w : LaneWork). told_in w.replies ≡ []) works
+    pub dem : AreSplit (λ (w : LaneWork). w.seat) (λ w. calls_of w.steps.now) main.dem (main.dem.children + 1) works
+    pub queue : AreSplit (λ (w : LaneWork). w.queue_seat) (λ w. queued_of w.steps.now) main.queue (main.queue.children + 1) works
+    pub dem_off : IsSplitOff main.dem off.dem (length works) (all_calls lanes)
+    pub queue_off : IsSplitOff main.queue off.queue (length works) (all_queued lanes)
+
+  -- These are the main seats, and the lanes have theirs.
+  pub record CanJoin (main : Seats) (works : List LaneWork) : Type 0 where
+    pub dem : IsMainOf locks.dem.turn main.dem
+    pub queue : IsMainOf locks.queue.turn main.queue
+    pub config : main.dem.start.config ≡ locks.dem.config.value
+    pub seats : All (AreSeatsOf locks) works
+
+-- A lane gave its seats back, and left its answers.
+pub record IsJoined (before : Seats) (work : LaneWork) (after : Seats) (replies : LaneReplies) : Type 0 where
+  pub replies_are : replies ≡ work.replies
+  pub dem : after.dem ≡ joined_seat before.dem work.seat
+  pub queue : after.queue ≡ joined_seat before.queue work.queue_seat
+
+-- All lanes of a block gave theirs back, and their answers came behind those that were there.
+pub record HaveJoined (off after : Seats) (works : List LaneWork) (told told_after : List (List Told)) : Type 0 where
+  pub told_are : told_after ≡ told ++ map (λ (w : LaneWork). told_in w.replies) works
+  pub dem : AreJoined off.dem after.dem (map (λ (w : LaneWork). w.seat) works)
+  pub queue : AreJoined off.queue after.queue (map (λ (w : LaneWork). w.queue_seat) works)
