@@ -1,7 +1,8 @@
 -- Lanes that passed the main seats one after the other.
-use Rattle.std.proofs.Common.{◌≡◌, ℕ, ◌≤◌, ◌+◌, List, [], ◌∷◌, ◌++◌, All, length, map, arith, refl, sym, ap, subst, ◌∙◌}
-use Rattle.std.specs.Prelude.{sum_by}
-use Rattle.std.proofs.lemmas.List.{append-nil, append_assoc}
+use Rattle.std.proofs.Common.{◌≡◌, ℕ, ◌<◌, ◌≤◌, ◌+◌, List, [], ◌∷◌, ◌++◌, All, length, map, arith, refl, sym, ap, subst, ◌∙◌}
+use Rattle.std.specs.Prelude.{Vec, sum_by, vec_len}
+use Rattle.std.specs.Vec.{vec_capacity}
+use Rattle.std.proofs.lemmas.List.{append-nil, append_assoc, length-append, map-append}
 use Rattle.std.proofs.lemmas.List.Sums.{sum_by-cons}
 use Rattle.std.proofs.lemmas.List.Elements.{All-cons, All-nil}
 use Rattle.flt_turn.specs.Seats.{Seated, joined_seat, split_off, split_seat}
@@ -13,13 +14,6 @@ use Rattle.flt_fork.proofs.Seats.{joined_first, joined_more, off_first, off_more
 count_same : {S O : Type 0} (main after : Seated S O) (seats calls more_seats more_calls : ℕ) → more_seats ≡ seats → more_calls ≡ calls → IsSplitOff main after seats calls → IsSplitOff main after more_seats more_calls
 count_same main after seats calls more_seats more_calls count sum off =
     subst (λ n. IsSplitOff main after n more_calls) (sym count) (subst (λ n. IsSplitOff main after seats n) (sym sum) off)
-
--- The next lane passed too.
-pub next_passed : {X : Type 0} (all done rest later : List X) (x : X) → done ++ rest ≡ all → rest ≡ x ∷ later → (done ++ x ∷ []) ++ later ≡ all
-next_passed all done rest later x is next = append_assoc done (x ∷ []) later ∙ ap (λ l. done ++ l) (sym next) ∙ is
-
-pub put_behind : {Y : Type 0} (before more now after : List Y) (y : Y) → now ≡ before ++ more → after ≡ now ++ y ∷ [] → after ≡ before ++ (more ++ y ∷ [])
-put_behind before more now after y is put = put ∙ ap (λ l. l ++ y ∷ []) is ∙ append_assoc before more (y ∷ [])
 
 module _ {M X Y : Type 0} (passes : M → X → M → Y → Type 0) where
   pub passed_more : (before : M) (xs : List X) (now : M) (ys : List Y) (x : X) (after : M) (y : Y) → HavePassed passes before xs now ys → passes now x after y
@@ -33,13 +27,6 @@ module _ {M X Y : Type 0} (passes : M → X → M → Y → Type 0) where
   -- What came out where nothing was before.
   pub passed_alone : (before : M) (xs : List X) (after : M) (old now more : List Y) → old ≡ [] → now ≡ old ++ more → HavePassed passes before xs after more → HavePassed passes before xs after now
   passed_alone before xs after old now more none is are = subst (HavePassed passes before xs after) (sym (is ∙ ap (λ l. l ++ more) none)) are
-
-  pub passed_count : (before : M) (xs : List X) (after : M) (ys : List Y) → HavePassed passes before xs after ys → length ys ≡ length xs
-  unfolding HavePassed
-  passed_count before [] after [] are = refl
-  passed_count before [] after (y ∷ ys) are = absurd are
-  passed_count before (x ∷ xs) after [] are = absurd are
-  passed_count before (x ∷ xs) after (y ∷ ys) are = let more = passed_count are.0 xs after ys are.2 in omega (arith, more)
 
   -- What each pass leaves of its lane.
   pub passed_each : (P : Y → Type 0) → ((before : M) (x : X) (after : M) (y : Y) → passes before x after y → P y)
@@ -60,6 +47,11 @@ module _ {M X Y : Type 0} (passes : M → X → M → Y → Type 0) where
       let first = one before x are.0 y are.1 in
       let more = passed_same f h one are.0 xs after ys are.2 in
       λ i. first i ∷ more i
+
+  -- So it is behind what was there before.
+  pub passed_behind : {Z : Type 0} (f : X → Z) (h : Y → Z) → ((before : M) (x : X) (after : M) (y : Y) → passes before x after y → h y ≡ f x)
+      → (before : M) (xs : List X) (after : M) (old now more : List Y) → now ≡ old ++ more → HavePassed passes before xs after more → map h now ≡ map h old ++ map f xs
+  passed_behind f h one before xs after old now more is are = ap (map h) is ∙ map-append h old more ∙ ap (λ l. map h old ++ l) (passed_same f h one before xs after more are)
 
   -- What the lanes leave of one lock, from which each pass splits a seat, by what the lane has to do.
   module _ {S O T : Type 0} (main_of : M → Seated S O) (seat_of : Y → Seated S O) (steps_of : Y → T) (most : T → ℕ)
@@ -114,6 +106,54 @@ module _ {M X Y : Type 0} (passes : M → X → M → Y → Type 0) where
 
     pub joined_seats : (before : M) (xs : List X) (after : M) (ys : List Y) → HavePassed passes before xs after ys → AreJoined (main_of before) (main_of after) (map seat_of xs)
     joined_seats before xs after ys are = joined_from (main_of before) [] before xs after ys (joined_first (main_of before)) are
+
+-- ---- some of them
+
+-- So many passed: what comes out is put behind what is there, and the others may pass.
+pub record IsPassing {M X Y A : Type 0} (passes : M → X → M → Y → Type 0) (can_pass : M → List X → Type 0) (main now : M) (lanes : List X) (before out : Vec Y A) (done rest : List X) : Type 0 where
+  pub all : done ++ rest ≡ lanes
+  pub can : can_pass now rest
+  pub more : List Y
+  pub items : out.items ≡ before.items ++ more
+  pub passed : HavePassed passes main done now more
+  pub len : vec_len out ≡ vec_len before + length done
+  pub room : vec_capacity out ≡ vec_capacity before
+
+module _ {M X Y A : Type 0} (passes : M → X → M → Y → Type 0) (can_pass : M → List X → Type 0) (main : M) (lanes : List X) where
+  pub passing_begins : (out : Vec Y A) (rest : List X) → rest ≡ lanes → can_pass main lanes → IsPassing passes can_pass main main lanes out out [] rest
+  unfolding HavePassed
+  passing_begins out rest is can = record {
+    all = is;
+    can = subst (can_pass main) (sym is) can;
+    more = [];
+    items = sym (append-nil out.items);
+    passed = refl;
+    len = omega arith;
+    room = refl;
+  }
+
+  module _ (now : M) (before out : Vec Y A) (done rest later : List X) (lane : X) (on : IsPassing passes can_pass main now lanes before out done rest) (next : rest ≡ lane ∷ later) where
+    pub next_can : can_pass now (lane ∷ later)
+    next_can = subst (can_pass now) next on.can
+
+    -- There is room for what comes out of the next lane.
+    pub room_to_pass : vec_len before + length lanes ≤ vec_capacity before → vec_len out < vec_capacity out
+    room_to_pass enough =
+        let count = ap length (sym on.all) ∙ length-append done rest in
+        let some = ap length next in
+        omega (arith, count, some, enough, on.len, on.room)
+
+    pub passing_more : (after : M) (y : Y) (put : Vec Y A) → passes now lane after y → ((l : List X) → can_pass now (lane ∷ l) → can_pass after l) → put.items ≡ out.items ++ y ∷ [] → vec_len put ≡ vec_len out + 1
+        → vec_capacity put ≡ vec_capacity out → IsPassing passes can_pass main after lanes before put (done ++ lane ∷ []) later
+    passing_more after y put one goes_on items len room = record {
+      all = append_assoc done (lane ∷ []) later ∙ ap (λ l. done ++ l) (sym next) ∙ on.all;
+      can = goes_on later next_can;
+      more = on.more ++ y ∷ [];
+      items = items ∙ ap (λ l. l ++ y ∷ []) on.items ∙ append_assoc before.items on.more (y ∷ []);
+      passed = passed_more passes main done now on.more lane after y on.passed one;
+      len = let count = length-append done (lane ∷ []) in omega (arith, len, on.len, count);
+      room = room ∙ on.room;
+    }
 
 -- What holds of each seat that was split.
 module _ {S O W : Type 0} (seat_of : W → Seated S O) (calls_of : W → ℕ) (main : Seated S O) (P : W → Type 0) (one : (number : ℕ) (w : W) → IsSplitSeat main number (calls_of w) (seat_of w) → P w) where

@@ -1,5 +1,5 @@
 -- The lanes of a block on both locks, out of what each lane did.
-use Rattle.std.proofs.Common.{◌≡◌, ℕ, ◌<◌, List, [], ◌++◌, All, length, map, get_or, sym, ap, subst, ◌∙◌}
+use Rattle.std.proofs.Common.{◌≡◌, ℕ, ◌<◌, List, [], ◌++◌, length, map, get_or, sym, ap, subst, ◌∙◌}
 use Rattle.flt_queue.specs.Call as queued
 use Rattle.flt_queue.specs.Queue as queue
 use Rattle.flt_script.specs.declared.step.Step.{Step}

@@ -147,9 +147,7 @@ fn run_part<'a, R: Threads + Wait + Sync, G: SharedGate, B: Blocks + Drop>(
 {
     match part {
         PartRoom::One(step) => {
-            run_one(
-                rt, locks, store, config, seats, step, own, gate, response,
-            );
+            run_one(rt, locks, store, config, seats, step, own, gate, response);
         }
         PartRoom::Lanes(room) => {
             let room = Box::into_inner(room);

@@ -1,5 +1,5 @@
 -- The lanes of a block at the main seat.
-use Rattle.std.proofs.Common.{◌≡◌, ◌+◌, List, ◌∷◌, [], All, length, map, arith, sym, ap, subst, ◌∙◌}
+use Rattle.std.proofs.Common.{◌≡◌, ◌+◌, List, ◌∷◌, ◌++◌, [], All, length, map, arith, sym, ap, subst, ◌∙◌}
 use Rattle.std.proofs.lemmas.List.Elements.{All-head, All-tail}
 use Rattle.flt_script.specs.declared.step.Step.{Step}
 use Rattle.flt_turn.specs.Seats.{split_off, split_seat}
@@ -12,11 +12,11 @@ use Rattle.flt_life.specs.declared.replies.LaneReplies.{LaneReplies}
 use Rattle.flt_life.specs.declared.room.LaneRoom.{LaneRoom}
 use Rattle.flt_life.specs.Room.{IsLaneRoom, steps_of, told_in}
 use Rattle.flt_lane.specs.Room.{all_calls}
-use Rattle.flt_lane.proofs.Seats.{all_of_first, first_fits, none_told, room_same}
+use Rattle.flt_lane.proofs.Seats.{all_of_first, first_fits, none_told, room_same, told_behind}
 use Rattle.flt_watch.specs.declared.lane.WatchLane.{WatchLane}
 use Rattle.flt_watch.specs.declared.lock.WatchLock.{WatchLock}
 use Rattle.flt_watch.specs.Lane.{IsLaneFor, IsPrepared, IsSeatOf}
-use Rattle.flt_watch.specs.Seating.{CanJoin, CanSeat, IsJoined, IsSeated}
+use Rattle.flt_watch.specs.Seating.{AreSeated, CanJoin, CanSeat, HaveJoined, IsJoined, IsSeated}
 
 module _ {F : _} {g : _} {H : _} {h : _} (lock : WatchLock F g H h) (before : Seat) (room : LaneRoom) (later : List LaneRoom) (can : CanSeat lock before (room ∷ later)) where
   -- What is known of the next lane.
@@ -64,15 +64,7 @@ module _ {F : _} {g : _} {H : _} {h : _} (lock : WatchLock F g H h) where
     seats = All-tail (λ (w : WatchLane). IsSeatOf lock w.seat) work later can.seats;
   }
 
-  -- All lanes of a block have their seats.
-  pub record AreSeated (main off : Seat) (lanes : List (List Step)) (works : List WatchLane) : Type 0 where
-    pub ready : All (IsPrepared lock) works
-    pub steps_are : map (λ (w : WatchLane). w.steps.now) works ≡ lanes
-    pub no_answers : All (λ (w : WatchLane). told_in w.replies ≡ []) works
-    pub dem : AreSplit (λ (w : WatchLane). w.seat) (λ w. calls_of w.steps.now) main (main.children + 1) works
-    pub off : IsSplitOff main off (length works) (all_calls lanes)
-
-  pub are_seated : (main : Seat) (rooms : List LaneRoom) (off : Seat) (old works : List WatchLane) → old ≡ [] → (more : List WatchLane) × (works ≡ old ++ more) × HavePassed (IsSeated lock) main rooms off more → AreSeated main off (steps_of rooms) works
+  pub are_seated : (main : Seat) (rooms : List LaneRoom) (off : Seat) (old works : List WatchLane) → old ≡ [] → (more : List WatchLane) × (works ≡ old ++ more) × HavePassed (IsSeated lock) main rooms off more → AreSeated lock main off (steps_of rooms) works
   are_seated main rooms off old works none passed =
       let passes = IsSeated lock in
       let are = passed_alone passes main rooms off old works passed.0 none passed.1 passed.2 in
@@ -86,13 +78,9 @@ module _ {F : _} {g : _} {H : _} {h : _} (lock : WatchLock F g H h) where
             (split_main passes (λ (s : Seat). s) (λ (w : WatchLane). w.seat) (λ (w : WatchLane). w.steps.now) calls_of (λ before room after work is. is.dem) main rooms off works are);
       }
 
--- All gave them back, and their answers came out.
-pub record HaveJoined (off after : Seat) (works : List WatchLane) (replies : List LaneReplies) : Type 0 where
-  pub answers : map told_in replies ≡ map (λ (w : WatchLane). told_in w.replies) works
-  pub dem : AreJoined off after (map (λ (w : WatchLane). w.seat) works)
-
-pub have_joined : (off : Seat) (works : List WatchLane) (after : Seat) (replies : List LaneReplies) → HavePassed IsJoined off works after replies → HaveJoined off after works replies
-have_joined off works after replies are = record {
-  answers = passed_same IsJoined (λ (w : WatchLane). told_in w.replies) told_in (λ before work after replies is. ap told_in is.replies_are) off works after replies are;
-  dem = joined_seats IsJoined (λ (s : Seat). s) (λ (w : WatchLane). w.seat) (λ before work after replies is. is.dem) off works after replies are;
+pub have_joined : (off : Seat) (works : List WatchLane) (after : Seat) (before told : List LaneReplies) → (more : List LaneReplies) × (told ≡ before ++ more) × HavePassed IsJoined off works after more
+    → HaveJoined off after works (map told_in before) (map told_in told)
+have_joined off works after before told passed = record {
+  told_are = told_behind before passed.0 told _ passed.1 (passed_same IsJoined (λ (w : WatchLane). told_in w.replies) told_in (λ before work after replies is. ap told_in is.replies_are) off works after passed.0 passed.2);
+  dem = joined_seats IsJoined (λ (s : Seat). s) (λ (w : WatchLane). w.seat) (λ before work after replies is. is.dem) off works after passed.0 passed.2;
 }

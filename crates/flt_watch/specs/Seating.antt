@@ -1,7 +1,10 @@
 -- The lanes of a block at the main seat: there each gets its own, and there each gives it back.
-use Rattle.std.specs.Prelude.{◌≡◌, List, [], All, length}
+use Rattle.std.specs.Prelude.{◌≡◌, ◌+◌, List, [], ◌++◌, All, length, map}
 use Rattle.flt_turn.specs.Seats.{joined_seat}
-use Rattle.flt_fork.specs.Passed.{CanSplit, IsMainOf, Splits}
+use Rattle.flt_fork.specs.Passed.{AreSplit, CanSplit, IsMainOf, Splits}
+use Rattle.flt_fork.specs.Seats.{AreJoined, IsSplitOff}
+use Rattle.flt_script.specs.declared.step.Step.{Step}
+use Rattle.flt_life.specs.Answers.{Told}
 use Rattle.flt_shared.specs.Call.{Seat}
 use Rattle.flt_life.specs.declared.replies.LaneReplies.{LaneReplies}
 use Rattle.flt_life.specs.declared.room.LaneRoom.{LaneRoom}
@@ -27,6 +30,14 @@ module _ {F : _} {g : _} {H : _} {h : _} (lock : WatchLock F g H h) where
     pub no_answers : told_in work.replies ≡ []
     pub dem : Splits before (calls_of work.steps.now) after work.seat
 
+  -- All lanes of a block got theirs.
+  pub record AreSeated (main off : Seat) (lanes : List (List Step)) (works : List WatchLane) : Type 0 where
+    pub ready : All (IsPrepared lock) works
+    pub steps_are : map (λ (w : WatchLane). w.steps.now) works ≡ lanes
+    pub no_answers : All (λ (w : WatchLane). told_in w.replies ≡ []) works
+    pub dem : AreSplit (λ (w : WatchLane). w.seat) (λ w. calls_of w.steps.now) main (main.children + 1) works
+    pub off : IsSplitOff main off (length works) (all_calls lanes)
+
   -- This is the main seat, and the lanes have theirs.
   pub record CanJoin (main : Seat) (works : List WatchLane) : Type 0 where
     pub main_is : IsMainOf lock.turn main
@@ -37,3 +48,8 @@ module _ {F : _} {g : _} {H : _} {h : _} (lock : WatchLock F g H h) where
 pub record IsJoined (before : Seat) (work : WatchLane) (after : Seat) (replies : LaneReplies) : Type 0 where
   pub replies_are : replies ≡ work.replies
   pub dem : after ≡ joined_seat before work.seat
+
+-- All lanes of a block gave theirs back, and their answers came behind those that were there.
+pub record HaveJoined (off after : Seat) (works : List WatchLane) (told told_after : List (List Told)) : Type 0 where
+  pub told_are : told_after ≡ told ++ map (λ (w : WatchLane). told_in w.replies) works
+  pub dem : AreJoined off after (map (λ (w : WatchLane). w.seat) works)

@@ -7,7 +7,7 @@ ghost use Rattle.flt_life.specs.declared.room.LaneRoom.{LaneRoom as RoomView};
 ghost use Rattle.flt_lane.specs.Room.{all_calls};
 ghost use Rattle.flt_watch.specs.Block.{RunsLanes};
 ghost use Rattle.flt_watch.specs.Lane.{HaveRun, IsLaneFor, IsPrepared, IsSeatOf};
-ghost use Rattle.flt_watch.specs.Seating.{CanJoin, CanSeat, IsJoined, IsSeated};
+ghost use Rattle.flt_watch.specs.Seating.{AreSeated, CanJoin, CanSeat, HaveJoined, IsJoined, IsSeated};
 ghost use Rattle.flt_watch.specs.declared.lane.WatchLane.{WatchLane as LaneView};
 
 use crate::lane::{WatchLane, run_beside};
@@ -72,6 +72,38 @@ impl<'a> Passing<WatchSeat, WatchLane<'a>, LaneReplies> for WatchLock {
     }
 }
 
+/// Gives the lanes of a block their seats.
+fn seat_lanes<'a>(
+    lock: &WatchLock,
+    main: &mut WatchSeat,
+    rooms: Vec<LaneRoom<'a>>,
+    works: &mut Vec<WatchLane<'a>>,
+)
+    requires can { CanSeat lock.now main.old rooms.items }
+    requires none { works.old.items ≡ [] }
+    requires room { vec_len works.old + length rooms.items ≤ vec_capacity works.old }
+    ensures seated { AreSeated lock.now main.old main.new (steps_of rooms.entry.items) works.new.items }
+    ensures count { length works.new.items ≡ length rooms.entry.items }
+{
+    pass_all(lock, main, rooms, works);
+}
+
+/// Joins the seats of lanes, and puts their answers behind those that are there.
+fn join_lanes(
+    lock: &WatchLock,
+    main: &mut WatchSeat,
+    works: Vec<WatchLane<'_>>,
+    told: &mut Vec<LaneReplies>,
+)
+    requires can { CanJoin lock.now main.old works.items }
+    requires room { vec_len told.old + length works.items ≤ vec_capacity told.old }
+    ensures joined { HaveJoined main.old main.new works.entry.items (map told_in told.old.items) (map told_in told.new.items) }
+    ensures len { vec_len told.new ≡ vec_len told.old + length works.entry.items }
+    ensures capacity { vec_capacity told.new ≡ vec_capacity told.old }
+{
+    pass_all(lock, main, works, told);
+}
+
 /// Runs lanes that are ready.
 fn run_works<R: Threads + Wait + Sync, G: Gate + Sync>(
     rt: &R,
@@ -113,7 +145,7 @@ pub(crate) fn run_block<'a, R: Threads + Wait + Sync, G: Gate + Sync>(
     ensures left { main.old.left ≤ main.new.left + all_calls (steps_of rooms.entry.items) }
 {
     let mut works = works;
-    pass_all(lock, main, rooms, &mut works);
+    seat_lanes(lock, main, rooms, &mut works);
     run_works(rt, lock, gate, &mut works);
-    pass_all(lock, main, works, told);
+    join_lanes(lock, main, works, told);
 }

@@ -19,16 +19,15 @@ seat_lanes-works-requires-clause-can g c = let r = c.requires in record {
 }
 
 pub run_works-requires-clause-ready : goal.run_works-requires-clause-ready
-run_works-requires-clause-ready g c κs within =
-    c.seat_lanes-works.ensures.seated.ready
+run_works-requires-clause-ready g c κs within = c.seat_lanes-works.ensures.seated.ready
 
 pub run_works-requires-clause-one_stores : goal.run_works-requires-clause-one_stores
-run_works-requires-clause-one_stores g c κs within =
-    subst (λ l. store_lanes l ≤ 1) (sym c.seat_lanes-works.ensures.seated.steps_are) c.requires.one_stores
+run_works-requires-clause-one_stores g c κs within = subst (λ l. store_lanes l ≤ 1) (sym c.seat_lanes-works.ensures.seated.steps_are) c.requires.one_stores
 
 pub run_works-requires-clause-same : goal.run_works-requires-clause-same
 run_works-requires-clause-same g c κs within =
-    split_each (λ (w : LaneWork). w.seat) (λ w. calls_of w.steps.now) c.args.seats.now.dem (λ w. w.seat.start.config ≡ c.args.config.now) (λ number w is. ap (λ s. s.config) is.start_is ∙ c.requires.same) _ c.seat_lanes-works.result.items c.seat_lanes-works.ensures.seated.dem
+    split_each (λ (w : LaneWork). w.seat) (λ w. calls_of w.steps.now) c.args.seats.now.dem (λ w. w.seat.start.config ≡ c.args.config.now) (λ number w is. ap (λ s. s.config) is.start_is ∙ c.requires.same) _
+    c.seat_lanes-works.result.items c.seat_lanes-works.ensures.seated.dem
 
 pub run_works-requires-clause-fits : goal.run_works-requires-clause-fits
 run_works-requires-clause-fits g c κs within =
@@ -49,23 +48,20 @@ join_lanes-requires-clause-can g c =
 
 pub returns-clause-part : goal.returns-clause-part
 returns-clause-part g c =
-    has_run_lanes c.args.locks.now c.args.config.now c.args.seats.now c.seat_lanes-works.new.main c.join_lanes.new.main (steps_of c.args.room.lanes.items) c.seat_lanes-works.result.items c.run_works.new.works.items (map told_in c.args.told.now.items) (map told_in c.join_lanes.new.told.items) c.args.store.now c.run_works.new.store c.requires.lock.1 c.requires.queue.1 c.seat_lanes-works.ensures.seated c.run_works.ensures.ran c.join_lanes.ensures.joined
+    has_run_lanes c.args.locks.now c.args.config.now c.args.seats.now c.seat_lanes-works.new.main c.join_lanes.new.main (steps_of c.args.room.lanes.items) c.seat_lanes-works.result.items c.run_works.new.works.items
+    (map told_in c.args.told.now.items) (map told_in c.join_lanes.new.told.items) c.args.store.now c.run_works.new.store c.requires.lock.1 c.requires.queue.1 c.seat_lanes-works.ensures.seated c.run_works.ensures.ran c.join_lanes.ensures.joined
 
 pub returns-clause-lock : goal.returns-clause-lock
-returns-clause-lock g c =
-    (
-      c.join_lanes.ensures.joined.dem.lock_is ∙ c.seat_lanes-works.ensures.seated.dem_off.lock_is ∙ c.requires.lock.0.0,
-      ap (λ s. s.config) (c.join_lanes.ensures.joined.dem.start_is ∙ c.seat_lanes-works.ensures.seated.dem_off.start_is) ∙ c.requires.lock.0.1,
-    )
+returns-clause-lock g c = (
+  c.join_lanes.ensures.joined.dem.lock_is ∙ c.seat_lanes-works.ensures.seated.dem_off.lock_is ∙ c.requires.lock.0.0,
+  ap (λ s. s.config) (c.join_lanes.ensures.joined.dem.start_is ∙ c.seat_lanes-works.ensures.seated.dem_off.start_is) ∙ c.requires.lock.0.1,
+)
 
 pub returns-clause-queue : goal.returns-clause-queue
-returns-clause-queue g c =
-    c.join_lanes.ensures.joined.queue.lock_is ∙ c.seat_lanes-works.ensures.seated.queue_off.lock_is ∙ c.requires.queue.0
+returns-clause-queue g c = c.join_lanes.ensures.joined.queue.lock_is ∙ c.seat_lanes-works.ensures.seated.queue_off.lock_is ∙ c.requires.queue.0
 
 pub returns-clause-left : goal.returns-clause-left
-returns-clause-left g c =
-    omega (arith, c.join_lanes.ensures.joined.dem.left_is, c.seat_lanes-works.ensures.seated.dem_off.left_is)
+returns-clause-left g c = omega (arith, c.join_lanes.ensures.joined.dem.left_is, c.seat_lanes-works.ensures.seated.dem_off.left_is)
 
 pub returns-clause-queue_left : goal.returns-clause-queue_left
-returns-clause-queue_left g c =
-    omega (arith, c.join_lanes.ensures.joined.queue.left_is, c.seat_lanes-works.ensures.seated.queue_off.left_is)
+returns-clause-queue_left g c = omega (arith, c.join_lanes.ensures.joined.queue.left_is, c.seat_lanes-works.ensures.seated.queue_off.left_is)

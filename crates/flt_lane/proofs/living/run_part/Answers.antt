@@ -23,4 +23,4 @@ returns-in-Lanes-clause-gains g c =
     subst (λ p. GainsPart c.args.config.now c.args.seats.now.dem c.run_lanes.new.seats.dem c.args.seats.now.queue c.run_lanes.new.seats.queue (part_in p) own own told told_after c.args.store.now c.run_lanes.new.store) (sym c.in-Lanes.is)
     (gains_block c.args.config.now c.args.seats.now.dem c.run_lanes.new.seats.dem c.args.seats.now.queue c.run_lanes.new.seats.queue c.args.store.now c.run_lanes.new.store (steps_of c.in-Lanes.room.value.lanes.items) own told told_after
     (subst (λ (block : BlockRoom). HasRunLanes c.args.config.now c.args.seats.now.dem c.run_lanes.new.seats.dem c.args.seats.now.queue c.run_lanes.new.seats.queue (steps_of block.lanes.items) told told_after c.args.store.now c.run_lanes.new.store)
-    c.into_inner-lanes.ensures c.run_lanes.ensures.part))
+    c.into_inner-room.ensures c.run_lanes.ensures.part))
