@@ -60,20 +60,21 @@ fn event(dtc: u32) -> EventCfg {
 }
 
 // A configuration of so many entries, application blocks and events.
-fn configured(memory: u8, blocks: u8, count: u8) -> Result<ValidConfig, Fail> {
+fn configured(rt: &impl Abort, memory: u8, blocks: u8, count: u8) -> ValidConfig {
     let mut events = ArrayVec::new();
     for number in 0..count {
         if !events.is_full() {
             events.push(event(1 + number as u32));
         }
     }
-    Ok(check(Config {
+    check(Config {
         id: 0,
         memory,
         pages: PAGES,
         blocks,
         events,
-    })?)
+    })
+    .expect(rt, "the configuration is valid")
 }
 
 // A state of events of these statuses, those that were tested having failed in one cycle, and of entries of the first events,

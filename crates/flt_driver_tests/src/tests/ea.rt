@@ -6,24 +6,12 @@ ghost use Rattle.flt_ea.specs.Ea.{state_of};
 mod cuts;
 mod rows;
 
-use super::{drive, restart};
+use super::*;
 use flt_code::seal;
 use flt_ea::{Ea, Eeprom, EepromMem, Gate, put_gate};
-use flt_flash::{Arm, BLANK_PAGE, BlockFault, Blocks, Found, Pattern};
+use flt_flash::{BLANK_PAGE, Pattern};
 use std::alloc::{AllocError, Global};
-use std::process::Abort;
 use std::test::Fail;
-
-// A driver of block 8.
-fn one_block(alloc: Global, device: EepromMem) -> Result<Ea<EepromMem>, Fail>
-    requires { 10 ≤ (device_state device).pages }
-    ensures { IfOk result (λ ea. Contains (state_of device_state ea).numbers 8) }
-{
-    match Ea::make(alloc, device, vec![in alloc; 8]?) {
-        Ok(ea) => Ok(ea),
-        Err(_) => Err(Fail::from("refused")),
-    }
-}
 
 // A driver of the blocks 8 and 9.
 fn two_blocks(alloc: Global, device: EepromMem) -> Result<Ea<EepromMem>, Fail>
@@ -35,4 +23,19 @@ fn two_blocks(alloc: Global, device: EepromMem) -> Result<Ea<EepromMem>, Fail>
         Ok(ea) => Ok(ea),
         Err(_) => Err(Fail::from("refused")),
     }
+}
+
+// Takes the steps of a row on a driver over an EEPROM of at least 20 units, which comes back.
+fn play_on(
+    rt: &impl Abort,
+    alloc: Global,
+    device: EepromMem,
+    row: &str,
+    steps: &[Step],
+) -> Result<EepromMem, Fail>
+    requires { 20 ≤ (device_state device).pages }
+{
+    let mut ea = two_blocks(alloc, device)?;
+    play(rt, &mut ea, row, steps);
+    Ok(ea.retire())
 }

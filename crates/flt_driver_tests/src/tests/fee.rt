@@ -2,44 +2,55 @@
 ghost use Rattle.std.specs.Prelude.{◌≤◌, IfOk, Contains};
 ghost use Rattle.flt_flash.specs.Memory.{state_of as flash_state};
 ghost use Rattle.flt_fee.specs.Fee.{state_of};
-ghost use Rattle.flt_driver_tests.specs.Few.{HasFive};
 
 mod costs;
 mod cuts;
 mod pages;
 mod rows;
 
-use super::drive;
+use super::*;
 use flt_code::{Word, get_word, put_word, seal, unseal};
 use flt_fee::Fee;
-use flt_flash::{Arm, BLANK_PAGE, Bench, BlockFault, Blocks, Flash, FlashMem, Found, Pattern};
+use flt_flash::{BLANK_PAGE, Bench, Flash, FlashMem, Pattern};
 use std::alloc::{AllocError, Global};
-use std::process::Abort;
 use std::test::Fail;
 
-// A driver of the blocks 8 and 9.
+// A driver of the blocks 9 and 8, in this order.
 fn two_blocks(alloc: Global, flash: FlashMem, used: u16) -> Result<Fee<FlashMem>, Fail>
     requires least { 4 ≤ used }
     requires most { used ≤ (flash_state flash).pages }
     ensures first { IfOk result (λ fee. Contains (state_of flash_state fee).numbers 8) }
     ensures second { IfOk result (λ fee. Contains (state_of flash_state fee).numbers 9) }
 {
-    match Fee::make(alloc, flash, used, vec![in alloc; 8, 9]?) {
+    match Fee::make(alloc, flash, used, vec![in alloc; 9, 8]?) {
         Ok(fee) => Ok(fee),
         Err(_) => Err(Fail::from("refused")),
     }
 }
 
-// A driver of the blocks 1 to 5.
-fn five_blocks(alloc: Global, flash: FlashMem, used: u16) -> Result<Fee<FlashMem>, Fail>
-    requires least { 4 ≤ used }
-    requires most { used ≤ (flash_state flash).pages }
-    ensures { IfOk result (λ fee. HasFive (state_of flash_state fee).numbers) }
+// Takes the steps of a row on a driver over a flash of at least 64 pages, which comes back.
+fn play_on(
+    rt: &impl Abort,
+    alloc: Global,
+    flash: FlashMem,
+    row: &str,
+    steps: &[Step],
+) -> Result<FlashMem, Fail>
+    requires { 64 ≤ (flash_state flash).pages }
 {
-    match Fee::make(alloc, flash, used, vec![in alloc; 1, 2, 3, 4, 5]?) {
-        Ok(fee) => Ok(fee),
-        Err(_) => Err(Fail::from("refused")),
-    }
+    let mut fee = two_blocks(alloc, flash, 64)?;
+    play(rt, &mut fee, row, steps);
+    Ok(fee.retire())
+}
+
+// The same over a blank flash, whose power may come back twice.
+fn play_on_blank(
+    rt: &impl Abort,
+    alloc: Global,
+    row: &str,
+    steps: &[Step],
+) -> Result<FlashMem, Fail> {
+    play_on(rt, alloc, FlashMem::blank(alloc, 64, 2)?, row, steps)
 }
 
 // A page of the flash, or a blank one where there is no such page.
@@ -50,7 +61,17 @@ fn page_of_flash(flash: &FlashMem, sector: u8, page: u16) -> [u8; 32] {
     *flash.page(sector, page)
 }
 
+// Whether a page of the flash is blank.
+fn is_blank(flash: &FlashMem, sector: u8, page: u16) -> bool {
+    page_of_flash(flash, sector, page) == BLANK_PAGE
+}
+
 // The word of a page of the flash, or none.
 fn word_at(flash: &FlashMem, sector: u8, page: u16) -> Option<Word> {
     get_word(&unseal(&page_of_flash(flash, sector, page))?)
+}
+
+// Whether the sectors were erased so often.
+fn is_worn(flash: &FlashMem, first: u64, second: u64) -> bool {
+    flash.wear(0) == first && flash.wear(1) == second
 }

@@ -1,5 +1,5 @@
 //! The lines of the report, written by hand.
-ghost use Rattle.std.specs.Prelude.{◌≡◌, ◌≢◌};
+ghost use Rattle.std.specs.Prelude.{◌≢◌};
 ghost use Rattle.flt_life.specs.Answers.{IsAnswerWithin};
 ghost use Rattle.flt_restore.specs.declared.fault.StartFault.TheVariants as faults;
 
@@ -41,63 +41,78 @@ fn is_step(
     Ok(stands(&out, line))
 }
 
-/// Whether the answer of `cycle 3` is told so.
-fn is_answer(alloc: Global, answer: &StepAnswer<KeptReply>, line: &str) -> Result<bool, AllocError>
-    requires { IsAnswerWithin 5 answer.now }
-{
-    is_step(alloc, &Step::Cycle { cycle: 3 }, answer, line)
-}
-
-/// The answer of a call.
+/// The answer of a call, whose response is within the bytes.
 fn told(reply: KeptReply) -> StepAnswer<KeptReply>
-    ensures { result ≡ StepAnswer.Dem (record { place = 7; reply = reply }) }
+    ensures { IsAnswerWithin 5 result }
 {
-    StepAnswer::Dem(Answer { place: 7, reply })
+    match reply {
+        KeptReply::Response(kept) if kept.from > 3 || kept.length > 5 - kept.from => {
+            StepAnswer::Dark
+        }
+        reply => StepAnswer::Dem(Answer { place: 7, reply }),
+    }
 }
 
+/// Replies to `cycle 3`, each with what is told of it.
+static REPLIES: [(KeptReply, &str); 9] = [
+    (KeptReply::Taken, "cycle 3 -> taken\n"),
+    (
+        KeptReply::Ignored(Cause::SettingOff),
+        "cycle 3 -> ignored setting\n",
+    ),
+    (
+        KeptReply::Ignored(Cause::NotStarted),
+        "cycle 3 -> ignored cycle\n",
+    ),
+    (
+        KeptReply::Ignored(Cause::NotEnabled),
+        "cycle 3 -> ignored enable\n",
+    ),
+    (KeptReply::Silent, "cycle 3 -> silent\n"),
+    (
+        KeptReply::Response(KeptResponse { from: 0, length: 3 }),
+        "cycle 3 -> 7F 0A B9\n",
+    ),
+    (
+        KeptReply::Response(KeptResponse { from: 3, length: 2 }),
+        "cycle 3 -> FF 00\n",
+    ),
+    (
+        KeptReply::Shown(Shown {
+            status: 0xAF,
+            fdc: 127,
+            failed: 255,
+            clean: 0,
+            stored: 2,
+            overflow: true,
+        }),
+        "cycle 3 -> status AF fdc 127 failed 255 clean 0 stored 2 overflow 1\n",
+    ),
+    (
+        KeptReply::Shown(Shown {
+            status: 0x05,
+            fdc: -128,
+            failed: 9,
+            clean: 510,
+            stored: 100,
+            overflow: false,
+        }),
+        "cycle 3 -> status 05 fdc -128 failed 9 clean 510 stored 100 overflow 0\n",
+    ),
+];
+
 #[test]
-fn answers_to_calls(rt: HostRuntime) -> Result<(), Fail> {
-    let alloc = rt.alloc();
-    let taken = told(KeptReply::Taken);
-    assert!(rt; is_answer(alloc, &taken, "cycle 3 -> taken\n")?);
-    let ignored = told(KeptReply::Ignored(Cause::SettingOff));
-    assert!(rt; is_answer(alloc, &ignored, "cycle 3 -> ignored setting\n")?);
-    let ignored = told(KeptReply::Ignored(Cause::NotStarted));
-    assert!(rt; is_answer(alloc, &ignored, "cycle 3 -> ignored cycle\n")?);
-    let ignored = told(KeptReply::Ignored(Cause::NotEnabled));
-    assert!(rt; is_answer(alloc, &ignored, "cycle 3 -> ignored enable\n")?);
-    let silent = told(KeptReply::Silent);
-    assert!(rt; is_answer(alloc, &silent, "cycle 3 -> silent\n")?);
-    let first = told(KeptReply::Response(KeptResponse { from: 0, length: 3 }));
-    assert!(rt; is_answer(alloc, &first, "cycle 3 -> 7F 0A B9\n")?);
-    let second = told(KeptReply::Response(KeptResponse { from: 3, length: 2 }));
-    assert!(rt; is_answer(alloc, &second, "cycle 3 -> FF 00\n")?);
+fn replies_to_calls(rt: HostRuntime) -> Result<(), Fail> {
+    let cycle = Step::Cycle { cycle: 3 };
+    for (reply, line) in &REPLIES {
+        assert!(rt; is_step(rt.alloc(), &cycle, &told(*reply), line)?, "{line}");
+    }
     Ok(())
 }
 
-#[test]
-fn shown_events(rt: HostRuntime) -> Result<(), Fail> {
-    let failed = Shown {
-        status: 0xAF,
-        fdc: 127,
-        failed: 255,
-        clean: 0,
-        stored: 2,
-        overflow: true,
-    };
-    let line = "cycle 3 -> status AF fdc 127 failed 255 clean 0 stored 2 overflow 1\n";
-    assert!(rt; is_answer(rt.alloc(), &told(KeptReply::Shown(failed)), line)?);
-    let passed = Shown {
-        status: 0x05,
-        fdc: -128,
-        failed: 9,
-        clean: 510,
-        stored: 100,
-        overflow: false,
-    };
-    let line = "cycle 3 -> status 05 fdc -128 failed 9 clean 510 stored 100 overflow 0\n";
-    assert!(rt; is_answer(rt.alloc(), &told(KeptReply::Shown(passed)), line)?);
-    Ok(())
+/// Whether a save that fails so has this line.
+fn is_failed_save(alloc: Global, fault: SaveFault, line: &str) -> Result<bool, AllocError> {
+    is_step(alloc, &Step::Save, &StepAnswer::SaveFailed(fault), line)
 }
 
 #[test]
@@ -105,14 +120,10 @@ fn other_answers(rt: HostRuntime) -> Result<(), Fail> {
     let alloc = rt.alloc();
     let saved = StepAnswer::Saved(4_294_967_295);
     assert!(rt; is_step(alloc, &Step::Save, &saved, "save -> 4294967295\n")?);
-    let fault = StepAnswer::SaveFailed(SaveFault::Flash);
-    assert!(rt; is_step(alloc, &Step::Save, &fault, "save -> flash\n")?);
-    let fault = StepAnswer::SaveFailed(SaveFault::Spent);
-    assert!(rt; is_step(alloc, &Step::Save, &fault, "save -> spent\n")?);
-    let fault = StepAnswer::SaveFailed(SaveFault::SequenceSpent);
-    assert!(rt; is_step(alloc, &Step::Save, &fault, "save -> sequence\n")?);
-    assert!(rt; is_answer(alloc, &StepAnswer::Armed, "cycle 3 -> armed\n")?);
-    assert!(rt; is_answer(alloc, &StepAnswer::Dark, "cycle 3 -> dark\n")?);
+    assert!(rt; is_failed_save(alloc, SaveFault::Flash, "save -> flash\n")?);
+    assert!(rt; is_failed_save(alloc, SaveFault::Spent, "save -> spent\n")?);
+    assert!(rt; is_failed_save(alloc, SaveFault::SequenceSpent, "save -> sequence\n")?);
+    assert!(rt; is_step(alloc, &Step::Drain, &StepAnswer::Armed, "drain -> armed\n")?);
     Ok(())
 }
 
@@ -121,46 +132,64 @@ fn is_dark(alloc: Global, step: &Step, line: &str) -> Result<bool, AllocError> {
     is_step(alloc, step, &StepAnswer::Dark, line)
 }
 
+/// Reports in a dark life, each with its line.
+static REPORTS: [(Report, &str); 4] = [
+    (Report::Passed, "pass 0 -> dark\n"),
+    (Report::Failed, "fail 0 -> dark\n"),
+    (Report::PrePassed, "prepass 0 -> dark\n"),
+    (Report::PreFailed, "prefail 0 -> dark\n"),
+];
+
 #[test]
-fn words_of_steps(rt: HostRuntime) -> Result<(), Fail> {
-    let alloc = rt.alloc();
-    let reports = [
-        (Report::Passed, "pass 0 -> dark\n"),
-        (Report::Failed, "fail 0 -> dark\n"),
-        (Report::PrePassed, "prepass 0 -> dark\n"),
-        (Report::PreFailed, "prefail 0 -> dark\n"),
-    ];
-    for (report, line) in reports {
-        assert!(rt; is_dark(alloc, &Step::Report { event: 0, report }, line)?);
+fn words_of_reports(rt: HostRuntime) -> Result<(), Fail> {
+    for (report, line) in &REPORTS {
+        let report = Step::Report {
+            event: 0,
+            report: *report,
+        };
+        assert!(rt; is_dark(rt.alloc(), &report, line)?, "{line}");
     }
+    Ok(())
+}
+
+fn enable(fulfilled: bool) -> Step {
+    let condition = 7;
+    Step::Enable {
+        condition,
+        fulfilled,
+    }
+}
+
+#[test]
+fn words_of_numbers(rt: HostRuntime) -> Result<(), Fail> {
+    let alloc = rt.alloc();
     assert!(rt; is_dark(alloc, &Step::Show { event: 63 }, "show 63 -> dark\n")?);
     assert!(rt; is_dark(alloc, &Step::Tick { ticks: 65535 }, "tick 65535 -> dark\n")?);
-    let signal = Step::Signal {
-        index: 7,
-        value: 1000,
-    };
-    assert!(rt; is_dark(alloc, &signal, "sig 7 1000 -> dark\n")?);
-    for (fulfilled, line) in [
-        (false, "enable 7 0 -> dark\n"),
-        (true, "enable 7 1 -> dark\n"),
-    ] {
-        let enable = Step::Enable {
-            condition: 7,
-            fulfilled,
-        };
-        assert!(rt; is_dark(alloc, &enable, line)?);
-    }
+    let (index, value) = (7, 1000);
+    assert!(rt;
+        is_dark(
+            alloc,
+            &Step::Signal { index, value },
+            "sig 7 1000 -> dark\n"
+        )?
+    );
+    assert!(rt; is_dark(alloc, &enable(false), "enable 7 0 -> dark\n")?);
+    assert!(rt; is_dark(alloc, &enable(true), "enable 7 1 -> dark\n")?);
+    Ok(())
+}
+
+/// A request of these bytes.
+fn request(tester: u8, written: &[u8]) -> Step {
     let mut bytes: ArrayVec<u8, REQUEST> = ArrayVec::new();
-    bytes.push(0x19);
-    let one = Step::Request {
-        tester: 0,
-        bytes: bytes.clone().unwrap(),
-    };
-    assert!(rt; is_dark(alloc, &one, "t A 19 -> dark\n")?);
-    bytes.push(0xFA);
-    bytes.push(0x0B);
-    let three = Step::Request { tester: 3, bytes };
-    assert!(rt; is_dark(alloc, &three, "t D 19 FA 0B -> dark\n")?);
+    let _full = bytes.try_extend_from_slice(written);
+    Step::Request { tester, bytes }
+}
+
+#[test]
+fn words_of_requests(rt: HostRuntime) -> Result<(), Fail> {
+    assert!(rt; is_dark(rt.alloc(), &request(0, &[0x19]), "t A 19 -> dark\n")?);
+    let three = request(3, &[0x19, 0xFA, 0x0B]);
+    assert!(rt; is_dark(rt.alloc(), &three, "t D 19 FA 0B -> dark\n")?);
     Ok(())
 }
 
@@ -189,59 +218,88 @@ fn is_boot(alloc: Global, life: u32, boot: &Boot, line: &str) -> Result<bool, Al
 
 #[test]
 fn beginnings_of_lives(rt: HostRuntime) -> Result<(), Fail> {
-    let alloc = rt.alloc();
     let started = Boot::Started {
         generation: 12,
         start: at_rest(),
     };
-    assert!(rt; is_boot(alloc, 1, &started, "life 1 generation 12\n")?);
-    assert!(rt; is_boot(alloc, 10, &Boot::Dark, "life 10 dark\n")?);
-    let page = Place::Page {
-        sector: 1,
-        page: 1023,
-    };
-    let page = Boot::Refused(StartFault::Damaged(page));
-    assert!(rt; is_boot(alloc, 2, &page, "life 2 refused sector 1 page 1023\n")?);
-    let block = Boot::Refused(StartFault::Damaged(Place::Block { id: 23 }));
-    assert!(rt; is_boot(alloc, 3, &block, "life 3 refused block 23\n")?);
-    let spent = Boot::Refused(StartFault::SequenceSpent);
-    assert!(rt; is_boot(alloc, 4, &spent, "life 4 refused sequence\n")?);
-    let found = Mark {
-        id: 65535,
-        events: 64,
-        entries: 255,
-    };
-    let wanted = Mark {
-        id: 1,
-        events: 2,
-        entries: 3,
-    };
-    let other = Boot::Refused(StartFault::OtherConfig { found, wanted });
-    let line =
-        "life 5 refused config 65535 events 64 entries 255 wanted config 1 events 2 entries 3\n";
-    assert!(rt; is_boot(alloc, 5, &other, line)?);
+    assert!(rt; is_boot(rt.alloc(), 1, &started, "life 1 generation 12\n")?);
+    assert!(rt; is_boot(rt.alloc(), 10, &Boot::Dark, "life 10 dark\n")?);
     Ok(())
+}
+
+/// Faults for which a start-up is refused, each with the line of the second life.
+static REFUSED: [(StartFault, &str); 4] = [
+    (
+        StartFault::Damaged(Place::Page {
+            sector: 1,
+            page: 1023,
+        }),
+        "life 2 refused sector 1 page 1023\n",
+    ),
+    (
+        StartFault::Damaged(Place::Block { id: 23 }),
+        "life 2 refused block 23\n",
+    ),
+    (StartFault::SequenceSpent, "life 2 refused sequence\n"),
+    (
+        StartFault::OtherConfig {
+            found: Mark {
+                id: 65535,
+                events: 64,
+                entries: 255,
+            },
+            wanted: Mark {
+                id: 1,
+                events: 2,
+                entries: 3,
+            },
+        },
+        "life 2 refused config 65535 events 64 entries 255 wanted config 1 events 2 entries 3\n",
+    ),
+];
+
+/// Whether the second life that is refused so has this line.
+fn is_refused(alloc: Global, fault: StartFault, line: &str) -> Result<bool, AllocError> {
+    match fault {
+        StartFault::Flash => Ok(false),
+        fault => is_boot(alloc, 2, &Boot::Refused(fault), line),
+    }
+}
+
+#[test]
+fn refused_lives(rt: HostRuntime) -> Result<(), Fail> {
+    for (fault, line) in &REFUSED {
+        assert!(rt; is_refused(rt.alloc(), *fault, line)?, "{line}");
+    }
+    Ok(())
+}
+
+/// Faults of scripts by their line, each with what is told of it.
+static FAULTS: [(u32, LineCause, &str); 3] = [
+    (0, LineCause::Large, "script line 0 large\n"),
+    (12, LineCause::Form, "script line 12 form\n"),
+    (
+        3,
+        LineCause::Config(CfgFault::DtcTwice {
+            first: 0,
+            second: 1,
+        }),
+        "script line 3 twice 0 1\n",
+    ),
+];
+
+/// Whether this is told of a fault.
+fn is_fault(alloc: Global, line: u32, cause: LineCause, text: &str) -> Result<bool, AllocError> {
+    let mut out = Vec::new(alloc);
+    out.extend_from_slice(BEFORE)?;
+    put_script_fault(&ScriptFault { line, cause }, &mut out)?;
+    Ok(stands(&out, text))
 }
 
 #[test]
 fn faults_of_scripts(rt: HostRuntime) -> Result<(), Fail> {
-    let cases = [
-        (0, LineCause::Large, "script line 0 large\n"),
-        (12, LineCause::Form, "script line 12 form\n"),
-        (
-            3,
-            LineCause::Config(CfgFault::DtcTwice {
-                first: 0,
-                second: 1,
-            }),
-            "script line 3 twice 0 1\n",
-        ),
-    ];
-    for (line, cause, text) in cases {
-        let mut out = Vec::new(rt.alloc());
-        out.extend_from_slice(BEFORE)?;
-        put_script_fault(&ScriptFault { line, cause }, &mut out)?;
-        assert!(rt; stands(&out, text), "{text}");
+    for (line, cause, text) in &FAULTS {
+        assert!(rt; is_fault(rt.alloc(), *line, *cause, text)?, "{text}");
     }
     Ok(())
 }

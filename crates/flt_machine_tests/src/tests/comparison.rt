@@ -93,32 +93,53 @@ fn configured() -> Config {
     }
 }
 
+/// A manager of this configuration, where it is valid.
+fn manager() -> Option<Dem> {
+    let dids = DidTable::new();
+    let config = check(configured()).ok()?;
+    if dids.serves(&config.config().events) {
+        Some(Dem::make(config, dids))
+    } else {
+        None
+    }
+}
+
+/// Makes one report of an event, to both. Whether it is taken.
+fn reports(dem: &mut Dem, plain: &mut Plain, event: u16, passes: bool) -> bool {
+    let report = if passes {
+        plain.pass(event);
+        Report::Passed
+    } else {
+        plain.fail(event);
+        Report::Failed
+    };
+    has_event(dem, event) && dem.report(event, report, true).is_none()
+}
+
+/// Whether the same events have an entry.
+fn are_alike(dem: &Dem, plain: &Plain) -> bool {
+    for event in 0..6u16 {
+        if dem.entry(event).is_some() != plain.held.contains(&event) {
+            return false;
+        }
+    }
+    true
+}
+
 #[test]
 fn entries_are_those_of_the_plain_rule(rt: HostRuntime) {
-    let config = check(configured()).expect(&rt, "the configuration is valid");
-    let dids = DidTable::new();
-    assert!(&rt; dids.serves(&config.config().events));
-    let mut dem = Dem::make(config, dids);
+    let mut dem = manager().expect(&rt, "the configuration is valid");
     dem.cycle(0);
     let mut plain = Plain {
         held: ArrayVec::new(),
         failing: ArrayVec::new(),
     };
     let mut drawn = 1u32;
-    for _ in 0..500u16 {
+    for turn in 0..500u16 {
         drawn = drawn.wrapping_mul(1_664_525).wrapping_add(1_013_904_223);
         let event = ((drawn >> 20) % 6) as u16;
-        assert!(&rt; has_event(&dem, event));
-        if drawn & 0x8_0000 == 0 {
-            assert!(&rt; dem.report(event, Report::Passed, true).is_none());
-            plain.pass(event);
-        } else {
-            assert!(&rt; dem.report(event, Report::Failed, true).is_none());
-            plain.fail(event);
-        }
-        for event in 0..6u16 {
-            assert!(&rt; dem.entry(event).is_some() == plain.held.contains(&event));
-        }
+        assert!(&rt; reports(&mut dem, &mut plain, event, drawn & 0x8_0000 == 0));
+        assert!(&rt; are_alike(&dem, &plain), "report {turn}, of event {event}");
     }
     assert!(&rt; plain.held.len() == 2);
 }

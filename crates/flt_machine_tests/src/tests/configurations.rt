@@ -32,24 +32,30 @@ fn config(pages: u16, events: ArrayVec<EventCfg, EVENTS>) -> Config {
     }
 }
 
-#[test]
-fn a_full_configuration_is_accepted(rt: HostRuntime) {
+/// As many events as there may be.
+fn full() -> ArrayVec<EventCfg, EVENTS> {
     let mut events = ArrayVec::new();
     for dtc in 0..EVENTS as u32 {
         if !events.is_full() && dtc < 999 {
             events.push(event(dtc + 1));
         }
     }
-    match check(config(512, events)) {
-        Ok(valid) => {
-            assert!(&rt; valid.config().events.len() == EVENTS);
-            assert!(&rt; needed_pages(valid.config()) == 334);
-            let twin = valid.twin();
-            let state = initial(&twin);
-            assert!(&rt; fits(&valid, &state));
-        }
-        Err(_) => panic!(&rt; "refused"),
-    }
+    events
+}
+
+#[test]
+fn a_full_configuration_is_accepted(rt: HostRuntime) {
+    let Ok(valid) = check(config(512, full())) else {
+        panic!(&rt; "refused")
+    };
+    assert!(&rt; valid.config().events.len() == EVENTS);
+    assert!(&rt; needed_pages(valid.config()) == 334);
+    assert!(&rt; fits(&valid, &initial(&valid.twin())));
+}
+
+/// The first fault of a configuration, where it has one.
+fn fault_of(pages: u16, events: ArrayVec<EventCfg, EVENTS>) -> Option<CfgFault> {
+    check(config(pages, events)).err()
 }
 
 #[test]
@@ -57,32 +63,14 @@ fn the_first_fault_is_told(rt: HostRuntime) {
     let mut events = ArrayVec::new();
     events.push(event(1));
     events.push(event(1));
-    assert!(&rt;
-        matches!(
-            check(config(512, events)),
-            Err(CfgFault::DtcTwice {
-                first: 0,
-                second: 1
-            })
-        )
-    );
-    assert!(&rt;
-        matches!(
-            check(config(63, ArrayVec::new())),
-            Err(CfgFault::Range {
-                event: None,
-                field: Field::Pages,
-                value: 63
-            })
-        )
-    );
-    assert!(&rt;
-        matches!(
-            check(config(64, ArrayVec::new())),
-            Err(CfgFault::NoRoom {
-                needed: 206,
-                pages: 64
-            })
-        )
-    );
+    let (first, second) = (0, 1);
+    assert!(&rt; fault_of(512, events) == Some(CfgFault::DtcTwice { first, second }));
+    let range = CfgFault::Range {
+        event: None,
+        field: Field::Pages,
+        value: 63,
+    };
+    assert!(&rt; fault_of(63, ArrayVec::new()) == Some(range));
+    let (needed, pages) = (206, 64);
+    assert!(&rt; fault_of(64, ArrayVec::new()) == Some(CfgFault::NoRoom { needed, pages }));
 }

@@ -1,5 +1,49 @@
 //! Debouncing at the ends of its ranges.
+ghost use Rattle.flt_config.specs.Validity.{IsDebounceInRange};
+ghost use Rattle.flt_model.specs.Debounce.{IsOfKind};
+
 use flt_debounce::{DebState, Debounce, Qualified, Report, fdc, report, rest, tick};
+use std::process::Abort;
+
+/// A report gives this result, and leaves this fault detection counter.
+fn reports(
+    rt: &impl Abort,
+    rules: &Debounce,
+    state: &mut DebState,
+    made: Report,
+    wanted: Option<Qualified>,
+    counter: i8,
+)
+    requires in_range { IsDebounceInRange rules.now }
+    requires kind { IsOfKind rules.now state.old }
+    ensures { IsOfKind rules.now state.new }
+{
+    assert!(rt;
+        report(rules, state, made) == wanted,
+        "{made:?} at {counter}"
+    );
+    assert!(rt; fdc(rules, state) == counter, "{made:?} to {counter}");
+}
+
+/// So many ticks give this result, and leave this counter.
+fn ticks(
+    rt: &impl Abort,
+    rules: &Debounce,
+    state: &mut DebState,
+    count: u16,
+    wanted: Option<Qualified>,
+    counter: i8,
+)
+    requires in_range { IsDebounceInRange rules.now }
+    requires kind { IsOfKind rules.now state.old }
+    ensures { IsOfKind rules.now state.new }
+{
+    assert!(rt;
+        tick(rules, state, count) == wanted,
+        "{count} ticks at {counter}"
+    );
+    assert!(rt; fdc(rules, state) == counter, "{count} ticks to {counter}");
+}
 
 #[test]
 fn a_counter_of_the_whole_range_clamps_at_both_ends(rt: HostRuntime) {
@@ -13,13 +57,12 @@ fn a_counter_of_the_whole_range_clamps_at_both_ends(rt: HostRuntime) {
     };
     let mut state = rest(&rules);
     assert!(rt; fdc(&rules, &state) == 0);
-    assert!(rt; report(&rules, &mut state, Report::PrePassed).is_none());
-    assert!(rt; fdc(&rules, &state) == -127);
-    assert!(rt; report(&rules, &mut state, Report::PrePassed) == Some(Qualified::Passed));
+    reports(&rt, &rules, &mut state, Report::PrePassed, None, -127);
+    let passed = Some(Qualified::Passed);
+    reports(&rt, &rules, &mut state, Report::PrePassed, passed, -128);
     assert!(rt; state == DebState::Count(-32768));
-    assert!(rt; fdc(&rules, &state) == -128);
-    assert!(rt; report(&rules, &mut state, Report::Failed) == Some(Qualified::Failed));
-    assert!(rt; fdc(&rules, &state) == 127);
+    let failed = Some(Qualified::Failed);
+    reports(&rt, &rules, &mut state, Report::Failed, failed, 127);
 }
 
 #[test]
@@ -29,13 +72,11 @@ fn a_timer_of_the_longest_time_qualifies_once(rt: HostRuntime) {
         pass: 1,
     };
     let mut state = rest(&rules);
-    assert!(rt; report(&rules, &mut state, Report::PreFailed).is_none());
-    assert!(rt; tick(&rules, &mut state, 65534).is_none());
-    assert!(rt; fdc(&rules, &state) == 126);
-    assert!(rt; report(&rules, &mut state, Report::PreFailed).is_none());
-    assert!(rt; tick(&rules, &mut state, 65535) == Some(Qualified::Failed));
-    assert!(rt; tick(&rules, &mut state, 1).is_none());
-    assert!(rt; fdc(&rules, &state) == 127);
-    assert!(rt; report(&rules, &mut state, Report::PrePassed).is_none());
-    assert!(rt; tick(&rules, &mut state, 1) == Some(Qualified::Passed));
+    reports(&rt, &rules, &mut state, Report::PreFailed, None, 0);
+    ticks(&rt, &rules, &mut state, 65534, None, 126);
+    reports(&rt, &rules, &mut state, Report::PreFailed, None, 126);
+    ticks(&rt, &rules, &mut state, 65535, Some(Qualified::Failed), 127);
+    ticks(&rt, &rules, &mut state, 1, None, 127);
+    reports(&rt, &rules, &mut state, Report::PrePassed, None, 0);
+    ticks(&rt, &rules, &mut state, 1, Some(Qualified::Passed), -128);
 }

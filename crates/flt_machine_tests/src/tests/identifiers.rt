@@ -6,17 +6,29 @@ use flt_did::{
     did_0107,
 };
 
+/// The table of three rows, full of 0101, 0102 and 0103.
+fn full() -> DidTable<3> {
+    let mut table = DidTable::new();
+    let _first = table.add(0x0101, 2, did_0101).is_ok();
+    let _second = table.add(0x0102, 2, did_0102).is_ok();
+    let _third = table.add(0x0103, 1, did_0103).is_ok();
+    table
+}
+
 #[test]
 fn refuses_a_second_row_and_a_row_too_many(rt: HostRuntime) {
-    let mut table: DidTable<3> = DidTable::new();
-    assert!(&rt; table.add(0x0101, 2, did_0101).is_ok());
-    assert!(&rt; table.add(0x0102, 2, did_0102).is_ok());
-    assert!(&rt; table.add(0x0103, 1, did_0103).is_ok());
+    let mut table = full();
     assert!(rt; table.add(0x0101, 2, did_0101) == Err(TableFault::DidTwice));
     assert!(rt; table.add(0x0104, 4, did_0104) == Err(TableFault::TableFull));
-    assert!(rt; table.width(0x0103) == Some(1));
-    assert!(rt; table.width(0x0104).is_none());
+    assert!(rt; table.width(0x0101) == Some(2) && table.width(0x0102) == Some(2));
+    assert!(rt; table.width(0x0103) == Some(1) && table.width(0x0104).is_none());
+}
 
+#[test]
+fn a_frame_has_its_values_in_order(rt: HostRuntime) {
+    let mut table: DidTable<3> = DidTable::new();
+    assert!(&rt; table.add(0x0101, 2, did_0101).is_ok());
+    assert!(&rt; table.add(0x0103, 1, did_0103).is_ok());
     let mut uses: ArrayVec<DidUse, DIDS> = ArrayVec::new();
     uses.push(DidUse {
         id: 0x0103,
@@ -33,19 +45,23 @@ fn refuses_a_second_row_and_a_row_too_many(rt: HostRuntime) {
     assert!(&rt; frame.as_slice() == [0x07, 0x01, 0x02].as_slice());
 }
 
-#[test]
-fn tells_the_values_at_the_ends_of_the_signals(rt: HostRuntime) {
+/// The signals, all at their greatest.
+fn greatest() -> Signals {
     let mut signals = Signals::zero();
-    assert!(rt; did_0105(&signals) == 0);
-    assert!(rt; did_0107(&signals) == 0);
     for index in 0..8u8 {
         signals.set(index, 65535);
     }
-    assert!(rt; did_0101(&signals) == 65535);
-    assert!(rt; did_0102(&signals) == 65535);
-    assert!(rt; did_0103(&signals) == 255);
+    signals
+}
+
+#[test]
+fn tells_the_values_at_the_ends_of_the_signals(rt: HostRuntime) {
+    let signals = Signals::zero();
+    assert!(rt; did_0105(&signals) == 0 && did_0107(&signals) == 0);
+    let signals = greatest();
+    assert!(rt; did_0101(&signals) == 65535 && did_0102(&signals) == 65535);
+    assert!(rt; did_0103(&signals) == 255 && did_0105(&signals) == 255);
     assert!(rt; did_0104(&signals) == 4_294_967_295);
-    assert!(rt; did_0105(&signals) == 255);
     assert!(rt; did_0106(&signals) == 65535);
     assert!(rt; did_0107(&signals) == 18_446_744_073_709_551_615);
 }

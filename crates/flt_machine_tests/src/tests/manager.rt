@@ -87,22 +87,31 @@ fn frames_are_taken_at_the_first_and_the_last_failure(rt: HostRuntime) {
     assert!(&rt; reports(&mut dem, Report::Failed));
     assert!(&rt; holds(&dem, 1, &[1, 2, 7], &[1, 2, 7]));
     dem.signal(0, 3);
-    assert!(&rt; reports(&mut dem, Report::Passed));
-    assert!(&rt; reports(&mut dem, Report::Failed));
+    assert!(&rt; reports(&mut dem, Report::Passed) && reports(&mut dem, Report::Failed));
     assert!(&rt; holds(&dem, 2, &[1, 2, 7], &[0, 3, 7]));
+}
+
+/// Whether the first to fail and the last to be confirmed is this event, and the last to fail.
+fn notes(dem: &Dem, event: Option<u16>) -> bool {
+    dem.noted(Which::FirstFailed) == event
+        && dem.noted(Which::RecentFailed) == event
+        && dem.noted(Which::RecentConfirmed) == event
+}
+
+/// How many entries a save keeps.
+fn saved_entries(dem: &Dem) -> usize {
+    let mut saved = initial(dem.config());
+    dem.persist(&mut saved);
+    saved.entries.len()
 }
 
 #[test]
 fn noted_events_are_told_until_all_are_cleared(rt: HostRuntime) {
     let mut dem = manager().expect(&rt, "the configuration is valid");
     dem.cycle(0);
-    assert!(&rt; reports(&mut dem, Report::Failed));
-    assert!(&rt; dem.noted(Which::FirstFailed) == Some(0));
-    assert!(&rt; dem.noted(Which::RecentConfirmed) == Some(0));
+    assert!(&rt; reports(&mut dem, Report::Failed) && notes(&dem, Some(0)));
     assert!(&rt; dem.find(0x123456) == Some(0) && dem.find(0x123457).is_none());
-    let mut saved = initial(dem.config());
-    dem.persist(&mut saved);
+    assert!(&rt; saved_entries(&dem) == 1);
     dem.clear_all();
-    assert!(&rt; dem.noted(Which::RecentFailed).is_none() && dem.entry(0).is_none());
-    assert!(&rt; saved.entries.len() == 1);
+    assert!(&rt; notes(&dem, None) && dem.entry(0).is_none());
 }

@@ -1,4 +1,6 @@
 //! The requests of the profile, written as a table of their own, against every service, sub-function and length.
+ghost use Rattle.std.specs.Prelude.{◌≡◌, length};
+
 use arrayvec::ArrayVec;
 use flt_uds::{
     Asked, Negative, REQUEST_OUT_OF_RANGE, RESPONSE, Request, put_bytes, put_dtc, put_dtc_with,
@@ -55,11 +57,31 @@ static REQUESTS: [Row; 17] = [
     (0x85, Some(0x02), [2, 5], Request::Setting { on: false }),
 ];
 
+/// Whether the table has the service.
+fn is_known(service: u8) -> bool {
+    for row in &REQUESTS {
+        if row.0 == service {
+            return true;
+        }
+    }
+    false
+}
+
+/// The row of a service, and of a sub-function where it has one.
+fn row_of(service: u8, sub: u8) -> Option<&'static Row> {
+    for row in &REQUESTS {
+        if row.0 == service && (row.1.is_none() || row.1 == Some(sub)) {
+            return Some(row);
+        }
+    }
+    None
+}
+
 /// What the table has for a request of these first two bytes and this length.
 fn by_table(service: u8, second: u8, length: usize, extended: bool) -> Result<Asked, u8> {
     let sub = second & 0x7F;
     let has_sub = service != 0x14;
-    if !REQUESTS.iter().any(|row| row.0 == service) {
+    if !is_known(service) {
         return Err(0x11);
     }
     if service == 0x85 && !extended {
@@ -68,10 +90,7 @@ fn by_table(service: u8, second: u8, length: usize, extended: bool) -> Result<As
     if has_sub && length == 1 {
         return Err(0x13);
     }
-    match REQUESTS
-        .iter()
-        .find(|row| row.0 == service && (!has_sub || row.1 == Some(sub)))
-    {
+    match row_of(service, sub) {
         None => Err(0x12),
         Some(row) => {
             if row.2[0] != length && row.2[1] != length {
@@ -185,27 +204,29 @@ fn every_mask_and_dtc_is_handed_on(rt: HostRuntime) {
     }
 }
 
-#[test]
-fn puts_append_until_the_response_is_full(rt: HostRuntime) {
-    let mut out: ArrayVec<u8, RESPONSE> = ArrayVec::new();
-    put_negative(
-        &Negative {
-            service: 0x19,
-            code: REQUEST_OUT_OF_RANGE,
-        },
-        &mut out,
-    );
+/// A negative response, a DTC with its status, a byte and a DTC.
+static FRONT: [u8; 11] = [
+    0x7F, 0x19, 0x31, 0x12, 0x34, 0x56, 0x2F, 0x01, 0x12, 0x34, 0x5A,
+];
+
+/// A response with them, put one behind the other.
+fn front() -> ArrayVec<u8, RESPONSE>
+    ensures { length result.items ≡ 11 }
+{
+    let mut out = ArrayVec::new();
+    let service = 0x19;
+    let code = REQUEST_OUT_OF_RANGE;
+    put_negative(&Negative { service, code }, &mut out);
     put_dtc_with(0x123456, 0x2F, &mut out);
     put_bytes(&[0x01], &mut out);
     put_dtc(0x12345A, &mut out);
-    assert!(&rt;
-        out.as_slice()
-            == [
-                0x7F, 0x19, 0x31, 0x12, 0x34, 0x56, 0x2F, 0x01, 0x12, 0x34, 0x5A
-            ]
-            .as_slice()
-    );
+    out
+}
+
+#[test]
+fn puts_append_until_the_response_is_full(rt: HostRuntime) {
+    let mut out = front();
+    assert!(&rt; out.as_slice() == FRONT.as_slice());
     put_bytes(&[0xAA; RESPONSE - 11], &mut out);
-    assert!(rt; out.len() == RESPONSE);
-    assert!(rt; out[RESPONSE - 1] == 0xAA);
+    assert!(rt; out.len() == RESPONSE && out[RESPONSE - 1] == 0xAA);
 }

@@ -1,5 +1,5 @@
 // Tables of images, scripts and streams, each with what a run tells of it.
-use super::reports::run_over;
+use super::reports::{ends_so, ends_so_on_blank, run_over};
 use flt_code::seal;
 use flt_flash::{Flash, FlashMem};
 use flt_io::MemSink;
@@ -157,37 +157,34 @@ fn run_blank<R: Threads + Wait + Sync>(
     Ok((status, sink))
 }
 
-/// Over this flash, the command ends with this status and writes this.
+/// A script under a word over a blank flash writes this, and ends with this status.
+fn is_told_of_a_blank<R: Threads + Wait + Sync + Abort>(
+    rt: &R,
+    alloc: Global,
+    word: &str,
+    script: &[u8],
+    told: (u8, &str),
+) -> Result<(), Fail> {
+    ends_so_on_blank(rt, alloc, (&[word], script), (NONE, NONE), told)
+}
+
+/// A script over this flash writes this, and its run ends with this status.
 fn is_told<R: Threads + Wait + Sync + Abort>(
     rt: &R,
     alloc: Global,
     flash: FlashMem,
-    command: (&str, &[u8]),
-    told: &str,
-    status: u8,
+    script: &str,
+    told: (u8, &str),
 ) -> Result<(), Fail> {
-    let (ended, sink, _) = run_over(rt, flash, &[command.0], command.1, (NONE, NONE), alloc)?;
-    assert!(rt; sink.bytes() == told.as_bytes(), "{told}");
-    assert!(rt; ended == status, "{told}");
-    Ok(())
-}
-
-/// The same over a blank flash.
-fn is_told_of_a_blank<R: Threads + Wait + Sync + Abort>(
-    rt: &R,
-    alloc: Global,
-    command: (&str, &[u8]),
-    told: &str,
-    status: u8,
-) -> Result<(), Fail> {
-    is_told(
+    ends_so(
         rt,
         alloc,
-        FlashMem::blank(alloc, PAGES, BOOTS)?,
-        command,
+        flash,
+        (&["run"], script.as_bytes()),
+        (NONE, NONE),
         told,
-        status,
-    )
+    )?;
+    Ok(())
 }
 
 /// The pages of a flash, sector 0's first.
@@ -257,14 +254,7 @@ fn changed_images_are_told(rt: HostRuntime) -> Result<(), Fail> {
     for version in &VERSIONS {
         for (changes, told, status) in &IMAGES {
             let flash = image_with(&rt, alloc, version, changes)?;
-            is_told(
-                &rt,
-                alloc,
-                flash,
-                ("run", CONFIGURED.as_bytes()),
-                told,
-                *status,
-            )?;
+            is_told(&rt, alloc, flash, CONFIGURED, (*status, told))?;
         }
     }
     Ok(())
@@ -282,14 +272,7 @@ fn an_image_of_version_1_is_restored(rt: HostRuntime) -> Result<(), Fail> {
              save -> flash\nlife 2 generation {number}\n"
         )?;
         let flash = image_with(&rt, alloc, OLD, &[])?;
-        is_told(
-            &rt,
-            alloc,
-            flash,
-            ("run", script.as_bytes()),
-            told.as_str(),
-            0,
-        )?;
+        is_told(&rt, alloc, flash, script.as_str(), (0, told.as_str()))?;
     }
     Ok(())
 }
@@ -309,12 +292,12 @@ fn many_events_are_told(rt: HostRuntime) -> Result<(), Fail> {
     let alloc = rt.alloc();
     let mut script = event_lines(alloc, 256)?;
     let told = "ok events 256 entries 16 needed 334 pages 512 steps 0 lives 1\n";
-    is_told_of_a_blank(&rt, alloc, ("check", script.as_bytes()), told, 0)?;
+    is_told_of_a_blank(&rt, alloc, "check", script.as_bytes(), (0, told))?;
     script.push_str("t A 19 01 50\ncycle 0\nfail 200\nsave\npower\nt A 19 02 08\n")?;
     let told =
         "life 1 generation 0\nt A 19 01 50 -> 59 01 FF 01 01 00\ncycle 0 -> taken\nfail 200 -> taken\nsave -> 1\n\
                 life 2 generation 1\nt A 19 02 08 -> 59 02 FF 02 00 C8 2F\n";
-    is_told_of_a_blank(&rt, alloc, ("run", script.as_bytes()), told, 0)
+    is_told_of_a_blank(&rt, alloc, "run", script.as_bytes(), (0, told))
 }
 
 /// The words that read a script.
@@ -325,7 +308,7 @@ fn one_event_too_many_is_told(rt: HostRuntime) -> Result<(), Fail> {
     let more = event_lines(rt.alloc(), 257)?;
     for word in &READERS {
         let told = "script line 257 many\n";
-        is_told_of_a_blank(&rt, rt.alloc(), (word, more.as_bytes()), told, 2)?;
+        is_told_of_a_blank(&rt, rt.alloc(), word, more.as_bytes(), (2, told))?;
     }
     Ok(())
 }
@@ -334,7 +317,7 @@ fn one_event_too_many_is_told(rt: HostRuntime) -> Result<(), Fail> {
 fn scripts_are_refused(rt: HostRuntime) -> Result<(), Fail> {
     for word in &READERS {
         for (script, told) in &REFUSED {
-            is_told_of_a_blank(&rt, rt.alloc(), (word, script), told, 2)?;
+            is_told_of_a_blank(&rt, rt.alloc(), word, script, (2, told))?;
         }
     }
     Ok(())
@@ -345,7 +328,7 @@ fn large_scripts_are_refused(rt: HostRuntime) -> Result<(), Fail> {
     let mut large = Vec::new(rt.alloc());
     large.resize(TOO_MANY, b'#')?;
     for word in &READERS {
-        is_told_of_a_blank(&rt, rt.alloc(), (word, &large), "script line 0 large\n", 2)?;
+        is_told_of_a_blank(&rt, rt.alloc(), word, &large, (2, "script line 0 large\n"))?;
     }
     Ok(())
 }

@@ -1,6 +1,8 @@
 // Streams in memory that fail at given calls, and std's streams that stutter.
 use flt_io::{MemSink, MemSource, ReadSource, Sink, Source, WriteSink};
+use std::alloc::{AllocError, Global};
 use std::io::{self, ErrorKind, Read, Write};
+use std::process::Abort;
 use std::test::Fail;
 
 /// What a stuttering stream does at a call.
@@ -67,84 +69,110 @@ impl Write for Stuttering {
     }
 }
 
+/// Pulls three bytes at most at each call, which are so many, or none where it fails.
+fn pull_all<S: Source>(
+    rt: &impl Abort,
+    source: &mut S,
+    out: &mut [u8; 3],
+    wanted: &[Option<usize>],
+) {
+    for (at, count) in wanted.iter().enumerate() {
+        assert!(rt; source.pull(out).ok() == *count, "pull {at}");
+    }
+}
+
+/// Pushes these pieces, each of which is taken or not.
+fn push_all<K: Sink>(rt: &impl Abort, sink: &mut K, pieces: &[(&[u8], bool)]) {
+    for (at, (piece, is_taken)) in pieces.iter().enumerate() {
+        assert!(rt; sink.push(piece).is_ok() == *is_taken, "push {at}");
+    }
+}
+
+/// The second call fails, and the fourth finds the end.
+static PULLED: [Option<usize>; 4] = [Some(3), None, Some(2), Some(0)];
+
 #[test]
 fn memory_fails_at_the_given_calls(rt: HostRuntime) -> Result<(), Fail> {
-    let alloc = rt.alloc();
-    let bytes = vec![in alloc; 1, 2, 3, 4, 5]?;
-    let mut source = MemSource::new(bytes, vec![in alloc; 1]?);
+    let bytes = vec![in rt.alloc(); 1, 2, 3, 4, 5]?;
+    let mut source = MemSource::new(bytes, vec![in rt.alloc(); 1]?);
     let mut out = [0; 3];
-    assert!(rt; source.pull(&mut out).ok() == Some(3));
-    assert!(rt; source.pull(&mut out).ok() == None);
-    assert!(rt; source.pull(&mut out).ok() == Some(2));
+    pull_all(&rt, &mut source, &mut out, &PULLED);
     assert!(rt; out == [4, 5, 3]);
-    assert!(rt; source.pull(&mut out).ok() == Some(0));
     Ok(())
 }
 
+/// The second call fails, and the third has more than fits.
+static PUSHED: [(&[u8], bool); 4] = [(b"abc", true), (b"d", false), (b"de", false), (b"d", true)];
+
 #[test]
 fn memory_takes_what_fits_but_at_the_given_calls(rt: HostRuntime) -> Result<(), Fail> {
-    let alloc = rt.alloc();
-    let mut sink = MemSink::new(alloc, 4, vec![in alloc; 1]?)?;
-    assert!(rt; sink.push(b"abc").is_ok());
-    assert!(rt; sink.push(b"d").is_err());
-    assert!(rt; sink.push(b"de").is_err());
-    assert!(rt; sink.push(b"d").is_ok());
+    let mut sink = MemSink::new(rt.alloc(), 4, vec![in rt.alloc(); 1]?)?;
+    push_all(&rt, &mut sink, &PUSHED);
     assert!(rt; sink.bytes() == b"abcd".as_slice());
     Ok(())
 }
 
+/// An interruption, a byte, a broken pipe, and then all.
+static STUTTERS: [Turn; 3] = [
+    INTERRUPTED,
+    Turn::Moves(1),
+    Turn::Fails(ErrorKind::BrokenPipe),
+];
+
+static STUTTERED: [Option<usize>; 3] = [Some(1), None, Some(2)];
+
+/// A stream of these bytes and turns.
+fn stream_of(alloc: Global, bytes: &[u8], turns: &[Turn]) -> Result<Stuttering, AllocError> {
+    Ok(Stuttering::new(
+        Vec::from_slice(alloc, bytes)?,
+        Vec::from_slice(alloc, turns)?,
+    ))
+}
+
 #[test]
 fn sources_stutter(rt: HostRuntime) -> Result<(), Fail> {
-    let alloc = rt.alloc();
-    let bytes = vec![in alloc; 1, 2, 3]?;
-    let turns = vec![in alloc;
-        INTERRUPTED,
-        Turn::Moves(1),
-        Turn::Fails(ErrorKind::BrokenPipe),
-    ]?;
-    let mut source = ReadSource::new(Stuttering::new(bytes, turns));
+    let mut source = ReadSource::new(stream_of(rt.alloc(), &[1, 2, 3], &STUTTERS)?);
     let mut out = [0; 3];
-    assert!(rt; source.pull(&mut out).ok() == Some(1));
-    assert!(rt; source.pull(&mut out).ok() == None);
-    assert!(rt; source.pull(&mut out).ok() == Some(2));
+    pull_all(&rt, &mut source, &mut out, &STUTTERED);
     assert!(rt; out == [2, 3, 0]);
     Ok(())
 }
 
 #[test]
 fn sources_are_interrupted_too_often(rt: HostRuntime) -> Result<(), Fail> {
-    let alloc = rt.alloc();
-    let mut out = [0; 3];
-    let mut source = ReadSource::new(Stuttering::new(
-        Vec::new(alloc),
-        vec![in alloc; INTERRUPTED; 17]?,
-    ));
-    assert!(rt; source.pull(&mut out).ok() == None);
-    assert!(rt; source.pull(&mut out).ok() == Some(0));
+    let mut source = ReadSource::new(stream_of(rt.alloc(), &[], &[INTERRUPTED; 17])?);
+    pull_all(&rt, &mut source, &mut [0; 3], &[None, Some(0)]);
     Ok(())
 }
 
-/// A short write in mid-stream, and then a write of no byte.
-#[test]
-fn sinks_stutter(rt: HostRuntime) -> Result<(), Fail> {
-    let alloc = rt.alloc();
-    let turns = vec![in alloc; Turn::Moves(2), INTERRUPTED, Turn::Moves(2), Turn::Moves(0)]?;
-    let mut sink = WriteSink::new(Stuttering::new(Vec::new(alloc), turns));
-    assert!(rt; sink.push(b"abc").is_ok());
-    assert!(rt; sink.push(b"de").is_err());
-    assert!(rt; sink.push(b"fg").is_ok());
-    assert!(rt; sink.into_inner().bytes.as_slice() == b"abcfg".as_slice());
-    Ok(())
-}
+/// Turns of a sink, the pieces that it is given, each with whether it is taken, and what it has then.
+type Row = (
+    &'static [Turn],
+    &'static [(&'static [u8], bool)],
+    &'static [u8],
+);
 
-/// An error that is no interruption is a fault at once.
+static SINKS: [Row; 2] = [
+    // A short write in mid-stream, and then a write of no byte.
+    (
+        &[Turn::Moves(2), INTERRUPTED, Turn::Moves(2), Turn::Moves(0)],
+        &[(b"abc", true), (b"de", false), (b"fg", true)],
+        b"abcfg",
+    ),
+    // An error that is no interruption is a fault at once.
+    (
+        &[Turn::Fails(ErrorKind::BrokenPipe)],
+        &[(b"a", false), (b"b", true)],
+        b"b",
+    ),
+];
+
 #[test]
-fn sinks_break(rt: HostRuntime) -> Result<(), Fail> {
-    let alloc = rt.alloc();
-    let turns = vec![in alloc; Turn::Fails(ErrorKind::BrokenPipe)]?;
-    let mut sink = WriteSink::new(Stuttering::new(Vec::new(alloc), turns));
-    assert!(rt; sink.push(b"a").is_err());
-    assert!(rt; sink.push(b"b").is_ok());
-    assert!(rt; sink.into_inner().bytes.as_slice() == b"b".as_slice());
+fn sinks_stutter_and_break(rt: HostRuntime) -> Result<(), Fail> {
+    for (at, (turns, pieces, held)) in SINKS.iter().enumerate() {
+        let mut sink = WriteSink::new(stream_of(rt.alloc(), &[], turns)?);
+        push_all(&rt, &mut sink, pieces);
+        assert!(rt; sink.into_inner().bytes.as_slice() == *held, "sink {at}");
+    }
     Ok(())
 }

@@ -65,9 +65,5 @@ static CASES: [(&str, &str); 38] = [
 
 #[test]
 fn blocks_of_lanes(rt: HostRuntime) -> Result<(), Fail> {
-    for case in &CASES {
-        let told = outcome(rt.alloc(), case.0.as_bytes())?;
-        assert!(rt; told.as_str() == case.1, "{:?}", case.0);
-    }
-    Ok(())
+    all_are_told(&rt, rt.alloc(), &CASES)
 }

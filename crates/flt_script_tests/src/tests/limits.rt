@@ -50,19 +50,9 @@ fn limits(rt: HostRuntime) -> Result<(), Fail> {
     is_as_long(&rt, rt.alloc(), events(rt.alloc(), 256)?, 0)
 }
 
-#[test]
-fn lines_end_at_a_feed(rt: HostRuntime) -> Result<(), Fail> {
-    is_told(
-        &rt,
-        rt.alloc(),
-        repeated(rt.alloc(), "#", 512)?,
-        "\r\n#",
-        "",
-    )
-}
-
 /// Pieces that are repeated, what stands behind them, and what is told of both.
-static TOO_MANY: [(&str, usize, &str, &str); 20] = [
+static REPEATED: [(&str, usize, &str, &str); 25] = [
+    ("#", 512, "\r\n#", ""),
     ("#", 513, "", "script line 1 long"),
     ("#", 512, "\u{1}", "script line 1 long"),
     ("#", 1_048_577, "", "script line 0 large"),
@@ -103,6 +93,20 @@ static TOO_MANY: [(&str, usize, &str, &str); 20] = [
         "par\nlane\nend\nsave",
         "script line 65540 many",
     ),
+    ("drain\n", 1_024, "drain", "script line 1025 many"),
+    ("drain\n", 1_024, "power\ndrain", "script line 1026 many"),
+    (
+        "par\nlane\ndrain\nend\n",
+        1_024,
+        "drain",
+        "script line 4097 many",
+    ),
+    (
+        "drain\n",
+        1_024,
+        "par\nlane\nsave\nlane\ndrain",
+        "script line 1029 many",
+    ),
 ];
 
 /// A script with this behind it is told so.
@@ -122,20 +126,18 @@ fn is_told(
 }
 
 /// Each piece, repeated and with what stands behind it, is told as its case says.
-fn repeated_are_told(
-    rt: &impl Abort,
-    alloc: Global,
-    cases: &[(&str, usize, &str, &str)],
-) -> Result<(), Fail> {
-    for case in cases {
-        is_told(rt, alloc, repeated(alloc, case.0, case.1)?, case.2, case.3)?;
+#[test]
+fn repeated_pieces_are_told(rt: HostRuntime) -> Result<(), Fail> {
+    for case in &REPEATED {
+        is_told(
+            &rt,
+            rt.alloc(),
+            repeated(rt.alloc(), case.0, case.1)?,
+            case.2,
+            case.3,
+        )?;
     }
     Ok(())
-}
-
-#[test]
-fn one_too_many(rt: HostRuntime) -> Result<(), Fail> {
-    repeated_are_told(&rt, rt.alloc(), &TOO_MANY)
 }
 
 /// Behind as many events as there may be.
@@ -166,27 +168,4 @@ fn a_power_up_leaves_room_for_each_step(rt: HostRuntime) -> Result<(), Fail> {
     let mut script = repeated(rt.alloc(), "power\n", 255)?;
     script.push_str(repeated(rt.alloc(), "cycle 0\n", 65_536)?.as_str())?;
     is_as_long(&rt, rt.alloc(), script, 524_543)
-}
-
-/// The same of `drain`.
-static TOO_MANY_DRAINS: [(&str, usize, &str, &str); 4] = [
-    ("drain\n", 1_024, "drain", "script line 1025 many"),
-    ("drain\n", 1_024, "power\ndrain", "script line 1026 many"),
-    (
-        "par\nlane\ndrain\nend\n",
-        1_024,
-        "drain",
-        "script line 4097 many",
-    ),
-    (
-        "drain\n",
-        1_024,
-        "par\nlane\nsave\nlane\ndrain",
-        "script line 1029 many",
-    ),
-];
-
-#[test]
-fn one_drain_too_many(rt: HostRuntime) -> Result<(), Fail> {
-    repeated_are_told(&rt, rt.alloc(), &TOO_MANY_DRAINS)
 }

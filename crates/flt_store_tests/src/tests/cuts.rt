@@ -18,7 +18,7 @@ enum Call {
 }
 
 // The job behind its start-up: a save, 14 puts, of which the last switches the sectors, a save, and a start-up.
-const JOB: [Call; 17] = [
+static JOB: [Call; 17] = [
     Call::Save(FAILED),
     Call::Put(1),
     Call::Put(2),
@@ -40,7 +40,7 @@ const JOB: [Call; 17] = [
 
 // The job on an image of version 1 that holds generation 1, behind its start-up: a save, 14 puts, of which the tenth switches the sectors, a
 // save, and a start-up.
-const OLD_JOB: [Call; 17] = [
+static OLD_JOB: [Call; 17] = [
     Call::Save(PASSED),
     Call::Put(1),
     Call::Put(2),
@@ -266,7 +266,7 @@ static KINDS: [(Pattern, bool); 8] = [
 
 #[test]
 fn each_operation_is_cut_and_fails(rt: HostRuntime) -> Result<(), Fail> {
-    let config = configured(1, 1, 1)?;
+    let config = configured(&rt, 1, 1, 1);
     for (pattern, is_cut) in &KINDS {
         for after in 1..OPERATIONS + 2 {
             let made = arm_at(*is_cut, after, *pattern);
@@ -281,7 +281,7 @@ fn each_operation_is_cut_and_fails(rt: HostRuntime) -> Result<(), Fail> {
 // The start-up that writes the mark anew, and the saves that write a commit of version 2 beside one of version 1.
 #[test]
 fn each_operation_on_an_image_of_version_1_is_cut_and_fails(rt: HostRuntime) -> Result<(), Fail> {
-    let config = configured(1, 1, 1)?;
+    let config = configured(&rt, 1, 1, 1);
     for (pattern, is_cut) in &KINDS {
         for after in 1..OLD_OPERATIONS + 2 {
             let made = arm_at(*is_cut, after, *pattern);
@@ -295,7 +295,7 @@ fn each_operation_on_an_image_of_version_1_is_cut_and_fails(rt: HostRuntime) -> 
 
 #[test]
 fn each_write_to_an_eeprom_is_cut_and_fails(rt: HostRuntime) -> Result<(), Fail> {
-    let config = configured(1, 1, 1)?;
+    let config = configured(&rt, 1, 1, 1);
     for (pattern, is_cut) in &KINDS {
         for after in 1..WRITES + 2 {
             let made = arm_at(*is_cut, after, *pattern);

@@ -4,13 +4,25 @@ ghost use Rattle.flt_code.specs.Word.{IsWord};
 use super::rows::{image_of, put_page, saved_flash};
 use super::*;
 
-// A page all of whose bits are 0.
-const ZERO: [u8; 32] = [0; 32];
-
 // The first page of an entry of event 7, which occurred once.
-const FOREIGN_ENTRY: [u8; 32] = [
+static FOREIGN_ENTRY: [u8; 32] = [
     0, 7, 1, 0, 0, 0, 0, 0, 0, 0, 0, 0, 0, 0, 0, 0, 0, 0, 0, 0, 0, 0, 0, 0, 0, 0, 0, 0, 0, 0, 0, 0,
 ];
+
+// What is put on a page.
+#[derive(Clone, Copy)]
+enum Put {
+    Blank,
+    // All its bits are 0.
+    Zeros,
+    ForeignEntry,
+    // A start gate and an active gate of this number.
+    Start(u32),
+    Active(u32),
+    // The head of a record of a block that no image has, and the gate of that.
+    Head,
+    Gate,
+}
 
 // The page of a word.
 fn word(word: Word) -> [u8; 32]
@@ -19,49 +31,36 @@ fn word(word: Word) -> [u8; 32]
     seal(&put_word(&word))
 }
 
-fn start_gate(sequence: u32) -> [u8; 32] {
-    let pages = PAGES;
-    word(Word::Start { sequence, pages })
-}
-
-fn active_gate(sequence: u32) -> [u8; 32] {
-    word(Word::Active { sequence })
-}
-
-// What a start-up with room for so many entries tells of the image of a first save with two of its pages changed: the number of the
-// generation, whose state is the first one or the one that was saved.
-fn told_of(
-    rt: &impl Abort,
-    alloc: Global,
-    memory: u8,
-    first: (usize, [u8; 32]),
-    second: (usize, [u8; 32]),
-) -> Result<Result<u32, StartFault>, Fail> {
-    let config = configured(memory, 0, 1)?;
-    let mut image = image_of(alloc, &saved_flash(rt, alloc)?)?;
-    put_page(&mut image, first.0, first.1);
-    put_page(&mut image, second.0, second.1);
-    let mut store = store_over(alloc, FlashMem::of(alloc, image, 2)?, &config)?;
-    match start(&mut store, &config) {
-        Err(fault) => Ok(Err(fault)),
-        Ok((number, state)) => {
-            let saved = if number == 0 {
-                initial(&config)
-            } else {
-                failed()
-            };
-            assert!(rt; state == saved);
-            Ok(Ok(number))
-        }
+fn bytes_of(put: Put) -> [u8; 32] {
+    match put {
+        Put::Blank => BLANK_PAGE,
+        Put::Zeros => [0; 32],
+        Put::ForeignEntry => FOREIGN_ENTRY,
+        Put::Start(sequence) => word(Word::Start {
+            sequence,
+            pages: PAGES,
+        }),
+        Put::Active(sequence) => word(Word::Active { sequence }),
+        Put::Head => word(Word::Head {
+            block: 9,
+            length: 8,
+            valid: true,
+            page: 2,
+        }),
+        Put::Gate => word(Word::Gate { block: 9, page: 2 }),
     }
 }
 
-fn page(sector: u8, page: u16) -> Result<u32, StartFault> {
-    Err(StartFault::Damaged(Place::Page { sector, page }))
-}
-
-fn block(id: u16) -> Result<u32, StartFault> {
-    Err(StartFault::Damaged(Place::Block { id }))
+// What a start-up is to tell: the number of its generation, or its fault.
+#[derive(Clone, Copy)]
+enum Told {
+    Number(u32),
+    // A page of a sector, or a block, is damaged.
+    Page(u8, u16),
+    Block(u16),
+    Spent,
+    // The image has room for one entry, and two are wanted.
+    OtherRoom,
 }
 
 // The mark of a configuration of one event.
@@ -73,58 +72,85 @@ fn mark(entries: u8) -> Mark {
     }
 }
 
-#[test]
-fn a_changed_page_is_told(rt: HostRuntime) -> Result<(), Fail> {
-    let head = word(Word::Head {
-        block: 9,
-        length: 8,
-        valid: true,
-        page: 2,
-    });
-    let gate = word(Word::Gate { block: 9, page: 2 });
-    for (at, bytes, told) in [
-        (0, ZERO, page(0, 0)),
-        (1, active_gate(2), page(0, 1)),
-        (2, head, page(0, 2)),
-        (4, gate, page(0, 4)),
-        (4, ZERO, block(1)),
-        (13, FOREIGN_ENTRY, block(8)),
-        (19, ZERO, Ok(1)),
-        (23, ZERO, Ok(1)),
-        (63, ZERO, page(0, 63)),
-    ] {
-        let changed = (at, bytes);
-        assert!(&rt;
-            told_of(&rt, rt.alloc(), 1, changed, changed)? == told,
-            "{at}"
-        );
+fn answer(told: Told) -> Result<u32, StartFault> {
+    match told {
+        Told::Number(number) => Ok(number),
+        Told::Page(sector, page) => Err(StartFault::Damaged(Place::Page { sector, page })),
+        Told::Block(id) => Err(StartFault::Damaged(Place::Block { id })),
+        Told::Spent => Err(StartFault::SequenceSpent),
+        Told::OtherRoom => Err(StartFault::OtherConfig {
+            found: mark(1),
+            wanted: mark(2),
+        }),
     }
-    Ok(())
 }
 
-// Both copies of the commit are missing; both sectors are valid under one number; the last sequence number is in use; the image is
-// another configuration's.
+// How many entries there is room for, two pages of the image of a first save that are changed, and what a start-up tells then.
+type Row = (u8, (usize, Put), (usize, Put), Told);
+
+static IMAGES: [Row; 13] = [
+    (1, (0, Put::Zeros), (0, Put::Zeros), Told::Page(0, 0)),
+    (
+        1,
+        (1, Put::Active(2)),
+        (1, Put::Active(2)),
+        Told::Page(0, 1),
+    ),
+    (1, (2, Put::Head), (2, Put::Head), Told::Page(0, 2)),
+    (1, (4, Put::Gate), (4, Put::Gate), Told::Page(0, 4)),
+    (1, (4, Put::Zeros), (4, Put::Zeros), Told::Block(1)),
+    (
+        1,
+        (13, Put::ForeignEntry),
+        (13, Put::ForeignEntry),
+        Told::Block(8),
+    ),
+    (1, (19, Put::Zeros), (19, Put::Zeros), Told::Number(1)),
+    (1, (23, Put::Zeros), (23, Put::Zeros), Told::Number(1)),
+    (1, (63, Put::Zeros), (63, Put::Zeros), Told::Page(0, 63)),
+    // Both copies of the commit are missing.
+    (1, (19, Put::Zeros), (22, Put::Zeros), Told::Number(0)),
+    // Both sectors are valid under one number.
+    (
+        1,
+        (64, Put::Start(1)),
+        (65, Put::Active(1)),
+        Told::Page(1, 0),
+    ),
+    // The last sequence number is in use.
+    (
+        1,
+        (0, Put::Start(u32::MAX)),
+        (1, Put::Active(u32::MAX)),
+        Told::Spent,
+    ),
+    // The image is another configuration's.
+    (2, (63, Put::Blank), (63, Put::Blank), Told::OtherRoom),
+];
+
+// What a start-up tells of the image of a row: the number of the generation, whose state is the first one or the one that was saved.
+fn told_of(rt: &impl Abort, alloc: Global, row: Row) -> Result<Result<u32, StartFault>, Fail> {
+    let (memory, first, second, _) = row;
+    let config = configured(rt, memory, 0, 1);
+    let mut image = image_of(alloc, &saved_flash(rt, alloc)?)?;
+    put_page(&mut image, first.0, bytes_of(first.1));
+    put_page(&mut image, second.0, bytes_of(second.1));
+    let mut store = store_over(alloc, FlashMem::of(alloc, image, 2)?, &config)?;
+    match start(&mut store, &config) {
+        Err(fault) => Ok(Err(fault)),
+        Ok((number, state)) => {
+            assert!(rt; number != 0 || state == initial(&config));
+            assert!(rt; number == 0 || state == failed());
+            Ok(Ok(number))
+        }
+    }
+}
+
 #[test]
-fn changed_gates_and_another_configuration_are_told(rt: HostRuntime) -> Result<(), Fail> {
-    let spent = Err(StartFault::SequenceSpent);
-    let (found, wanted) = (mark(1), mark(2));
-    let other = Err(StartFault::OtherConfig { found, wanted });
-    for (memory, first, second, told) in [
-        (1, (19, ZERO), (22, ZERO), Ok(0)),
-        (1, (64, start_gate(1)), (65, active_gate(1)), page(1, 0)),
-        (
-            1,
-            (0, start_gate(u32::MAX)),
-            (1, active_gate(u32::MAX)),
-            spent,
-        ),
-        (2, (63, BLANK_PAGE), (63, BLANK_PAGE), other),
-    ] {
-        let at = first.0;
-        assert!(&rt;
-            told_of(&rt, rt.alloc(), memory, first, second)? == told,
-            "{at}"
-        );
+fn changed_images_are_told(rt: HostRuntime) -> Result<(), Fail> {
+    for row in &IMAGES {
+        let told = told_of(&rt, rt.alloc(), *row)?;
+        assert!(rt; told == answer(row.3), "page {}: {told:?}", row.1.0);
     }
     Ok(())
 }

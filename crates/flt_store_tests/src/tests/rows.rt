@@ -2,6 +2,7 @@
 ghost use Rattle.std.specs.Prelude.{◌≡◌, IfOk, vec_len};
 ghost use Rattle.flt_nvm.specs.Driver.{table_of};
 ghost use Rattle.flt_image.specs.Table.{block_table};
+ghost use Rattle.flt_store_tests.specs.Room.{IsRoomy, SameRoom};
 
 use super::steps::{Step, play, play_on};
 use super::*;
@@ -34,141 +35,61 @@ fn is_record(flash: &FlashMem, page: u16, block: u16, length: u16) -> bool {
     word_on(flash, page) == Some(head) && word_on(flash, end) == Some(Word::Gate { block, page })
 }
 
-// Faults at a program or erase by its number, which takes no effect.
-const FAULT_1: Step = Step::Arm(Arm::Fault {
-    after: 1,
-    pattern: Pattern::Nothing,
-});
-
-const FAULT_2: Step = Step::Arm(Arm::Fault {
-    after: 2,
-    pattern: Pattern::Nothing,
-});
-
-const FAULT_3: Step = Step::Arm(Arm::Fault {
-    after: 3,
-    pattern: Pattern::Nothing,
-});
-
-const FAULT_7: Step = Step::Arm(Arm::Fault {
-    after: 7,
-    pattern: Pattern::Nothing,
-});
-
-const FAULT_18: Step = Step::Arm(Arm::Fault {
-    after: 18,
-    pattern: Pattern::Nothing,
-});
-
-const FAULT_19: Step = Step::Arm(Arm::Fault {
-    after: 19,
-    pattern: Pattern::Nothing,
-});
-
-// Cuts at a program, which takes no effect or the whole one.
-const CUT_1: Step = Step::Arm(Arm::Cut {
-    after: 1,
-    pattern: Pattern::Nothing,
-});
-
-const CUT_4: Step = Step::Arm(Arm::Cut {
-    after: 4,
-    pattern: Pattern::Nothing,
-});
-
-const CUT_7: Step = Step::Arm(Arm::Cut {
-    after: 7,
-    pattern: Pattern::Nothing,
-});
-
-const CUT_15: Step = Step::Arm(Arm::Cut {
-    after: 15,
-    pattern: Pattern::Nothing,
-});
-
-const CUT_18: Step = Step::Arm(Arm::Cut {
-    after: 18,
-    pattern: Pattern::Nothing,
-});
-
-const CUT_21: Step = Step::Arm(Arm::Cut {
-    after: 21,
-    pattern: Pattern::Nothing,
-});
-
-const CUT_15_ALL: Step = Step::Arm(Arm::Cut {
-    after: 15,
-    pattern: Pattern::All,
-});
-
-// Pages of sector 0 that can't be read, by the page and how often.
-const MUTE_9_3: Step = Step::Arm(Arm::Mute {
-    sector: 0,
-    page: 9,
-    times: 3,
-});
-
-const MUTE_10_3: Step = Step::Arm(Arm::Mute {
-    sector: 0,
-    page: 10,
-    times: 3,
-});
-
-const MUTE_18_3: Step = Step::Arm(Arm::Mute {
-    sector: 0,
-    page: 18,
-    times: 3,
-});
-
-const MUTE_18_6: Step = Step::Arm(Arm::Mute {
-    sector: 0,
-    page: 18,
-    times: 6,
-});
-
-const MUTE_18_9: Step = Step::Arm(Arm::Mute {
-    sector: 0,
-    page: 18,
-    times: 9,
-});
-
-const MUTE_31_3: Step = Step::Arm(Arm::Mute {
-    sector: 0,
-    page: 31,
-    times: 3,
-});
-
-const MUTE_46_3: Step = Step::Arm(Arm::Mute {
-    sector: 0,
-    page: 46,
-    times: 3,
-});
-
 // The answer of a save that the flash stops.
 const FLASH: Result<u32, SaveFault> = Err(SaveFault::Flash);
 
-// Steps on a blank flash, and what stands on sector 0 behind them: a page, a block, a length, and whether a complete record of that
-// begins there.
-type Row = (&'static [Step], &'static [(u16, u16, u16, bool)]);
+// A first save of the second state.
+const SAVED: &[Step] = &[Step::Save(1, Ok(1))];
+
+// It, and a save of the third state.
+const SAVED_TWICE: &[Step] = &[Step::Save(1, Ok(1)), Step::Save(2, Ok(2))];
+
+// It, and such a save that fails at each of its three tries.
+const SAVED_AND_FAILED: &[Step] = &[
+    Step::Save(1, Ok(1)),
+    Step::Fault(1),
+    Step::Fault(2),
+    Step::Fault(3),
+    Step::Save(2, FLASH),
+];
+
+// The records of the states of the first save, and of the second copy of the second commit.
+const OLD_STATES: &[Record] = &[(8, 32, 64, true), (30, 17, 10, true)];
+
+// A page, a block, a length, and whether a complete record of that begins there.
+type Record = (u16, u16, u16, bool);
+
+// Steps on a blank flash, further ones, and what stands on sector 0 behind them.
+type Row = (&'static [Step], &'static [Step], &'static [Record]);
 
 // A flash after a start-up and the first save of an event that failed.
 pub(super) fn saved_flash(rt: &impl Abort, alloc: Global) -> Result<FlashMem, Fail> {
-    let config = configured(1, 0, 1)?;
-    play(rt, alloc, &config, &[failed()], &[Step::Save(0, Ok(1))])
+    let config = configured(rt, 1, 0, 1);
+    play(
+        rt,
+        alloc,
+        &config,
+        &[failed()],
+        &[Step::Save(0, Ok(1))],
+        &[],
+    )
 }
+
+// The records of the first save: a page, a block and a length.
+static FIRST_SAVE: [(u16, u16, u16); 6] = [
+    (2, 8, 8),
+    (5, 24, 32),
+    (8, 32, 64),
+    (12, 64, 68),
+    (17, 16, 10),
+    (20, 17, 10),
+];
 
 #[test]
 fn the_first_save_writes_each_block_once(rt: HostRuntime) -> Result<(), Fail> {
     let flash = saved_flash(&rt, rt.alloc())?;
-    for (page, block, length) in [
-        (2, 8, 8),
-        (5, 24, 32),
-        (8, 32, 64),
-        (12, 64, 68),
-        (17, 16, 10),
-        (20, 17, 10),
-    ] {
-        assert!(&rt; is_record(&flash, page, block, length), "{page}");
+    for (page, block, length) in &FIRST_SAVE {
+        assert!(&rt; is_record(&flash, *page, *block, *length), "{page}");
     }
     assert!(&rt; page_of(&flash, 0, 23) == BLANK_PAGE);
     Ok(())
@@ -182,28 +103,42 @@ fn the_first_save_writes_each_block_once(rt: HostRuntime) -> Result<(), Fail> {
 // after a failed one compares with what stands, and makes 6 again.
 static ROWS: [Row; 18] = [
     // The programs of the first save.
-    (&[FAULT_1, Step::Save(1, Ok(1)), Step::Armed(0)], &[]),
-    (&[FAULT_18, Step::Save(1, Ok(1)), Step::Armed(0)], &[]),
-    (&[FAULT_19, Step::Save(1, Ok(1)), Step::Armed(1)], &[]),
-    // The gate of the first copy decides.
-    (&[CUT_15, Step::Save(1, FLASH), Step::Life(0, 0)], &[]),
-    (&[CUT_15_ALL, Step::Save(1, FLASH), Step::Life(1, 1)], &[]),
     (
-        &[
-            FAULT_1,
-            FAULT_2,
-            FAULT_3,
-            Step::Save(1, FLASH),
-            Step::Save(1, Ok(1)),
-            Step::Life(1, 1),
-        ],
+        &[Step::Fault(1)],
+        &[Step::Save(1, Ok(1)), Step::Armed(0)],
+        &[],
+    ),
+    (
+        &[Step::Fault(18)],
+        &[Step::Save(1, Ok(1)), Step::Armed(0)],
+        &[],
+    ),
+    (
+        &[Step::Fault(19)],
+        &[Step::Save(1, Ok(1)), Step::Armed(1)],
+        &[],
+    ),
+    // The gate of the first copy decides.
+    (
+        &[Step::Cut(15, Pattern::Nothing)],
+        &[Step::Save(1, FLASH), Step::Life(0, 0)],
+        &[],
+    ),
+    (
+        &[Step::Cut(15, Pattern::All)],
+        &[Step::Save(1, FLASH), Step::Life(1, 1)],
+        &[],
+    ),
+    (
+        &[Step::Fault(1), Step::Fault(2), Step::Fault(3)],
+        &[Step::Save(1, FLASH), Step::Save(1, Ok(1)), Step::Life(1, 1)],
         &[],
     ),
     // A muted first copy stops no start-up, and is written anew by the second one where that needs it.
     (
+        SAVED,
         &[
-            Step::Save(1, Ok(1)),
-            MUTE_18_3,
+            Step::Mute(18, 3),
             Step::Life(1, 1),
             Step::Armed(0),
             Step::Life(1, 1),
@@ -211,9 +146,9 @@ static ROWS: [Row; 18] = [
         &[(23, 16, 10, false)],
     ),
     (
+        SAVED,
         &[
-            Step::Save(1, Ok(1)),
-            MUTE_18_6,
+            Step::Mute(18, 6),
             Step::Life(1, 1),
             Step::Armed(0),
             Step::Life(1, 1),
@@ -221,9 +156,9 @@ static ROWS: [Row; 18] = [
         &[(23, 16, 10, true)],
     ),
     (
+        SAVED,
         &[
-            Step::Save(1, Ok(1)),
-            MUTE_18_9,
+            Step::Mute(18, 9),
             Step::Life(1, 1),
             Step::Armed(1),
             Step::Life(1, 1),
@@ -232,13 +167,9 @@ static ROWS: [Row; 18] = [
     ),
     // Nor does it stop a save after a failed one.
     (
+        SAVED_AND_FAILED,
         &[
-            Step::Save(1, Ok(1)),
-            FAULT_1,
-            FAULT_2,
-            FAULT_3,
-            Step::Save(2, FLASH),
-            MUTE_18_3,
+            Step::Mute(18, 3),
             Step::Save(2, Ok(2)),
             Step::Armed(0),
             Step::Life(2, 2),
@@ -246,13 +177,9 @@ static ROWS: [Row; 18] = [
         &[],
     ),
     (
+        SAVED_AND_FAILED,
         &[
-            Step::Save(1, Ok(1)),
-            FAULT_1,
-            FAULT_2,
-            FAULT_3,
-            Step::Save(2, FLASH),
-            MUTE_18_6,
+            Step::Mute(18, 6),
             Step::Save(2, Ok(2)),
             Step::Armed(0),
             Step::Life(2, 2),
@@ -260,13 +187,9 @@ static ROWS: [Row; 18] = [
         &[],
     ),
     (
+        SAVED_AND_FAILED,
         &[
-            Step::Save(1, Ok(1)),
-            FAULT_1,
-            FAULT_2,
-            FAULT_3,
-            Step::Save(2, FLASH),
-            MUTE_18_9,
+            Step::Mute(18, 9),
             Step::Save(2, Ok(2)),
             Step::Armed(1),
             Step::Life(2, 2),
@@ -275,64 +198,35 @@ static ROWS: [Row; 18] = [
     ),
     // Pages that no generation needs may be worn.
     (
-        &[
-            Step::Save(1, Ok(1)),
-            Step::Save(2, Ok(2)),
-            MUTE_9_3,
-            Step::Life(2, 2),
-            Step::Armed(1),
-        ],
-        &[(8, 32, 64, true), (30, 17, 10, true)],
+        SAVED_TWICE,
+        &[Step::Mute(9, 3), Step::Life(2, 2), Step::Armed(1)],
+        OLD_STATES,
     ),
     (
-        &[
-            Step::Save(1, Ok(1)),
-            Step::Save(2, Ok(2)),
-            MUTE_10_3,
-            Step::Life(2, 2),
-            Step::Armed(1),
-        ],
-        &[(8, 32, 64, true), (30, 17, 10, true)],
+        SAVED_TWICE,
+        &[Step::Mute(10, 3), Step::Life(2, 2), Step::Armed(1)],
+        OLD_STATES,
     ),
     (
-        &[
-            Step::Save(1, Ok(1)),
-            Step::Save(2, Ok(2)),
-            MUTE_31_3,
-            Step::Life(2, 2),
-            Step::Armed(0),
-        ],
-        &[(8, 32, 64, true), (30, 17, 10, true)],
+        SAVED_TWICE,
+        &[Step::Mute(31, 3), Step::Life(2, 2), Step::Armed(0)],
+        OLD_STATES,
     ),
     // Blocks that stay are not written.
     (
-        &[
-            Step::Save(0, Ok(1)),
-            CUT_7,
-            Step::Save(0, Ok(2)),
-            Step::Save(0, FLASH),
-            Step::Life(2, 0),
-        ],
+        &[Step::Save(0, Ok(1)), Step::Cut(7, Pattern::Nothing)],
+        &[Step::Save(0, Ok(2)), Step::Save(0, FLASH), Step::Life(2, 0)],
         &[],
     ),
     (
-        &[
-            Step::Save(0, Ok(1)),
-            CUT_18,
-            Step::Save(1, FLASH),
-            Step::Save(1, FLASH),
-            Step::Life(2, 1),
-        ],
+        &[Step::Save(0, Ok(1)), Step::Cut(18, Pattern::Nothing)],
+        &[Step::Save(1, FLASH), Step::Save(1, FLASH), Step::Life(2, 1)],
         &[],
     ),
     (
+        SAVED_AND_FAILED,
         &[
-            Step::Save(1, Ok(1)),
-            FAULT_1,
-            FAULT_2,
-            FAULT_3,
-            Step::Save(2, FLASH),
-            FAULT_7,
+            Step::Fault(7),
             Step::Save(1, Ok(2)),
             Step::Armed(1),
             Step::Life(2, 1),
@@ -342,7 +236,7 @@ static ROWS: [Row; 18] = [
 ];
 
 // Whether the flash has these records, and has not those that are not to stand.
-fn are_records(flash: &FlashMem, records: &[(u16, u16, u16, bool)]) -> bool {
+fn are_records(flash: &FlashMem, records: &[Record]) -> bool {
     for (page, block, length, stands) in records {
         if is_record(flash, *page, *block, *length) != *stands {
             return false;
@@ -359,50 +253,45 @@ fn play_all(
     states: &[Persist],
     rows: &[Row],
 ) -> Result<(), Fail> {
-    for (steps, records) in rows {
-        let flash = play(rt, alloc, config, states, steps)?;
-        assert!(rt; are_records(&flash, records));
+    for (at, (first, rest, records)) in rows.iter().enumerate() {
+        let flash = play(rt, alloc, config, states, first, rest)?;
+        assert!(rt; are_records(&flash, records), "row {at}");
     }
     Ok(())
 }
 
 #[test]
 fn saves_of_one_event_go_as_written(rt: HostRuntime) -> Result<(), Fail> {
-    let config = configured(1, 0, 1)?;
+    let config = configured(&rt, 1, 0, 1);
     let states = [initial(&config), failed(), state(&[PASSED], &[1])];
     play_all(&rt, rt.alloc(), &config, &states, &ROWS)
 }
+
+// A save of the first state, and one of the second that is cut.
+const SECOND_CUT: &[Step] = &[
+    Step::Save(0, Ok(1)),
+    Step::Cut(21, Pattern::Nothing),
+    Step::Save(1, FLASH),
+];
 
 // Rows of two events. The second save is cut at the head of the second copy of its commit. Where the first copy is muted then, both
 // lives after it have the generation before.
 static ROWS_OF_TWO: [Row; 2] = [
     (
-        &[
-            Step::Save(0, Ok(1)),
-            CUT_21,
-            Step::Save(1, FLASH),
-            MUTE_46_3,
-            Step::Life(1, 0),
-            Step::Life(1, 0),
-        ],
+        SECOND_CUT,
+        &[Step::Mute(46, 3), Step::Life(1, 0), Step::Life(1, 0)],
         &[(45, 16, 10, true)],
     ),
     (
-        &[
-            Step::Save(0, Ok(1)),
-            CUT_21,
-            Step::Save(1, FLASH),
-            Step::Armed(0),
-            Step::Life(2, 1),
-            Step::Life(2, 1),
-        ],
+        SECOND_CUT,
+        &[Step::Armed(0), Step::Life(2, 1), Step::Life(2, 1)],
         &[(45, 16, 10, true)],
     ),
 ];
 
 #[test]
 fn a_muted_first_copy_gives_the_generation_before(rt: HostRuntime) -> Result<(), Fail> {
-    let config = configured(2, 0, 2)?;
+    let config = configured(&rt, 2, 0, 2);
     let states = [
         state(&[FAILED, NOT_TESTED], &[1]),
         state(&[FAILED, FAILED], &[2, 1]),
@@ -467,15 +356,23 @@ fn read_and_repair<B: Blocks + Drop>(rt: &impl Abort, nvm: &mut Nvm<B>) -> Resul
 
 #[test]
 fn a_missing_first_copy_is_repaired(rt: HostRuntime) -> Result<(), Fail> {
-    let config = configured(1, 0, 1)?;
+    let config = configured(&rt, 1, 0, 1);
     let flash = without_first_copy(&rt, rt.alloc())?;
     read_and_repair(&rt, &mut blocks_over(rt.alloc(), flash, &config)?)
+}
+
+// Whether a start-up answers that it can tell nothing.
+fn is_dark<B: Blocks + Drop>(store: &mut Store<B>, config: &ValidConfig) -> bool
+    requires { IsRoomy config.now store.old }
+    ensures { SameRoom store.old store.new }
+{
+    matches!(start(store, config), Err(StartFault::Flash))
 }
 
 // With the second copy muted a start-up can tell nothing, and the next one restores by it.
 #[test]
 fn a_missing_first_copy_beside_a_muted_one_is_dark(rt: HostRuntime) -> Result<(), Fail> {
-    let config = configured(1, 0, 1)?;
+    let config = configured(&rt, 1, 0, 1);
     let flash = without_first_copy(&rt, rt.alloc())?;
     let mut store = store_over(rt.alloc(), flash, &config)?;
     let mute = Arm::Mute {
@@ -484,9 +381,8 @@ fn a_missing_first_copy_beside_a_muted_one_is_dark(rt: HostRuntime) -> Result<()
         times: 3,
     };
     arm(&rt, &mut store, mute);
-    assert!(&rt; start(&mut store, &config) == Err(StartFault::Flash));
-    assert!(&rt; start(&mut store, &config)? == (1, failed()));
-    Ok(())
+    assert!(&rt; is_dark(&mut store, &config));
+    play_on(&rt, &mut store, &config, (1, failed()), &[], &[])
 }
 
 // Gives a page of a commit the number 2^32 - 1.
@@ -510,7 +406,7 @@ static LAST: [Step; 2] = [
 
 #[test]
 fn the_last_generation_is_not_followed(rt: HostRuntime) -> Result<(), Fail> {
-    let config = configured(1, 0, 1)?;
+    let config = configured(&rt, 1, 0, 1);
     let mut image = image_of(rt.alloc(), &saved_flash(&rt, rt.alloc())?)?;
     name_last(&mut image, 18);
     name_last(&mut image, 21);
@@ -522,12 +418,12 @@ fn the_last_generation_is_not_followed(rt: HostRuntime) -> Result<(), Fail> {
 
 #[test]
 fn an_application_block_is_missing_until_it_is_put(rt: HostRuntime) -> Result<(), Fail> {
-    let config = configured(1, 1, 1)?;
+    let config = configured(&rt, 1, 1, 1);
     let mut store = blank_store(rt.alloc(), &config)?;
     start(&mut store, &config)?;
-    assert!(&rt; get(&rt, &mut store, &config)? == None);
+    assert!(&rt; get(&rt, &mut store, &config) == Ok(None));
     assert!(&rt; put(&rt, &mut store, &config, 1) == Ok(()));
-    assert!(&rt; get(&rt, &mut store, &config)? == Some(1));
+    assert!(&rt; get(&rt, &mut store, &config) == Ok(Some(1)));
     Ok(())
 }
 
@@ -581,13 +477,13 @@ pub(super) fn of_version_1(rt: &impl Abort, alloc: Global) -> Result<FlashMem, F
 // commit stands in version 2 and the second still names the generation before in version 1.
 static OLD_ROWS: [[Step; 4]; 2] = [
     [
-        CUT_1,
+        Step::Cut(1, Pattern::Nothing),
         Step::Save(0, FLASH),
         Step::Life(1, 0),
         Step::Save(0, Ok(2)),
     ],
     [
-        CUT_4,
+        Step::Cut(4, Pattern::Nothing),
         Step::Save(0, FLASH),
         Step::Life(2, 0),
         Step::Save(0, Ok(3)),
@@ -596,7 +492,7 @@ static OLD_ROWS: [[Step; 4]; 2] = [
 
 #[test]
 fn an_image_of_version_1_is_restored(rt: HostRuntime) -> Result<(), Fail> {
-    let config = configured(1, 0, 1)?;
+    let config = configured(&rt, 1, 0, 1);
     for steps in &OLD_ROWS {
         let flash = of_version_1(&rt, rt.alloc())?;
         let mut store = store_over(rt.alloc(), flash, &config)?;

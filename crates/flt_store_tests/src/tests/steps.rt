@@ -1,5 +1,5 @@
 // Worked examples as lists of steps over a list of states.
-ghost use Rattle.std.specs.Prelude.{OnOk};
+ghost use Rattle.std.specs.Prelude.{IfOk, IsTrue, OnOk};
 ghost use Rattle.flt_store.specs.Store.{IsAlive};
 ghost use Rattle.flt_store_tests.specs.Room.{IsRoomy, SameRoom};
 
@@ -8,7 +8,12 @@ use super::*;
 // A step of a worked example. A state is told by its place in the example's list.
 #[derive(Clone, Copy)]
 pub(super) enum Step {
-    Arm(Arm),
+    // The program or erase of this number fails, and takes no effect.
+    Fault(u32),
+    // It is cut so.
+    Cut(u32, Pattern),
+    // This page of sector 0 can't be read, so often.
+    Mute(u16, u16),
     // A save of this state answers so.
     Save(usize, Result<u32, SaveFault>),
     // So many arms stand.
@@ -24,36 +29,82 @@ fn state_at(states: &[Persist], place: usize) -> Result<&Persist, Fail> {
     }
 }
 
-// Takes a step, which has to go as it says.
+// Turns the power on again and starts up, and tells whether that answers this number and state.
+fn lives<B: Blocks + Drop>(
+    store: &mut Store<B>,
+    config: &ValidConfig,
+    number: u32,
+    state: &Persist,
+) -> bool
+    requires { IsRoomy config.now store.old }
+    ensures alive { IsTrue result → IsAlive config.now store.new }
+    ensures room { SameRoom store.old store.new }
+{
+    power_up(store);
+    match start(store, config) {
+        Err(_) => false,
+        Ok((found, told)) => found == number && told == *state,
+    }
+}
+
+// Takes a step, and tells whether it goes as it says.
 fn take<B: Blocks + Drop>(
     rt: &impl Abort,
     store: &mut Store<B>,
     config: &ValidConfig,
     states: &[Persist],
     step: Step,
+) -> Result<bool, Fail>
+    requires alive { IsAlive config.now store.old }
+    requires room { IsRoomy config.now store.old }
+    ensures alive { IfOk result (λ goes. IsTrue goes → IsAlive config.now store.new) }
+    ensures room { SameRoom store.old store.new }
+{
+    let pattern = Pattern::Nothing;
+    let sector = 0;
+    match step {
+        Step::Fault(after) => arm(rt, store, Arm::Fault { after, pattern }),
+        Step::Cut(after, pattern) => arm(rt, store, Arm::Cut { after, pattern }),
+        Step::Mute(page, times) => arm(
+            rt,
+            store,
+            Arm::Mute {
+                sector,
+                page,
+                times,
+            },
+        ),
+        Step::Save(place, answer) => {
+            return Ok(save(rt, store, config, state_at(states, place)?) == answer);
+        }
+        Step::Armed(count) => return Ok(store.armed() == count),
+        Step::Life(number, place) => {
+            return Ok(lives(store, config, number, state_at(states, place)?));
+        }
+    }
+    Ok(true)
+}
+
+// Takes the steps one after the other, each of which has to go as it says.
+fn take_all<B: Blocks + Drop>(
+    rt: &impl Abort,
+    store: &mut Store<B>,
+    config: &ValidConfig,
+    states: &[Persist],
+    steps: &[Step],
 ) -> Result<(), Fail>
     requires alive { IsAlive config.now store.old }
     requires room { IsRoomy config.now store.old }
     ensures alive { OnOk result (IsAlive config.now store.new) }
     ensures room { SameRoom store.old store.new }
 {
-    match step {
-        Step::Arm(made) => arm(rt, store, made),
-        Step::Save(place, answer) => {
-            let state = state_at(states, place)?;
-            assert!(rt; save(rt, store, config, state) == answer);
-        }
-        Step::Armed(count) => assert!(rt; store.armed() == count),
-        Step::Life(number, place) => {
-            power_up(store);
-            let (found, state) = start(store, config)?;
-            assert!(rt; found == number && state == *state_at(states, place)?);
-        }
+    for (at, step) in steps.iter().enumerate() {
+        assert!(rt; take(rt, store, config, states, *step)?, "step {at}");
     }
     Ok(())
 }
 
-// Starts up, which has to answer this number and state, and takes the steps one after the other.
+// Starts up, which has to answer this number and state, and takes the steps.
 pub(super) fn play_on<B: Blocks + Drop>(
     rt: &impl Abort,
     store: &mut Store<B>,
@@ -63,23 +114,24 @@ pub(super) fn play_on<B: Blocks + Drop>(
     steps: &[Step],
 ) -> Result<(), Fail>
     requires { IsRoomy config.now store.old }
+    ensures alive { OnOk result (IsAlive config.now store.new) }
+    ensures room { SameRoom store.old store.new }
 {
     assert!(rt; start(store, config)? == first);
-    for step in steps {
-        take(rt, store, config, states, *step)?;
-    }
-    Ok(())
+    take_all(rt, store, config, states, steps)
 }
 
-// Takes the steps on a store over a blank flash; the flash comes back.
+// Takes the first steps and then the rest on a store over a blank flash; the flash comes back.
 pub(super) fn play(
     rt: &impl Abort,
     alloc: Global,
     config: &ValidConfig,
     states: &[Persist],
-    steps: &[Step],
+    first: &[Step],
+    rest: &[Step],
 ) -> Result<FlashMem, Fail> {
     let mut store = blank_store(alloc, config)?;
-    play_on(rt, &mut store, config, (0, initial(config)), states, steps)?;
+    play_on(rt, &mut store, config, (0, initial(config)), states, first)?;
+    take_all(rt, &mut store, config, states, rest)?;
     Ok(store.retire().retire())
 }

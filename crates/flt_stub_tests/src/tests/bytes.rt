@@ -1,4 +1,9 @@
 //! The bytes of each block written out by hand, what is read back of them, and what is refused.
+ghost use Rattle.std.specs.Prelude.{◌<◌, IsTrue};
+ghost use Rattle.flt_generation.specs.Form.{HasNoLater};
+ghost use Rattle.flt_generation.specs.Holding.{last_number};
+ghost use Rattle.flt_generation.specs.Successor.{number_in};
+
 use arrayvec::ArrayVec;
 use flt_config::{
     Config, DIDS, DidUse, EntryState, EventCfg, EventState, Frame, Persist, ValidConfig, check,
@@ -11,6 +16,7 @@ use flt_image::{
     used_ids,
 };
 use flt_nvm::{BlockCfg, Kind};
+use std::process::Abort;
 use std::test::Fail;
 
 // Each note names another event.
@@ -92,6 +98,11 @@ fn config() -> Config {
         blocks: 1,
         events,
     }
+}
+
+// The configuration, which is valid.
+fn valid(rt: &impl Abort) -> ValidConfig {
+    check(config()).expect(rt, "the configuration is valid")
 }
 
 fn frame(first: u8, second: u8, third: u8) -> Frame {
@@ -186,31 +197,45 @@ fn is_put(config: &ValidConfig, state: &Persist, id: u16, bytes: &[u8]) -> bool 
     &put(config, state, id)[..] == bytes
 }
 
+/// The bytes of a block of the state of one entry.
+fn bytes_of(id: u16) -> &'static [u8] {
+    match id {
+        3 => &SUMMARY,
+        4 => &STATES,
+        8 => &ENTRY,
+        _ => &NO_ENTRY,
+    }
+}
+
+/// The blocks of a state, in the order in which they are taken.
+static BLOCKS: [u16; 4] = [3, 4, 8, 9];
+
 #[test]
-fn blocks_have_the_bytes_written_by_hand(rt: HostRuntime) -> Result<(), Fail> {
-    let valid = check(config())?;
+fn blocks_have_the_bytes_written_by_hand(rt: HostRuntime) {
+    let valid = valid(&rt);
     let state = state(None);
-    assert!(rt; fits(&valid, &state));
-    assert!(rt; is_put(&valid, &state, 3, &SUMMARY));
-    assert!(rt; is_put(&valid, &initial(&valid), 3, &NO_SUMMARY));
-    assert!(rt; is_put(&valid, &state, 4, &STATES));
-    assert!(rt; is_put(&valid, &state, 8, &ENTRY));
-    assert!(rt; is_put(&valid, &state, 9, &NO_ENTRY));
-    assert!(rt; &used_ids(&valid)[..] == &[3, 4, 8, 9][..]);
-    Ok(())
+    assert!(&rt; fits(&valid, &state));
+    for id in &BLOCKS {
+        assert!(&rt; is_put(&valid, &state, *id, bytes_of(*id)), "block {id}");
+    }
+    assert!(&rt; is_put(&valid, &initial(&valid), 3, &NO_SUMMARY));
+    assert!(&rt; &used_ids(&valid)[..] == &BLOCKS[..]);
+}
+
+/// Whether the state has one entry, of no event.
+fn has_an_unknown_entry(state: &Persist) -> bool {
+    state.entries.len() == 1 && state.entries[0].event == 0xFFFF
 }
 
 #[test]
-fn blocks_taken_in_order_give_the_state(rt: HostRuntime) -> Result<(), Fail> {
-    let valid = check(config())?;
+fn blocks_taken_in_order_give_the_state(rt: HostRuntime) {
+    let valid = valid(&rt);
     let mut into = initial(&valid);
-    assert!(rt; get(&valid, 3, &SUMMARY, &mut into));
-    assert!(rt; into.entries.len() == 1 && into.entries.iter().all(|entry| entry.event == 0xFFFF));
-    assert!(rt; get(&valid, 4, &STATES, &mut into));
-    assert!(rt; get(&valid, 8, &ENTRY, &mut into));
-    assert!(rt; get(&valid, 9, &NO_ENTRY, &mut into));
-    assert!(rt; into == state(None));
-    Ok(())
+    for id in &BLOCKS {
+        assert!(&rt; get(&valid, *id, bytes_of(*id), &mut into), "block {id}");
+        assert!(&rt; *id != 3 || has_an_unknown_entry(&into));
+    }
+    assert!(&rt; into == state(None));
 }
 
 // Whether these bytes of a block are refused, and leave the state of one entry, or of two, as it was.
@@ -245,68 +270,106 @@ static ODD_BYTES: [(u16, usize, u8); 21] = [
 ];
 
 #[test]
-fn bytes_of_no_block_that_fits_are_refused(rt: HostRuntime) -> Result<(), Fail> {
-    let valid = check(config())?;
-    for odd in &ODD_BYTES {
-        let bytes = changed(&put(&valid, &state(None), odd.0), odd.1, odd.2);
-        assert!(rt; is_refused(&valid, None, odd.0, &bytes));
+fn bytes_of_no_block_that_fits_are_refused(rt: HostRuntime) {
+    let valid = valid(&rt);
+    for (id, at, byte) in &ODD_BYTES {
+        let bytes = changed(bytes_of(*id), *at, *byte);
+        assert!(&rt;
+            is_refused(&valid, None, *id, &bytes),
+            "{byte} at {at} of block {id}"
+        );
     }
-    Ok(())
+}
+
+// Whether these bytes of a block are taken into the state of two entries.
+fn is_taken(config: &ValidConfig, id: u16, bytes: &[u8]) -> bool {
+    get(config, id, bytes, &mut state(Some(1)))
 }
 
 #[test]
-fn counts_and_second_entries_are_refused(rt: HostRuntime) -> Result<(), Fail> {
-    let valid = check(config())?;
+fn counts_and_second_entries_are_refused(rt: HostRuntime) {
+    let valid = valid(&rt);
     let clean = changed(&changed(&STATES, 2, 1), 3, 0xFF);
+    assert!(&rt; fits(&valid, &state(Some(1))));
+    assert!(&rt; !is_taken(&valid, 4, &clean));
     let mut after = state(Some(1));
-    assert!(rt; fits(&valid, &after));
-    assert!(rt; !get(&valid, 4, &clean, &mut after));
-    assert!(rt; !get(&valid, 9, &ENTRY, &mut after));
-    assert!(rt; get(&valid, 8, &ENTRY, &mut after));
-    Ok(())
+    assert!(&rt; !get(&valid, 9, &ENTRY, &mut after) && get(&valid, 8, &ENTRY, &mut after));
+}
+
+// Whether a block of the state of two entries is taken, and neither with a byte less nor with a byte more.
+fn takes_one_length(config: &ValidConfig, id: u16) -> bool {
+    let mut shorter = put(config, &state(Some(1)), id);
+    let taken = is_taken(config, id, &shorter);
+    shorter.pop();
+    let mut longer = put(config, &state(Some(1)), id);
+    if !longer.is_full() {
+        longer.push(0);
+    }
+    taken && is_refused(config, Some(1), id, &shorter) && !is_taken(config, id, &longer)
 }
 
 #[test]
-fn lengths_are_refused(rt: HostRuntime) -> Result<(), Fail> {
-    let valid = check(config())?;
-    for id in [3, 4, 8, 9] {
-        let mut bytes = put(&valid, &state(Some(1)), id);
-        assert!(rt; get(&valid, id, &bytes, &mut state(Some(1))));
-        bytes.pop();
-        assert!(rt; is_refused(&valid, Some(1), id, &bytes));
-        let mut bytes = put(&valid, &state(Some(1)), id);
-        if !bytes.is_full() {
-            bytes.push(0);
-        }
-        assert!(rt; !get(&valid, id, &bytes, &mut state(Some(1))));
+fn lengths_are_refused(rt: HostRuntime) {
+    let valid = valid(&rt);
+    for id in &BLOCKS {
+        assert!(&rt; takes_one_length(&valid, *id), "block {id}");
     }
-    Ok(())
+}
+
+// The blocks of the first state, or of one that differs from it in its summary alone.
+fn blocks_of(config: &ValidConfig, overflow: bool) -> StateBlocks {
+    let mut state = initial(config);
+    state.overflow = overflow;
+    let mut blocks = StateBlocks::unknown();
+    if fits(config, &state) {
+        blocks.put_all(config, &state);
+    }
+    blocks
+}
+
+// Whether a commit can follow.
+fn can_follow(current: &Option<Commit>) -> bool
+    ensures { IsTrue result → (number_in current.now < last_number) }
+{
+    match current {
+        None => true,
+        Some(commit) => commit.generation < u32::MAX,
+    }
+}
+
+// Whether this is the commit of this number.
+fn is_of(commit: Option<Commit>, generation: u32) -> bool {
+    match commit {
+        None => false,
+        Some(commit) => commit.generation == generation,
+    }
+}
+
+// The lowest byte of the number of the commit after this one, and the first byte of its bits.
+fn after(
+    config: &ValidConfig,
+    current: Option<Commit>,
+    before: &StateBlocks,
+    blocks: &StateBlocks,
+) -> Option<(u8, u8)> {
+    if !can_follow(&current) {
+        return None;
+    }
+    let bytes = put_commit(&next_commit(config, &current, before, blocks));
+    Some((bytes[4], bytes[5]))
 }
 
 #[test]
-fn a_commit_has_its_successor(rt: HostRuntime) -> Result<(), Fail> {
-    let valid = check(config())?;
-    let Some(commit) = get_commit(&valid, &COMMIT) else {
-        return Err(Fail::from("refused"));
-    };
-    assert!(rt; commit.generation == 0x01020304);
-    assert!(rt; put_commit(&commit) == COMMIT);
-    if commit.generation < 0xFFFF_FFFF {
-        let mut state = initial(&valid);
-        let mut before = StateBlocks::unknown();
-        before.put_all(&valid, &state);
-        state.overflow = true;
-        assert!(rt; fits(&valid, &state));
-        let mut after = StateBlocks::unknown();
-        after.put_all(&valid, &state);
-        let made = next_commit(&valid, &None, &after, &after);
-        assert!(rt; made.generation == 1 && made.index[0] == 0);
-        let next = next_commit(&valid, &Some(commit), &StateBlocks::unknown(), &after);
-        assert!(rt; put_commit(&next)[4..6] == [5, 0x41] && next.index[..2] == [1, 0]);
-        let next = next_commit(&valid, &Some(commit), &before, &after);
-        assert!(rt; put_commit(&next)[4..6] == [5, 0x23] && next.index[..2] == [1, 1]);
-    }
-    Ok(())
+fn a_commit_has_its_successor(rt: HostRuntime) {
+    let valid = valid(&rt);
+    let commit = get_commit(&valid, &COMMIT);
+    assert!(&rt; is_of(commit, 0x01020304));
+    let blocks = blocks_of(&valid, true);
+    assert!(&rt; after(&valid, None, &blocks, &blocks) == Some((1, 0x00)));
+    let unknown = StateBlocks::unknown();
+    assert!(&rt; after(&valid, commit, &unknown, &blocks) == Some((5, 0x41)));
+    let before = blocks_of(&valid, false);
+    assert!(&rt; after(&valid, commit, &before, &blocks) == Some((5, 0x23)));
 }
 
 // The byte of a commit that is another one.
@@ -343,65 +406,75 @@ fn are_no_commits(config: &ValidConfig, commit: &[u8], odd: &[(usize, u8)]) -> b
     true
 }
 
+// Whether the bytes are those of no commit.
+fn is_no_commit(config: &ValidConfig, bytes: &[u8]) -> bool {
+    get_commit(config, bytes).is_none()
+}
+
 #[test]
-fn commits_are_read_of_their_own_configuration(rt: HostRuntime) -> Result<(), Fail> {
-    let valid = check(config())?;
-    assert!(rt; are_no_commits(&valid, &COMMIT, &ODD_COMMITS));
+fn commits_are_read_of_their_own_configuration(rt: HostRuntime) {
+    let valid = valid(&rt);
+    assert!(&rt; are_no_commits(&valid, &COMMIT, &ODD_COMMITS));
     let first = Commit {
         generation: 0,
         index: [0; INDICES],
     };
-    assert!(rt; get_commit(&valid, &put_commit(&first)).is_none());
-    assert!(rt; get_commit(&valid, &[2, 0, 0, 0, 0, 0x22, 0, 0, 0, 0]).is_none());
-    assert!(rt; get_commit(&valid, &COMMIT[..9]).is_none());
+    assert!(&rt; is_no_commit(&valid, &put_commit(&first)));
+    assert!(&rt; is_no_commit(&valid, &[2, 0, 0, 0, 0, 0x22, 0, 0, 0, 0]));
+    assert!(&rt; is_no_commit(&valid, &COMMIT[..9]));
     let mut longer = changed(&COMMIT, 0, 2);
     if !longer.is_full() {
         longer.push(0xFF);
     }
-    assert!(rt; get_commit(&valid, &longer).is_none());
-    Ok(())
+    assert!(&rt; is_no_commit(&valid, &longer));
 }
 
-#[test]
-fn commits_of_version_1_are_read(rt: HostRuntime) -> Result<(), Fail> {
+// The commit of either version.
+fn commit() -> Commit
+    ensures { HasNoLater result }
+{
     let mut index = [0xFF; INDICES];
     index[0] = 0;
     index[1] = 1;
     index[5] = 1;
     index[6] = 0;
-    let commit = Commit {
+    Commit {
         generation: 0x01020304,
         index,
-    };
-    assert!(rt; put_commit_1(&commit) == OLD_COMMIT);
-    assert!(rt; put_commit(&commit) == COMMIT);
-    let valid = check(config())?;
-    assert!(rt; get_commit(&valid, &OLD_COMMIT) == Some(commit));
-    assert!(rt; get_commit(&valid, &COMMIT) == Some(commit));
-    assert!(rt; are_no_commits(&valid, &OLD_COMMIT, &ODD_OLD_COMMITS));
-    assert!(rt; get_commit(&valid, &OLD_COMMIT[..25]).is_none());
-    Ok(())
+    }
+}
+
+#[test]
+fn commits_of_both_versions_are_read(rt: HostRuntime) {
+    let commit = commit();
+    assert!(&rt; put_commit_1(&commit) == OLD_COMMIT);
+    assert!(&rt; put_commit(&commit) == COMMIT);
+    let valid = valid(&rt);
+    assert!(&rt; get_commit(&valid, &OLD_COMMIT) == Some(commit));
+    assert!(&rt; get_commit(&valid, &COMMIT) == Some(commit));
+    assert!(&rt; are_no_commits(&valid, &OLD_COMMIT, &ODD_OLD_COMMITS));
+    assert!(&rt; is_no_commit(&valid, &OLD_COMMIT[..25]));
 }
 
 // The byte of a mark that is another one.
 static ODD_MARKS: [(usize, u8); 4] = [(0, 0), (0, 3), (6, 1), (7, 1)];
 
+// Whether the bytes are those of no mark.
+fn is_no_mark(bytes: &[u8]) -> bool {
+    get_mark(bytes).is_none()
+}
+
 #[test]
-fn marks_are_read(rt: HostRuntime) -> Result<(), Fail> {
-    let valid = check(config())?;
-    let mark = mark_of(&valid);
-    assert!(rt; put_mark(&mark) == MARK);
-    assert!(rt; get_mark(&MARK) == Some(mark));
+fn marks_are_read(rt: HostRuntime) {
+    let mark = mark_of(&valid(&rt));
+    assert!(&rt; put_mark(&mark) == MARK && put_mark_1(&mark) == OLD_MARK);
+    assert!(&rt; get_mark(&MARK) == Some(mark) && get_mark(&OLD_MARK) == Some(mark));
     let another = get_mark(&changed(&MARK, 2, 3));
-    assert!(rt; another.is_some() && another != Some(mark));
-    assert!(rt; put_mark_1(&mark) == OLD_MARK);
-    assert!(rt; get_mark(&OLD_MARK) == Some(mark));
-    for odd in &ODD_MARKS {
-        assert!(rt; get_mark(&changed(&MARK, odd.0, odd.1)).is_none());
+    assert!(&rt; another.is_some() && another != Some(mark));
+    for (at, byte) in &ODD_MARKS {
+        assert!(&rt; is_no_mark(&changed(&MARK, *at, *byte)), "{byte} at {at}");
     }
-    assert!(rt; get_mark(&MARK[..7]).is_none());
-    assert!(rt; get_mark(&OLD_COMMIT[..9]).is_none());
-    Ok(())
+    assert!(&rt; is_no_mark(&MARK[..7]) && is_no_mark(&OLD_COMMIT[..9]));
 }
 
 #[test]

@@ -1,5 +1,5 @@
 // What is restored of an image, over the driver in memory.
-ghost use Rattle.std.specs.Prelude.{◌≡◌};
+ghost use Rattle.std.specs.Prelude.{◌≡◌, IfOk};
 ghost use Rattle.std.specs.List.{range_with_len};
 ghost use Rattle.flt_stub.specs.Memory.{state_of};
 
@@ -59,57 +59,84 @@ fn restored(
     Ok(restore(&mut nvm, config, out))
 }
 
-#[test]
-fn a_blank_image_holds_the_first_generation(rt: HostRuntime) -> Result<(), Fail> {
-    let config = check(config())?;
-    let mut out = initial(&config);
-    let driver = BlocksMem::blank(rt.alloc(), 832, 0)?;
-    match restored(rt.alloc(), driver, &config, &mut out)? {
+// The configuration, which is valid.
+fn valid(rt: &impl Abort) -> ValidConfig {
+    check(config()).expect(rt, "the configuration is valid")
+}
+
+// Whether the image holds the first generation, and its mark is due.
+fn is_blank(found: &Result<Restored, StartFault>) -> bool {
+    match found {
         Ok(
             Restored {
                 commit: None,
                 is_mark_due,
             },
-        ) => assert!(&rt; is_mark_due && out == initial(&config)),
-        _ => panic!(&rt; "not blank"),
+        ) => *is_mark_due,
+        _ => false,
     }
-    Ok(())
 }
 
 #[test]
-fn an_image_is_restored_by_its_second_copy(rt: HostRuntime) -> Result<(), Fail> {
-    let config = check(config())?;
+fn a_blank_image_holds_the_first_generation(rt: HostRuntime) -> Result<(), Fail> {
+    let config = valid(&rt);
     let mut out = initial(&config);
-    let mut driver = BlocksMem::blank(rt.alloc(), 832, 0)?;
+    let driver = BlocksMem::blank(rt.alloc(), 832, 0)?;
+    let found = restored(rt.alloc(), driver, &config, &mut out)?;
+    assert!(rt; is_blank(&found) && out == initial(&config));
+    Ok(())
+}
+
+// The blocks of generation 7, under a mark of version 1. The first copy of the commit is missing.
+fn saved(alloc: Global) -> Result<BlocksMem, Fail>
+    ensures { IfOk result (λ driver. (state_of driver).numbers ≡ range_with_len 0 832) }
+{
+    let mut driver = BlocksMem::blank(alloc, 832, 0)?;
     driver.write(8, &MARK)?;
     driver.write(17, &COMMIT)?;
     driver.write(24, &SUMMARY)?;
     driver.write(65, &NO_ENTRY)?;
-    let Ok(found) = restored(rt.alloc(), driver, &config, &mut out)? else {
-        return Err(Fail::from("not restored"));
-    };
-    let Restored {
-        commit: Some(read),
-        is_mark_due: true,
-    } = found
-    else {
-        return Err(Fail::from("no commit, or no mark due"));
-    };
-    assert!(rt; (read.commit.generation, read.copy) == (7, 2));
-    assert!(rt; &read.bytes[..] == &COMMIT[..]);
+    Ok(driver)
+}
+
+// Whether the commit was read from its second copy, and a mark is due.
+fn is_by_second_copy(found: &Result<Restored, StartFault>) -> bool {
+    match found {
+        Ok(
+            Restored {
+                commit: Some(read),
+                is_mark_due: true,
+            },
+        ) => { read.commit.generation == 7 && read.copy == 2 && &read.bytes[..] == &COMMIT[..] }
+        _ => false,
+    }
+}
+
+#[test]
+fn an_image_is_restored_by_its_second_copy(rt: HostRuntime) -> Result<(), Fail> {
+    let config = valid(&rt);
+    let mut out = initial(&config);
+    let found = restored(rt.alloc(), saved(rt.alloc())?, &config, &mut out)?;
+    assert!(rt; is_by_second_copy(&found));
     assert!(rt; out.overflow && out.entries.is_empty());
     Ok(())
 }
 
+// Whether a block is told to be damaged.
+fn is_damaged(found: &Result<Restored, StartFault>, id: u16) -> bool {
+    match found {
+        Err(fault) => *fault == StartFault::Damaged(Place::Block { id }),
+        Ok(_) => false,
+    }
+}
+
 #[test]
 fn a_long_application_block_is_damage(rt: HostRuntime) -> Result<(), Fail> {
-    let config = check(config())?;
+    let config = valid(&rt);
     let mut out = initial(&config);
     let mut driver = BlocksMem::blank(rt.alloc(), 832, 0)?;
     driver.write(520, &[0; 33])?;
-    match restored(rt.alloc(), driver, &config, &mut out)? {
-        Err(fault) => assert!(&rt; fault == StartFault::Damaged(Place::Block { id: 65 })),
-        Ok(_) => panic!(&rt; "restored"),
-    }
+    let found = restored(rt.alloc(), driver, &config, &mut out)?;
+    assert!(rt; is_damaged(&found, 65));
     Ok(())
 }

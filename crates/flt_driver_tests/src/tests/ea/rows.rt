@@ -1,44 +1,65 @@
 // Worked rows of the driver.
-ghost use Rattle.std.specs.Prelude.{◌≡◌, ◌<◌, ◌≤◌, IfOk, Contains, vec_len};
+ghost use Rattle.std.specs.Prelude.{◌≡◌, ◌<◌, ◌≤◌, IfOk, vec_len};
 ghost use Rattle.flt_ea.specs.Gate.{IsGate};
 
 use super::*;
 
+// The power fails at the first write of a block's third record.
+const CUT: Arm = Arm::Cut {
+    after: 1,
+    pattern: Pattern::Tail,
+};
+
+// The unit of the second gate of block 8.
+const SECOND_GATE: Arm = Arm::Mute {
+    sector: 0,
+    page: 5,
+    times: 1,
+};
+
+// Takes the steps of a row on a blank device, which comes back.
+fn play_on_blank(
+    rt: &impl Abort,
+    alloc: Global,
+    row: &str,
+    steps: &[Step],
+) -> Result<EepromMem, Fail> {
+    play_on(rt, alloc, EepromMem::blank(alloc, 20, 2)?, row, steps)
+}
+
+// The mount reads both gates of each block.
 #[test]
 fn a_block_is_written_and_made_invalid(rt: HostRuntime) -> Result<(), Fail> {
-    let device = EepromMem::blank(rt.alloc(), 10, 2)?;
-    let mut ea = one_block(rt.alloc(), device)?;
-    drive(&rt, &mut ea)?;
-    let device = ea.retire();
-    assert!(rt; device.operations() == 18);
+    let device = play_on_blank(&rt, rt.alloc(), "written", WRITTEN)?;
+    assert!(rt; device.operations() == 20);
     Ok(())
 }
 
-// A write whose first operation is cut leaves what the block held.
-fn cut_the_third<B: Blocks>(rt: &impl Abort, driver: &mut B) -> Result<(), Fail>
-    requires { Contains (B.state driver.old).numbers 8 }
-{
-    driver.write(8, &[1])?;
-    driver.write(8, &[2])?;
-    if driver.armed() < 64 {
-        driver.arm(Arm::Cut {
-            after: 1,
-            pattern: Pattern::Tail,
-        });
-    }
-    assert!(rt; driver.write(8, &[3]) == Err(BlockFault::Flash));
-    restart(driver);
-    let mut out = [0; 128];
-    assert!(rt; driver.read(8, &mut out)? == Found::Bytes(1));
-    assert!(rt; out[0] == 2);
-    Ok(())
-}
+static TORN: [Step; 6] = [
+    Step::Write(8, 1, 1, Ok(())),
+    Step::Write(8, 1, 2, Ok(())),
+    Step::Arm(CUT),
+    Step::Write(8, 1, 3, Err(BlockFault::Flash)),
+    Step::Restart,
+    Step::Read(8, Ok(Found::Bytes(1)), 2),
+];
 
 #[test]
 fn a_torn_gate_leaves_the_record_before(rt: HostRuntime) -> Result<(), Fail> {
-    let device = EepromMem::blank(rt.alloc(), 10, 2)?;
-    let mut ea = one_block(rt.alloc(), device)?;
-    cut_the_third(&rt, &mut ea)
+    play_on_blank(&rt, rt.alloc(), "torn", &TORN)?;
+    Ok(())
+}
+
+static MUTED: [Step; 3] = [
+    Step::Arm(SECOND_GATE),
+    Step::Mount(Err(BlockFault::Flash)),
+    Step::Mount(Ok(())),
+];
+
+#[test]
+fn a_muted_unit_fails_a_mount(rt: HostRuntime) -> Result<(), Fail> {
+    play_on_blank(&rt, rt.alloc(), "muted", &MUTED)?;
+    Ok(())
 }
 
 // Twenty blank units but for the first one and the sixth.
@@ -49,16 +70,6 @@ fn image_with(alloc: Global, first: [u8; 32], sixth: [u8; 32]) -> Result<Vec<[u8
     image[0] = first;
     image[5] = sixth;
     Ok(image)
-}
-
-#[test]
-fn a_unit_of_zeros_is_damage(rt: HostRuntime) -> Result<(), Fail> {
-    let image = image_with(rt.alloc(), [0; 32], BLANK_PAGE)?;
-    let device = EepromMem::of(rt.alloc(), image, 2)?;
-    let mut ea = one_block(rt.alloc(), device)?;
-    let damaged = BlockFault::Damaged { sector: 0, page: 0 };
-    assert!(rt; ea.mount() == Err(damaged));
-    Ok(())
 }
 
 // The unit of a gate of one byte.
@@ -73,62 +84,48 @@ fn gate(block: u16, sequence: u32) -> [u8; 32]
     }))
 }
 
-#[test]
-fn two_gates_of_one_number_are_damage(rt: HostRuntime) -> Result<(), Fail> {
-    let image = image_with(rt.alloc(), gate(8, 3), gate(8, 3))?;
-    let device = EepromMem::of(rt.alloc(), image, 2)?;
-    let mut ea = one_block(rt.alloc(), device)?;
-    let damaged = BlockFault::Damaged { sector: 1, page: 0 };
-    assert!(rt; ea.mount() == Err(damaged));
+// Takes steps over these units.
+fn play_with(
+    rt: &impl Abort,
+    alloc: Global,
+    first: [u8; 32],
+    sixth: [u8; 32],
+    row: &str,
+    steps: &[Step],
+) -> Result<(), Fail> {
+    let device = EepromMem::of(alloc, image_with(alloc, first, sixth)?, 2)?;
+    play_on(rt, alloc, device, row, steps)?;
     Ok(())
 }
 
+// A mount of a damaged unit of block 8.
+static FIRST_DAMAGED: [Step; 1] =
+    [Step::Mount(Err(BlockFault::Damaged { sector: 0, page: 0 }))];
+
+static SECOND_DAMAGED: [Step; 1] =
+    [Step::Mount(Err(BlockFault::Damaged { sector: 1, page: 0 }))];
+
 #[test]
-fn the_gate_of_another_block_is_damage(rt: HostRuntime) -> Result<(), Fail> {
-    let image = image_with(rt.alloc(), gate(8, 3), gate(9, 4))?;
-    let device = EepromMem::of(rt.alloc(), image, 2)?;
-    let mut ea = one_block(rt.alloc(), device)?;
-    let damaged = BlockFault::Damaged { sector: 1, page: 0 };
-    assert!(rt; ea.mount() == Err(damaged));
-    Ok(())
+fn units_that_no_driver_writes_are_damage(rt: HostRuntime) -> Result<(), Fail> {
+    let alloc = rt.alloc();
+    play_with(&rt, alloc, [0; 32], BLANK_PAGE, "zeros", &FIRST_DAMAGED)?;
+    play_with(&rt, alloc, gate(8, 3), gate(8, 3), "one number", &SECOND_DAMAGED)?;
+    play_with(&rt, alloc, gate(8, 3), gate(9, 4), "another block", &SECOND_DAMAGED)
 }
 
 // Block 8 can't be written any more, and block 9 can.
-fn overspend<B: Blocks>(rt: &impl Abort, driver: &mut B) -> Result<(), Fail>
-    requires first { Contains (B.state driver.old).numbers 8 }
-    requires second { Contains (B.state driver.old).numbers 9 }
-{
-    let mut out = [0; 128];
-    assert!(rt; driver.read(8, &mut out)? == Found::Bytes(1));
-    assert!(rt; driver.spent());
-    assert!(rt; driver.write(8, &[1]) == Err(BlockFault::SequenceSpent));
-    assert!(rt; driver.invalidate(8) == Err(BlockFault::SequenceSpent));
-    driver.write(9, &[1])?;
-    assert!(rt; driver.read(9, &mut out)? == Found::Bytes(1));
-    assert!(rt; driver.spent());
-    Ok(())
-}
+static STUCK: [Step; 7] = [
+    Step::Read(8, Ok(Found::Bytes(1)), 0xff),
+    Step::Spent(true),
+    Step::Write(8, 1, 1, Err(BlockFault::SequenceSpent)),
+    Step::Invalidate(8, Err(BlockFault::SequenceSpent)),
+    Step::Write(9, 1, 1, Ok(())),
+    Step::Read(9, Ok(Found::Bytes(1)), 1),
+    Step::Spent(true),
+];
 
 #[test]
 fn a_block_at_the_last_number_is_stuck(rt: HostRuntime) -> Result<(), Fail> {
-    let image = image_with(rt.alloc(), gate(8, 3), gate(8, u32::MAX))?;
-    let device = EepromMem::of(rt.alloc(), image, 2)?;
-    let mut ea = two_blocks(rt.alloc(), device)?;
-    overspend(&rt, &mut ea)
-}
-
-#[test]
-fn a_muted_unit_fails_a_read(rt: HostRuntime) -> Result<(), Fail> {
-    let device = EepromMem::blank(rt.alloc(), 10, 2)?;
-    let mut ea = one_block(rt.alloc(), device)?;
-    if ea.armed() < 64 {
-        ea.arm(Arm::Mute {
-            sector: 0,
-            page: 5,
-            times: 1,
-        });
-    }
-    assert!(rt; ea.mount() == Err(BlockFault::Flash));
-    assert!(rt; ea.mount().is_ok());
-    Ok(())
+    let alloc = rt.alloc();
+    play_with(&rt, alloc, gate(8, 3), gate(8, u32::MAX), "stuck", &STUCK)
 }

@@ -1,5 +1,5 @@
 // What the definitions say of worked pages, and what torn programs and erases leave of a flash in memory.
-ghost use Rattle.std.specs.Prelude.{◌≡◌, ◌<◌};
+ghost use Rattle.std.specs.Prelude.{◌≡◌, ◌<◌, ◌≤◌, IfOk};
 ghost use Rattle.flt_flash.specs.Image.{page_at, blank_page};
 ghost use Rattle.flt_flash.specs.Memory.{state_of};
 
@@ -8,8 +8,9 @@ mod torn;
 mod worked;
 
 use flt_code::{Word, get_word, is_spoiled, put_word, seal, unseal};
-use flt_flash::{Arm, BLANK_PAGE, Bench, Flash, FlashMem, Pattern};
+use flt_flash::{Arm, BLANK_PAGE, Bench, Flash, FlashFailed, FlashMem, Pattern};
 use flt_pages::*;
+use std::alloc::Global;
 use std::process::Abort;
 use std::test::Fail;
 use worked::{eight, record};
@@ -39,8 +40,7 @@ fn a_start_gate_is_sealed(rt: HostRuntime) -> Result<(), Fail> {
         pages: 512,
     };
     let page = seal(&put_word(&word));
-    assert!(rt; page == START);
-    assert!(rt; !is_spoiled(&page));
+    assert!(rt; page == START && !is_spoiled(&page));
     let code = unseal(&page).ok_or("no code word")?;
     assert!(rt; get_word(&code) == Some(word));
     assert!(rt; unseal(&[255; 32]).is_none());
@@ -52,47 +52,138 @@ fn a_start_gate_is_sealed(rt: HostRuntime) -> Result<(), Fail> {
     Ok(())
 }
 
-#[test]
-fn a_record_is_kept(rt: HostRuntime) -> Result<(), Fail> {
-    let numbers = eight(rt.alloc())?;
-    let mut flash = FlashMem::blank(rt.alloc(), 64, 2)?;
+// A flash of two sectors of 64 blank pages, of which the first is begun under number 1.
+fn begun(alloc: Global) -> Result<FlashMem, Fail>
+    ensures pages { IfOk result (λ flash. (state_of flash).pages ≡ 64) }
+    ensures boots { IfOk result (λ flash. (state_of flash).bench.boots_left ≡ 2) }
+    ensures armed { IfOk result (λ flash. (state_of flash).bench.armed ≡ 0) }
+{
+    let mut flash = FlashMem::blank(alloc, 64, 2)?;
     begin(&mut flash, 0, 64, 1)?;
-    assert_blank(&rt, &flash, 0, 2);
-    append_head(&mut flash, 0, 2, 8, 1, true)?;
-    assert_blank(&rt, &flash, 0, 3);
-    append_piece(&mut flash, 0, 3, &[0x07])?;
-    assert!(rt; item(&mut flash, 0, 64, 2, &numbers)? == record(false));
-    assert_blank(&rt, &flash, 0, 4);
-    append_gate(&mut flash, 0, 4, 8, 2)?;
-    assert!(rt; item(&mut flash, 0, 64, 2, &numbers)? == record(true));
-    assert!(rt; item(&mut flash, 0, 64, 5, &numbers)? == Item::End);
-    blank_from(&mut flash, 0, 64, 5)?;
-    assert!(rt; gates(&mut flash, 0, 64)?.is_none());
-    assert_blank(&rt, &flash, 0, 1);
-    activate(&mut flash, 0, 1)?;
-    assert!(rt; gates(&mut flash, 0, 64)? == Some(1));
-    assert!(rt; flash.page(0, 3)[0] == 0x07 && flash.page(0, 3)[31] == 0xff);
-    assert!(rt; (flash.wear(0), flash.wear(1)) == (1, 0));
+    Ok(flash)
+}
+
+// Stops the test unless the item of sector 0 at this page is told so.
+fn assert_item(
+    rt: &impl Abort,
+    flash: &mut FlashMem,
+    numbers: &Numbers,
+    page: u16,
+    wanted: Result<Item, PageFault>,
+)
+    requires pages { (state_of flash.old).pages ≡ 64 }
+    requires page { page ≤ 64 }
+    ensures pages { (state_of flash.new).pages ≡ 64 }
+    ensures boots { (state_of flash.new).bench.boots_left ≡ (state_of flash.old).bench.boots_left }
+{
+    assert!(rt; item(flash, 0, 64, page, numbers) == wanted, "page {page}");
+}
+
+// Stops the test unless the gates of sector 0 tell this number.
+fn assert_gates(rt: &impl Abort, flash: &mut FlashMem, wanted: Option<u32>)
+    requires { (state_of flash.old).pages ≡ 64 }
+    ensures { (state_of flash.new).pages ≡ 64 }
+{
+    assert!(rt; gates(flash, 0, 64) == Ok(wanted), "{wanted:?}");
+}
+
+// Puts the head of one byte of block 8 on page 2.
+fn put_head(rt: &impl Abort, flash: &mut FlashMem) -> Result<(), FlashFailed>
+    requires { (state_of flash.old).pages ≡ 64 }
+    ensures pages { (state_of flash.new).pages ≡ 64 }
+    ensures boots { (state_of flash.new).bench.boots_left ≡ (state_of flash.old).bench.boots_left }
+{
+    assert_blank(rt, flash, 0, 2);
+    append_head(flash, 0, 2, 8, 1, true)
+}
+
+// Puts the byte on page 3.
+fn put_piece(rt: &impl Abort, flash: &mut FlashMem) -> Result<(), FlashFailed>
+    requires { (state_of flash.old).pages ≡ 64 }
+    ensures { (state_of flash.new).pages ≡ 64 }
+{
+    assert_blank(rt, flash, 0, 3);
+    append_piece(flash, 0, 3, &[0x07])
+}
+
+// Puts the gate on page 4.
+fn put_gate(rt: &impl Abort, flash: &mut FlashMem) -> Result<(), FlashFailed>
+    requires { (state_of flash.old).pages ≡ 64 }
+    ensures { (state_of flash.new).pages ≡ 64 }
+{
+    assert_blank(rt, flash, 0, 4);
+    append_gate(flash, 0, 4, 8, 2)
+}
+
+// Makes the sector valid.
+fn put_active(rt: &impl Abort, flash: &mut FlashMem) -> Result<(), FlashFailed>
+    requires { (state_of flash.old).pages ≡ 64 }
+    ensures { (state_of flash.new).pages ≡ 64 }
+{
+    assert_blank(rt, flash, 0, 1);
+    activate(flash, 0, 1)
+}
+
+// Puts a record on a sector that is begun, and looks at it before and behind its gate.
+fn keep(rt: &impl Abort, flash: &mut FlashMem, numbers: &Numbers) -> Result<(), FlashFailed>
+    requires { (state_of flash.old).pages ≡ 64 }
+    ensures { (state_of flash.new).pages ≡ 64 }
+{
+    put_head(rt, flash)?;
+    put_piece(rt, flash)?;
+    assert_item(rt, flash, numbers, 2, Ok(record(false)));
+    put_gate(rt, flash)?;
+    assert_item(rt, flash, numbers, 2, Ok(record(true)));
+    assert_item(rt, flash, numbers, 5, Ok(Item::End));
+    Ok(())
+}
+
+// Makes a sector with such a record valid.
+fn make_valid(rt: &impl Abort, flash: &mut FlashMem) -> Result<(), PageFault>
+    requires { (state_of flash.old).pages ≡ 64 }
+    ensures { (state_of flash.new).pages ≡ 64 }
+{
+    blank_from(flash, 0, 64, 5)?;
+    assert_gates(rt, flash, None);
+    put_active(rt, flash)?;
+    assert_gates(rt, flash, Some(1));
     Ok(())
 }
 
 #[test]
-fn a_head_is_torn(rt: HostRuntime) -> Result<(), Fail> {
+fn a_record_is_kept(rt: HostRuntime) -> Result<(), Fail> {
     let numbers = eight(rt.alloc())?;
-    let mut flash = FlashMem::blank(rt.alloc(), 64, 2)?;
-    begin(&mut flash, 0, 64, 1)?;
+    let mut flash = begun(rt.alloc())?;
+    keep(&rt, &mut flash, &numbers)?;
+    make_valid(&rt, &mut flash)?;
+    assert!(rt; flash.page(0, 3)[0] == 0x07 && flash.page(0, 3)[31] == 0xff);
+    assert!(rt; flash.wear(0) == 1 && flash.wear(1) == 0);
+    Ok(())
+}
+
+// Cuts the program of a head, and looks at it before the power comes back and behind that.
+fn tear(rt: &impl Abort, flash: &mut FlashMem, numbers: &Numbers)
+    requires pages { (state_of flash.old).pages ≡ 64 }
+    requires boots { (state_of flash.old).bench.boots_left ≡ 2 }
+    requires armed { (state_of flash.old).bench.armed ≡ 0 }
+{
     flash.arm(Arm::Cut {
         after: 1,
         pattern: Pattern::Tail,
     });
     assert!(rt; flash.armed() == 1);
-    assert_blank(&rt, &flash, 0, 2);
-    assert!(rt; append_head(&mut flash, 0, 2, 8, 1, true).is_err());
-    assert!(rt; item(&mut flash, 0, 64, 2, &numbers) == Err(PageFault::Flash));
+    assert!(rt; put_head(rt, flash).is_err());
+    assert_item(rt, flash, numbers, 2, Err(PageFault::Flash));
     assert!(rt; flash.boots_left() == 2);
     flash.power_up();
-    assert!(rt; (flash.boots_left(), flash.armed(), flash.operations()) == (1, 0, 4));
+    assert!(rt; flash.boots_left() == 1 && flash.armed() == 0 && flash.operations() == 4);
     assert!(rt; flash.boot_page(0, 0, 0) == flash.page(0, 0));
-    assert!(rt; item(&mut flash, 0, 64, 2, &numbers)? == Item::Torn);
+    assert_item(rt, flash, numbers, 2, Ok(Item::Torn));
+}
+
+#[test]
+fn a_head_is_torn(rt: HostRuntime) -> Result<(), Fail> {
+    let numbers = eight(rt.alloc())?;
+    tear(&rt, &mut begun(rt.alloc())?, &numbers);
     Ok(())
 }

@@ -1,89 +1,82 @@
 // Worked rows of the driver.
-ghost use Rattle.std.specs.Prelude.{◌≡◌, ◌+◌, ◌*◌, ◌≤◌, OnOk, IfOk, Contains, vec_len};
+ghost use Rattle.std.specs.Prelude.{◌≡◌, ◌+◌, ◌*◌, ◌≤◌, IfOk, vec_len};
 ghost use Rattle.flt_flash.specs.Memory.{state_of as flash_state};
 ghost use Rattle.flt_code.specs.Word.{IsWord};
-ghost use Rattle.flt_fee.specs.Fee.{state_of};
-ghost use Rattle.flt_driver_tests.specs.Few.{HasFive};
 
 use super::*;
 
-/// Writes one byte to block 8, so many times.
-pub fn fill<B: Blocks>(driver: &mut B, times: u8) -> Result<(), BlockFault>
-    requires { Contains (B.state driver.old).numbers 8 }
-    ensures { (B.state driver.new).numbers ≡ (B.state driver.old).numbers }
-{
-    for value in 0..times {
-        driver.write(8, &[value])?;
+// The first page of plain bytes on a flash that was blank.
+const FIRST_BYTES: Arm = Arm::Mute {
+    sector: 0,
+    page: 3,
+    times: 1,
+};
+
+// Rows on a blank flash, and how often each sector was erased behind them.
+static ROWS: [(&str, &[Step], (u64, u64)); 3] = [
+    ("a block is written and made invalid", WRITTEN, (1, 0)),
+    (
+        "the record after the last page switches",
+        &[
+            Step::Fill(21),
+            Step::Read(8, Ok(Found::Bytes(1)), 20),
+            Step::Spent(false),
+        ],
+        (1, 1),
+    ),
+    (
+        "a mount reads no plain bytes",
+        &[
+            Step::Write(8, 1, 1, Ok(())),
+            Step::Arm(FIRST_BYTES),
+            Step::Mount(Ok(())),
+            Step::Read(8, Err(BlockFault::Flash), UNREAD),
+            Step::Read(8, Ok(Found::Bytes(1)), 1),
+        ],
+        (1, 0),
+    ),
+];
+
+#[test]
+fn rows_go_as_written(rt: HostRuntime) -> Result<(), Fail> {
+    for (row, steps, (first, second)) in &ROWS {
+        let flash = play_on_blank(&rt, rt.alloc(), row, steps)?;
+        assert!(rt; is_worn(&flash, *first, *second), "{row}");
     }
     Ok(())
 }
 
 #[test]
-fn an_invalid_block_is_told(rt: HostRuntime) -> Result<(), Fail> {
-    let flash = FlashMem::blank(rt.alloc(), 64, 2)?;
-    let mut fee = two_blocks(rt.alloc(), flash, 64)?;
-    drive(&rt, &mut fee)?;
-    let flash = fee.retire();
-    assert!(rt; (flash.wear(0), flash.wear(1)) == (1, 0));
-    Ok(())
-}
-
-// A flash of 64 pages whose block 8 was given one byte so many times, from a blank flash on.
-fn filled(alloc: Global, times: u8) -> Result<FlashMem, Fail> {
-    let flash = FlashMem::blank(alloc, 64, 2)?;
-    let mut fee = two_blocks(alloc, flash, 64)?;
-    fill(&mut fee, times)?;
-    Ok(fee.retire())
-}
-
-#[test]
 fn twenty_records_fill_the_log(rt: HostRuntime) -> Result<(), Fail> {
-    let flash = filled(rt.alloc(), 20)?;
+    let flash = play_on_blank(&rt, rt.alloc(), "twenty records", &[Step::Fill(20)])?;
     let last = Word::Gate { block: 8, page: 59 };
     assert!(rt; word_at(&flash, 0, 61) == Some(last));
-    assert!(rt; page_of_flash(&flash, 0, 62) == BLANK_PAGE);
-    assert!(rt; page_of_flash(&flash, 0, 63) == BLANK_PAGE);
-    assert!(rt; (flash.wear(0), flash.wear(1)) == (1, 0));
+    assert!(rt; is_blank(&flash, 0, 62) && is_blank(&flash, 0, 63));
+    assert!(rt; is_worn(&flash, 1, 0));
     Ok(())
 }
 
-#[test]
-fn the_record_after_the_last_page_switches(rt: HostRuntime) -> Result<(), Fail> {
-    let flash = FlashMem::blank(rt.alloc(), 64, 2)?;
-    let mut fee = two_blocks(rt.alloc(), flash, 64)?;
-    fill(&mut fee, 21)?;
-    let mut out = [0; 128];
-    assert!(rt; fee.read(8, &mut out)? == Found::Bytes(1));
-    assert!(rt; out[0] == 20);
-    let flash = fee.retire();
-    assert!(rt; (flash.wear(0), flash.wear(1)) == (1, 1));
-    Ok(())
-}
+// The answer where two records of 6 pages leave no room for one of three.
+const FULL: Result<(), BlockFault> = Err(BlockFault::Full {
+    live: 12,
+    needed: 3,
+});
 
-// Fills 14 pages with blocks of 32 bytes, behind which one byte more finds no room.
-fn overfill<B: Blocks>(rt: &impl Abort, driver: &mut B) -> Result<(), Fail>
-    requires { HasFive (B.state driver.old).numbers }
-{
-    driver.write(1, &[7; 32])?;
-    driver.write(2, &[7; 32])?;
-    driver.write(3, &[7; 32])?;
-    driver.write(4, &[7; 32])?;
-    let full = BlockFault::Full {
-        live: 12,
-        needed: 3,
-    };
-    assert!(rt; driver.write(5, &[7]) == Err(full));
-    let mut out = [0; 128];
-    assert!(rt; driver.read(4, &mut out)? == Found::Bytes(32));
-    assert!(rt; driver.read(5, &mut out)? == Found::Missing);
-    Ok(())
-}
+// Two records fill 14 pages, of which the gates have two, and then one byte more finds no room.
+static FILLED: [Step; 5] = [
+    Step::Write(8, 128, 7, Ok(())),
+    Step::Write(9, 128, 9, Ok(())),
+    Step::Write(8, 1, 7, FULL),
+    Step::Read(8, Ok(Found::Bytes(128)), 7),
+    Step::Read(9, Ok(Found::Bytes(128)), 9),
+];
 
 #[test]
 fn a_record_without_room_is_refused(rt: HostRuntime) -> Result<(), Fail> {
     let flash = FlashMem::blank(rt.alloc(), 14, 2)?;
-    let mut fee = five_blocks(rt.alloc(), flash, 14)?;
-    overfill(&rt, &mut fee)
+    let mut fee = two_blocks(rt.alloc(), flash, 14)?;
+    play(&rt, &mut fee, "no room", &FILLED);
+    Ok(())
 }
 
 // The page of a word.
@@ -93,16 +86,24 @@ fn page_of(word: Word) -> [u8; 32]
     seal(&put_word(&word))
 }
 
-// Two sectors of 64 pages: sector 0 is valid under the last number, and its log is full of records that make block 8 invalid.
-fn spent_image(alloc: Global) -> Result<Vec<[u8; 32]>, AllocError>
+// Two sectors of 64 pages, of which sector 0 is valid under this number.
+fn valid_image(alloc: Global, sequence: u32) -> Result<Vec<[u8; 32]>, AllocError>
     ensures { IfOk result (λ image. vec_len image ≡ 128) }
 {
     let mut image = vec![in alloc; BLANK_PAGE; 128]?;
     image[0] = page_of(Word::Start {
-        sequence: u32::MAX,
+        sequence,
         pages: 64,
     });
-    image[1] = page_of(Word::Active { sequence: u32::MAX });
+    image[1] = page_of(Word::Active { sequence });
+    Ok(image)
+}
+
+// Such sectors under the last number, with a log that is full of records that make block 8 invalid.
+fn spent_image(alloc: Global) -> Result<Vec<[u8; 32]>, AllocError>
+    ensures { IfOk result (λ image. vec_len image ≡ 128) }
+{
+    let mut image = valid_image(alloc, u32::MAX)?;
     for record in 0..31_u16 {
         let page = 2 + 2 * record;
         image[page as usize] = page_of(Word::Head {
@@ -116,136 +117,72 @@ fn spent_image(alloc: Global) -> Result<Vec<[u8; 32]>, AllocError>
     Ok(image)
 }
 
-// Asks for more than the last sequence number allows.
-fn overspend<B: Blocks>(rt: &impl Abort, driver: &mut B) -> Result<(), Fail>
-    requires first { Contains (B.state driver.old).numbers 8 }
-    requires second { Contains (B.state driver.old).numbers 9 }
-{
-    let mut out = [0; 128];
-    assert!(rt; driver.read(8, &mut out)? == Found::Invalid);
-    assert!(rt; driver.write(9, &[1]) == Err(BlockFault::SequenceSpent));
-    assert!(rt; driver.invalidate(8) == Err(BlockFault::SequenceSpent));
-    assert!(rt; driver.read(9, &mut out)? == Found::Missing);
-    assert!(rt; driver.spent());
-    Ok(())
-}
+// More than the last sequence number allows.
+static OVERSPENT: [Step; 5] = [
+    Step::Read(8, Ok(Found::Invalid), UNREAD),
+    Step::Write(9, 1, 1, Err(BlockFault::SequenceSpent)),
+    Step::Invalidate(8, Err(BlockFault::SequenceSpent)),
+    Step::Read(9, Ok(Found::Missing), UNREAD),
+    Step::Spent(true),
+];
 
 #[test]
 fn a_full_log_under_the_last_number_is_spent(rt: HostRuntime) -> Result<(), Fail> {
     let flash = FlashMem::of(rt.alloc(), spent_image(rt.alloc())?, 2)?;
-    let mut fee = two_blocks(rt.alloc(), flash, 64)?;
-    overspend(&rt, &mut fee)
+    play_on(&rt, rt.alloc(), flash, "spent", &OVERSPENT)?;
+    Ok(())
 }
 
-// Two sectors of 64 pages: sector 0 is valid, and its log begins with a gate.
+// The gate with which a log begins, and so its damage.
+const GATE: Word = Word::Gate { block: 8, page: 2 };
+
+const DAMAGED: BlockFault = BlockFault::Damaged { sector: 0, page: 2 };
+
+// Such sectors, with a log that begins with a gate.
 fn damaged_image(alloc: Global) -> Result<Vec<[u8; 32]>, AllocError>
     ensures { IfOk result (λ image. vec_len image ≡ 128) }
 {
-    let mut image = vec![in alloc; BLANK_PAGE; 128]?;
-    image[0] = page_of(Word::Start {
-        sequence: 1,
-        pages: 64,
-    });
-    image[1] = page_of(Word::Active { sequence: 1 });
-    image[2] = page_of(Word::Gate { block: 8, page: 2 });
+    let mut image = valid_image(alloc, 1)?;
+    image[2] = page_of(GATE);
     Ok(image)
 }
 
 // Each call that mounts answers the place of the damage.
-fn meet_damage<B: Blocks>(rt: &impl Abort, driver: &mut B)
-    requires { Contains (B.state driver.old).numbers 8 }
-{
-    let damaged = BlockFault::Damaged { sector: 0, page: 2 };
-    let mut out = [0xee; 128];
-    assert!(rt; driver.mount() == Err(damaged));
-    assert!(rt; driver.write(8, &[1]) == Err(damaged));
-    assert!(rt; driver.invalidate(8) == Err(damaged));
-    assert!(rt; driver.read(8, &mut out) == Err(damaged));
-    assert!(rt; out[..] == [0xee; 128]);
-}
+static MET: [Step; 4] = [
+    Step::Mount(Err(DAMAGED)),
+    Step::Write(8, 1, 1, Err(DAMAGED)),
+    Step::Invalidate(8, Err(DAMAGED)),
+    Step::Read(8, Err(DAMAGED), UNREAD),
+];
 
 #[test]
 fn a_damaged_log_is_told_and_left(rt: HostRuntime) -> Result<(), Fail> {
     let flash = FlashMem::of(rt.alloc(), damaged_image(rt.alloc())?, 2)?;
-    let mut fee = two_blocks(rt.alloc(), flash, 64)?;
-    meet_damage(&rt, &mut fee);
-    let flash = fee.retire();
-    assert!(rt; (flash.wear(0), flash.wear(1)) == (0, 0));
-    assert!(rt; word_at(&flash, 0, 2) == Some(Word::Gate { block: 8, page: 2 }));
-    assert!(rt; page_of_flash(&flash, 0, 3) == BLANK_PAGE);
+    let flash = play_on(&rt, rt.alloc(), flash, "damaged", &MET)?;
+    assert!(rt; is_worn(&flash, 0, 0));
+    assert!(rt; word_at(&flash, 0, 2) == Some(GATE) && is_blank(&flash, 0, 3));
     Ok(())
 }
 
-// Makes the next read of the first page of plain bytes fail.
-fn mute_first_bytes<B: Blocks>(driver: &mut B)
-    ensures { (B.state driver.new).numbers ≡ (B.state driver.old).numbers }
-{
-    if driver.armed() < 64 {
-        driver.arm(Arm::Mute {
-            sector: 0,
-            page: 3,
-            times: 1,
-        });
-    }
-}
+// Block 9 is written, and then block 8 until the log is full and once more.
+static SWITCHED: [Step; 2] = [Step::Write(9, 1, 9, Ok(())), Step::Fill(20)];
 
-// Mounts and reads while the bytes of block 8 can't be read once.
-fn read_muted<B: Blocks>(rt: &impl Abort, driver: &mut B) -> Result<(), Fail>
-    requires { Contains (B.state driver.old).numbers 8 }
-{
-    driver.write(8, &[1])?;
-    mute_first_bytes(driver);
-    driver.mount()?;
-    let mut out = [0xee; 128];
-    assert!(rt; driver.read(8, &mut out) == Err(BlockFault::Flash));
-    assert!(rt; out[..] == [0xee; 128]);
-    assert!(rt; driver.read(8, &mut out)? == Found::Bytes(1));
-    Ok(())
-}
-
-#[test]
-fn a_mount_reads_no_plain_bytes(rt: HostRuntime) -> Result<(), Fail> {
-    let flash = FlashMem::blank(rt.alloc(), 64, 2)?;
-    let mut fee = two_blocks(rt.alloc(), flash, 64)?;
-    read_muted(&rt, &mut fee)
-}
-
-// A driver of the blocks 9 and 8, in this order.
-fn turned_blocks(alloc: Global, flash: FlashMem, used: u16) -> Result<Fee<FlashMem>, Fail>
-    requires least { 4 ≤ used }
-    requires most { used ≤ (flash_state flash).pages }
-    ensures first { IfOk result (λ fee. Contains (state_of flash_state fee).numbers 8) }
-    ensures second { IfOk result (λ fee. Contains (state_of flash_state fee).numbers 9) }
-{
-    match Fee::make(alloc, flash, used, vec![in alloc; 9, 8]?) {
-        Ok(fee) => Ok(fee),
-        Err(_) => Err(Fail::from("refused")),
-    }
-}
-
-// Writes block 9, and then block 8 until the log is full and once more.
-fn switch_both<B: Blocks>(driver: &mut B) -> Result<(), BlockFault>
-    requires first { Contains (B.state driver.old).numbers 8 }
-    requires second { Contains (B.state driver.old).numbers 9 }
-{
-    driver.write(9, &[9])?;
-    fill(driver, 20)
+// Whether the record of one byte of a block begins at this page of sector 1.
+fn is_record(flash: &FlashMem, block: u16, page: u16) -> bool {
+    let head = Word::Head {
+        block,
+        length: 1,
+        valid: true,
+        page,
+    };
+    word_at(flash, 1, page) == Some(head)
 }
 
 #[test]
 fn a_switch_copies_in_ascending_order(rt: HostRuntime) -> Result<(), Fail> {
-    let flash = FlashMem::blank(rt.alloc(), 64, 2)?;
-    let mut fee = turned_blocks(rt.alloc(), flash, 64)?;
-    switch_both(&mut fee)?;
-    let flash = fee.retire();
-    for (block, page) in [(8, 2), (9, 5), (8, 8)] {
-        let head = Word::Head {
-            block,
-            length: 1,
-            valid: true,
-            page,
-        };
-        assert!(rt; word_at(&flash, 1, page) == Some(head));
-    }
+    let flash = play_on_blank(&rt, rt.alloc(), "switched", &SWITCHED)?;
+    assert!(rt; is_record(&flash, 8, 2));
+    assert!(rt; is_record(&flash, 9, 5));
+    assert!(rt; is_record(&flash, 8, 8));
     Ok(())
 }
