@@ -65,15 +65,11 @@ fn is_state_of(event: &EventCfg, state: EventState) -> bool
 pub fn are_states_of(events: &[EventCfg], states: &[EventState]) -> bool
     ensures { IsTrue result ↔ AreStatesOf events.now states.now }
 {
-    if events.len() != states.len() {
-        return false;
-    }
-    for (number, state) in states.iter().enumerate() {
-        if !is_state_of(&events[number], *state) {
-            return false;
-        }
-    }
-    true
+    events.len() == states.len()
+        && events
+            .iter()
+            .zip(states)
+            .all(|(event, state)| is_state_of(event, *state))
 }
 
 fn frame_length(dids: &[DidUse]) -> usize

@@ -1,4 +1,6 @@
 //! The state that survives a power cut.
+ghost use Rattle.std.specs.Prelude.{◌≡◌};
+
 use crate::{ENTRIES, EVENTS, FRAME};
 use arrayvec::ArrayVec;
 
@@ -56,4 +58,13 @@ pub struct Persist {
     pub recent_failed: Option<u16>,
     /// The most recent event that was confirmed.
     pub recent_confirmed: Option<u16>,
+}
+
+impl Persist {
+    /// A copy of this state, which takes no memory.
+    pub fn twin(&self) -> Persist
+        ensures { result ≡ self.now }
+    {
+        self.clone().unwrap()
+    }
 }

@@ -10,7 +10,7 @@ use Rattle.flt_model.specs.Mark.{Past, Row, decided}
 use Rattle.flt_model.specs.Mark.Mark.{Failed, Passed, Cycle, Clear, Aged, Displaced, Added, Refused}
 use Rattle.flt_model.specs.Status.{status, durable, test_failed, failed_this_cycle, pending, not_completed_since_clear, failed_since_clear, not_completed_this_cycle, ends_clean, test_failed_row, failed_this_cycle_row, not_completed_since_clear_row, failed_since_clear_row, not_completed_this_cycle_row}
 use Rattle.flt_model.specs.StatusLaws.{since_clear, this_cycle, has_failed}
-use Rattle.flt_model.proofs.StatusLaws.{byte_tells_bits, test_failed_is_last_result, pending_is_unrefuted_failure}
+use Rattle.flt_model.proofs.StatusLaws.{byte_tells_bits, failed_now, test_failed_is_last_result, pending_is_unrefuted_failure}
 use Rattle.flt_dcm.specs.Standard.{StandardBits, has_test, has_cleared}
 
 -- ---- what does not depend on a base, after a clear
@@ -46,17 +46,6 @@ module _ (base : EventState) where
   pending_alike (Refused ∷ past) cleared = pending_alike past cleared
 
 -- ---- the bits from the start state
-
-failed_now : (past : Past) → failed_this_cycle start_state past ≡ has_failed (this_cycle (since_clear past))
-failed_now [] = refl
-failed_now (Failed ∷ past) = refl
-failed_now (Passed ∷ past) = failed_now past
-failed_now (Clear ∷ past) = refl
-failed_now (Cycle ∷ past) = refl
-failed_now (Aged ∷ past) = failed_now past
-failed_now (Displaced ∷ past) = failed_now past
-failed_now (Added ∷ past) = failed_now past
-failed_now (Refused ∷ past) = failed_now past
 
 tested : (failed : Bool) → false ≡ not (failed || true)
 tested true = refl

@@ -53,13 +53,6 @@ impl Model for UnitState {
     ghost invariant = { λ u. IsUnitOf u.dem.faults.config u.sessions u.base };
 }
 
-/// A copy of a durable state, which allocates no memory.
-fn copy_of(base: &Persist) -> Persist
-    ensures { result ≡ base.now }
-{
-    base.clone().unwrap()
-}
-
 /// Writes a negative response, replacing what `out` holds.
 fn refuse(service: u8, code: u8, out: &mut ArrayVec<u8, RESPONSE>)
     ensures { reply_of out.new.items ≡ negative service code }
@@ -190,7 +183,7 @@ impl UnitState {
     {
         self.dem.boot(base);
         self.sessions = [Session::Default; TESTERS];
-        self.base = copy_of(base);
+        self.base = base.twin();
     }
 
     /// The configuration.

@@ -9,7 +9,7 @@ use Rattle.flt_config.specs.declared.config.EventCfg.{EventCfg}
 use Rattle.flt_config.specs.Validity.{IsValid, IsDebounceInRange}
 use Rattle.flt_model.specs.Life.{Life, History, event_of, no_event}
 use Rattle.flt_model.specs.Debounce.{IsOfKind, debounced}
-use Rattle.flt_model.specs.Happening.{Readiness, readiness, cause_of, is_started, signals, are_met, is_enabled, counts_report}
+use Rattle.flt_model.specs.Happening.{readiness, cause_of, is_started, signals, are_met, is_enabled, counts_report}
 use Rattle.flt_model.specs.Session.{is_setting_off}
 use Rattle.flt_model.specs.Answer.{answer, report_reply}
 use Rattle.flt_model.specs.declared.call.Cause.{Cause}
@@ -17,6 +17,7 @@ use Rattle.flt_model.specs.declared.call.DebState.{DebState}
 use Rattle.flt_model.specs.declared.call.Op.TheVariants as ops
 use Rattle.flt_model.specs.declared.call.Report.{Report}
 use Rattle.flt_model.proofs.Common.{slice_get-set_same, slice_get-set_other}
+use Rattle.flt_model.proofs.EnableLaws.{seen}
 use Rattle.flt_model.proofs.RangeLaws.{debouncing_stays_in_range}
 use Rattle.flt_dem.specs.Debounces.{DebouncesStand, AreOfKind}
 use Rattle.flt_dem.specs.Events.{IsOfConfig}
@@ -119,10 +120,6 @@ cycle_stands life past manager event valid within s =
     let cycle = (unwrap_or (slice_get manager.faults.config.events.items event) no_event).cycle in
     ap (λ o. unwrap_or o false) (s.started cycle (cycle_below manager.faults.config event valid within))
     ∙ ap (λ k. is_started (unwrap_or (slice_get k.events.items event) no_event).cycle past) (sym s.events.faults_stand.config)
-
--- What is seen of an event.
-abbrev pub seen : Bool → Bool → Bool → Readiness
-seen setting started enabled = record { setting = setting; started = started; enabled = enabled }
 
 -- Why a report is ignored is read where the event's cycle and what it needs stand.
 pub cause_read : (manager : Manager) (event : ℕ) (rules : EventCfg) (setting met : Bool) → event < length manager.faults.config.events.items →

@@ -11,13 +11,16 @@ use crate::Signals;
 use crate::row::{Reader, Row};
 use arrayvec::ArrayVec;
 use flt_config::{DIDS, DidUse, EventCfg, FRAME, Frame};
+use thiserror::Error;
 
 /// Why a data identifier is not added. The table stays as it was.
-#[derive(Clone, Copy, PartialEq, Eq, Debug)]
+#[derive(Clone, Copy, PartialEq, Eq, Debug, Error)]
 pub enum TableFault {
     /// The table already has the identifier.
+    #[error("the table already has the data identifier")]
     DidTwice,
     /// The table does not have it, and all its rows are taken.
+    #[error("all rows of the table are taken")]
     TableFull,
 }
 
@@ -88,24 +91,22 @@ impl<const ROWS: usize> DidTable<ROWS> {
     pub fn has_all(&self, dids: &[DidUse]) -> bool
         ensures { IsTrue result ↔ HasAll (dids_of self.now) dids.now }
     {
-        for did in dids {
-            if !self.has(*did) {
-                return false;
-            }
-        }
-        true
+        dids.iter().all(
+            |did| -> bool
+                ensures { IsTrue result ↔ (find (is_did did.now.id) (dids_of self.entry.now) ≡ Some did.now) }
+            { self.has(*did) },
+        )
     }
 
     /// Whether the table has each data identifier of each event, with its width.
     pub fn serves(&self, events: &[EventCfg]) -> bool
         ensures { IsTrue result ↔ Serves (dids_of self.now) events.now }
     {
-        for event in events {
-            if !self.has_all(&event.dids) {
-                return false;
-            }
-        }
-        true
+        events.iter().all(
+            |event| -> bool
+                ensures { IsTrue result ↔ HasAll (dids_of self.entry.now) event.now.dids.items }
+            { self.has_all(&event.dids) },
+        )
     }
 
     /// The values of the data identifiers at these signals, one after another in the order of the

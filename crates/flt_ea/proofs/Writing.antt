@@ -1,5 +1,5 @@
 -- The steps of a write to a place, one after another.
-use Rattle.std.proofs.Common.{◌≡◌, inl, inr, ⊎_elim, ◌+◌, ◌≤◌, ℕ, false, List, [], get_or, set, take, length, length-set, get_or-set_same, get_or-set_other, Result, Ok, Err, refl, ◌∙◌, ap, subst, arith}
+use Rattle.std.proofs.Common.{◌≡◌, inl, inr, ⊎_elim, ◌+◌, ◌≤◌, ℕ, false, List, [], get_or, set, take, length, length-set, get_or-set_same, get_or-set_other, Result, Ok, Err, ◌∙◌, ap, subst, arith}
 use Rattle.std.specs.Prelude.{IsErr, slice_range}
 use Rattle.std.specs.List.{flat_map}
 use Rattle.flt_flash.specs.Image.{sector_at, blank_page}
@@ -13,6 +13,7 @@ use Rattle.flt_code.proofs.Unsealed.{unsealed_code}
 use Rattle.flt_code.proofs.Unspoiled.{erased_or_none, erased_unspoiled, programmed_or_none, programmed_unspoiled, unspoiled_word}
 use Rattle.flt_code.proofs.WordCode.{unsealed_blank}
 use Rattle.flt_record.specs.Record.{KeptApart, on_pages}
+use Rattle.flt_record.proofs.Begun.{unspoiled_blank}
 use Rattle.flt_record.proofs.Filling.{bytes_on_pages}
 use Rattle.flt_record.specs.Recorded.{OnSector, Fills}
 use Rattle.flt_record.proofs.Steps.{set_apart, apart_on, wider}
@@ -23,10 +24,6 @@ use Rattle.flt_ea.specs.Gate.{gate_bytes}
 use Rattle.flt_ea.specs.Written.{IsEmptyAt, HoldsRecord, RecordLeft, WritesRecord}
 use Rattle.flt_ea.specs.declared.gate.Gate.{Gate}
 use Rattle.flt_ea.proofs.Device.{GivesUnit, units_on}
-
-unspoiled_blank : is_spoiled blank_page ≡ false
-unfolding is_spoiled blank_page
-unspoiled_blank = refl
 
 module _ (before : FlashState) (shape : HasUnits before) (unit : ℕ) (gate : Gate) (held : List ℕ) (room : unit + 5 ≤ before.pages) (most : length held ≤ 128)
     (unspoiled : is_spoiled (get_or (sector_at before.image 0) unit []) ≡ false) where

@@ -109,14 +109,10 @@ impl<E: Eeprom> Ea<E> {
         ensures image { (E.state self.new.device).image ≡ (E.state self.old.device).image }
     {
         self.is_stale = true;
-        match scan(&mut self.device, &self.numbers, &mut self.table) {
-            Err(fault) => Err(fault),
-            Ok(()) => {
-                self.is_stale = false;
-                self.has_mounted = true;
-                Ok(())
-            }
-        }
+        scan(&mut self.device, &self.numbers, &mut self.table)?;
+        self.is_stale = false;
+        self.has_mounted = true;
+        Ok(())
     }
 
     // Mounts a stale driver.
@@ -191,10 +187,8 @@ impl<E: Eeprom> Ea<E> {
         ensures answers { AnswersBy (is_stuck_in (uncounted_of E.state self.old).numbers (E.state self.old.device).image block) result }
         ensures costs { Costs (uncounted_of E.state self.old) (uncounted_of E.state self.new) (length bytes.now) }
     {
-        match self.settle() {
-            Err(fault) => Err(fault),
-            Ok(()) => self.store(block, bytes, valid),
-        }
+        self.settle()?;
+        self.store(block, bytes, valid)
     }
 
     // Reads a block of a driver that is not stale.
@@ -274,10 +268,8 @@ impl<E: Eeprom> Blocks for Ea<E> {
 
     fn read(&mut self, block: u16, out: &mut [u8; 128]) -> Result<Found, BlockFault> {
         self.calls = self.calls.saturating_add(1);
-        match self.settle() {
-            Err(fault) => Err(fault),
-            Ok(()) => self.find(block, out),
-        }
+        self.settle()?;
+        self.find(block, out)
     }
 
     fn look_up(&self, block: u16) -> Found {

@@ -1,8 +1,8 @@
 -- What an image means whose current sector is known.
 use Rattle.std.proofs.Common.{◌≡◌, ◌⊎◌, ⊎_elim, inl, inr, ◌+◌, ◌<◌, ◌≤◌, ℕ, Bool, true, false, List, [], get_or, set, length, get_or-set_same, get_or-set_other, None, Result, Ok, sym, ◌∙◌, ap, subst, arith}
-use Rattle.std.specs.Prelude.{◌==◌, Contains}
+use Rattle.std.specs.Prelude.{◌==◌}
 use Rattle.std.specs.List.{list_any}
-use Rattle.std.proofs.lemmas.Bool.{cases_eq, eq-eqb}
+use Rattle.std.proofs.lemmas.Bool.{cases_eq}
 use Rattle.flt_flash.specs.Image.{sector_at}
 use Rattle.flt_flash.specs.Content.{Content}
 use Rattle.flt_sector.specs.Log.{LogFrom, log}
@@ -21,7 +21,6 @@ use Rattle.flt_flash.specs.State.{FlashState, HasShape}
 use Rattle.flt_flash.specs.declared.flash.FlashFailed.{FlashFailed}
 use Rattle.flt_code.specs.Word.{IsWord}
 use Rattle.flt_code.specs.declared.words.Word.TheVariants.{Head}
-use Rattle.std.proofs.lemmas.List.Folds.{list_any_at}
 use Rattle.std.specs.Prelude.{OnOk}
 
 module _ (used : ℕ) (numbers : List ℕ) (image : List (List (List ℕ))) (sector sequence end : ℕ) (value : ℕ → Content) (stands : StandsAt used numbers image sector sequence end value) where
@@ -83,9 +82,6 @@ stale_mounted has_mounted used numbers image sector sequence end undamaged = rec
   undamaged = undamaged;
   ends = λ fresh. absurd (cc fresh);
 }
-
-pub is_among : (numbers : List ℕ) (block : ℕ) → Contains numbers block → list_any (λ number. number == block) numbers ≡ true
-is_among numbers block found = list_any_at (λ number. number == block) numbers found.0 block found.1 (eq-eqb (get_or numbers found.0 block) block found.2)
 
 -- A record that was appended behind the log of an image that stands.
 module _ (used : ℕ) (numbers : List ℕ) (before after : FlashState) (shape : HasShape before) (sector sequence page block : ℕ) (held : List ℕ) (valid : Bool) (value : ℕ → Content)

@@ -303,10 +303,8 @@ impl<F: Flash> Fee<F> {
             (F.state self.old.flash) (F.state self.new.flash)) }
         ensures even { UnlessFlash result (StaysEven self.old.used (F.state self.old.flash) (F.state self.new.flash)) }
     {
-        match self.make_room(block, bytes.len() as u16) {
-            Err(fault) => Err(fault),
-            Ok(()) => self.append(block, bytes, valid),
-        }
+        self.make_room(block, bytes.len() as u16)?;
+        self.append(block, bytes, valid)
     }
 
     // Gives a block these bytes, or makes it invalid.
@@ -326,10 +324,8 @@ impl<F: Flash> Fee<F> {
         ensures costs { Costs (uncounted_of F.state self.old) (uncounted_of F.state self.new) (length bytes.now) }
         ensures even { UnlessFlash result (StaysEven self.old.used (F.state self.old.flash) (F.state self.new.flash)) }
     {
-        match self.settle() {
-            Err(fault) => Err(fault),
-            Ok(()) => self.store(block, bytes, valid),
-        }
+        self.settle()?;
+        self.store(block, bytes, valid)
     }
 
     // The place of a block's current record, if it has one.
@@ -508,10 +504,8 @@ impl<F: Bench> Blocks for Fee<F> {
             → StaysEven self.old.used (F.state self.old.flash) (F.state self.new.flash) }
     {
         self.calls = self.calls.saturating_add(1);
-        match self.settle() {
-            Err(fault) => Err(fault),
-            Ok(()) => self.find(block, out),
-        }
+        self.settle()?;
+        self.find(block, out)
     }
 
     fn look_up(&self, block: u16) -> Found {

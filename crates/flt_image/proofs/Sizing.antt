@@ -11,20 +11,14 @@ use Rattle.flt_generation.specs.Form.{place_bytes, part_bytes, part_length}
 use Rattle.flt_generation.specs.Laws.{IsGiven}
 use Rattle.flt_image.specs.Blocks.{longest}
 use Rattle.flt_generation.proofs.Sizes.{summary_size, states_size, entry_size, no_entry_size}
-use Rattle.flt_generation.proofs.Short.{HasSizes, entry_sizes}
+use Rattle.flt_generation.proofs.Short.{entry_sizes}
+use Rattle.flt_generation.proofs.ImageLaws.{sizes_of}
 
 -- No part is longer than an entry.
 pub part_short : (part : Part) → part_length part ≤ longest
 part_short Summary = omega arith
 part_short (States first) = omega arith
 part_short (Entry place) = omega arith
-
-sizes_of : (c : Config) → IsGiven c → HasSizes c
-sizes_of c given = record {
-  memory = given.valid.memory.1;
-  events = given.events;
-  frames = λ k event below. (given.valid.events k event below).frame;
-}
 
 -- Each part of a state that fits has its length.
 pub part_sized : (c : Config) → IsGiven c → (p : Persist) → Fits c p → (part : Part) → length (part_bytes p part) ≡ part_length part

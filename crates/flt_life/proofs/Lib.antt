@@ -2,7 +2,7 @@ pub mod Soundness
 pub mod Kept
 pub mod Ending
 pub mod Makings
-pub mod EachPossible
+pub mod StoreLanes
 pub mod Sizes
 pub mod Older
 pub mod WorkedLife

@@ -2,10 +2,9 @@
 ghost use Rattle.std.specs.Prelude.{◌≡◌};
 ghost use Rattle.flt_life.specs.Actions.{action_of, call_count, queue_count, response_size};
 
-use arrayvec::ArrayVec;
 use flt_flash::Arm;
-use flt_model::{Op, REQUEST, RESPONSE};
-use flt_queue::{BYTES, Job, QueueOp, WAITING};
+use flt_model::{Op, RESPONSE};
+use flt_queue::{Job, QueueOp, WAITING};
 use flt_script::Step;
 
 /// What a step of a life does.
@@ -23,20 +22,6 @@ pub enum Action {
     Get(u8),
     /// An arm is made on the bench.
     Arm(Arm),
-}
-
-/// A copy of the bytes of a request, which allocates no memory.
-fn copy_of(bytes: &ArrayVec<u8, REQUEST>) -> ArrayVec<u8, REQUEST>
-    ensures { result ≡ bytes.now }
-{
-    bytes.clone().unwrap()
-}
-
-/// A copy of the bytes of a job, which allocates no memory.
-fn copy_of_job(bytes: &ArrayVec<u8, BYTES>) -> ArrayVec<u8, BYTES>
-    ensures { result ≡ bytes.now }
-{
-    bytes.clone().unwrap()
 }
 
 /// What a step does.
@@ -65,7 +50,7 @@ pub fn action_of(step: &Step) -> Action
         }),
         Step::Request { tester, bytes } => Action::Call(Op::Request {
             tester: *tester,
-            bytes: copy_of(bytes),
+            bytes: bytes.clone().unwrap(),
         }),
         Step::Save => Action::Save,
         Step::Post {
@@ -76,7 +61,7 @@ pub fn action_of(step: &Step) -> Action
             urgent: *urgent,
             job: Job {
                 block: *block,
-                bytes: copy_of_job(bytes),
+                bytes: bytes.clone().unwrap(),
             },
         }),
         Step::Drain => Action::Drain,

@@ -46,24 +46,14 @@ fn is_possible_step(config: &Config, step: &Step) -> bool
 fn is_possible_lane(config: &Config, steps: &[Step]) -> bool
     ensures { IsTrue result ↔ All (IsPossibleInLane config.now) steps.now }
 {
-    for step in steps {
-        if !step.is_lane_step() || !is_possible_step(config, step) {
-            return false;
-        }
-    }
-    true
+    steps.iter().all(|step| step.is_lane_step() && is_possible_step(config, step))
 }
 
 /// Whether each of these lanes is possible.
 fn are_possible_lanes(config: &Config, lanes: &[Vec<Step>]) -> bool
     ensures { IsTrue result ↔ All (λ lane. All (IsPossibleInLane config.now) lane.items) lanes.now }
 {
-    for lane in lanes {
-        if !is_possible_lane(config, lane) {
-            return false;
-        }
-    }
-    true
+    lanes.iter().all(|lane| is_possible_lane(config, lane))
 }
 
 /// Whether a lane uses the store.
@@ -95,10 +85,5 @@ fn is_possible_part(config: &Config, part: &Part) -> bool
 pub fn are_possible(config: &Config, parts: &[Part]) -> bool
     ensures { IsTrue result ↔ All (IsPossiblePart config.now) (parts_of parts.now) }
 {
-    for part in parts {
-        if !is_possible_part(config, part) {
-            return false;
-        }
-    }
-    true
+    parts.iter().all(|part| is_possible_part(config, part))
 }

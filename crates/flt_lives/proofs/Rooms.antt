@@ -28,6 +28,7 @@ use Rattle.flt_life.specs.Parts.{IsPossibleInLane, IsPossiblePart, arms_in, call
 use Rattle.flt_script.specs.declared.step.Step.TheVariants as steps
 use Rattle.flt_life.specs.declared.answer.StepAnswer.TheVariants as answers
 use Rattle.flt_life.specs.Played.{dark_answer}
+use Rattle.flt_fork.proofs.Blocks.{all_left, all_right}
 use Rattle.flt_life.proofs.Sizes.{own_more, own_steps-append, parts_more_by}
 use Rattle.flt_script.specs.Step.{is_lane_step}
 use Rattle.flt_lives.specs.Alone.{IsAlone, AreAlone, actions_in}
@@ -189,15 +190,6 @@ possible_lanes c (inr lanes ∷ parts) possible =
     All-append IsLaneSteps lanes (lanes_in parts) (lanes_possible c lanes (All-head (IsPossiblePart c) (inr lanes) parts possible).0) (possible_lanes c parts (All-tail (IsPossiblePart c) (inr lanes) parts possible))
 
 -- ---- parts one after the other
-
-module _ {X : Type 0} (P : X → Type 0) where
-  all_left : (xs ys : List X) → All P (xs ++ ys) → All P xs
-  all_left [] ys all = All-nil P
-  all_left (x ∷ xs) ys all = All-cons P x xs (All-head P x (xs ++ ys) all) (all_left xs ys (All-tail P x (xs ++ ys) all))
-
-  all_right : (xs ys : List X) → All P (xs ++ ys) → All P ys
-  all_right [] ys all = all
-  all_right (x ∷ xs) ys all = all_right xs ys (All-tail P x (xs ++ ys) all)
 
 -- The next one of those that are left.
 pub next_of : {X : Type 0} (P : X → Type 0) (done later : List X) (next : X) → All P (done ++ next ∷ later) → P next

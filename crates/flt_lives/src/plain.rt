@@ -25,7 +25,7 @@ use crate::accounting::CallRoom;
 use crate::buffers::Buffers;
 use crate::engine::{Engine, Lived};
 use crate::step::make_step;
-use flt_config::{Persist, ValidConfig};
+use flt_config::ValidConfig;
 use flt_dcm::Unit;
 use flt_flash::Blocks;
 use flt_life::{Boot, LifeRoom, action_of, life_of};
@@ -110,13 +110,6 @@ fn take_steps<D: Blocks + Drop>(
     }
 }
 
-// A copy of a state, which takes no memory.
-fn copy_of(state: &Persist) -> Persist
-    ensures { result ≡ state.now }
-{
-    state.clone().unwrap()
-}
-
 /// Makes the steps of lane 0, in lives without blocks of lanes and without write jobs, on a machine without a lock and without a
 /// queue.
 #[derive(Drop)]
@@ -154,7 +147,7 @@ impl<D: Blocks + Drop> Engine<D> for Plain {
             replies: own,
         };
         unit.boot(&buffers.state);
-        let start = copy_of(&buffers.state);
+        let start = buffers.state.twin();
         take_steps(&mut unit, store, config, buffers, parts, &mut account);
         let Account {
             journal,

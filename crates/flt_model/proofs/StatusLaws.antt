@@ -78,7 +78,7 @@ test_failed_is_last_result (Refused ∷ past) = test_failed_is_last_result past
 -- ---- pendingDTC
 
 -- A test failed in this cycle.
-failed_now : (past : Past) → failed_this_cycle start_state past ≡ has_failed (this_cycle (since_clear past))
+pub failed_now : (past : Past) → failed_this_cycle start_state past ≡ has_failed (this_cycle (since_clear past))
 failed_now [] = refl
 failed_now (Failed ∷ past) = refl
 failed_now (Passed ∷ past) = failed_now past
@@ -117,7 +117,7 @@ clean_now past =
     ap (λ b. not b && not (not_completed_this_cycle start_state past)) (failed_now past)
     ∙ clean_test (has_failed (this_cycle (since_clear past))) (has_passed (this_cycle (since_clear past))) (not (not_completed_this_cycle start_state past)) (completed_now past)
 
-cleared_where : (test before : Bool) → unwrap_or (cond test (Some false) None) before ≡ (before && not test)
+pub cleared_where : (test before : Bool) → unwrap_or (cond test (Some false) None) before ≡ (before && not test)
 cleared_where true true = refl
 cleared_where true false = refl
 cleared_where false true = refl

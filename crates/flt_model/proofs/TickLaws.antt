@@ -1,6 +1,6 @@
 -- A timer's ticks qualify once in a run.
 use Rattle.std.proofs.Common.{◌≡◌, ◌∙◌, ℕ, ◌+◌, ◌≤◌, nat_le, Bool, true, false, not, ◌&&◌, ◌||◌, cond, [], ◌∷◌, ◌++◌, Option, Some, None, refl, ap, subst, arith, inl, inr}
-use Rattle.std.proofs.lemmas.Bool.{cases_Bool, and_parts, or_parts, le-leb, leb-true}
+use Rattle.std.proofs.lemmas.Bool.{not-false, cases_Bool, and_parts, or_parts, le-leb, leb-true}
 use Rattle.flt_config.specs.declared.config.Debounce.TheVariants.{Counter, Time}
 use Rattle.flt_model.specs.declared.call.Report.TheVariants as reports
 use Rattle.flt_model.specs.declared.call.Qualified.{Qualified}
@@ -65,11 +65,7 @@ module _ (fail pass : ℕ) (way : Qualified) where
   there_since [] past whole there = there
   there_since (happening ∷ between) past whole there =
       let parts = or_parts (not (is_of way happening)) (is_broken_off way between) whole in
-      stays_there happening (between ++ past) (not_not (is_of way happening) parts.0) (there_since between past parts.1 there)
-    where
-      not_not : (b : Bool) → not b ≡ false → b ≡ true
-      not_not true e = refl
-      not_not false e = absurd (cc)
+      stays_there happening (between ++ past) (not-false (is_of way happening) parts.0) (there_since between past parts.1 there)
 
   -- It qualifies nothing.
   nothing_more : (ticks : ℕ) (past : Happenings) → IsThere past → qualified_by_tick fail pass ticks past (last_direction past) ≡ None

@@ -1,8 +1,8 @@
 -- The driver was made with the numbers of each block of a table that it serves.
-use Rattle.std.proofs.Common.{◌≡◌, ℕ, ◌<◌, ◌≤◌, ◌==◌, ◌&&◌, nat_lt, Bool, true, false, if◌then◌else◌, List, [], ◌∷◌, length, get_or, Option, Some, None, refl, subst, arith, eqb-true}
+use Rattle.std.proofs.Common.{◌≡◌, ℕ, ◌<◌, ◌≤◌, ◌==◌, nat_lt, Bool, true, false, if◌then◌else◌, List, [], ◌∷◌, length, get_or, Option, Some, None, refl, subst, arith, eqb-true}
 use Rattle.std.specs.Prelude.{Contains, IsSomeAnd}
 use Rattle.std.specs.List.{list_all, range_with_len}
-use Rattle.std.proofs.lemmas.Bool.{ltb-true}
+use Rattle.std.proofs.lemmas.Bool.{and_parts, ltb-true}
 use Rattle.std.proofs.lemmas.List.FromFn.{get_or-range_with_len, length-range_with_len}
 use Rattle.std.proofs.lemmas.List.Sums.{AllPass-from_list_all}
 use Rattle.std.proofs.lemmas.Map.Views.{Contains-from_any}
@@ -11,15 +11,11 @@ use Rattle.flt_nvm.specs.declared.table.Kind.TheVariants.{Native, Redundant, Dat
 use Rattle.flt_nvm.specs.declared.table.BlockCfg.{BlockCfg}
 use Rattle.flt_nvm.specs.Table.{number_of, block_in, numbers_taken, has_number, is_kind, is_served, serves, HasPlace, FitsBlock}
 
-both_true : (a b : Bool) → (a && b) ≡ true → (a ≡ true) × (b ≡ true)
-both_true true b is = (refl, is)
-both_true false b is = absurd (cc is)
-
 -- A block that is found stands in the table, under this identifier.
 found_is_served : (numbers : List ℕ) (table : List BlockCfg) (id : ℕ) (block : BlockCfg) → serves numbers table ≡ true → block_in table id ≡ Some block → (is_served numbers block ≡ true) × (block.id ≡ id)
 found_is_served numbers [] id block all found = absurd (cc found)
 found_is_served numbers (first ∷ rest) id block all found =
-    let parts = both_true (is_served numbers first) (serves numbers rest) all in
+    let parts = and_parts (is_served numbers first) (serves numbers rest) all in
     by_test (found_is_served numbers rest id block parts.1) parts.0 (first.id == id) refl found
   where
     by_test : (block_in rest id ≡ Some block → (is_served numbers block ≡ true) × (block.id ≡ id)) → is_served numbers first ≡ true
@@ -33,7 +29,7 @@ taken_in_range : (kind : Kind) (place : ℕ) → is_kind kind ≡ true → place
 taken_in_range Native place fits within = omega arith
 taken_in_range Redundant place fits within = omega arith
 taken_in_range (Dataset indices) place fits within =
-    let parts = both_true (nat_lt 0 indices) (nat_lt indices 9) fits in
+    let parts = and_parts (nat_lt 0 indices) (nat_lt indices 9) fits in
     let most : indices < 9 = ltb-true indices 9 parts.1 in
     omega arith
 
@@ -46,11 +42,11 @@ record IsServed (numbers : List ℕ) (block : BlockCfg) : Type 0 where
 
 served : (numbers : List ℕ) (block : BlockCfg) → is_served numbers block ≡ true → IsServed numbers block
 served numbers block all =
-    let last = both_true _ (list_all (λ index. has_number numbers (number_of block.id index)) (range_with_len 0 (numbers_taken block.kind))) all in
-    let kind = both_true _ (is_kind block.kind) last.0 in
-    let most = both_true _ (nat_lt block.length 129) kind.0 in
-    let least = both_true _ (nat_lt 0 block.length) most.0 in
-    let ids = both_true _ (nat_lt block.id 8192) least.0 in
+    let last = and_parts _ (list_all (λ index. has_number numbers (number_of block.id index)) (range_with_len 0 (numbers_taken block.kind))) all in
+    let kind = and_parts _ (is_kind block.kind) last.0 in
+    let most = and_parts _ (nat_lt block.length 129) kind.0 in
+    let least = and_parts _ (nat_lt 0 block.length) most.0 in
+    let ids = and_parts _ (nat_lt block.id 8192) least.0 in
     record { id = ltb-true block.id 8192 ids.1; length_is = ltb-true block.length 129 most.1; kind = kind.1; numbers_are = last.1 }
 
 module _ (numbers : List ℕ) (block : BlockCfg) (is : IsServed numbers block) (place : ℕ) (taken : place < numbers_taken block.kind) where

@@ -1,11 +1,7 @@
 //! What a read found.
-ghost use Rattle.std.specs.Prelude.{◌≡◌, ◌↔◌, ℕ, List, Some, None, Err, IsTrue, IfOk};
+ghost use Rattle.std.specs.Prelude.{◌≡◌, ◌↔◌, ℕ, List, IsTrue};
 ghost use Rattle.flt_flash.specs.Content.{Content, bytes as holding};
-ghost use Rattle.flt_flash.specs.declared.blocks.BlockFault.{BlockFault};
-ghost use Rattle.flt_flash.specs.declared.blocks.BlockFault.TheVariants.{Flash};
 ghost use Rattle.flt_nvm.specs.Leaves.{GotOf};
-
-use flt_flash::BlockFault;
 
 /// What a read found.
 #[derive(Clone, Copy, Debug, PartialEq, Eq)]
@@ -16,14 +12,6 @@ pub enum Got {
     Missing,
     /// The block was made invalid.
     Invalid,
-}
-
-/// What was found, or `Flash` where nothing could be read.
-pub fn or_flash(got: Option<Got>) -> Result<Got, BlockFault>
-    ensures found { IfOk result (λ found. got ≡ Some found) }
-    ensures flash { (fault : BlockFault) → result ≡ Err fault → (fault ≡ Flash) × (got ≡ None) }
-{
-    got.ok_or(BlockFault::Flash)
 }
 
 /// Whether these are the bytes of a content that was read to the start of `out`.

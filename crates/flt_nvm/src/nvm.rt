@@ -2,7 +2,7 @@
 ghost use Rattle.std.specs.Prelude.{◌↔◌, ◌≤◌, ℕ, IsTrue, length};
 ghost use Rattle.flt_nvm.specs.Table.{serves, IsRedundant, NoneFrom};
 
-use crate::got::{Got, holds, or_flash};
+use crate::got::{Got, holds};
 use crate::job;
 use crate::table::{BlockCfg, is_redundant, redundant_rows};
 use flt_flash::{Arm, BlockFault, Blocks, Found};
@@ -172,11 +172,9 @@ impl<B: Blocks + Drop> Nvm<B> {
         ensures job { (read : Result Got BlockFault) × LooksInAJob (number_of id 1) (driver_of self.old) (driver_of self.new) read }
         ensures table { table_of self.new ≡ table_of self.old }
     {
-        match self.read_copy(id, 2, out) {
-            Ok(Got::Bytes { length, copy }) => Ok(Got::Bytes { length, copy }),
-            Ok(Got::Missing) => or_flash(first),
-            Ok(Got::Invalid) => or_flash(first),
-            Err(fault) => Err(fault),
+        match self.read_copy(id, 2, out)? {
+            Got::Bytes { length, copy } => Ok(Got::Bytes { length, copy }),
+            Got::Missing | Got::Invalid => first.ok_or(BlockFault::Flash),
         }
     }
 

@@ -41,11 +41,8 @@ pub(crate) fn redundant_rows(table: &[BlockCfg]) -> usize
     ensures within { result ≤ length table.now }
     ensures none { NoneFrom result table.now }
 {
-    let mut rows = 0;
-    for index in 0..table.len() {
-        if table[index].kind == Kind::Redundant {
-            rows = index + 1;
-        }
-    }
-    rows
+    table
+        .iter()
+        .rposition(|block| block.kind == Kind::Redundant)
+        .map_or(0, |last| last + 1)
 }

@@ -5,7 +5,6 @@ use Rattle.std.specs.List.{list_any}
 use Rattle.std.specs.Str.{bytes_eq}
 use Rattle.std.proofs.lemmas.Bool.{eq-eqb, le-leb}
 use Rattle.std.proofs.lemmas.Slice.Eq.{bytes_eq-Decides}
-use Rattle.std.proofs.lemmas.List.Folds.{list_any_at}
 use Rattle.flt_flash.specs.Image.{blank_page}
 use Rattle.flt_flash.specs.Blocks.{byte_pages}
 use Rattle.flt_code.specs.Seal.{sealed, unsealed}
@@ -18,6 +17,7 @@ use Rattle.flt_code.proofs.WordCode.{word_code, word_page, unsealed_blank}
 use Rattle.flt_sector.specs.declared.log.Item.TheVariants.{Kept}
 use Rattle.flt_sector.specs.Log.{item_at, item_by_code, item_by_head, item_by_gate, is_gate_of}
 use Rattle.flt_sector.specs.Gates.{gate_by, gate_by_code, both_gates, started_by, activated_by, gates_of}
+use Rattle.flt_sector.proofs.Items.{is_among}
 use Rattle.flt_pages.specs.Place.{IsPlace}
 use Rattle.flt_pages.proofs.ItemCases.{item_by}
 
@@ -57,9 +57,6 @@ valid_gates used sequence pages fits number first second =
     active : gate_by activated_by 1 (sealed (word_bytes (Active sequence))) ≡ Ok (Some sequence)
     active = gate_says activated_by 1 (Active sequence) number
 
-among : (numbers : List ℕ) (block : ℕ) → Contains numbers block → list_any (λ number. number == block) numbers ≡ true
-among numbers block (place, within, is) = list_any_at (λ number. number == block) numbers place block within (eq-eqb _ block is)
-
 -- The item of a whole head, by the page in the place of its gate.
 module _ (used : ℕ) (numbers : List ℕ) (page block size : ℕ) (valid : Bool) (word : IsWord (Head block size valid page)) (number : Contains numbers block) (room : page + 2 + byte_pages size ≤ used) where
   pub item_of_head : (pages : List (List ℕ)) → get_or pages page [] ≡ sealed (word_bytes (Head block size valid page))
@@ -70,7 +67,7 @@ module _ (used : ℕ) (numbers : List ℕ) (page block size : ℕ) (valid : Bool
       ∙ ap (item_by_head used numbers pages page) (word_of-word_bytes (Head block size valid page) word)
       ∙ ap (λ b. if b then item_by_gate block size valid page (page + 1 + byte_pages size) (unsealed (get_or pages (page + 1 + byte_pages size) [])) else Err page)
       (both_true (page == page && list_any (λ n. n == block) numbers) (nat_le (page + 2 + byte_pages size) used)
-      (both_true (page == page) (list_any (λ n. n == block) numbers) (eq-eqb page page refl) (among numbers block number)) (le-leb (page + 2 + byte_pages size) used room))
+      (both_true (page == page) (list_any (λ n. n == block) numbers) (eq-eqb page page refl) (is_among numbers block number)) (le-leb (page + 2 + byte_pages size) used room))
 
 pub opened : (used page block size : ℕ) (valid : Bool) (numbers : List ℕ) (pages : List (List ℕ)) → IsPlace used numbers pages page block size valid
     → item_at used numbers (set pages page (sealed (word_bytes (Head block size valid page)))) page ≡ Ok (Kept block size valid false)

@@ -6,15 +6,13 @@ use Rattle.flt_flash.specs.Image.{blank_page}
 use Rattle.flt_flash.specs.Content.{missing}
 use Rattle.flt_code.specs.Seal.{sealed, unsealed}
 use Rattle.flt_code.specs.Spoiled.{is_spoiled}
-use Rattle.flt_code.specs.Word.{word_bytes, IsWord}
+use Rattle.flt_code.specs.Word.{word_bytes}
 use Rattle.flt_code.specs.declared.words.Word.{Word}
 use Rattle.flt_code.specs.declared.words.Word.TheVariants.{Start, Active}
-use Rattle.flt_code.proofs.WordBytes.{word_of-word_bytes}
-use Rattle.flt_code.proofs.WordCode.{word_code, word_page}
-use Rattle.flt_code.proofs.Unspoiled.{unspoiled_word}
 use Rattle.flt_record.specs.Blank.{AreBlank}
 use Rattle.flt_sector.specs.Gates.{gate_by_code, gate_by, started_by, activated_by, both_gates, gates_of}
 use Rattle.flt_record.specs.LogHolds.{LogHolds}
+use Rattle.flt_pages.proofs.WordPages.{gate_says}
 use Rattle.flt_record.proofs.LogOn.{ended}
 
 pub unspoiled_blank : is_spoiled blank_page ≡ false
@@ -24,11 +22,6 @@ unspoiled_blank = refl
 -- A gate page that is no code word, and one that is blank.
 gone : (says : Option Word → Result (Option ℕ) ℕ) (fault : ℕ) (page : List ℕ) → is_spoiled page ≡ false → unsealed page ≡ None → gate_by says fault page ≡ Ok None
 gone says fault page fresh none = λ i. if fresh i then Err fault else gate_by_code says (none i)
-
-names : (says : Option Word → Result (Option ℕ) ℕ) (fault : ℕ) (word : Word) → IsWord word → gate_by says fault (sealed (word_bytes word)) ≡ says (Some word)
-names says fault word proper =
-    (λ i. if unspoiled_word (word_bytes word) (sealed (word_bytes word)) (word_code word) i then Err fault else gate_by_code says (word_page word i))
-    ∙ ap says (word_of-word_bytes word proper)
 
 -- An empty log.
 pub holds_nothing : (used : ℕ) (numbers : List ℕ) (pages : List (List ℕ)) → 2 ≤ used → AreBlank pages 2 used → LogHolds used numbers pages 2 (λ block. missing)
@@ -41,11 +34,11 @@ module _ (used sequence : ℕ) (fits : used < 2 ^ 16) (counts : sequence < 2 ^ 3
   not_valid pages fresh (inr none) other_fresh other =
       λ i. both_gates (gone (started_by used) 0 (get_or pages 0 []) fresh none i) (gone activated_by 1 (get_or pages 1 []) other_fresh other i)
   not_valid pages fresh (inl is) other_fresh other =
-      (λ i. both_gates ((ap (gate_by (started_by used) 0) is ∙ names (started_by used) 0 (Start sequence used) (counts, fits)
+      (λ i. both_gates ((ap (gate_by (started_by used) 0) is ∙ gate_says (started_by used) 0 (Start sequence used) (counts, fits)
       ∙ ap (λ b. if b then Ok (Some sequence) else Err 0) (eq-eqb used used refl)) i) (gone activated_by 1 (get_or pages 1 []) other_fresh other i))
 
   pub valid : (pages : List (List ℕ)) → get_or pages 0 [] ≡ sealed (word_bytes (Start sequence used)) → get_or pages 1 [] ≡ sealed (word_bytes (Active sequence)) → gates_of used pages ≡ Ok (Some sequence)
   valid pages start active =
-      (λ i. both_gates ((ap (gate_by (started_by used) 0) start ∙ names (started_by used) 0 (Start sequence used) (counts, fits)
-      ∙ ap (λ b. if b then Ok (Some sequence) else Err 0) (eq-eqb used used refl)) i) ((ap (gate_by activated_by 1) active ∙ names activated_by 1 (Active sequence) counts) i))
+      (λ i. both_gates ((ap (gate_by (started_by used) 0) start ∙ gate_says (started_by used) 0 (Start sequence used) (counts, fits)
+      ∙ ap (λ b. if b then Ok (Some sequence) else Err 0) (eq-eqb used used refl)) i) ((ap (gate_by activated_by 1) active ∙ gate_says activated_by 1 (Active sequence) counts) i))
       ∙ ap (λ b. if b then Ok (Some sequence) else Err 1) (eq-eqb sequence sequence refl)

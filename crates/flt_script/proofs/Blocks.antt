@@ -2,7 +2,7 @@
 use Rattle.std.proofs.Common.{◌≡◌, ℕ, ◌+◌, ◌≤◌, List, [], ◌∷◌, ◌++◌, length, Bool, true, false, ◌&&◌, leb, Option, Some, None, refl, arith, length-append, inl, inr}
 use Rattle.std.specs.Prelude.{is_some, is_none, not, option_map, option_to_list, sum_by}
 use Rattle.std.specs.List.{list_all}
-use Rattle.std.proofs.lemmas.Bool.{leb-true, leb-false, le-leb}
+use Rattle.std.proofs.lemmas.Bool.{leb-true, leb-false, le-leb, and_parts, or_parts, not-false}
 use Rattle.std.proofs.lemmas.List.{append-nil}
 use Rattle.std.proofs.lemmas.List.Folds.{list_all-append}
 use Rattle.std.proofs.lemmas.List.Sums.{sum_by-cons, sum_by_push}
@@ -14,7 +14,6 @@ use Rattle.flt_script.specs.Part.{PartOf}
 use Rattle.flt_script.specs.Refusal.{is_step_misplaced}
 use Rattle.flt_script.specs.Step.{is_step_in, is_lane_step, is_store_step, store_lanes, is_lane_in, is_part_in, are_parts_in, steps_of_part, steps_of, lanes_of_part, arm_count, arms_of_part, arms_of, drain_count, drains_of_lane, drains_of_part, drains_of}
 use Rattle.flt_script.specs.Within.{marks_of}
-use Rattle.flt_script.proofs.Bools.{both_true, both_false, not_false}
 use Rattle.flt_script.proofs.Stores.{few_with, few_with_lane}
 
 pub same_some : {X Y : Type 0} (f : X → Y) (o : Option X) → is_some (option_map f o) ≡ is_some o
@@ -62,10 +61,10 @@ module _ (config : Config) (s : Step) (within : is_step_in config s ≡ true) wh
   lanes_with : (lanes : List (List Step)) → is_lane_step s ≡ true → list_all (is_lane_in config) lanes ≡ true → list_all (is_lane_in config) (in_last_lane (Some s) lanes) ≡ true
   lanes_with [] may all = refl
   lanes_with (lane ∷ []) may all =
-      let parts = both_true (is_lane_in config lane) true all in
+      let parts = and_parts (is_lane_in config lane) true all in
       rw (lane_with lane may parts.0) refl
   lanes_with (lane ∷ next ∷ lanes) may all =
-      let parts = both_true (is_lane_in config lane) (list_all (is_lane_in config) (next ∷ lanes)) all in
+      let parts = and_parts (is_lane_in config lane) (list_all (is_lane_in config) (next ∷ lanes)) all in
       rw (parts.0, lanes_with (next ∷ lanes) may parts.1) refl
 
   pub block_with : (block : Option (List (List Step))) → is_step_misplaced block s ≡ false → is_block_in config block ≡ true
@@ -73,14 +72,14 @@ module _ (config : Config) (s : Step) (within : is_step_in config s ≡ true) wh
   block_with None place all = refl
   block_with (Some []) place all = absurd cc
   block_with (Some (lane ∷ lanes)) place all =
-      let both = both_true (leb (length (lane ∷ lanes)) 8 && list_all (is_lane_in config) (lane ∷ lanes)) (leb (store_lanes (lane ∷ lanes)) 1) all in
-      let parts = both_true (leb (length (lane ∷ lanes)) 8) (list_all (is_lane_in config) (lane ∷ lanes)) both.0 in
-      let told = both_false (not (is_lane_step s)) (is_store_step s && has_earlier_store (lane ∷ lanes)) place in
+      let both = and_parts (leb (length (lane ∷ lanes)) 8 && list_all (is_lane_in config) (lane ∷ lanes)) (leb (store_lanes (lane ∷ lanes)) 1) all in
+      let parts = and_parts (leb (length (lane ∷ lanes)) 8) (list_all (is_lane_in config) (lane ∷ lanes)) both.0 in
+      let told = or_parts (not (is_lane_step s)) (is_store_step s && has_earlier_store (lane ∷ lanes)) place in
       let few = few_with s (lane ∷ lanes) told.1 (leb-true (store_lanes (lane ∷ lanes)) 1 both.1) in
       rw (
         length-in_last_lane (Some s) (lane ∷ lanes),
         parts.0,
-        lanes_with (lane ∷ lanes) (not_false (is_lane_step s) told.0) parts.1,
+        lanes_with (lane ∷ lanes) (not-false (is_lane_step s) told.0) parts.1,
         le-leb (store_lanes (in_last_lane (Some s) (lane ∷ lanes))) 1 few,
       ) refl
 
@@ -131,8 +130,8 @@ module _ (config : Config) where
       → is_block_in config (option_map (λ lanes. lanes ++ [] ∷ []) block) ≡ true
   block_with_lane None few all = refl
   block_with_lane (Some lanes) few all =
-      let both = both_true (leb (length lanes) 8 && list_all (is_lane_in config) lanes) (leb (store_lanes lanes) 1) all in
-      let parts = both_true (leb (length lanes) 8) (list_all (is_lane_in config) lanes) both.0 in
+      let both = and_parts (leb (length lanes) 8 && list_all (is_lane_in config) lanes) (leb (store_lanes lanes) 1) all in
+      let parts = and_parts (leb (length lanes) 8) (list_all (is_lane_in config) lanes) both.0 in
       let under = leb-false 8 (length lanes) few in
       let fits : length (lanes ++ [] ∷ []) ≤ 8 = rw length-append (omega arith) in
       rw (le-leb (length (lanes ++ [] ∷ [])) 8 fits, list_all-append (is_lane_in config) lanes ([] ∷ []), parts.1, few_with_lane lanes, both.1) refl
@@ -142,8 +141,8 @@ module _ (config : Config) where
   parts_with_block None parts some block all = absurd cc
   parts_with_block (Some []) parts some block all = absurd cc
   parts_with_block (Some (lane ∷ lanes)) parts some block all =
-      let both = both_true (leb (length (lane ∷ lanes)) 8 && list_all (is_lane_in config) (lane ∷ lanes)) (leb (store_lanes (lane ∷ lanes)) 1) block in
-      let held = both_true (leb (length (lane ∷ lanes)) 8) (list_all (is_lane_in config) (lane ∷ lanes)) both.0 in
+      let both = and_parts (leb (length (lane ∷ lanes)) 8 && list_all (is_lane_in config) (lane ∷ lanes)) (leb (store_lanes (lane ∷ lanes)) 1) block in
+      let held = and_parts (leb (length (lane ∷ lanes)) 8) (list_all (is_lane_in config) (lane ∷ lanes)) both.0 in
       let one : 1 ≤ length (lane ∷ lanes) = omega arith in
       let last : is_part_in config (inr (lane ∷ lanes)) ≡ true = rw (le-leb 1 (length (lane ∷ lanes)) one, held.0, held.1, both.1) refl in
       rw (list_all-append (is_part_in config) parts (inr (lane ∷ lanes) ∷ []), all, last) refl

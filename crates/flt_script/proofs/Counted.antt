@@ -1,8 +1,9 @@
 -- What is kept of lines that were not refused says how many there are of each kind.
 use Rattle.std.proofs.Common.{◌≡◌, ℕ, ◌+◌, ◌<◌, List, [], ◌∷◌, ◌++◌, length, Bool, true, false, cond, ◌||◌, ltb, leb, Option, Some, None, refl, sym, ap, ◌∙◌, arith, length-append, inl, inr}
 use Rattle.std.specs.Prelude.{count_by, find, is_some, is_none, not, ◌==◌, option_map, option_to_list, slice_get}
-use Rattle.std.proofs.lemmas.Bool.{lt-ltb}
+use Rattle.std.proofs.lemmas.Bool.{lt-ltb, not-false}
 use Rattle.std.proofs.lemmas.List.Sums.{sum_by-cons}
+use Rattle.std.proofs.Math.Bool.{or-true}
 use Rattle.flt_config.specs.declared.TheConstants.{EVENTS}
 use Rattle.flt_config.specs.declared.config.DidUse.{DidUse}
 use Rattle.flt_did.specs.Rows.{is_did}
@@ -24,7 +25,6 @@ use Rattle.flt_script.specs.Part.{PartOf}
 use Rattle.flt_script.specs.Refusal.{is_step_misplaced, event_refusal, step_refusal, lane_refusal, end_refusal, refusal}
 use Rattle.flt_script.proofs.Accepted.{length_used, of_accepted_lines}
 use Rattle.flt_script.proofs.Blocks.{same_some, some_of, as_many_lanes, lane_more}
-use Rattle.flt_script.proofs.Bools.{or_true, not_false}
 use Rattle.flt_script.proofs.StepRead.{is_read, arms_read, drains_read, one_lane_read}
 use Rattle.flt_script.proofs.Stores.{block_used, block_taken, block_used_with_lane, block_taken_with_lane}
 
@@ -64,7 +64,7 @@ step_read : (b : Behind) (s : StepLine) → step_refusal b s ≡ None → is_non
 unfolding step_refusal
 step_read b s e = first_is_false (is_none (step_of b.config s)) cause.Range _ e
 
-third_is_false : (a b c : Bool) (x y z : LineCause) → cond a (Some x) (cond b (Some y) (cond c (Some z) None)) ≡ None → c ≡ false
+pub third_is_false : (a b c : Bool) (x y z : LineCause) → cond a (Some x) (cond b (Some y) (cond c (Some z) None)) ≡ None → c ≡ false
 third_is_false true b c x y z e = absurd cc
 third_is_false false true c x y z e = absurd cc
 third_is_false false false true x y z e = absurd cc
@@ -81,7 +81,7 @@ begun_with : (read : Option Step) (b : Behind) (block : Option (List (List Step)
 begun_with None b block e = absurd cc
 begun_with (Some s) b None e =
     let some : 0 < length (b.parts ++ inl s ∷ []) = rw length-append (omega arith) in rw (lt-ltb 0 (length (b.parts ++ inl s ∷ [])) some) refl
-begun_with (Some s) b (Some lanes) e = or_true (ltb 0 (length b.parts) || ltb 0 (length b.lives))
+begun_with (Some s) b (Some lanes) e = or-true (ltb 0 (length b.parts) || ltb 0 (length b.lives))
 
 ended_life : (b : Behind) → (ltb 0 0 || ltb 0 (length (b.lives ++ b.parts ∷ [])) || is_some b.block) ≡ true
 ended_life b = let some : 0 < length (b.lives ++ b.parts ∷ []) = rw length-append (omega arith) in rw (lt-ltb 0 (length (b.lives ++ b.parts ∷ [])) some) refl
@@ -92,7 +92,7 @@ lane_in_block b e = some_of b.block (second_is_false (leb 8 (lane_count b.block)
 
 end_of_lanes : (b : Behind) → end_refusal b ≡ None → has_lane b.block ≡ true
 unfolding end_refusal
-end_of_lanes b e = not_false (has_lane b.block) (first_is_false (not (has_lane b.block)) cause.Block None e)
+end_of_lanes b e = not-false (has_lane b.block) (first_is_false (not (has_lane b.block)) cause.Block None e)
 
 -- A block that ends has begun, and is a part of its life from then on.
 begun_by_block : (block : Option (List (List Step))) (parts : List (PartOf Step)) (lives : List (List (PartOf Step))) → has_lane block ≡ true
@@ -100,7 +100,7 @@ begun_by_block : (block : Option (List (List Step))) (parts : List (PartOf Step)
 begun_by_block None parts lives e = absurd cc
 begun_by_block (Some lanes) parts lives e =
     let some : 0 < length (parts ++ inr lanes ∷ []) = rw length-append (omega arith) in
-    rw (lt-ltb 0 (length (parts ++ inr lanes ∷ [])) some, or_true (ltb 0 (length parts) || ltb 0 (length lives))) refl
+    rw (lt-ltb 0 (length (parts ++ inr lanes ∷ [])) some, or-true (ltb 0 (length parts) || ltb 0 (length lives))) refl
 
 -- ---- the arms and drains of a step that was read
 
@@ -309,7 +309,7 @@ module _ (dids : List DidUse) where
         lanes = refl;
         store = refl;
         earlier_store = refl;
-        begun = or_true (ltb 0 (length b.parts) || ltb 0 (length b.lives));
+        begun = or-true (ltb 0 (length b.parts) || ltb 0 (length b.lives));
         config = c.config;
         memory = c.memory;
         blocks = c.blocks;

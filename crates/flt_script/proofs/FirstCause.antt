@@ -5,6 +5,7 @@ use Rattle.std.specs.List.{list_any}
 use Rattle.std.specs.Option.{ok_or}
 use Rattle.std.specs.Str.{bytes_eq}
 use Rattle.std.proofs.lemmas.Bool.Decides.{nat_tests}
+use Rattle.std.proofs.Math.Bool.{or-false}
 use Rattle.flt_config.specs.declared.config.Debounce.{Debounce}
 use Rattle.flt_config.specs.declared.config.Debounce.TheVariants as rules
 use Rattle.flt_config.specs.declared.config.DidUse.{DidUse}
@@ -29,7 +30,6 @@ use Rattle.flt_script.specs.Line.{spelling, keywords, keyword_of, line_with, is_
 use Rattle.flt_script.specs.Refusal.{setting_refusal, flash_refusal, event_refusal, did_refusal, is_step_misplaced, step_refusal, power_refusal, par_refusal, lane_refusal, end_refusal, refusal, unless_refused, line_behind}
 use Rattle.flt_script.specs.Step.{arm_count, drain_count, is_lane_step, is_store_step}
 use Rattle.flt_script.specs.Text.{words_of, is_plain, all_plain}
-use Rattle.flt_script.proofs.Bools.{or_false}
 use Rattle.flt_script.proofs.Kept.{kept}
 use Rattle.flt_script.proofs.StepRead.{IsRead, is_read}
 
@@ -178,12 +178,12 @@ no_block (Some lanes) = refl
 line_row : (dids : List DidUse) (b : Behind) (l : Line) → refusal dids b l ≡ of_line dids b l
 unfolding refusal setting_refusal flash_refusal event_refusal did_refusal step_refusal power_refusal par_refusal lane_refusal end_refusal
 line_row dids b line.Skipped = refl
-line_row dids b (line.Config id) = rw (or_false (has_begun b || is_some b.places.config)) refl
-line_row dids b (line.Memory entries) = rw (or_false (has_begun b || is_some b.places.memory)) refl
-line_row dids b (line.Blocks blocks) = rw (or_false (has_begun b || is_some b.places.blocks)) refl
-line_row dids b (line.Flash sectors pages) = rw (or_false (has_begun b || is_some b.places.flash)) refl
-line_row dids b (line.Event event) = rw (or_false (has_begun b), event_kept event) refl
-line_row dids b (line.Did event id) = rw (or_false (has_begun b), none_found (is_did id) dids) refl
+line_row dids b (line.Config id) = rw (or-false (has_begun b || is_some b.places.config)) refl
+line_row dids b (line.Memory entries) = rw (or-false (has_begun b || is_some b.places.memory)) refl
+line_row dids b (line.Blocks blocks) = rw (or-false (has_begun b || is_some b.places.blocks)) refl
+line_row dids b (line.Flash sectors pages) = rw (or-false (has_begun b || is_some b.places.flash)) refl
+line_row dids b (line.Event event) = rw (or-false (has_begun b), event_kept event) refl
+line_row dids b (line.Did event id) = rw (or-false (has_begun b), none_found (is_did id) dids) refl
 line_row dids b (line.Step s) = step_row b s (step_of b.config s) (is_read b.config s)
 line_row dids b line.Power = refl
 line_row dids b line.Par = refl

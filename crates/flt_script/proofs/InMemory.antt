@@ -3,6 +3,7 @@ use Rattle.std.proofs.Common.{◌≡◌, ℕ, zero, suc, ◌+◌, List, [], ◌�
 use Rattle.std.specs.Prelude.{map, not, sum_by}
 use Rattle.std.proofs.lemmas.List.{length-map}
 use Rattle.std.proofs.lemmas.List.Sums.{sum_by-cons}
+use Rattle.std.proofs.lemmas.Bool.{not-true}
 use Rattle.flt_script.specs.declared.step.Part.{Part}
 use Rattle.flt_script.specs.declared.step.Step.{Step}
 use Rattle.flt_script.specs.Part.{PartOf, part_of, parts_of}
@@ -10,7 +11,6 @@ use Rattle.flt_script.specs.Behind.{has_earlier_store, in_last_lane}
 use Rattle.flt_script.specs.Next.{with_lane_step}
 use Rattle.flt_script.specs.Step.{is_lane_step, is_store_step, lanes_of}
 use Rattle.flt_script.specs.Within.{marks_of}
-use Rattle.flt_script.proofs.Bools.{not_true}
 
 -- A life where it lies in memory.
 abbrev pub Life : Type 0
@@ -74,5 +74,5 @@ pub lane_written : (s : Step) (lanes : List Lane) (place : ℕ) (last new : Lane
     → new.items ≡ last.items ++ s ∷ [] → with_lane_step s (steps_of_lanes lanes) ≡ Ok (steps_of_lanes (slice_set lanes place new))
 lane_written s [] place last new earlier may is e there items = absurd (omega (arith, e))
 lane_written s (lane ∷ lanes) place last new earlier may is e there items =
-    let free = rw is at (not_true (not (is_lane_step s) || is_store_step s && earlier) may) in
+    let free = rw is at (not-true (not (is_lane_step s) || is_store_step s && earlier) may) in
     rw (free, last_written s (lane ∷ lanes) place last new e there items) refl

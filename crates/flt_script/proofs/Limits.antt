@@ -2,7 +2,7 @@
 use Rattle.std.proofs.Common.{◌≡◌, ℕ, ◌+◌, ◌<◌, ◌≤◌, List, [], ◌∷◌, ◌++◌, length, Bool, true, false, cond, ◌||◌, ltb, leb, Option, Some, None, Ok, refl, subst, arith, length-append, inr}
 use Rattle.std.specs.Prelude.{IfSome, not, is_some, is_none, option_map, option_to_list, sum_by}
 use Rattle.std.specs.List.{list_all}
-use Rattle.std.proofs.lemmas.Bool.{ltb-false, leb-false}
+use Rattle.std.proofs.lemmas.Bool.{ltb-false, leb-false, or_parts, not-false}
 use Rattle.std.proofs.lemmas.List.Folds.{list_all-append}
 use Rattle.std.proofs.lemmas.List.Sums.{sum_by_push}
 use Rattle.flt_config.specs.declared.config.Config.{Config}
@@ -21,7 +21,6 @@ use Rattle.flt_script.specs.Step.{is_step_in, are_parts_in, steps_of, arm_count,
 use Rattle.flt_script.specs.Within.{marks_of, IsWithinLimits}
 use Rattle.flt_script.proofs.Accepted.{of_accepted_lines}
 use Rattle.flt_script.proofs.Blocks.{is_block_in, block_steps, block_drains, block_marks, block_with, parts_with, steps_with, arms_with_step, drains_with_step, marks_with, block_with_lane, parts_with_block, steps_with_lane, drains_with_lane, marks_with_lane, steps_with_block, arms_with_block, drains_with_block, marks_with_block}
-use Rattle.flt_script.proofs.Bools.{both_false, not_false}
 use Rattle.flt_script.proofs.StepRead.{is_read, in_range}
 
 -- What so many lines gave keeps to the limits.
@@ -44,15 +43,15 @@ empty : {X : Type 0} (xs : List X) → ltb 0 (length xs) ≡ false → xs ≡ []
 empty [] e = refl
 empty (x ∷ xs) e = absurd (let none = ltb-false 0 (length (x ∷ xs)) e in omega (arith, none))
 
-none_of : {X : Type 0} (o : Option X) → is_some o ≡ false → o ≡ None
+pub none_of : {X : Type 0} (o : Option X) → is_some o ≡ false → o ≡ None
 none_of None e = refl
 none_of (Some x) e = absurd cc
 
 setting : (b : Behind) (config : Config) (places : Places) (count : ℕ) → has_begun b ≡ false → IsKept b count
     → IsKept (record b { config = config; places = places }) (count + 1)
 setting b config places count none k =
-    let all = both_false (ltb 0 (length b.parts) || ltb 0 (length b.lives)) (is_some b.block) none in
-    let done = both_false (ltb 0 (length b.parts)) (ltb 0 (length b.lives)) all.0 in
+    let all = or_parts (ltb 0 (length b.parts) || ltb 0 (length b.lives)) (is_some b.block) none in
+    let done = or_parts (ltb 0 (length b.parts)) (ltb 0 (length b.lives)) all.0 in
     let parts = empty b.parts done.0 in
     let lives = empty b.lives done.1 in
     let block = none_of b.block all.1 in
@@ -113,8 +112,8 @@ step_more b count None within e k = absurd cc
 step_more b count (Some s) within e k =
     let told = three_false false (leb 65536 b.steps || ltb 64 (b.arms + arm_count s) || ltb 1024 (b.drains + drain_count s)) (is_step_misplaced b.block s)
     cause.Range cause.Many cause.Block e in
-    let all = both_false (leb 65536 b.steps || ltb 64 (b.arms + arm_count s)) (ltb 1024 (b.drains + drain_count s)) told.1 in
-    let many = both_false (leb 65536 b.steps) (ltb 64 (b.arms + arm_count s)) all.0 in
+    let all = or_parts (leb 65536 b.steps || ltb 64 (b.arms + arm_count s)) (ltb 1024 (b.drains + drain_count s)) told.1 in
+    let many = or_parts (leb 65536 b.steps) (ltb 64 (b.arms + arm_count s)) all.0 in
     let room = leb-false 65536 b.steps many.0 in
     let room_for_arms = ltb-false 64 (b.arms + arm_count s) many.1 in
     let room_for_drains = ltb-false 1024 (b.drains + drain_count s) all.1 in
@@ -193,7 +192,7 @@ end_more : (b : Behind) (count : ℕ) → end_refusal b ≡ None → IsKept b co
     → IsKept (record b { parts = b.parts ++ option_to_list (option_map inr b.block); block = None }) (count + 1)
 unfolding end_refusal
 end_more b count e k =
-    let has = not_false (has_lane b.block) (one_false (not (has_lane b.block)) cause.Block e) in
+    let has = not-false (has_lane b.block) (one_false (not (has_lane b.block)) cause.Block e) in
     record {
       lives = k.lives;
       parts = parts_with_block b.config b.block b.parts has k.block k.parts;

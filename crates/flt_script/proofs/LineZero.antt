@@ -39,6 +39,7 @@ use Rattle.flt_script.specs.Script.{ScriptContent, script_of, lines_behind, line
 use Rattle.flt_script.specs.Text.{lines_of}
 use Rattle.flt_script.proofs.Accepted.{length_used, of_accepted_lines}
 use Rattle.flt_script.proofs.FirstCause.{first_cause_is_told}
+use Rattle.flt_script.proofs.Counted.{third_is_false}
 
 -- ---- what the lines before a line keep
 
@@ -72,12 +73,6 @@ sound_blank = record {
 one_at_most : {X : Type 0} (o : Option X) → length (option_to_list o) ≤ 1
 one_at_most None = omega arith
 one_at_most (Some x) = omega arith
-
-third_is_false : (a b c : Bool) (x y z : LineCause) → cond a (Some x) (cond b (Some y) (cond c (Some z) None)) ≡ None → c ≡ false
-third_is_false true b c x y z e = absurd cc
-third_is_false false true c x y z e = absurd cc
-third_is_false false false true x y z e = absurd cc
-third_is_false false false false x y z e = refl
 
 room_for_event : (b : Behind) (event : EventLine) → event_refusal b event ≡ None → event_count b < EVENTS
 unfolding event_refusal

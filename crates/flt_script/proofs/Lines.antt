@@ -7,8 +7,8 @@ use Rattle.std.specs.Str.Lines.{lines_of_parts, strip_carriage_return}
 use Rattle.std.proofs.lemmas.List.Splits.{slice_split_first, slice_split_none, length-slice_split}
 use Rattle.std.proofs.lemmas.List.Sums.{fails_before_first, count_by-le-length, position_or_len_is, AllPass-from_list_all, list_all-from_AllPass}
 use Rattle.std.proofs.lemmas.List.{get_or-take, length-take-le}
+use Rattle.std.proofs.lemmas.Bool.{and_parts, not-false}
 use Rattle.flt_script.specs.Text.{lines_of, is_visible, all_plain}
-use Rattle.flt_script.proofs.Bools.{both_true, not_false}
 use Rattle.flt_script.proofs.Positions.{position_some, position_none}
 
 -- The parts before the last one end at a line feed.
@@ -44,14 +44,14 @@ visible_is_no_return byte visible = grind (arith, nat_tests)
 visible_is_plain : (line : List ℕ) → list_all is_visible line ≡ true → all_plain line ≡ true
 visible_is_plain [] all = refl
 visible_is_plain (byte ∷ line) all =
-    let parts = both_true (is_visible byte) (list_all is_visible line) all in
+    let parts = and_parts (is_visible byte) (list_all is_visible line) all in
     rw (parts.0, visible_is_plain line parts.1) refl
 
 -- A line of visible bytes alone is plain.
 pub visible_all : (line : List ℕ) → position (λ byte. not (is_visible byte)) line ≡ None → all_plain line ≡ true
 visible_all line none =
     let past = position_none (λ (byte : ℕ). not (is_visible byte)) line none in
-    let each : (k d : ℕ) → k < length line → is_visible (get_or line k d) ≡ true = λ k d within. not_false _ (fails_before_first (λ (byte : ℕ). not (is_visible byte)) line k d (omega (arith, past, within))) in
+    let each : (k d : ℕ) → k < length line → is_visible (get_or line k d) ≡ true = λ k d within. not-false _ (fails_before_first (λ (byte : ℕ). not (is_visible byte)) line k d (omega (arith, past, within))) in
     visible_is_plain line (list_all-from_AllPass is_visible line each)
 
 -- Nothing is stripped of what is visible.
@@ -66,7 +66,7 @@ module _ (text : List ℕ) (end : ℕ) (e : position (λ byte. not (is_visible b
   place = position_some (λ (byte : ℕ). not (is_visible byte)) text end e
 
   visible_before : (k d : ℕ) → k < end → is_visible (get_or text k d) ≡ true
-  visible_before k d before = not_false _ (fails_before_first (λ (byte : ℕ). not (is_visible byte)) text k d (omega (arith, place.1)))
+  visible_before k d before = not-false _ (fails_before_first (λ (byte : ℕ). not (is_visible byte)) text k d (omega (arith, place.1)))
 
   visible_line : list_all is_visible (take end text) ≡ true
   visible_line = list_all-from_AllPass is_visible (take end text)

@@ -2,7 +2,7 @@
 use Rattle.std.proofs.Common.{◌≡◌, ℕ, zero, suc, ◌+◌, ◌*◌, ◌/◌, ◌%◌, ◌<◌, ◌≤◌, List, [], ◌∷◌, ◌++◌, length, Bool, true, false, cond, ◌&&◌, Ok, refl, ap, ◌∙◌, arith, inl, inr, length-append, add-one}
 use Rattle.std.specs.Prelude.{◌==◌, filter, map, sum_by}
 use Rattle.std.specs.List.{list_all, flat_map, range_with_len}
-use Rattle.std.proofs.lemmas.Bool.{lt-ltb}
+use Rattle.std.proofs.lemmas.Bool.{lt-ltb, and_parts}
 use Rattle.std.proofs.lemmas.List.{length-map, map-append}
 use Rattle.std.proofs.lemmas.List.Elements.{filter-append}
 use Rattle.std.proofs.lemmas.List.Folds.{list_all-append}
@@ -17,7 +17,6 @@ use Rattle.flt_script.specs.Load.{load_config, next_number, load_number, load_st
 use Rattle.flt_script.specs.Part.{PartOf}
 use Rattle.flt_script.specs.Step.{is_step_in, is_lane_step, has_store_step, store_lanes, is_lane_in, is_part_in, are_parts_in, steps_of_part, steps_of, lanes_of_part, lanes_of, arms_of_part, arms_of, drain_count, drains_of_lane, drains_of_part, drains_of}
 use Rattle.flt_script.specs.Within.{marks_of, IsWithinLimits}
-use Rattle.flt_script.proofs.Bools.{both_true}
 
 pub load_is_accepted : check_of load_config ≡ Ok load_config
 unfolding check_of load_config distinct_behind global_settings plain_settings jump_settings threshold_settings counter_settings debounce_settings did_width_settings did_settings event_settings events_settings ranges_result
@@ -121,8 +120,8 @@ steps_in_lanes count =
 plain_in : (steps : List Step) → is_lane_in load_config steps ≡ true → are_parts_in load_config (plain_parts steps) ≡ true
 plain_in [] all = refl
 plain_in (s ∷ steps) all =
-    let here = both_true (is_step_in load_config s && is_lane_step s) (is_lane_in load_config steps) all in
-    let first = both_true (is_step_in load_config s) (is_lane_step s) here.0 in
+    let here = and_parts (is_step_in load_config s && is_lane_step s) (is_lane_in load_config steps) all in
+    let first = and_parts (is_step_in load_config s) (is_lane_step s) here.0 in
     rw (first.0, plain_in steps here.1) refl
 
 steps_of-plain : (steps : List Step) → steps_of (plain_parts steps) ≡ length steps
@@ -152,8 +151,8 @@ no_arm (step.Arming arm) may = absurd cc
 arms_of-plain : (steps : List Step) → is_lane_in load_config steps ≡ true → arms_of (plain_parts steps) ≡ 0
 arms_of-plain [] all = refl
 arms_of-plain (s ∷ steps) all =
-    let here = both_true (is_step_in load_config s && is_lane_step s) (is_lane_in load_config steps) all in
-    let first = both_true (is_step_in load_config s) (is_lane_step s) here.0 in
+    let here = and_parts (is_step_in load_config s && is_lane_step s) (is_lane_in load_config steps) all in
+    let first = and_parts (is_step_in load_config s) (is_lane_step s) here.0 in
     omega (arith, arms_of-plain steps here.1, no_arm s first.1, sum_by-cons arms_of_part (inl s) (plain_parts steps))
 
 drains_of-plain : (steps : List Step) → drains_of (plain_parts steps) ≡ drains_of_lane steps
@@ -180,7 +179,7 @@ record IsPlain (parts : List (PartOf Step)) (steps drains : ℕ) : Type 0 where
 flat_plain : (lanes : List (List Step)) → list_all (is_lane_in load_config) lanes ≡ true → IsPlain (flat_map plain_parts lanes) (sum_by length lanes) (sum_by drains_of_lane lanes)
 flat_plain [] all = record { in_range = refl; few = refl; no_arms = refl; drained = refl; no_lanes = refl; long = refl }
 flat_plain (lane ∷ lanes) all =
-    let parts = both_true (is_lane_in load_config lane) (list_all (is_lane_in load_config) lanes) all in
+    let parts = and_parts (is_lane_in load_config lane) (list_all (is_lane_in load_config) lanes) all in
     let rest = flat_plain lanes parts.1 in
     let first = plain_parts lane in
     let others = flat_map plain_parts lanes in

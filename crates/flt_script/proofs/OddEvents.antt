@@ -1,6 +1,7 @@
 -- Event lines that are not of their form.
 use Rattle.std.proofs.Common.{◌≡◌, ℕ, List, Bool, true, false, ◌||◌, Option, Some, None, refl, if◌then◌else◌}
 use Rattle.std.specs.Prelude.{not, is_some}
+use Rattle.std.proofs.Math.Bool.{or-true}
 use Rattle.flt_script.specs.declared.event.DebounceLine.{DebounceLine}
 use Rattle.flt_script.specs.declared.event.EventLine.{EventLine}
 use Rattle.flt_script.specs.declared.event.Numbers.{Numbers}
@@ -10,7 +11,7 @@ use Rattle.flt_script.specs.Gives.{◌⇒◌, given_by}
 use Rattle.flt_script.specs.Laws.{OddEventsAreRefused}
 use Rattle.flt_script.specs.Numeral.{number}
 use Rattle.flt_script.specs.Pair.{starts_with_key, any_twice, values_of}
-use Rattle.flt_script.proofs.Bools.{or_true}
+use Rattle.flt_script.proofs.Limits.{none_of}
 
 -- An event line, by its parts.
 abbrev made : Bool → Option ℕ → Option ℕ → Option Numbers → Option DebounceLine → Option EventLine
@@ -31,13 +32,9 @@ without_debounce false (Some number) None p = refl
 without_debounce false (Some number) (Some dtc) None = refl
 without_debounce false (Some number) (Some dtc) (Some numbers) = refl
 
-no_value : {X : Type 0} (o : Option X) → is_some o ≡ false → o ≡ None
-no_value None e = refl
-no_value (Some x) e = absurd cc
-
 dtc_missing : (pairs : List (List ℕ)) → stands Dtc pairs ≡ false → dtc_of pairs ≡ None
 unfolding dtc_of
-dtc_missing pairs e = rw (no_value (values_of Dtc pairs) e) refl
+dtc_missing pairs e = rw (none_of (values_of Dtc pairs) e) refl
 
 clash : (times : Option (List (List ℕ))) (other : Bool) (counter : Option DebounceLine) → is_some times ≡ true → other ≡ true
     → given_by times counter (λ values. if other then None else times_of values) ≡ None
@@ -53,7 +50,7 @@ debounce_clashes pairs time other =
 pub odd_events_are_refused : OddEventsAreRefused
 unfolding event_of
 odd_events_are_refused = record {
-  twice = λ n pairs e. rw (e, or_true (not (starts_with_key pairs))) refl;
+  twice = λ n pairs e. rw (e, or-true (not (starts_with_key pairs))) refl;
   no_dtc = λ n pairs e.
       rw (dtc_missing pairs e) (without_dtc (not (starts_with_key pairs) || any_twice pairs) (number n) (numbers_of pairs) (debounce_of pairs));
   both = λ n pairs time other.

@@ -2,7 +2,7 @@
 use Rattle.std.proofs.Common.{◌≡◌, ℕ, ◌<◌, ◌≤◌, ◌^◌, length, true, false, ◌&&◌, Ok, refl, ◌∙◌, arith, ltb, leb, lit<, lit≤}
 use Rattle.std.specs.Prelude.{codes}
 use Rattle.std.specs.Fmt.{decimal}
-use Rattle.std.proofs.lemmas.Bool.{ltb-true, leb-true}
+use Rattle.std.proofs.lemmas.Bool.{ltb-true, leb-true, and_parts}
 use Rattle.flt_config.specs.declared.TheConstants.{EVENTS}
 use Rattle.flt_model.specs.declared.call.Report.TheVariants.{Passed, Failed, PrePassed, PreFailed}
 use Rattle.flt_script.specs.declared.keyword.Keyword.TheVariants as keyword
@@ -12,7 +12,6 @@ use Rattle.flt_script.specs.declared.step.Step.TheVariants as step
 use Rattle.flt_script.specs.Laws.{are_bytes, PrintedStepIsReadAgain}
 use Rattle.flt_script.specs.Line.{keyword_of, report_with, two_numbers, line_with, by_words, line_of}
 use Rattle.flt_script.specs.Text.{words_of, is_blank}
-use Rattle.flt_script.proofs.Bools.{both_true}
 use Rattle.flt_script.proofs.PrintedArm.{arm_is_read}
 use Rattle.flt_script.proofs.PrintedNumber.{few_digits, number-decimal, words_of-decimal, plain_digits, with_one, with_more}
 use Rattle.flt_script.proofs.PrintedPost.{post_is_read}
@@ -72,14 +71,14 @@ printed_step_is_read_again config (step.Cycle cycle) few among held =
       rw among refl,
     )
 printed_step_is_read_again config (step.Tick ticks) few among held =
-    let held = leb-true ticks 65535 (both_true (leb 1 ticks) (leb ticks 65535) among).1 in
+    let held = leb-true ticks 65535 (and_parts (leb 1 ticks) (leb ticks 65535) among).1 in
     let small : ticks < 10 ^ 10 = omega arith in (
       written.Tick ticks,
       with_one (codes "tick") refl (lit< tt) (lit≤ tt) ticks small keyword.Tick refl refl ∙ rw number-decimal refl,
       rw among refl,
     )
 printed_step_is_read_again config (step.Signal index value) few among held =
-    let parts = both_true (leb index 7) (leb value 65535) among in
+    let parts = and_parts (leb index 7) (leb value 65535) among in
     let low = leb-true index 7 parts.0 in
     let high = leb-true value 65535 parts.1 in
     let small_index : index < 10 ^ 10 = omega arith in
@@ -111,10 +110,10 @@ printed_step_is_read_again config (step.Enable condition true) few among held =
       rw among refl,
     )
 printed_step_is_read_again config (step.Request tester bytes) few among held =
-    let parts = both_true (leb tester 3) (ltb 0 (length bytes.items)) among in
+    let parts = and_parts (leb tester 3) (ltb 0 (length bytes.items)) among in
     let last = leb-true tester 3 parts.0 in
     let some = ltb-true 0 (length bytes.items) parts.1 in
-    let sizes = both_true (leb (length bytes.items) 16) (are_bytes bytes.items) held in
+    let sizes = and_parts (leb (length bytes.items) 16) (are_bytes bytes.items) held in
     let most = leb-true (length bytes.items) 16 sizes.0 in (
       written.Request tester bytes,
       request_is_read tester bytes.items last some most sizes.1,
@@ -122,11 +121,11 @@ printed_step_is_read_again config (step.Request tester bytes) few among held =
     )
 printed_step_is_read_again config step.Save few among held = (written.Save, save_is_read, refl)
 printed_step_is_read_again config (step.Post urgent block bytes) few among held =
-    let within = both_true (ltb block config.blocks && ltb 0 (length bytes.items)) (leb (length bytes.items) 32) among in
-    let parts = both_true (ltb block config.blocks) (ltb 0 (length bytes.items)) within.0 in
+    let within = and_parts (ltb block config.blocks && ltb 0 (length bytes.items)) (leb (length bytes.items) 32) among in
+    let parts = and_parts (ltb block config.blocks) (ltb 0 (length bytes.items)) within.0 in
     let some = ltb-true 0 (length bytes.items) parts.1 in
     let most = leb-true (length bytes.items) 32 within.1 in
-    let sizes = both_true (ltb block 256) (are_bytes bytes.items) held in (
+    let sizes = and_parts (ltb block 256) (are_bytes bytes.items) held in (
       written.Post urgent block bytes,
       post_is_read urgent block bytes.items (few_blocks block sizes.0) some most sizes.1,
       rw (parts.0, parts.1, within.1) refl,

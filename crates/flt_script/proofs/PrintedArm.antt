@@ -2,7 +2,7 @@
 use Rattle.std.proofs.Common.{◌≡◌, ℕ, ◌<◌, ◌≤◌, ◌^◌, List, [], ◌∷◌, length, true, ◌&&◌, Some, Ok, refl, ◌∙◌, arith, leb, length-append, lit<, lit≤}
 use Rattle.std.specs.Prelude.{codes}
 use Rattle.std.specs.Fmt.{decimal}
-use Rattle.std.proofs.lemmas.Bool.{leb-true}
+use Rattle.std.proofs.lemmas.Bool.{leb-true, and_parts}
 use Rattle.flt_flash.specs.declared.arm.Arm.{Arm}
 use Rattle.flt_flash.specs.declared.arm.Arm.TheVariants.{Cut, Fault, Mute}
 use Rattle.flt_flash.specs.declared.arm.Pattern.{Pattern}
@@ -18,7 +18,6 @@ use Rattle.flt_script.specs.Line.{keyword_of, three_numbers, number_and_pattern,
 use Rattle.flt_script.specs.Pattern.{pattern_text, pattern_of}
 use Rattle.flt_script.specs.Step.{is_arm_in, arm_text, with_number}
 use Rattle.flt_script.specs.Text.{words_of, is_blank, all_plain}
-use Rattle.flt_script.proofs.Bools.{both_true}
 use Rattle.flt_script.proofs.PrintedNumber.{few_digits, number-decimal, words_of-decimal, plain_digits, words_of_number, plain_number, with_more}
 use Rattle.flt_script.proofs.Solid.{words_of_one}
 
@@ -50,7 +49,7 @@ short_pattern Tail = lit≤ tt
 short_pattern Odd = lit≤ tt
 
 small_count : (n : ℕ) → (leb 1 n && leb n 65535) ≡ true → n < 10 ^ 10
-small_count n among = let most = leb-true n 65535 (both_true (leb 1 n) (leb n 65535) among).1 in omega arith
+small_count n among = let most = leb-true n 65535 (and_parts (leb 1 n) (leb n 65535) among).1 in omega arith
 
 pub arm_is_read : (arm : Arm) → is_arm_in arm ≡ true
     → (w : ArmLine) × (line_of (arm_text arm) ≡ Ok (line.Step (steps.Arming w))) × (arm_of w ≡ Some arm)
@@ -70,9 +69,9 @@ arm_is_read (Fault after pattern) among =
       rw among refl,
     )
 arm_is_read (Mute sector page times) among =
-    let all = both_true (leb sector 1 && leb page 1023 && leb 1 times) (leb times 65535) among in
-    let three = both_true (leb sector 1 && leb page 1023) (leb 1 times) all.0 in
-    let two = both_true (leb sector 1) (leb page 1023) three.0 in
+    let all = and_parts (leb sector 1 && leb page 1023 && leb 1 times) (leb times 65535) among in
+    let three = and_parts (leb sector 1 && leb page 1023) (leb 1 times) all.0 in
+    let two = and_parts (leb sector 1) (leb page 1023) three.0 in
     let low = leb-true sector 1 two.0 in
     let high = leb-true page 1023 two.1 in
     let most = leb-true times 65535 all.1 in
@@ -90,7 +89,7 @@ arm_is_read (Mute sector page times) among =
     )
 
 some_count : (n : ℕ) → (leb 1 n && leb n 65535) ≡ true → 0 < n
-some_count n among = let least = leb-true 1 n (both_true (leb 1 n) (leb n 65535) among).0 in omega arith
+some_count n among = let least = leb-true 1 n (and_parts (leb 1 n) (leb n 65535) among).0 in omega arith
 
 pub each_arm_can_be_made : EachArmCanBeMade
 each_arm_can_be_made config (Cut after pattern) among = some_count after among

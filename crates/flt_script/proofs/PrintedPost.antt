@@ -1,7 +1,7 @@
 -- A printed job is read again.
 use Rattle.std.proofs.Common.{◌≡◌, ℕ, ◌<◌, ◌≤◌, ◌^◌, List, [], ◌∷◌, length, Bool, true, false, Ok, refl, ◌∙◌, arith, ltb, leb, length-append, lit<, lit≤}
 use Rattle.std.specs.Prelude.{map, codes}
-use Rattle.std.proofs.lemmas.Bool.{le-leb, ltb-true}
+use Rattle.std.proofs.lemmas.Bool.{le-leb, ltb-true, and_parts}
 use Rattle.std.proofs.lemmas.List.{length-map}
 use Rattle.std.proofs.lemmas.List.Folds.{list_all-append}
 use Rattle.flt_script.specs.declared.keyword.Keyword.TheVariants as keyword
@@ -13,7 +13,6 @@ use Rattle.flt_script.specs.Laws.{are_bytes}
 use Rattle.flt_script.specs.Line.{keyword_of, post_with, line_with, line_of}
 use Rattle.flt_script.specs.Step.{step_text}
 use Rattle.flt_script.specs.Text.{words_of, is_blank, is_plain, all_plain}
-use Rattle.flt_script.proofs.Bools.{both_true}
 use Rattle.flt_script.proofs.PrintedNumber.{number-decimal, with_more}
 use Rattle.flt_script.proofs.PrintedRequest.{digits_are_solid, words_of-spaced, plain-spaced, length-spaced, each-two_digits}
 use Rattle.flt_script.proofs.Solid.{solid_is_plain}
@@ -21,7 +20,7 @@ use Rattle.flt_script.proofs.Solid.{solid_is_plain}
 -- The bytes of a job.
 module _ (byte : ℕ) (bytes : List ℕ) (most : length (byte ∷ bytes) ≤ 32) (small : are_bytes (byte ∷ bytes) ≡ true) where
   parts : (ltb byte 256 ≡ true) × (are_bytes bytes ≡ true)
-  parts = both_true (ltb byte 256) (are_bytes bytes) small
+  parts = and_parts (ltb byte 256) (are_bytes bytes) small
 
   first : byte < 256
   first = ltb-true byte 256 parts.0

@@ -4,7 +4,7 @@ use Rattle.std.specs.Prelude.{map, codes}
 use Rattle.std.specs.Char.{digit_value}
 use Rattle.std.specs.Fmt.{digit_glyph}
 use Rattle.std.specs.List.{list_all}
-use Rattle.std.proofs.lemmas.Bool.{lt-ltb, le-leb, ltb-true}
+use Rattle.std.proofs.lemmas.Bool.{lt-ltb, le-leb, ltb-true, and_parts}
 use Rattle.std.proofs.lemmas.Bool.Decides.{nat_tests}
 use Rattle.std.proofs.lemmas.List.{length-map}
 use Rattle.std.proofs.lemmas.List.Folds.{list_all-append}
@@ -18,7 +18,6 @@ use Rattle.flt_script.specs.Line.{keyword_of, line_with, request_with, line_of}
 use Rattle.flt_script.specs.Numeral.{numeral, hexadecimal}
 use Rattle.flt_script.specs.Step.{step_text}
 use Rattle.flt_script.specs.Text.{words_of, is_blank, is_plain, all_plain}
-use Rattle.flt_script.proofs.Bools.{both_true}
 use Rattle.flt_script.proofs.Solid.{is_solid, solid_is_plain, words_of_one, words_of_first, by_keyword}
 
 -- A hexadecimal digit.
@@ -47,7 +46,7 @@ pub words_of-spaced : (word bytes : List ℕ) → list_all is_solid word ≡ tru
     → words_of (word ++ spaced bytes) ≡ word ∷ map two_digits bytes
 words_of-spaced word [] solid some small = rw append-nil (words_of_one word solid some)
 words_of-spaced word (byte ∷ bytes) solid some small =
-    let parts = both_true (ltb byte 256) (are_bytes bytes) small in
+    let parts = and_parts (ltb byte 256) (are_bytes bytes) small in
     let first = digits_are_solid byte (ltb-true byte 256 parts.0) in
     words_of_first word (two_digits byte ++ spaced bytes) solid some
     ∙ ap (λ (words : List (List ℕ)). word ∷ words) (words_of-spaced (two_digits byte) bytes first (lit< tt) parts.1)
@@ -55,7 +54,7 @@ words_of-spaced word (byte ∷ bytes) solid some small =
 pub plain-spaced : (bytes : List ℕ) → are_bytes bytes ≡ true → all_plain (spaced bytes) ≡ true
 plain-spaced [] small = refl
 plain-spaced (byte ∷ bytes) small =
-    let parts = both_true (ltb byte 256) (are_bytes bytes) small in
+    let parts = and_parts (ltb byte 256) (are_bytes bytes) small in
     let first = solid_is_plain (two_digits byte) (digits_are_solid byte (ltb-true byte 256 parts.0)) in
     list_all-append is_plain (32 ∷ two_digits byte) (spaced bytes) ∙ rw (first, plain-spaced bytes parts.1) refl
 
@@ -67,7 +66,7 @@ length-spaced (byte ∷ bytes) = rw (length-append (32 ∷ two_digits byte) (spa
 pub each-two_digits : (bytes : List ℕ) → are_bytes bytes ≡ true → each (hexadecimal 2) (map two_digits bytes) ≡ Some bytes
 each-two_digits [] small = refl
 each-two_digits (byte ∷ bytes) small =
-    let parts = both_true (ltb byte 256) (are_bytes bytes) small in
+    let parts = and_parts (ltb byte 256) (are_bytes bytes) small in
     rw (byte_is_read byte (ltb-true byte 256 parts.0), each-two_digits bytes parts.1) refl
 
 -- A tester's letter.

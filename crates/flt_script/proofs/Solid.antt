@@ -5,7 +5,7 @@ use Rattle.std.specs.Char.{digit_value}
 use Rattle.std.specs.List.{list_all, slice_split, All}
 use Rattle.std.specs.Option.{ok_or}
 use Rattle.std.specs.Str.Parse.{AllDigits}
-use Rattle.std.proofs.lemmas.Bool.{lt-ltb, le-ltb}
+use Rattle.std.proofs.lemmas.Bool.{lt-ltb, le-ltb, and_parts, not-true}
 use Rattle.std.proofs.lemmas.Bool.Decides.{nat_tests}
 use Rattle.std.proofs.lemmas.List.Folds.{list_all-append}
 use Rattle.std.proofs.lemmas.List.Splits.{slice_split_at, slice_split_none}
@@ -16,7 +16,6 @@ use Rattle.flt_script.specs.declared.keyword.Keyword.{Keyword}
 use Rattle.flt_script.specs.Line.{keyword_of, line_with, is_comment, by_words, line_of}
 use Rattle.flt_script.specs.Numeral.{all_digits}
 use Rattle.flt_script.specs.Text.{words_of, is_blank, is_word, is_plain, all_plain}
-use Rattle.flt_script.proofs.Bools.{both_true, not_true}
 use Rattle.flt_script.proofs.Words.{a_word}
 
 -- A byte of a word that is printed.
@@ -26,19 +25,19 @@ is_solid byte = is_plain byte && not (is_blank byte)
 pub solid_is_plain : (word : List ℕ) → list_all is_solid word ≡ true → all_plain word ≡ true
 solid_is_plain [] e = refl
 solid_is_plain (byte ∷ word) e =
-    let parts = both_true (is_solid byte) (list_all is_solid word) e in
-    let first = both_true (is_plain byte) (not (is_blank byte)) parts.0 in
+    let parts = and_parts (is_solid byte) (list_all is_solid word) e in
+    let first = and_parts (is_plain byte) (not (is_blank byte)) parts.0 in
     rw (first.0, solid_is_plain word parts.1) refl
 
 solid_is_whole : (word : List ℕ) → list_all is_solid word ≡ true → list_all (λ byte. not (is_blank byte)) word ≡ true
 solid_is_whole [] e = refl
 solid_is_whole (byte ∷ word) e =
-    let parts = both_true (is_solid byte) (list_all is_solid word) e in
-    let first = both_true (is_plain byte) (not (is_blank byte)) parts.0 in
+    let parts = and_parts (is_solid byte) (list_all is_solid word) e in
+    let first = and_parts (is_plain byte) (not (is_blank byte)) parts.0 in
     rw (first.1, solid_is_whole word parts.1) refl
 
 pub none_blank : (word : List ℕ) → list_all is_solid word ≡ true → All (λ byte. is_blank byte ≡ false) word
-none_blank word e = λ k d within. not_true _ (AllPass-from_list_all (λ (byte : ℕ). not (is_blank byte)) word (solid_is_whole word e) k d within)
+none_blank word e = λ k d within. not-true _ (AllPass-from_list_all (λ (byte : ℕ). not (is_blank byte)) word (solid_is_whole word e) k d within)
 
 -- It is one word.
 pub words_of_one : (word : List ℕ) → list_all is_solid word ≡ true → 0 < length word → words_of word ≡ word ∷ []

@@ -1,6 +1,7 @@
 -- A step that was read is as its line says.
 use Rattle.std.proofs.Common.{◌≡◌, ℕ, length, Bool, true, false, ◌&&◌, ltb, leb, Option, Some, None, refl, sym, ◌∙◌}
 use Rattle.std.specs.Prelude.{IfSome, is_some, is_none, not, option_map, ◌==◌}
+use Rattle.std.proofs.Math.Bool.{and_assoc}
 use Rattle.flt_config.specs.declared.config.Config.{Config}
 use Rattle.flt_flash.specs.declared.arm.Arm.TheVariants as arm
 use Rattle.flt_script.specs.declared.arm.ArmLine.TheVariants.{Cut, Fault, Mute}
@@ -12,7 +13,6 @@ use Rattle.flt_script.specs.Behind.{arm_of, step_of}
 use Rattle.flt_script.specs.Causes.{is_step_written, arms_written, drains_written, is_for_no_lane, is_for_one_lane}
 use Rattle.flt_script.specs.Gives.{◌⇒◌, given_by}
 use Rattle.flt_script.specs.Step.{is_step_in, is_lane_step, is_store_step, arm_count, drain_count}
-use Rattle.flt_script.proofs.Bools.{and_assoc}
 use Rattle.flt_script.proofs.Kept.{kept}
 
 -- A step is as its line says.

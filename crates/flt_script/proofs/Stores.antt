@@ -1,22 +1,27 @@
 -- Which lanes of a block have a save, drain or get.
-use Rattle.std.proofs.Common.{◌≡◌, ℕ, ◌≤◌, List, [], ◌∷◌, ◌++◌, Bool, true, false, cond, ◌&&◌, ◌||◌, Option, Some, None, Ok, refl, ap, ◌∙◌, arith}
+use Rattle.std.proofs.Common.{◌≡◌, ℕ, ◌≤◌, List, [], ◌∷◌, ◌++◌, Bool, true, false, cond, ◌&&◌, ◌||◌, Option, Some, None, Ok, refl, sym, ap, ◌∙◌, arith}
 use Rattle.std.specs.Prelude.{IfSome, is_some, is_none, option_map}
 use Rattle.std.specs.List.{list_any}
 use Rattle.std.proofs.lemmas.List.Folds.{list_any-append}
 use Rattle.std.proofs.lemmas.List.Sums.{sum_by-cons, sum_by_push}
+use Rattle.std.proofs.lemmas.Bool.{or_parts}
+use Rattle.std.proofs.Math.Bool.{or-true, or-false, or_comm, or_assoc}
 use Rattle.flt_script.specs.declared.step.Step.{Step}
 use Rattle.flt_script.specs.Behind.{in_last_lane, has_earlier_store, is_store_used, is_store_taken}
 use Rattle.flt_script.specs.Gives.{given_by}
 use Rattle.flt_script.specs.Next.{with_lane_step}
 use Rattle.flt_script.specs.Refusal.{is_step_misplaced}
 use Rattle.flt_script.specs.Step.{is_store_step, has_store_step, store_lanes}
-use Rattle.flt_script.proofs.Bools.{both_false, or_false, or_comm, or_swap, or_assoc}
+
+or_swap : (a b c : Bool) → (a || (b || c)) ≡ (b || (a || c))
+or_swap true b c = sym (or-true b)
+or_swap false b c = refl
 
 -- ---- a step more
 
 stored_with : (s : Step) (lane : List Step) → has_store_step (lane ++ s ∷ []) ≡ (is_store_step s || has_store_step lane)
 stored_with s lane =
-    list_any-append is_store_step lane (s ∷ []) ∙ rw (or_false (is_store_step s)) (or_comm (has_store_step lane) (is_store_step s))
+    list_any-append is_store_step lane (s ∷ []) ∙ rw (or-false (is_store_step s)) (or_comm (has_store_step lane) (is_store_step s))
 
 pub used_with : (s : Step) (lane : List Step) (lanes : List (List Step))
     → list_any has_store_step (in_last_lane (Some s) (lane ∷ lanes)) ≡ (is_store_step s || list_any has_store_step (lane ∷ lanes))
@@ -54,7 +59,7 @@ last_lane_alone : (s : Step) (lanes : List (List Step)) → has_earlier_store la
 last_lane_alone s [] none = omega arith
 last_lane_alone s (lane ∷ []) none = omega (arith, one_at_most (has_store_step (lane ++ s ∷ [])), sum_by-cons one_if (lane ++ s ∷ []) [])
 last_lane_alone s (lane ∷ next ∷ lanes) none =
-    let parts = both_false (has_store_step lane) (has_earlier_store (next ∷ lanes)) none in
+    let parts = or_parts (has_store_step lane) (has_earlier_store (next ∷ lanes)) none in
     let first : one_if lane ≡ 0 = rw parts.0 refl in
     omega (arith, first, last_lane_alone s (next ∷ lanes) parts.1, sum_by-cons one_if lane (in_last_lane (Some s) (next ∷ lanes)))
 
@@ -73,7 +78,7 @@ pub few_with_lane : (lanes : List (List Step)) → store_lanes (lanes ++ [] ∷ 
 few_with_lane lanes = omega (arith, sum_by_push one_if lanes [])
 
 pub used_with_lane : (lanes : List (List Step)) → list_any has_store_step (lanes ++ [] ∷ []) ≡ list_any has_store_step lanes
-used_with_lane lanes = list_any-append has_store_step lanes ([] ∷ []) ∙ or_false (list_any has_store_step lanes)
+used_with_lane lanes = list_any-append has_store_step lanes ([] ∷ []) ∙ or-false (list_any has_store_step lanes)
 
 pub earlier_with_lane : (lanes : List (List Step)) → has_earlier_store (lanes ++ [] ∷ []) ≡ list_any has_store_step lanes
 earlier_with_lane [] = refl

@@ -2,13 +2,12 @@
 use Rattle.std.proofs.Common.{◌≡◌, ℕ, zero, suc, ◌+◌, ◌<◌, List, [], ◌∷◌, length, take, drop, get_or, Bool, true, false, Some, None, refl, ap, sym, ◌∙◌, arith, cond, add-zero, add-one, drop-cons, length-drop}
 use Rattle.std.specs.Prelude.{not, filter}
 use Rattle.std.specs.List.{position, position_or_len, slice_split, All}
-use Rattle.std.proofs.lemmas.Bool.{lt-ltb}
+use Rattle.std.proofs.lemmas.Bool.{lt-ltb, not-true}
 use Rattle.std.proofs.Math.ListN.{drop_of_length-le}
 use Rattle.std.proofs.lemmas.List.{get_or-drop, length-take-le}
 use Rattle.std.proofs.lemmas.List.Splits.{slice_split_first, slice_split_none, slice_split-cons_yes}
 use Rattle.std.proofs.lemmas.List.Sums.{fails_before_first, passes_at_first}
 use Rattle.flt_script.specs.Text.{words_of, is_blank, is_word}
-use Rattle.flt_script.proofs.Bools.{not_true}
 use Rattle.flt_script.proofs.Positions.{position_some, position_none}
 
 pub words_of-nil : words_of [] ≡ []
@@ -49,7 +48,7 @@ from_word line start e =
     let first : not (is_blank (get_or line start 0)) ≡ true = rw place.1 (passes_at_first (λ (byte : ℕ). not (is_blank byte)) line 0 place.0) in
     record {
       some = rw length-drop (omega (arith, place.0, place.1));
-      first = rw (get_or-drop, add-zero) (not_true (is_blank (get_or line start 0)) first);
+      first = rw (get_or-drop, add-zero) (not-true (is_blank (get_or line start 0)) first);
       same = rw place.1 (skip_blanks line);
     }
 

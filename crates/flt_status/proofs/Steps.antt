@@ -17,12 +17,6 @@ set_where true false = refl
 set_where false true = refl
 set_where false false = refl
 
-pub cleared_where : (test before : Bool) → unwrap_or (cond test (Some false) None) before ≡ (before && not test)
-cleared_where true true = refl
-cleared_where true false = refl
-cleared_where false true = refl
-cleared_where false false = refl
-
 -- A count that stops at a limit may stop there at each step.
 pub stopped_count : (limit n : ℕ) (counted : Bool) → min limit (cond counted (n + 1) n) ≡ min limit (cond counted (min limit n + 1) (min limit n))
 stopped_count limit n true = omega arith

@@ -11,7 +11,7 @@ use Rattle.flt_nvm.specs.Leaves.{GotOf}
 use Rattle.flt_generation.specs.declared.commit.Commit.{Commit}
 use Rattle.flt_generation.specs.Layout.{number_of, mark_number, first_commit, second_commit, application_number, applications, is_used}
 use Rattle.flt_generation.specs.Excess.{own_pages, IsBorne}
-use Rattle.flt_generation.specs.Holding.{Generation, Holds, IsSound, either_copy, only_bytes, is_application}
+use Rattle.flt_generation.specs.Holding.{Generation, Holds, IsSound, only_bytes, is_application}
 use Rattle.flt_generation.specs.Successor.{IsContentOf}
 use Rattle.flt_generation.proofs.Pages.{applications_of}
 use Rattle.flt_generation.proofs.Choices.{chosen}
@@ -20,7 +20,7 @@ use Rattle.flt_store.specs.Started.{HasMark, IsStarted}
 use Rattle.flt_store.specs.Store.{Gets}
 use Rattle.flt_generation.proofs.Pages.{used_range}
 use Rattle.flt_store.proofs.Causes.{borne_stays}
-use Rattle.flt_store.proofs.Started.{AreApplications, names_on, mark_on, holds_on}
+use Rattle.flt_store.proofs.Started.{AreApplications, names_on, mark_on, holds_on, sound_on}
 
 module _ (c : Config) (block : ℕ) (own : block < c.blocks) (within : block < applications) (before after : ℕ → Content) (raw : List ℕ) (short : length raw ≤ 32)
     (either : (after (application_number block) ≡ before (application_number block)) ⊎ (after (application_number block) ≡ bytes raw))
@@ -79,14 +79,7 @@ module _ (c : Config) (block : ℕ) (own : block < c.blocks) (within : block < a
 
   -- No generation changes.
   pub sound_put : (h s : Generation) → IsSound c before h s → IsSound c after h s
-  sound_put h s sound = record {
-    holds = subst (λ (content : Content). Holds c after content h) (ap (λ (d : Content). either_copy d (before second_commit)) (sym first_same) ∙ ap (either_copy (after first_commit)) (sym second_same))
-        (holds_put (either_copy (before first_commit) (before second_commit)) h sound.holds);
-    spares = subst (λ (content : Content). Holds c after content s) (ap only_bytes (sym second_same)) (holds_put (only_bytes (before second_commit)) s sound.spares);
-    order = sound.order;
-    step = sound.step;
-    same = sound.same;
-  }
+  sound_put = sound_on c before after first_same second_same holds_put
 
   pub started_put : (commit : Option Commit) (g : Generation) → IsStarted c before commit g → IsStarted c after commit g
   started_put commit g started = record {

@@ -1,5 +1,5 @@
 -- The mark of the configuration was read, and written where it was missing or of version 1.
-use Rattle.std.proofs.Common.{◌≡◌, ◌≢◌, ◌⊎◌, inl, inr, ⊎_elim, ℕ, ◌≤◌, length, refl, sym, ◌∙◌, ap, subst, arith}
+use Rattle.std.proofs.Common.{◌≡◌, ◌≢◌, ◌⊎◌, inl, inr, ⊎_elim, ℕ, ◌≤◌, length, refl, sym, ap, subst, arith}
 use Rattle.std.specs.Prelude.{IsTrue}
 use Rattle.std.proofs.lemmas.Bool.{cases_eq}
 use Rattle.flt_flash.specs.Content.{Content, missing, invalid, bytes}
@@ -8,13 +8,13 @@ use Rattle.flt_config.specs.declared.config.Config.{Config}
 use Rattle.flt_generation.specs.Layout.{mark_number, number_of, first_commit, second_commit, application_number, is_used}
 use Rattle.flt_generation.specs.Form.{mark_of, mark_bytes}
 use Rattle.flt_generation.specs.Excess.{IsBorne, own_pages}
-use Rattle.flt_generation.specs.Holding.{Generation, Holds, IsSound, MarkAllows, either_copy, only_bytes, is_application}
+use Rattle.flt_generation.specs.Holding.{Generation, Holds, IsSound, MarkAllows, is_application}
 use Rattle.flt_generation.proofs.Marks.{mark_size}
 use Rattle.flt_generation.proofs.Pages.{used_range}
 use Rattle.flt_store.specs.Cause.{IsWithinOwn}
 use Rattle.flt_store.specs.Started.{IsMarkTried}
 use Rattle.flt_store.proofs.Causes.{borne_stays}
-use Rattle.flt_store.proofs.Started.{AreApplications, content_names_on}
+use Rattle.flt_store.proofs.Started.{AreApplications, content_names_on, sound_on}
 use Rattle.flt_restore.specs.Restored.{IsMarkDue}
 
 module _ (c : Config) (before after : ℕ → Content) (tried : IsMarkTried c before after) (others : (other : ℕ) → other ≢ mark_number → after other ≡ before other) where
@@ -67,14 +67,7 @@ module _ (c : Config) (before after : ℕ → Content) (tried : IsMarkTried c be
   }
 
   pub sound_marked : (h s : Generation) → IsSound c before h s → IsSound c after h s
-  sound_marked h s sound = record {
-    holds = subst (λ (content : Content). Holds c after content h) (ap (λ (d : Content). either_copy d (before second_commit)) (sym first_same) ∙ ap (either_copy (after first_commit)) (sym second_same))
-        (holds_marked (either_copy (before first_commit) (before second_commit)) h sound.holds);
-    spares = subst (λ (content : Content). Holds c after content s) (ap only_bytes (sym second_same)) (holds_marked (only_bytes (before second_commit)) s sound.spares);
-    order = sound.order;
-    step = sound.step;
-    same = sound.same;
-  }
+  sound_marked = sound_on c before after first_same second_same holds_marked
 
 -- A mark that is allowed and has not to be written stands in the version that is written.
 pub stands_anew : (c : Config) (content commit : Content) → MarkAllows c content commit → (IsMarkDue (mark_of c) content → ⊥) → content ≡ bytes (mark_bytes (mark_of c))

@@ -19,10 +19,6 @@ pub ok_map : {T E : Type 0} {P Q : T → Type 0} (result : Result T E) → ((x :
 ok_map (Ok x) to p = to x p
 ok_map (Err e) to p = tt
 
-pub err_map : {T E : Type 0} {P Q : Type 0} (result : Result T E) → (P → Q) → OnErr result P → OnErr result Q
-err_map (Ok x) to p = tt
-err_map (Err e) to p = to p
-
 module _ (h s new : Generation) where
   -- A save that went on from the held generation.
   pub one_by_held : (g : Generation) → IsOneOf g h h new → IsOneOf g h s new

@@ -88,6 +88,19 @@ module _ (c : Config) (before after : ℕ → Content) (mark_same : after mark_n
     excess = excess;
   }
 
+-- Which generations are held, where the copies of the commit are as they were.
+module _ (c : Config) (before after : ℕ → Content) (first_same : after first_commit ≡ before first_commit) (second_same : after second_commit ≡ before second_commit)
+    (holds_on : (content : Content) (g : Generation) → Holds c before content g → Holds c after content g) where
+  pub sound_on : (h s : Generation) → IsSound c before h s → IsSound c after h s
+  sound_on h s sound = record {
+    holds = subst (λ (content : Content). Holds c after content h) (ap (λ (d : Content). either_copy d (before second_commit)) (sym first_same) ∙ ap (either_copy (after first_commit)) (sym second_same))
+        (holds_on (either_copy (before first_commit) (before second_commit)) h sound.holds);
+    spares = subst (λ (content : Content). Holds c after content s) (ap only_bytes (sym second_same)) (holds_on (only_bytes (before second_commit)) s sound.spares);
+    order = sound.order;
+    step = sound.step;
+    same = sound.same;
+  }
+
 -- What stands where the two images agree but for the copies of the commit.
 module _ (c : Config) (before after : ℕ → Content) (agree : AgreeButForCommit before after) where
   above_commit : (id index : ℕ) → IsTrue (is_used c id) → index ≤ 1 → after (number_of id index) ≡ before (number_of id index)

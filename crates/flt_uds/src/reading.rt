@@ -20,7 +20,7 @@ const SUPPRESS: u8 = 0x80;
 fn dtc_of(high: u8, middle: u8, low: u8) -> u32
     ensures { result ≡ dtc_of high middle low }
 {
-    u32::from(high) * 65_536 + u32::from(middle) * 256 + u32::from(low)
+    u32::from_be_bytes([0, high, middle, low])
 }
 
 /// The record number: the first, the second or both.

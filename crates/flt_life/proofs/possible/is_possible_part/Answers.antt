@@ -5,7 +5,8 @@ use Rattle.flt_script.specs.declared.step.Part.{Part}
 use Rattle.flt_script.specs.Part.{part_of}
 use Rattle.flt_script.specs.Step.{has_store_step}
 use Rattle.flt_life.specs.Parts.{IsPossibleInLane, IsPossiblePart}
-use Rattle.flt_life.proofs.EachPossible.{all_unmapped, stores_mapped}
+use Rattle.flt_fork.proofs.Blocks.{all_of_map}
+use Rattle.flt_life.proofs.StoreLanes.{stores_mapped}
 use Rattle.flt_life.proofs.possible.is_possible_part.Goals as goal
 
 pub returns-then-are_possible_lanes : goal.returns-then-are_possible_lanes
@@ -28,6 +29,6 @@ returns-else-are_possible_lanes c =
     let impossible = c.if-are_possible_lanes.false in (
       λ yes. absurd (cc (impossible, yes)),
       λ part. c.are_possible_lanes.ensures.1 (subst (λ ls. All (λ lane. All (IsPossibleInLane config) lane.items) ls) (sym c.deref.ensures.value)
-          (all_unmapped (λ lane. All (IsPossibleInLane config) lane) (λ lane. lane.items) c.in-Lanes.lanes.items
+          (all_of_map (λ lane. All (IsPossibleInLane config) lane) (λ lane. lane.items) c.in-Lanes.lanes.items
           (subst (λ (part : Part). IsPossiblePart config (part_of part)) c.in-Lanes.is part).0)),
     )

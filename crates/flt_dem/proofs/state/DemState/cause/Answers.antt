@@ -2,7 +2,8 @@ use Rattle.std.proofs.Common.{◌≡◌, ◌∙◌, true, false, get_or, sym, ap
 use Rattle.flt_model.specs.Happening.{cause_of}
 use Rattle.flt_dem.specs.contracts.state.DemState.{the_view}
 use Rattle.flt_dem.specs.Manager.{readiness_at}
-use Rattle.flt_dem.proofs.ManagerLemmas.{seen, cause_read}
+use Rattle.flt_model.proofs.EnableLaws.{seen}
+use Rattle.flt_dem.proofs.ManagerLemmas.{cause_read}
 use Rattle.flt_dem.proofs.state.DemState.cause.Goals as goal
 
 pub returns-then-not-meet-clause-cause : goal.returns-then-not-meet-clause-cause

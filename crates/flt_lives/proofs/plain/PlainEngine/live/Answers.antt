@@ -54,7 +54,7 @@ take_steps-requires-clause-room g c =
     }
 
 pub returns-clause-boot : goal.returns-clause-boot
-returns-clause-boot g c = ap (λ (view : LifeView). view.boot) (c.life_of.ensures []) ∙ ap (λ state. Started c.args.generation state) c.copy_of-start.ensures
+returns-clause-boot g c = ap (λ (view : LifeView). view.boot) (c.life_of.ensures []) ∙ ap (λ state. Started c.args.generation state) c.twin-start.ensures
 
 pub returns-clause-leaves : goal.returns-clause-leaves
 returns-clause-leaves g c =
@@ -62,7 +62,7 @@ returns-clause-leaves g c =
     let parts = parts_of c.args.parts.now in
     let account = c.take_steps.new.account in
     let told = told_in account.replies in
-    let boot = Started c.args.generation c.copy_of-start.result in
+    let boot = Started c.args.generation c.twin-start.result in
     let view = alone_view parts boot (reverse account.journal.items) told in
     let same = alone_is (view_of parts c.life_of.result) parts boot account.journal.items c.new-queue.result.items told c.args.room.told.items c.new-queue.ensures.items c.requires.room.none_told.0 (c.life_of.ensures parts) in
     let first = numbered c.args.generation c.args.buffers.now.state in
@@ -92,7 +92,7 @@ returns-clause-caused g c = λ before rose.
     let parts = parts_of c.args.parts.now in
     let account = c.take_steps.new.account in
     let told = told_in account.replies in
-    let boot = Started c.args.generation c.copy_of-start.result in
+    let boot = Started c.args.generation c.twin-start.result in
     let view = alone_view parts boot (reverse account.journal.items) told in
     let same = alone_is (view_of parts c.life_of.result) parts boot account.journal.items c.new-queue.result.items told c.args.room.told.items c.new-queue.ensures.items c.requires.room.none_told.0 (c.life_of.ensures parts) in
     let first = numbered c.args.generation c.args.buffers.now.state in
@@ -115,7 +115,7 @@ returns-clause-played g c =
     let parts = parts_of c.args.parts.now in
     let account = c.take_steps.new.account in
     let told = told_in account.replies in
-    let boot = Started c.args.generation c.copy_of-start.result in
+    let boot = Started c.args.generation c.twin-start.result in
     let view = alone_view parts boot (reverse account.journal.items) told in
     let same = alone_is (view_of parts c.life_of.result) parts boot account.journal.items c.new-queue.result.items told c.args.room.told.items c.new-queue.ensures.items c.requires.room.none_told.0 (c.life_of.ensures parts) in
     let first = numbered c.args.generation c.args.buffers.now.state in
@@ -127,7 +127,7 @@ returns-clause-played g c =
       kept = kept_first config first;
     } in
     subst (λ (view : LifeView). IsPlayed config view) (sym same)
-    (played_by config parts c.args.generation c.args.buffers.now.state c.copy_of-start.result account.journal.items told c.copy_of-start.ensures (c.take_steps.ensures.played first begun))
+    (played_by config parts c.args.generation c.args.buffers.now.state c.twin-start.result account.journal.items told c.twin-start.ensures (c.take_steps.ensures.played first begun))
 
 pub returns-clause-kept : goal.returns-clause-kept
 returns-clause-kept g c =
@@ -135,7 +135,7 @@ returns-clause-kept g c =
     let parts = parts_of c.args.parts.now in
     let account = c.take_steps.new.account in
     let told = told_in account.replies in
-    let boot = Started c.args.generation c.copy_of-start.result in
+    let boot = Started c.args.generation c.twin-start.result in
     let view = alone_view parts boot (reverse account.journal.items) told in
     let same = alone_is (view_of parts c.life_of.result) parts boot account.journal.items c.new-queue.result.items told c.args.room.told.items c.new-queue.ensures.items c.requires.room.none_told.0 (c.life_of.ensures parts) in
     let before = moment_of (driver_of c.args.store.now) in
