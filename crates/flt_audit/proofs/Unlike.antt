@@ -6,7 +6,6 @@ use Rattle.std.proofs.lemmas.Bool.{cases_Bool}
 use Rattle.std.proofs.lemmas.Grind.{take_at_read}
 use Rattle.std.proofs.lemmas.List.{reverse-append}
 use Rattle.std.proofs.lemmas.Slice.Eq.{bytes_eq-Decides}
-use Rattle.std.specs.Prelude.{not}
 use Rattle.std.specs.Str.{bytes_eq}
 use Rattle.flt_model.specs.Answer.{answer, answers}
 use Rattle.flt_model.specs.Life.{Life, History}
@@ -68,14 +67,6 @@ other_texts x y a b first second other_is = elim (cases_Bool (bytes_eq x y)) [
       absurd (cc wrong)
   | inr apart ↦ apart
 ]
-
-pub not_true : (b : Bool) → not b ≡ true → b ≡ false
-not_true true is = absurd (cc is)
-not_true false is = refl
-
-pub not_false : (b : Bool) → not b ≡ false → b ≡ true
-not_false true is = refl
-not_false false is = absurd (cc is)
 
 -- The calls so far, the newest first, with one more.
 pub one_call_more : (calls : List (Entry Op)) (place : ℕ) (call : Entry Op) → place < length calls

@@ -1,6 +1,6 @@
 -- Texts in two lists, and what a call answered.
 use Rattle.std.proofs.Common.{◌≡◌, ◌≢◌, ◌⊎◌, ℕ, ◌+◌, ◌<◌, List, [], ◌∷◌, ◌++◌, true, false, Option, Some, None, Result, Ok, Err, refl, sym, ap, subst, ◌∙◌, get_or, take, length, inl, inr}
-use Rattle.std.specs.Prelude.{Bool, MatchOption, not}
+use Rattle.std.specs.Prelude.{Bool, MatchOption}
 use Rattle.std.proofs.lemmas.Grind.{take_at_read}
 use Rattle.hex.specs.declared.error.FromHexError.{FromHexError}
 use Rattle.hex.specs.declared.error.FromHexError.TheVariants.{OutOfMemory}
@@ -27,10 +27,6 @@ pub one_more : {X : Type 0} (xs ys : List X) (place : ℕ) (d : X) → place < l
     → get_or xs place d ≡ get_or ys place d → take (place + 1) xs ≡ take (place + 1) ys
 one_more xs ys place d first second before here =
     (take_at_read xs place d first).1 ∙ (λ i. before i ++ here i ∷ []) ∙ sym (take_at_read ys place d second).1
-
-pub not_not : (b : Bool) → not b ≡ false → b ≡ true
-not_not true is = refl
-not_not false is = absurd (cc is)
 
 -- What is said of a value that may be there, by whether it is.
 module _ {A : Type 0} (P : Type 0) (Q : A → Type 0) where

@@ -1,6 +1,7 @@
 //! What a controller is configured to.
 use crate::{DIDS, EVENTS};
 use arrayvec::ArrayVec;
+use thiserror::Error;
 
 /// A data identifier (DID, ISO 14229-1) in the frame of an event.
 #[derive(Clone, Copy, PartialEq, Eq, Debug, Default)]
@@ -123,20 +124,23 @@ pub enum Field {
 }
 
 /// Why a configuration is refused.
-#[derive(Clone, Copy, PartialEq, Eq, Debug)]
+#[derive(Clone, Copy, PartialEq, Eq, Debug, Error)]
 pub enum CfgFault {
     /// A number is out of range: the event that it belongs to, if any, which number it is, and its value.
+    #[error("{field:?} is out of range: {value}")]
     Range {
         event: Option<u16>,
         field: Field,
         value: i64,
     },
     /// Two events have the same DTC: the number of the second, and that of the first event before it with this DTC.
+    #[error("events {first} and {second} have the same DTC")]
     DtcTwice {
         first: u16,
         second: u16,
     },
     /// The records of the configuration take more pages of a sector than are used.
+    #[error("the records take {needed} pages of a sector, and {pages} are used")]
     NoRoom {
         needed: u32,
         pages: u32,

@@ -1,6 +1,6 @@
 //! The configuration of a fault memory, and the durable state that it saves.
 //!
-//! It stands on `arrayvec` alone. The layers above get a `ValidConfig` from `check`. Its type guarantees
+//! It stands on no other crate of this repository. The layers above get a `ValidConfig` from `check`. Its type guarantees
 //! that every number is in its range, that DTCs are distinct, and that the records have room.
 //! Read `specs/Validity` first, then `specs/Check` (what is refused first) and `specs/Durable`.
 #![tactic(auto)]

@@ -6,6 +6,7 @@ ghost use Rattle.flt_flash.specs.Blocks.{BlocksState};
 ghost use Rattle.flt_flash.specs.Calls.{Follows, Calls, CountsCall, NeverFull, Changes, Costs, ReadCosts, SameImage, SameSpent, SameValues, Settles, ReadsContent, found_of, ArmsDriver, PowersUpDriver};
 
 use crate::Arm;
+use thiserror::Error;
 
 /// A driver could not be made, for want of memory; the device comes back.
 #[derive(Drop)]
@@ -25,17 +26,21 @@ pub enum Found {
 }
 
 /// Why a call of a driver did not succeed.
-#[derive(Clone, Copy, Debug, PartialEq, Eq)]
+#[derive(Clone, Copy, Debug, PartialEq, Eq, Error)]
 pub enum BlockFault {
     /// An operation of the device failed: the count of faults rose. A write or invalidate left its block as it was or as
     /// asked, and no call left another block changed.
+    #[error("an operation of the device failed")]
     Flash,
     /// The pages of the current records, `live`, and those of the new one, `needed`, are more than the room. Every block
     /// holds what it held.
+    #[error("the current records take {live} pages, and no {needed} are free for the new one")]
     Full { live: u16, needed: u16 },
     /// The record has no sequence number left. Every block holds what it held.
+    #[error("the record has no sequence number left")]
     SequenceSpent,
     /// The first place of the device that holds what no driver writes: a sector and a page. The device stays as it is.
+    #[error("sector {sector} is damaged at page {page}")]
     Damaged { sector: u8, page: u16 },
 }
 

@@ -5,9 +5,11 @@ ghost use Rattle.flt_flash.specs.Tearing.{IsTorn};
 ghost use Rattle.flt_flash.specs.State.{FlashState, HasShape, Operates, counted, CanArm, Arms, PowersUp};
 
 use crate::Arm;
+use thiserror::Error;
 
 /// A read, program or erase did not succeed. It comes only where the flash's count of faults rose.
-#[derive(Clone, Copy, Debug, PartialEq, Eq)]
+#[derive(Clone, Copy, Debug, PartialEq, Eq, Error)]
+#[error("an operation of the device failed")]
 pub struct FlashFailed;
 
 /// A flash of two sectors, 0 and 1, of as many pages of 32 bytes each. An erased bit is 1; a program makes bits 0.

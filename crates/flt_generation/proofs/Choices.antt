@@ -1,8 +1,8 @@
 -- Choices by a test, and tests of each number of a range.
-use Rattle.std.proofs.Common.{List, [], ◌∷◌, ◌++◌, inl, inr, ◌≡◌, ℕ, zero, suc, ◌+◌, ◌<◌, Bool, true, false, Some, None, refl, sym, ◌∙◌, subst, arith, ap}
+use Rattle.std.proofs.Common.{List, [], ◌∷◌, ◌++◌, ◌≡◌, ℕ, zero, suc, ◌+◌, ◌<◌, Bool, true, false, Some, None, refl, sym, ◌∙◌, subst, arith, ap}
 use Rattle.std.specs.Prelude.{if◌then◌else◌}
 use Rattle.std.specs.List.{list_all, range_with_len}
-use Rattle.std.proofs.lemmas.Bool.{and_parts, and_from, cases_lt, false_from_ne_true}
+use Rattle.std.proofs.lemmas.Bool.{and_parts, and_from}
 use Rattle.std.proofs.lemmas.List.{map-id}
 use Rattle.std.proofs.lemmas.List.FromFn.{map-range_with_len_more}
 
@@ -40,16 +40,3 @@ pub range_more : (first count : ℕ) → range_with_len first (count + 1) ≡ ra
 range_more first count =
     sym (map-id (range_with_len first (count + 1))) ∙ map-range_with_len_more (λ n. n) first count (first + count) refl
     ∙ ap (λ (ns : List ℕ). ns ++ (first + count) ∷ []) (map-id (range_with_len first count))
-
-pub all_more : (test : ℕ → Bool) (first count : ℕ) → list_all test (range_with_len first count) ≡ true → test (first + count) ≡ true
-    → list_all test (range_with_len first (count + 1)) ≡ true
-all_more test first count all next =
-    all_from test first (count + 1) (λ k below. elim (cases_lt k count) [
-      | inl before ↦ all_at test first count all k before
-      | inr past ↦ subst (λ (n : ℕ). test n ≡ true) (omega (arith, past, below)) next
-    ])
-
--- Where one number fails, not all pass.
-pub not_all : (test : ℕ → Bool) (first count k : ℕ) → k < count → test (first + k) ≡ false → list_all test (range_with_len first count) ≡ false
-not_all test first count k below fails =
-    false_from_ne_true (list_all test (range_with_len first count)) (λ all. let passes = all_at test first count all k below in absurd (cc))

@@ -157,12 +157,13 @@ fn is_index(config: &ValidConfig, id: u16, index: u8) -> bool
 fn has_indices(config: &ValidConfig, commit: &Commit) -> bool
     ensures { result ≡ list_all (λ id. is_index config.now id (index_in commit.now id)) (range_with_len first_part parts) }
 {
-    for id in FIRST_PART..END_PART {
-        if !is_index(config, id, commit.index_of(id)) {
-            return false;
-        }
-    }
-    true
+    (FIRST_PART..END_PART).all(
+        |id| -> bool
+            requires first { first_part ≤ id }
+            requires end { id < end_part }
+            ensures { result ≡ is_index config.entry.now id (index_in commit.entry.now id) }
+        { is_index(config, id, commit.index_of(id)) },
+    )
 }
 
 #[tactic(auto, unfolding(flt_generation::specs::Reading::is_commit))]

@@ -3,13 +3,16 @@ ghost use Rattle.std.specs.Prelude.{◌≡◌};
 ghost use Rattle.flt_pages.specs.declared.fault.PageFault.TheVariants.{Flash};
 
 use flt_flash::FlashFailed;
+use thiserror::Error;
 
 /// Why pages can't be judged. The image of the flash does not change.
-#[derive(Clone, Copy, Debug, PartialEq, Eq)]
+#[derive(Clone, Copy, Debug, PartialEq, Eq, Error)]
 pub enum PageFault {
     /// A read failed: the flash's count of faults rose.
+    #[error("an operation of the device failed")]
     Flash,
     /// The page holds what no program or erase, torn or not, leaves there.
+    #[error("sector {sector} is damaged at page {page}")]
     Damaged { sector: u8, page: u16 },
 }
 

@@ -1,4 +1,5 @@
 use Rattle.std.proofs.Common.{◌≡◌, ◌∙◌, ◌+◌, ◌<◌, ◌++◌, ℕ, List, [], length, take, drop, get_or, reverse, Bor, sym, ap, subst, arith}
+use Rattle.std.proofs.lemmas.Bool.{not-false, not-true}
 use Rattle.std.proofs.lemmas.List.{get_or-map, length-map}
 use Rattle.flt_model.specs.Answer.{answer}
 use Rattle.flt_model.specs.Life.{Life}
@@ -12,7 +13,7 @@ use Rattle.flt_turn.specs.declared.vault.Entry.{Entry}
 use Rattle.flt_trace.specs.Trace.{seen}
 use Rattle.flt_trace.proofs.Strings.{seen_at}
 use Rattle.flt_audit.specs.Audit.{unlike_from}
-use Rattle.flt_audit.proofs.Unlike.{alike, due_after, not_false, not_true, one_call_more, other_texts, same_texts, unlike}
+use Rattle.flt_audit.proofs.Unlike.{alike, due_after, one_call_more, other_texts, same_texts, unlike}
 use Rattle.flt_audit.proofs.replay.first_unlike.Goals as goal
 
 pub apply_into-kind-requires : goal.apply_into-kind-requires
@@ -45,7 +46,7 @@ returns-then-ne g c =
     ∙ ap reply_text (c.apply_into-kind.ensures.answer life past (c.loop-place.invariant.stands life stands)) in
     let given : get_or (seen texts) place [] ≡ c.as_bytes.result.now = sym (c.as_bytes.ensures.value ∙ seen_at texts place none among_texts) in
     let other = other_texts (get_or (seen texts) place []) (reply_text (answer life past op)) c.as_slice.result.now c.as_bytes.result.now given (printed life stands)
-    (not_true _ (sym c.ne.ensures ∙ c.if-ne.true)) in
+    (not-true _ (sym c.ne.ensures ∙ c.if-ne.true)) in
     sym (c.loop-place.invariant.left life stands ∙ unlike life past calls (seen texts) place call [] among among_seen other)
 
 pub loop-place-preserved : goal.loop-place-preserved
@@ -73,7 +74,7 @@ loop-place-preserved g c =
           subst (λ history. Stands life history (state_of c.apply_into-kind.new.self)) (sym next) (c.apply_into-kind.ensures.stands life past (c.loop-place.invariant.stands life stands));
       left = λ life stands.
           let same = same_texts (get_or (seen texts) place []) (reply_text (answer life past op)) c.as_slice.result.now c.as_bytes.result.now given (printed life stands)
-          (not_false _ (sym c.ne.ensures ∙ c.if-ne.false)) in
+          (not-false _ (sym c.ne.ensures ∙ c.if-ne.false)) in
           c.loop-place.invariant.left life stands ∙ alike life past calls (seen texts) place call [] among among_seen same
           ∙ ap (λ history. unlike_from (place + 1) (drop (place + 1) (seen texts)) (due_after life history (drop (place + 1) calls))) (sym next);
     }
