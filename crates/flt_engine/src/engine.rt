@@ -1,9 +1,8 @@
 //! A whole life on two locks, from the state that a start-up restored to the unit for the next one.
-ghost use Rattle.std.specs.Prelude.{◌≡◌};
 ghost use Rattle.std.specs.Thread.{IsSync};
 ghost use Rattle.flt_shared.specs.Boxed.{config_in};
 
-use flt_config::{Persist, ValidConfig};
+use flt_config::ValidConfig;
 use flt_flash::Blocks;
 use flt_lane::{Locks, Seats, SharedGate, part_rooms, run_parts};
 use flt_life::{Boot, LifeRoom, life_of};
@@ -23,13 +22,6 @@ pub struct LockEngine<'a, R, G> {
     pub rt: &'a R,
     pub gate: &'a G,
     pub unit: BoxedUnit,
-}
-
-/// A copy of a state, which takes no memory.
-fn copy_of(state: &Persist) -> Persist
-    ensures { result ≡ state.now }
-{
-    state.clone().unwrap()
 }
 
 impl<D: Blocks + Drop, R: Threads + Wait + Sync, G: SharedGate> Engine<D> for LockEngine<'_, R, G> {
@@ -57,7 +49,7 @@ impl<D: Blocks + Drop, R: Threads + Wait + Sync, G: SharedGate> Engine<D> for Lo
             replies,
         } = room;
         let rooms = part_rooms(alloc, parts, lanes)?;
-        let start = copy_of(&buffers.state);
+        let start = buffers.state.twin();
         unit.boot(&buffers.state);
         let calls = CallRoom::for_parts(parts);
         let Ok((dem, main)) = DemLock::make(alloc, unit, calls.machine) else {

@@ -22,7 +22,7 @@ pub run_parts-requires-clause-alive : goal.run_parts-requires-clause-alive
 run_parts-requires-clause-alive g c κs within = record { held = _; spare = _; running = c.requires.running }
 
 pub returns-clause-boot : goal.returns-clause-boot
-returns-clause-boot g c = ap (λ (view : LifeView). view.boot) (c.life_of-life.ensures (parts_of c.args.parts.now)) ∙ ap (λ s. boots.Started c.args.generation s) c.copy_of-start.ensures
+returns-clause-boot g c = ap (λ (view : LifeView). view.boot) (c.life_of-life.ensures (parts_of c.args.parts.now)) ∙ ap (λ s. boots.Started c.args.generation s) c.twin-start.ensures
 
 over : (g : given.Over) (c : goal.After-life_of-life g) → IsOver c.args.config.now c.args.buffers.now.state c.in-Ok.main c.run_parts.new.seats.dem c.in-Ok-make.jobs c.run_parts.new.seats.queue (parts_of c.args.parts.now) (told_in c.run_parts.new.own)
     (map told_in c.run_parts.new.told.items) c.close-journal.result.journal.items c.close-queued.result.journal.items c.args.store.now c.run_parts.new.store
@@ -84,7 +84,7 @@ returns-clause-played g c =
     let view : LifeView = record { parts = parts; boot = _; journal = reverse journal; queue = reverse queue; own = own; lanes = lanes } in
     let turned = turned_life (start_from c.args.config.now c.args.buffers.now.state) parts own lanes journal queue (over g c).ended.life in
     subst (λ (view : LifeView). IsPlayed c.args.config.now view) (sym {b = view} (c.life_of-life.ensures parts))
-    (subst (λ (s : _). IsLife (start_from c.args.config.now s) parts own lanes (reverse (reverse journal)) (reverse (reverse queue))) (sym c.copy_of-start.ensures) turned)
+    (subst (λ (s : _). IsLife (start_from c.args.config.now s) parts own lanes (reverse (reverse journal)) (reverse (reverse queue))) (sym c.twin-start.ensures) turned)
 
 pub returns-clause-kept : goal.returns-clause-kept
 returns-clause-kept g c =
