@@ -2,9 +2,10 @@
 ghost use Rattle.std.specs.Thread.{IsSync};
 ghost use Rattle.flt_shared.specs.Boxed.{config_in};
 
+use arrayvec::ArrayVec;
 use flt_config::ValidConfig;
 use flt_flash::Blocks;
-use flt_lane::{Locks, Seats, SharedGate, part_rooms, run_parts};
+use flt_lane::{LifeAnswers, Locks, Seats, SharedGate, part_rooms, run_parts};
 use flt_life::{Boot, LifeRoom, life_of};
 use flt_lives::{Buffers, CallRoom, Engine, Lived};
 use flt_queue::{QueueEnd, QueueLock};
@@ -43,9 +44,9 @@ impl<D: Blocks + Drop, R: Threads + Wait + Sync, G: SharedGate> Engine<D> for Lo
     ) -> Result<Lived<Self>, AllocError> {
         let LockEngine { rt, gate, mut unit } = self;
         let LifeRoom {
-            mut own,
+            own,
             lanes,
-            mut told,
+            told,
             replies,
         } = room;
         let rooms = part_rooms(alloc, parts, lanes)?;
@@ -64,9 +65,22 @@ impl<D: Blocks + Drop, R: Threads + Wait + Sync, G: SharedGate> Engine<D> for Lo
             dem: main,
             queue: jobs,
         };
+        let mut answers = LifeAnswers {
+            own,
+            told,
+            response: ArrayVec::new(),
+        };
         run_parts(
-            rt, &locks, store, config, &mut seats, rooms, &mut own, &mut told, gate,
+            rt,
+            &locks,
+            store,
+            config,
+            &mut seats,
+            rooms,
+            &mut answers,
+            gate,
         );
+        let LifeAnswers { own, told, .. } = answers;
         let Locks { dem, queue } = locks;
         let Seats {
             dem: main,

@@ -1,7 +1,7 @@
 -- The lanes of a block at the main seats.
 use Rattle.std.proofs.Common.{◌≡◌, ℕ, ◌≤◌, ◌+◌, List, ◌∷◌, ◌++◌, [], All, length, map, arith, refl, sym, ap, subst, ◌∙◌}
 use Rattle.std.specs.Prelude.{sum_by}
-use Rattle.std.proofs.lemmas.List.{length-map, map-append}
+use Rattle.std.proofs.lemmas.List.{length-map}
 use Rattle.std.proofs.lemmas.List.Sums.{sum_by-cons}
 use Rattle.std.proofs.lemmas.List.Elements.{All-head, All-tail}
 use Rattle.flt_script.specs.declared.step.Step.{Step}
@@ -9,9 +9,8 @@ use Rattle.flt_turn.specs.Seats.{split_off, split_seat}
 use Rattle.flt_fork.specs.Passed.{HavePassed}
 use Rattle.flt_fork.specs.Seats.{IsSplitOff}
 use Rattle.flt_fork.proofs.Blocks.{all_right}
-use Rattle.flt_fork.proofs.Passed.{joined_seats, joins_on, passed_alone, passed_each, passed_same, split_main, split_seats, splits_on, splits_with}
+use Rattle.flt_fork.proofs.Passed.{joined_seats, joins_on, passed_alone, passed_behind, passed_each, passed_same, split_main, split_seats, splits_on, splits_with}
 use Rattle.flt_shared.specs.Call.{Seat}
-use Rattle.flt_life.specs.Answers.{Told}
 use Rattle.flt_life.specs.Parts.{calls_of, queued_of}
 use Rattle.flt_life.specs.declared.replies.LaneReplies.{LaneReplies}
 use Rattle.flt_life.specs.declared.room.LaneRoom.{LaneRoom}
@@ -33,10 +32,6 @@ next_of P all done rest later x is next holds = All-head P x later (subst (All P
 
 pub none_told : (replies : LaneReplies) → IsEmpty replies → told_in replies ≡ []
 none_told replies empty = rw empty.answers refl
-
--- The answers of lanes come behind those that were there.
-pub told_behind : (before more now : List LaneReplies) (told : List (List Told)) → now ≡ before ++ more → map told_in more ≡ told → map told_in now ≡ map told_in before ++ told
-told_behind before more now told is same = ap (map told_in) is ∙ map-append told_in before more ∙ ap (λ l. map told_in before ++ l) same
 
 -- The answers fit as well where others are the same.
 pub room_same : (replies other : LaneReplies) (steps same : List Step) → other ≡ replies → same ≡ steps → HasRoomForSteps replies steps → HasRoomForSteps other same
@@ -133,10 +128,8 @@ module _ {F : _} {g : _} (locks : Locks F g) where
 
 pub have_joined : (off : Seats) (works : List LaneWork) (after : Seats) (before told : List LaneReplies) → (more : List LaneReplies) × (told ≡ before ++ more) × HavePassed IsJoined off works after more
     → HaveJoined off after works (map told_in before) (map told_in told)
-have_joined off works after before told passed =
-    let are = passed.2 in
-    record {
-      told_are = told_behind before passed.0 told _ passed.1 (passed_same IsJoined (λ (w : LaneWork). told_in w.replies) told_in (λ before work after replies is. ap told_in is.replies_are) off works after passed.0 are);
-      dem = joined_seats IsJoined (λ (s : Seats). s.dem) (λ (w : LaneWork). w.seat) (λ before work after replies is. is.dem) off works after passed.0 are;
-      queue = joined_seats IsJoined (λ (s : Seats). s.queue) (λ (w : LaneWork). w.queue_seat) (λ before work after replies is. is.queue) off works after passed.0 are;
-    }
+have_joined off works after before told passed = record {
+  told_are = passed_behind IsJoined (λ (w : LaneWork). told_in w.replies) told_in (λ before work after replies is. ap told_in is.replies_are) off works after before told passed.0 passed.1 passed.2;
+  dem = joined_seats IsJoined (λ (s : Seats). s.dem) (λ (w : LaneWork). w.seat) (λ before work after replies is. is.dem) off works after passed.0 passed.2;
+  queue = joined_seats IsJoined (λ (s : Seats). s.queue) (λ (w : LaneWork). w.queue_seat) (λ before work after replies is. is.queue) off works after passed.0 passed.2;
+}

@@ -19,6 +19,6 @@ mod step;
 
 pub use gate::{Gate, OpenGate, SharedGate};
 pub use lane::{LaneWork, run_block};
-pub use living::run_parts;
+pub use living::{LifeAnswers, run_parts};
 pub use locks::{Locks, Seats};
 pub use room::{BlockRoom, PartRoom, next_lanes, part_rooms};

@@ -36,6 +36,17 @@ use std::marker::Sync;
 use std::sync::Wait;
 use std::thread::Threads;
 
+/// The answers of a life so far, with room for the others.
+#[derive(Drop)]
+pub struct LifeAnswers {
+    /// Those of lane 0.
+    pub own: LaneReplies,
+    /// Those of the lanes of blocks.
+    pub told: Vec<LaneReplies>,
+    /// Where the bytes of lane 0's next response are written.
+    pub response: ArrayVec<u8, RESPONSE>,
+}
+
 /// Makes a step of lane 0, between the two calls of the gate.
 fn run_one<R: Wait, G: Gate, B: Blocks + Drop>(
     rt: &R,
@@ -44,9 +55,8 @@ fn run_one<R: Wait, G: Gate, B: Blocks + Drop>(
     config: &ValidConfig,
     seats: &mut Seats,
     step: &Step,
-    own: &mut LaneReplies,
+    answers: &mut LifeAnswers,
     gate: &G,
-    response: &mut ArrayVec<u8, RESPONSE>,
 )
     requires lock { IsSeatOf locks.now.dem seats.old.dem × (seats.old.dem.number ≡ 0) }
     requires queue { turn.IsSeatOf locks.now.queue.turn seats.old.queue × (seats.old.queue.number ≡ 0) }
@@ -59,18 +69,19 @@ fn run_one<R: Wait, G: Gate, B: Blocks + Drop>(
     requires arms { (driver_of store.old).device.bench.armed + arm_count (action_of step.now) ≤ 64 }
     requires calls { calls_by step.now ≤ seats.old.dem.left }
     requires queued { queued_by step.now ≤ seats.old.queue.left }
-    requires index { vec_len own.old.answers < 2 ^ 32 }
-    requires room { HasRoomForSteps own.old (step.now ∷ []) }
-    ensures stepped { StepsOne config.now seats.old.dem seats.new.dem seats.old.queue seats.new.queue step.now (told_in own.old) (told_in own.new) store.old store.new }
+    requires index { vec_len answers.old.own.answers < 2 ^ 32 }
+    requires room { HasRoomForSteps answers.old.own (step.now ∷ []) }
+    ensures stepped { StepsOne config.now seats.old.dem seats.new.dem seats.old.queue seats.new.queue step.now (told_in answers.old.own) (told_in answers.new.own) store.old store.new }
     ensures lock { IsSeatOf locks.now.dem seats.new.dem }
     ensures queue { turn.IsSeatOf locks.now.queue.turn seats.new.queue }
-    ensures len { vec_len own.new.answers ≡ vec_len own.old.answers + 1 }
-    ensures room { (rest : List Step) → HasRoomForSteps own.old (step.now ∷ rest) → HasRoomForSteps own.new rest }
+    ensures len { vec_len answers.new.own.answers ≡ vec_len answers.old.own.answers + 1 }
+    ensures others { answers.new.told ≡ answers.old.told }
+    ensures room { (rest : List Step) → HasRoomForSteps answers.old.own (step.now ∷ rest) → HasRoomForSteps answers.new.own rest }
     ensures goes_on { GoesOn (driver_of store.old) (driver_of store.new) }
     ensures given { WereGiven (arms_of (action_of step.now)) (driver_of store.old).device.bench.arms (driver_of store.new).device.bench.arms }
     ensures armed { (driver_of store.new).device.bench.armed ≤ (driver_of store.old).device.bench.armed + arm_count (action_of step.now) }
 {
-    let index = own.answers.len() as u32;
+    let index = answers.own.answers.len() as u32;
     gate.before(rt, 0, index);
     // Each kind of step keeps its answer by itself, so that it goes to its place at once.
     match step {
@@ -84,17 +95,17 @@ fn run_one<R: Wait, G: Gate, B: Blocks + Drop>(
                 &mut seats.dem,
                 &mut seats.queue,
                 step,
-                response,
+                &mut answers.response,
             );
-            own.keep(answer, response.as_slice());
+            answers.own.keep(answer, answers.response.as_slice());
         }
         Step::Post { .. } | Step::Ask { .. } => {
             let answer = ask_queue(rt, &locks.queue, &mut seats.queue, step);
-            own.keep(answer, &[]);
+            answers.own.keep(answer, &[]);
         }
         _ => {
-            let answer = call_dem(rt, &locks.dem, &mut seats.dem, step, response);
-            own.keep(answer, response.as_slice());
+            let answer = call_dem(rt, &locks.dem, &mut seats.dem, step, &mut answers.response);
+            answers.own.keep(answer, answers.response.as_slice());
         }
     }
     gate.after(rt, 0, index);
@@ -108,10 +119,8 @@ fn run_part<'a, R: Threads + Wait + Sync, G: SharedGate, B: Blocks + Drop>(
     config: &ValidConfig,
     seats: &mut Seats,
     part: PartRoom<'a>,
-    own: &mut LaneReplies,
-    told: &mut Vec<LaneReplies>,
+    answers: &mut LifeAnswers,
     gate: &G,
-    response: &mut ArrayVec<u8, RESPONSE>,
 )
     requires lock { IsSeatOf locks.now.dem seats.old.dem × IsMain seats.old.dem }
     requires queue { turn.IsSeatOf locks.now.queue.turn seats.old.queue × IsMain seats.old.queue }
@@ -126,20 +135,20 @@ fn run_part<'a, R: Threads + Wait + Sync, G: SharedGate, B: Blocks + Drop>(
     requires calls { calls_in (part_in part) ≤ seats.old.dem.left }
     requires queued { queued_in (part_in part) ≤ seats.old.queue.left }
     requires children { (seats.old.dem.children + width (part_in part) < 2 ^ 32) × (seats.old.queue.children + width (part_in part) < 2 ^ 32) }
-    requires index { vec_len own.old.answers < 2 ^ 32 }
-    requires own_room { HasRoomForSteps own.old (own_steps (part_in part ∷ [])) }
-    requires told_room { vec_len told.old + width (part_in part) ≤ vec_capacity told.old }
-    ensures gains { GainsPart config.now seats.old.dem seats.new.dem seats.old.queue seats.new.queue (part_in part.entry) (told_in own.old) (told_in own.new)
-        (map told_in told.old.items) (map told_in told.new.items) store.old store.new }
+    requires index { vec_len answers.old.own.answers < 2 ^ 32 }
+    requires own_room { HasRoomForSteps answers.old.own (own_steps (part_in part ∷ [])) }
+    requires told_room { vec_len answers.old.told + width (part_in part) ≤ vec_capacity answers.old.told }
+    ensures gains { GainsPart config.now seats.old.dem seats.new.dem seats.old.queue seats.new.queue (part_in part.entry) (told_in answers.old.own) (told_in answers.new.own)
+        (map told_in answers.old.told.items) (map told_in answers.new.told.items) store.old store.new }
     ensures lock { IsSeatOf locks.now.dem seats.new.dem }
     ensures queue { turn.IsSeatOf locks.now.queue.turn seats.new.queue }
     ensures left { seats.old.dem.left ≤ seats.new.dem.left + calls_in (part_in part.entry) }
     ensures queue_left { seats.old.queue.left ≤ seats.new.queue.left + queued_in (part_in part.entry) }
-    ensures own_len { vec_len own.new.answers ≤ vec_len own.old.answers + 1 }
-    ensures own_room { (rest : List (PartOf Step)) → HasRoomForSteps own.old (own_steps (part_in part.entry ∷ rest))
-        → HasRoomForSteps own.new (own_steps rest) }
-    ensures told_len { vec_len told.new ≡ vec_len told.old + width (part_in part.entry) }
-    ensures told_capacity { vec_capacity told.new ≡ vec_capacity told.old }
+    ensures own_len { vec_len answers.new.own.answers ≤ vec_len answers.old.own.answers + 1 }
+    ensures own_room { (rest : List (PartOf Step)) → HasRoomForSteps answers.old.own (own_steps (part_in part.entry ∷ rest))
+        → HasRoomForSteps answers.new.own (own_steps rest) }
+    ensures told_len { vec_len answers.new.told ≡ vec_len answers.old.told + width (part_in part.entry) }
+    ensures told_capacity { vec_capacity answers.new.told ≡ vec_capacity answers.old.told }
     ensures goes_on { GoesOn (driver_of store.old) (driver_of store.new) }
     ensures given { WereGiven (all_arms (own_actions (part_in part.entry ∷ [])))
         (driver_of store.old).device.bench.arms (driver_of store.new).device.bench.arms }
@@ -147,11 +156,20 @@ fn run_part<'a, R: Threads + Wait + Sync, G: SharedGate, B: Blocks + Drop>(
 {
     match part {
         PartRoom::One(step) => {
-            run_one(rt, locks, store, config, seats, step, own, gate, response);
+            run_one(rt, locks, store, config, seats, step, answers, gate);
         }
         PartRoom::Lanes(room) => {
             let room = Box::into_inner(room);
-            run_lanes(rt, locks, store, config, seats, room, told, gate);
+            run_lanes(
+                rt,
+                locks,
+                store,
+                config,
+                seats,
+                room,
+                &mut answers.told,
+                gate,
+            );
         }
     }
 }
@@ -164,8 +182,7 @@ pub fn run_parts<'a, R: Threads + Wait + Sync, G: SharedGate, B: Blocks + Drop>(
     config: &ValidConfig,
     seats: &mut Seats,
     parts: Vec<PartRoom<'a>>,
-    own: &mut LaneReplies,
-    told: &mut Vec<LaneReplies>,
+    answers: &mut LifeAnswers,
     gate: &G,
 )
     requires lock { IsSeatOf locks.now.dem seats.old.dem × IsMain seats.old.dem }
@@ -182,34 +199,22 @@ pub fn run_parts<'a, R: Threads + Wait + Sync, G: SharedGate, B: Blocks + Drop>(
     requires queued { sum_by queued_in (map part_in parts.items) ≤ seats.old.queue.left }
     requires children { (seats.old.dem.children + widths (map part_in parts.items) < 2 ^ 32) × (seats.old.queue.children + widths (map part_in parts.items) < 2 ^ 32) }
     requires few { length parts.items < 2 ^ 32 }
-    requires no_answers { (told_in own.old ≡ []) × (vec_len own.old.answers ≡ 0) }
-    requires own_room { HasRoomForSteps own.old (own_steps (map part_in parts.items)) }
-    requires none_told { (told.old.items ≡ []) × (vec_len told.old ≡ 0) }
-    requires told_room { widths (map part_in parts.items) ≤ vec_capacity told.old }
-    ensures lived { HaveRunParts seats.old.dem seats.new.dem seats.old.queue seats.new.queue (map part_in parts.entry.items) (told_in own.new) (map told_in told.new.items) }
+    requires no_answers { (told_in answers.old.own ≡ []) × (vec_len answers.old.own.answers ≡ 0) }
+    requires own_room { HasRoomForSteps answers.old.own (own_steps (map part_in parts.items)) }
+    requires none_told { (answers.old.told.items ≡ []) × (vec_len answers.old.told ≡ 0) }
+    requires told_room { widths (map part_in parts.items) ≤ vec_capacity answers.old.told }
+    ensures lived { HaveRunParts seats.old.dem seats.new.dem seats.old.queue seats.new.queue (map part_in parts.entry.items) (told_in answers.new.own) (map told_in answers.new.told.items) }
     ensures lock { IsSeatOf locks.now.dem seats.new.dem }
     ensures queue { turn.IsSeatOf locks.now.queue.turn seats.new.queue }
-    ensures told_len { vec_len told.new ≡ widths (map part_in parts.entry.items) }
+    ensures told_len { vec_len answers.new.told ≡ widths (map part_in parts.entry.items) }
     ensures carries { Carries config.now seats.old.dem seats.new.dem seats.old.queue seats.new.queue []
-        (reverse (deeds_in (map part_in parts.entry.items) (told_in own.new) (map told_in told.new.items))) store.old store.new }
+        (reverse (deeds_in (map part_in parts.entry.items) (told_in answers.new.own) (map told_in answers.new.told.items))) store.old store.new }
     ensures goes_on { GoesOn (driver_of store.old) (driver_of store.new) }
     ensures given { WereGiven (all_arms (own_actions (map part_in parts.entry.items)))
         (driver_of store.old).device.bench.arms (driver_of store.new).device.bench.arms }
     ensures armed { (driver_of store.new).device.bench.armed ≤ (driver_of store.old).device.bench.armed + sum_by arms_in (map part_in parts.entry.items) }
 {
-    let mut response = ArrayVec::new();
     for part in parts {
-        run_part(
-            rt,
-            locks,
-            store,
-            config,
-            seats,
-            part,
-            own,
-            told,
-            gate,
-            &mut response,
-        );
+        run_part(rt, locks, store, config, seats, part, answers, gate);
     }
 }

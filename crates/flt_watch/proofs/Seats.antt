@@ -1,18 +1,17 @@
 -- The lanes of a block at the main seat.
-use Rattle.std.proofs.Common.{◌≡◌, ◌+◌, List, ◌∷◌, ◌++◌, [], All, length, map, arith, sym, ap, subst, ◌∙◌}
+use Rattle.std.proofs.Common.{◌≡◌, List, ◌∷◌, ◌++◌, [], All, length, map, arith, sym, ap, subst, ◌∙◌}
 use Rattle.std.proofs.lemmas.List.Elements.{All-head, All-tail}
-use Rattle.flt_script.specs.declared.step.Step.{Step}
 use Rattle.flt_turn.specs.Seats.{split_off, split_seat}
-use Rattle.flt_fork.specs.Passed.{AreSplit, HavePassed}
-use Rattle.flt_fork.specs.Seats.{AreJoined, IsSplitOff}
-use Rattle.flt_fork.proofs.Passed.{joined_seats, joins_on, passed_alone, passed_each, passed_same, split_main, split_seats, splits_on, splits_with}
+use Rattle.flt_fork.specs.Passed.{HavePassed}
+use Rattle.flt_fork.specs.Seats.{IsSplitOff}
+use Rattle.flt_fork.proofs.Passed.{joined_seats, joins_on, passed_alone, passed_behind, passed_each, passed_same, split_main, split_seats, splits_on, splits_with}
 use Rattle.flt_shared.specs.Call.{Seat}
 use Rattle.flt_life.specs.Parts.{calls_of}
 use Rattle.flt_life.specs.declared.replies.LaneReplies.{LaneReplies}
 use Rattle.flt_life.specs.declared.room.LaneRoom.{LaneRoom}
 use Rattle.flt_life.specs.Room.{IsLaneRoom, steps_of, told_in}
 use Rattle.flt_lane.specs.Room.{all_calls}
-use Rattle.flt_lane.proofs.Seats.{all_of_first, first_fits, none_told, room_same, told_behind}
+use Rattle.flt_lane.proofs.Seats.{all_of_first, first_fits, none_told, room_same}
 use Rattle.flt_watch.specs.declared.lane.WatchLane.{WatchLane}
 use Rattle.flt_watch.specs.declared.lock.WatchLock.{WatchLock}
 use Rattle.flt_watch.specs.Lane.{IsLaneFor, IsPrepared, IsSeatOf}
@@ -74,13 +73,13 @@ module _ {F : _} {g : _} {H : _} {h : _} (lock : WatchLock F g H h) where
         steps_are = steps;
         no_answers = passed_each passes (λ (w : WatchLane). told_in w.replies ≡ []) (λ before room after work is. is.no_answers) main rooms off works are;
         dem = split_seats passes (λ (s : Seat). s) (λ (w : WatchLane). w.seat) (λ (w : WatchLane). w.steps.now) calls_of (λ before room after work is. is.dem) main rooms off works are;
-        off = subst (λ l. IsSplitOff main off (length works) (all_calls l)) steps
+        dem_off = subst (λ l. IsSplitOff main off (length works) (all_calls l)) steps
             (split_main passes (λ (s : Seat). s) (λ (w : WatchLane). w.seat) (λ (w : WatchLane). w.steps.now) calls_of (λ before room after work is. is.dem) main rooms off works are);
       }
 
 pub have_joined : (off : Seat) (works : List WatchLane) (after : Seat) (before told : List LaneReplies) → (more : List LaneReplies) × (told ≡ before ++ more) × HavePassed IsJoined off works after more
     → HaveJoined off after works (map told_in before) (map told_in told)
 have_joined off works after before told passed = record {
-  told_are = told_behind before passed.0 told _ passed.1 (passed_same IsJoined (λ (w : WatchLane). told_in w.replies) told_in (λ before work after replies is. ap told_in is.replies_are) off works after passed.0 passed.2);
+  told_are = passed_behind IsJoined (λ (w : WatchLane). told_in w.replies) told_in (λ before work after replies is. ap told_in is.replies_are) off works after before told passed.0 passed.1 passed.2;
   dem = joined_seats IsJoined (λ (s : Seat). s) (λ (w : WatchLane). w.seat) (λ before work after replies is. is.dem) off works after passed.0 passed.2;
 }

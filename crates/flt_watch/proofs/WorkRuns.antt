@@ -1,5 +1,5 @@
 -- The lanes of a block, out of what each lane did.
-use Rattle.std.proofs.Common.{◌≡◌, List, ◌++◌, map, get_or, sym, ap, subst, ◌∙◌}
+use Rattle.std.proofs.Common.{List, ◌++◌, map, get_or, sym, ap, subst, ◌∙◌}
 use Rattle.flt_script.specs.declared.step.Step.{Step}
 use Rattle.flt_shared.specs.Call.{Seat, MayBeAsked, reply_after}
 use Rattle.flt_life.specs.Answers.{Told}
@@ -22,7 +22,7 @@ ran_lanes lock main off after lanes works ran told more is seated have joined = 
   others = map (λ (w : WatchLane). told_in w.replies) ran;
   told_are = joined.told_are;
   dem = subst (λ l. HasRunBlock reply_after StepMakes main after l (map (λ (w : WatchLane). told_in w.replies) ran)) seated.steps_are
-      (works_ran MayBeAsked reply_after StepMakes calls_by calls_of (λ (w : WatchLane). w.seat) (λ (w : WatchLane). w.steps.now) (λ (w : WatchLane). told_in w.replies) main off after _ works ran is seated.dem seated.off have.len
+      (works_ran MayBeAsked reply_after StepMakes calls_by calls_of (λ (w : WatchLane). w.seat) (λ (w : WatchLane). w.steps.now) (λ (w : WatchLane). told_in w.replies) main off after _ works ran is seated.dem seated.dem_off have.len
       (λ k d within. let one = have.each k d within in
       subst (λ l. RunsSteps (get_or works k d).seat (get_or works k d).steps.now l (get_or ran k d).seat) (sym (one.answers ∙ ap (λ l. l ++ one.told) (seated.no_answers k d within))) one.dem) joined.dem);
 }

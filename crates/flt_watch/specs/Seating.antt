@@ -36,7 +36,7 @@ module _ {F : _} {g : _} {H : _} {h : _} (lock : WatchLock F g H h) where
     pub steps_are : map (λ (w : WatchLane). w.steps.now) works ≡ lanes
     pub no_answers : All (λ (w : WatchLane). told_in w.replies ≡ []) works
     pub dem : AreSplit (λ (w : WatchLane). w.seat) (λ w. calls_of w.steps.now) main (main.children + 1) works
-    pub off : IsSplitOff main off (length works) (all_calls lanes)
+    pub dem_off : IsSplitOff main off (length works) (all_calls lanes)
 
   -- This is the main seat, and the lanes have theirs.
   pub record CanJoin (main : Seat) (works : List WatchLane) : Type 0 where

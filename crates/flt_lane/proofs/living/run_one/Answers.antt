@@ -37,10 +37,10 @@ returns-clause-stepped g c =
           let is = call_step step w.in_default.not-Save w.in_default.not-Drain w.in_default.not-Get w.in_default.not-Arming w.in_default.not-Post w.in_default.not-Ask in
           let made = w.call_dem-answer.ensures.made in
           let queues = none_queued c.args.seats.now.queue step told (is.no_queue told) in
-          rw (w.store-is, w.seats-is, w.own-is) record {
+          rw (w.store-is, w.seats-is, w.answers-is) record {
             answer = told;
             stepped = record {
-              own_are = w.keep.ensures.told ∙ ap (λ bytes. told_in c.args.own.now ++ told_with bytes w.call_dem-answer.result ∷ []) w.as_slice.ensures.value;
+              own_are = w.keep.ensures.told ∙ ap (λ bytes. told_in c.args.answers.now.own ++ told_with bytes w.call_dem-answer.result ∷ []) w.as_slice.ensures.value;
               dem = made;
               queue = queues;
             };
@@ -53,18 +53,18 @@ returns-clause-stepped g c =
           ⊎_elim (λ post. subst IsQueueStep (sym post.3) (post_step post.0 post.1 post.2)) (λ ask. subst IsQueueStep (sym ask.1) (ask_step ask.0)) w.in-Post.is in
           let made = none_made c.args.seats.now.dem step told (is.no_calls told) in
           let queues = w.ask_queue-answer.ensures.queues [] in
-          rw (w.store-is, w.seats-is, w.own-is) record {
+          rw (w.store-is, w.seats-is, w.answers-is) record {
             answer = told;
             stepped = record { own_are = w.keep-in-Post.ensures.told; dem = made; queue = queues };
             carries = carries_call c.args.config.now c.args.seats.now.dem c.args.seats.now.dem c.args.seats.now.queue w.ask_queue-answer.new.seat step told c.args.store.now is.no_store
                 made queues;
           }
       | in-Save w ↦
-          rw (w.store-is, w.seats-is, w.own-is) record {
+          rw (w.store-is, w.seats-is, w.answers-is) record {
             answer = told_with w.do_step-answer.new.response.items w.do_step-answer.result;
             stepped = record {
               own_are = w.keep-in-Save.ensures.told
-                  ∙ ap (λ bytes. told_in c.args.own.now ++ told_with bytes w.do_step-answer.result ∷ []) w.as_slice-in-Save.ensures.value;
+                  ∙ ap (λ bytes. told_in c.args.answers.now.own ++ told_with bytes w.do_step-answer.result ∷ []) w.as_slice-in-Save.ensures.value;
               dem = w.do_step-answer.ensures.made;
               queue = w.do_step-answer.ensures.queues;
             };

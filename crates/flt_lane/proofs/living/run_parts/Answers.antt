@@ -14,7 +14,7 @@ use Rattle.flt_lane.proofs.living.run_parts.Goals as goal
 
 pub loop-part-init : goal.loop-part-init
 loop-part-init g c = let r = c.requires in record {
-  living = living_begins c.args.locks.now c.args.seats.now.dem c.args.seats.now.queue c.args.parts.items _ c.args.own.now c.args.told.now (driver_of c.args.store.now).device.bench.armed c.into_iter-part-iterator.ensures.into_iter_gives.0
+  living = living_begins c.args.locks.now c.args.seats.now.dem c.args.seats.now.queue c.args.parts.items _ c.args.answers.now.own c.args.answers.now.told (driver_of c.args.store.now).device.bench.armed c.into_iter-part-iterator.ensures.into_iter_gives.0
       r.lock.1 r.queue.1 r.lock.0 r.queue.0 r.no_answers r.own_room r.none_told r.told_room;
   carries = carries_beside c.args.config.now c.args.seats.now.dem c.args.seats.now.dem c.args.seats.now.queue c.args.seats.now.queue [] c.args.store.now (λ known is. is) (λ known is. is);
   goes_on = goes_nowhere (driver_of c.args.store.now);
@@ -31,33 +31,33 @@ run_part-requires-clause-alive g c κs within = c.loop-part.invariant.carries.al
 
 pub run_part-requires-clause-children : goal.run_part-requires-clause-children
 run_part-requires-clause-children g c κs within = (
-  numbers_left c.args.locks.now c.args.seats.now.dem c.loop-part.seats.dem c.args.seats.now.queue c.loop-part.seats.queue c.args.parts.items c.loop-part.own c.loop-part.told (driver_of c.args.store.now).device.bench.armed
+  numbers_left c.args.locks.now c.args.seats.now.dem c.loop-part.seats.dem c.args.seats.now.queue c.loop-part.seats.queue c.args.parts.items c.loop-part.answers.own c.loop-part.answers.told (driver_of c.args.store.now).device.bench.armed
       (driver_of c.loop-part.store).device.bench.armed c.loop-part.yielded c.loop-part.part-iterator.rest.items c.next.new.self.rest.items c.in-Some.part c.loop-part.invariant.living c.in-Some.ensures.steps.0 c.requires.children.0,
-  job_numbers_left c.args.locks.now c.args.seats.now.dem c.loop-part.seats.dem c.args.seats.now.queue c.loop-part.seats.queue c.args.parts.items c.loop-part.own c.loop-part.told (driver_of c.args.store.now).device.bench.armed
+  job_numbers_left c.args.locks.now c.args.seats.now.dem c.loop-part.seats.dem c.args.seats.now.queue c.loop-part.seats.queue c.args.parts.items c.loop-part.answers.own c.loop-part.answers.told (driver_of c.args.store.now).device.bench.armed
       (driver_of c.loop-part.store).device.bench.armed c.loop-part.yielded c.loop-part.part-iterator.rest.items c.next.new.self.rest.items c.in-Some.part c.loop-part.invariant.living c.in-Some.ensures.steps.0 c.requires.children.1,
 )
 
 pub run_part-requires-clause-own_room : goal.run_part-requires-clause-own_room
-run_part-requires-clause-own_room g c κs within = own_next c.args.locks.now c.args.seats.now.dem c.loop-part.seats.dem c.args.seats.now.queue c.loop-part.seats.queue c.args.parts.items c.loop-part.own c.loop-part.told (driver_of c.args.store.now).device.bench.armed
+run_part-requires-clause-own_room g c κs within = own_next c.args.locks.now c.args.seats.now.dem c.loop-part.seats.dem c.args.seats.now.queue c.loop-part.seats.queue c.args.parts.items c.loop-part.answers.own c.loop-part.answers.told (driver_of c.args.store.now).device.bench.armed
     (driver_of c.loop-part.store).device.bench.armed c.loop-part.yielded c.loop-part.part-iterator.rest.items c.next.new.self.rest.items c.in-Some.part c.loop-part.invariant.living c.in-Some.ensures.steps.0
 
 pub run_part-requires-clause-told_room : goal.run_part-requires-clause-told_room
-run_part-requires-clause-told_room g c κs within = told_left c.args.locks.now c.args.seats.now.dem c.loop-part.seats.dem c.args.seats.now.queue c.loop-part.seats.queue c.args.parts.items c.loop-part.own c.loop-part.told (driver_of c.args.store.now).device.bench.armed
+run_part-requires-clause-told_room g c κs within = told_left c.args.locks.now c.args.seats.now.dem c.loop-part.seats.dem c.args.seats.now.queue c.loop-part.seats.queue c.args.parts.items c.loop-part.answers.own c.loop-part.answers.told (driver_of c.args.store.now).device.bench.armed
     (driver_of c.loop-part.store).device.bench.armed c.loop-part.yielded c.loop-part.part-iterator.rest.items c.next.new.self.rest.items c.in-Some.part c.loop-part.invariant.living c.in-Some.ensures.steps.0
 
 pub loop-part-preserved : goal.loop-part-preserved
 loop-part-preserved g c =
     let told = c.run_part.ensures in
-    let left = own_left c.args.locks.now c.args.seats.now.dem c.loop-part.seats.dem c.args.seats.now.queue c.loop-part.seats.queue c.args.parts.items c.loop-part.own c.loop-part.told (driver_of c.args.store.now).device.bench.armed
+    let left = own_left c.args.locks.now c.args.seats.now.dem c.loop-part.seats.dem c.args.seats.now.queue c.loop-part.seats.queue c.args.parts.items c.loop-part.answers.own c.loop-part.answers.told (driver_of c.args.store.now).device.bench.armed
     (driver_of c.loop-part.store).device.bench.armed c.loop-part.yielded c.loop-part.part-iterator.rest.items c.next.new.self.rest.items c.in-Some.part c.loop-part.invariant.living c.in-Some.ensures.steps.0 in
-    let before = reverse (deeds_in (parts_in c.loop-part.yielded) (told_in c.loop-part.own) (map told_in c.loop-part.told.items)) in
+    let before = reverse (deeds_in (parts_in c.loop-part.yielded) (told_in c.loop-part.answers.own) (map told_in c.loop-part.answers.told.items)) in
     let gained = reverse (deeds_in (parts_in (c.in-Some.part ∷ [])) told.gains.mine told.gains.others) in
-    let deeds = deeds_with c.args.locks.now c.args.seats.now.dem c.loop-part.seats.dem c.args.seats.now.queue c.loop-part.seats.queue c.args.parts.items c.loop-part.own c.loop-part.told (driver_of c.args.store.now).device.bench.armed
-    (driver_of c.loop-part.store).device.bench.armed c.loop-part.yielded c.loop-part.part-iterator.rest.items c.next.new.self.rest.items c.in-Some.part c.loop-part.invariant.living c.in-Some.ensures.steps.0 c.run_part.new.own c.run_part.new.told told.gains.mine told.gains.others told.gains.gains.own_are told.gains.gains.lanes_are in
+    let deeds = deeds_with c.args.locks.now c.args.seats.now.dem c.loop-part.seats.dem c.args.seats.now.queue c.loop-part.seats.queue c.args.parts.items c.loop-part.answers.own c.loop-part.answers.told (driver_of c.args.store.now).device.bench.armed
+    (driver_of c.loop-part.store).device.bench.armed c.loop-part.yielded c.loop-part.part-iterator.rest.items c.next.new.self.rest.items c.in-Some.part c.loop-part.invariant.living c.in-Some.ensures.steps.0 c.run_part.new.answers.own c.run_part.new.answers.told told.gains.mine told.gains.others told.gains.gains.own_are told.gains.gains.lanes_are in
     record {
-      living = living_more c.args.locks.now c.args.seats.now.dem c.loop-part.seats.dem c.args.seats.now.queue c.loop-part.seats.queue c.args.parts.items c.loop-part.own c.loop-part.told (driver_of c.args.store.now).device.bench.armed
+      living = living_more c.args.locks.now c.args.seats.now.dem c.loop-part.seats.dem c.args.seats.now.queue c.loop-part.seats.queue c.args.parts.items c.loop-part.answers.own c.loop-part.answers.told (driver_of c.args.store.now).device.bench.armed
           (driver_of c.loop-part.store).device.bench.armed c.loop-part.yielded c.loop-part.part-iterator.rest.items c.next.new.self.rest.items c.in-Some.part c.loop-part.invariant.living c.in-Some.ensures.steps.0
-          c.run_part.new.seats.dem c.run_part.new.seats.queue c.run_part.new.own c.run_part.new.told (driver_of c.run_part.new.store).device.bench.armed told.gains.mine told.gains.others told.gains.gains told.lock told.queue told.left told.queue_left
+          c.run_part.new.seats.dem c.run_part.new.seats.queue c.run_part.new.answers.own c.run_part.new.answers.told (driver_of c.run_part.new.store).device.bench.armed told.gains.mine told.gains.others told.gains.gains told.lock told.queue told.left told.queue_left
           told.armed told.own_len (told.own_room (parts_in c.next.new.self.rest.items) left) told.told_len told.told_capacity;
       carries = subst (λ (l : List Deed). Carries c.args.config.now c.args.seats.now.dem c.run_part.new.seats.dem c.args.seats.now.queue c.run_part.new.seats.queue [] l c.args.store.now c.run_part.new.store) (sym deeds)
           (carries_further c.args.config.now c.args.seats.now.dem c.loop-part.seats.dem c.run_part.new.seats.dem c.args.seats.now.queue c.loop-part.seats.queue c.run_part.new.seats.queue [] before (gained ++ before) c.args.store.now c.loop-part.store c.run_part.new.store

@@ -17,7 +17,7 @@ run_works-requires-clause-ready g c κs within = c.seat_lanes.ensures.seated.rea
 pub join_lanes-requires-clause-can : goal.join_lanes-requires-clause-can
 join_lanes-requires-clause-can g c =
     let r = c.requires in
-    let off = c.seat_lanes.ensures.seated.off in
+    let off = c.seat_lanes.ensures.seated.dem_off in
     record {
       main_is = record { lock_is = off.lock_is ∙ r.lock.0.0; number_is = off.number_is ∙ r.lock.1.number_is };
       config = ap (λ s. s.config) off.start_is ∙ r.lock.0.1;

@@ -24,8 +24,8 @@ run_parts-requires-clause-alive g c κs within = record { held = _; spare = _; r
 pub returns-clause-boot : goal.returns-clause-boot
 returns-clause-boot g c = ap (λ (view : LifeView). view.boot) (c.life_of-life.ensures (parts_of c.args.parts.now)) ∙ ap (λ s. boots.Started c.args.generation s) c.twin-start.ensures
 
-over : (g : given.Over) (c : goal.After-life_of-life g) → IsOver c.args.config.now c.args.buffers.now.state c.in-Ok.main c.run_parts.new.seats.dem c.in-Ok-make.jobs c.run_parts.new.seats.queue (parts_of c.args.parts.now) (told_in c.run_parts.new.own)
-    (map told_in c.run_parts.new.told.items) c.close-journal.result.journal.items c.close-queued.result.journal.items c.args.store.now c.run_parts.new.store
+over : (g : given.Over) (c : goal.After-life_of-life g) → IsOver c.args.config.now c.args.buffers.now.state c.in-Ok.main c.run_parts.new.seats.dem c.in-Ok-make.jobs c.run_parts.new.seats.queue (parts_of c.args.parts.now) (told_in c.run_parts.new.answers.own)
+    (map told_in c.run_parts.new.answers.told.items) c.close-journal.result.journal.items c.close-queued.result.journal.items c.args.store.now c.run_parts.new.store
 over g c =
     let main = c.in-Ok.main in
     let after = c.run_parts.new.seats.dem in
@@ -36,7 +36,7 @@ over g c =
     let begins : main.start ≡ start_from c.args.config.now c.args.buffers.now.state =
     ap (λ (s : Seat). s.start) c.in-Ok.ensures.ok ∙ (λ i. record { config = (c.boot.ensures.config ∙ c.requires.same) i; base = c.boot.ensures.stands.base i }) in
     let counted = ap (λ (s : QueueSeat). s.start) c.in-Ok-make.ensures.ok ∙ same_blocks c.config.result.now c.args.config.now c.config.ensures.value in
-    over_of c.args.config.now c.args.buffers.now.state main after jobs jobs_after _ (parts_of c.args.parts.now) (told_in c.run_parts.new.own) (map told_in c.run_parts.new.told.items) journal queue c.args.store.now c.run_parts.new.store
+    over_of c.args.config.now c.args.buffers.now.state main after jobs jobs_after _ (parts_of c.args.parts.now) (told_in c.run_parts.new.answers.own) (map told_in c.run_parts.new.answers.told.items) journal queue c.args.store.now c.run_parts.new.store
     (fresh_of main _ _ _ c.in-Ok.ensures.ok) (fresh_of jobs _ _ _ c.in-Ok-make.ensures.ok) begins counted c.in_ok-rooms.ensures.parts c.run_parts.ensures.lived
     (closed after journal c.close-journal.ensures.seen c.close-journal.ensures.olds c.close-journal.ensures.calls)
     (closed jobs_after queue c.close-queued.ensures.seen c.close-queued.ensures.olds c.close-queued.ensures.calls) c.run_parts.ensures.carries
@@ -45,8 +45,8 @@ pub returns-clause-leaves : goal.returns-clause-leaves
 returns-clause-leaves g c =
     let first = numbered c.args.generation c.args.buffers.now.state in
     let parts = parts_of c.args.parts.now in
-    let own = told_in c.run_parts.new.own in
-    let lanes = map told_in c.run_parts.new.told.items in
+    let own = told_in c.run_parts.new.answers.own in
+    let lanes = map told_in c.run_parts.new.answers.told.items in
     let journal = c.close-journal.result.journal.items in
     let queue = c.close-queued.result.journal.items in
     let left = left_of c.args.config.now c.args.generation c.args.buffers.now.state _ _ _ _ parts own lanes journal queue c.args.store.now c.run_parts.new.store (over g c) c.requires.running in
@@ -66,8 +66,8 @@ returns-clause-leaves g c =
 pub returns-clause-caused : goal.returns-clause-caused
 returns-clause-caused g c = λ boot rose.
     let parts = parts_of c.args.parts.now in
-    let own = told_in c.run_parts.new.own in
-    let lanes = map told_in c.run_parts.new.told.items in
+    let own = told_in c.run_parts.new.answers.own in
+    let lanes = map told_in c.run_parts.new.answers.told.items in
     let journal = c.close-journal.result.journal.items in
     let queue = c.close-queued.result.journal.items in
     let view : LifeView = record { parts = parts; boot = _; journal = reverse journal; queue = reverse queue; own = own; lanes = lanes } in
@@ -77,8 +77,8 @@ returns-clause-caused g c = λ boot rose.
 pub returns-clause-played : goal.returns-clause-played
 returns-clause-played g c =
     let parts = parts_of c.args.parts.now in
-    let own = told_in c.run_parts.new.own in
-    let lanes = map told_in c.run_parts.new.told.items in
+    let own = told_in c.run_parts.new.answers.own in
+    let lanes = map told_in c.run_parts.new.answers.told.items in
     let journal = c.close-journal.result.journal.items in
     let queue = c.close-queued.result.journal.items in
     let view : LifeView = record { parts = parts; boot = _; journal = reverse journal; queue = reverse queue; own = own; lanes = lanes } in
@@ -89,8 +89,8 @@ returns-clause-played g c =
 pub returns-clause-kept : goal.returns-clause-kept
 returns-clause-kept g c =
     let parts = parts_of c.args.parts.now in
-    let own = told_in c.run_parts.new.own in
-    let lanes = map told_in c.run_parts.new.told.items in
+    let own = told_in c.run_parts.new.answers.own in
+    let lanes = map told_in c.run_parts.new.answers.told.items in
     let journal = c.close-journal.result.journal.items in
     let queue = c.close-queued.result.journal.items in
     let view : LifeView = record { parts = parts; boot = _; journal = reverse journal; queue = reverse queue; own = own; lanes = lanes } in
