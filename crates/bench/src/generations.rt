@@ -1,7 +1,7 @@
 //! Saves and start-ups of a state of so many events and a full memory.
-ghost use Rattle.std.specs.Prelude.{IfSome};
+ghost use Rattle.std.specs.Prelude.{◌≡◌, IfSome};
 ghost use Rattle.flt_store.specs.Cause.{HasRoom};
-ghost use Rattle.flt_store.specs.Store.{driver_of};
+ghost use Rattle.flt_store.specs.Store.{IsAlive, driver_of};
 
 use crate::storage::PAGES;
 use arrayvec::ArrayVec;
@@ -84,7 +84,25 @@ fn change(state: &mut Persist, changed: Changed, turn: u16) {
     state.overflow = turn % 2 == 0;
 }
 
-// Saves the state, changed before each save.
+// Starts up on a blank device, and saves a state whose every block is new. The state.
+fn save_first<B: Blocks + Drop>(store: &mut Store<B>, config: &ValidConfig) -> Option<Persist>
+    requires { HasRoom config.now (driver_of store.old).room }
+    ensures alive { IfSome result (λ _. IsAlive config.now store.new) }
+    ensures room { (driver_of store.new).room ≡ (driver_of store.old).room }
+{
+    let mut found = initial(config);
+    let Ok(_number) = store.start_up(config, &mut found) else {
+        return None;
+    };
+    let state = full_state(config);
+    if !fits(config, &state) {
+        return None;
+    }
+    store.save(config, &state).ok()?;
+    Some(state)
+}
+
+// Saves the state as often as asked, changed before each save.
 fn save_again<B: Blocks + Drop>(
     store: &mut Store<B>,
     config: &ValidConfig,
@@ -93,15 +111,7 @@ fn save_again<B: Blocks + Drop>(
 ) -> Option<()>
     requires { HasRoom config.now (driver_of store.old).room }
 {
-    let mut found = initial(config);
-    let Ok(_number) = store.start_up(config, &mut found) else {
-        return None;
-    };
-    let mut state = full_state(config);
-    if !fits(config, &state) {
-        return None;
-    }
-    store.save(config, &state).ok()?;
+    let mut state = save_first(store, config)?;
     for turn in 0..times {
         change(&mut state, changed, turn);
         if !fits(config, &state) {
@@ -120,19 +130,38 @@ fn start_again<B: Blocks + Drop>(
 ) -> Option<()>
     requires { HasRoom config.now (driver_of store.old).room }
 {
-    let mut found = initial(config);
-    let Ok(_number) = store.start_up(config, &mut found) else {
-        return None;
-    };
-    let state = full_state(config);
-    if !fits(config, &state) {
-        return None;
-    }
-    store.save(config, &state).ok()?;
+    let mut found = save_first(store, config)?;
     for _turn in 0..times {
         store.start_up(config, &mut found).ok()?;
     }
     Some(())
+}
+
+// Starts up, and no more.
+fn start_once<B: Blocks + Drop>(store: &mut Store<B>, config: &ValidConfig) -> Option<()>
+    requires { HasRoom config.now (driver_of store.old).room }
+{
+    store.start_up(config, &mut initial(config)).ok()?;
+    Some(())
+}
+
+// Makes the calls that the word names on a store over a blank device.
+fn call<B: Blocks + Drop>(
+    store: &mut Store<B>,
+    config: &ValidConfig,
+    what: &str,
+    times: u16,
+) -> Option<()>
+    requires { HasRoom config.now (driver_of store.old).room }
+{
+    match what {
+        "first-start-up" => start_once(store, config),
+        "start-ups" => start_again(store, config, times),
+        "saves-of-nothing" => save_again(store, config, Changed::Nothing, times),
+        "saves-of-one" => save_again(store, config, Changed::One, times),
+        "saves-of-all" => save_again(store, config, Changed::All, times),
+        _ => None,
+    }
 }
 
 // A store over a device.
@@ -146,36 +175,9 @@ fn store_over<D: Driver>(alloc: Global, device: D::Device, config: &ValidConfig)
     Some(Store::make(Nvm::make(driver, block_table(alloc).ok()?)))
 }
 
-/// Starts up on a blank device, and no more.
-pub fn run_first_start_up<D: Driver>(
-    alloc: Global,
-    device: D::Device,
-    config: &ValidConfig,
-) -> Option<D::Device>
-    requires { D.serves config.now (D.device_state device) }
-{
-    let mut store: Store<D> = store_over(alloc, device, config)?;
-    let mut found = initial(config);
-    store.start_up(config, &mut found).ok()?;
-    Some(store.retire().close())
-}
-
-/// Starts up on a blank device, saves a state whose every block is new, and then starts up again as often as asked.
-pub fn run_start_ups<D: Driver>(
-    alloc: Global,
-    device: D::Device,
-    config: &ValidConfig,
-    times: u16,
-) -> Option<D::Device>
-    requires { D.serves config.now (D.device_state device) }
-{
-    let mut store: Store<D> = store_over(alloc, device, config)?;
-    start_again(&mut store, config, times)?;
-    Some(store.retire().close())
-}
-
-/// Starts up on a blank device, saves a state whose every block is new, and then saves as often as asked what the word names.
-pub fn run_saves<D: Driver>(
+/// Makes the calls that the word names on a store over a blank device, which comes back: a start-up and no more; or a start-up, a save of a
+/// state whose every block is new, and then as often as asked a start-up, or a save of what the word says.
+pub fn run_store<D: Driver>(
     alloc: Global,
     device: D::Device,
     config: &ValidConfig,
@@ -184,13 +186,7 @@ pub fn run_saves<D: Driver>(
 ) -> Option<D::Device>
     requires { D.serves config.now (D.device_state device) }
 {
-    let changed = match what {
-        "saves-of-nothing" => Changed::Nothing,
-        "saves-of-one" => Changed::One,
-        "saves-of-all" => Changed::All,
-        _ => return None,
-    };
     let mut store: Store<D> = store_over(alloc, device, config)?;
-    save_again(&mut store, config, changed, times)?;
+    call(&mut store, config, what, times)?;
     Some(store.retire().close())
 }

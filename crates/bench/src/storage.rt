@@ -6,7 +6,7 @@
 ghost use Rattle.flt_lives.specs.Devices.{ServesAll};
 
 use crate::blocks::run_blocks;
-use crate::generations::{config, run_first_start_up, run_saves, run_start_ups};
+use crate::generations::{config, run_store};
 use flt_ea::{Ea, Eeprom, EepromMem};
 use flt_fee::Fee;
 use flt_flash::{Flash, FlashMem};
@@ -35,10 +35,23 @@ fn run_on<D: Driver>(
     let config = config(events)?;
     match what {
         "mounts" | "reads" | "writes" => run_blocks::<D>(alloc, device, &config, what, times),
-        "first-start-up" => run_first_start_up::<D>(alloc, device, &config),
-        "start-ups" => run_start_ups::<D>(alloc, device, &config, times),
-        _ => run_saves::<D>(alloc, device, &config, what, times),
+        _ => run_store::<D>(alloc, device, &config, what, times),
     }
+}
+
+// The operations and the erases of such calls on the flash.
+fn run_on_flash(alloc: Global, what: &str, times: u16, events: u16) -> Option<(u64, u64)> {
+    let flash = FlashMem::blank(alloc, PAGES, 1).ok()?;
+    let flash = run_on::<Fee<FlashMem>>(alloc, flash, what, times, events)?;
+    let erases = flash.wear(0).saturating_add(flash.wear(1));
+    Some((flash.operations(), erases))
+}
+
+// The operations of such calls on the EEPROM.
+fn run_on_eeprom(alloc: Global, what: &str, times: u16, events: u16) -> Option<u64> {
+    let device = EepromMem::blank(alloc, UNITS, 1).ok()?;
+    let device = run_on::<Ea<EepromMem>>(alloc, device, what, times, events)?;
+    Some(device.operations())
 }
 
 /// The operations and the erases that the words ask for.
@@ -50,17 +63,8 @@ pub fn run(rt: &impl AllocGlobal, words: &[String]) -> Option<(u64, u64)> {
     };
     let times: u16 = times.parse().ok()?;
     match device.as_str() {
-        "flash" => {
-            let flash = FlashMem::blank(rt.alloc(), PAGES, 1).ok()?;
-            let flash = run_on::<Fee<FlashMem>>(rt.alloc(), flash, what, times, events)?;
-            let erases = flash.wear(0).saturating_add(flash.wear(1));
-            Some((flash.operations(), erases))
-        }
-        "eeprom" => {
-            let device = EepromMem::blank(rt.alloc(), UNITS, 1).ok()?;
-            let device = run_on::<Ea<EepromMem>>(rt.alloc(), device, what, times, events)?;
-            Some((device.operations(), 0))
-        }
+        "flash" => run_on_flash(rt.alloc(), what, times, events),
+        "eeprom" => Some((run_on_eeprom(rt.alloc(), what, times, events)?, 0)),
         _ => None,
     }
 }

@@ -4,6 +4,8 @@
 //! It stands on `flt_program`, and makes the one call `program` as `faultmem` does, over streams in memory.
 #![tactic(auto)]
 
+ghost use Rattle.flt_notify.specs.Table.{IsAtZero};
+
 use flt_did::{
     DID_ROWS, DidTable, did_0101, did_0102, did_0103, did_0104, did_0105, did_0106, did_0107,
 };
@@ -12,6 +14,7 @@ use flt_flash::FlashMem;
 use flt_io::{MemSink, MemSource};
 use flt_notify::{KINDS, SubTable, note_0, note_1, note_2};
 use flt_program::{Ended, OpenGate, program};
+use std::alloc::{AllocError, Global};
 use std::io::Print;
 use std::marker::Sync;
 use std::process::ExitCode;
@@ -20,90 +23,102 @@ use std::sync::Wait;
 use std::thread::Threads;
 use std::{fs, io};
 
-/// A script that is run over the flash.
-const RUN: &[&str] = &["run"];
+/// The words under which a script is run, one after the other.
+#[derive(Clone, Copy)]
+enum Words {
+    /// Over the flash.
+    Run,
+    /// Over the flash and over the EEPROM, with the same report.
+    Both,
+    /// It is checked.
+    Check,
+    /// It is watched.
+    Watch,
+}
 
-/// A script that is run over the flash and over the EEPROM, with the same report.
-const BOTH: &[&str] = &["run", "ea"];
-
-/// A script that is checked.
-const CHECK: &[&str] = &["check"];
-
-/// A script that is watched.
-const WATCH: &[&str] = &["watch"];
+impl Words {
+    fn words(self) -> &'static [&'static str] {
+        match self {
+            Words::Run => &["run"],
+            Words::Both => &["run", "ea"],
+            Words::Check => &["check"],
+            Words::Watch => &["watch"],
+        }
+    }
+}
 
 /// The scripts by their names, each with the words under which it is run and the status that it ends with.
-static EXAMPLES: [(&str, &[&str], u8); 70] = [
-    ("before_a_cycle", BOTH, 0),
-    ("causes", BOTH, 0),
-    ("checked", CHECK, 0),
-    ("checked_room", CHECK, 2),
-    ("checked_twice", CHECK, 2),
-    ("clear", BOTH, 0),
-    ("confirmed_at_two", BOTH, 0),
-    ("counted_from_passed", BOTH, 0),
-    ("cut", BOTH, 0),
-    ("cut_all", BOTH, 0),
-    ("cut_before_a_commit", BOTH, 0),
-    ("cut_behind_a_commit", BOTH, 0),
-    ("cut_between_commits", BOTH, 0),
-    ("cut_in_a_switch", BOTH, 0),
-    ("cycles", BOTH, 0),
-    ("dark", BOTH, 0),
-    ("dark_end", BOTH, 5),
-    ("dark_life", BOTH, 0),
-    ("debounce_by_count", BOTH, 0),
-    ("debounce_by_time", BOTH, 0),
-    ("did", BOTH, 0),
-    ("did_unknown", BOTH, 2),
-    ("did_wide", BOTH, 2),
-    ("displaced", BOTH, 0),
-    ("drain_cut", BOTH, 0),
-    ("empty", BOTH, 0),
-    ("enable", BOTH, 0),
-    ("events", BOTH, 0),
-    ("extended_data", BOTH, 0),
-    ("failed_save", BOTH, 0),
-    ("first", BOTH, 0),
-    ("five_lanes", BOTH, 0),
-    ("forty_events", BOTH, 0),
-    ("four_testers", BOTH, 0),
-    ("frames", BOTH, 0),
-    ("healing_and_aging", BOTH, 0),
-    ("jobs", BOTH, 0),
-    ("jobs_full", BOTH, 0),
-    ("jobs_in_lanes", BOTH, 0),
-    ("lanes", BOTH, 0),
-    ("lives", BOTH, 0),
-    ("many_events", BOTH, 0),
-    ("masks", BOTH, 0),
-    ("mute_copy", RUN, 0),
-    ("profile", BOTH, 0),
-    ("queue_full", BOTH, 0),
-    ("refused_range", BOTH, 2),
-    ("refused_room", BOTH, 2),
-    ("refused_store_lanes", BOTH, 2),
-    ("refused_tester", BOTH, 2),
-    ("refused_twice", BOTH, 2),
-    ("reports", BOTH, 0),
-    ("session_ends", BOTH, 0),
-    ("sessions", BOTH, 0),
-    ("settings", BOTH, 0),
-    ("sig", BOTH, 0),
-    ("silence", BOTH, 0),
-    ("silent_tester", BOTH, 0),
-    ("spaces", BOTH, 0),
-    ("status_bits", BOTH, 0),
-    ("store_lane", BOTH, 0),
-    ("suppressed", BOTH, 0),
-    ("testers", BOTH, 0),
-    ("ticks", BOTH, 0),
-    ("timed_once", BOTH, 0),
-    ("two_blocks", BOTH, 0),
-    ("two_sessions", BOTH, 0),
-    ("urgent", BOTH, 0),
-    ("watched", WATCH, 0),
-    ("watched_save", WATCH, 2),
+static EXAMPLES: [(&str, Words, u8); 70] = [
+    ("before_a_cycle", Words::Both, 0),
+    ("causes", Words::Both, 0),
+    ("checked", Words::Check, 0),
+    ("checked_room", Words::Check, 2),
+    ("checked_twice", Words::Check, 2),
+    ("clear", Words::Both, 0),
+    ("confirmed_at_two", Words::Both, 0),
+    ("counted_from_passed", Words::Both, 0),
+    ("cut", Words::Both, 0),
+    ("cut_all", Words::Both, 0),
+    ("cut_before_a_commit", Words::Both, 0),
+    ("cut_behind_a_commit", Words::Both, 0),
+    ("cut_between_commits", Words::Both, 0),
+    ("cut_in_a_switch", Words::Both, 0),
+    ("cycles", Words::Both, 0),
+    ("dark", Words::Both, 0),
+    ("dark_end", Words::Both, 5),
+    ("dark_life", Words::Both, 0),
+    ("debounce_by_count", Words::Both, 0),
+    ("debounce_by_time", Words::Both, 0),
+    ("did", Words::Both, 0),
+    ("did_unknown", Words::Both, 2),
+    ("did_wide", Words::Both, 2),
+    ("displaced", Words::Both, 0),
+    ("drain_cut", Words::Both, 0),
+    ("empty", Words::Both, 0),
+    ("enable", Words::Both, 0),
+    ("events", Words::Both, 0),
+    ("extended_data", Words::Both, 0),
+    ("failed_save", Words::Both, 0),
+    ("first", Words::Both, 0),
+    ("five_lanes", Words::Both, 0),
+    ("forty_events", Words::Both, 0),
+    ("four_testers", Words::Both, 0),
+    ("frames", Words::Both, 0),
+    ("healing_and_aging", Words::Both, 0),
+    ("jobs", Words::Both, 0),
+    ("jobs_full", Words::Both, 0),
+    ("jobs_in_lanes", Words::Both, 0),
+    ("lanes", Words::Both, 0),
+    ("lives", Words::Both, 0),
+    ("many_events", Words::Both, 0),
+    ("masks", Words::Both, 0),
+    ("mute_copy", Words::Run, 0),
+    ("profile", Words::Both, 0),
+    ("queue_full", Words::Both, 0),
+    ("refused_range", Words::Both, 2),
+    ("refused_room", Words::Both, 2),
+    ("refused_store_lanes", Words::Both, 2),
+    ("refused_tester", Words::Both, 2),
+    ("refused_twice", Words::Both, 2),
+    ("reports", Words::Both, 0),
+    ("session_ends", Words::Both, 0),
+    ("sessions", Words::Both, 0),
+    ("settings", Words::Both, 0),
+    ("sig", Words::Both, 0),
+    ("silence", Words::Both, 0),
+    ("silent_tester", Words::Both, 0),
+    ("spaces", Words::Both, 0),
+    ("status_bits", Words::Both, 0),
+    ("store_lane", Words::Both, 0),
+    ("suppressed", Words::Both, 0),
+    ("testers", Words::Both, 0),
+    ("ticks", Words::Both, 0),
+    ("timed_once", Words::Both, 0),
+    ("two_blocks", Words::Both, 0),
+    ("two_sessions", Words::Both, 0),
+    ("urgent", Words::Both, 0),
+    ("watched", Words::Watch, 0),
+    ("watched_save", Words::Watch, 2),
 ];
 
 /// How many bytes a report has at most.
@@ -118,33 +133,20 @@ const UNITS: u16 = 1090;
 /// How often the power may come.
 const BOOTS: u16 = 256;
 
-/// Whether the script of this name, under this word, ends with this status, and writes the report of the same name.
-fn is_as_written<R: Files + AllocGlobal + Threads + Wait + Sync>(
+/// The status of the program under a word, with these data identifiers and subscribers, and what it writes of a script.
+fn run_with<R: Threads + Wait + Sync>(
     rt: &R,
-    word: &str,
-    name: &str,
-    status: u8,
-) -> io::Result<bool> {
-    let alloc = rt.alloc();
-    let script = fs::read_to_string(rt, format!(in alloc; "{name}.script")?)?;
-    let report = fs::read_to_string(rt, format!(in alloc; "{name}.report")?)?;
+    alloc: Global,
+    command: (&str, &[u8]),
+    dids: DidTable<DID_ROWS>,
+    subs: SubTable<KINDS>,
+) -> Result<(u8, MemSink), AllocError>
+    requires { IsAtZero subs }
+{
     let mut words = Vec::new(alloc);
-    words.push(String::from_str(alloc, word)?)?;
-    let bytes = Vec::from_slice(alloc, script.as_bytes())?;
-    let mut source = MemSource::new(bytes, Vec::new(alloc));
+    words.push(String::from_str(alloc, command.0)?)?;
+    let mut source = MemSource::new(Vec::from_slice(alloc, command.1)?, Vec::new(alloc));
     let mut sink = MemSink::new(alloc, ROOM, Vec::new(alloc))?;
-    let mut dids: DidTable<DID_ROWS> = DidTable::new();
-    let _full = dids.add(0x0101, 2, did_0101).is_err()
-        || dids.add(0x0102, 2, did_0102).is_err()
-        || dids.add(0x0103, 1, did_0103).is_err()
-        || dids.add(0x0104, 4, did_0104).is_err()
-        || dids.add(0x0105, 1, did_0105).is_err()
-        || dids.add(0x0106, 2, did_0106).is_err()
-        || dids.add(0x0107, 8, did_0107).is_err();
-    let mut subs: SubTable<KINDS> = SubTable::new();
-    let _taken = subs.add(0, note_0).is_err()
-        || subs.add(1, note_1).is_err()
-        || subs.add(2, note_2).is_err();
     let flash = FlashMem::blank(alloc, PAGES, BOOTS)?;
     let device = EepromMem::blank(alloc, UNITS, BOOTS)?;
     let ended = program(
@@ -159,22 +161,66 @@ fn is_as_written<R: Files + AllocGlobal + Threads + Wait + Sync>(
         subs,
         &OpenGate,
     );
-    let ended = match ended {
+    Ok((status_of(ended), sink))
+}
+
+/// The same with the data identifiers 0101 to 0107, and a subscriber of each kind.
+fn run_program<R: Threads + Wait + Sync>(
+    rt: &R,
+    alloc: Global,
+    word: &str,
+    script: &[u8],
+) -> Result<(u8, MemSink), AllocError> {
+    let mut dids: DidTable<DID_ROWS> = DidTable::new();
+    let _full = dids.add(0x0101, 2, did_0101).is_err()
+        || dids.add(0x0102, 2, did_0102).is_err()
+        || dids.add(0x0103, 1, did_0103).is_err()
+        || dids.add(0x0104, 4, did_0104).is_err()
+        || dids.add(0x0105, 1, did_0105).is_err()
+        || dids.add(0x0106, 2, did_0106).is_err()
+        || dids.add(0x0107, 8, did_0107).is_err();
+    let mut subs: SubTable<KINDS> = SubTable::new();
+    let _taken = subs.add(0, note_0).is_err()
+        || subs.add(1, note_1).is_err()
+        || subs.add(2, note_2).is_err();
+    run_with(rt, alloc, (word, script), dids, subs)
+}
+
+fn status_of(ended: Ended<FlashMem, EepromMem>) -> u8 {
+    match ended {
         Ended::Bench(outcome) => outcome.status,
         Ended::Device(outcome) => outcome.status,
         Ended::Watch(outcome) => outcome.status,
-    };
+    }
+}
+
+/// Whether the script of this name, under this word, ends with this status, and writes the report of the same name.
+fn is_as_written<R: Files + AllocGlobal + Threads + Wait + Sync>(
+    rt: &R,
+    word: &str,
+    name: &str,
+    status: u8,
+) -> io::Result<bool> {
+    let alloc = rt.alloc();
+    let script = fs::read_to_string(rt, format!(in alloc; "{name}.script")?)?;
+    let report = fs::read_to_string(rt, format!(in alloc; "{name}.report")?)?;
+    let (ended, sink) = run_program(rt, alloc, word, script.as_bytes())?;
     Ok(ended == status && sink.bytes() == report.as_bytes())
+}
+
+/// Tells whether a script under a word is as written.
+fn tell(rt: &impl Print, word: &str, name: &str, same: bool) -> io::Result<()> {
+    let told = if same { "as written" } else { "another report" };
+    println!(rt; "{word} {name}: {told}")
 }
 
 /// Tells of each example whether it is as written, and answers whether all are.
 fn run_all<R: Files + AllocGlobal + Print + Threads + Wait + Sync>(rt: &R) -> io::Result<bool> {
     let mut all = true;
     for (name, words, status) in &EXAMPLES {
-        for word in *words {
+        for word in words.words() {
             let same = is_as_written(rt, word, name, *status)?;
-            let told = if same { "as written" } else { "another report" };
-            println!(rt; "{word} {name}: {told}")?;
+            tell(rt, word, name, same)?;
             all = all && same;
         }
     }

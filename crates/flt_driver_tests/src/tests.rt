@@ -43,12 +43,7 @@ fn are_read(bytes: &[u8; 128], count: usize, byte: u8) -> bool {
 }
 
 // Whether the driver finds this in a block that it has, at a read and when it looks it up.
-fn finds<B: Blocks>(
-    driver: &mut B,
-    block: u16,
-    wanted: Result<Found, BlockFault>,
-    byte: u8,
-) -> bool
+fn finds<B: Blocks>(driver: &mut B, block: u16, wanted: Result<Found, BlockFault>, byte: u8) -> bool
     requires { Contains (B.state driver.old).numbers block }
     ensures { (B.state driver.new).numbers ≡ (B.state driver.old).numbers }
 {
@@ -67,12 +62,7 @@ fn finds<B: Blocks>(
 }
 
 // Whether a read goes as it says.
-fn reads<B: Blocks>(
-    driver: &mut B,
-    block: u16,
-    wanted: Result<Found, BlockFault>,
-    byte: u8,
-) -> bool
+fn reads<B: Blocks>(driver: &mut B, block: u16, wanted: Result<Found, BlockFault>, byte: u8) -> bool
     requires first { Contains (B.state driver.old).numbers 8 }
     requires second { Contains (B.state driver.old).numbers 9 }
     ensures { (B.state driver.new).numbers ≡ (B.state driver.old).numbers }
@@ -213,5 +203,6 @@ const WRITTEN: &[Step] = &[
     Step::Read(8, Ok(Found::Invalid), UNREAD),
     Step::Write(8, 128, 7, Ok(())),
     Step::Read(8, Ok(Found::Bytes(128)), 7),
+    Step::Spent(false),
     Step::Bench(2, 0),
 ];

@@ -3,7 +3,7 @@ ghost use Rattle.std.specs.Prelude.{◌≡◌, ◌+◌, ◌*◌, ◌%◌, ◌^�
 ghost use Rattle.std.specs.Thread.{IsSync};
 ghost use Rattle.flt_turn.specs.Seats.{IsSeatOf};
 
-use flt_turn::{Machine, Seat, Step, StepInto, Turn};
+use flt_turn::{Answer, Entry, Machine, Seat, Step, StepInto, Turn};
 use std::sync::Wait;
 use std::test::*;
 use std::thread::{Threads, join};
@@ -64,6 +64,27 @@ impl StepInto for Adder {
     }
 }
 
+// Whether a call has this place and this answer.
+fn is_at(answer: &Answer<u64>, place: u32, reply: u64) -> bool {
+    answer.place == place && answer.reply == reply
+}
+
+// Whether the journal has these entries, by their lanes and what they add.
+fn are_entries(journal: &[Entry<u32>], wanted: &[(u32, u32)]) -> bool {
+    if journal.len() != wanted.len() {
+        return false;
+    }
+    for (entry, (lane, op)) in journal.iter().zip(wanted) {
+        if entry.lane != *lane || entry.op != *op {
+            return false;
+        }
+    }
+    true
+}
+
+// The entries of the calls below.
+static ENTRIES: [(u32, u32); 3] = [(1, 5), (1, 6), (0, 7)];
+
 // Calls on a split seat, and then on the main seat.
 #[test]
 fn places_and_answers(rt: HostRuntime) -> Result<(), Fail> {
@@ -72,32 +93,26 @@ fn places_and_answers(rt: HostRuntime) -> Result<(), Fail> {
         return Err(Fail::from("memory"));
     };
     let mut lane = turn.split(&mut main, 2);
-    assert!(rt; (main.left(), main.children(), main.waiting()) == (1, 1, 1));
-    assert!(rt; (lane.number(), lane.left()) == (1, 2));
+    assert!(rt; main.left() == 1 && main.children() == 1 && main.waiting() == 1);
+    assert!(rt; lane.number() == 1 && lane.left() == 2);
     let Ok(first) = turn.call(&rt, &mut lane, &(), 5, &mut ()) else {
         unreachable!()
     };
-    assert!(rt; (first.place, first.reply) == (0, 5));
     let Ok(second) = turn.call(&rt, &mut lane, &(), 6, &mut ()) else {
         unreachable!()
     };
-    assert!(rt; (second.place, second.reply) == (1, 11));
+    assert!(rt; is_at(&first, 0, 5) && is_at(&second, 1, 11));
     let Err(full) = turn.call(&rt, &mut lane, &(), 9, &mut ()) else {
         unreachable!()
     };
-    assert!(rt; full.op == 9);
     turn.join(&mut main, lane);
-    assert!(rt; main.waiting() == 0);
+    assert!(rt; full.op == 9 && main.waiting() == 0);
     let Ok(third) = turn.call(&rt, &mut main, &(), 7, &mut ()) else {
         unreachable!()
     };
-    assert!(rt; (third.place, third.reply) == (2, 18));
+    assert!(rt; is_at(&third, 2, 18));
     let vault = turn.close(main);
-    assert!(rt; vault.journal.len() == 3);
-    assert!(rt; (vault.journal[0].lane, vault.journal[0].op) == (1, 5));
-    assert!(rt; (vault.journal[1].lane, vault.journal[1].op) == (1, 6));
-    assert!(rt; (vault.journal[2].lane, vault.journal[2].op) == (0, 7));
-    assert!(rt; vault.machine.sum == 18);
+    assert!(rt; are_entries(&vault.journal, &ENTRIES) && vault.machine.sum == 18);
     Ok(())
 }
 
@@ -112,18 +127,17 @@ fn answers_in_two_parts(rt: HostRuntime) -> Result<(), Fail> {
     let Ok(first) = turn.call_into(&rt, &mut main, &(), 1_234, &mut rest) else {
         unreachable!()
     };
-    assert!(rt; (first.place, first.reply, rest) == (0, 234, 1_000));
+    assert!(rt; is_at(&first, 0, 234) && rest == 1_000);
     let Ok(second) = turn.call_into(&rt, &mut main, &(), 9_999, &mut rest) else {
         unreachable!()
     };
-    assert!(rt; (second.place, second.reply, rest) == (1, 233, 11_000));
+    assert!(rt; is_at(&second, 1, 233) && rest == 11_000);
     let Err(full) = turn.call_into(&rt, &mut main, &(), 8, &mut rest) else {
         unreachable!()
     };
-    assert!(rt; (full.op, rest) == (8, 11_000));
+    assert!(rt; full.op == 8 && rest == 11_000);
     let vault = turn.close(main);
-    assert!(rt; vault.journal.len() == 2);
-    assert!(rt; vault.machine.sum == 11_233);
+    assert!(rt; vault.journal.len() == 2 && vault.machine.sum == 11_233);
     Ok(())
 }
 
@@ -176,6 +190,21 @@ fn run_lanes<R: Threads + Wait + Sync>(
     main
 }
 
+// Whether each of eight lanes has its calls in its order, with the numbers from this count down to 1, and no others.
+fn are_in_order(journal: &[Entry<u32>], calls: u32) -> bool {
+    let mut left = [calls; 8];
+    for entry in journal {
+        let Some(count) = left.get_mut(entry.lane.wrapping_sub(1) as usize) else {
+            return false;
+        };
+        if entry.op != *count {
+            return false;
+        }
+        *count = count.saturating_sub(1);
+    }
+    left == [0; 8]
+}
+
 // Eight lanes at once. The journal has the calls of each in its order, however they interleave.
 #[test]
 fn lanes_share_one_journal(rt: HostRuntime) -> Result<(), Fail> {
@@ -186,16 +215,7 @@ fn lanes_share_one_journal(rt: HostRuntime) -> Result<(), Fail> {
     let main = run_lanes(&rt, &turn, main, 8, 5_000);
     assert!(rt; main.waiting() == 0);
     let vault = turn.close(main);
-    assert!(rt; vault.journal.len() == 40_000);
-    assert!(rt; vault.machine.sum == 8 * 5_000 * 5_001 / 2);
-    let mut left = [5_000u32; 8];
-    for entry in vault.journal.iter() {
-        let Some(count) = left.get_mut(entry.lane.wrapping_sub(1) as usize) else {
-            return Err(Fail::from("a lane that was not run"));
-        };
-        assert!(rt; entry.op == *count);
-        *count = count.saturating_sub(1);
-    }
-    assert!(rt; left == [0; 8]);
+    assert!(rt; vault.journal.len() == 40_000 && vault.machine.sum == 8 * 5_000 * 5_001 / 2);
+    assert!(rt; are_in_order(&vault.journal, 5_000));
     Ok(())
 }

@@ -226,6 +226,28 @@ fn changed(page: &[u8; 32], change: Change) -> [u8; 32] {
     }
 }
 
+/// The pages that the script leaves.
+fn saved_image<R: Threads + Wait + Sync + Abort>(
+    rt: &R,
+    alloc: Global,
+) -> Result<Vec<[u8; 32]>, AllocError> {
+    let blank = FlashMem::blank(alloc, PAGES, BOOTS)?;
+    let (status, _, saved) = run_over(rt, blank, &["run"], SAVED.as_bytes(), (NONE, NONE), alloc)?;
+    assert!(rt; status == 0);
+    pages_of(alloc, &saved)
+}
+
+/// Makes changes of pages that the image has, and tells whether it has them all.
+fn change_all(image: &mut Vec<[u8; 32]>, changes: &[(usize, Change)]) -> bool {
+    for (page, change) in changes {
+        if *page >= image.len() {
+            return false;
+        }
+        image[*page] = changed(&image[*page], *change);
+    }
+    true
+}
+
 /// The pages that the script leaves, in version 2 or in version 1, with changes.
 fn image_with<R: Threads + Wait + Sync + Abort>(
     rt: &R,
@@ -233,14 +255,8 @@ fn image_with<R: Threads + Wait + Sync + Abort>(
     version: &[(usize, Change)],
     changes: &[(usize, Change)],
 ) -> Result<FlashMem, AllocError> {
-    let blank = FlashMem::blank(alloc, PAGES, BOOTS)?;
-    let (status, _, saved) = run_over(rt, blank, &["run"], SAVED.as_bytes(), (NONE, NONE), alloc)?;
-    assert!(rt; status == 0);
-    let mut image = pages_of(alloc, &saved)?;
-    for (page, what) in version.iter().chain(changes.iter()) {
-        assert!(rt; *page < image.len());
-        image[*page] = changed(&image[*page], *what);
-    }
+    let mut image = saved_image(rt, alloc)?;
+    assert!(rt; change_all(&mut image, version) && change_all(&mut image, changes));
     assert!(rt; image.len() == 2048);
     FlashMem::of(alloc, image, BOOTS)
 }
@@ -260,19 +276,27 @@ fn changed_images_are_told(rt: HostRuntime) -> Result<(), Fail> {
     Ok(())
 }
 
-/// An image of version 1 is restored. A save behind it that is cut before its first program leaves generation 1; one that is cut behind the
-/// first copy of its commit leaves generation 2, beside a second copy that still names generation 1 in version 1.
+/// Scripts behind an image of version 1, which is restored, each with its report. A save that is cut before its first program leaves
+/// generation 1; one that is cut behind the first copy of its commit leaves generation 2, beside a second copy that still names
+/// generation 1 in version 1.
+static RESTORED: [(&str, &str); 2] = [
+    (
+        "memory 1\nblocks 0\nevent 0 dtc 123456\nshow 0\ncut 1 none\nsave\npower\n",
+        "life 1 generation 1\nshow 0 -> status 2F fdc 0 failed 1 clean 0 stored 1 overflow 0\ncut 1 none -> armed\n\
+         save -> flash\nlife 2 generation 1\n",
+    ),
+    (
+        "memory 1\nblocks 0\nevent 0 dtc 123456\nshow 0\ncut 4 none\nsave\npower\n",
+        "life 1 generation 1\nshow 0 -> status 2F fdc 0 failed 1 clean 0 stored 1 overflow 0\ncut 4 none -> armed\n\
+         save -> flash\nlife 2 generation 2\n",
+    ),
+];
+
 #[test]
 fn an_image_of_version_1_is_restored(rt: HostRuntime) -> Result<(), Fail> {
-    let alloc = rt.alloc();
-    for (program, number) in [(1, 1), (4, 2)] {
-        let script = format!(in alloc; "{CONFIGURED}show 0\ncut {program} none\nsave\npower\n")?;
-        let told = format!(in alloc;
-            "life 1 generation 1\nshow 0 -> status 2F fdc 0 failed 1 clean 0 stored 1 overflow 0\ncut {program} none -> armed\n\
-             save -> flash\nlife 2 generation {number}\n"
-        )?;
-        let flash = image_with(&rt, alloc, OLD, &[])?;
-        is_told(&rt, alloc, flash, script.as_str(), (0, told.as_str()))?;
+    for (script, told) in &RESTORED {
+        let flash = image_with(&rt, rt.alloc(), OLD, &[])?;
+        is_told(&rt, rt.alloc(), flash, script, (0, told))?;
     }
     Ok(())
 }

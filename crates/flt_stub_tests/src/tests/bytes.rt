@@ -345,18 +345,18 @@ fn is_of(commit: Option<Commit>, generation: u32) -> bool {
     }
 }
 
-// The lowest byte of the number of the commit after this one, and the first byte of its bits.
+// The number of the commit after this one, and the first byte of its bits.
 fn after(
     config: &ValidConfig,
     current: Option<Commit>,
     before: &StateBlocks,
     blocks: &StateBlocks,
-) -> Option<(u8, u8)> {
+) -> Option<(u32, u8)> {
     if !can_follow(&current) {
         return None;
     }
-    let bytes = put_commit(&next_commit(config, &current, before, blocks));
-    Some((bytes[4], bytes[5]))
+    let next = next_commit(config, &current, before, blocks);
+    Some((next.generation, put_commit(&next)[5]))
 }
 
 #[test]
@@ -367,9 +367,9 @@ fn a_commit_has_its_successor(rt: HostRuntime) {
     let blocks = blocks_of(&valid, true);
     assert!(&rt; after(&valid, None, &blocks, &blocks) == Some((1, 0x00)));
     let unknown = StateBlocks::unknown();
-    assert!(&rt; after(&valid, commit, &unknown, &blocks) == Some((5, 0x41)));
+    assert!(&rt; after(&valid, commit, &unknown, &blocks) == Some((0x01020305, 0x41)));
     let before = blocks_of(&valid, false);
-    assert!(&rt; after(&valid, commit, &before, &blocks) == Some((5, 0x23)));
+    assert!(&rt; after(&valid, commit, &before, &blocks) == Some((0x01020305, 0x23)));
 }
 
 // The byte of a commit that is another one.

@@ -99,18 +99,30 @@ fn play_with(
 }
 
 // A mount of a damaged unit of block 8.
-static FIRST_DAMAGED: [Step; 1] =
-    [Step::Mount(Err(BlockFault::Damaged { sector: 0, page: 0 }))];
+static FIRST_DAMAGED: [Step; 1] = [Step::Mount(Err(BlockFault::Damaged { sector: 0, page: 0 }))];
 
-static SECOND_DAMAGED: [Step; 1] =
-    [Step::Mount(Err(BlockFault::Damaged { sector: 1, page: 0 }))];
+static SECOND_DAMAGED: [Step; 1] = [Step::Mount(Err(BlockFault::Damaged { sector: 1, page: 0 }))];
 
 #[test]
 fn units_that_no_driver_writes_are_damage(rt: HostRuntime) -> Result<(), Fail> {
     let alloc = rt.alloc();
     play_with(&rt, alloc, [0; 32], BLANK_PAGE, "zeros", &FIRST_DAMAGED)?;
-    play_with(&rt, alloc, gate(8, 3), gate(8, 3), "one number", &SECOND_DAMAGED)?;
-    play_with(&rt, alloc, gate(8, 3), gate(9, 4), "another block", &SECOND_DAMAGED)
+    play_with(
+        &rt,
+        alloc,
+        gate(8, 3),
+        gate(8, 3),
+        "one number",
+        &SECOND_DAMAGED,
+    )?;
+    play_with(
+        &rt,
+        alloc,
+        gate(8, 3),
+        gate(9, 4),
+        "another block",
+        &SECOND_DAMAGED,
+    )
 }
 
 // Block 8 can't be written any more, and block 9 can.

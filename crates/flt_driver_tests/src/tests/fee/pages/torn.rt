@@ -80,6 +80,11 @@ fn torn(pattern: Pattern, start: &[u8; 32], asked: &[u8; 32], tail: usize) -> [u
     page
 }
 
+// The answer of a call that only reads, by whether it told what the image holds.
+fn ok_if(is_told: bool) -> Result<(), FlashFailed> {
+    if is_told { Ok(()) } else { Err(FlashFailed) }
+}
+
 fn run(
     rt: &impl Abort,
     flash: &mut FlashMem,
@@ -91,18 +96,9 @@ fn run(
     ensures boots { (state_of flash.new).bench.boots_left ≡ (state_of flash.old).bench.boots_left }
 {
     match call {
-        Call::Gates => {
-            assert!(rt; gates(flash, 0, 8) == Ok(Some(1)));
-            Ok(())
-        }
-        Call::Item => {
-            assert!(rt; item(flash, 0, 8, 2, numbers) == Ok(record(false)));
-            Ok(())
-        }
-        Call::BlankFrom => {
-            assert!(rt; blank_from(flash, 0, 8, 4).is_ok());
-            Ok(())
-        }
+        Call::Gates => ok_if(gates(flash, 0, 8) == Ok(Some(1))),
+        Call::Item => ok_if(item(flash, 0, 8, 2, numbers) == Ok(record(false))),
+        Call::BlankFrom => ok_if(blank_from(flash, 0, 8, 4).is_ok()),
         Call::Begin => begin(flash, 1, 8, 3),
         Call::Head => {
             assert_blank(rt, flash, 0, 5);
@@ -191,6 +187,17 @@ fn compare(
     }
 }
 
+// Whether the arm fired unless the call only reads, and a cut that fired turned the power off.
+fn is_left(flash: &mut FlashMem, is_cut: bool, only_reads: bool) -> bool
+    requires { (state_of flash.old).pages ≡ 8 }
+    ensures pages { (state_of flash.new).pages ≡ 8 }
+    ensures boots { (state_of flash.new).bench.boots_left ≡ (state_of flash.old).bench.boots_left }
+{
+    let mut out = [0; 32];
+    (flash.armed() == 1) == only_reads
+        && flash.read_page(0, 0, &mut out).is_err() == (is_cut && !only_reads)
+}
+
 // One operation of a call is cut, or fails by a fault.
 fn try_case(
     rt: &impl Abort,
@@ -205,46 +212,43 @@ fn try_case(
     let numbers = eight(alloc)?;
     let mut flash = prepared(alloc, image())?;
     flash.arm(arm_at(operation, pattern, is_cut));
-    let answer = run(rt, &mut flash, &numbers, call);
     let only_reads = matches!(call, Call::Gates | Call::Item | Call::BlankFrom);
-    assert!(rt; answer.is_ok() == only_reads, "{call:?} {pattern:?}");
-    assert!(rt; (flash.armed() == 1) == only_reads, "{call:?} {pattern:?}");
-    let mut out = [0; 32];
-    assert!(rt; flash.read_page(0, 0, &mut out).is_err() == (is_cut && !only_reads));
+    let is_ok = run(rt, &mut flash, &numbers, call).is_ok();
+    assert!(rt;
+        is_ok == only_reads && is_left(&mut flash, is_cut, only_reads),
+        "{call:?} {pattern:?}"
+    );
     flash.power_up();
     let is_erase = call == Call::Begin && operation == 1;
     let start = start_of(operation);
     let asked = asked_of(call, is_erase, &start);
     compare(rt, &flash, &start, &asked, pattern, is_erase);
-    tells(rt, &mut flash, &numbers, call, pattern);
+    assert!(rt;
+        is_told(&mut flash, &numbers, call, pattern),
+        "a look behind {call:?} {pattern:?}"
+    );
     Ok(())
 }
 
-// What a look at the flash tells after a call that failed.
-fn tells(rt: &impl Abort, flash: &mut FlashMem, numbers: &Numbers, call: Call, pattern: Pattern)
+// What a pattern leaves of a head, read as an item.
+fn head_by(pattern: Pattern) -> Item {
+    match pattern {
+        Pattern::Nothing => Item::End,
+        Pattern::All => record(false),
+        _ => Item::Torn,
+    }
+}
+
+// Whether a look at the flash tells what a call that failed by this pattern leaves.
+fn is_told(flash: &mut FlashMem, numbers: &Numbers, call: Call, pattern: Pattern) -> bool
     requires { (state_of flash.old).pages ≡ 8 }
 {
     let all = pattern == Pattern::All;
     match call {
-        Call::Head => {
-            let head = match pattern {
-                Pattern::Nothing => Item::End,
-                Pattern::All => record(false),
-                _ => Item::Torn,
-            };
-            assert!(rt; item(flash, 0, 8, 5, numbers) == Ok(head), "{pattern:?}");
-        }
-        Call::Gate => {
-            assert!(rt;
-                item(flash, 0, 8, 2, numbers) == Ok(record(all)),
-                "{pattern:?}"
-            );
-        }
-        Call::Activate => {
-            let number = if all { Some(2) } else { None };
-            assert!(rt; gates(flash, 1, 8) == Ok(number), "{pattern:?}");
-        }
-        _ => assert!(rt; gates(flash, 1, 8) == Ok(None), "{call:?} {pattern:?}"),
+        Call::Head => item(flash, 0, 8, 5, numbers) == Ok(head_by(pattern)),
+        Call::Gate => item(flash, 0, 8, 2, numbers) == Ok(record(all)),
+        Call::Activate if all => gates(flash, 1, 8) == Ok(Some(2)),
+        _ => gates(flash, 1, 8) == Ok(None),
     }
 }
 

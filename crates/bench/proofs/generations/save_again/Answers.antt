@@ -1,4 +1,0 @@
-use Rattle.bench.proofs.generations.save_again.Goals as goal
-
-pub save-requires-clause-alive : goal.save-requires-clause-alive
-save-requires-clause-alive g c = record { held = _; spare = _; running = c.in-Ok.ensures.started.running }
