@@ -62,6 +62,7 @@ pub struct Persist {
 
 impl Persist {
     /// A copy of this state, which takes no memory.
+    #[inline(always)]
     pub fn twin(&self) -> Persist
         ensures { result ≡ self.now }
     {

@@ -1,6 +1,6 @@
 pub mod Swapping
 pub mod Sharing
-pub mod Seats
+pub mod Seating
 pub mod WorkRuns
 pub mod Rooms
 pub mod Running

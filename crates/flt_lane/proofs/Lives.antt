@@ -38,7 +38,7 @@ use Rattle.flt_lane.specs.Room.{part_in}
 use Rattle.flt_lane.specs.Runs.{QueueSeat, calls_by, queued_by}
 use Rattle.flt_lane.proofs.LaneDeeds.{all_lanes_count, all_own_count, deeds_more, deeds_of_block, lanes_told_count, newest_of_one}
 use Rattle.flt_fork.proofs.Parts.{chain_part, lived_none, lived_more}
-use Rattle.flt_lane.proofs.Seats.{next_of}
+use Rattle.flt_lane.proofs.Seating.{next_of}
 
 -- ---- on one lock
 

@@ -1,15 +1,19 @@
 -- A lane before its steps and after them.
 use Rattle.std.specs.Prelude.{◌≡◌, ◌≤◌, ◌++◌, List, All, length}
+use Rattle.flt_config.specs.declared.config.Config.{Config}
+use Rattle.flt_config.specs.Durable.{Fits}
+use Rattle.flt_config.specs.Validity.{IsValid}
 use Rattle.flt_life.specs.Answers.{Told}
 use Rattle.flt_life.specs.Parts.{IsPossibleInLane, calls_of, queued_of}
 use Rattle.flt_life.specs.Room.{HasRoomForSteps, told_in}
 use Rattle.flt_turn.specs.Seats as turn
 use Rattle.flt_queue.specs.declared.lock.QueueLock.{QueueLock}
 use Rattle.flt_shared.specs.declared.lock.DemLock.{DemLock}
+use Rattle.flt_shared.specs.Call.{Seat}
 use Rattle.flt_shared.specs.Lock.{IsSeatOf}
 use Rattle.flt_lane.specs.declared.lane.LaneWork.{LaneWork}
 use Rattle.flt_lane.specs.declared.locks.Locks.{Locks}
-use Rattle.flt_lane.specs.Runs.{RunsSteps, RunsQueue}
+use Rattle.flt_lane.specs.Runs.{QueueSeat, RunsQueue, RunsSteps}
 
 -- The two locks together.
 abbrev pub both : {F : _} {g : _} → DemLock F g → QueueLock → Locks F g
@@ -20,6 +24,16 @@ pub record AreSeatsOf {F : _} {g : _} (locks : Locks F g) (work : LaneWork) : Ty
   pub dem : IsSeatOf locks.dem work.seat
   pub queue : turn.IsSeatOf locks.queue.turn work.queue_seat
   pub blocks : work.queue_seat.start ≡ work.seat.start.config.blocks
+
+-- What is needed to make steps: the seats are of these locks, the queue has the blocks of the configuration, which is the machine's and
+-- is valid, and the state from which the machine started fits it.
+pub record AreReady {F : _} {g : _} (locks : Locks F g) (config : Config) (seat : Seat) (jobs : QueueSeat) : Type 0 where
+  pub lock : IsSeatOf locks.dem seat
+  pub queue : turn.IsSeatOf locks.queue.turn jobs
+  pub blocks : jobs.start ≡ seat.start.config.blocks
+  pub same : seat.start.config ≡ config
+  pub valid : IsValid config
+  pub fits : Fits config seat.start.base
 
 -- It has its seat's number, and its seats have the calls of its steps, which a lane can make; and there is room for their answers.
 pub record IsPrepared {F : _} {g : _} (locks : Locks F g) (work : LaneWork) : Type 0 where

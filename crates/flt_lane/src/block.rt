@@ -16,7 +16,7 @@ ghost use Rattle.flt_fork.specs.Lived.{IsMain};
 ghost use Rattle.flt_lane.specs.Room.{IsBlockRoom, IsLaneFor, all_calls, all_queued};
 ghost use Rattle.flt_lane.specs.Seating.{AreSeated, CanJoin, CanSeat, HaveJoined, IsJoined, IsSeated};
 ghost use Rattle.flt_lane.specs.Stored.{AreRun};
-ghost use Rattle.flt_lane.specs.Work.{AreSeatsOf, IsPrepared};
+ghost use Rattle.flt_lane.specs.Work.{AreReady, AreSeatsOf, IsPrepared};
 
 use crate::gate::SharedGate;
 use crate::lane::LaneWork;
@@ -150,12 +150,8 @@ pub(crate) fn run_lanes<'a, R: Threads + Wait + Sync, G: SharedGate, B: Blocks +
     told: &mut Vec<LaneReplies>,
     gate: &G,
 )
-    requires lock { IsSeatOf locks.now.dem seats.old.dem × IsMain seats.old.dem }
-    requires queue { turn.IsSeatOf locks.now.queue.turn seats.old.queue × IsMain seats.old.queue }
-    requires blocks { seats.old.queue.start ≡ seats.old.dem.start.config.blocks }
-    requires same { seats.old.dem.start.config ≡ config.now }
-    requires valid { IsValid config.now }
-    requires fits { Fits config.now seats.old.dem.start.base }
+    requires ready { AreReady locks.now config.now seats.old.dem seats.old.queue }
+    requires main { IsMain seats.old.dem × IsMain seats.old.queue }
     requires alive { IsAlive config.now store.old }
     requires arms { (driver_of store.old).device.bench.armed ≤ 64 }
     requires room { IsBlockRoom room }

@@ -19,6 +19,7 @@ ghost use Rattle.flt_fork.specs.Lived.{IsMain};
 ghost use Rattle.flt_lane.specs.Living.{Carries};
 ghost use Rattle.flt_lane.specs.Room.{IsPartFor, IsPartRoom, part_in};
 ghost use Rattle.flt_lane.specs.Runs.{calls_by, queued_by};
+ghost use Rattle.flt_lane.specs.Work.{AreReady};
 
 use crate::block::run_lanes;
 use crate::gate::{Gate, SharedGate};
@@ -58,12 +59,7 @@ fn run_one<R: Wait, G: Gate, B: Blocks + Drop>(
     answers: &mut LifeAnswers,
     gate: &G,
 )
-    requires lock { IsSeatOf locks.now.dem seats.old.dem × (seats.old.dem.number ≡ 0) }
-    requires queue { turn.IsSeatOf locks.now.queue.turn seats.old.queue × (seats.old.queue.number ≡ 0) }
-    requires blocks { seats.old.queue.start ≡ seats.old.dem.start.config.blocks }
-    requires same { seats.old.dem.start.config ≡ config.now }
-    requires valid { IsValid config.now }
-    requires fits { Fits config.now seats.old.dem.start.base }
+    requires ready { AreReady locks.now config.now seats.old.dem seats.old.queue }
     requires alive { IsAlive config.now store.old }
     requires step { IsPossible config.now (action_of step.now) }
     requires arms { (driver_of store.old).device.bench.armed + arm_count (action_of step.now) ≤ 64 }
@@ -122,12 +118,8 @@ fn run_part<'a, R: Threads + Wait + Sync, G: SharedGate, B: Blocks + Drop>(
     answers: &mut LifeAnswers,
     gate: &G,
 )
-    requires lock { IsSeatOf locks.now.dem seats.old.dem × IsMain seats.old.dem }
-    requires queue { turn.IsSeatOf locks.now.queue.turn seats.old.queue × IsMain seats.old.queue }
-    requires blocks { seats.old.queue.start ≡ seats.old.dem.start.config.blocks }
-    requires same { seats.old.dem.start.config ≡ config.now }
-    requires valid { IsValid config.now }
-    requires fits { Fits config.now seats.old.dem.start.base }
+    requires ready { AreReady locks.now config.now seats.old.dem seats.old.queue }
+    requires main { IsMain seats.old.dem × IsMain seats.old.queue }
     requires alive { IsAlive config.now store.old }
     requires part { IsPartRoom part }
     requires steps { IsPartFor config.now (part_in part) }
@@ -185,12 +177,8 @@ pub fn run_parts<'a, R: Threads + Wait + Sync, G: SharedGate, B: Blocks + Drop>(
     answers: &mut LifeAnswers,
     gate: &G,
 )
-    requires lock { IsSeatOf locks.now.dem seats.old.dem × IsMain seats.old.dem }
-    requires queue { turn.IsSeatOf locks.now.queue.turn seats.old.queue × IsMain seats.old.queue }
-    requires blocks { seats.old.queue.start ≡ seats.old.dem.start.config.blocks }
-    requires same { seats.old.dem.start.config ≡ config.now }
-    requires valid { IsValid config.now }
-    requires fits { Fits config.now seats.old.dem.start.base }
+    requires ready { AreReady locks.now config.now seats.old.dem seats.old.queue }
+    requires main { IsMain seats.old.dem × IsMain seats.old.queue }
     requires alive { IsAlive config.now store.old }
     requires part { All IsPartRoom parts.items }
     requires steps { All (IsPartFor config.now) (map part_in parts.items) }

@@ -24,6 +24,7 @@ ghost use Rattle.flt_lives.specs.Going.{GoesOn, WereGiven};
 ghost use Rattle.flt_lane.specs.Living.{Carries};
 ghost use Rattle.flt_lane.specs.Runs.{Makes, Queues, QueueSeat as Jobs, calls_by, queued_by};
 ghost use Rattle.flt_lane.specs.Stored.{LeavesStore};
+ghost use Rattle.flt_lane.specs.Work.{AreReady, both};
 
 use crate::drain::drain;
 use arrayvec::ArrayVec;
@@ -213,12 +214,7 @@ fn touch_store<R: Wait, B: Blocks + Drop>(
     jobs: &mut QueueSeat,
     step: &Step,
 ) -> StepAnswer<ReplyKind>
-    requires lock { IsSeatOf dem.now seat.old }
-    requires queue { turn.IsSeatOf queue.now.turn jobs.old }
-    requires blocks { jobs.old.start ≡ seat.old.start.config.blocks }
-    requires same { seat.old.start.config ≡ config.now }
-    requires valid { IsValid config.now }
-    requires fits { Fits config.now seat.old.start.base }
+    requires ready { AreReady (both dem.now queue.now) config.now seat.old jobs.old }
     requires alive { IsAlive config.now store.old }
     requires step { IsPossible config.now (action_of step.now) }
     requires store { is_store_step step.now ≡ true }
@@ -253,12 +249,7 @@ pub(crate) fn do_step<R: Wait, B: Blocks + Drop>(
     step: &Step,
     response: &mut ArrayVec<u8, RESPONSE>,
 ) -> StepAnswer<ReplyKind>
-    requires lock { IsSeatOf dem.now seat.old }
-    requires queue { turn.IsSeatOf queue.now.turn jobs.old }
-    requires blocks { jobs.old.start ≡ seat.old.start.config.blocks }
-    requires same { seat.old.start.config ≡ config.now }
-    requires valid { IsValid config.now }
-    requires fits { Fits config.now seat.old.start.base }
+    requires ready { AreReady (both dem.now queue.now) config.now seat.old jobs.old }
     requires alive { IsAlive config.now store.old }
     requires step { IsPossible config.now (action_of step.now) }
     requires arms { (driver_of store.old).device.bench.armed + arm_count (action_of step.now) ≤ 64 }

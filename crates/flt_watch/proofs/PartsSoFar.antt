@@ -20,7 +20,7 @@ use Rattle.flt_fork.specs.Lived.{IsMain}
 use Rattle.flt_lane.specs.Runs.{calls_by}
 use Rattle.flt_lane.proofs.Lives.{no_parts, part_block, part_one, room_of_part, run_more}
 use Rattle.flt_lane.proofs.Rooms.{next_lanes}
-use Rattle.flt_lane.proofs.Seats.{next_of}
+use Rattle.flt_lane.proofs.Seating.{next_of}
 use Rattle.flt_watch.specs.declared.lock.WatchLock.{WatchLock}
 use Rattle.flt_watch.specs.Block.{Gains, HasStepped, HaveRunParts, IsPartFor, RunsLanes}
 use Rattle.flt_watch.specs.Lane.{IsSeatOf}

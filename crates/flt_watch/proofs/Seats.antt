@@ -11,7 +11,7 @@ use Rattle.flt_life.specs.declared.replies.LaneReplies.{LaneReplies}
 use Rattle.flt_life.specs.declared.room.LaneRoom.{LaneRoom}
 use Rattle.flt_life.specs.Room.{IsLaneRoom, steps_of, told_in}
 use Rattle.flt_lane.specs.Room.{all_calls}
-use Rattle.flt_lane.proofs.Seats.{all_of_first, first_fits, none_told, room_same}
+use Rattle.flt_lane.proofs.Seating.{all_of_first, first_fits, none_told, room_same}
 use Rattle.flt_watch.specs.declared.lane.WatchLane.{WatchLane}
 use Rattle.flt_watch.specs.declared.lock.WatchLock.{WatchLock}
 use Rattle.flt_watch.specs.Lane.{IsLaneFor, IsPrepared, IsSeatOf}

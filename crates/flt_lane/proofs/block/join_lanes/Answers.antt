@@ -1,4 +1,4 @@
-use Rattle.flt_lane.proofs.Seats.{have_joined}
+use Rattle.flt_lane.proofs.Seating.{have_joined}
 use Rattle.flt_lane.proofs.block.join_lanes.Goals as goal
 
 pub returns-clause-joined : goal.returns-clause-joined

@@ -10,10 +10,10 @@ use Rattle.flt_lane.proofs.block.run_lanes.Goals as goal
 
 pub seat_lanes-works-requires-clause-can : goal.seat_lanes-works-requires-clause-can
 seat_lanes-works-requires-clause-can g c = let r = c.requires in record {
-  dem = record { main_is = record { lock_is = r.lock.0.0; number_is = r.lock.1.number_is }; numbers = r.children.0; enough = r.calls };
-  queue = record { main_is = record { lock_is = r.queue.0; number_is = r.queue.1.number_is }; numbers = r.children.1; enough = r.queued };
-  config = r.lock.0.1;
-  blocks = r.blocks;
+  dem = record { main_is = record { lock_is = r.ready.lock.0; number_is = r.main.0.number_is }; numbers = r.children.0; enough = r.calls };
+  queue = record { main_is = record { lock_is = r.ready.queue; number_is = r.main.1.number_is }; numbers = r.children.1; enough = r.queued };
+  config = r.ready.lock.1;
+  blocks = r.ready.blocks;
   ready = r.room.ready;
   steps = r.steps;
 }
@@ -26,12 +26,12 @@ run_works-requires-clause-one_stores g c κs within = subst (λ l. store_lanes l
 
 pub run_works-requires-clause-same : goal.run_works-requires-clause-same
 run_works-requires-clause-same g c κs within =
-    split_each (λ (w : LaneWork). w.seat) (λ w. calls_of w.steps.now) c.args.seats.now.dem (λ w. w.seat.start.config ≡ c.args.config.now) (λ number w is. ap (λ s. s.config) is.start_is ∙ c.requires.same) _
+    split_each (λ (w : LaneWork). w.seat) (λ w. calls_of w.steps.now) c.args.seats.now.dem (λ w. w.seat.start.config ≡ c.args.config.now) (λ number w is. ap (λ s. s.config) is.start_is ∙ c.requires.ready.same) _
     c.seat_lanes-works.result.items c.seat_lanes-works.ensures.seated.dem
 
 pub run_works-requires-clause-fits : goal.run_works-requires-clause-fits
 run_works-requires-clause-fits g c κs within =
-    split_each (λ (w : LaneWork). w.seat) (λ w. calls_of w.steps.now) c.args.seats.now.dem (λ w. Fits c.args.config.now w.seat.start.base) (λ number w is. subst (λ s. Fits c.args.config.now s.base) (sym is.start_is) c.requires.fits) _
+    split_each (λ (w : LaneWork). w.seat) (λ w. calls_of w.steps.now) c.args.seats.now.dem (λ w. Fits c.args.config.now w.seat.start.base) (λ number w is. subst (λ s. Fits c.args.config.now s.base) (sym is.start_is) c.requires.ready.fits) _
     c.seat_lanes-works.result.items c.seat_lanes-works.ensures.seated.dem
 
 pub join_lanes-requires-clause-can : goal.join_lanes-requires-clause-can
@@ -40,25 +40,25 @@ join_lanes-requires-clause-can g c =
     let dem = c.seat_lanes-works.ensures.seated.dem_off in
     let queue = c.seat_lanes-works.ensures.seated.queue_off in
     record {
-      dem = record { lock_is = dem.lock_is ∙ r.lock.0.0; number_is = dem.number_is ∙ r.lock.1.number_is };
-      queue = record { lock_is = queue.lock_is ∙ r.queue.0; number_is = queue.number_is ∙ r.queue.1.number_is };
-      config = ap (λ s. s.config) dem.start_is ∙ r.lock.0.1;
+      dem = record { lock_is = dem.lock_is ∙ r.ready.lock.0; number_is = dem.number_is ∙ r.main.0.number_is };
+      queue = record { lock_is = queue.lock_is ∙ r.ready.queue; number_is = queue.number_is ∙ r.main.1.number_is };
+      config = ap (λ s. s.config) dem.start_is ∙ r.ready.lock.1;
       seats = c.run_works.ensures.seats;
     }
 
 pub returns-clause-part : goal.returns-clause-part
 returns-clause-part g c =
     has_run_lanes c.args.locks.now c.args.config.now c.args.seats.now c.seat_lanes-works.new.main c.join_lanes.new.main (steps_of c.args.room.lanes.items) c.seat_lanes-works.result.items c.run_works.new.works.items
-    (map told_in c.args.told.now.items) (map told_in c.join_lanes.new.told.items) c.args.store.now c.run_works.new.store c.requires.lock.1 c.requires.queue.1 c.seat_lanes-works.ensures.seated c.run_works.ensures.ran c.join_lanes.ensures.joined
+    (map told_in c.args.told.now.items) (map told_in c.join_lanes.new.told.items) c.args.store.now c.run_works.new.store c.requires.main.0 c.requires.main.1 c.seat_lanes-works.ensures.seated c.run_works.ensures.ran c.join_lanes.ensures.joined
 
 pub returns-clause-lock : goal.returns-clause-lock
 returns-clause-lock g c = (
-  c.join_lanes.ensures.joined.dem.lock_is ∙ c.seat_lanes-works.ensures.seated.dem_off.lock_is ∙ c.requires.lock.0.0,
-  ap (λ s. s.config) (c.join_lanes.ensures.joined.dem.start_is ∙ c.seat_lanes-works.ensures.seated.dem_off.start_is) ∙ c.requires.lock.0.1,
+  c.join_lanes.ensures.joined.dem.lock_is ∙ c.seat_lanes-works.ensures.seated.dem_off.lock_is ∙ c.requires.ready.lock.0,
+  ap (λ s. s.config) (c.join_lanes.ensures.joined.dem.start_is ∙ c.seat_lanes-works.ensures.seated.dem_off.start_is) ∙ c.requires.ready.lock.1,
 )
 
 pub returns-clause-queue : goal.returns-clause-queue
-returns-clause-queue g c = c.join_lanes.ensures.joined.queue.lock_is ∙ c.seat_lanes-works.ensures.seated.queue_off.lock_is ∙ c.requires.queue.0
+returns-clause-queue g c = c.join_lanes.ensures.joined.queue.lock_is ∙ c.seat_lanes-works.ensures.seated.queue_off.lock_is ∙ c.requires.ready.queue
 
 pub returns-clause-left : goal.returns-clause-left
 returns-clause-left g c = omega (arith, c.join_lanes.ensures.joined.dem.left_is, c.seat_lanes-works.ensures.seated.dem_off.left_is)

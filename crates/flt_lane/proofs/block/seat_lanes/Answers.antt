@@ -1,4 +1,4 @@
-use Rattle.flt_lane.proofs.Seats.{are_seated}
+use Rattle.flt_lane.proofs.Seating.{are_seated}
 use Rattle.flt_lane.proofs.block.seat_lanes.Goals as goal
 
 pub returns-clause-seated : goal.returns-clause-seated

@@ -1,6 +1,6 @@
 use Rattle.std.proofs.Common.{arith, ap, refl, ◌∙◌}
 use Rattle.flt_turn.specs.Seats.{split_off, split_seat}
-use Rattle.flt_lane.proofs.Seats.{calls_for, lane_for, queued_for, seated}
+use Rattle.flt_lane.proofs.Seating.{calls_for, lane_for, queued_for, seated}
 use Rattle.flt_lane.proofs.block.split_lane.Goals as goal
 
 pub for_lane-calls-requires : goal.for_lane-calls-requires

@@ -1,5 +1,6 @@
-use Rattle.std.proofs.Common.{[], refl, rules, sym, subst}
+use Rattle.std.proofs.Common.{[], ap, refl, rules, sym, subst, ◌∙◌}
 use Rattle.flt_config.specs.Durable.{Fits}
+use Rattle.flt_model.specs.declared.life.DemStart.{DemStart}
 use Rattle.flt_lane.proofs.Running.{begins, calls_left, goes_on, has_run, possible_next, queued_left, seats_stay, start_now, take_past, whole_size, whole_told}
 use Rattle.flt_lane.proofs.Storing.{has_stored, leaves_step, storing_begins, storing_more}
 use Rattle.flt_life.specs.Answers.{told_with}
@@ -9,10 +10,18 @@ use Rattle.flt_lane.proofs.lane.run_store_lane.Goals as goal
 pub loop-index-init : goal.loop-index-init
 loop-index-init g c = storing_begins c.args.config.now (both c.args.dem.now c.args.queue.now) c.args.lane.now c.args.store.now (begins (both c.args.dem.now c.args.queue.now) c.args.lane.now c.requires.ready)
 
-pub do_step-answer-requires-clause-fits : goal.do_step-answer-requires-clause-fits
-do_step-answer-requires-clause-fits g c =
+pub do_step-answer-requires-clause-ready : goal.do_step-answer-requires-clause-ready
+do_step-answer-requires-clause-ready g c =
+    let seats = c.loop-index.invariant.part.seats in
     let start = start_now (both c.args.dem.now c.args.queue.now) c.args.lane.now c.loop-index.lane c.loop-index.index c.index-steps-index.result c.requires.ready c.loop-index.invariant.part (search rules) c.index-steps-index.is in
-    subst (λ s. Fits c.args.config.now s.base) (sym start) c.requires.fits
+    record {
+      lock = seats.dem;
+      queue = seats.queue;
+      blocks = seats.blocks;
+      same = ap (λ (s : DemStart). s.config) start ∙ c.requires.same;
+      valid = c.requires.valid;
+      fits = subst (λ (s : DemStart). Fits c.args.config.now s.base) (sym start) c.requires.fits;
+    }
 
 pub do_step-answer-requires-clause-alive : goal.do_step-answer-requires-clause-alive
 do_step-answer-requires-clause-alive g c = (c.loop-index.invariant.carries []).alive c.requires.alive

@@ -17,7 +17,7 @@ makes_call g c = call_step c.args.step.now c.in_default.not-Save c.in_default.no
 
 pub call_dem-answer-requires-clause-step : goal.call_dem-answer-requires-clause-step
 call_dem-answer-requires-clause-step g c =
-    ((makes_call g c).lane, subst (λ config. IsPossible config (action_of c.args.step.now)) (sym c.requires.same) c.requires.step)
+    ((makes_call g c).lane, subst (λ config. IsPossible config (action_of c.args.step.now)) (sym c.requires.ready.same) c.requires.step)
 
 pub call_dem-answer-requires-clause-one : goal.call_dem-answer-requires-clause-one
 call_dem-answer-requires-clause-one g c = (makes_call g c).one

@@ -20,7 +20,7 @@ returns-in-One-clause-gains g c =
     subst (λ (l : List (List Told)). GainsPart c.args.config.now c.args.seats.now.dem c.run_one.new.seats.dem c.args.seats.now.queue c.run_one.new.seats.queue (part_in c.args.part) own own_after told l c.args.store.now c.run_one.new.store) (sym same)
     (subst (λ p. GainsPart c.args.config.now c.args.seats.now.dem c.run_one.new.seats.dem c.args.seats.now.queue c.run_one.new.seats.queue (part_in p) own own_after told told c.args.store.now c.run_one.new.store) (sym c.in-One.is)
     (gains_one c.args.config.now c.args.seats.now.dem c.run_one.new.seats.dem c.args.seats.now.queue c.run_one.new.seats.queue c.args.store.now c.run_one.new.store c.in-One.step.now own own_after told
-    c.requires.lock.1 c.requires.queue.1 c.run_one.ensures.stepped))
+    c.requires.main.0 c.requires.main.1 c.run_one.ensures.stepped))
 
 pub returns-in-One-clause-told_len : goal.returns-in-One-clause-told_len
 returns-in-One-clause-told_len g c =

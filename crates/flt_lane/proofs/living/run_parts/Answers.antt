@@ -1,4 +1,6 @@
-use Rattle.std.proofs.Common.{List, [], ◌∷◌, ◌++◌, map, reverse, subst, sym}
+use Rattle.std.proofs.Common.{List, [], ◌∷◌, ◌++◌, ap, map, reverse, subst, sym, ◌∙◌}
+use Rattle.flt_config.specs.Durable.{Fits}
+use Rattle.flt_model.specs.declared.life.DemStart.{DemStart}
 use Rattle.flt_flash.specs.declared.arm.Arm.{Arm}
 use Rattle.flt_store.specs.Store.{driver_of}
 use Rattle.flt_life.specs.Ordered.{Deed, deeds_in}
@@ -15,11 +17,28 @@ use Rattle.flt_lane.proofs.living.run_parts.Goals as goal
 pub loop-part-init : goal.loop-part-init
 loop-part-init g c = let r = c.requires in record {
   living = living_begins c.args.locks.now c.args.seats.now.dem c.args.seats.now.queue c.args.parts.items _ c.args.answers.now.own c.args.answers.now.told (driver_of c.args.store.now).device.bench.armed c.into_iter-part-iterator.ensures.into_iter_gives.0
-      r.lock.1 r.queue.1 r.lock.0 r.queue.0 r.no_answers r.own_room r.none_told r.told_room;
+      r.main.0 r.main.1 r.ready.lock r.ready.queue r.no_answers r.own_room r.none_told r.told_room;
   carries = carries_beside c.args.config.now c.args.seats.now.dem c.args.seats.now.dem c.args.seats.now.queue c.args.seats.now.queue [] c.args.store.now (λ known is. is) (λ known is. is);
   goes_on = goes_nowhere (driver_of c.args.store.now);
   given = none_given (driver_of c.args.store.now).device.bench.arms;
 }
+
+pub run_part-requires-clause-ready : goal.run_part-requires-clause-ready
+run_part-requires-clause-ready g c κs within =
+    let ready = c.requires.ready in
+    let living = c.loop-part.invariant.living in
+    let start = living.dem.lived.start_is in
+    record {
+      lock = living.seat;
+      queue = living.queue_seat;
+      blocks = living.queue.lived.start_is ∙ ready.blocks ∙ ap (λ (s : DemStart). s.config.blocks) (sym start);
+      same = ap (λ (s : DemStart). s.config) start ∙ ready.same;
+      valid = ready.valid;
+      fits = subst (λ (s : DemStart). Fits c.args.config.now s.base) (sym start) ready.fits;
+    }
+
+pub run_part-requires-clause-main : goal.run_part-requires-clause-main
+run_part-requires-clause-main g c κs within = (c.loop-part.invariant.living.dem.lived.main_after, c.loop-part.invariant.living.queue.lived.main_after)
 
 pub run_part-requires-clause-steps : goal.run_part-requires-clause-steps
 run_part-requires-clause-steps g c κs within =

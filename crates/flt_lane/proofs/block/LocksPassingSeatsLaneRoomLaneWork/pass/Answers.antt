@@ -1,4 +1,4 @@
-use Rattle.flt_lane.proofs.Seats.{seats_on}
+use Rattle.flt_lane.proofs.Seating.{seats_on}
 use Rattle.flt_lane.proofs.block.LocksPassingSeatsLaneRoomLaneWork.pass.Goals as goal
 
 pub returns-clause-later : goal.returns-clause-later

@@ -1,4 +1,4 @@
-use Rattle.flt_lane.proofs.Seats.{joins_later}
+use Rattle.flt_lane.proofs.Seating.{joins_later}
 use Rattle.flt_lane.proofs.block.LocksPassingSeatsLaneWorkLaneReplies.pass.Goals as goal
 
 pub returns-clause-later : goal.returns-clause-later
