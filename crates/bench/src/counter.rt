@@ -1,7 +1,7 @@
 //! A machine whose step is so short that a run times the lock.
 ghost use Rattle.std.specs.Prelude.{◌≡◌, ◌+◌, ◌%◌, ◌^◌, length};
 
-use flt_turn::{Machine, Step};
+use flt_turn::{Machine, Stepper};
 
 /// Counts its operations, and does not read them.
 #[derive(Drop)]
@@ -49,7 +49,7 @@ impl Machine for Counter {
     ghost written = { λ _ _ _ out. out };
 }
 
-impl Step for Counter {
+impl Stepper for Counter {
     type Context = ();
 
     ghost serves = { λ _ _. Unit {0} };

@@ -8,7 +8,7 @@ use Rattle.std.proofs.lemmas.List.{reverse-append}
 use Rattle.std.proofs.lemmas.Slice.Eq.{bytes_eq-Decides}
 use Rattle.std.specs.Str.{bytes_eq}
 use Rattle.flt_model.specs.Answer.{answer, answers}
-use Rattle.flt_model.specs.Life.{Life, History}
+use Rattle.flt_model.specs.Start.{Start, History}
 use Rattle.flt_model.specs.declared.call.Op.{Op}
 use Rattle.flt_report.specs.Answer.{reply_text}
 use Rattle.flt_turn.specs.Journal.{ops_of}
@@ -16,10 +16,10 @@ use Rattle.flt_turn.specs.declared.vault.Entry.{Entry}
 use Rattle.flt_audit.specs.Audit.{unlike_from}
 
 -- The texts that are due of calls, after these ones.
-abbrev pub due_after : Life → History → List (Entry Op) → List (List ℕ)
+abbrev pub due_after : Start → History → List (Entry Op) → List (List ℕ)
 due_after life past calls = map reply_text (answers life past (ops_of calls))
 
-module _ (life : Life) (past : History) (calls : List (Entry Op)) (texts : List (List ℕ)) (place : ℕ) where
+module _ (life : Start) (past : History) (calls : List (Entry Op)) (texts : List (List ℕ)) (place : ℕ) where
   -- What is left of both, at a place that both have.
   left : (call : Entry Op) (text : List ℕ) → place < length calls → place < length texts
       → unlike_from place (drop place texts) (due_after life past (drop place calls))

@@ -1,7 +1,7 @@
 // The calls of a journal, made again.
 ghost use Rattle.std.specs.Prelude.{◌≡◌, [], All, IfOk, length, map};
 ghost use Rattle.flt_model.specs.Answer.{answers};
-ghost use Rattle.flt_model.specs.Life.{Life};
+ghost use Rattle.flt_model.specs.Start.{Start};
 ghost use Rattle.flt_report.specs.Answer.{reply_text};
 ghost use Rattle.flt_turn.specs.Journal.{ops_of};
 ghost use Rattle.flt_dcm.specs.Unit.{IsAdmitted, Stands};
@@ -28,7 +28,7 @@ pub(crate) fn first_unlike(
 ) -> Result<Option<usize>, AllocError>
     requires many { length texts.now ≡ length calls.now }
     requires admitted { All (IsAdmitted (config_of unit.old)) (ops_of calls.now) }
-    ensures { IfOk result (λ found. (life : Life) → Stands life [] (state_of unit.old) →
+    ensures { IfOk result (λ found. (life : Start) → Stands life [] (state_of unit.old) →
         found ≡ unlike_from 0 (seen texts.now) (map reply_text (answers life [] (ops_of calls.now)))) }
 {
     let mut response = ArrayVec::<u8, RESPONSE>::new();

@@ -6,7 +6,7 @@ use Rattle.std.specs.List.{find}
 use Rattle.std.specs.Prelude.{slice_get, unwrap_or}
 use Rattle.flt_config.specs.Validity.{has_dtc}
 use Rattle.flt_config.proofs.DistinctLemmas.{position-None}
-use Rattle.flt_model.specs.Life.{Life, History, count, event_of, no_event}
+use Rattle.flt_model.specs.Start.{Start, History, count, event_of, no_event}
 use Rattle.flt_model.specs.Happening.{cleared_dtc, dtc_of_clear}
 use Rattle.flt_model.specs.Response.{is_of_dtc}
 use Rattle.flt_model.specs.declared.call.Op.TheVariants as ops
@@ -22,35 +22,35 @@ use Rattle.flt_dcm.proofs.ListLemmas.{first_found, unknown_dtc}
 
 module _ (manager : Manager) (dtc : ℕ) where
   -- The test of an event's DTC, as it is seen.
-  seen_test : (event : ℕ) → is_of_dtc dtc (event_seen manager event) ≡ has_dtc dtc (get_or manager.faults.config.events.items event no_event)
-  seen_test event = ap (has_dtc dtc) (unwrap_or-slice_get manager.faults.config.events.items event no_event)
+  seen_test : (event : ℕ) → is_of_dtc dtc (event_seen manager event) ≡ has_dtc dtc (get_or manager.durable.config.events.items event no_event)
+  seen_test event = ap (has_dtc dtc) (unwrap_or-slice_get manager.durable.config.events.items event no_event)
 
-  pub found_event : (event : ℕ) → position (has_dtc dtc) manager.faults.config.events.items ≡ Some event →
-      (event < length manager.faults.config.events.items) × (find (is_of_dtc dtc) (view_of manager).events ≡ Some (event_seen manager event))
+  pub found_event : (event : ℕ) → position (has_dtc dtc) manager.durable.config.events.items ≡ Some event →
+      (event < length manager.durable.config.events.items) × (find (is_of_dtc dtc) (view_of manager).events ≡ Some (event_seen manager event))
   found_event event is =
-      let events = manager.faults.config.events.items in
+      let events = manager.durable.config.events.items in
       let at = position-Some (has_dtc dtc) events event no_event is in
       (at.0, first_found (is_of_dtc dtc) manager (length events) event at.0 (seen_test event ∙ at.1) (λ k below. seen_test k ∙ at.2 k below))
 
-  pub found_dtc : (event : ℕ) → position (has_dtc dtc) manager.faults.config.events.items ≡ Some event → (rules_of manager event).dtc ≡ dtc
+  pub found_dtc : (event : ℕ) → position (has_dtc dtc) manager.durable.config.events.items ≡ Some event → (rules_of manager event).dtc ≡ dtc
   found_dtc event is =
-      let at = position-Some (has_dtc dtc) manager.faults.config.events.items event no_event is in
+      let at = position-Some (has_dtc dtc) manager.durable.config.events.items event no_event is in
       eqb-true (rules_of manager event).dtc dtc (seen_test event ∙ at.1)
 
-  pub no_event_found : position (has_dtc dtc) manager.faults.config.events.items ≡ None → find (is_of_dtc dtc) (view_of manager).events ≡ None
+  pub no_event_found : position (has_dtc dtc) manager.durable.config.events.items ≡ None → find (is_of_dtc dtc) (view_of manager).events ≡ None
   no_event_found is =
-      let events = manager.faults.config.events.items in
+      let events = manager.durable.config.events.items in
       unknown_dtc (is_of_dtc dtc) manager (length events) (λ k below. seen_test k ∙ position-None (has_dtc dtc) events k no_event is below)
 
-module _ (life : Life) (past : History) (manager : Manager) (s : StandsFor life past manager) where
-  pub dtc_of_event : (dtc event : ℕ) → position (has_dtc dtc) manager.faults.config.events.items ≡ Some event → dtc ≡ (event_of life event).dtc
+module _ (life : Start) (past : History) (manager : Manager) (s : StandsFor life past manager) where
+  pub dtc_of_event : (dtc event : ℕ) → position (has_dtc dtc) manager.durable.config.events.items ≡ Some event → dtc ≡ (event_of life event).dtc
   dtc_of_event dtc event is =
-      sym (found_dtc manager dtc event is) ∙ ap (λ k. (unwrap_or (slice_get k.events.items event) no_event).dtc) (sym s.events.faults_stand.config)
+      sym (found_dtc manager dtc event is) ∙ ap (λ k. (unwrap_or (slice_get k.events.items event) no_event).dtc) (sym s.events.durable_stands.config)
 
-  other_dtcs : (dtc : ℕ) → position (has_dtc dtc) manager.faults.config.events.items ≡ None → (event : ℕ) → event < count life → dtc ≢ (event_of life event).dtc
+  other_dtcs : (dtc : ℕ) → position (has_dtc dtc) manager.durable.config.events.items ≡ None → (event : ℕ) → event < count life → dtc ≢ (event_of life event).dtc
   other_dtcs dtc is event within same =
-      let events = manager.faults.config.events.items in
-      let config = s.events.faults_stand.config in
+      let events = manager.durable.config.events.items in
+      let config = s.events.durable_stands.config in
       let below : event < length events = omega (arith, within, ap (λ k. length k.events.items) config) in
       let not_own : has_dtc dtc (get_or events event no_event) ≡ false = position-None (has_dtc dtc) events event no_event is below in
       let own : (get_or events event no_event).dtc ≡ dtc =

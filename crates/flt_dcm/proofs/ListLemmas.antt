@@ -128,14 +128,14 @@ entries_at_most (entry ∷ entries) n =
     let before = entries_at_most entries n in
     omega (arith, more, own, before)
 
-records_length : (manager : Manager) (event : ℕ) → length (records_of (event_seen manager event)) ≡ records_at manager.faults.memory.entries event
-records_length manager event = by_test (is_some (find (is_of_event event) manager.faults.memory.entries)) (rules_of manager event).dtc
+records_length : (manager : Manager) (event : ℕ) → length (records_of (event_seen manager event)) ≡ records_at manager.durable.memory.entries event
+records_length manager event = by_test (is_some (find (is_of_event event) manager.durable.memory.entries)) (rules_of manager event).dtc
   where
     by_test : (test : Bool) (dtc : ℕ) → length (cond test ((dtc_bytes dtc ++ 0x01 ∷ []) ++ (dtc_bytes dtc ++ 0x02 ∷ [])) []) ≡ cond test 8 0
     by_test true dtc = refl
     by_test false dtc = refl
 
-records_total : (manager : Manager) (n : ℕ) → length (flat_map records_of (seen_to manager n)) ≡ total (records_at manager.faults.memory.entries) n
+records_total : (manager : Manager) (n : ℕ) → length (flat_map records_of (seen_to manager n)) ≡ total (records_at manager.durable.memory.entries) n
 records_total manager zero = refl
 records_total manager (suc n) =
     let more = length_more records_of manager n in
@@ -143,15 +143,15 @@ records_total manager (suc n) =
     let before = records_total manager n in
     omega (arith, more, own, before)
 
-all_records_fit : (manager : Manager) (n : ℕ) → length manager.faults.memory.entries ≤ ENTRIES → length (flat_map records_of (seen_to manager n)) ≤ 128
+all_records_fit : (manager : Manager) (n : ℕ) → length manager.durable.memory.entries ≤ ENTRIES → length (flat_map records_of (seen_to manager n)) ≤ 128
 all_records_fit manager n room =
     let sum = records_total manager n in
-    let at_most = entries_at_most manager.faults.memory.entries n in
+    let at_most = entries_at_most manager.durable.memory.entries n in
     omega (arith, sum, at_most, room)
 
 -- The records of one more event fit after those before it.
 pub records_fit : (manager : Manager) (k n : ℕ) (out : List ℕ) → out ≡ (0x59 ∷ 0x03 ∷ []) ++ flat_map records_of (seen_to manager k) → k < n →
-    length manager.faults.memory.entries ≤ ENTRIES → length out + length (records_of (event_seen manager k)) ≤ RESPONSE
+    length manager.durable.memory.entries ≤ ENTRIES → length out + length (records_of (event_seen manager k)) ≤ RESPONSE
 records_fit manager k n out is h room =
     let all = all_records_fit manager n room in
     let part = part_fits records_of manager k n h in

@@ -4,7 +4,7 @@ use Rattle.std.proofs.lemmas.Bool.{cases_eq, ne_eqb}
 use Rattle.std.proofs.lemmas.Bool.Decides.{leb_tells}
 use Rattle.std.specs.Prelude.{slice_set, unwrap_or}
 use Rattle.std.specs.List.{list_any}
-use Rattle.flt_model.specs.Life.{History}
+use Rattle.flt_model.specs.Start.{History}
 use Rattle.flt_model.specs.Session.{silence, session_timeout, session_of, session_asked, off_of, off_asked, is_extended, holds_off, is_setting_off}
 use Rattle.flt_model.specs.Request.{asked}
 use Rattle.flt_model.specs.declared.call.Op.{Op}

@@ -2,7 +2,7 @@
 use Rattle.std.proofs.Common.{◌≡◌, ℕ, ◌<◌, List, [], ◌∷◌, length, get_or, arith, refl, sym, ap, subst, ⊎_elim}
 use Rattle.std.specs.Prelude.{unwrap_or}
 use Rattle.flt_config.specs.Durable.{start_state}
-use Rattle.flt_model.specs.Life.{Life, History, base_of, event_of}
+use Rattle.flt_model.specs.Start.{Start, History, base_of, event_of}
 use Rattle.flt_model.specs.Mark.{marks_of}
 use Rattle.flt_model.specs.Durable.{state_at}
 use Rattle.flt_model.specs.StatusLaws.{since_clear}
@@ -29,11 +29,11 @@ tester_of _ = 0
 
 -- ---- the six bits
 
-pub says_standard : (life : Life) (past : History) (unit : UnitView) → Stands life past unit → SaysStandard life past unit.dem
+pub says_standard : (life : Start) (past : History) (unit : UnitView) → Stands life past unit → SaysStandard life past unit.dem
 says_standard life past unit s event within from =
     let marks = marks_of event (trace life past) in
     let state : (event_seen unit.dem event).state ≡ state_at life (trace life past) event =
-    ap (λ o. unwrap_or o start_state) (s.dem.events.faults_stand.states_stand.each event within) in
+    ap (λ o. unwrap_or o start_state) (s.dem.events.durable_stands.states_stand.each event within) in
     subst (λ e. StandardBits e.status (since_clear marks)) (sym state)
     (⊎_elim (bits_from_the_start (base_of life event) (event_of life event) marks)
     (bits_behind_a_clear (base_of life event) (event_of life event) marks) from)

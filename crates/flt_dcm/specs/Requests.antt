@@ -1,6 +1,6 @@
 -- What a request does to the event manager, and the event that it names.
 use Rattle.std.specs.Prelude.{◌≡◌, ℕ, ◌<◌, List, ◌∷◌, length, find, Option, Some}
-use Rattle.flt_model.specs.Life.{Life, History}
+use Rattle.flt_model.specs.Start.{Start, History}
 use Rattle.flt_model.specs.Happening.{cleared_dtc}
 use Rattle.flt_model.specs.Request.{RequestBytes}
 use Rattle.flt_model.specs.Response.{is_of_dtc}
@@ -11,16 +11,16 @@ use Rattle.flt_dem.specs.View.{event_seen, view_of}
 -- The manager takes each request of a tester that clears this DTC, or each that clears nothing.
 abbrev pub TakesClearOf : Option ℕ → Manager → Manager → Type 0
 TakesClearOf dtc old new =
-    (life : Life) (past : History) (tester : ℕ) (sent : RequestBytes) → cleared_dtc (ops.Request tester sent) ≡ dtc →
+    (life : Start) (past : History) (tester : ℕ) (sent : RequestBytes) → cleared_dtc (ops.Request tester sent) ≡ dtc →
     StandsFor life past old → StandsFor life (ops.Request tester sent ∷ past) new
 
 -- The manager takes the request of these bytes, whichever tester sends it.
 abbrev pub TakesBytes : List ℕ → Manager → Manager → Type 0
 TakesBytes bytes old new =
-    (life : Life) (past : History) (tester : ℕ) (sent : RequestBytes) → sent.items ≡ bytes →
+    (life : Start) (past : History) (tester : ℕ) (sent : RequestBytes) → sent.items ≡ bytes →
     StandsFor life past old → StandsFor life (ops.Request tester sent ∷ past) new
 
 -- The event is configured, and is the first with this DTC of the events that a tester sees.
 abbrev pub IsEventOf : ℕ → Manager → ℕ → Type 0
 IsEventOf dtc manager event =
-    (event < length manager.faults.config.events.items) × (find (is_of_dtc dtc) (view_of manager).events ≡ Some (event_seen manager event))
+    (event < length manager.durable.config.events.items) × (find (is_of_dtc dtc) (view_of manager).events ≡ Some (event_seen manager event))

@@ -1,6 +1,6 @@
 -- The diagnostic session of a tester, as the code keeps it, and what it stands for.
 use Rattle.std.specs.Prelude.{◌≡◌, ℕ, ◌+◌, nat_lt, Bool, true, false, not, if◌then◌else◌, Result, Ok, Err}
-use Rattle.flt_model.specs.Life.{History}
+use Rattle.flt_model.specs.Start.{History}
 use Rattle.flt_model.specs.Session.{is_extended, holds_off, silence, session_timeout}
 use Rattle.flt_model.specs.declared.request.Request.{Request}
 use Rattle.flt_model.specs.declared.request.Request.TheVariants as requests

@@ -1,7 +1,7 @@
 -- Six status bits in the words of ISO 14229-1, on what happened to an event since its last clear.
 use Rattle.std.specs.Prelude.{◌≡◌, ◌⊎◌, ℕ, ◌<◌, Bool, true, false, not, ◌&&◌, ◌||◌, [], ◌∷◌}
 use Rattle.flt_config.specs.Durable.{start_state}
-use Rattle.flt_model.specs.Life.{Life, History, count, base_of}
+use Rattle.flt_model.specs.Start.{Start, History, count, base_of}
 use Rattle.flt_model.specs.Byte.{is_bit_set}
 use Rattle.flt_model.specs.Mark.{Past, marks_of}
 use Rattle.flt_model.specs.Mark.Mark.{Clear}
@@ -36,10 +36,10 @@ has_cleared (Clear ∷ marks) = true
 has_cleared (_ ∷ marks) = has_cleared marks
 
 -- An event began as one that was never tested, or was cleared since.
-abbrev pub IsFromStart : Life → ℕ → Past → Type 0
+abbrev pub IsFromStart : Start → ℕ → Past → Type 0
 IsFromStart life event marks = (base_of life event ≡ start_state) ⊎ (has_cleared marks ≡ true)
 
 -- The status byte of each such event says what the standard says.
-abbrev pub SaysStandard : Life → History → Manager → Type 0
+abbrev pub SaysStandard : Start → History → Manager → Type 0
 SaysStandard life past manager = (event : ℕ) → event < count life → IsFromStart life event (marks_of event (trace life past)) →
     StandardBits (event_seen manager event).state.status (since_clear (marks_of event (trace life past)))

@@ -3,7 +3,7 @@ use Rattle.std.specs.Prelude.{◌≡◌, ℕ, ◌<◌, List, ◌∷◌, length, 
 use Rattle.flt_config.specs.declared.config.Config.{Config}
 use Rattle.flt_config.specs.declared.persist.Persist.{Persist}
 use Rattle.flt_config.specs.Durable.{Fits}
-use Rattle.flt_model.specs.Life.{Life, History}
+use Rattle.flt_model.specs.Start.{Start, History}
 use Rattle.flt_model.specs.Answer.{answer}
 use Rattle.flt_model.specs.Durable.{saved_after}
 use Rattle.flt_model.specs.Request.{RequestBytes}
@@ -36,7 +36,7 @@ abbrev pub SessionsStand : History → List Session → Type 0
 SessionsStand past sessions = (tester : ℕ) → tester < 4 → SessionStands tester past (session_at sessions tester)
 
 -- A unit in the state that the base and the calls since power-up lead to.
-pub record Stands (life : Life) (past : History) (unit : UnitView) : Type 0 where
+pub record Stands (life : Start) (past : History) (unit : UnitView) : Type 0 where
   pub dem : StandsFor life past unit.dem
   pub sessions : SessionsStand past unit.sessions
   pub base : unit.base ≡ life.base
@@ -55,7 +55,7 @@ IsAdmitted config ops.Snapshot = Unit {0}
 IsAdmitted config (ops.Saved generation) = Unit {0}
 
 -- What a call leaves in the state that it may write: a snapshot writes the durable state, and no other call writes.
-abbrev pub written : Life → History → Op → Persist → Persist
+abbrev pub written : Start → History → Op → Persist → Persist
 written life past ops.Snapshot out = saved_after life past
 written life past _ out = out
 
@@ -85,11 +85,11 @@ IsNegative _ = ⊥
 
 -- It stands before the call, and stands with one more call after it.
 abbrev pub Takes : Op → UnitView → UnitView → Type 0
-Takes op old new = (life : Life) (past : History) → Stands life past old → Stands life (op ∷ past) new
+Takes op old new = (life : Start) (past : History) → Stands life past old → Stands life (op ∷ past) new
 
 -- The reply is the answer to the call.
 abbrev pub Answers : Op → UnitView → Reply → Type 0
-Answers op unit reply = (life : Life) (past : History) → Stands life past unit → reply ≡ answer life past op
+Answers op unit reply = (life : Start) (past : History) → Stands life past unit → reply ≡ answer life past op
 
 -- A tester sent a request: the silent time of its session restarts, and nothing else changes.
 abbrev pub with_heard : ℕ → UnitView → UnitView

@@ -8,5 +8,5 @@ use Rattle.flt_dem.specs.Manager.{Manager}
 
 -- A request that is not for a clear, or is for a DTC that no event has.
 abbrev pub ClearsNone : Manager → Request → Type 0
-ClearsNone manager (Clear dtc) = (dtc ≢ all_dtcs) × (position (has_dtc dtc) manager.faults.config.events.items ≡ None)
+ClearsNone manager (Clear dtc) = (dtc ≢ all_dtcs) × (position (has_dtc dtc) manager.durable.config.events.items ≡ None)
 ClearsNone manager _ = Unit {0}

@@ -12,7 +12,7 @@ state_of unit = unit.state
 
 -- Its configuration.
 abbrev pub config_of : {F : _} {g : _} → Unit F g → Config
-config_of unit = unit.state.dem.faults.config
+config_of unit = unit.state.dem.durable.config
 
 -- The data identifiers of its table.
 abbrev pub table_of : {F : _} {g : _} → Unit F g → List DidUse

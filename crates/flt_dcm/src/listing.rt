@@ -26,16 +26,16 @@ pub(crate) enum Listing {
 
 /// The number of configured events.
 pub(crate) fn event_count(dem: &DemState) -> u16
-    ensures count { result ≡ length dem.now.faults.config.events.items }
+    ensures count { result ≡ length dem.now.durable.config.events.items }
     ensures events { result ≤ EVENTS }
-    ensures entries { length dem.now.faults.memory.entries ≤ ENTRIES }
+    ensures entries { length dem.now.durable.memory.entries ≤ ENTRIES }
 {
     dem.config().config().events.len() as u16
 }
 
 /// The DTC of an event.
 pub(crate) fn dtc_of(dem: &DemState, event: u16) -> u32
-    requires { event < length dem.now.faults.config.events.items }
+    requires { event < length dem.now.durable.config.events.items }
     ensures dtc { result ≡ (rules_of dem.now event).dtc }
     ensures three { result ≤ 0xFFFFFE }
 {
@@ -44,7 +44,7 @@ pub(crate) fn dtc_of(dem: &DemState, event: u16) -> u32
 
 /// Whether the status of an event has a bit in common with a mask.
 pub(crate) fn is_masked(dem: &DemState, event: u16, mask: u8) -> bool
-    requires { event < length dem.now.faults.config.events.items }
+    requires { event < length dem.now.durable.config.events.items }
     ensures { result ≡ is_masked mask (event_seen dem.now event) }
 {
     dem.state(event).status & mask != 0
@@ -52,7 +52,7 @@ pub(crate) fn is_masked(dem: &DemState, event: u16, mask: u8) -> bool
 
 /// Appends the DTC of an event and its status byte.
 pub(crate) fn put_status(dem: &DemState, event: u16, out: &mut ArrayVec<u8, RESPONSE>)
-    requires event { event < length dem.now.faults.config.events.items }
+    requires event { event < length dem.now.durable.config.events.items }
     requires room { length out.old.items + 4 ≤ RESPONSE }
     ensures { out.new.items ≡ out.old.items ++ with_status (event_seen dem.now event) }
 {
@@ -61,7 +61,7 @@ pub(crate) fn put_status(dem: &DemState, event: u16, out: &mut ArrayVec<u8, RESP
 
 /// Appends the two snapshot record numbers of an event, if it has an entry.
 fn put_records(dem: &DemState, event: u16, has_entry: bool, out: &mut ArrayVec<u8, RESPONSE>)
-    requires event { event < length dem.now.faults.config.events.items }
+    requires event { event < length dem.now.durable.config.events.items }
     requires entry { has_entry ≡ is_some (event_seen dem.now event).entry }
     requires room { length out.old.items + length (records_of (event_seen dem.now event)) ≤ RESPONSE }
     ensures { out.new.items ≡ out.old.items ++ records_of (event_seen dem.now event) }
@@ -75,7 +75,7 @@ fn put_records(dem: &DemState, event: u16, has_entry: bool, out: &mut ArrayVec<u
 
 /// Appends the DTC of an event and its fault detection counter, if that is on its way to failed.
 fn put_counter(dem: &DemState, event: u16, out: &mut ArrayVec<u8, RESPONSE>)
-    requires event { event < length dem.now.faults.config.events.items }
+    requires event { event < length dem.now.durable.config.events.items }
     requires room { length out.old.items + length (listed Listing.Counters (event_seen dem.now event)) ≤ RESPONSE }
     ensures { out.new.items ≡ out.old.items ++ listed Listing.Counters (event_seen dem.now event) }
 {
@@ -100,7 +100,7 @@ impl Listing {
 
     /// Appends what the list has of an event.
     fn put_event(self, dem: &DemState, event: u16, out: &mut ArrayVec<u8, RESPONSE>)
-        requires event { event < length dem.now.faults.config.events.items }
+        requires event { event < length dem.now.durable.config.events.items }
         requires room { length out.old.items + length (listed self (event_seen dem.now event)) ≤ RESPONSE }
         ensures { out.new.items ≡ out.old.items ++ listed self (event_seen dem.now event) }
     {

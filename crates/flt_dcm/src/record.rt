@@ -74,7 +74,7 @@ fn put_frames(entry: &EntryState, number: u8, dids: &[DidUse], out: &mut ArrayVe
 
 /// The data identifiers of an event.
 fn dids_of(dem: &DemState, event: u16) -> &[DidUse]
-    requires { event < length dem.now.faults.config.events.items }
+    requires { event < length dem.now.durable.config.events.items }
     ensures dids { result.now ≡ (event_seen dem.now event).dids }
     ensures few { length result.now ≤ DIDS }
     ensures narrow { frame_width result.now ≤ FRAME }
@@ -89,7 +89,7 @@ pub(crate) fn put_snapshots(
     number: u8,
     out: &mut ArrayVec<u8, RESPONSE>,
 )
-    requires event { event < length dem.now.faults.config.events.items }
+    requires event { event < length dem.now.durable.config.events.items }
     requires room { length out.old.items ≤ HEAD }
     ensures { out.new.items ≡ out.old.items ++ snapshots (event_seen dem.now event).dids number (event_seen dem.now event).entry }
 {
@@ -116,7 +116,7 @@ pub(crate) fn put_extended_data(
     number: u8,
     out: &mut ArrayVec<u8, RESPONSE>,
 )
-    requires event { event < length dem.now.faults.config.events.items }
+    requires event { event < length dem.now.durable.config.events.items }
     requires room { length out.old.items ≤ HEAD }
     ensures { out.new.items ≡ out.old.items ++ extended_data (event_seen dem.now event).state number (event_seen dem.now event).entry }
 {

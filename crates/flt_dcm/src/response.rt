@@ -24,7 +24,7 @@ pub(crate) struct UnknownDtc;
 
 /// The event that has a DTC.
 pub(crate) fn event_of(dem: &DemState, dtc: u32) -> Result<u16, UnknownDtc>
-    ensures position { result_ok result ≡ position (has_dtc dtc) dem.now.faults.config.events.items }
+    ensures position { result_ok result ≡ position (has_dtc dtc) dem.now.durable.config.events.items }
     ensures known { IfOk result (IsEventOf dtc dem.now) }
     ensures unknown { OnErr result (find (is_of_dtc dtc) (view_of dem.now).events ≡ None) }
 {
@@ -63,7 +63,7 @@ fn count_masked(dem: &DemState, mask: u8) -> u16
 
 /// Which noted event a sub-function asks for.
 fn which_of(sub: u8) -> Which
-    ensures { (dem : DemState) → noted_by result dem.faults.notes ≡ noted_at dem.faults.notes sub }
+    ensures { (dem : DemState) → noted_by result dem.durable.notes ≡ noted_at dem.durable.notes sub }
 {
     match sub {
         0x0B => Which::FirstFailed,

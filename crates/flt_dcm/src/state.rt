@@ -2,7 +2,7 @@
 ghost use Rattle.std.specs.Prelude.{◌≡◌, ◌≢◌, ◌<◌, ◌≤◌, [], ◌∷◌, map, length, Some, IfSome};
 ghost use Rattle.std.specs.List.{list_any};
 ghost use Rattle.flt_config.specs.Durable.{Fits};
-ghost use Rattle.flt_model.specs.Life.{Life, History, fresh};
+ghost use Rattle.flt_model.specs.Start.{Start, History, fresh};
 ghost use Rattle.flt_model.specs.Answer.{answer};
 ghost use Rattle.flt_model.specs.Durable.{saved_after};
 ghost use Rattle.flt_model.specs.Happening.{dtc_of_clear};
@@ -50,7 +50,7 @@ impl Model for UnitState {
 
     ghost view = { λ u. record { dem = u.dem; sessions = u.sessions; base = u.base } };
 
-    ghost invariant = { λ u. IsUnitOf u.dem.faults.config u.sessions u.base };
+    ghost invariant = { λ u. IsUnitOf u.dem.durable.config u.sessions u.base };
 }
 
 /// Writes a negative response, replacing what `out` holds.
@@ -63,7 +63,7 @@ fn refuse(service: u8, code: u8, out: &mut ArrayVec<u8, RESPONSE>)
 
 /// Clears a DTC, or all of them. A DTC that no event has clears nothing.
 fn clear(dem: &mut DemState, dtc: u32)
-    ensures config { dem.new.faults.config ≡ dem.old.faults.config }
+    ensures config { dem.new.durable.config ≡ dem.old.durable.config }
     ensures stands { TakesClearOf (Some dtc) dem.old dem.new }
 {
     if dtc == ALL_DTCS {
@@ -78,7 +78,7 @@ fn clear(dem: &mut DemState, dtc: u32)
 
 /// Carries out what is asked: another session, another setting, or a clear.
 fn carry_out(dem: &mut DemState, session: &mut Session, request: Request)
-    ensures config { dem.new.faults.config ≡ dem.old.faults.config }
+    ensures config { dem.new.durable.config ≡ dem.old.durable.config }
     ensures session { session.new ≡ after session.old request }
     ensures stands { TakesClearOf (dtc_of_clear request) dem.old dem.new }
 {
@@ -99,7 +99,7 @@ fn respond(
     out: &mut ArrayVec<u8, RESPONSE>,
 ) -> bool
     requires { out.old.items ≡ [] }
-    ensures config { dem.new.faults.config ≡ dem.old.faults.config }
+    ensures config { dem.new.durable.config ≡ dem.old.durable.config }
     ensures session { session.new ≡ after session.old asked.request }
     ensures stands { TakesClearOf (dtc_of_clear asked.request) dem.old dem.new }
     ensures answer { unless_silent result out.new.items ≡ responded service asked.silent (positive (view_of dem.old) asked.request) }
@@ -119,14 +119,14 @@ fn respond(
 
 /// Answers a tester's request: the silent time restarts, and the request is carried out if it is not refused.
 /// The answer says whether the response is suppressed.
-fn request(
+fn answer_request(
     dem: &mut DemState,
     session: &mut Session,
     bytes: &[u8],
     out: &mut ArrayVec<u8, RESPONSE>,
 ) -> bool
     requires { 0 < length bytes.now }
-    ensures config { dem.new.faults.config ≡ dem.old.faults.config }
+    ensures config { dem.new.durable.config ≡ dem.old.durable.config }
     ensures session { session.new ≡ after_asked (heard session.old) (asked (is_extended_one session.old) bytes.now) }
     ensures stands { TakesBytes bytes.now dem.old dem.new }
     ensures answer { unless_silent result out.new.items ≡ response (view_of dem.old) (is_extended_one session.old) bytes.now }
@@ -161,8 +161,8 @@ impl UnitState {
     /// A unit with nothing saved, to which no call was made: its manager is reset, and each tester is
     /// in the default session.
     pub fn make(dem: DemState) -> UnitState
-        ensures config { result.dem.faults.config ≡ dem.faults.config }
-        ensures stands { Stands (fresh dem.faults.config) [] result }
+        ensures config { result.dem.durable.config ≡ dem.durable.config }
+        ensures stands { Stands (fresh dem.durable.config) [] result }
     {
         let base = initial(dem.config());
         let mut dem = dem;
@@ -177,9 +177,9 @@ impl UnitState {
     /// Starts again from a saved state that fits the configuration, which is kept as the base: what is not saved is
     /// at rest, and each tester is in the default session.
     pub fn boot(&mut self, base: &Persist)
-        requires fits { Fits self.old.dem.faults.config base.now }
-        ensures config { self.new.dem.faults.config ≡ self.old.dem.faults.config }
-        ensures stands { Stands (record { config = self.old.dem.faults.config; base = base.now }) [] self.new }
+        requires fits { Fits self.old.dem.durable.config base.now }
+        ensures config { self.new.dem.durable.config ≡ self.old.dem.durable.config }
+        ensures stands { Stands (record { config = self.old.dem.durable.config; base = base.now }) [] self.new }
     {
         self.dem.boot(base);
         self.sessions = [Session::Default; TESTERS];
@@ -188,17 +188,17 @@ impl UnitState {
 
     /// The configuration.
     pub fn config(&self) -> &ValidConfig
-        ensures { result.now ≡ self.now.dem.faults.config }
+        ensures { result.now ≡ self.now.dem.durable.config }
     {
         self.dem.config()
     }
 
     /// The durable states of all events, by number.
     pub fn states(&self) -> &[EventState]
-        ensures value { result.now ≡ self.now.dem.faults.states }
-        ensures one_each { length result.now ≡ length self.now.dem.faults.config.events.items }
+        ensures value { result.now ≡ self.now.dem.durable.states }
+        ensures one_each { length result.now ≡ length self.now.dem.durable.config.events.items }
         ensures few { length result.now ≤ EVENTS }
-        ensures stands { (life : Life) (past : History) → Stands life past self.now → result.now ≡ (saved_after life past).events.items }
+        ensures stands { (life : Start) (past : History) → Stands life past self.now → result.now ≡ (saved_after life past).events.items }
     {
         self.dem.states()
     }
@@ -206,7 +206,7 @@ impl UnitState {
     /// Sets a signal, of the number 0 to 7.
     fn signal(&mut self, index: u8, value: u16)
         requires { index < 8 }
-        ensures config { self.new.dem.faults.config ≡ self.old.dem.faults.config }
+        ensures config { self.new.dem.durable.config ≡ self.old.dem.durable.config }
         ensures base { self.new.base ≡ self.old.base }
         ensures stands { Takes (ops.Signal index value) self.old self.new }
     {
@@ -216,7 +216,7 @@ impl UnitState {
     /// Notes whether an enable condition, of the number 0 to 7, is fulfilled.
     fn enable(&mut self, condition: u8, fulfilled: bool)
         requires { condition < 8 }
-        ensures config { self.new.dem.faults.config ≡ self.old.dem.faults.config }
+        ensures config { self.new.dem.durable.config ≡ self.old.dem.durable.config }
         ensures base { self.new.base ≡ self.old.base }
         ensures stands { Takes (ops.Enable condition fulfilled) self.old self.new }
     {
@@ -226,9 +226,9 @@ impl UnitState {
     /// Takes a monitor's report of an event. If it is ignored, the answer says why: a tester holds the DTC setting off,
     /// else the event's operation cycle was not started since power-up, or else an enable condition that it needs is not fulfilled.
     fn report(&mut self, dids: &DidTable<DID_ROWS>, event: u16, report: Report) -> Option<Cause>
-        requires served { Serves (dids_of dids.now) self.old.dem.faults.config.events.items }
-        requires configured { event < length self.old.dem.faults.config.events.items }
-        ensures config { self.new.dem.faults.config ≡ self.old.dem.faults.config }
+        requires served { Serves (dids_of dids.now) self.old.dem.durable.config.events.items }
+        requires configured { event < length self.old.dem.durable.config.events.items }
+        ensures config { self.new.dem.durable.config ≡ self.old.dem.durable.config }
         ensures base { self.new.base ≡ self.old.base }
         ensures stands { Takes (ops.Report event report) self.old self.new }
         ensures answer { Answers (ops.Report event report) self.old (cause_reply result) }
@@ -240,8 +240,8 @@ impl UnitState {
 
     /// Lets ticks of 10 ms pass, for the events unless a tester holds the DTC setting off, and then for the testers.
     fn tick(&mut self, dids: &DidTable<DID_ROWS>, ticks: u16)
-        requires served { Serves (dids_of dids.now) self.old.dem.faults.config.events.items }
-        ensures config { self.new.dem.faults.config ≡ self.old.dem.faults.config }
+        requires served { Serves (dids_of dids.now) self.old.dem.durable.config.events.items }
+        ensures config { self.new.dem.durable.config ≡ self.old.dem.durable.config }
         ensures base { self.new.base ≡ self.old.base }
         ensures stands { Takes (ops.Tick ticks) self.old self.new }
     {
@@ -253,7 +253,7 @@ impl UnitState {
     /// Ends an operation cycle, of the number 0 to 3, and starts the next.
     fn cycle(&mut self, cycle: u8)
         requires { cycle < 4 }
-        ensures config { self.new.dem.faults.config ≡ self.old.dem.faults.config }
+        ensures config { self.new.dem.durable.config ≡ self.old.dem.durable.config }
         ensures base { self.new.base ≡ self.old.base }
         ensures stands { Takes (ops.Cycle cycle) self.old self.new }
     {
@@ -270,13 +270,13 @@ impl UnitState {
     ) -> bool
         requires tester { tester < 4 }
         requires some { 0 < length bytes.now.items }
-        ensures config { self.new.dem.faults.config ≡ self.old.dem.faults.config }
+        ensures config { self.new.dem.durable.config ≡ self.old.dem.durable.config }
         ensures base { self.new.base ≡ self.old.base }
         ensures stands { Takes (ops.Request tester bytes.now) self.old self.new }
         ensures answer { Answers (ops.Request tester bytes.now) self.old (unless_silent result out.new.items) }
         ensures negative { IsNegative (unless_silent result out.new.items) → self.new ≡ with_heard tester self.old }
     {
-        request(
+        answer_request(
             &mut self.dem,
             &mut self.sessions[tester as usize],
             bytes,
@@ -286,7 +286,7 @@ impl UnitState {
 
     /// What is shown of an event. Showing it changes nothing.
     fn show(&self, event: u16) -> Shown
-        requires { event < length self.now.dem.faults.config.events.items }
+        requires { event < length self.now.dem.durable.config.events.items }
         ensures answer { Answers (ops.Show event) self.now (replies.Shown result) }
         ensures stands { Takes (ops.Show event) self.now self.now }
     {
@@ -300,9 +300,9 @@ impl UnitState {
         op: &Op,
         response: &mut ArrayVec<u8, RESPONSE>,
     ) -> ReplyKind
-        requires served { Serves (dids_of dids.now) self.old.dem.faults.config.events.items }
-        requires admitted { IsAdmitted self.old.dem.faults.config op.now }
-        ensures config { self.new.dem.faults.config ≡ self.old.dem.faults.config }
+        requires served { Serves (dids_of dids.now) self.old.dem.durable.config.events.items }
+        requires admitted { IsAdmitted self.old.dem.durable.config op.now }
+        ensures config { self.new.dem.durable.config ≡ self.old.dem.durable.config }
         ensures base { self.new.base ≡ self.old.base }
         ensures stands { Takes op.now self.old self.new }
         ensures answer { Answers op.now self.old (reply_with result response.new.items) }
@@ -349,14 +349,14 @@ impl UnitState {
         out: &mut Persist,
         response: &mut ArrayVec<u8, RESPONSE>,
     ) -> ReplyKind
-        requires served { Serves (dids_of dids.now) self.old.dem.faults.config.events.items }
-        requires admitted { IsAdmitted self.old.dem.faults.config op.now }
-        ensures config { self.new.dem.faults.config ≡ self.old.dem.faults.config }
+        requires served { Serves (dids_of dids.now) self.old.dem.durable.config.events.items }
+        requires admitted { IsAdmitted self.old.dem.durable.config op.now }
+        ensures config { self.new.dem.durable.config ≡ self.old.dem.durable.config }
         ensures base { self.new.base ≡ self.old.base }
         ensures stands { Takes op.now self.old self.new }
         ensures answer { Answers op.now self.old (reply_with result response.new.items) }
         ensures unsent { ¬ IsTesterCall op.now → response.new ≡ response.old }
-        ensures written { (life : Life) (past : History) → Stands life past self.old → out.new ≡ written life past op.now out.old }
+        ensures written { (life : Start) (past : History) → Stands life past self.old → out.new ≡ written life past op.now out.old }
         ensures kept { op.now ≢ ops.Snapshot → out.new ≡ out.old }
         ensures reading { IsReading op.now → self.new ≡ self.old }
         ensures ignored { IsIgnored (reply_with result response.new.items) → self.new ≡ self.old }
@@ -378,37 +378,37 @@ impl UnitState {
         out: &mut Persist,
         response: &mut ArrayVec<u8, RESPONSE>,
     ) -> ReplyKind
-        requires served { Serves (dids_of dids.now) self.old.dem.faults.config.events.items }
-        requires admitted { IsAdmitted self.old.dem.faults.config op.now }
-        ensures config { self.new.dem.faults.config ≡ self.old.dem.faults.config }
+        requires served { Serves (dids_of dids.now) self.old.dem.durable.config.events.items }
+        requires admitted { IsAdmitted self.old.dem.durable.config op.now }
+        ensures config { self.new.dem.durable.config ≡ self.old.dem.durable.config }
         ensures base { self.new.base ≡ self.old.base }
         ensures stands { Takes op.now self.old self.new }
         ensures answer { Answers op.now self.old (reply_with result response.new.items) }
         ensures unsent { ¬ IsTesterCall op.now → response.new ≡ response.old }
-        ensures written { (life : Life) (past : History) → Stands life past self.old → out.new ≡ written life past op.now out.old }
+        ensures written { (life : Start) (past : History) → Stands life past self.old → out.new ≡ written life past op.now out.old }
         ensures kept { op.now ≢ ops.Snapshot → out.new ≡ out.old }
         ensures reading { IsReading op.now → self.new ≡ self.old }
         ensures ignored { IsIgnored (reply_with result response.new.items) → self.new ≡ self.old }
         ensures negative { OnlyHearsWhereNegative op.now (reply_with result response.new.items) self.old self.new }
-        ensures standard { (life : Life) (past : History) → Stands life past self.old → SaysStandard life (op.now ∷ past) self.new.dem }
+        ensures standard { (life : Start) (past : History) → Stands life past self.old → SaysStandard life (op.now ∷ past) self.new.dem }
     {
         self.take(dids, op, out, response)
     }
 
     /// Carries out a call, and answers it, as `apply_into` does, with the bytes of a response in the answer.
     pub fn apply(&mut self, dids: &DidTable<DID_ROWS>, op: &Op, out: &mut Persist) -> Reply
-        requires served { Serves (dids_of dids.now) self.old.dem.faults.config.events.items }
-        requires admitted { IsAdmitted self.old.dem.faults.config op.now }
-        ensures config { self.new.dem.faults.config ≡ self.old.dem.faults.config }
+        requires served { Serves (dids_of dids.now) self.old.dem.durable.config.events.items }
+        requires admitted { IsAdmitted self.old.dem.durable.config op.now }
+        ensures config { self.new.dem.durable.config ≡ self.old.dem.durable.config }
         ensures base { self.new.base ≡ self.old.base }
         ensures stands { Takes op.now self.old self.new }
         ensures answer { Answers op.now self.old result }
-        ensures written { (life : Life) (past : History) → Stands life past self.old → out.new ≡ written life past op.now out.old }
+        ensures written { (life : Start) (past : History) → Stands life past self.old → out.new ≡ written life past op.now out.old }
         ensures kept { op.now ≢ ops.Snapshot → out.new ≡ out.old }
         ensures reading { IsReading op.now → self.new ≡ self.old }
         ensures ignored { IsIgnored result → self.new ≡ self.old }
         ensures negative { OnlyHearsWhereNegative op.now result self.old self.new }
-        ensures standard { (life : Life) (past : History) → Stands life past self.old → SaysStandard life (op.now ∷ past) self.new.dem }
+        ensures standard { (life : Start) (past : History) → Stands life past self.old → SaysStandard life (op.now ∷ past) self.new.dem }
     {
         let mut response = ArrayVec::new();
         let kind = self.apply_into(dids, op, out, &mut response);

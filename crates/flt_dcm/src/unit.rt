@@ -2,7 +2,7 @@
 ghost use Rattle.std.specs.Prelude.{◌≡◌, ◌≢◌, [], ◌∷◌};
 ghost use Rattle.std.proofs.Props.{props};
 ghost use Rattle.flt_config.specs.Durable.{Fits};
-ghost use Rattle.flt_model.specs.Life.{Life, History, fresh};
+ghost use Rattle.flt_model.specs.Start.{Start, History, fresh};
 ghost use Rattle.flt_model.specs.Answer.{answer};
 ghost use Rattle.flt_model.specs.declared.call.Op.TheVariants as ops;
 ghost use Rattle.flt_did.specs.Table.{dids_of};
@@ -28,7 +28,7 @@ pub struct Unit {
     pub state: UnitState,
     /// The table of data identifiers.
     pub dids: DidTable<DID_ROWS>,
-    ghost served: { Serves (dids_of dids) state.dem.faults.config.events.items } by { Prim.hlevel props },
+    ghost served: { Serves (dids_of dids) state.dem.durable.config.events.items } by { Prim.hlevel props },
 }
 
 impl Unit {
@@ -81,12 +81,12 @@ impl Unit {
         ensures stands { Takes op.now (state_of self.old) (state_of self.new) }
         ensures answer { Answers op.now (state_of self.old) (reply_with result response.new.items) }
         ensures unsent { ¬ IsTesterCall op.now → response.new ≡ response.old }
-        ensures written { (life : Life) (past : History) → Stands life past (state_of self.old) → out.new ≡ written life past op.now out.old }
+        ensures written { (life : Start) (past : History) → Stands life past (state_of self.old) → out.new ≡ written life past op.now out.old }
         ensures kept { op.now ≢ ops.Snapshot → out.new ≡ out.old }
         ensures reading { IsReading op.now → state_of self.new ≡ state_of self.old }
         ensures ignored { IsIgnored (reply_with result response.new.items) → state_of self.new ≡ state_of self.old }
         ensures negative { OnlyHearsWhereNegative op.now (reply_with result response.new.items) (state_of self.old) (state_of self.new) }
-        ensures standard { (life : Life) (past : History) → Stands life past (state_of self.old) → SaysStandard life (op.now ∷ past) (state_of self.new).dem }
+        ensures standard { (life : Start) (past : History) → Stands life past (state_of self.old) → SaysStandard life (op.now ∷ past) (state_of self.new).dem }
     {
         self.state.apply_into(&self.dids, op, out, response)
     }
@@ -99,12 +99,12 @@ impl Unit {
         ensures base { (state_of self.new).base ≡ (state_of self.old).base }
         ensures stands { Takes op.now (state_of self.old) (state_of self.new) }
         ensures answer { Answers op.now (state_of self.old) result }
-        ensures written { (life : Life) (past : History) → Stands life past (state_of self.old) → out.new ≡ written life past op.now out.old }
+        ensures written { (life : Start) (past : History) → Stands life past (state_of self.old) → out.new ≡ written life past op.now out.old }
         ensures kept { op.now ≢ ops.Snapshot → out.new ≡ out.old }
         ensures reading { IsReading op.now → state_of self.new ≡ state_of self.old }
         ensures ignored { IsIgnored result → state_of self.new ≡ state_of self.old }
         ensures negative { OnlyHearsWhereNegative op.now result (state_of self.old) (state_of self.new) }
-        ensures standard { (life : Life) (past : History) → Stands life past (state_of self.old) → SaysStandard life (op.now ∷ past) (state_of self.new).dem }
+        ensures standard { (life : Start) (past : History) → Stands life past (state_of self.old) → SaysStandard life (op.now ∷ past) (state_of self.new).dem }
     {
         self.state.apply(&self.dids, op, out)
     }

@@ -5,7 +5,7 @@ use Rattle.std.proofs.lemmas.Option.{slice_get-get_or, unwrap_or-slice_get}
 use Rattle.std.specs.List.{AllPairs, find}
 use Rattle.flt_config.specs.declared.persist.EntryState.{EntryState}
 use Rattle.flt_config.specs.Durable.{Fits, IsOfOtherEvent, is_of_event, start_state}
-use Rattle.flt_model.specs.Life.{Life, event_of, base_of, no_event}
+use Rattle.flt_model.specs.Start.{Start, event_of, base_of, no_event}
 use Rattle.flt_model.specs.Status.{durable}
 use Rattle.flt_model.specs.Entry.{entry_of}
 use Rattle.flt_status.proofs.Fitting.{fitting_state_stands}
@@ -13,7 +13,7 @@ use Rattle.flt_dem.specs.Standing.{StatesStand, MemoryStands}
 
 -- ---- the states
 
-pub base_states : (life : Life) → Fits life.config life.base → StatesStand life [] life.base.events.items
+pub base_states : (life : Start) → Fits life.config life.base → StatesStand life [] life.base.events.items
 base_states life fits =
     let states = life.base.events.items in
     record {
@@ -48,12 +48,12 @@ find_at (entry ∷ held) (suc k) d h distinct =
     (find_at held k d (omega arith) (λ i j e below short. distinct (suc i) (suc j) e (omega arith) (omega arith)))
 
 -- It holds what it held.
-entry_again : (life : Life) (entry : EntryState) → find (is_of_event entry.event) life.base.entries.items ≡ Some entry → entry.occurrence ≤ 255 → entry_of life entry.event [] ≡ entry
+entry_again : (life : Start) (entry : EntryState) → find (is_of_event entry.event) life.base.entries.items ≡ Some entry → entry.occurrence ≤ 255 → entry_of life entry.event [] ≡ entry
 entry_again life entry found small =
     let stopped : min 255 entry.occurrence ≡ entry.occurrence = omega arith in
     rw found (rw stopped refl)
 
-pub base_memory : (life : Life) → Fits life.config life.base → MemoryStands life [] (record { entries = life.base.entries.items; overflow = life.base.overflow })
+pub base_memory : (life : Start) → Fits life.config life.base → MemoryStands life [] (record { entries = life.base.entries.items; overflow = life.base.overflow })
 base_memory life fits =
     let held = life.base.entries.items in
     record {

@@ -1,22 +1,22 @@
 -- How the parts of the events make a call.
 use Rattle.std.proofs.Common.{◌≡◌, ◌∙◌, ◌≢◌, ℕ, suc, ◌+◌, ◌<◌, nat_lt, cond, List, ◌∷◌, Option, Some, None, arith, refl, sym, ap, subst, eq-eqb, ⊎_elim, add-one}
 use Rattle.std.proofs.lemmas.Bool.{cases_eq, cases_lt, ne_eqb, lt-ltb, le-ltb}
-use Rattle.flt_model.specs.Life.{Life, History, count, event_of}
+use Rattle.flt_model.specs.Start.{Start, History, count, event_of}
 use Rattle.flt_model.specs.Mark.{Trace, AllCleared}
 use Rattle.flt_model.specs.Debounce.{Happening, Happenings, debounced}
 use Rattle.flt_model.specs.Happening.{happening_of, happenings, with_happening, cleared_dtc, all_dtcs}
 use Rattle.flt_model.specs.Trace.{trace, event_part, in_order, with_marks, with_clear}
 use Rattle.flt_model.specs.declared.call.DebState.{DebState}
 use Rattle.flt_model.specs.declared.call.Op.{Op}
-use Rattle.flt_dem.specs.Faults.{FaultsView}
+use Rattle.flt_dem.specs.DurablePart.{DurablePartView}
 use Rattle.flt_dem.specs.Events.{EventsView}
-use Rattle.flt_dem.specs.Standing.{FaultsStand}
+use Rattle.flt_dem.specs.Standing.{DurablePartStands}
 use Rattle.flt_dem.specs.Debounces.{DebouncesStand, and_then}
 use Rattle.flt_dem.specs.Calls.{StandsAfter, StandsPartly, TakesPart, items_partly, marks_partly}
 use Rattle.flt_dem.proofs.OrderLemmas.{in_order-none, in_order-one}
 
 -- The same happenings, said in another way.
-pub debounces_same : (life : Life) (items others : ℕ → Happenings) (debounces : List DebState) → ((event : ℕ) → event < count life → items event ≡ others event) →
+pub debounces_same : (life : Start) (items others : ℕ → Happenings) (debounces : List DebState) → ((event : ℕ) → event < count life → items event ≡ others event) →
     DebouncesStand life items debounces → DebouncesStand life others debounces
 debounces_same life items others debounces same s = record {
   one_each = s.one_each;
@@ -37,7 +37,7 @@ below_other event done ne =
     (λ h. le-ltb event (suc done) (omega arith) ∙ sym (le-ltb event done h))
     (cases_lt event done)
 
-module _ (life : Life) (past : History) (op : Op) where
+module _ (life : Start) (past : History) (op : Op) where
   own_items : (done : ℕ) → items_partly life past op done done ≡ happenings life done past
   own_items done = ap (λ b. cond b (happenings life done (op ∷ past)) (happenings life done past)) (le-ltb done done (omega arith))
 
@@ -57,7 +57,7 @@ module _ (life : Life) (past : History) (op : Op) where
   partly_first events s = record {
     debounces_stand = debounces_same life (λ event. happenings life event past) (items_partly life past op 0) events.debounces
         (λ event h. ap (λ b. cond b (happenings life event (op ∷ past)) (happenings life event past)) (sym (le-ltb event 0 (omega arith)))) s.debounces_stand;
-    faults_stand = s.faults_stand;
+    durable_stands = s.durable_stands;
   }
 
   -- One more event takes its part.
@@ -68,7 +68,7 @@ module _ (life : Life) (past : History) (op : Op) where
       rw add-one (record {
         debounces_stand = debounces_same life (and_then done (happening_of life done past op) (items_partly life past op done)) (items_partly life past op (suc done)) new.debounces
             (λ event h. next_items done event) taken.debounces_stand;
-        faults_stand = taken.faults_stand;
+        durable_stands = taken.durable_stands;
       })
 
   -- Once each has, the call is taken.
@@ -76,7 +76,7 @@ module _ (life : Life) (past : History) (op : Op) where
   partly_last events clears s = record {
     debounces_stand = debounces_same life (items_partly life past op (count life)) (λ event. happenings life event (op ∷ past)) events.debounces
         (λ event h. ap (λ b. cond b (happenings life event (op ∷ past)) (happenings life event past)) (lt-ltb event (count life) h)) s.debounces_stand;
-    faults_stand = subst (λ m. FaultsStand life m events.faults) (sym (clears (marks_partly life past op (count life)))) s.faults_stand;
+    durable_stands = subst (λ m. DurablePartStands life m events.durable) (sym (clears (marks_partly life past op (count life)))) s.durable_stands;
   }
 
   no_part : (event : ℕ) (marks : Trace) → happening_of life event past op ≡ None → event_part life past op event marks ≡ marks
@@ -99,7 +99,7 @@ module _ (life : Life) (past : History) (op : Op) where
             ∙ ap (λ happening. with_happening happening (happenings life other past)) (sym (others other (λ d. ne (sym d)))))
             (cases_eq event other))
             taken.debounces_stand;
-        faults_stand = subst (λ m. FaultsStand life m new.faults) (sym (clears (in_order (event_part life past op) (count life) (trace life past)) ∙ whole)) taken.faults_stand;
+        durable_stands = subst (λ m. DurablePartStands life m new.durable) (sym (clears (in_order (event_part life past op) (count life) (trace life past)) ∙ whole)) taken.durable_stands;
       }
 
   -- A call that reaches no event leaves them.
@@ -112,14 +112,14 @@ module _ (life : Life) (past : History) (op : Op) where
       record {
         debounces_stand = debounces_same life (λ e. happenings life e past) (λ e. happenings life e (op ∷ past)) events.debounces
             (λ event h. ap (λ happening. with_happening happening (happenings life event past)) (sym (none event h))) s.debounces_stand;
-        faults_stand = subst (λ m. FaultsStand life m events.faults) (sym (clears (in_order (event_part life past op) (count life) (trace life past)) ∙ whole)) s.faults_stand;
+        durable_stands = subst (λ m. DurablePartStands life m events.durable) (sym (clears (in_order (event_part life past op) (count life) (trace life past)) ∙ whole)) s.durable_stands;
       }
 
   -- Once each event is cleared, all are.
-  pub partly_cleared : (events : EventsView) (last : FaultsView) → cleared_dtc op ≡ Some all_dtcs → StandsPartly life past op (count life) events →
-      FaultsStand life (AllCleared ∷ marks_partly life past op (count life)) last → StandsAfter life (op ∷ past) (record events { faults = last })
+  pub partly_cleared : (events : EventsView) (last : DurablePartView) → cleared_dtc op ≡ Some all_dtcs → StandsPartly life past op (count life) events →
+      DurablePartStands life (AllCleared ∷ marks_partly life past op (count life)) last → StandsAfter life (op ∷ past) (record events { durable = last })
   partly_cleared events last clears s stands = record {
     debounces_stand = debounces_same life (items_partly life past op (count life)) (λ event. happenings life event (op ∷ past)) events.debounces
         (λ event h. ap (λ b. cond b (happenings life event (op ∷ past)) (happenings life event past)) (lt-ltb event (count life) h)) s.debounces_stand;
-    faults_stand = subst (λ d. FaultsStand life (with_clear d (marks_partly life past op (count life))) last) (sym clears) stands;
+    durable_stands = subst (λ d. DurablePartStands life (with_clear d (marks_partly life past op (count life))) last) (sym clears) stands;
   }

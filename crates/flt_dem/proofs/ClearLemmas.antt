@@ -11,7 +11,7 @@ use Rattle.flt_config.specs.declared.persist.EntryState.{EntryState}
 use Rattle.flt_config.specs.Durable.{is_of_event}
 use Rattle.flt_config.specs.Validity.{IsValid}
 use Rattle.arrayvec.specs.ArrayVec.{ArrayVec}
-use Rattle.flt_model.specs.Life.{Life, History, count, event_of, no_event}
+use Rattle.flt_model.specs.Start.{Start, History, count, event_of, no_event}
 use Rattle.flt_model.specs.Happening.{cleared_dtc, all_dtcs, reaches}
 use Rattle.flt_model.specs.declared.call.Op.TheVariants as ops
 use Rattle.flt_model.specs.Trace.{with_clear}
@@ -20,12 +20,12 @@ use Rattle.flt_model.specs.Mark.Mark.{Clear}
 use Rattle.flt_model.specs.Entry.{holders, is_other, entry_of, entries}
 use Rattle.flt_model.proofs.EntryLemmas.{map_same, displaced_entry, displaced_entries}
 use Rattle.flt_memory.specs.Memory.{Memory}
-use Rattle.flt_dem.specs.Faults.{without_entry}
+use Rattle.flt_dem.specs.DurablePart.{without_entry}
 use Rattle.flt_dem.specs.Standing.{MemoryStands}
 use Rattle.flt_dem.specs.Events.{EventsView, holding}
 use Rattle.flt_dem.specs.Calls.{StandsAfter, StandsPartly}
 
-module _ (life : Life) (event : ℕ) (signals : List ℕ) (marks : Trace) where
+module _ (life : Start) (event : ℕ) (signals : List ℕ) (marks : Trace) where
   cleared_entry : (other : ℕ) → entry_of life other (Of event Clear signals ∷ marks) ≡ entry_of life other marks
   cleared_entry other = elim (cases_Bool (nat_eq event other)) [ inl e ↦ rw e refl | inr e ↦ rw e refl ]
 
@@ -61,10 +61,10 @@ left_more done held last is left =
 -- have that gave up one entry with each event: once each event is cleared they are none, as the memory's are.
 pub record ClearedBelow (done : ℕ) (before now : EventsView) : Type 0 where
   pub held : Memory
-  pub stands : (life : Life) (past : History) (tester : ℕ) (bytes : ArrayVec ℕ) → cleared_dtc (ops.Request tester bytes) ≡ Some all_dtcs →
+  pub stands : (life : Start) (past : History) (tester : ℕ) (bytes : ArrayVec ℕ) → cleared_dtc (ops.Request tester bytes) ≡ Some all_dtcs →
       StandsAfter life past before → StandsPartly life past (ops.Request tester bytes) done (holding held now)
   pub left : All (λ entry. done ≤ entry.event) held.entries
-  pub within : All (λ entry. entry.event < length before.faults.config.events.items) held.entries
+  pub within : All (λ entry. entry.event < length before.durable.config.events.items) held.entries
 
 -- ---- DTCs
 
@@ -88,18 +88,18 @@ dtc_is_one config event valid within =
     rw (unwrap_or-slice_get config.events.items event no_event) (λ same. omega (arith, most, same))
 
 -- A clear of an event's DTC reaches it.
-pub reaches_own : (life : Life) (event : ℕ) → reaches life event (event_of life event).dtc ≡ true
+pub reaches_own : (life : Start) (event : ℕ) → reaches life event (event_of life event).dtc ≡ true
 reaches_own life event = or_right (nat_eq (event_of life event).dtc all_dtcs) _ (eq-eqb (event_of life event).dtc (event_of life event).dtc refl)
 
 -- And no other event.
-pub reaches_others : (life : Life) (event other : ℕ) → IsValid life.config → event < count life → other ≢ event → reaches life other (event_of life event).dtc ≡ false
+pub reaches_others : (life : Start) (event other : ℕ) → IsValid life.config → event < count life → other ≢ event → reaches life other (event_of life event).dtc ≡ false
 reaches_others life event other valid within ne =
     let dtc = (event_of life event).dtc in
     ap (λ b. b || nat_eq dtc (event_of life other).dtc) (ne_eqb dtc all_dtcs (dtc_is_one life.config event valid within))
     ∙ ne_eqb dtc (event_of life other).dtc (dtc_apart life.config event other valid within ne)
 
 -- It is no clear of all.
-pub clears_one : (life : Life) (event : ℕ) (clears : Option ℕ) (marks : Trace) → IsValid life.config → event < count life → clears ≡ Some (event_of life event).dtc →
+pub clears_one : (life : Start) (event : ℕ) (clears : Option ℕ) (marks : Trace) → IsValid life.config → event < count life → clears ≡ Some (event_of life event).dtc →
     with_clear clears marks ≡ marks
 clears_one life event clears marks valid within is =
     ap (λ c. with_clear c marks) is

@@ -8,7 +8,7 @@ use Rattle.std.specs.List.{refill}
 use Rattle.std.proofs.lemmas.Option.{slice_get-get_or}
 use Rattle.flt_config.specs.declared.config.Config.{Config}
 use Rattle.flt_config.specs.declared.config.EventCfg.{EventCfg}
-use Rattle.flt_model.specs.Life.{Life, count, event_of}
+use Rattle.flt_model.specs.Start.{Start, count, event_of}
 use Rattle.flt_model.specs.Debounce.{Happening, Happenings, IsOfKind, debounced}
 use Rattle.flt_model.specs.declared.call.DebState.{DebState}
 use Rattle.flt_model.specs.declared.call.DebState.TheVariants.{Count}
@@ -22,13 +22,13 @@ abbrev pub blank : DebState
 blank = Count (pos 0)
 
 -- The debouncing of an event is read.
-pub read_debounce : (life : Life) (items : ℕ → Happenings) (event : ℕ) (debounces : List DebState) → event < count life → DebouncesStand life items debounces →
+pub read_debounce : (life : Start) (items : ℕ → Happenings) (event : ℕ) (debounces : List DebState) → event < count life → DebouncesStand life items debounces →
     get_or debounces event blank ≡ debounced (event_of life event).debounce (items event)
 read_debounce life items event debounces within s =
     get_or_from_slice_get debounces event (debounced (event_of life event).debounce (items event)) blank (s.each event within)
 
 -- One more happening of one event.
-pub debounced_more : (life : Life) (event : ℕ) (happening : Happening) (items : ℕ → Happenings) (debounces : List DebState) (new : DebState) → event < count life →
+pub debounced_more : (life : Start) (event : ℕ) (happening : Happening) (items : ℕ → Happenings) (debounces : List DebState) (new : DebState) → event < count life →
     new ≡ debounced (event_of life event).debounce (happening ∷ items event) → DebouncesStand life items debounces →
     DebouncesStand life (and_then event (Some happening) items) (slice_set debounces event new)
 debounced_more life event happening items debounces new within is s = record {
@@ -59,7 +59,7 @@ kind_kept events debounces event rules new within is kind kinds other other_rule
 -- ---- one event's debouncing that is lent
 
 -- It is what its happenings made of it.
-pub was_debounced : (life : Life) (items : ℕ → Happenings) (event : ℕ) (rules : EventCfg) (debounces lent : List DebState) → lent ≡ debounces → rules ≡ event_of life event →
+pub was_debounced : (life : Start) (items : ℕ → Happenings) (event : ℕ) (rules : EventCfg) (debounces lent : List DebState) → lent ≡ debounces → rules ≡ event_of life event →
     event < count life → DebouncesStand life items debounces → get_or lent event blank ≡ debounced rules.debounce (items event)
 was_debounced life items event rules debounces lent is found within s =
     ap (λ xs. get_or xs event blank) is ∙ read_debounce life items event debounces within s ∙ ap (λ k. debounced k.debounce (items event)) (sym found)

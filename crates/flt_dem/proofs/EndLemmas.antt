@@ -2,7 +2,7 @@
 use Rattle.std.proofs.Common.{◌≡◌, ◌∙◌, ℕ, nat_eq, Bool, true, false, not, List, ◌∷◌, filter, refl, sym, ap, subst, inl, inr}
 use Rattle.std.proofs.lemmas.Bool.{cases_Bool}
 use Rattle.flt_config.specs.Durable.{is_of_event}
-use Rattle.flt_model.specs.Life.{Life, base_of, event_of}
+use Rattle.flt_model.specs.Start.{Start, base_of, event_of}
 use Rattle.flt_model.specs.Mark.{Trace, Of, marks_of}
 use Rattle.flt_model.specs.Mark.Mark.{Cycle, Aged}
 use Rattle.flt_model.specs.Status.{ages}
@@ -12,7 +12,7 @@ use Rattle.flt_model.proofs.EntryLemmas.{map_same, displaced_entry, displaced_en
 use Rattle.flt_memory.specs.Memory.{Memory}
 use Rattle.flt_dem.specs.Standing.{MemoryStands, notes_of}
 
-module _ (life : Life) (event : ℕ) (signals : List ℕ) (marks : Trace) where
+module _ (life : Start) (event : ℕ) (signals : List ℕ) (marks : Trace) where
   cycled_entry : (other : ℕ) → entry_of life other (Of event Cycle signals ∷ marks) ≡ entry_of life other marks
   cycled_entry other = elim (cases_Bool (nat_eq event other)) [ inl e ↦ rw e refl | inr e ↦ rw e refl ]
 
@@ -28,7 +28,7 @@ module _ (life : Life) (event : ℕ) (signals : List ℕ) (marks : Trace) where
       map_same _ _ (filter (is_other event) (holders life marks)) (λ other among. aged_entry other ∙ sym (displaced_entry life event other signals marks))
       ∙ displaced_entries life event signals marks
 
-module _ (life : Life) (event : ℕ) (signals : List ℕ) (marks : Trace) where
+module _ (life : Start) (event : ℕ) (signals : List ℕ) (marks : Trace) where
   -- An event that does not age keeps its entry.
   pub memory_cycled : (memory : Memory) → ages (base_of life event) (event_of life event) (marks_of event marks) ≡ false →
       MemoryStands life marks memory → MemoryStands life (with_cycle life signals event marks) memory

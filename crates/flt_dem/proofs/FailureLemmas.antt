@@ -6,7 +6,7 @@ use Rattle.flt_config.specs.declared.config.Config.{Config}
 use Rattle.flt_config.specs.declared.persist.EventState.{EventState}
 use Rattle.flt_config.specs.declared.persist.EntryState.{EntryState}
 use Rattle.flt_config.specs.Durable.{is_of_event}
-use Rattle.flt_model.specs.Life.{Life, base_of}
+use Rattle.flt_model.specs.Start.{Start, base_of}
 use Rattle.flt_model.specs.Mark.{Trace, Of, marks_of}
 use Rattle.flt_model.specs.Mark.Mark.{Failed}
 use Rattle.flt_model.specs.Status.{enters}
@@ -49,11 +49,11 @@ not_displaced config states event other bytes old new (outcomes.Displaced which)
     found_at other old.entries stored.place blank_entry stored.gives_way.within none (same ∙ stored.named blank_entry)
 
 -- A failure that does not enter leaves the entries.
-pub failed_again : (life : Life) (event : ℕ) (signals : List ℕ) (marks : Trace) → enters (base_of life event) (marks_of event marks) ≡ false →
+pub failed_again : (life : Start) (event : ℕ) (signals : List ℕ) (marks : Trace) → enters (base_of life event) (marks_of event marks) ≡ false →
     with_failed life signals event marks ≡ (Of event Failed signals ∷ marks)
 failed_again life event signals marks again = ap (λ b. stored_where life signals event b (Of event Failed signals ∷ marks)) again
 
-pub memory_again : (life : Life) (event : ℕ) (signals : List ℕ) (marks : Trace) (memory : Memory) → enters (base_of life event) (marks_of event marks) ≡ false →
+pub memory_again : (life : Start) (event : ℕ) (signals : List ℕ) (marks : Trace) (memory : Memory) → enters (base_of life event) (marks_of event marks) ≡ false →
     MemoryStands life marks memory → MemoryStands life (with_failed life signals event marks) memory
 memory_again life event signals marks memory again held =
     subst (λ m. MemoryStands life m memory) (sym (failed_again life event signals marks again)) (record {

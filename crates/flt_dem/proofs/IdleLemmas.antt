@@ -1,7 +1,7 @@
 -- Calls in which the event manager takes no part, and histories without a request.
 use Rattle.std.proofs.Common.{◌≡◌, ◌∙◌, ℕ, ◌<◌, nat_eq, Bool, true, false, ◌||◌, cond, [], ◌∷◌, Option, Some, None, unwrap_or, refl, ap}
 use Rattle.std.proofs.lemmas.Bool.{ne_eqb}
-use Rattle.flt_model.specs.Life.{Life, History, count, event_of}
+use Rattle.flt_model.specs.Start.{Start, History, count, event_of}
 use Rattle.flt_model.specs.Mark.{Trace, AllCleared}
 use Rattle.flt_model.specs.Happening.{happening_of_clear, cleared_where, cleared_dtc, all_dtcs}
 use Rattle.flt_model.specs.Session.{holds_off, is_extended, is_setting_off}
@@ -12,7 +12,7 @@ use Rattle.flt_dem.specs.Manager.{Manager, StandsFor, events_of}
 use Rattle.flt_dem.specs.Laws.{IsIdle, ClearsNothing, HasNoRequest}
 use Rattle.flt_dem.proofs.CallLemmas.{stands_none}
 
-module _ (life : Life) where
+module _ (life : Start) where
   clears_no_event : (clears : Option ℕ) (event : ℕ) → event < count life → ClearsNothing life clears → happening_of_clear life event clears ≡ None
   clears_no_event None event within nothing = refl
   clears_no_event (Some dtc) event within nothing =

@@ -7,7 +7,7 @@ use Rattle.std.specs.Prelude.{slice_get, slice_set, option_map, is_none}
 use Rattle.flt_config.specs.declared.config.Config.{Config}
 use Rattle.flt_config.specs.declared.config.EventCfg.{EventCfg}
 use Rattle.flt_config.specs.Validity.{IsValid, IsDebounceInRange}
-use Rattle.flt_model.specs.Life.{Life, History, event_of, no_event}
+use Rattle.flt_model.specs.Start.{Start, History, event_of, no_event}
 use Rattle.flt_model.specs.Debounce.{IsOfKind, debounced}
 use Rattle.flt_model.specs.Happening.{readiness, cause_of, is_started, signals, are_met, is_enabled, counts_report}
 use Rattle.flt_model.specs.Session.{is_setting_off}
@@ -57,7 +57,7 @@ set_signals (suc (suc (suc (suc (suc (suc (suc (suc index)))))))) value past h =
 abbrev pub rest_states : Config → List DebState
 rest_states config = map (λ event. debounced event.debounce []) config.events.items
 
-pub rest_stands : (life : Life) (debounces : List DebState) → debounces ≡ rest_states life.config → DebouncesStand life (λ event. []) debounces
+pub rest_stands : (life : Start) (debounces : List DebState) → debounces ≡ rest_states life.config → DebouncesStand life (λ event. []) debounces
 rest_stands life debounces is =
     let events = life.config.events.items in
     let at_rest = λ (event : EventCfg). debounced event.debounce [] in
@@ -108,39 +108,39 @@ cycle_below config event valid within =
     rw (unwrap_or-slice_get config.events.items event no_event) (omega (arith, below))
 
 -- Whether the cycle of an event was started is read where the event's cycle stands.
-cycle_read : (manager : Manager) (event : ℕ) (rules : EventCfg) → slice_get manager.faults.config.events.items event ≡ Some rules →
+cycle_read : (manager : Manager) (event : ℕ) (rules : EventCfg) → slice_get manager.durable.config.events.items event ≡ Some rules →
     is_cycle_started manager event ≡ get_or manager.started rules.cycle false
 cycle_read manager event rules found =
     ap (λ e. unwrap_or (slice_get manager.started (unwrap_or e no_event).cycle) false) found ∙ unwrap_or-slice_get manager.started rules.cycle false
 
 -- And is what the calls so far say.
-cycle_stands : (life : Life) (past : History) (manager : Manager) (event : ℕ) → IsValid manager.faults.config → event < length manager.faults.config.events.items →
+cycle_stands : (life : Start) (past : History) (manager : Manager) (event : ℕ) → IsValid manager.durable.config → event < length manager.durable.config.events.items →
     StandsFor life past manager → is_cycle_started manager event ≡ is_started (event_of life event).cycle past
 cycle_stands life past manager event valid within s =
-    let cycle = (unwrap_or (slice_get manager.faults.config.events.items event) no_event).cycle in
-    ap (λ o. unwrap_or o false) (s.started cycle (cycle_below manager.faults.config event valid within))
-    ∙ ap (λ k. is_started (unwrap_or (slice_get k.events.items event) no_event).cycle past) (sym s.events.faults_stand.config)
+    let cycle = (unwrap_or (slice_get manager.durable.config.events.items event) no_event).cycle in
+    ap (λ o. unwrap_or o false) (s.started cycle (cycle_below manager.durable.config event valid within))
+    ∙ ap (λ k. is_started (unwrap_or (slice_get k.events.items event) no_event).cycle past) (sym s.events.durable_stands.config)
 
 -- Why a report is ignored is read where the event's cycle and what it needs stand.
-pub cause_read : (manager : Manager) (event : ℕ) (rules : EventCfg) (setting met : Bool) → event < length manager.faults.config.events.items →
-    rules ≡ get_or manager.faults.config.events.items event rules → met ≡ are_met rules.needs manager.conditions →
+pub cause_read : (manager : Manager) (event : ℕ) (rules : EventCfg) (setting met : Bool) → event < length manager.durable.config.events.items →
+    rules ≡ get_or manager.durable.config.events.items event rules → met ≡ are_met rules.needs manager.conditions →
     cause_of (readiness_at setting manager event) ≡ cause_of (seen setting (get_or manager.started rules.cycle false) met)
 cause_read manager event rules setting met within is met_is =
-    let events = manager.faults.config.events.items in
+    let events = manager.durable.config.events.items in
     let found = slice_get_read events (length events) event rules refl within is in
     ap (λ started. cause_of (seen setting started (is_event_enabled manager event))) (cycle_read manager event rules found)
     ∙ ap (λ enabled. cause_of (seen setting (get_or manager.started rules.cycle false) enabled))
     (ap (λ e. are_met (unwrap_or e no_event).needs manager.conditions) found ∙ sym met_is)
 
 -- Whether the event is enabled is what the calls so far say.
-enabled_stands : (life : Life) (past : History) (manager : Manager) (event : ℕ) → StandsFor life past manager →
+enabled_stands : (life : Start) (past : History) (manager : Manager) (event : ℕ) → StandsFor life past manager →
     is_event_enabled manager event ≡ is_enabled life event past
 enabled_stands life past manager event s =
-    ap (λ k. are_met (unwrap_or (slice_get k.events.items event) no_event).needs manager.conditions) (sym s.events.faults_stand.config)
+    ap (λ k. are_met (unwrap_or (slice_get k.events.items event) no_event).needs manager.conditions) (sym s.events.durable_stands.config)
     ∙ ap (are_met (event_of life event).needs) s.conditions
 
 -- What is seen of the event is what the calls so far say.
-readiness_stands : (life : Life) (past : History) (manager : Manager) (event : ℕ) (setting : Bool) → IsValid manager.faults.config → event < length manager.faults.config.events.items →
+readiness_stands : (life : Start) (past : History) (manager : Manager) (event : ℕ) (setting : Bool) → IsValid manager.durable.config → event < length manager.durable.config.events.items →
     setting ≡ not (is_setting_off past) → StandsFor life past manager → readiness_at setting manager event ≡ readiness life event past
 readiness_stands life past manager event setting valid within setting_is s =
     ap (λ on. seen on (is_cycle_started manager event) (is_event_enabled manager event)) setting_is
@@ -148,21 +148,21 @@ readiness_stands life past manager event setting valid within setting_is s =
     ∙ ap (seen (not (is_setting_off past)) (is_started (event_of life event).cycle past)) (enabled_stands life past manager event s)
 
 -- Why a report is ignored decides what is answered.
-pub cause_is_answer : (life : Life) (past : History) (manager : Manager) (event : ℕ) (report : Report) (setting : Bool) (cause : Option Cause) →
-    IsValid manager.faults.config → event < length manager.faults.config.events.items → setting ≡ not (is_setting_off past) → StandsFor life past manager →
+pub cause_is_answer : (life : Start) (past : History) (manager : Manager) (event : ℕ) (report : Report) (setting : Bool) (cause : Option Cause) →
+    IsValid manager.durable.config → event < length manager.durable.config.events.items → setting ≡ not (is_setting_off past) → StandsFor life past manager →
     cause ≡ cause_of (readiness_at setting manager event) → report_reply cause ≡ answer life past (ops.Report event report)
 cause_is_answer life past manager event report setting cause valid within setting_is s is =
     ap report_reply (is ∙ ap cause_of (readiness_stands life past manager event setting valid within setting_is s))
 
 -- A report counts where there is no cause to ignore it.
-pub counts_where : (life : Life) (past : History) (manager : Manager) (event : ℕ) (setting : Bool) (cause : Option Cause) →
-    IsValid manager.faults.config → event < length manager.faults.config.events.items → setting ≡ not (is_setting_off past) → StandsFor life past manager →
+pub counts_where : (life : Start) (past : History) (manager : Manager) (event : ℕ) (setting : Bool) (cause : Option Cause) →
+    IsValid manager.durable.config → event < length manager.durable.config.events.items → setting ≡ not (is_setting_off past) → StandsFor life past manager →
     cause ≡ cause_of (readiness_at setting manager event) → is_none cause ≡ counts_report life event past
 counts_where life past manager event setting cause valid within setting_is s is =
     ap is_none (is ∙ ap cause_of (readiness_stands life past manager event setting valid within setting_is s))
 
 -- A report that does not count changes nothing.
-pub stands_ignored : (life : Life) (past : History) (manager : Manager) (event : ℕ) (report : Report) → counts_report life event past ≡ false →
+pub stands_ignored : (life : Start) (past : History) (manager : Manager) (event : ℕ) (report : Report) → counts_report life event past ≡ false →
     StandsFor life past manager → StandsFor life (ops.Report event report ∷ past) manager
 stands_ignored life past manager event report ignored s = record {
   events = stands_none life past (ops.Report event report) (events_of manager) (λ marks. refl) (λ other within. ignored_report life past event other report ignored) s.events;

@@ -1,6 +1,6 @@
 -- What a failure does to the noted events, whatever becomes of the entries.
 use Rattle.std.proofs.Common.{◌≡◌, ◌∙◌, ℕ, Bool, true, false, List, ◌∷◌, Option, Some, None, refl, sym, ap}
-use Rattle.flt_model.specs.Life.{Life, base_of}
+use Rattle.flt_model.specs.Start.{Start, base_of}
 use Rattle.flt_model.specs.Mark.{Trace, Of, marks_of}
 use Rattle.flt_model.specs.Mark.Mark.{Failed}
 use Rattle.flt_model.specs.Status.{enters}
@@ -10,7 +10,7 @@ use Rattle.flt_model.specs.Noted.{is_entering_failure, is_confirming_failure, fi
 use Rattle.flt_dem.specs.declared.notes.Notes.{Notes}
 use Rattle.flt_dem.specs.Standing.{notes_of}
 
-module _ (life : Life) (signals : List ℕ) (event : ℕ) (trace : Trace) where
+module _ (life : Start) (signals : List ℕ) (event : ℕ) (trace : Trace) where
   notes_for : (other : ℕ) (gives : Bool) → notes_of life (added_for life signals event other gives trace) ≡ notes_of life trace
   notes_for other true = refl
   notes_for other false = refl
@@ -32,12 +32,12 @@ module _ (life : Life) (signals : List ℕ) (event : ℕ) (trace : Trace) where
   notes_where false = refl
 
 -- Storing leaves the notes of the failure.
-pub notes_failed : (life : Life) (signals : List ℕ) (event : ℕ) (trace : Trace) →
+pub notes_failed : (life : Start) (signals : List ℕ) (event : ℕ) (trace : Trace) →
     notes_of life (with_failed life signals event trace) ≡ notes_of life (Of event Failed signals ∷ trace)
 notes_failed life signals event trace = notes_where life signals event (Of event Failed signals ∷ trace) (enters (base_of life event) (marks_of event trace))
 
 -- The notes after a failure are those that its marks make.
-pub notes_after : (life : Life) (signals : List ℕ) (event : ℕ) (marks : Trace) (old new : Notes) (entered confirmed : Bool) →
+pub notes_after : (life : Start) (signals : List ℕ) (event : ℕ) (marks : Trace) (old new : Notes) (entered confirmed : Bool) →
     old ≡ notes_of life marks → entered ≡ is_entering_failure life event marks → confirmed ≡ is_confirming_failure life event marks →
     new.first_failed ≡ first_after entered event old.first_failed → new.first_confirmed ≡ first_after confirmed event old.first_confirmed →
     new.recent_failed ≡ recent_after entered event old.recent_failed → new.recent_confirmed ≡ recent_after confirmed event old.recent_confirmed →

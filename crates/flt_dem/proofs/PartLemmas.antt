@@ -5,7 +5,7 @@ use Rattle.std.proofs.lemmas.Option.{slice_get_read}
 use Rattle.arrayvec.specs.ArrayVec.{ArrayVec}
 use Rattle.flt_config.specs.declared.config.Config.{Config}
 use Rattle.flt_config.specs.declared.config.EventCfg.{EventCfg}
-use Rattle.flt_model.specs.Life.{Life, History, event_of}
+use Rattle.flt_model.specs.Start.{Start, History, event_of}
 use Rattle.flt_model.specs.Mark.{Trace, Of}
 use Rattle.flt_model.specs.Mark.Mark.{Clear}
 use Rattle.flt_model.specs.Debounce.{Happening, Happenings, Reported, Ticked, Ended, Cleared, qualified}
@@ -17,37 +17,37 @@ use Rattle.flt_model.specs.declared.call.Op.TheVariants as ops
 use Rattle.flt_model.specs.declared.call.Qualified.{Qualified}
 use Rattle.flt_model.specs.declared.call.Report.{Report}
 use Rattle.flt_dem.specs.Events.{EventsView}
-use Rattle.flt_dem.specs.Standing.{FaultsStand}
+use Rattle.flt_dem.specs.Standing.{DurablePartStands}
 use Rattle.flt_dem.specs.Debounces.{DebouncesStand, and_then}
 use Rattle.flt_dem.specs.Calls.{StandsWith}
 use Rattle.flt_dem.specs.Manager.{IsOfOtherCycle}
 use Rattle.flt_dem.proofs.CallLemmas.{debounces_same, and_then-own, and_then-other}
 
 -- Whether ticks count for an event, with the setting on, is whether the conditions are met that it needs.
-pub ticks_count : (life : Life) (past : History) (event : ℕ) (rules : EventCfg) (fulfilled : List Bool) (met : Bool) → is_setting_off past ≡ false →
+pub ticks_count : (life : Start) (past : History) (event : ℕ) (rules : EventCfg) (fulfilled : List Bool) (met : Bool) → is_setting_off past ≡ false →
     rules ≡ event_of life event → fulfilled ≡ conditions past → met ≡ are_met rules.needs fulfilled → counts_ticks life event past ≡ met
 ticks_count life past event rules fulfilled met on rules_are fulfilled_are is =
     ap (λ off. not off && is_enabled life event past) on
     ∙ sym (is ∙ ap (λ k. are_met k.needs fulfilled) rules_are ∙ ap (are_met (event_of life event).needs) fulfilled_are)
 
 -- The happening that a call is for an event decides its part.
-part_of : (life : Life) (past : History) (op : Op) (event : ℕ) (happening : Option Happening) (items : ℕ → Happenings) (marks : Trace) (events : EventsView) →
-    happening_of life event past op ≡ happening → DebouncesStand life (and_then event happening items) events.debounces → FaultsStand life (with_marks life event past happening marks) events.faults →
+part_of : (life : Start) (past : History) (op : Op) (event : ℕ) (happening : Option Happening) (items : ℕ → Happenings) (marks : Trace) (events : EventsView) →
+    happening_of life event past op ≡ happening → DebouncesStand life (and_then event happening items) events.debounces → DurablePartStands life (with_marks life event past happening marks) events.durable →
     StandsWith life (and_then event (happening_of life event past op) items) (event_part life past op event marks) events
 part_of life past op event happening items marks events is d f = record {
   debounces_stand = subst (λ h. DebouncesStand life (and_then event h items) events.debounces) (sym is) d;
-  faults_stand = subst (λ h. FaultsStand life (with_marks life event past h marks) events.faults) (sym is) f;
+  durable_stands = subst (λ h. DurablePartStands life (with_marks life event past h marks) events.durable) (sym is) f;
 }
 
-module _ (life : Life) (past : History) (event : ℕ) (items : ℕ → Happenings) (marks : Trace) (events : EventsView) (own : items event ≡ happenings life event past) where
+module _ (life : Start) (past : History) (event : ℕ) (items : ℕ → Happenings) (marks : Trace) (events : EventsView) (own : items event ≡ happenings life event past) where
   -- What the happening qualifies, with the signals of the moment.
   result_is : (happening : Happening) (signals : List ℕ) (outcome : Option Qualified) → signals ≡ signals_after past → outcome ≡ qualified (event_of life event).debounce (items event) happening →
-      FaultsStand life (with_result life signals event outcome marks) events.faults →
-      FaultsStand life (with_result life (signals_after past) event (qualified (event_of life event).debounce (happenings life event past) happening) marks) events.faults
+      DurablePartStands life (with_result life signals event outcome marks) events.durable →
+      DurablePartStands life (with_result life (signals_after past) event (qualified (event_of life event).debounce (happenings life event past) happening) marks) events.durable
   result_is happening signals outcome signals_are outcome_is f =
-      subst (λ o. FaultsStand life (with_result life (signals_after past) event o marks) events.faults)
+      subst (λ o. DurablePartStands life (with_result life (signals_after past) event o marks) events.durable)
       (outcome_is ∙ ap (λ before. qualified (event_of life event).debounce before happening) own)
-      (subst (λ values. FaultsStand life (with_result life values event outcome marks) events.faults) signals_are f)
+      (subst (λ values. DurablePartStands life (with_result life values event outcome marks) events.durable) signals_are f)
 
   -- A call that is nothing for the event.
   part_of_none : (op : Op) → happening_of life event past op ≡ None → StandsWith life items marks events →
@@ -57,11 +57,11 @@ module _ (life : Life) (past : History) (event : ℕ) (items : ℕ → Happening
       (debounces_same life items (and_then event None items) events.debounces (λ other h.
       ⊎_elim (λ same. subst (λ x. items x ≡ and_then event None items x) same (sym (and_then-own event None items)))
       (λ apart. sym (and_then-other event other None items apart)) (cases_eq event other)) s.debounces_stand)
-      s.faults_stand
+      s.durable_stands
 
   pub part_of_ticks : (ticks : ℕ) (signals : List ℕ) (outcome : Option Qualified) → counts_ticks life event past ≡ true → signals ≡ signals_after past →
       outcome ≡ qualified (event_of life event).debounce (items event) (Ticked ticks) → DebouncesStand life (and_then event (Some (Ticked ticks)) items) events.debounces →
-      FaultsStand life (with_result life signals event outcome marks) events.faults →
+      DurablePartStands life (with_result life signals event outcome marks) events.durable →
       StandsWith life (and_then event (happening_of life event past (ops.Tick ticks)) items) (event_part life past (ops.Tick ticks) event marks) events
   part_of_ticks ticks signals outcome counts signals_are outcome_is d f =
       let is : happening_of life event past (ops.Tick ticks) ≡ Some (Ticked ticks) = ap (λ b. cond b (Some (Ticked ticks)) None) counts in
@@ -73,7 +73,7 @@ module _ (life : Life) (past : History) (event : ℕ) (items : ℕ → Happening
 
   pub part_of_report : (report : Report) (signals : List ℕ) (outcome : Option Qualified) → counts_report life event past ≡ true → signals ≡ signals_after past →
       outcome ≡ qualified (event_of life event).debounce (items event) (Reported report) → DebouncesStand life (and_then event (Some (Reported report)) items) events.debounces →
-      FaultsStand life (with_result life signals event outcome marks) events.faults →
+      DurablePartStands life (with_result life signals event outcome marks) events.durable →
       StandsWith life (and_then event (happening_of life event past (ops.Report event report)) items) (event_part life past (ops.Report event report) event marks) events
   part_of_report report signals outcome counts signals_are outcome_is d f =
       let is : happening_of life event past (ops.Report event report) ≡ Some (Reported report) =
@@ -82,7 +82,7 @@ module _ (life : Life) (past : History) (event : ℕ) (items : ℕ → Happening
       part_of life past (ops.Report event report) event (Some (Reported report)) items marks events is d (result_is (Reported report) signals outcome signals_are outcome_is f)
 
   pub part_of_own_cycle : (cycle : ℕ) → (event_of life event).cycle ≡ cycle → DebouncesStand life (and_then event (Some Ended) items) events.debounces →
-      FaultsStand life (with_cycle life (signals_after past) event marks) events.faults →
+      DurablePartStands life (with_cycle life (signals_after past) event marks) events.durable →
       StandsWith life (and_then event (happening_of life event past (ops.Cycle cycle)) items) (event_part life past (ops.Cycle cycle) event marks) events
   part_of_own_cycle cycle same d f =
       let is : happening_of life event past (ops.Cycle cycle) ≡ Some Ended = ap (λ b. cond b (Some Ended) None) (eq-eqb cycle (event_of life event).cycle (sym same)) in
@@ -94,12 +94,12 @@ module _ (life : Life) (past : History) (event : ℕ) (items : ℕ → Happening
       part_of_none (ops.Cycle cycle) (ap (λ b. cond b (Some Ended) None) (ne_eqb cycle (event_of life event).cycle (λ d. ne (sym d)))) s
 
 -- A report of one event is none of another's.
-pub other_report : (life : Life) (past : History) (event other : ℕ) (report : Report) → other ≢ event → happening_of life other past (ops.Report event report) ≡ None
+pub other_report : (life : Start) (past : History) (event other : ℕ) (report : Report) → other ≢ event → happening_of life other past (ops.Report event report) ≡ None
 other_report life past event other report ne =
     ap (λ b. reported_where (own_report life other past b) (Reported report)) (ne_eqb event other (λ d. ne (sym d)))
 
 -- A report that does not count is ignored.
-pub ignored_report : (life : Life) (past : History) (event other : ℕ) (report : Report) → counts_report life event past ≡ false → happening_of life other past (ops.Report event report) ≡ None
+pub ignored_report : (life : Start) (past : History) (event other : ℕ) (report : Report) → counts_report life event past ≡ false → happening_of life other past (ops.Report event report) ≡ None
 ignored_report life past event other report ignored =
     ⊎_elim
     (λ same. subst (λ x. happening_of life x past (ops.Report event report) ≡ None) same
@@ -117,9 +117,9 @@ other_of_cycle config cycle event other rules within read own apart same =
     (rw found at here) own
 
 -- A clear of a DTC that reaches the event.
-pub part_of_clear : (life : Life) (past : History) (event tester dtc : ℕ) (bytes : ArrayVec ℕ) (items : ℕ → Happenings) (marks : Trace) (events : EventsView) →
+pub part_of_clear : (life : Start) (past : History) (event tester dtc : ℕ) (bytes : ArrayVec ℕ) (items : ℕ → Happenings) (marks : Trace) (events : EventsView) →
     cleared_dtc (ops.Request tester bytes) ≡ Some dtc → reaches life event dtc ≡ true → DebouncesStand life (and_then event (Some Cleared) items) events.debounces →
-    FaultsStand life (Of event Clear (signals_after past) ∷ marks) events.faults →
+    DurablePartStands life (Of event Clear (signals_after past) ∷ marks) events.durable →
     StandsWith life (and_then event (happening_of life event past (ops.Request tester bytes)) items) (event_part life past (ops.Request tester bytes) event marks) events
 part_of_clear life past event tester dtc bytes items marks events clears reached d f =
     let is : happening_of life event past (ops.Request tester bytes) ≡ Some Cleared =
@@ -127,6 +127,6 @@ part_of_clear life past event tester dtc bytes items marks events clears reached
     part_of life past (ops.Request tester bytes) event (Some Cleared) items marks events is d f
 
 -- A clear of a DTC that does not.
-pub other_clear : (life : Life) (past : History) (event tester dtc : ℕ) (bytes : ArrayVec ℕ) → cleared_dtc (ops.Request tester bytes) ≡ Some dtc → reaches life event dtc ≡ false →
+pub other_clear : (life : Start) (past : History) (event tester dtc : ℕ) (bytes : ArrayVec ℕ) → cleared_dtc (ops.Request tester bytes) ≡ Some dtc → reaches life event dtc ≡ false →
     happening_of life event past (ops.Request tester bytes) ≡ None
 other_clear life past event tester dtc bytes clears other = ap (λ c. happening_of_clear life event c) clears ∙ ap (λ b. cleared_where b) other

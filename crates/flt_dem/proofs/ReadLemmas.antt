@@ -7,7 +7,7 @@ use Rattle.std.specs.List.{refill}
 use Rattle.std.specs.Prelude.{slice_get, slice_set}
 use Rattle.flt_config.specs.declared.config.Config.{Config}
 use Rattle.flt_config.specs.declared.config.EventCfg.{EventCfg}
-use Rattle.flt_model.specs.Life.{Life, event_of, no_event}
+use Rattle.flt_model.specs.Start.{Start, event_of, no_event}
 use Rattle.flt_model.proofs.Common.{refill-whole, slice_get-set_other}
 
 -- A list that was lent as it is comes back with the place that was written.
@@ -29,7 +29,7 @@ module _ (config : Config) (lent : List EventCfg) (event : ℕ) (rules : EventCf
   pub rules_found : slice_get config.events.items event ≡ Some rules
   rules_found = slice_get-get_or config.events.items event rules within ∙ ap Some (sym rules_at)
 
-  pub rules_read : (life : Life) → life.config ≡ config → rules ≡ event_of life event
+  pub rules_read : (life : Start) → life.config ≡ config → rules ≡ event_of life event
   rules_read life same =
       rules_at ∙ get_or_default config.events.items event rules no_event within ∙ sym (unwrap_or-slice_get config.events.items event no_event)
       ∙ ap (λ k. unwrap_or (slice_get k.events.items event) no_event) (sym same)

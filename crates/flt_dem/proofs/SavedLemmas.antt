@@ -9,7 +9,7 @@ use Rattle.std.specs.Prelude.{slice_get}
 use Rattle.flt_config.specs.declared.persist.EventState.{EventState}
 use Rattle.flt_config.specs.declared.persist.EntryState.{EntryState}
 use Rattle.flt_config.specs.Durable.{is_of_event}
-use Rattle.flt_model.specs.Life.{Life, count}
+use Rattle.flt_model.specs.Start.{Start, count}
 use Rattle.flt_model.specs.Mark.{Trace}
 use Rattle.flt_model.specs.Durable.{below, state_at}
 use Rattle.flt_model.specs.Entry.{entries, entry_of, holders, has_entry, is_among}
@@ -27,13 +27,13 @@ by_places f states (suc n) h is =
     ∙ sym (map-append f (below n) (n ∷ []))
 
 -- The states are those of the events in order of number.
-pub states_saved : (life : Life) (marks : Trace) (states : List EventState) → StatesStand life marks states → states ≡ map (state_at life marks) (below (count life))
+pub states_saved : (life : Start) (marks : Trace) (states : List EventState) → StatesStand life marks states → states ≡ map (state_at life marks) (below (count life))
 states_saved life marks states s =
     sym (take_all (count life) states (omega (arith, s.one_each)))
     ∙ by_places (state_at life marks) states (count life) (omega (arith, s.one_each)) (λ k below. s.each k below)
 
 -- The entry of an event is found where it is among the holders.
-found_entry : (life : Life) (marks : Trace) (event : ℕ) (events : List ℕ) →
+found_entry : (life : Start) (marks : Trace) (event : ℕ) (events : List ℕ) →
     find (is_of_event event) (map (λ other. entry_of life other marks) events) ≡ entry_where life event marks (is_among event events)
 found_entry life marks event [] = refl
 found_entry life marks event (first ∷ events) =
@@ -42,7 +42,7 @@ found_entry life marks event (first ∷ events) =
       | inr e ↦ rw e (found_entry life marks event events)
     ]
 
-pub entry_found : (life : Life) (marks : Trace) (event : ℕ) (held : List EntryState) → held ≡ entries life marks →
+pub entry_found : (life : Start) (marks : Trace) (event : ℕ) (held : List EntryState) → held ≡ entries life marks →
     find (is_of_event event) held ≡ entry_where life event marks (has_entry life event marks)
 entry_found life marks event held is =
     ap (λ xs. find (is_of_event event) xs) is

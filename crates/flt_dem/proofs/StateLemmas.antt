@@ -6,7 +6,7 @@ use Rattle.std.proofs.lemmas.Option.{get_or_from_slice_get}
 use Rattle.std.specs.Prelude.{slice_get, slice_set}
 use Rattle.flt_config.specs.declared.config.EventCfg.{EventCfg}
 use Rattle.flt_config.specs.declared.persist.EventState.{EventState}
-use Rattle.flt_model.specs.Life.{Life, count, event_of, base_of}
+use Rattle.flt_model.specs.Start.{Start, count, event_of, base_of}
 use Rattle.flt_model.specs.Mark.{Mark, Trace, Of, marks_of, own}
 use Rattle.flt_model.specs.Mark.Mark.{Cycle, Aged, Added, Refused}
 use Rattle.flt_model.specs.Status.{durable, ages}
@@ -17,11 +17,11 @@ use Rattle.flt_dem.specs.Standing.{StatesStand}
 use Rattle.flt_model.proofs.Common.{slice_get-set_same, slice_get-set_other}
 
 -- Another event's mark leaves a state.
-pub other_state : (life : Life) (event other : ℕ) (mark : Mark) (signals : List ℕ) (marks : Trace) → event ≢ other → state_at life (Of event mark signals ∷ marks) other ≡ state_at life marks other
+pub other_state : (life : Start) (event other : ℕ) (mark : Mark) (signals : List ℕ) (marks : Trace) → event ≢ other → state_at life (Of event mark signals ∷ marks) other ≡ state_at life marks other
 other_state life event other mark signals marks ne = rw (ne_eqb event other ne) refl
 
 -- Marks that change one event's state.
-pub state_changed : (life : Life) (event : ℕ) (before now : Trace) (states : List EventState) (new : EventState) → event < count life →
+pub state_changed : (life : Start) (event : ℕ) (before now : Trace) (states : List EventState) (new : EventState) → event < count life →
     new ≡ state_at life now event → ((other : ℕ) → event ≢ other → state_at life now other ≡ state_at life before other) → StatesStand life before states →
     StatesStand life now (slice_set states event new)
 state_changed life event before now states new within is others s = record {
@@ -34,7 +34,7 @@ state_changed life event before now states new within is others s = record {
 }
 
 -- One mark of one event.
-pub state_marked : (life : Life) (event : ℕ) (mark : Mark) (signals : List ℕ) (marks : Trace) (states : List EventState) (new : EventState) → event < count life →
+pub state_marked : (life : Start) (event : ℕ) (mark : Mark) (signals : List ℕ) (marks : Trace) (states : List EventState) (new : EventState) → event < count life →
     new ≡ durable (base_of life event) (event_of life event) (mark ∷ marks_of event marks) → StatesStand life marks states →
     StatesStand life (Of event mark signals ∷ marks) (slice_set states event new)
 state_marked life event mark signals marks states new within is s =
@@ -43,18 +43,18 @@ state_marked life event mark signals marks states new within is s =
     (λ other ne. other_state life event other mark signals marks ne) s
 
 -- The end of a cycle of one event, where it may age.
-cycled_own : (life : Life) (event : ℕ) (signals : List ℕ) (marks : Trace) (aged : Bool) →
+cycled_own : (life : Start) (event : ℕ) (signals : List ℕ) (marks : Trace) (aged : Bool) →
     state_at life (aged_where signals event aged (Of event Cycle signals ∷ marks)) event
     ≡ durable (base_of life event) (event_of life event) (cond aged (Aged ∷ Cycle ∷ marks_of event marks) (Cycle ∷ marks_of event marks))
 cycled_own life event signals marks true = rw (eq-eqb event event refl) refl
 cycled_own life event signals marks false = rw (eq-eqb event event refl) refl
 
-cycled_other : (life : Life) (event other : ℕ) (signals : List ℕ) (marks : Trace) (aged : Bool) → event ≢ other →
+cycled_other : (life : Start) (event other : ℕ) (signals : List ℕ) (marks : Trace) (aged : Bool) → event ≢ other →
     state_at life (aged_where signals event aged (Of event Cycle signals ∷ marks)) other ≡ state_at life marks other
 cycled_other life event other signals marks true ne = rw (ne_eqb event other ne) refl
 cycled_other life event other signals marks false ne = rw (ne_eqb event other ne) refl
 
-pub state_cycled : (life : Life) (event : ℕ) (signals : List ℕ) (marks : Trace) (states : List EventState) (new : EventState) → event < count life →
+pub state_cycled : (life : Start) (event : ℕ) (signals : List ℕ) (marks : Trace) (states : List EventState) (new : EventState) → event < count life →
     new ≡ durable (base_of life event) (event_of life event) (with_marks_of_cycle (event_of life event) (base_of life event) (marks_of event marks)) → StatesStand life marks states →
     StatesStand life (with_cycle life signals event marks) (slice_set states event new)
 state_cycled life event signals marks states new within is s =
@@ -64,27 +64,27 @@ state_cycled life event signals marks states new within is s =
     (λ other ne. cycled_other life event other signals marks aged ne) s
 
 -- Being added, or refused, leaves the states.
-added_state : (life : Life) (event other : ℕ) (signals : List ℕ) (marks : Trace) → state_at life (Of event Added signals ∷ marks) other ≡ state_at life marks other
+added_state : (life : Start) (event other : ℕ) (signals : List ℕ) (marks : Trace) → state_at life (Of event Added signals ∷ marks) other ≡ state_at life marks other
 added_state life event other signals marks = elim (cases_Bool (nat_eq event other)) [ inl e ↦ rw e refl | inr e ↦ rw e refl ]
 
-refused_state : (life : Life) (event other : ℕ) (signals : List ℕ) (marks : Trace) → state_at life (Of event Refused signals ∷ marks) other ≡ state_at life marks other
+refused_state : (life : Start) (event other : ℕ) (signals : List ℕ) (marks : Trace) → state_at life (Of event Refused signals ∷ marks) other ≡ state_at life marks other
 refused_state life event other signals marks = elim (cases_Bool (nat_eq event other)) [ inl e ↦ rw e refl | inr e ↦ rw e refl ]
 
-pub states_added : (life : Life) (event : ℕ) (signals : List ℕ) (marks : Trace) (states : List EventState) → StatesStand life marks states → StatesStand life (Of event Added signals ∷ marks) states
+pub states_added : (life : Start) (event : ℕ) (signals : List ℕ) (marks : Trace) (states : List EventState) → StatesStand life marks states → StatesStand life (Of event Added signals ∷ marks) states
 states_added life event signals marks states s = record { one_each = s.one_each; each = λ other h. s.each other h ∙ ap Some (sym (added_state life event other signals marks)) }
 
-pub states_refused : (life : Life) (event : ℕ) (signals : List ℕ) (marks : Trace) (states : List EventState) → StatesStand life marks states → StatesStand life (Of event Refused signals ∷ marks) states
+pub states_refused : (life : Start) (event : ℕ) (signals : List ℕ) (marks : Trace) (states : List EventState) → StatesStand life marks states → StatesStand life (Of event Refused signals ∷ marks) states
 states_refused life event signals marks states s = record { one_each = s.one_each; each = λ other h. s.each other h ∙ ap Some (sym (refused_state life event other signals marks)) }
 
 -- What a callee is lent where a slice of states is indexed.
 abbrev pub blank : EventState
 blank = record { status = 0; failed = 0; clean = 0; lit = false }
 
-pub read_state : (life : Life) (event : ℕ) (marks : Trace) (states : List EventState) → event < count life → StatesStand life marks states → get_or states event blank ≡ state_at life marks event
+pub read_state : (life : Start) (event : ℕ) (marks : Trace) (states : List EventState) → event < count life → StatesStand life marks states → get_or states event blank ≡ state_at life marks event
 read_state life event marks states within s = get_or_from_slice_get states event (state_at life marks event) blank (s.each event within)
 
 -- The state of an event that is lent is what its marks made of it.
-pub was_state : (life : Life) (event : ℕ) (rules : EventCfg) (marks : Trace) (states lent : List EventState) → lent ≡ states → rules ≡ event_of life event → event < count life →
+pub was_state : (life : Start) (event : ℕ) (rules : EventCfg) (marks : Trace) (states lent : List EventState) → lent ≡ states → rules ≡ event_of life event → event < count life →
     StatesStand life marks states → get_or lent event blank ≡ durable (base_of life event) rules (marks_of event marks)
 was_state life event rules marks states lent is found within s =
     ap (λ xs. get_or xs event blank) is ∙ read_state life event marks states within s ∙ ap (λ k. durable (base_of life event) k (marks_of event marks)) (sym found)

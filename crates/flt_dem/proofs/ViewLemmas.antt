@@ -4,7 +4,7 @@ use Rattle.std.proofs.lemmas.List.{map-append, get_or_default}
 use Rattle.std.proofs.lemmas.Option.{unwrap_or-slice_get}
 use Rattle.std.specs.Prelude.{slice_get}
 use Rattle.flt_config.specs.Durable.{start_state}
-use Rattle.flt_model.specs.Life.{Life, History, count, event_of, no_event}
+use Rattle.flt_model.specs.Start.{Start, History, count, event_of, no_event}
 use Rattle.flt_model.specs.Debounce.{debounced, detection_counter}
 use Rattle.flt_model.specs.Durable.{below, state_at}
 use Rattle.flt_model.specs.Happening.{happenings}
@@ -29,16 +29,16 @@ map_below f g (suc n) same =
     ∙ ap (λ last. map g (below n) ++ last ∷ []) (same n (omega arith))
     ∙ sym (map-append g (below n) (n ∷ []))
 
-module _ (life : Life) (past : History) (manager : Manager) (s : StandsFor life past manager) where
+module _ (life : Start) (past : History) (manager : Manager) (s : StandsFor life past manager) where
   seen : (event : ℕ) → event < count life → event_seen manager event ≡ event_view life past (trace life past) event
   seen event within =
-      let faults = s.events.faults_stand in
-      let rules : rules_of manager event ≡ event_of life event = ap (λ k. unwrap_or (slice_get k.events.items event) no_event) (sym faults.config) in
-      let state : unwrap_or (slice_get manager.faults.states event) start_state ≡ state_at life (trace life past) event =
-      ap (λ o. unwrap_or o start_state) (faults.states_stand.each event within) in
+      let durable = s.events.durable_stands in
+      let rules : rules_of manager event ≡ event_of life event = ap (λ k. unwrap_or (slice_get k.events.items event) no_event) (sym durable.config) in
+      let state : unwrap_or (slice_get manager.durable.states event) start_state ≡ state_at life (trace life past) event =
+      ap (λ o. unwrap_or o start_state) (durable.states_stand.each event within) in
       let debouncing : unwrap_or (slice_get manager.debounces event) Idle ≡ debounced (event_of life event).debounce (happenings life event past) =
       ap (λ o. unwrap_or o Idle) (s.events.debounces_stand.each event within) in
-      let entry = entry_found life (trace life past) event manager.faults.memory.entries faults.memory_stands.entries in
+      let entry = entry_found life (trace life past) event manager.durable.memory.entries durable.memory_stands.entries in
       λ i. record {
         dtc = (rules i).dtc;
         dids = (rules i).dids.items;
@@ -52,10 +52,10 @@ module _ (life : Life) (past : History) (manager : Manager) (s : StandsFor life 
 
   pub view_told : view_of manager ≡ view life past (trace life past)
   view_told =
-      let faults = s.events.faults_stand in
-      let events = ap (λ k. map (event_seen manager) (below (length k.events.items))) (sym faults.config)
+      let durable = s.events.durable_stands in
+      let events = ap (λ k. map (event_seen manager) (below (length k.events.items))) (sym durable.config)
       ∙ map_below (event_seen manager) (event_view life past (trace life past)) (count life) seen in
       λ i. record {
         events = events i;
-        noted = λ sub. noted_at (faults.notes i) sub;
+        noted = λ sub. noted_at (durable.notes i) sub;
       }

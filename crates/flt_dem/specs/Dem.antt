@@ -12,7 +12,7 @@ state_of dem = dem.state
 
 -- Its configuration.
 abbrev pub config_of : {F : _} {g : _} → Dem F g → Config
-config_of dem = dem.state.faults.config
+config_of dem = dem.state.durable.config
 
 -- The data identifiers of its table.
 abbrev pub table_of : {F : _} {g : _} → Dem F g → List DidUse

@@ -2,7 +2,7 @@
 use Rattle.std.specs.Prelude.{◌≡◌, ◌≢◌, ℕ, ◌<◌, true, false, List, [], ◌∷◌, Option, Some, None, All, AllPairs}
 use Rattle.flt_config.specs.declared.persist.EventState.{EventState}
 use Rattle.flt_config.specs.Durable.{IsOfOtherEvent}
-use Rattle.flt_model.specs.Life.{Life, History, count, base_of, event_of}
+use Rattle.flt_model.specs.Start.{Start, History, count, base_of, event_of}
 use Rattle.flt_model.specs.Mark.{Trace, Of, marks_of}
 use Rattle.flt_model.specs.Mark.Mark.{Failed}
 use Rattle.flt_model.specs.Status.{enters}
@@ -21,7 +21,7 @@ use Rattle.flt_dem.specs.Manager.{Manager, StandsFor}
 use Rattle.flt_dem.specs.View.{view_of}
 
 -- An event is stored behind its failure.
-pub record Storing (life : Life) (event : ℕ) (signals : List ℕ) (before : Trace) (states : List EventState) (old new : Memory) (outcome : Stored) : Type 0 where
+pub record Storing (life : Start) (event : ℕ) (signals : List ℕ) (before : Trace) (states : List EventState) (old new : Memory) (outcome : Stored) : Type 0 where
   pub configured : event < count life
   pub entered : enters (base_of life event) (marks_of event before) ≡ true
   pub states_stand : StatesStand life (Of event Failed signals ∷ before) states
@@ -32,18 +32,18 @@ pub record Storing (life : Life) (event : ℕ) (signals : List ℕ) (before : Tr
 
 -- The entries after storing are those that the marks decide.
 abbrev pub StoringFollowsMarks : Type 0
-StoringFollowsMarks = (life : Life) (event : ℕ) (signals : List ℕ) (before : Trace) (states : List EventState) (old new : Memory) (outcome : Stored) →
+StoringFollowsMarks = (life : Start) (event : ℕ) (signals : List ℕ) (before : Trace) (states : List EventState) (old new : Memory) (outcome : Stored) →
     Storing life event signals before states old new outcome →
     (with_failed life signals event before ≡ with_outcome event signals outcome (Of event Failed signals ∷ before))
     × MemoryStands life (with_failed life signals event before) new
 
 -- A clear of no event, or of a DTC that none has.
-abbrev pub ClearsNothing : Life → Option ℕ → Type 0
+abbrev pub ClearsNothing : Start → Option ℕ → Type 0
 ClearsNothing life None = Unit {0}
 ClearsNothing life (Some dtc) = (dtc ≢ all_dtcs) × ((event : ℕ) → event < count life → dtc ≢ (event_of life event).dtc)
 
 -- A call in which the event manager takes no part: a show, a snapshot, a save, and a request that clears no event.
-abbrev pub IsIdle : Life → Op → Type 0
+abbrev pub IsIdle : Start → Op → Type 0
 IsIdle life (ops.Request tester bytes) = ClearsNothing life (cleared_dtc (ops.Request tester bytes))
 IsIdle life (ops.Show event) = Unit {0}
 IsIdle life ops.Snapshot = Unit {0}
@@ -52,7 +52,7 @@ IsIdle life _ = ⊥
 
 -- A manager stands for such a call more.
 abbrev pub IdleCallsChangeNothing : Type 0
-IdleCallsChangeNothing = (life : Life) (past : History) (manager : Manager) (op : Op) → IsIdle life op → StandsFor life past manager
+IdleCallsChangeNothing = (life : Start) (past : History) (manager : Manager) (op : Op) → IsIdle life op → StandsFor life past manager
     → StandsFor life (op ∷ past) manager
 
 -- No tester made a request.
@@ -67,4 +67,4 @@ SettingIsOnWithoutRequests = (past : History) → HasNoRequest past → is_setti
 
 -- What a tester may read is what the calls so far make of it.
 abbrev pub ViewIsTold : Type 0
-ViewIsTold = (life : Life) (past : History) (manager : Manager) → StandsFor life past manager → view_of manager ≡ view life past (trace life past)
+ViewIsTold = (life : Start) (past : History) (manager : Manager) → StandsFor life past manager → view_of manager ≡ view life past (trace life past)

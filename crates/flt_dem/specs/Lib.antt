@@ -1,5 +1,5 @@
 pub mod Notes
-pub mod Faults
+pub mod DurablePart
 pub mod Standing
 pub mod Debounces
 pub mod Conditions

@@ -4,7 +4,7 @@ use Rattle.flt_config.specs.declared.config.Config.{Config}
 use Rattle.flt_config.specs.declared.persist.EntryState.{EntryState}
 use Rattle.flt_config.specs.declared.persist.EventState.{EventState}
 use Rattle.flt_config.specs.Durable.{is_of_event}
-use Rattle.flt_model.specs.Life.{Life, History, no_event}
+use Rattle.flt_model.specs.Start.{Start, History, no_event}
 use Rattle.flt_model.specs.Happening.{Readiness, is_started, signals, conditions, are_met, cleared_dtc}
 use Rattle.flt_model.specs.Session.{is_setting_off}
 use Rattle.flt_model.specs.Request.{RequestBytes}
@@ -18,14 +18,14 @@ use Rattle.flt_model.specs.declared.call.DebState.{DebState}
 use Rattle.flt_model.specs.Reply.{Reply}
 use Rattle.flt_dem.specs.declared.notes.Which.{Which}
 use Rattle.flt_dem.specs.Notes.{noted_by}
-use Rattle.flt_dem.specs.Faults.{FaultsView}
+use Rattle.flt_dem.specs.DurablePart.{DurablePartView}
 use Rattle.flt_dem.specs.Standing.{notes_of}
 use Rattle.flt_dem.specs.Events.{EventsView}
 use Rattle.flt_dem.specs.Calls.{StandsAfter}
 
 -- The durable part, the debouncing of each event, which cycles are started, the signals, and which enable conditions are fulfilled.
 pub record Manager : Type 0 where
-  pub faults : FaultsView
+  pub durable : DurablePartView
   pub debounces : List DebState
   pub started : List Bool
   pub signals : List ℕ
@@ -33,10 +33,10 @@ pub record Manager : Type 0 where
 
 -- What it has of the events.
 abbrev pub events_of : Manager → EventsView
-events_of manager = record { faults = manager.faults; debounces = manager.debounces }
+events_of manager = record { durable = manager.durable; debounces = manager.debounces }
 
 -- A manager that is what the base and the calls since power-up make of it.
-pub record StandsFor (life : Life) (past : History) (manager : Manager) : Type 0 where
+pub record StandsFor (life : Start) (past : History) (manager : Manager) : Type 0 where
   pub events : StandsAfter life past (events_of manager)
   pub started : (cycle : ℕ) → cycle < 4 → slice_get manager.started cycle ≡ Some (is_started cycle past)
   pub signals : manager.signals ≡ signals past
@@ -45,12 +45,12 @@ pub record StandsFor (life : Life) (past : History) (manager : Manager) : Type 0
 -- Whether the cycle of the event was started.
 abbrev pub is_cycle_started : Manager → ℕ → Bool
 is_cycle_started manager event =
-    unwrap_or (slice_get manager.started (unwrap_or (slice_get manager.faults.config.events.items event) no_event).cycle) false
+    unwrap_or (slice_get manager.started (unwrap_or (slice_get manager.durable.config.events.items event) no_event).cycle) false
 
 -- Whether each condition is fulfilled that the event needs.
 abbrev pub is_event_enabled : Manager → ℕ → Bool
 is_event_enabled manager event =
-    are_met (unwrap_or (slice_get manager.faults.config.events.items event) no_event).needs manager.conditions
+    are_met (unwrap_or (slice_get manager.durable.config.events.items event) no_event).needs manager.conditions
 
 -- What is seen of an event before a report, where the setting is on or off.
 abbrev pub readiness_at : Bool → Manager → ℕ → Readiness
@@ -63,7 +63,7 @@ readiness_at setting manager event = record {
 -- The debouncing and the state of an event are as before.
 pub record KeepsEvent (event : ℕ) (before now : Manager) : Type 0 where
   pub debouncing : slice_get now.debounces event ≡ slice_get before.debounces event
-  pub state : slice_get now.faults.states event ≡ slice_get before.faults.states event
+  pub state : slice_get now.durable.states event ≡ slice_get before.durable.states event
 
 -- The event is not of this operation cycle.
 abbrev pub IsOfOtherCycle : Config → ℕ → ℕ → Type 0
@@ -77,44 +77,44 @@ KeepsOtherCycles config cycle old new = (event : ℕ) → IsOfOtherCycle config 
 
 -- It stands before the call, and stands with the call more after.
 abbrev pub Takes : Op → Manager → Manager → Type 0
-Takes op old new = (life : Life) (past : History) → StandsFor life past old → StandsFor life (op ∷ past) new
+Takes op old new = (life : Start) (past : History) → StandsFor life past old → StandsFor life (op ∷ past) new
 
 -- It does where the first tells whether the setting is on.
 abbrev pub TakesUnder : Bool → Op → Manager → Manager → Type 0
 TakesUnder setting op old new =
-    (life : Life) (past : History) → setting ≡ not (is_setting_off past) → StandsFor life past old → StandsFor life (op ∷ past) new
+    (life : Start) (past : History) → setting ≡ not (is_setting_off past) → StandsFor life past old → StandsFor life (op ∷ past) new
 
 -- It takes each request of a tester that clears this DTC.
-abbrev pub TakesClear : (Life → ℕ) → Manager → Manager → Type 0
+abbrev pub TakesClear : (Start → ℕ) → Manager → Manager → Type 0
 TakesClear dtc old new =
-    (life : Life) (past : History) (tester : ℕ) (bytes : RequestBytes) → cleared_dtc (ops.Request tester bytes) ≡ Some (dtc life) →
+    (life : Start) (past : History) (tester : ℕ) (bytes : RequestBytes) → cleared_dtc (ops.Request tester bytes) ≡ Some (dtc life) →
     StandsFor life past old → StandsFor life (ops.Request tester bytes ∷ past) new
 
 -- A value is what the base and the calls so far make of it.
-abbrev pub IsValueOf : {A : Type 0} → (Life → History → A) → Manager → A → Type 0
-IsValueOf told manager value = (life : Life) (past : History) → StandsFor life past manager → value ≡ told life past
+abbrev pub IsValueOf : {A : Type 0} → (Start → History → A) → Manager → A → Type 0
+IsValueOf told manager value = (life : Start) (past : History) → StandsFor life past manager → value ≡ told life past
 
 -- The reply is the answer to the call.
 abbrev pub Answers : Op → Manager → Reply → Type 0
-Answers op manager reply = (life : Life) (past : History) → StandsFor life past manager → reply ≡ answer life past op
+Answers op manager reply = (life : Start) (past : History) → StandsFor life past manager → reply ≡ answer life past op
 
 -- It is where the first tells whether the setting is on.
 abbrev pub AnswersUnder : Bool → Op → Manager → Reply → Type 0
 AnswersUnder setting op manager reply =
-    (life : Life) (past : History) → setting ≡ not (is_setting_off past) → StandsFor life past manager → reply ≡ answer life past op
+    (life : Start) (past : History) → setting ≡ not (is_setting_off past) → StandsFor life past manager → reply ≡ answer life past op
 
 -- The other events without an entry are untouched.
 abbrev pub LeavesOthers : ℕ → Manager → Manager → Type 0
-LeavesOthers event old new = (other : ℕ) → other ≢ event → find (is_of_event other) old.faults.memory.entries ≡ None → KeepsEvent other old new
+LeavesOthers event old new = (other : ℕ) → other ≢ event → find (is_of_event other) old.durable.memory.entries ≡ None → KeepsEvent other old new
 
 -- The states of the events that the calls so far make, by number.
-abbrev pub states_after : Life → History → List EventState
+abbrev pub states_after : Start → History → List EventState
 states_after life past = (saved_after life past).events.items
 
 -- The entry of an event that the calls so far make, if they make one.
-abbrev pub entry_after : ℕ → Life → History → Option EntryState
+abbrev pub entry_after : ℕ → Start → History → Option EntryState
 entry_after event life past = entry_where life event (trace life past) (has_entry life event (trace life past))
 
 -- The event that they note.
-abbrev pub noted_after : Which → Life → History → Option ℕ
+abbrev pub noted_after : Which → Start → History → Option ℕ
 noted_after which life past = noted_by which (notes_of life (trace life past))

@@ -1,7 +1,7 @@
 -- What the durable part of the event manager stands for: a base and the marks of all events behind it.
 use Rattle.std.specs.Prelude.{◌≡◌, ◌≢◌, ℕ, ◌<◌, List, ◌∷◌, length, Some, slice_get, option_map, unwrap_or}
 use Rattle.flt_config.specs.declared.persist.EventState.{EventState}
-use Rattle.flt_model.specs.Life.{Life, count}
+use Rattle.flt_model.specs.Start.{Start, count}
 use Rattle.flt_model.specs.Mark.{Trace, Of}
 use Rattle.flt_model.specs.Mark.Mark.{Displaced, Added, Refused, Clear}
 use Rattle.flt_model.specs.Durable.{state_at}
@@ -12,20 +12,20 @@ use Rattle.flt_memory.specs.Memory.{Memory}
 use Rattle.flt_memory.specs.declared.memory.Stored.{Stored}
 use Rattle.flt_memory.specs.declared.memory.Stored.TheVariants as outcomes
 use Rattle.flt_dem.specs.declared.notes.Notes.{Notes}
-use Rattle.flt_dem.specs.Faults.{FaultsView, with_memory, without_entry}
+use Rattle.flt_dem.specs.DurablePart.{DurablePartView, with_memory, without_entry}
 
 -- Each event's state is what the marks make of it.
-pub record StatesStand (life : Life) (marks : Trace) (states : List EventState) : Type 0 where
+pub record StatesStand (life : Start) (marks : Trace) (states : List EventState) : Type 0 where
   pub one_each : length states ≡ count life
   pub each : (event : ℕ) → event < count life → slice_get states event ≡ Some (state_at life marks event)
 
 -- The entries are what the marks make of them.
-pub record MemoryStands (life : Life) (marks : Trace) (memory : Memory) : Type 0 where
+pub record MemoryStands (life : Start) (marks : Trace) (memory : Memory) : Type 0 where
   pub entries : memory.entries ≡ entries life marks
   pub overflow : memory.overflow ≡ overflow life marks
 
 -- The events that the marks note.
-abbrev pub notes_of : Life → Trace → Notes
+abbrev pub notes_of : Start → Trace → Notes
 notes_of life marks = record {
   first_failed = first (is_entering_failure life) life.base.first_failed marks;
   first_confirmed = first (is_confirming_failure life) life.base.first_confirmed marks;
@@ -34,11 +34,11 @@ notes_of life marks = record {
 }
 
 -- All of it is what the marks make of it, under the life's configuration.
-pub record FaultsStand (life : Life) (marks : Trace) (faults : FaultsView) : Type 0 where
-  pub config : life.config ≡ faults.config
-  pub states_stand : StatesStand life marks faults.states
-  pub memory_stands : MemoryStands life marks faults.memory
-  pub notes : faults.notes ≡ notes_of life marks
+pub record DurablePartStands (life : Start) (marks : Trace) (durable : DurablePartView) : Type 0 where
+  pub config : life.config ≡ durable.config
+  pub states_stand : StatesStand life marks durable.states
+  pub memory_stands : MemoryStands life marks durable.memory
+  pub notes : durable.notes ≡ notes_of life marks
 
 -- The marks of what became of an event that was stored.
 abbrev pub with_outcome : ℕ → List ℕ → Stored → Trace → Trace
@@ -58,11 +58,11 @@ IsNotDisplaced event (outcomes.Displaced other) = event ≢ other
 IsNotDisplaced event _ = Unit {0}
 
 -- The durable part stands before, and stands with more marks after.
-abbrev pub Bears : (Life → Trace → Trace) → FaultsView → FaultsView → Type 0
-Bears more old new = (life : Life) (marks : Trace) → FaultsStand life marks old → FaultsStand life (more life marks) new
+abbrev pub Bears : (Start → Trace → Trace) → DurablePartView → DurablePartView → Type 0
+Bears more old new = (life : Start) (marks : Trace) → DurablePartStands life marks old → DurablePartStands life (more life marks) new
 
 -- It bears the clear of an event whatever entries it holds, where it gives up the event's.
-abbrev pub BearsClear : ℕ → FaultsView → FaultsView → Type 0
+abbrev pub BearsClear : ℕ → DurablePartView → DurablePartView → Type 0
 BearsClear event old new =
     (held : Memory) (signals : List ℕ) → Bears (λ life marks. Of event Clear signals ∷ marks) (with_memory held old)
     (with_memory (without_entry event held) new)
@@ -70,8 +70,8 @@ BearsClear event old new =
 -- The states follow what became of an event that was stored.
 abbrev pub StatesFollow : Stored → List EventState → List EventState → Type 0
 StatesFollow outcome old new =
-    (life : Life) (event : ℕ) (signals : List ℕ) (marks : Trace) → StatesStand life marks old → StatesStand life (with_outcome event signals outcome marks) new
+    (life : Start) (event : ℕ) (signals : List ℕ) (marks : Trace) → StatesStand life marks old → StatesStand life (with_outcome event signals outcome marks) new
 
 -- How often an event occurred that has an entry, and 0 without an entry.
-abbrev pub occurrence_of : ℕ → Life → Trace → ℕ
+abbrev pub occurrence_of : ℕ → Start → Trace → ℕ
 occurrence_of event life marks = unwrap_or (option_map (λ entry. entry.occurrence) (entry_where life event marks (has_entry life event marks))) 0

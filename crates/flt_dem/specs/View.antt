@@ -2,7 +2,7 @@
 use Rattle.std.specs.Prelude.{ℕ, ◌==◌, if◌then◌else◌, length, map, find, slice_get, unwrap_or, ℤ, Option}
 use Rattle.flt_config.specs.declared.config.EventCfg.{EventCfg}
 use Rattle.flt_config.specs.Durable.{start_state, is_of_event}
-use Rattle.flt_model.specs.Life.{no_event}
+use Rattle.flt_model.specs.Start.{no_event}
 use Rattle.flt_model.specs.Durable.{below}
 use Rattle.flt_model.specs.Debounce.{detection_counter}
 use Rattle.flt_model.specs.Response.{EventView, View}
@@ -12,7 +12,7 @@ use Rattle.flt_dem.specs.Manager.{Manager}
 
 -- The configuration of an event.
 abbrev pub rules_of : Manager → ℕ → EventCfg
-rules_of manager event = unwrap_or (slice_get manager.faults.config.events.items event) no_event
+rules_of manager event = unwrap_or (slice_get manager.durable.config.events.items event) no_event
 
 -- The fault detection counter of an event.
 abbrev pub counter_of : Manager → ℕ → ℤ
@@ -23,8 +23,8 @@ abbrev pub event_seen : Manager → ℕ → EventView
 event_seen manager event = record {
   dtc = (rules_of manager event).dtc;
   dids = (rules_of manager event).dids.items;
-  state = unwrap_or (slice_get manager.faults.states event) start_state;
-  entry = find (is_of_event event) manager.faults.memory.entries;
+  state = unwrap_or (slice_get manager.durable.states event) start_state;
+  entry = find (is_of_event event) manager.durable.memory.entries;
   counter = counter_of manager event;
 }
 
@@ -39,6 +39,6 @@ noted_at notes sub =
 -- All events in order of number, and which of them are noted.
 abbrev pub view_of : Manager → View
 view_of manager = record {
-  events = map (event_seen manager) (below (length manager.faults.config.events.items));
-  noted = noted_at manager.faults.notes;
+  events = map (event_seen manager) (below (length manager.durable.config.events.items));
+  noted = noted_at manager.durable.notes;
 }

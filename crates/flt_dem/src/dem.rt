@@ -4,7 +4,7 @@ ghost use Rattle.std.specs.Prelude.{◌≡◌, ◌≢◌, ◌<◌, ℕ, [], leng
 ghost use Rattle.std.proofs.Props.{props};
 ghost use Rattle.flt_config.specs.Durable.{Fits, is_of_event};
 ghost use Rattle.flt_config.specs.Validity.{has_dtc};
-ghost use Rattle.flt_model.specs.Life.{event_of, fresh};
+ghost use Rattle.flt_model.specs.Start.{event_of, fresh};
 ghost use Rattle.flt_model.specs.Happening.{all_dtcs, cause_of};
 ghost use Rattle.flt_model.specs.Answer.{report_reply};
 ghost use Rattle.flt_model.specs.Durable.{saved_after};
@@ -12,7 +12,7 @@ ghost use Rattle.flt_model.specs.declared.call.Op.TheVariants as ops;
 ghost use Rattle.flt_model.specs.declared.call.ReplyOf.TheVariants as replies;
 ghost use Rattle.flt_did.specs.Table.{dids_of};
 ghost use Rattle.flt_did.specs.Serves.{Serves};
-ghost use Rattle.flt_dem.specs.Faults.{KeepsOthers};
+ghost use Rattle.flt_dem.specs.DurablePart.{KeepsOthers};
 ghost use Rattle.flt_dem.specs.Manager.{StandsFor, KeepsEvent, IsOfOtherCycle, readiness_at};
 ghost use Rattle.flt_dem.specs.Manager.{Takes, TakesUnder, TakesClear, IsValueOf, Answers, AnswersUnder, LeavesOthers, entry_after, noted_after};
 
@@ -30,7 +30,7 @@ pub struct Dem {
     pub state: DemState,
     /// The table of data identifiers.
     pub dids: DidTable<DID_ROWS>,
-    ghost served: { Serves (dids_of dids) state.faults.config.events.items } by { Prim.hlevel props },
+    ghost served: { Serves (dids_of dids) state.durable.config.events.items } by { Prim.hlevel props },
 }
 
 impl Dem {
@@ -179,7 +179,7 @@ impl Dem {
 
     /// The entry of an event, where it has one.
     pub fn entry(&self, event: u16) -> Option<&EntryState>
-        ensures value { option_copied result ≡ find (is_of_event event) (state_of self.now).faults.memory.entries }
+        ensures value { option_copied result ≡ find (is_of_event event) (state_of self.now).durable.memory.entries }
         ensures stands { IsValueOf (entry_after event) (state_of self.now) (option_copied result) }
     {
         self.state.entry(event)
@@ -187,7 +187,7 @@ impl Dem {
 
     /// The noted event that is asked for, where there is one.
     pub fn noted(&self, which: Which) -> Option<u16>
-        ensures value { result ≡ noted_by which (state_of self.now).faults.notes }
+        ensures value { result ≡ noted_by which (state_of self.now).durable.notes }
         ensures stands { IsValueOf (noted_after which) (state_of self.now) result }
     {
         self.state.noted(which)

@@ -4,18 +4,18 @@
 ghost use Rattle.std.specs.Prelude.{◌≡◌, ◌<◌, [], length, map};
 ghost use Rattle.flt_config.specs.Durable.{Fits};
 ghost use Rattle.flt_config.specs.Validity.{IsValid};
-ghost use Rattle.flt_model.specs.Life.{fresh};
+ghost use Rattle.flt_model.specs.Start.{fresh};
 ghost use Rattle.flt_model.specs.Debounce.{debounced};
 ghost use Rattle.flt_did.specs.Table.{dids_of};
 ghost use Rattle.flt_did.specs.Serves.{Serves};
-ghost use Rattle.flt_dem.specs.Faults.{KeepsOthers, KeepsOthersWithoutEntry};
+ghost use Rattle.flt_dem.specs.DurablePart.{KeepsOthers, KeepsOthersWithoutEntry};
 ghost use Rattle.flt_dem.specs.Calls.{StandsAfter, TakeReport, TakesPartOfTicks, TakeTicks, TakesPartOfCycle, TakeCycle};
 ghost use Rattle.flt_dem.specs.Calls.{TakesPartOfClear, TakesPartOfAnyClear, TakeClearOfAll};
 ghost use Rattle.flt_dem.specs.Events.{counter_at};
 ghost use Rattle.flt_dem.specs.Manager.{KeepsOtherCycles};
 
 use crate::conditions::Conditions;
-use crate::faults::Faults;
+use crate::durable::DurablePart;
 use arrayvec::ArrayVec;
 use flt_config::{Config, EVENTS, Persist, ValidConfig};
 use flt_did::{DID_ROWS, DidTable, Signals};
@@ -25,7 +25,7 @@ use std::marker::Model;
 /// The durable part, and the debouncing of each of its events.
 #[derive(Drop)]
 pub struct Events {
-    faults: Faults,
+    durable: DurablePart,
     debounces: ArrayVec<DebState, EVENTS>,
 }
 
@@ -34,9 +34,9 @@ impl Model for Events {
 
     ghost Value = { EventsView };
 
-    ghost view = { λ e. record { faults = e.faults; debounces = e.debounces.items } };
+    ghost view = { λ e. record { durable = e.durable; debounces = e.debounces.items } };
 
-    ghost invariant = { λ e. IsOfConfig e.faults.config e.debounces.items };
+    ghost invariant = { λ e. IsOfConfig e.durable.config e.debounces.items };
 }
 
 /// The debouncing of each event at rest, as at power-up.
@@ -54,39 +54,39 @@ fn at_rest(config: &Config) -> ArrayVec<DebState, EVENTS>
 impl Events {
     /// The events of a controller that never saved a state, to which no call was made.
     pub fn new(config: ValidConfig) -> Events
-        ensures config { result.faults.config ≡ config }
+        ensures config { result.durable.config ≡ config }
         ensures stands { StandsAfter (fresh config) [] result }
     {
-        let faults = Faults::new(config);
+        let durable = DurablePart::new(config);
         Events {
-            debounces: at_rest(faults.config()),
-            faults,
+            debounces: at_rest(durable.config()),
+            durable,
         }
     }
 
     /// Takes over a saved state: what is not saved is at rest.
     pub fn restore(&mut self, base: &Persist)
-        requires { Fits self.old.faults.config base.now }
-        ensures config { self.new.faults.config ≡ self.old.faults.config }
-        ensures stands { StandsAfter (record { config = self.old.faults.config; base = base.now }) [] self.new }
+        requires { Fits self.old.durable.config base.now }
+        ensures config { self.new.durable.config ≡ self.old.durable.config }
+        ensures stands { StandsAfter (record { config = self.old.durable.config; base = base.now }) [] self.new }
     {
-        self.faults.restore(base);
-        self.debounces = at_rest(self.faults.config());
+        self.durable.restore(base);
+        self.debounces = at_rest(self.durable.config());
     }
 
     /// The durable part.
-    pub fn faults(&self) -> &Faults
-        ensures { result.now ≡ self.now.faults }
+    pub fn durable(&self) -> &DurablePart
+        ensures { result.now ≡ self.now.durable }
     {
-        &self.faults
+        &self.durable
     }
 
     /// The fault detection counter of one event.
     pub fn detection_counter(&self, event: u16) -> i8
-        requires { event < length self.now.faults.config.events.items }
+        requires { event < length self.now.durable.config.events.items }
         ensures { result ≡ counter_at self.now event }
     {
-        let rules = &self.faults.config().events[event as usize];
+        let rules = &self.durable.config().events[event as usize];
         flt_debounce::fdc(&rules.debounce, &self.debounces[event as usize])
     }
 
@@ -98,20 +98,20 @@ impl Events {
         event: u16,
         report: Report,
     )
-        requires configured { event < length self.old.faults.config.events.items }
-        requires served { Serves (dids_of dids.now) self.old.faults.config.events.items }
-        ensures config { self.new.faults.config ≡ self.old.faults.config }
+        requires configured { event < length self.old.durable.config.events.items }
+        requires served { Serves (dids_of dids.now) self.old.durable.config.events.items }
+        ensures config { self.new.durable.config ≡ self.old.durable.config }
         ensures stands { TakeReport event report signals.now.values self.old self.new }
         ensures debouncing { KeepsOthers event self.old.debounces self.new.debounces }
-        ensures states { KeepsOthersWithoutEntry event self.old.faults self.new.faults }
+        ensures states { KeepsOthersWithoutEntry event self.old.durable self.new.durable }
     {
-        let rules = &self.faults.config().events[event as usize];
+        let rules = &self.durable.config().events[event as usize];
         let qualified = flt_debounce::report(
             &rules.debounce,
             &mut self.debounces[event as usize],
             report,
         );
-        self.faults.take(dids, signals, event, qualified);
+        self.durable.take(dids, signals, event, qualified);
     }
 
     /// Lets ticks go by for one event, with the setting on. An event that needs a condition that is not fulfilled stands still.
@@ -123,19 +123,19 @@ impl Events {
         event: u16,
         ticks: u16,
     )
-        requires configured { event < length self.old.faults.config.events.items }
-        requires served { Serves (dids_of dids.now) self.old.faults.config.events.items }
-        ensures config { self.new.faults.config ≡ self.old.faults.config }
+        requires configured { event < length self.old.durable.config.events.items }
+        requires served { Serves (dids_of dids.now) self.old.durable.config.events.items }
+        ensures config { self.new.durable.config ≡ self.old.durable.config }
         ensures part { TakesPartOfTicks ticks signals.now.values conditions.now event self.old self.new }
     {
-        let rules = &self.faults.config().events[event as usize];
+        let rules = &self.durable.config().events[event as usize];
         if conditions.meet(rules.needs) {
             let qualified = flt_debounce::tick(
                 &rules.debounce,
                 &mut self.debounces[event as usize],
                 ticks,
             );
-            self.faults.take(dids, signals, event, qualified);
+            self.durable.take(dids, signals, event, qualified);
         }
     }
 
@@ -147,77 +147,77 @@ impl Events {
         conditions: &Conditions,
         ticks: u16,
     )
-        requires served { Serves (dids_of dids.now) self.old.faults.config.events.items }
-        ensures config { self.new.faults.config ≡ self.old.faults.config }
+        requires served { Serves (dids_of dids.now) self.old.durable.config.events.items }
+        ensures config { self.new.durable.config ≡ self.old.durable.config }
         ensures stands { TakeTicks ticks signals.now.values conditions.now self.old self.new }
     {
-        for event in 0..self.faults.count() {
+        for event in 0..self.durable.count() {
             self.tick_one(dids, signals, conditions, event, ticks);
         }
     }
 
     /// Ends the operation cycle of one event, where this is its cycle.
     fn end_cycle_one(&mut self, event: u16, cycle: u8)
-        requires configured { event < length self.old.faults.config.events.items }
-        ensures config { self.new.faults.config ≡ self.old.faults.config }
+        requires configured { event < length self.old.durable.config.events.items }
+        ensures config { self.new.durable.config ≡ self.old.durable.config }
         ensures part { TakesPartOfCycle cycle event self.old self.new }
-        ensures debouncing { KeepsOtherCycles self.old.faults.config cycle self.old.debounces self.new.debounces }
-        ensures states { KeepsOtherCycles self.old.faults.config cycle self.old.faults.states self.new.faults.states }
+        ensures debouncing { KeepsOtherCycles self.old.durable.config cycle self.old.debounces self.new.debounces }
+        ensures states { KeepsOtherCycles self.old.durable.config cycle self.old.durable.states self.new.durable.states }
     {
-        let rules = &self.faults.config().events[event as usize];
+        let rules = &self.durable.config().events[event as usize];
         if rules.cycle == cycle {
             self.debounces[event as usize] = flt_debounce::rest(&rules.debounce);
-            self.faults.end_cycle(event);
+            self.durable.end_cycle(event);
         }
     }
 
     /// Ends an operation cycle for each of its events.
     pub fn end_cycle(&mut self, cycle: u8)
-        ensures config { self.new.faults.config ≡ self.old.faults.config }
+        ensures config { self.new.durable.config ≡ self.old.durable.config }
         ensures stands { TakeCycle cycle self.old self.new }
-        ensures debouncing { KeepsOtherCycles self.old.faults.config cycle self.old.debounces self.new.debounces }
-        ensures states { KeepsOtherCycles self.old.faults.config cycle self.old.faults.states self.new.faults.states }
+        ensures debouncing { KeepsOtherCycles self.old.durable.config cycle self.old.debounces self.new.debounces }
+        ensures states { KeepsOtherCycles self.old.durable.config cycle self.old.durable.states self.new.durable.states }
     {
-        for event in 0..self.faults.count() {
+        for event in 0..self.durable.count() {
             self.end_cycle_one(event, cycle);
         }
     }
 
     /// Clears one event but for its entry: its debouncing is at rest, and its state is as one that was never tested.
     fn forget(&mut self, event: u16)
-        requires configured { event < length self.old.faults.config.events.items }
-        ensures config { self.new.faults.config ≡ self.old.faults.config }
-        ensures valid { IsValid self.old.faults.config }
-        ensures memory { self.new.faults.memory ≡ self.old.faults.memory }
+        requires configured { event < length self.old.durable.config.events.items }
+        ensures config { self.new.durable.config ≡ self.old.durable.config }
+        ensures valid { IsValid self.old.durable.config }
+        ensures memory { self.new.durable.memory ≡ self.old.durable.memory }
         ensures part { TakesPartOfAnyClear event self.old self.new }
         ensures debouncing { KeepsOthers event self.old.debounces self.new.debounces }
-        ensures states { KeepsOthers event self.old.faults.states self.new.faults.states }
+        ensures states { KeepsOthers event self.old.durable.states self.new.durable.states }
     {
-        let rules = &self.faults.config().events[event as usize];
+        let rules = &self.durable.config().events[event as usize];
         self.debounces[event as usize] = flt_debounce::rest(&rules.debounce);
-        self.faults.forget(event);
+        self.durable.forget(event);
     }
 
     /// Clears one event, with its entry.
     pub fn clear_one(&mut self, event: u16)
-        requires configured { event < length self.old.faults.config.events.items }
-        ensures config { self.new.faults.config ≡ self.old.faults.config }
-        ensures valid { IsValid self.old.faults.config }
+        requires configured { event < length self.old.durable.config.events.items }
+        ensures config { self.new.durable.config ≡ self.old.durable.config }
+        ensures valid { IsValid self.old.durable.config }
         ensures part { TakesPartOfClear event self.old self.new }
         ensures debouncing { KeepsOthers event self.old.debounces self.new.debounces }
-        ensures states { KeepsOthers event self.old.faults.states self.new.faults.states }
+        ensures states { KeepsOthers event self.old.durable.states self.new.durable.states }
     {
         self.forget(event);
-        self.faults.remove_entry(event);
+        self.durable.remove_entry(event);
     }
 
     /// Clears each event, and the overflow flag: the entries go first, all at once.
     pub fn clear_all(&mut self)
-        ensures config { self.new.faults.config ≡ self.old.faults.config }
+        ensures config { self.new.durable.config ≡ self.old.durable.config }
         ensures stands { TakeClearOfAll self.old self.new }
     {
-        let count = self.faults.count();
-        self.faults.remove_entries();
+        let count = self.durable.count();
+        self.durable.remove_entries();
         for event in 0..count {
             self.forget(event);
         }

@@ -8,8 +8,8 @@
 mod conditions;
 mod copies;
 mod dem;
+mod durable;
 mod events;
-mod faults;
 pub mod laws;
 mod notes;
 mod state;

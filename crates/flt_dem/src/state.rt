@@ -3,7 +3,7 @@
 ghost use Rattle.std.specs.Prelude.{◌≡◌, ◌≢◌, ◌<◌, ◌≤◌, ℕ, [], length, slice_get, slice_set, find, position, option_copied, is_some, slice_index_or, Some, None, IfSome, false};
 ghost use Rattle.flt_config.specs.Durable.{Fits, is_of_event};
 ghost use Rattle.flt_config.specs.Validity.{IsValid, has_dtc};
-ghost use Rattle.flt_model.specs.Life.{event_of, fresh};
+ghost use Rattle.flt_model.specs.Start.{event_of, fresh};
 ghost use Rattle.flt_model.specs.Happening.{all_dtcs, cause_of};
 ghost use Rattle.flt_model.specs.Answer.{report_reply};
 ghost use Rattle.flt_model.specs.Durable.{saved_after};
@@ -12,7 +12,7 @@ ghost use Rattle.flt_model.specs.declared.call.ReplyOf.TheVariants as replies;
 ghost use Rattle.flt_did.specs.Table.{dids_of};
 ghost use Rattle.flt_did.specs.Serves.{Serves};
 ghost use Rattle.flt_dem.specs.View.{counter_of};
-ghost use Rattle.flt_dem.specs.Faults.{KeepsOthers};
+ghost use Rattle.flt_dem.specs.DurablePart.{KeepsOthers};
 ghost use Rattle.flt_dem.specs.Manager.{StandsFor, KeepsEvent, IsOfOtherCycle, readiness_at};
 ghost use Rattle.flt_dem.specs.Manager.{Takes, TakesUnder, TakesClear, IsValueOf, Answers, AnswersUnder, LeavesOthers, states_after, entry_after, noted_after};
 
@@ -42,7 +42,7 @@ impl Model for DemState {
 
     ghost Value = { Manager };
 
-    ghost view = { λ d. record { faults = d.events.faults; debounces = d.events.debounces; started = d.started; signals = d.signals.values; conditions = d.conditions } };
+    ghost view = { λ d. record { durable = d.events.durable; debounces = d.events.debounces; started = d.started; signals = d.signals.values; conditions = d.conditions } };
 }
 
 impl DemState {
@@ -52,7 +52,7 @@ impl DemState {
     /// every debouncing is at rest, no cycle is started, each signal is 0 and each enable condition is
     /// fulfilled.
     pub fn make(config: ValidConfig) -> DemState
-        ensures config { result.faults.config ≡ config }
+        ensures config { result.durable.config ≡ config }
         ensures stands { StandsFor (fresh config) [] result }
     {
         DemState {
@@ -65,9 +65,9 @@ impl DemState {
 
     /// Starts again from a saved state that fits the configuration: what is not saved is at rest.
     pub fn boot(&mut self, base: &Persist)
-        requires fits { Fits self.old.faults.config base.now }
-        ensures config { self.new.faults.config ≡ self.old.faults.config }
-        ensures stands { StandsFor (record { config = self.old.faults.config; base = base.now }) [] self.new }
+        requires fits { Fits self.old.durable.config base.now }
+        ensures config { self.new.durable.config ≡ self.old.durable.config }
+        ensures stands { StandsFor (record { config = self.old.durable.config; base = base.now }) [] self.new }
     {
         self.events.restore(base);
         self.started = [false; CYCLES];
@@ -80,15 +80,15 @@ impl DemState {
         ensures saved { IsValueOf saved_after self.now out.new }
         ensures stands { Takes ops.Snapshot self.now self.now }
     {
-        self.events.faults().persist(out);
+        self.events.durable().persist(out);
     }
 
     /// The configuration, whose memory has room for the entries.
     pub fn config(&self) -> &ValidConfig
-        ensures value { result.now ≡ self.now.faults.config }
-        ensures room { length self.now.faults.memory.entries ≤ result.now.memory }
+        ensures value { result.now ≡ self.now.durable.config }
+        ensures room { length self.now.durable.memory.entries ≤ result.now.memory }
     {
-        self.events.faults().valid_config()
+        self.events.durable().valid_config()
     }
 
     /// Sets a signal, of the number 0 to 7.
@@ -111,11 +111,11 @@ impl DemState {
 
     /// Why a report of an event is ignored, in view of whether the setting is on.
     fn cause(&self, event: u16, setting: bool) -> Option<Cause>
-        requires { event < length self.now.faults.config.events.items }
-        ensures valid { IsValid self.now.faults.config }
+        requires { event < length self.now.durable.config.events.items }
+        ensures valid { IsValid self.now.durable.config }
         ensures cause { result ≡ cause_of (readiness_at setting self.now event) }
     {
-        let rules = &self.events.faults().config().events[event as usize];
+        let rules = &self.events.durable().config().events[event as usize];
         if !setting {
             Some(Cause::SettingOff)
         } else if !self.started[rules.cycle as usize] {
@@ -138,9 +138,9 @@ impl DemState {
         report: Report,
         setting: bool,
     ) -> Option<Cause>
-        requires configured { event < length self.old.faults.config.events.items }
-        requires served { Serves (dids_of dids.now) self.old.faults.config.events.items }
-        ensures config { self.new.faults.config ≡ self.old.faults.config }
+        requires configured { event < length self.old.durable.config.events.items }
+        requires served { Serves (dids_of dids.now) self.old.durable.config.events.items }
+        ensures config { self.new.durable.config ≡ self.old.durable.config }
         ensures ignored { result ≡ cause_of (readiness_at setting self.old event) }
         ensures unchanged { IfSome result (λ _. self.new ≡ self.old) }
         ensures debouncing { KeepsOthers event self.old.debounces self.new.debounces }
@@ -160,8 +160,8 @@ impl DemState {
     /// Lets ticks of 10 ms go by, in view of whether the setting is on: with the setting off
     /// nothing changes, and else each event ticks that is enabled, in order of number.
     pub fn tick(&mut self, dids: &DidTable<DID_ROWS>, ticks: u16, setting: bool)
-        requires served { Serves (dids_of dids.now) self.old.faults.config.events.items }
-        ensures config { self.new.faults.config ≡ self.old.faults.config }
+        requires served { Serves (dids_of dids.now) self.old.durable.config.events.items }
+        ensures config { self.new.durable.config ≡ self.old.durable.config }
         ensures unchanged { setting ≡ false → self.new ≡ self.old }
         ensures stands { TakesUnder setting (ops.Tick ticks) self.old self.new }
     {
@@ -175,9 +175,9 @@ impl DemState {
     /// starts the next. An event that ages by it gives up its entry.
     pub fn cycle(&mut self, cycle: u8)
         requires { cycle < 4 }
-        ensures config { self.new.faults.config ≡ self.old.faults.config }
+        ensures config { self.new.durable.config ≡ self.old.durable.config }
         ensures stands { Takes (ops.Cycle cycle) self.old self.new }
-        ensures others { (event : ℕ) → IsOfOtherCycle self.old.faults.config cycle event → KeepsEvent event self.old self.new }
+        ensures others { (event : ℕ) → IsOfOtherCycle self.old.durable.config cycle event → KeepsEvent event self.old self.new }
     {
         self.events.end_cycle(cycle);
         self.started[cycle as usize] = true;
@@ -187,7 +187,7 @@ impl DemState {
     /// 0x14): each is as one that was never tested, there is no entry and no note, and the overflow
     /// flag is taken back.
     pub fn clear_all(&mut self)
-        ensures config { self.new.faults.config ≡ self.old.faults.config }
+        ensures config { self.new.durable.config ≡ self.old.durable.config }
         ensures stands { TakesClear (λ _. all_dtcs) self.old self.new }
     {
         self.events.clear_all();
@@ -196,8 +196,8 @@ impl DemState {
     /// Clears one event, as a tester's request for its DTC does: it is as one that was never tested,
     /// without an entry, and the notes that name it are none. The overflow flag stays.
     pub fn clear_one(&mut self, event: u16)
-        requires { event < length self.old.faults.config.events.items }
-        ensures config { self.new.faults.config ≡ self.old.faults.config }
+        requires { event < length self.old.durable.config.events.items }
+        ensures config { self.new.durable.config ≡ self.old.durable.config }
         ensures stands { TakesClear (λ life. (event_of life event).dtc) self.old self.new }
         ensures others { (other : ℕ) → other ≢ event → KeepsEvent other self.old self.new }
     {
@@ -206,32 +206,32 @@ impl DemState {
 
     /// The event that has a DTC, where one has.
     pub fn find(&self, dtc: u32) -> Option<u16>
-        ensures { result ≡ position (has_dtc dtc) self.now.faults.config.events.items }
+        ensures { result ≡ position (has_dtc dtc) self.now.durable.config.events.items }
     {
-        self.events.faults().find(dtc)
+        self.events.durable().find(dtc)
     }
 
     /// The durable state of an event.
     pub fn state(&self, event: u16) -> EventState
-        requires { event < length self.now.faults.config.events.items }
-        ensures { slice_get self.now.faults.states event ≡ Some result }
+        requires { event < length self.now.durable.config.events.items }
+        ensures { slice_get self.now.durable.states event ≡ Some result }
     {
-        self.events.faults().state(event)
+        self.events.durable().state(event)
     }
 
     /// The durable states of all events, by number.
     pub fn states(&self) -> &[EventState]
-        ensures value { result.now ≡ self.now.faults.states }
-        ensures one_each { length result.now ≡ length self.now.faults.config.events.items }
+        ensures value { result.now ≡ self.now.durable.states }
+        ensures one_each { length result.now ≡ length self.now.durable.config.events.items }
         ensures few { length result.now ≤ EVENTS }
         ensures stands { IsValueOf states_after self.now result.now }
     {
-        self.events.faults().states()
+        self.events.durable().states()
     }
 
     /// The fault detection counter of an event, from -128 (passed) to 127 (failed).
     pub fn detection_counter(&self, event: u16) -> i8
-        requires { event < length self.now.faults.config.events.items }
+        requires { event < length self.now.durable.config.events.items }
         ensures { result ≡ counter_of self.now event }
     {
         self.events.detection_counter(event)
@@ -239,42 +239,42 @@ impl DemState {
 
     /// What is shown of an event. To show it changes nothing.
     pub fn show(&self, event: u16) -> Shown
-        requires { event < length self.now.faults.config.events.items }
+        requires { event < length self.now.durable.config.events.items }
         ensures answer { Answers (ops.Show event) self.now (replies.Shown result) }
         ensures stands { Takes (ops.Show event) self.now self.now }
     {
-        let faults = self.events.faults();
-        let state = faults.state(event);
+        let durable = self.events.durable();
+        let state = durable.state(event);
         Shown {
             status: state.status,
             fdc: self.events.detection_counter(event),
             failed: state.failed,
             clean: state.clean,
-            stored: faults.occurrence(event),
-            overflow: faults.overflow(),
+            stored: durable.occurrence(event),
+            overflow: durable.overflow(),
         }
     }
 
     /// The entry of an event, where it has one.
     pub fn entry(&self, event: u16) -> Option<&EntryState>
-        ensures value { option_copied result ≡ find (is_of_event event) self.now.faults.memory.entries }
+        ensures value { option_copied result ≡ find (is_of_event event) self.now.durable.memory.entries }
         ensures stands { IsValueOf (entry_after event) self.now (option_copied result) }
     {
-        self.events.faults().entry(event)
+        self.events.durable().entry(event)
     }
 
     /// Which events have an entry, by their numbers, found in one walk over the entries.
     pub fn stored(&self) -> [bool; EVENTS]
-        ensures { (event : ℕ) → event < EVENTS → slice_index_or result event false ≡ is_some (find (is_of_event event) self.now.faults.memory.entries) }
+        ensures { (event : ℕ) → event < EVENTS → slice_index_or result event false ≡ is_some (find (is_of_event event) self.now.durable.memory.entries) }
     {
-        self.events.faults().stored()
+        self.events.durable().stored()
     }
 
     /// The noted event that is asked for, where there is one.
     pub fn noted(&self, which: Which) -> Option<u16>
-        ensures value { result ≡ noted_by which self.now.faults.notes }
+        ensures value { result ≡ noted_by which self.now.durable.notes }
         ensures stands { IsValueOf (noted_after which) self.now result }
     {
-        self.events.faults().noted(which)
+        self.events.durable().noted(which)
     }
 }

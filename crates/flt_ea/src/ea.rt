@@ -140,7 +140,7 @@ impl<E: Eeprom> Ea<E> {
 
     // Gives a block of a driver that is not stale these bytes, or makes it invalid.
     fn store(&mut self, block: u16, bytes: &[u8], valid: bool) -> Result<(), BlockFault>
-        requires settled { IsFalse (uncounted_of E.state self.old).is_stale }
+        requires not_stale { IsFalse (uncounted_of E.state self.old).is_stale }
         requires number { Contains (uncounted_of E.state self.old).numbers block }
         requires most { length bytes.now ≤ 128 }
         requires length { is_length valid (length bytes.now) ≡ true }
@@ -193,7 +193,7 @@ impl<E: Eeprom> Ea<E> {
 
     // Reads a block of a driver that is not stale.
     fn find(&mut self, block: u16, out: &mut [u8; 128]) -> Result<Found, BlockFault>
-        requires settled { IsFalse (uncounted_of E.state self.old).is_stale }
+        requires not_stale { IsFalse (uncounted_of E.state self.old).is_stale }
         requires number { Contains (uncounted_of E.state self.old).numbers block }
         ensures found { IfOk result (λ found. ReadsContent ((uncounted_of E.state self.old).value block) found out.old out.new) }
         ensures nothing { OnErr result (out.new ≡ out.old) }

@@ -9,7 +9,7 @@ use Rattle.flt_config.specs.declared.persist.Persist.{Persist}
 use Rattle.flt_flash.specs.State.{HasRisenBy}
 use Rattle.flt_flash.specs.declared.blocks.Blocks.{Ghosts}
 use Rattle.flt_generation.specs.Holding.{Generation}
-use Rattle.flt_model.specs.Life.{Life}
+use Rattle.flt_model.specs.Start.{Start}
 use Rattle.flt_queue.specs.declared.job.QueueOp.{QueueOp}
 use Rattle.flt_queue.specs.Call as queued
 use Rattle.flt_script.specs.declared.step.Step.{Step}
@@ -64,28 +64,28 @@ pub same_blocks : (c d : Config) → c ≡ d → c.blocks ≡ d.blocks
 same_blocks c d same = ap (λ (k : Config). k.blocks) same
 
 -- The journals of a life, which have no more calls of saves and of drains than its deeds.
-pub record HasEnded (start : Life) (parts : List (PartOf Step)) (own : List Told) (lanes : List (List Told)) (journal : Journal) (queue : List (Entry QueueOp)) : Type 0 where
+pub record HasEnded (start : Start) (parts : List (PartOf Step)) (own : List Told) (lanes : List (List Told)) (journal : Journal) (queue : List (Entry QueueOp)) : Type 0 where
   pub life : IsLife start parts own lanes journal queue
   pub saves : saves_in journal ≤ saves_of (reverse (deeds_in parts own lanes))
   pub drains : drains_in queue ≤ drains_of (reverse (deeds_in parts own lanes))
 
-ended_by : (start : Life) (parts : List (PartOf Step)) (own : List Told) (lanes : List (List Told)) (journal : Journal) (queue : List (Entry QueueOp)) → IsLife start parts own lanes journal queue → HasEnded start parts own lanes journal queue
+ended_by : (start : Start) (parts : List (PartOf Step)) (own : List Told) (lanes : List (List Told)) (journal : Journal) (queue : List (Entry QueueOp)) → IsLife start parts own lanes journal queue → HasEnded start parts own lanes journal queue
 ended_by start parts own lanes journal queue life = record {
   life = life;
   saves = life_saves reply_after start parts own lanes journal life.dem;
   drains = life_drains queued.reply_after start.config.blocks parts own lanes queue life.jobs;
 }
 
-life_by : (start : Life) (main after : Seat) (jobs jobs_after : QueueSeat) (parts : List (PartOf Step)) (own : List Told) (lanes : List (List Told)) (journal : Journal) (queue : List (Entry QueueOp))
+life_by : (start : Start) (main after : Seat) (jobs jobs_after : QueueSeat) (parts : List (PartOf Step)) (own : List Told) (lanes : List (List Told)) (journal : Journal) (queue : List (Entry QueueOp))
     → main ≡ main_seat main.lock main.start main.left → jobs ≡ main_seat jobs.lock jobs.start jobs.left → main.start ≡ start → jobs.start ≡ start.config.blocks
     → HaveRunParts main after jobs jobs_after parts own lanes → CouldClose after journal → CouldClose jobs_after queue → IsLife start parts own lanes journal queue
 life_by start main after jobs jobs_after parts own lanes journal queue fresh jobs_fresh begins blocks ran whole jobs_whole = record {
-  dem = subst (λ (s : Life). IsMade StepMakes reply_after s parts own lanes journal) begins (made_of reply_after StepMakes main after parts own lanes journal fresh ran.dem whole);
+  dem = subst (λ (s : Start). IsMade StepMakes reply_after s parts own lanes journal) begins (made_of reply_after StepMakes main after parts own lanes journal fresh ran.dem whole);
   jobs = subst (λ n. IsMade StepQueues queued.reply_after n parts own lanes queue) blocks (made_of queued.reply_after StepQueues jobs jobs_after parts own lanes queue jobs_fresh ran.queue jobs_whole);
 }
 
 -- Both journals turned twice.
-pub turned_life : (start : Life) (parts : List (PartOf Step)) (own : List Told) (lanes : List (List Told)) (journal : Journal) (queue : List (Entry QueueOp)) → IsLife start parts own lanes journal queue
+pub turned_life : (start : Start) (parts : List (PartOf Step)) (own : List Told) (lanes : List (List Told)) (journal : Journal) (queue : List (Entry QueueOp)) → IsLife start parts own lanes journal queue
     → IsLife start parts own lanes (reverse (reverse journal)) (reverse (reverse queue))
 turned_life start parts own lanes journal queue life =
     subst (λ j. IsLife start parts own lanes j (reverse (reverse queue))) (sym (reverse-reverse journal)) (subst (λ q. IsLife start parts own lanes journal q) (sym (reverse-reverse queue)) life)

@@ -85,7 +85,7 @@ impl<F: Flash> Fee<F> {
 
     // Appends a record behind the log, where it fits.
     fn append(&mut self, block: u16, bytes: &[u8], valid: bool) -> Result<(), BlockFault>
-        requires settled { IsFalse (uncounted_of F.state self.old).is_stale }
+        requires not_stale { IsFalse (uncounted_of F.state self.old).is_stale }
         requires number { Contains (uncounted_of F.state self.old).numbers block }
         requires most { length bytes.now ≤ 128 }
         requires length { is_length valid (length bytes.now) ≡ true }
@@ -224,7 +224,7 @@ impl<F: Flash> Fee<F> {
 
     // Makes the other sector the current one, with a copy of all that the blocks hold.
     fn switch(&mut self) -> Result<(), BlockFault>
-        requires settled { IsFalse (uncounted_of F.state self.old).is_stale }
+        requires not_stale { IsFalse (uncounted_of F.state self.old).is_stale }
         requires next { self.old.sequence + 1 < 2 ^ 32 }
         requires room { 2 + live_pages (uncounted_of F.state self.old) ≤ self.old.used }
         ensures room { OnOk result (self.new.end ≤ 2 + live_pages (uncounted_of F.state self.old)) }
@@ -259,7 +259,7 @@ impl<F: Flash> Fee<F> {
 
     // Makes room behind the log for a record of this length, by a switch where it does not fit.
     fn make_room(&mut self, block: u16, size: u16) -> Result<(), BlockFault>
-        requires settled { IsFalse (uncounted_of F.state self.old).is_stale }
+        requires not_stale { IsFalse (uncounted_of F.state self.old).is_stale }
         requires most { size ≤ 128 }
         ensures answers { AnswersBy (refusal (uncounted_of F.state self.old) block size) result }
         ensures room { OnOk result (self.new.end + record_pages size ≤ self.new.used) }
@@ -290,7 +290,7 @@ impl<F: Flash> Fee<F> {
 
     // Gives a block of a driver that is not stale these bytes, or makes it invalid.
     fn store(&mut self, block: u16, bytes: &[u8], valid: bool) -> Result<(), BlockFault>
-        requires settled { IsFalse (uncounted_of F.state self.old).is_stale }
+        requires not_stale { IsFalse (uncounted_of F.state self.old).is_stale }
         requires number { Contains (uncounted_of F.state self.old).numbers block }
         requires most { length bytes.now ≤ 128 }
         requires length { is_length valid (length bytes.now) ≡ true }
@@ -330,7 +330,7 @@ impl<F: Flash> Fee<F> {
 
     // The place of a block's current record, if it has one.
     fn place(&self, block: u16) -> Option<RecordPlace>
-        requires settled { IsFalse (uncounted_of F.state self.now).is_stale }
+        requires not_stale { IsFalse (uncounted_of F.state self.now).is_stale }
         requires number { Contains (uncounted_of F.state self.now).numbers block }
         ensures { IsAt (sector_at (F.state self.now.flash).image self.now.sector) self.now.used ((uncounted_of F.state self.now).value block) result }
     {
@@ -339,7 +339,7 @@ impl<F: Flash> Fee<F> {
 
     // Reads a block of a driver that is not stale.
     fn find(&mut self, block: u16, out: &mut [u8; 128]) -> Result<Found, BlockFault>
-        requires settled { IsFalse (uncounted_of F.state self.old).is_stale }
+        requires not_stale { IsFalse (uncounted_of F.state self.old).is_stale }
         requires number { Contains (uncounted_of F.state self.old).numbers block }
         ensures found { IfOk result (λ found. ReadsContent ((uncounted_of F.state self.old).value block) found out.old out.new) }
         ensures nothing { OnErr result (out.new ≡ out.old) }
@@ -362,7 +362,7 @@ impl<F: Flash> Fee<F> {
 
     // Reads the record at a place.
     fn take(&mut self, place: RecordPlace, out: &mut [u8; 128]) -> Result<Found, BlockFault>
-        requires settled { IsFalse (uncounted_of F.state self.old).is_stale }
+        requires not_stale { IsFalse (uncounted_of F.state self.old).is_stale }
         requires within { IsPlaceWithin self.old.used place }
         ensures found { IfOk result (λ found. ReadsContent (asked_of place.valid
             (bytes_at (sector_at (F.state self.old.flash).image self.old.sector) place)) found out.old out.new) }
@@ -492,7 +492,7 @@ impl<F: Bench> Blocks for Fee<F> {
         ensures calls { Calls (state_of F.state self.old) (state_of F.state self.new) result }
         ensures once { CountsCall (state_of F.state self.old) (state_of F.state self.new) }
         ensures never_full { NeverFull result }
-        ensures settled { OnOk result (IsFalse (state_of F.state self.new).is_stale) }
+        ensures not_stale { OnOk result (IsFalse (state_of F.state self.new).is_stale) }
         ensures stale { IsFalse (state_of F.state self.old).is_stale → IsFalse (state_of F.state self.new).is_stale }
 
         // A driver that is not stale looks at no log: it reads the pages of the record's bytes alone, and writes nothing.

@@ -1,22 +1,22 @@
 -- What the saved boots of a device in memory are.
 use Rattle.std.specs.Prelude.{◌≡◌, ◌<◌, ◌≤◌, ◌*◌, ℕ, List, [], ◌∷◌, take, drop, length, slice_index_or, vec_capacity}
-use Rattle.flt_flash.specs.State.{Boot}
+use Rattle.flt_flash.specs.State.{PowerUp}
 use Rattle.flt_flash.specs.declared.boot.SavedBoot.{SavedBoot}
 
 -- The boot that was saved of a device of one sector.
-abbrev pub one_sector : SavedBoot → Boot
+abbrev pub one_sector : SavedBoot → PowerUp
 one_sector saved = record { faults = saved.faults; image = saved.pages.items ∷ [] }
 
 -- The boot that was saved of a device of two sectors of this many pages.
-abbrev pub two_sectors : ℕ → SavedBoot → Boot
+abbrev pub two_sectors : ℕ → SavedBoot → PowerUp
 two_sectors pages saved = record { faults = saved.faults; image = take pages saved.pages.items ∷ drop pages saved.pages.items ∷ [] }
 
 -- No boot: no fault, and an image of no sectors.
-abbrev pub no_boot : Boot
+abbrev pub no_boot : PowerUp
 no_boot = record { faults = 0; image = [] }
 
 -- The boot of this number in a list of boots, from 0.
-abbrev pub boot_at : List Boot → ℕ → Boot
+abbrev pub boot_at : List PowerUp → ℕ → PowerUp
 boot_at boots number = slice_index_or boots number no_boot
 
 -- A saved boot has room for this many pages.

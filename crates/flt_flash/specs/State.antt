@@ -27,13 +27,13 @@ abbrev pub erases_of : List ℕ → ℕ
 erases_of wear = as_counted (slice_index_or wear 0 0) + as_counted (slice_index_or wear 1 0)
 
 -- A power-up: the count of faults and the image at its moment.
-pub record Boot : Type 0 where
+pub record PowerUp : Type 0 where
   pub faults : ℕ
   pub image : List (List (List ℕ))
 
 -- What a bench keeps: the boots, the arms made where they are told, and how many arms stand.
 pub record BenchState : Type 0 where
-  pub boots : List Boot
+  pub boots : List PowerUp
   pub boots_left : ℕ
   pub arms : Option (List ArmMade)
   pub armed : ℕ

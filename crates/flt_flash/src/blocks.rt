@@ -87,7 +87,7 @@ pub trait Blocks {
         ensures spent { SameSpent (state self.old) (state self.new) }
 
         // A read that fails leaves a driver that was not stale as it was.
-        ensures settled { OnOk result (IsFalse (state self.new).is_stale) }
+        ensures not_stale { OnOk result (IsFalse (state self.new).is_stale) }
         ensures stale { IsFalse (state self.old).is_stale → IsFalse (state self.new).is_stale }
 
         // Such a driver reads the pages of the block's bytes alone, and writes nothing.
@@ -96,7 +96,7 @@ pub trait Blocks {
 
     /// What a read of a block would find, without its bytes. It makes no operation of the device.
     fn look_up(&self, block: u16) -> Found
-        requires settled { IsFalse (state self.now).is_stale }
+        requires not_stale { IsFalse (state self.now).is_stale }
         requires number { Contains (state self.now).numbers block }
         ensures { result ≡ found_of ((state self.now).value block) };
 

@@ -10,7 +10,7 @@ use Rattle.flt_flash.specs.Content.{Content, missing, invalid}
 use Rattle.flt_flash.specs.Content as content
 use Rattle.flt_flash.specs.Blocks.{device_of}
 use Rattle.flt_flash.specs.Memory.{state_of}
-use Rattle.flt_flash.specs.State.{Boot as PowerUp}
+use Rattle.flt_flash.specs.State.{PowerUp}
 use Rattle.flt_flash.specs.declared.arm.ArmMade.{ArmMade}
 use Rattle.flt_flash.specs.declared.memory.FlashMem.{FlashMem}
 use Rattle.flt_config.proofs.InitialFits.{initial_fits}

@@ -4,7 +4,7 @@ use Rattle.std.proofs.lemmas.List.{append-nil, append_assoc, reverse-append}
 use Rattle.std.proofs.lemmas.List.Elements.{All-head, All-tail}
 use Rattle.flt_config.specs.declared.config.Config.{Config}
 use Rattle.flt_config.specs.declared.persist.Persist.{Persist}
-use Rattle.flt_model.specs.Life.{Life}
+use Rattle.flt_model.specs.Start.{Start}
 use Rattle.flt_model.specs.Durable.{saved_after}
 use Rattle.flt_model.specs.declared.call.Op.{Op}
 use Rattle.flt_model.specs.declared.call.Op.TheVariants as ops
@@ -22,7 +22,7 @@ use Rattle.flt_lives.specs.Living.{IsKeptSince}
 
 -- ---- a call of a step acknowledges nothing and takes nothing
 
-acknowledged_call : (start : Life) (lane : ℕ) (earlier : Journal) (op : Op) (g : Generation) (before : Type 0) → IsStepCall op → before → AcknowledgesBy start lane earlier op g before
+acknowledged_call : (start : Start) (lane : ℕ) (earlier : Journal) (op : Op) (g : Generation) (before : Type 0) → IsStepCall op → before → AcknowledgesBy start lane earlier op g before
 acknowledged_call start lane earlier (ops.Signal index value) g before is was = was
 acknowledged_call start lane earlier (ops.Enable condition fulfilled) g before is was = was
 acknowledged_call start lane earlier (ops.Report event report) g before is was = was
@@ -33,7 +33,7 @@ acknowledged_call start lane earlier (ops.Show event) g before is was = was
 acknowledged_call start lane earlier ops.Snapshot g before is was = was
 acknowledged_call start lane earlier (ops.Saved number) g before is was = absurd is
 
-taken_call : (start : Life) (earlier : Journal) (op : Op) (state : Persist) (before : Type 0) → IsStepCall op → before → TakesBy start earlier op state before
+taken_call : (start : Start) (earlier : Journal) (op : Op) (state : Persist) (before : Type 0) → IsStepCall op → before → TakesBy start earlier op state before
 taken_call start earlier (ops.Signal index value) state before is was = was
 taken_call start earlier (ops.Enable condition fulfilled) state before is was = was
 taken_call start earlier (ops.Report event report) state before is was = was
@@ -44,7 +44,7 @@ taken_call start earlier (ops.Show event) state before is was = was
 taken_call start earlier ops.Snapshot state before is was = absurd is
 taken_call start earlier (ops.Saved number) state before is was = absurd is
 
-snapshot_call : (start : Life) (lane number : ℕ) (earlier : Journal) (op : Op) → IsStepCall op → snapshot_of start number (entry lane op ∷ earlier) ≡ snapshot_of start number earlier
+snapshot_call : (start : Start) (lane number : ℕ) (earlier : Journal) (op : Op) → IsStepCall op → snapshot_of start number (entry lane op ∷ earlier) ≡ snapshot_of start number earlier
 snapshot_call start lane number earlier (ops.Signal index value) is = refl
 snapshot_call start lane number earlier (ops.Enable condition fulfilled) is = refl
 snapshot_call start lane number earlier (ops.Report event report) is = refl
@@ -60,14 +60,14 @@ pub pushed : (journal : Journal) (e : Entry Op) → reverse (journal ++ e ∷ []
 pushed journal e = reverse-append journal (e ∷ [])
 
 -- The calls of steps behind a journal leave its last snapshot.
-pub snapshot_further : (start : Life) (number : ℕ) (journal entries : Journal) → All (λ (e : Entry Op). IsStepCall e.op) entries → snapshot_of start number (reverse (journal ++ entries)) ≡ snapshot_of start number (reverse journal)
+pub snapshot_further : (start : Start) (number : ℕ) (journal entries : Journal) → All (λ (e : Entry Op). IsStepCall e.op) entries → snapshot_of start number (reverse (journal ++ entries)) ≡ snapshot_of start number (reverse journal)
 snapshot_further start number journal [] are = ap (λ j. snapshot_of start number (reverse j)) (append-nil journal)
 snapshot_further start number journal (e ∷ entries) are =
     ap (λ j. snapshot_of start number (reverse j)) (sym (append_assoc journal (e ∷ []) entries))
     ∙ snapshot_further start number (journal ++ e ∷ []) entries (All-tail (λ (e : Entry Op). IsStepCall e.op) e entries are)
     ∙ ap (snapshot_of start number) (pushed journal e) ∙ snapshot_call start e.lane number (reverse journal) e.op (All-head (λ (e : Entry Op). IsStepCall e.op) e entries are)
 
-module _ (start : Life) (journal : Journal) (told : List Told) (last : Generation) where
+module _ (start : Start) (journal : Journal) (told : List Told) (last : Generation) where
   left_entry : (lane : ℕ) (op : Op) (g : Generation) → IsStepCall op → IsLeft start journal told last g → IsLeft start (entry lane op ∷ journal) told last g
   left_entry lane op g is = ⊎_elim (λ same. inl same) (λ (more : IsUnacknowledged start journal told last g). inr record { past = more.past; most = more.most; taken = taken_call start journal op g.state _ is more.taken })
 
@@ -105,7 +105,7 @@ IsNoSave answers.NoBlock = Unit {0}
 IsNoSave answers.BlockFlash = Unit {0}
 IsNoSave _ = ⊥
 
-left_beside : (start : Life) (journal : Journal) (told more : List Told) (last g : Generation) → failures more ≡ failures told → IsLeft start journal told last g → IsLeft start journal more last g
+left_beside : (start : Start) (journal : Journal) (told more : List Told) (last g : Generation) → failures more ≡ failures told → IsLeft start journal told last g → IsLeft start journal more last g
 left_beside start journal told more last g same =
     ⊎_elim (λ is. inl is) (λ (left : IsUnacknowledged start journal told last g). inr record { past = left.past; most = (let most = left.most in omega (arith, most, same)); taken = left.taken })
 

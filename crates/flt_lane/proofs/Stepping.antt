@@ -9,7 +9,7 @@ use Rattle.flt_config.specs.Durable.{Fits}
 use Rattle.flt_config.specs.Validity.{IsValid}
 use Rattle.flt_dcm.specs.ReplyKind.{ReplyKind, reply_with}
 use Rattle.flt_model.specs.declared.TheConstants.{RESPONSE}
-use Rattle.flt_model.specs.Life.{Life, History}
+use Rattle.flt_model.specs.Start.{Start, History}
 use Rattle.flt_model.specs.Answer.{answer}
 use Rattle.flt_model.specs.Durable.{saved_after}
 use Rattle.flt_model.proofs.SavedFits.{saved_states_fit}
@@ -78,17 +78,17 @@ saved_made before mid number taken noted after first second = record {
 }
 
 -- What a snapshot takes fits.
-pub taken_fits : (c : Config) (start : Life) (past : History) (state : Persist) → start.config ≡ c → IsValid c → Fits c start.base → state ≡ saved_after start past → Fits c state
+pub taken_fits : (c : Config) (start : Start) (past : History) (state : Persist) → start.config ≡ c → IsValid c → Fits c start.base → state ≡ saved_after start past → Fits c state
 taken_fits c start past state same valid fits is =
     subst (Fits c) (sym is) (subst (λ k. Fits k (saved_after start past)) same (saved_states_fit start past (subst IsValid (sym same) valid) (subst (λ k. Fits k start.base) (sym same) fits)))
 
 -- ---- a response is an answer to a request alone
 
-pub size_of_answer : (start : Life) (past : History) (op : Op) (reply : Reply) → reply ≡ answer start past op → reply_size reply ≤ RESPONSE → reply_size reply ≤ response_size (action.Call op)
+pub size_of_answer : (start : Start) (past : History) (op : Op) (reply : Reply) → reply ≡ answer start past op → reply_size reply ≤ RESPONSE → reply_size reply ≤ response_size (action.Call op)
 size_of_answer start past (ops.Request tester bytes) reply is most = most
 size_of_answer start past op reply is most = let size = ap reply_size is ∙ answer_size start past op (λ tester. tester) in omega (arith, size)
 
-pub size_of_told : (start : Life) (past : History) (op : Op) (kind : ReplyKind) (bytes : List ℕ) → reply_with kind bytes ≡ answer start past op → length bytes ≤ RESPONSE → reply_size (reply_with kind bytes) ≤ response_size (action.Call op)
+pub size_of_told : (start : Start) (past : History) (op : Op) (kind : ReplyKind) (bytes : List ℕ) → reply_with kind bytes ≡ answer start past op → length bytes ≤ RESPONSE → reply_size (reply_with kind bytes) ≤ response_size (action.Call op)
 size_of_told start past op kind bytes is most = size_of_answer start past op (reply_with kind bytes) is (size_most kind bytes most)
 
 -- ---- calls of the queue

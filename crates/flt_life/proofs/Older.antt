@@ -3,12 +3,12 @@ use Rattle.std.proofs.Common.{◌≡◌, ⊎_elim, ℕ, ◌≤◌, List, [], ◌
 use Rattle.std.specs.Prelude.{Result}
 use Rattle.flt_flash.specs.declared.arm.ArmMade.{ArmMade}
 use Rattle.flt_flash.specs.Content.{Content}
-use Rattle.flt_flash.specs.State.{Boot as PowerUp}
+use Rattle.flt_flash.specs.State.{PowerUp}
 use Rattle.flt_config.specs.declared.config.Config.{Config}
 use Rattle.flt_generation.specs.declared.place.Place.TheVariants.{Page, Block}
 use Rattle.flt_generation.specs.Holding.{Generation, Fault, IsSound, held, spare}
 use Rattle.flt_generation.specs.Laws.{IsGiven, HeldStands, SpareStands}
-use Rattle.flt_model.specs.Life.{Life}
+use Rattle.flt_model.specs.Start.{Start}
 use Rattle.flt_model.specs.declared.call.Op.{Op}
 use Rattle.flt_model.specs.declared.call.Op.TheVariants as ops
 use Rattle.flt_restore.specs.declared.fault.StartFault.{StartFault}
@@ -40,7 +40,7 @@ number_in_less : (journal : Journal) (few many : ℕ) → few ≤ many → numbe
 number_in_less [] few many less = less
 number_in_less (e ∷ earlier) few many less = number_by_less e.op (number_in earlier few) (number_in earlier many) (number_in_less earlier few many less)
 
-module _ (start : Life) (first g : Generation) where
+module _ (start : Start) (first g : Generation) where
   -- What a journal acknowledges last has the number that it names last.
   acknowledged_number : (journal : Journal) → Acknowledges start first journal g → g.number ≡ number_in journal first.number
   acknowledged_number [] is = ap (λ (generation : Generation). generation.number) is
@@ -58,7 +58,7 @@ module _ (start : Life) (first g : Generation) where
       by_op ops.Snapshot before by = before by
       by_op (ops.Saved number) before by = by.0
 
-left_no_older : (start : Life) (journal : Journal) (answers : List Told) (last g : Generation) → IsLeft start journal answers last g → last.number ≤ g.number
+left_no_older : (start : Start) (journal : Journal) (answers : List Told) (last g : Generation) → IsLeft start journal answers last g → last.number ≤ g.number
 left_no_older start journal answers last g =
     ⊎_elim
     (λ same. (let number : g.number ≡ last.number = ap (λ (generation : Generation). generation.number) same in omega (arith, number)))

@@ -4,7 +4,7 @@ use Rattle.std.specs.Prelude.{All}
 use Rattle.std.proofs.lemmas.List.Elements.{All-cons, All-nil}
 use Rattle.flt_flash.specs.declared.arm.ArmMade.{ArmMade}
 use Rattle.flt_flash.specs.Content.{Content}
-use Rattle.flt_flash.specs.State.{Boot as PowerUp}
+use Rattle.flt_flash.specs.State.{PowerUp}
 use Rattle.flt_config.specs.declared.config.Config.{Config}
 use Rattle.flt_generation.specs.declared.place.Place.TheVariants.{Page, Block}
 use Rattle.flt_generation.specs.Holding.{Fault, IsSound}

@@ -2,7 +2,7 @@
 use Rattle.std.proofs.Common.{◌≡◌, ⊎_elim, ℕ, inl, inr, refl, arith}
 use Rattle.flt_config.specs.declared.persist.Persist.{Persist}
 use Rattle.flt_generation.specs.Holding.{Generation}
-use Rattle.flt_model.specs.Life.{Life}
+use Rattle.flt_model.specs.Start.{Start}
 use Rattle.flt_queue.specs.Queue.{waiting, pending, taken}
 use Rattle.flt_life.specs.Examples.{journal, told, saved, taken as taken_last, LifeLeaves, PlacesRise, BlockHolds}
 use Rattle.flt_fork.specs.Mixing.{Rise}
@@ -11,7 +11,7 @@ use Rattle.flt_life.specs.Saving.{IsUnacknowledged}
 same_generation : (g : Generation) (number : ℕ) (state : Persist) → g.number ≡ number → g.state ≡ state → g ≡ record { number = number; state = state }
 same_generation g number state is and = λ i. record { number = is i; state = and i }
 
-unacknowledged : (start : Life) (g : Generation) → IsUnacknowledged start journal told (saved start) g → g ≡ record { number = 9; state = taken_last start }
+unacknowledged : (start : Start) (g : Generation) → IsUnacknowledged start journal told (saved start) g → g ≡ record { number = 9; state = taken_last start }
 unacknowledged start g left =
     let past = left.past in
     let most = left.most in

@@ -1,13 +1,13 @@
 -- What holds of a life and its two power-ups, and of all lives of a run.
 use Rattle.std.specs.Prelude.{◌≡◌, ◌⊎◌, ℕ, ◌+◌, ◌==◌, List, [], ◌∷◌, length, map, reverse, drop, find, Option, Some, None, Result, Ok, Err, IsTrue, IsFalse}
 use Rattle.flt_flash.specs.declared.arm.ArmMade.{ArmMade}
-use Rattle.flt_flash.specs.State.{HasRisenBy, Boot as PowerUp}
+use Rattle.flt_flash.specs.State.{HasRisenBy, PowerUp}
 use Rattle.flt_config.specs.declared.config.Config.{Config}
 use Rattle.flt_config.specs.declared.persist.Persist.{Persist}
 use Rattle.flt_generation.specs.declared.place.Place.TheVariants.{Page, Block}
 use Rattle.flt_generation.specs.Form.{mark_of}
 use Rattle.flt_generation.specs.Holding.{Generation, Fault, damaged, other, held, spare, OldOrNew, SameApplications}
-use Rattle.flt_model.specs.Life.{Life}
+use Rattle.flt_model.specs.Start.{Start}
 use Rattle.flt_queue.specs.declared.job.QueueOp.{QueueOp}
 use Rattle.flt_queue.specs.Queue.{History}
 use Rattle.flt_turn.specs.declared.vault.Entry.{Entry}
@@ -48,7 +48,7 @@ abbrev pub queue_of : LifeView → History
 queue_of life = map (λ e. e.op) life.queue
 
 -- The start of the machine.
-abbrev pub start_from : Config → Persist → Life
+abbrev pub start_from : Config → Persist → Start
 start_from c state = record { config = c; base = state }
 
 -- This is what the image holds; or, if the count rose by three in the start of the life, what it holds by the second copy.

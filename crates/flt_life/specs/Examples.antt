@@ -7,7 +7,7 @@ use Rattle.flt_flash.specs.State.{HasRisenBy}
 use Rattle.flt_config.specs.declared.config.Config.{Config}
 use Rattle.flt_config.specs.declared.persist.Persist.{Persist}
 use Rattle.flt_generation.specs.Holding.{Generation}
-use Rattle.flt_model.specs.Life.{Life}
+use Rattle.flt_model.specs.Start.{Start}
 use Rattle.flt_model.specs.Durable.{saved_after}
 use Rattle.flt_model.specs.declared.call.Op.TheVariants as ops
 use Rattle.flt_queue.specs.declared.job.Job.{Job}
@@ -39,23 +39,23 @@ abbrev pub told : List Told
 told = answers.SaveFailed Flash ∷ answers.Saved 8 ∷ []
 
 -- The generation that was acknowledged: its state is that of the snapshot, before lane 1 ended its cycle.
-abbrev pub saved : Life → Generation
+abbrev pub saved : Start → Generation
 saved start = record { number = 8; state = saved_after start (ops.Cycle 0 ∷ []) }
 
 -- The state that the second snapshot took.
-abbrev pub taken : Life → Persist
+abbrev pub taken : Start → Persist
 taken start = saved_after start (ops.Saved 8 ∷ ops.Cycle 1 ∷ ops.Snapshot ∷ ops.Cycle 0 ∷ [])
 
 -- It was acknowledged last, and is one more than the first. The life may leave it, or the one of the failed save, of number 9, and no
 -- other, in particular none that is older.
-pub record LeavesOneOfTwo (start : Life) (first : Generation) : Type 0 where
+pub record LeavesOneOfTwo (start : Start) (first : Generation) : Type 0 where
   pub acknowledged : Acknowledges start first journal (saved start)
   pub rising : AreRising 7 told
   pub newer : IsLeft start journal told (saved start) (record { number = 9; state = taken start })
   pub others : (g : Generation) → IsLeft start journal told (saved start) g → (g ≡ saved start) ⊎ (g ≡ record { number = 9; state = taken start })
 
 abbrev pub LifeLeaves : Type 0
-LifeLeaves = (start : Life) (first : Generation) → LeavesOneOfTwo start first
+LifeLeaves = (start : Start) (first : Generation) → LeavesOneOfTwo start first
 
 -- A save that failed, and also a job, have their cause in three faults each, if a sequence number is left.
 abbrev pub FailuresHaveFaults : Type 0

@@ -1,7 +1,7 @@
 -- What follows from the chain of lives if its first image is sound.
 use Rattle.std.specs.Prelude.{ℕ, ◌≤◌, List, [], ◌∷◌, All, Option}
 use Rattle.flt_flash.specs.declared.arm.ArmMade.{ArmMade}
-use Rattle.flt_flash.specs.State.{Boot as PowerUp}
+use Rattle.flt_flash.specs.State.{PowerUp}
 use Rattle.flt_config.specs.declared.config.Config.{Config}
 use Rattle.flt_generation.specs.Holding.{Generation}
 use Rattle.flt_generation.specs.Laws.{IsGiven}

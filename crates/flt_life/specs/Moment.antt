@@ -1,7 +1,7 @@
 -- What a power-up finds.
 use Rattle.std.specs.Prelude.{◌≡◌, ℕ, Bool, List, Option}
 use Rattle.flt_flash.specs.Content.{Content}
-use Rattle.flt_flash.specs.State.{Boot}
+use Rattle.flt_flash.specs.State.{PowerUp}
 use Rattle.flt_flash.specs.Blocks.{BlocksState, DeviceState}
 use Rattle.flt_config.specs.declared.config.Config.{Config}
 use Rattle.flt_generation.specs.Holding.{Generation}
@@ -27,7 +27,7 @@ pub record Medium : Type 0 where
   pub is_spent : List (List (List ℕ)) → Bool
 
 -- The moment of a power-up on a medium.
-abbrev pub moment_at : Medium → Boot → Moment
+abbrev pub moment_at : Medium → PowerUp → Moment
 moment_at medium boot = record {
   value = medium.value boot.image;
   damage = medium.damage boot.image;
@@ -36,10 +36,10 @@ moment_at medium boot = record {
 }
 
 -- The boot that a power-up now would add.
-abbrev pub boot_in : DeviceState → Boot
+abbrev pub boot_in : DeviceState → PowerUp
 boot_in device = record { faults = device.faults; image = device.image }
 
-abbrev pub boot_of : BlocksState → Boot
+abbrev pub boot_of : BlocksState → PowerUp
 boot_of driver = boot_in driver.device
 
 -- A driver's blocks and its fault are those of its image.

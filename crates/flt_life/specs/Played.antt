@@ -2,7 +2,7 @@
 use Rattle.std.specs.Prelude.{◌≡◌, ℕ, List, [], ◌∷◌, All, map, reverse}
 use Rattle.flt_turn.specs.declared.answer.Answer.{Answer}
 use Rattle.flt_config.specs.declared.config.Config.{Config}
-use Rattle.flt_model.specs.Life.{Life}
+use Rattle.flt_model.specs.Start.{Start}
 use Rattle.flt_model.specs.Answer.{answer}
 use Rattle.flt_model.specs.declared.call.Op.{Op}
 use Rattle.flt_model.specs.declared.call.Op.TheVariants as ops
@@ -28,7 +28,7 @@ use Rattle.flt_fork.specs.Mixing.{Call, Block, HasInOrder, BlockTold, Rise, call
 use Rattle.flt_life.specs.Parts.{own_actions, lanes_in}
 
 -- The machine's reply after these calls, oldest first.
-abbrev pub reply_after : Life → List Op → Op → Reply
+abbrev pub reply_after : Start → List Op → Op → Reply
 reply_after start calls op = answer start (reverse calls) op
 
 -- A save takes a snapshot, and then, if it is answered with a number, is acknowledged by it.
@@ -82,7 +82,7 @@ pub record IsMade {S O R : Type 0} (MadeBy : Step → Told → List (Call O R) �
   pub rising : (number : ℕ) → Rise 0 (calls_in_lane number blocks)
 
 -- This holds for the status machine and for the queue.
-pub record IsLife (start : Life) (parts : List (PartOf Step)) (own : List Told) (lanes : List (List Told)) (journal : Journal)
+pub record IsLife (start : Start) (parts : List (PartOf Step)) (own : List Told) (lanes : List (List Told)) (journal : Journal)
     (queue : List (Entry QueueOp)) : Type 0 where
   pub dem : IsMade StepMakes reply_after start parts own lanes journal
   pub jobs : IsMade StepQueues queued.reply_after start.config.blocks parts own lanes queue

@@ -1,6 +1,6 @@
 -- The answers of a life, newest first: the numbers of its saves, and how many failed.
 use Rattle.std.specs.Prelude.{◌≡◌, ◌⊎◌, ℕ, ◌+◌, ◌≤◌, ◌<◌, List, [], ◌∷◌}
-use Rattle.flt_model.specs.Life.{Life}
+use Rattle.flt_model.specs.Start.{Start}
 use Rattle.flt_generation.specs.Holding.{Generation}
 use Rattle.flt_life.specs.Answers.{Told}
 use Rattle.flt_life.specs.declared.answer.StepAnswer.TheVariants.{Saved, SaveFailed}
@@ -31,11 +31,11 @@ AreRising first (_ ∷ earlier) = AreRising first earlier
 
 -- A generation of a save that was not acknowledged: its number is past the last acknowledged one by at most one for each save that
 -- failed since, and its state was taken since.
-pub record IsUnacknowledged (start : Life) (journal : Journal) (answers : List Told) (last g : Generation) : Type 0 where
+pub record IsUnacknowledged (start : Start) (journal : Journal) (answers : List Told) (last g : Generation) : Type 0 where
   pub past : last.number < g.number
   pub most : g.number ≤ last.number + failures answers
   pub taken : IsTakenSince start journal g.state
 
 -- The generation that was acknowledged last, or one of a later save.
-abbrev pub IsLeft : Life → Journal → List Told → Generation → Generation → Type 0
+abbrev pub IsLeft : Start → Journal → List Told → Generation → Generation → Type 0
 IsLeft start journal answers last g = (g ≡ last) ⊎ IsUnacknowledged start journal answers last g

@@ -1,7 +1,7 @@
 -- Lives that were begun over a device, one after the other.
 use Rattle.std.proofs.Common.{◌≡◌, ℕ, ◌<◌, ◌≤◌, List, [], ◌∷◌, ◌++◌, length, refl, ap, sym, subst, arith, append_assoc, ◌∙◌}
 use Rattle.std.proofs.lemmas.List.{append-nil, length-append}
-use Rattle.flt_flash.specs.State.{Boot as PowerUp}
+use Rattle.flt_flash.specs.State.{PowerUp}
 use Rattle.flt_flash.specs.Blocks.{DeviceState}
 use Rattle.flt_life.specs.Moment.{boot_in}
 use Rattle.flt_lives.specs.Devices.{BeginsFrom, BeginsLives}

@@ -2,7 +2,7 @@
 use Rattle.std.proofs.Common.{◌≡◌, ◌⊎◌, inl, inr, ⊎_elim, ℕ, ◌+◌, ◌≤◌, List, [], ◌∷◌, refl, ap, subst, sym, arith}
 use Rattle.flt_config.specs.declared.config.Config.{Config}
 use Rattle.flt_config.specs.declared.persist.Persist.{Persist}
-use Rattle.flt_model.specs.Life.{Life}
+use Rattle.flt_model.specs.Start.{Start}
 use Rattle.flt_model.specs.Durable.{saved_after}
 use Rattle.flt_model.specs.declared.call.Op.{Op}
 use Rattle.flt_model.specs.declared.call.Op.TheVariants as ops
@@ -19,7 +19,7 @@ use Rattle.flt_lives.specs.Living.{IsKeptSince}
 
 -- ---- a call of a step acknowledges nothing and takes nothing
 
-acknowledged_call : (start : Life) (earlier : Journal) (op : Op) (g : Generation) (before : Type 0) → IsStepCall op → before → AcknowledgesBy start 0 earlier op g before
+acknowledged_call : (start : Start) (earlier : Journal) (op : Op) (g : Generation) (before : Type 0) → IsStepCall op → before → AcknowledgesBy start 0 earlier op g before
 acknowledged_call start earlier (ops.Signal index value) g before is was = was
 acknowledged_call start earlier (ops.Enable condition fulfilled) g before is was = was
 acknowledged_call start earlier (ops.Report event report) g before is was = was
@@ -30,7 +30,7 @@ acknowledged_call start earlier (ops.Show event) g before is was = was
 acknowledged_call start earlier ops.Snapshot g before is was = was
 acknowledged_call start earlier (ops.Saved number) g before is was = absurd is
 
-taken_call : (start : Life) (earlier : Journal) (op : Op) (state : Persist) (before : Type 0) → IsStepCall op → before → TakesBy start earlier op state before
+taken_call : (start : Start) (earlier : Journal) (op : Op) (state : Persist) (before : Type 0) → IsStepCall op → before → TakesBy start earlier op state before
 taken_call start earlier (ops.Signal index value) state before is was = was
 taken_call start earlier (ops.Enable condition fulfilled) state before is was = was
 taken_call start earlier (ops.Report event report) state before is was = was
@@ -41,7 +41,7 @@ taken_call start earlier (ops.Show event) state before is was = was
 taken_call start earlier ops.Snapshot state before is was = absurd is
 taken_call start earlier (ops.Saved number) state before is was = absurd is
 
-module _ (start : Life) (journal : Journal) (told : List Told) (last : Generation) where
+module _ (start : Start) (journal : Journal) (told : List Told) (last : Generation) where
   left_call : (op : Op) (g : Generation) → IsStepCall op → IsLeft start journal told last g → IsLeft start (entry 0 op ∷ journal) told last g
   left_call op g is = ⊎_elim (λ same. inl same) (λ (more : IsUnacknowledged start journal told last g). inr record { past = more.past; most = more.most; taken = taken_call start journal op g.state _ is more.taken })
 

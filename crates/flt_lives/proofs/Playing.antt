@@ -6,7 +6,7 @@ use Rattle.std.proofs.lemmas.List.Elements.{All-nil, All-cons, All-append}
 use Rattle.flt_turn.specs.declared.vault.Entry.{Entry}
 use Rattle.flt_turn.specs.Journal.{entry, ops_of, calls_of}
 use Rattle.flt_turn.proofs.Journals.{calls_of-append, calls_of_other}
-use Rattle.flt_model.specs.Life.{Life}
+use Rattle.flt_model.specs.Start.{Start}
 use Rattle.flt_model.specs.Answer.{answer}
 use Rattle.flt_model.specs.declared.call.Op.{Op}
 use Rattle.flt_model.specs.declared.call.Op.TheVariants as ops
@@ -126,7 +126,7 @@ module _ {S O R : Type 0} (answer : S → List O → O → R) (start : S) where
 
 -- ---- what a step of lane 0 adds to the journal of the status machine
 
-module _ (start : Life) where
+module _ (start : Start) where
   record AddsOps (journal after : Journal) (action : Action) (told : Told) : Type 0 where
     ops : List Op
     makes : ActionMakes action told (calls_at reply_after start journal ops)
@@ -183,11 +183,11 @@ module _ (start : Life) where
   queues_none before after (actions.Arm arm) told carried = refl
 
 -- No step.
-pub no_parts : (start : Life) → IsLife start [] [] [] [] []
+pub no_parts : (start : Start) → IsLife start [] [] [] [] []
 no_parts start = record { dem = made_none reply_after start StepMakes; jobs = made_none queued.reply_after start.config.blocks StepQueues }
 
 -- And one more.
-pub life_more : (start : Life) (parts : List (PartOf Step)) (own : List Told) (lanes : List (List Told)) (journal after : Journal) (step : Step) (told : Told)
+pub life_more : (start : Start) (parts : List (PartOf Step)) (own : List Told) (lanes : List (List Told)) (journal after : Journal) (step : Step) (told : Told)
     → IsLife start parts own lanes journal [] → IsCarriedOut start (reverse journal) (action_of step) (reverse after) told
     → IsLife start (parts ++ inl step ∷ []) (own ++ told ∷ []) lanes after []
 life_more start parts own lanes journal after step told life carried =

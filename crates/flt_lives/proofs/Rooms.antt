@@ -12,7 +12,7 @@ use Rattle.flt_model.specs.declared.call.ReplyOf.TheVariants as kinds
 use Rattle.flt_model.specs.Answer.{answer, report_reply}
 use Rattle.flt_model.specs.Happening.{readiness, cause_of}
 use Rattle.flt_model.specs.declared.call.Cause.{Cause}
-use Rattle.flt_model.specs.Life.{Life, History}
+use Rattle.flt_model.specs.Start.{Start, History}
 use Rattle.flt_model.specs.declared.TheConstants.{RESPONSE}
 use Rattle.flt_model.specs.declared.call.Op.{Op}
 use Rattle.flt_model.specs.declared.call.Op.TheVariants as ops
@@ -131,7 +131,7 @@ report_size : (cause : Option Cause) → reply_size (report_reply cause) ≡ 0
 report_size None = refl
 report_size (Some cause) = refl
 
-pub answer_size : (life : Life) (past : History) (op : Op) → ¬ IsTesterCall op → reply_size (answer life past op) ≡ 0
+pub answer_size : (life : Start) (past : History) (op : Op) → ¬ IsTesterCall op → reply_size (answer life past op) ≡ 0
 answer_size life past (ops.Request tester bytes) other = absurd (other tt)
 answer_size life past (ops.Report event report) other = report_size (cause_of (readiness life event past))
 answer_size life past (ops.Signal index value) other = refl
@@ -142,7 +142,7 @@ answer_size life past (ops.Show event) other = refl
 answer_size life past ops.Snapshot other = refl
 answer_size life past (ops.Saved number) other = refl
 
-pub no_response : (life : Life) (past : History) (op : Op) (kind : ReplyKind) (response : List ℕ) → reply_with kind response ≡ answer life past op → ¬ IsTesterCall op →
+pub no_response : (life : Start) (past : History) (op : Op) (kind : ReplyKind) (response : List ℕ) → reply_with kind response ≡ answer life past op → ¬ IsTesterCall op →
     reply_size (reply_with kind response) ≡ 0
 no_response life past op kind response is other = ap reply_size is ∙ answer_size life past op other
 

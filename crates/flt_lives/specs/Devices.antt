@@ -1,6 +1,6 @@
 -- Lives over a device, of whatever kind.
 use Rattle.std.specs.Prelude.{◌≡◌, ℕ, ◌≤◌, List, [], ◌∷◌, ◌++◌, length}
-use Rattle.flt_flash.specs.State.{FlashState, Boot as PowerUp}
+use Rattle.flt_flash.specs.State.{FlashState, PowerUp}
 use Rattle.flt_config.specs.declared.config.Config.{Config}
 use Rattle.flt_config.specs.Validity.{IsValid}
 use Rattle.flt_flash.specs.Blocks.{DeviceState, device_of}

@@ -2,7 +2,7 @@
 use Rattle.std.specs.Prelude.{◌≡◌, ℕ, ◌+◌, ◌≤◌, List, [], ◌∷◌, ◌++◌, length, reverse, All, IfSome, IsSomeAnd}
 use Rattle.flt_flash.specs.declared.arm.ArmMade.{ArmMade}
 use Rattle.flt_flash.specs.declared.blocks.Blocks.{Ghosts}
-use Rattle.flt_flash.specs.State.{HasRisenBy, Boot as PowerUp}
+use Rattle.flt_flash.specs.State.{HasRisenBy, PowerUp}
 use Rattle.flt_flash.specs.Blocks.{BlocksState}
 use Rattle.flt_config.specs.declared.config.Config.{Config}
 use Rattle.flt_generation.specs.Layout.{numbers}

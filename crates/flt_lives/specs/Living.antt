@@ -7,7 +7,7 @@ use Rattle.flt_flash.specs.declared.blocks.Blocks.{Ghosts}
 use Rattle.flt_config.specs.declared.config.Config.{Config}
 use Rattle.flt_config.specs.Durable.{Fits}
 use Rattle.flt_config.specs.Validity.{IsValid}
-use Rattle.flt_model.specs.Life.{History}
+use Rattle.flt_model.specs.Start.{History}
 use Rattle.flt_generation.specs.Holding.{Generation}
 use Rattle.flt_dcm.specs.Unit.{UnitView, Stands}
 use Rattle.flt_store.specs.declared.fault.SaveFault.TheVariants.{Spent, SequenceSpent}

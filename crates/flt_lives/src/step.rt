@@ -2,7 +2,7 @@
 ghost use Rattle.std.specs.Prelude.{◌≡◌, ◌+◌, ◌≤◌, ◌<◌, ◌∷◌, ◌^◌, [], ℕ, List, length, reverse, vec_len};
 ghost use Rattle.std.specs.Vec.{vec_capacity};
 ghost use Rattle.flt_config.specs.Durable.{Fits};
-ghost use Rattle.flt_model.specs.Life.{Life, History};
+ghost use Rattle.flt_model.specs.Start.{Start, History};
 ghost use Rattle.flt_model.specs.Answer.{answer};
 ghost use Rattle.flt_model.specs.Durable.{saved_after};
 ghost use Rattle.flt_model.specs.declared.call.Op.TheVariants as ops;
@@ -34,8 +34,8 @@ fn call(unit: &mut Unit, op: &Op, buffers: &mut Buffers) -> ReplyKind
     requires admitted { IsAdmitted (config_of unit.old) op.now }
     ensures config { config_of unit.new ≡ config_of unit.old }
     ensures under_way { IsUnderWay (config_of unit.old) (state_of unit.new) }
-    ensures stands { (life : Life) (past : History) → Stands life past (state_of unit.old) → Stands life (op.now ∷ past) (state_of unit.new) }
-    ensures answer { (life : Life) (past : History) → Stands life past (state_of unit.old)
+    ensures stands { (life : Start) (past : History) → Stands life past (state_of unit.old) → Stands life (op.now ∷ past) (state_of unit.new) }
+    ensures answer { (life : Start) (past : History) → Stands life past (state_of unit.old)
         → reply_with result buffers.new.response.items ≡ answer life past op.now }
     ensures no_response { ¬ IsTesterCall op.now → reply_size (reply_with result buffers.new.response.items) ≡ 0 }
 {
@@ -47,8 +47,8 @@ fn take_snapshot(unit: &mut Unit, buffers: &mut Buffers)
     requires under_way { IsUnderWay (config_of unit.old) (state_of unit.old) }
     ensures config { config_of unit.new ≡ config_of unit.old }
     ensures under_way { IsUnderWay (config_of unit.old) (state_of unit.new) }
-    ensures stands { (life : Life) (past : History) → Stands life past (state_of unit.old) → Stands life (ops.Snapshot ∷ past) (state_of unit.new) }
-    ensures taken { (life : Life) (past : History) → Stands life past (state_of unit.old) → buffers.new.state ≡ saved_after life past }
+    ensures stands { (life : Start) (past : History) → Stands life past (state_of unit.old) → Stands life (ops.Snapshot ∷ past) (state_of unit.new) }
+    ensures taken { (life : Start) (past : History) → Stands life past (state_of unit.old) → buffers.new.state ≡ saved_after life past }
     ensures fits { Fits (config_of unit.old) buffers.new.state }
 {
     unit.apply_into(&Op::Snapshot, &mut buffers.state, &mut buffers.response);

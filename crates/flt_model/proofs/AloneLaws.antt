@@ -9,7 +9,7 @@ use Rattle.flt_model.specs.declared.call.Op.{Op}
 use Rattle.flt_model.specs.declared.call.Op.TheVariants as ops
 use Rattle.flt_model.specs.declared.call.Qualified.{Qualified}
 use Rattle.flt_model.specs.declared.call.Qualified.TheVariants as results
-use Rattle.flt_model.specs.Life.{Life, History, count, event_of, base_of, no_event}
+use Rattle.flt_model.specs.Start.{Start, History, count, event_of, base_of, no_event}
 use Rattle.flt_model.specs.Mark.{Mark, Past, Trace, Of, marks_of}
 use Rattle.flt_model.specs.Mark.Mark.{Failed, Passed, Cycle, Clear, Aged, Displaced, Added, Refused}
 use Rattle.flt_model.specs.Status.{enters, ages}
@@ -32,7 +32,7 @@ and_mark : (event other : ℕ) (mark : Mark) (signals : List ℕ) (old : Past) (
 and_mark event other mark signals old marks ne (inl same) = inl (other_mark event other mark signals marks ne ∙ same)
 and_mark event other mark signals old marks ne (inr more) = inr (other_mark event other mark signals marks ne ∙ more)
 
-module _ (life : Life) (event other : ℕ) (ne : other ≢ event) where
+module _ (life : Start) (event other : ℕ) (ne : other ≢ event) where
   -- A displacement of some event.
   displaced_alone : (worst : ℕ) (signals : List ℕ) (old : Past) (marks : Trace) → marks_of other marks ≡ old → IsLeftAlone old (marks_of other (Of worst Displaced signals ∷ marks))
   displaced_alone worst signals old marks e =
@@ -82,11 +82,11 @@ module _ (life : Life) (event other : ℕ) (ne : other ≢ event) where
 -- ---- a call about one event
 
 -- An event to which nothing happens has no part.
-no_part : (life : Life) (past : History) (op : Op) (event : ℕ) (marks : Trace) → happening_of life event past op ≡ None → event_part life past op event marks ≡ marks
+no_part : (life : Start) (past : History) (op : Op) (event : ℕ) (marks : Trace) → happening_of life event past op ≡ None → event_part life past op event marks ≡ marks
 no_part life past op event marks none = ap (λ h. with_marks life event past h marks) none
 
 -- The parts in order are that of the one event, or none.
-alone_in_order : (life : Life) (past : History) (op : Op) (event other : ℕ) (n : ℕ) (marks : Trace) → n ≤ count life → IsAboutEvent life past op event → other ≢ event →
+alone_in_order : (life : Start) (past : History) (op : Op) (event other : ℕ) (n : ℕ) (marks : Trace) → n ≤ count life → IsAboutEvent life past op event → other ≢ event →
     (in_order (event_part life past op) n marks ≡ marks) ⊎ ((event < n) × (in_order (event_part life past op) n marks ≡ event_part life past op event marks))
 alone_in_order life past op event other zero marks within about ne = inl refl
 alone_in_order life past op event other (suc n) marks within about ne =
@@ -127,10 +127,10 @@ report_is_about_its_event life past event report other within ne = rw (ne_eqb ev
 
 -- ---- a clear of one DTC
 
-read_event : (life : Life) (event : ℕ) → get_or life.config.events.items event no_event ≡ event_of life event
+read_event : (life : Start) (event : ℕ) → get_or life.config.events.items event no_event ≡ event_of life event
 read_event life event = sym (unwrap_or-slice_get life.config.events.items event no_event)
 
-other_dtc : (life : Life) (event other : ℕ) → AllPairs HasOtherDtc life.config.events.items → event < count life → other < count life → other ≢ event →
+other_dtc : (life : Start) (event other : ℕ) → AllPairs HasOtherDtc life.config.events.items → event < count life → other < count life → other ≢ event →
     (event_of life event).dtc ≢ (event_of life other).dtc
 other_dtc life event other distinct within_event within_other ne same =
     let events = life.config.events.items in
@@ -143,7 +143,7 @@ other_dtc life event other distinct within_event within_other ne same =
     ]
 
 -- What a clear that does not reach an event is for it.
-unreached : (life : Life) (other dtc : ℕ) → dtc ≢ all_dtcs → dtc ≢ (event_of life other).dtc → happening_of_clear life other (Some dtc) ≡ None
+unreached : (life : Start) (other dtc : ℕ) → dtc ≢ all_dtcs → dtc ≢ (event_of life other).dtc → happening_of_clear life other (Some dtc) ≡ None
 unreached life other dtc not_all ne = rw (ne_eqb dtc all_dtcs not_all, ne_eqb dtc (event_of life other).dtc ne) refl
 
 pub clear_is_about_its_event : ClearIsAboutItsEvent

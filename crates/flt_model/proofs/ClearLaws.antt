@@ -12,7 +12,7 @@ use Rattle.flt_model.specs.declared.call.Op.{Op}
 use Rattle.flt_model.specs.declared.call.Op.TheVariants as ops
 use Rattle.flt_model.specs.declared.call.Qualified.{Qualified}
 use Rattle.flt_model.specs.declared.call.Qualified.TheVariants as results
-use Rattle.flt_model.specs.Life.{Life, History, count, event_of, base_of}
+use Rattle.flt_model.specs.Start.{Start, History, count, event_of, base_of}
 use Rattle.flt_model.specs.Mark.{Trace, Of, AllCleared, marks_of}
 use Rattle.flt_model.specs.Mark.Mark.{Failed, Passed, Cycle, Clear, Aged, Displaced, Added, Refused}
 use Rattle.flt_model.specs.Status.{enters, ages}
@@ -71,13 +71,13 @@ TraceBelow n [] = Unit {0}
 TraceBelow n (Of event mark signals ∷ marks) = (event < n) × TraceBelow n marks
 TraceBelow n (AllCleared ∷ marks) = TraceBelow n marks
 
-base_within : (life : Life) (entries : List EntryState) → All (IsEntryOf life.config.events.items) entries → AllWithin 0 (count life) (map (λ entry. entry.event) entries)
+base_within : (life : Start) (entries : List EntryState) → All (IsEntryOf life.config.events.items) entries → AllWithin 0 (count life) (map (λ entry. entry.event) entries)
 base_within life [] all = tt
 base_within life (entry ∷ entries) all =
     let here = All-head (IsEntryOf life.config.events.items) entry entries all in
     ((omega arith, here.event), base_within life entries (All-tail (IsEntryOf life.config.events.items) entry entries all))
 
-module _ (life : Life) (fits : Fits life.config life.base) where
+module _ (life : Start) (fits : Fits life.config life.base) where
   pub holders_within : (marks : Trace) → TraceBelow (count life) marks → AllWithin 0 (count life) (holders life marks)
   holders_within [] b = base_within life life.base.entries.items fits.entries
   holders_within (AllCleared ∷ marks) b = holders_within marks b
@@ -214,7 +214,7 @@ abbrev pub all_cleared : List ℕ → ℕ → Trace → Trace
 all_cleared sent zero marks = marks
 all_cleared sent (suc n) marks = Of n Clear sent ∷ all_cleared sent n marks
 
-cleared_holders : (life : Life) (sent : List ℕ) (high n : ℕ) (marks : Trace) → AllWithin 0 high (holders life marks) → AllWithin n high (holders life (all_cleared sent n marks))
+cleared_holders : (life : Start) (sent : List ℕ) (high n : ℕ) (marks : Trace) → AllWithin 0 high (holders life marks) → AllWithin n high (holders life (all_cleared sent n marks))
 cleared_holders life sent high zero marks all = all
 cleared_holders life sent high (suc n) marks all = within_next n high (holders life (all_cleared sent n marks)) (cleared_holders life sent high n marks all)
 
@@ -259,7 +259,7 @@ map_below-replicate f state (suc n) each =
 -- ---- the call
 
 -- Each event takes a clear.
-clear_part : (life : Life) (past : History) (op : Op) (event : ℕ) (marks : Trace) → cleared_dtc op ≡ Some all_dtcs → event_part life past op event marks ≡ Of event Clear (signals past) ∷ marks
+clear_part : (life : Start) (past : History) (op : Op) (event : ℕ) (marks : Trace) → cleared_dtc op ≡ Some all_dtcs → event_part life past op event marks ≡ Of event Clear (signals past) ∷ marks
 clear_part life past (ops.Request from bytes) event marks e = rw e refl
 clear_part life past (ops.Signal index value) event marks e = absurd (cc)
 clear_part life past (ops.Enable condition fulfilled) event marks e = absurd (cc)
@@ -270,17 +270,17 @@ clear_part life past (ops.Show of) event marks e = absurd (cc)
 clear_part life past ops.Snapshot event marks e = absurd (cc)
 clear_part life past (ops.Saved generation) event marks e = absurd (cc)
 
-clear_parts : (life : Life) (past : History) (op : Op) (n : ℕ) (marks : Trace) → cleared_dtc op ≡ Some all_dtcs → in_order (event_part life past op) n marks ≡ all_cleared (signals past) n marks
+clear_parts : (life : Start) (past : History) (op : Op) (n : ℕ) (marks : Trace) → cleared_dtc op ≡ Some all_dtcs → in_order (event_part life past op) n marks ≡ all_cleared (signals past) n marks
 clear_parts life past op zero marks e = refl
 clear_parts life past op (suc n) marks e =
     ap (event_part life past op n) (clear_parts life past op n marks e) ∙ clear_part life past op n (all_cleared (signals past) n marks) e
 
-clear_trace : (life : Life) (past : History) (op : Op) → cleared_dtc op ≡ Some all_dtcs → trace life (op ∷ past) ≡ AllCleared ∷ all_cleared (signals past) (count life) (trace life past)
+clear_trace : (life : Start) (past : History) (op : Op) → cleared_dtc op ≡ Some all_dtcs → trace life (op ∷ past) ≡ AllCleared ∷ all_cleared (signals past) (count life) (trace life past)
 clear_trace life past op e =
     ap (λ dtc. with_clear dtc (in_order (event_part life past op) (count life) (trace life past))) e
     ∙ ap (λ marks. AllCleared ∷ marks) (clear_parts life past op (count life) (trace life past) e)
 
-module _ (life : Life) (fits : Fits life.config life.base) (sent : List ℕ) (marks : Trace) (b : TraceBelow (count life) marks) where
+module _ (life : Start) (fits : Fits life.config life.base) (sent : List ℕ) (marks : Trace) (b : TraceBelow (count life) marks) where
   first_is : (notable : Notable) (base : Option ℕ) → IsNoted life.config.events.items base → first notable base (AllCleared ∷ all_cleared sent (count life) marks) ≡ None
   first_is notable base noted =
       none_noted (count life) _ (cleared_first notable base sent (count life) (count life) marks (first_within (count life) notable base (base_noted life.config.events.items base noted) marks b))

@@ -3,7 +3,7 @@ use Rattle.std.proofs.Common.{◌≡◌, ◌∙◌, ℕ, zero, suc, Bool, true, 
 use Rattle.std.specs.Prelude.{is_none}
 use Rattle.flt_model.specs.declared.call.Op.{Op}
 use Rattle.flt_model.specs.declared.call.Op.TheVariants as ops
-use Rattle.flt_model.specs.Life.{Life, History, count, event_of}
+use Rattle.flt_model.specs.Start.{Start, History, count, event_of}
 use Rattle.flt_model.specs.Mark.{Trace, Of}
 use Rattle.flt_model.specs.Mark.Mark.{Clear}
 use Rattle.flt_model.specs.Debounce.{Happening, Reported, Ticked, Ended, Cleared, qualified}
@@ -17,7 +17,7 @@ use Rattle.flt_model.specs.EnableLaws.{NeedsNothing, without_conditions, Conditi
 use Rattle.flt_model.proofs.EnableLaws.{seen, events_without_needs}
 
 -- Two lists of calls that mean the same, but for the conditions.
-pub record AreAlike (life : Life) (p q : History) : Type 0 where
+pub record AreAlike (life : Start) (p q : History) : Type 0 where
   pub silence : (tester : ℕ) → silence tester p ≡ silence tester q
   pub extended : (tester : ℕ) → is_extended tester p ≡ is_extended tester q
   pub holds : (tester : ℕ) → holds_off tester p ≡ holds_off tester q
@@ -26,7 +26,7 @@ pub record AreAlike (life : Life) (p q : History) : Type 0 where
   pub happened : (event : ℕ) → happenings life event p ≡ happenings life event q
   pub traced : trace life p ≡ trace life q
 
-module _ (life : Life) (needless : NeedsNothing life) (p q : History) (alike : AreAlike life p q) where
+module _ (life : Start) (needless : NeedsNothing life) (p q : History) (alike : AreAlike life p q) where
   off_alike : is_setting_off p ≡ is_setting_off q
   off_alike = rw (alike.holds 0, alike.holds 1, alike.holds 2, alike.holds 3) refl
 
@@ -158,7 +158,7 @@ module _ (life : Life) (needless : NeedsNothing life) (p q : History) (alike : A
   answers_alike _ = refl
 
 -- The calls are alike without those on conditions.
-alike_without : (life : Life) (past : History) → NeedsNothing life → AreAlike life past (without_conditions past)
+alike_without : (life : Start) (past : History) → NeedsNothing life → AreAlike life past (without_conditions past)
 alike_without life [] needless = record {
   silence = λ tester. refl;
   extended = λ tester. refl;

@@ -4,7 +4,7 @@ use Rattle.std.specs.Prelude.{is_none}
 use Rattle.std.proofs.lemmas.Bool.{and_from, and_right, or_right}
 use Rattle.flt_model.specs.declared.call.Op.TheVariants as ops
 use Rattle.flt_model.specs.declared.call.Report.{Report}
-use Rattle.flt_model.specs.Life.{Life, History, event_of}
+use Rattle.flt_model.specs.Start.{Start, History, event_of}
 use Rattle.flt_model.specs.Debounce.{Reported, Ticked}
 use Rattle.flt_model.specs.Session.{is_setting_off}
 use Rattle.flt_model.specs.Happening.{happenings, with_happening, own_report, reported_where, Readiness, cause_of, is_started, is_fulfilled, conditions, are_met, is_enabled}
@@ -53,7 +53,7 @@ disabled_counts_not false started enabled off = refl
 disabled_counts_not true false enabled off = refl
 disabled_counts_not true true enabled off = rw off refl
 
-none_reported : (life : Life) (event : ℕ) (past : History) (own : Bool) (report : Report) → is_enabled life event past ≡ false →
+none_reported : (life : Start) (event : ℕ) (past : History) (own : Bool) (report : Report) → is_enabled life event past ≡ false →
     reported_where (own_report life event past own) (Reported report) ≡ None
 none_reported life event past true report off =
     ap (λ b. reported_where (Some b) (Reported report)) (disabled_counts_not (not (is_setting_off past)) (is_started (event_of life event).cycle past) (is_enabled life event past) off)

@@ -11,7 +11,7 @@ use Rattle.flt_config.specs.declared.config.EventCfg.{EventCfg}
 use Rattle.flt_config.specs.declared.persist.EntryState.{EntryState}
 use Rattle.flt_config.specs.Ranges.{frame_width}
 use Rattle.flt_config.specs.Durable.{IsEntryOf, is_of_event}
-use Rattle.flt_model.specs.Life.{Life, event_of}
+use Rattle.flt_model.specs.Start.{Start, event_of}
 use Rattle.flt_model.specs.Mark.{Mark, Past, Kind, Trace, Of, AllCleared, own, marks_of, decided, count_since, one_more}
 use Rattle.flt_model.specs.Mark.Mark.{Failed, Passed, Cycle, Clear, Aged, Displaced, Added, Refused}
 use Rattle.flt_model.specs.Frame.{did_bytes, frame_bytes}
@@ -95,7 +95,7 @@ module _ (events : List EventCfg) (event : ℕ) where
   found [] all = tt
   found (entry ∷ held) all = found_cond entry held (entry.event == event) refl (All-head (IsEntryOf events) entry held all) (found held (All-tail (IsEntryOf events) entry held all))
 
-module _ (life : Life) (event : ℕ) (narrow : AreNarrow (event_of life event).dids.items) where
+module _ (life : Start) (event : ℕ) (narrow : AreNarrow (event_of life event).dids.items) where
   -- A frame of the event has its width.
   pub own_frame : (sent : List ℕ) → length (frame life event sent) ≡ frame_width (event_of life event).dids.items
   own_frame sent = frame_wide sent (event_of life event).dids.items narrow

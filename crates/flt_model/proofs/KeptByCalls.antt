@@ -1,7 +1,7 @@
 -- What one mark keeps, and an event that is added where it has no entry, every list of calls keeps.
 use Rattle.std.proofs.Common.{◌≡◌, ℕ, zero, suc, ◌<◌, nat_eq, nat_lt, Bool, true, false, [], ◌∷◌, length, List, Option, Some, None, refl, subst, inl, inr}
 use Rattle.std.proofs.lemmas.Bool.{cases_Bool, ltb-true}
-use Rattle.flt_model.specs.Life.{Life, History, count, event_of, base_of}
+use Rattle.flt_model.specs.Start.{Start, History, count, event_of, base_of}
 use Rattle.flt_model.specs.Mark.{Mark, Trace, Of, AllCleared, marks_of}
 use Rattle.flt_model.specs.Mark.Mark.{Failed, Passed, Cycle, Clear, Aged, Displaced, Added, Refused}
 use Rattle.flt_model.specs.Status.{enters, ages}
@@ -23,7 +23,7 @@ IsNoAdding _ = Unit {0}
 
 -- Something that holds of marks goes on to hold with one more: an event is added where it has no entry and there is room, or in place of one
 -- that has an entry.
-pub record IsKept (life : Life) (P : Trace → Type 0) : Type 0 where
+pub record IsKept (life : Start) (P : Trace → Type 0) : Type 0 where
   pub plain : (event : ℕ) (mark : Mark) (signals : List ℕ) (marks : Trace) → IsNoAdding mark → P marks → P (Of event mark signals ∷ marks)
   pub into_room : (event : ℕ) (signals : List ℕ) (marks : Trace) → is_among event (holders life marks) ≡ false → length (holders life marks) < life.config.memory →
       P marks → P (Of event Added signals ∷ marks)
@@ -31,7 +31,7 @@ pub record IsKept (life : Life) (P : Trace → Type 0) : Type 0 where
       P marks → P (Of event Added signals ∷ Of worst Displaced signals ∷ marks)
   pub all_cleared : (marks : Trace) → P marks → P (AllCleared ∷ marks)
 
-module _ (life : Life) (P : Trace → Type 0) (kept : IsKept life P) where
+module _ (life : Start) (P : Trace → Type 0) (kept : IsKept life P) where
   kept_for : (signals : List ℕ) (event worst : ℕ) (test : Bool) (marks : Trace) → is_among event (holders life marks) ≡ false → is_among worst (holders life marks) ≡ true →
       P marks → P (added_for life signals event worst test marks)
   kept_for signals event worst true marks absent present r = kept.in_place event worst signals marks absent present r

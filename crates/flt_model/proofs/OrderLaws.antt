@@ -5,7 +5,7 @@ use Rattle.std.proofs.lemmas.Bool.{ne_eqb}
 use Rattle.std.proofs.lemmas.List.Kept.{AllPairs-cons, AllPairs-filter}
 use Rattle.std.proofs.lemmas.List.Quantifiers.{all_pairs_push}
 use Rattle.std.proofs.lemmas.List.{get_or_default}
-use Rattle.flt_model.specs.Life.{Life}
+use Rattle.flt_model.specs.Start.{Start}
 use Rattle.flt_model.specs.Mark.{Mark, Trace, Of}
 use Rattle.flt_model.specs.Mark.Mark.{Failed, Passed, Cycle, Clear, Aged, Displaced, Added, Refused}
 use Rattle.flt_model.specs.Entry.{holders, is_among, is_other}
@@ -29,7 +29,7 @@ behind_in_list (event ∷ events) distinct =
     let other : event ≢ get_or events i d = apart event (get_or events i d) events distinct.0 (among_at_any events i d (omega (arith, less, within))) in
     rw (ne_eqb event (get_or events i d) other) (rest i j d less within))
 
-module _ (life : Life) where
+module _ (life : Start) where
   removed : (event : ℕ) (marks : Trace) → AreInOrder life marks →
       AllPairs (λ first second. was_added_later life marks first second ≡ true) (filter (is_other event) (holders life marks))
   removed event marks r = AllPairs-filter (λ first second. was_added_later life marks first second ≡ true) (is_other event) (holders life marks) r

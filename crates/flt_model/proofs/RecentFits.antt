@@ -3,7 +3,7 @@ use Rattle.std.proofs.Common.{◌≡◌, ℕ, zero, suc, nat_eq, nat_lt, Bool, t
 use Rattle.std.specs.Prelude.{unwrap_or, is_some, if◌then◌else◌}
 use Rattle.std.proofs.lemmas.Bool.{cases_Bool}
 use Rattle.flt_config.specs.Ranges.{frame_width}
-use Rattle.flt_model.specs.Life.{Life, History, count, event_of, base_of}
+use Rattle.flt_model.specs.Start.{Start, History, count, event_of, base_of}
 use Rattle.flt_model.specs.Mark.{Mark, Past, Trace, Of, own, marks_of, decided}
 use Rattle.flt_model.specs.Mark.Mark.{Failed, Passed, Cycle, Clear, Aged, Displaced, Added, Refused}
 use Rattle.flt_model.specs.Status.{enters, ages}
@@ -16,7 +16,7 @@ use Rattle.flt_model.specs.declared.call.Qualified.{Qualified}
 use Rattle.flt_model.specs.declared.call.Qualified.TheVariants as results
 use Rattle.flt_model.proofs.EntryFits.{AreNarrow, IsNotAdded, still, own_frame}
 
-module _ (life : Life) (narrow : (event : ℕ) → AreNarrow (event_of life event).dids.items) where
+module _ (life : Start) (narrow : (event : ℕ) → AreNarrow (event_of life event).dids.items) where
   -- The recent frame of an event has its width.
   abbrev IsFramed : ℕ → Trace → Type 0
   IsFramed event marks = length (decided (recent_row life event) (base_recent life event) marks) ≡ frame_width (event_of life event).dids.items

@@ -1,7 +1,7 @@
 -- The entries stay of distinct events, and within the memory.
 use Rattle.std.proofs.Common.{◌≡◌, ◌∙◌, ℕ, ◌+◌, ◌<◌, ◌≤◌, nat_eq, true, false, not, List, [], ◌∷◌, ◌++◌, filter, map, get_or, length, arith, refl, sym, ap, subst, inl, inr, eq-eqb, length-append}
 use Rattle.std.proofs.lemmas.Bool.{cases_Bool, ne_eqb, or_cases, or_parts, or_from, and_right}
-use Rattle.flt_model.specs.Life.{Life}
+use Rattle.flt_model.specs.Start.{Start}
 use Rattle.flt_model.specs.Mark.{Mark, Trace, Of}
 use Rattle.flt_model.specs.Mark.Mark.{Failed, Passed, Cycle, Clear, Aged, Displaced, Added, Refused}
 use Rattle.flt_model.specs.Entry.{holders, is_among, is_other}
@@ -57,7 +57,7 @@ pushed_length event events = omega (arith, length-append events (event ∷ []))
 
 -- ---- the marks of a call
 
-module _ (life : Life) where
+module _ (life : Start) where
   removed : (event : ℕ) (mark : Mark) (signals : List ℕ) (marks : Trace) → holders life (Of event mark signals ∷ marks) ≡ filter (is_other event) (holders life marks) →
       IsWithinMemory life marks → IsWithinMemory life (Of event mark signals ∷ marks)
   removed event mark signals marks is r = record {

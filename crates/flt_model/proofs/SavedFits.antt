@@ -10,7 +10,7 @@ use Rattle.flt_config.specs.declared.persist.EventState.{EventState}
 use Rattle.flt_config.specs.Ranges.{frame_width}
 use Rattle.flt_config.specs.Validity.{IsValid, IsEventInRange, IsFromTo}
 use Rattle.flt_config.specs.Durable.{Fits, AreStatesOf, IsStateOf, IsEntryOf, IsOfOtherEvent, IsNoted, start_state}
-use Rattle.flt_model.specs.Life.{Life, History, no_event, count, event_of, base_of}
+use Rattle.flt_model.specs.Start.{Start, History, no_event, count, event_of, base_of}
 use Rattle.flt_model.specs.Mark.{Trace, marks_of}
 use Rattle.flt_model.specs.Noted.{Notable, is_entering_failure as is_entering_event, is_confirming_failure, recent, first}
 use Rattle.flt_model.specs.Entry.{holders, has_entry, entry_of, base_entry, base_occurrence, is_entering}
@@ -59,7 +59,7 @@ module _ (events : List EventCfg) (event : ℕ) where
 
 -- ---- the whole
 
-module _ (life : Life) (valid : IsValid life.config) (fits : Fits life.config life.base) where
+module _ (life : Start) (valid : IsValid life.config) (fits : Fits life.config life.base) where
   -- The configuration of an event, as the definitions and as the fit read it.
   narrow : (event : ℕ) → AreNarrow (event_of life event).dids.items
   narrow = narrow_at life.config.events.items valid.events

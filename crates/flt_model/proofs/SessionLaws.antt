@@ -3,7 +3,7 @@ use Rattle.std.proofs.Common.{◌≡◌, ◌∙◌, ℕ, ◌+◌, ◌<◌, ◌%�
 use Rattle.std.specs.Prelude.{option_map, find, unwrap_or}
 use Rattle.std.proofs.lemmas.Bool.{cases_Bool, and_parts, or_parts, or_from, ne_eqb, leb-false, lt-leb, false_from_ne_true}
 use Rattle.std.proofs.lemmas.List.Sums.{sum_by-cons, take_while-cons}
-use Rattle.flt_model.specs.Life.{History}
+use Rattle.flt_model.specs.Start.{History}
 use Rattle.flt_model.specs.Request.{Form, Plain, Masked, Recorded, Optioned, SubFunction, sub_functions, has_sub_functions, form_of, is_record_number, dtc_of, RequestBytes, row, asked, asked_in, asked_with_sub, asked_clear}
 use Rattle.flt_model.specs.Session.{session_of, session_asked, silence, is_extended, off_asked, holds_off}
 use Rattle.flt_model.specs.SessionLaws.{RequestLeavesOtherTesters, asks_session, is_from, is_session_request, ticks_of, unheard, StaysInSession, AskedForExtended, ExtendedWhereAsked, DefaultHoldsNothing}

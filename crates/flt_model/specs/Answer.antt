@@ -2,7 +2,7 @@
 use Rattle.std.specs.Prelude.{ℕ, Bool, true, false, if◌then◌else◌, ◌==◌, List, [], ◌∷◌, map, Option, Some, None, option_map, unwrap_or}
 use Rattle.flt_config.specs.declared.persist.Persist.{Persist}
 use Rattle.flt_config.specs.declared.persist.EntryState.{EntryState}
-use Rattle.flt_model.specs.Life.{Life, History, count, event_of}
+use Rattle.flt_model.specs.Start.{Start, History, count, event_of}
 use Rattle.flt_model.specs.Mark.{Trace}
 use Rattle.flt_model.specs.Debounce.{debounced, detection_counter}
 use Rattle.flt_model.specs.Happening.{Readiness, readiness, cause_of, happenings}
@@ -21,12 +21,12 @@ use Rattle.flt_model.specs.declared.call.Cause.{Cause}
 -- ---- what is seen of the events
 
 -- The entry of an event, if it has one.
-abbrev pub entry_where : Life → ℕ → Trace → Bool → Option EntryState
+abbrev pub entry_where : Start → ℕ → Trace → Bool → Option EntryState
 entry_where life event marks true = Some (entry_of life event marks)
 entry_where life event marks false = None
 
 -- What a tester may read of an event.
-abbrev pub event_view : Life → History → Trace → ℕ → EventView
+abbrev pub event_view : Start → History → Trace → ℕ → EventView
 event_view life past marks event = record {
   dtc = (event_of life event).dtc;
   dids = (event_of life event).dids.items;
@@ -44,7 +44,7 @@ noted_for state sub =
     else state.recent_confirmed
 
 -- What a tester may read of all events.
-abbrev pub view : Life → History → Trace → View
+abbrev pub view : Start → History → Trace → View
 view life past marks = record {
   events = map (event_view life past marks) (below (count life));
   noted = noted_for (saved life marks);
@@ -73,13 +73,13 @@ abbrev pub answer_report : Readiness → Reply
 answer_report seen = report_reply (cause_of seen)
 
 -- The answer to a call, given what the life began with and the calls before it.
-abbrev pub answer : Life → History → Op → Reply
+abbrev pub answer : Start → History → Op → Reply
 answer life past (ops.Report event report) = answer_report (readiness life event past)
 answer life past (ops.Show event) = replies.Shown (shown (event_view life past (trace life past) event) (overflow life (trace life past)))
 answer life past (ops.Request tester bytes) = response (view life past (trace life past)) (is_extended tester past) bytes.items
 answer life past _ = replies.Taken
 
 -- The answers to calls in their order, each given those before it.
-abbrev pub answers : Life → History → List Op → List Reply
+abbrev pub answers : Start → History → List Op → List Reply
 answers life past [] = []
 answers life past (op ∷ calls) = answer life past op ∷ answers life (op ∷ past) calls

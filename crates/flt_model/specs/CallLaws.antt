@@ -7,7 +7,7 @@ use Rattle.flt_config.specs.Durable.{Fits, initial_state}
 use Rattle.flt_model.specs.declared.call.Op.{Op}
 use Rattle.flt_model.specs.declared.call.Op.TheVariants as ops
 use Rattle.flt_model.specs.declared.call.Report.{Report}
-use Rattle.flt_model.specs.Life.{Life, History, count, event_of}
+use Rattle.flt_model.specs.Start.{Start, History, count, event_of}
 use Rattle.flt_model.specs.Mark.{Past, marks_of}
 use Rattle.flt_model.specs.Mark.Mark.{Displaced}
 use Rattle.flt_model.specs.Status.{status}
@@ -17,20 +17,20 @@ use Rattle.flt_model.specs.Durable.{saved_after}
 
 -- A clear of all leaves the state of a controller that never saved one.
 abbrev pub ClearOfAllLeavesFirstState : Type 0
-ClearOfAllLeavesFirstState = (life : Life) (past : History) (op : Op) → Fits life.config life.base →
+ClearOfAllLeavesFirstState = (life : Start) (past : History) (op : Op) → Fits life.config life.base →
     cleared_dtc op ≡ Some all_dtcs → saved_after life (op ∷ past) ≡ initial_state life.config
 
 -- A call is about one event: nothing happens to the others.
-abbrev pub IsAboutEvent : Life → History → Op → ℕ → Type 0
+abbrev pub IsAboutEvent : Start → History → Op → ℕ → Type 0
 IsAboutEvent life past op event = (other : ℕ) → other < count life → other ≢ event → happening_of life other past op ≡ None
 
 -- A report is about its event.
 abbrev pub ReportIsAboutItsEvent : Type 0
-ReportIsAboutItsEvent = (life : Life) (past : History) (event : ℕ) (report : Report) → IsAboutEvent life past (ops.Report event report) event
+ReportIsAboutItsEvent = (life : Start) (past : History) (event : ℕ) (report : Report) → IsAboutEvent life past (ops.Report event report) event
 
 -- A clear of one DTC is about the event that has it.
 abbrev pub ClearIsAboutItsEvent : Type 0
-ClearIsAboutItsEvent = (life : Life) (past : History) (op : Op) (event : ℕ) → AllPairs HasOtherDtc life.config.events.items →
+ClearIsAboutItsEvent = (life : Start) (past : History) (op : Op) (event : ℕ) → AllPairs HasOtherDtc life.config.events.items →
     event < count life → (event_of life event).dtc ≢ all_dtcs → cleared_dtc op ≡ Some (event_of life event).dtc → IsAboutEvent life past op event
 
 -- An event has no more marks, or one more, a displacement.
@@ -39,7 +39,7 @@ IsLeftAlone old new = (new ≡ old) ⊎ (new ≡ Displaced ∷ old)
 
 -- A call about one event does not change any other event, except one that is displaced.
 abbrev pub OthersAreLeftAlone : Type 0
-OthersAreLeftAlone = (life : Life) (past : History) (op : Op) (event other : ℕ) → IsAboutEvent life past op event → other ≢ event →
+OthersAreLeftAlone = (life : Start) (past : History) (op : Op) (event other : ℕ) → IsAboutEvent life past op event → other ≢ event →
     IsLeftAlone (marks_of other (trace life past)) (marks_of other (trace life (op ∷ past)))
 
 -- A displacement clears confirmedDTC and warningIndicatorRequested, and does not change the other bits.

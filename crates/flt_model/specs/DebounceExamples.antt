@@ -1,7 +1,7 @@
 -- Worked examples of debouncing.
 use Rattle.std.specs.Prelude.{true, false, [], ◌∷◌, map, pos, negsuc, None, Some}
 use Rattle.flt_config.specs.declared.config.Debounce.TheVariants as kinds
-use Rattle.flt_model.specs.Life.{fresh}
+use Rattle.flt_model.specs.Start.{fresh}
 use Rattle.flt_model.specs.declared.call.Op.TheVariants.{Tick, Cycle, Enable, Show}
 use Rattle.flt_model.specs.declared.call.ReplyOf.TheVariants.{Taken}
 use Rattle.flt_model.specs.Example.{event, configured, ◌⇒◌, Replays, fail, pass, prefail, prepass, asks, responds, minus, shows, extended}

@@ -2,7 +2,7 @@
 use Rattle.std.specs.Prelude.{ℕ, zero, suc, List, [], ◌∷◌, ◌++◌, map}
 use Rattle.flt_config.specs.declared.persist.Persist.{Persist}
 use Rattle.flt_config.specs.declared.persist.EventState.{EventState}
-use Rattle.flt_model.specs.Life.{Life, History, count, event_of, base_of}
+use Rattle.flt_model.specs.Start.{Start, History, count, event_of, base_of}
 use Rattle.flt_model.specs.Mark.{Trace, marks_of}
 use Rattle.flt_model.specs.Status.{durable}
 use Rattle.flt_model.specs.Entry.{entries, overflow}
@@ -15,11 +15,11 @@ below zero = []
 below (suc n) = below n ++ n ∷ []
 
 -- The state of an event after the marks of all.
-abbrev pub state_at : Life → Trace → ℕ → EventState
+abbrev pub state_at : Start → Trace → ℕ → EventState
 state_at life marks event = durable (base_of life event) (event_of life event) (marks_of event marks)
 
 -- The durable state after the marks of all.
-abbrev pub saved : Life → Trace → Persist
+abbrev pub saved : Start → Trace → Persist
 saved life marks = record {
   events = record { items = map (state_at life marks) (below (count life)) };
   entries = record { items = entries life marks };
@@ -31,5 +31,5 @@ saved life marks = record {
 }
 
 -- The durable state after a list of calls.
-abbrev pub saved_after : Life → History → Persist
+abbrev pub saved_after : Start → History → Persist
 saved_after life past = saved life (trace life past)

@@ -1,6 +1,6 @@
 -- What holds of enable conditions (this profile).
 use Rattle.std.specs.Prelude.{◌≡◌, ◌↔◌, ℕ, Bool, true, false, [], ◌∷◌, ◌++◌, None}
-use Rattle.flt_model.specs.Life.{Life, History, event_of}
+use Rattle.flt_model.specs.Start.{Start, History, event_of}
 use Rattle.flt_model.specs.Session.{is_setting_off}
 use Rattle.flt_model.specs.Happening.{happening_of, happenings, is_started, is_enabled}
 use Rattle.flt_model.specs.Answer.{answer}
@@ -23,22 +23,22 @@ pub record NamesFirstCause (off started enabled : Bool) (reply : Reply) : Type 0
 
 -- So does the answer to a report.
 abbrev pub CausesComeInOrder : Type 0
-CausesComeInOrder = (life : Life) (event : ℕ) (past : History) (report : Report) →
+CausesComeInOrder = (life : Start) (event : ℕ) (past : History) (report : Report) →
     NamesFirstCause (is_setting_off past) (is_started (event_of life event).cycle past) (is_enabled life event past)
     (answer life past (ops.Report event report))
 
 -- ---- a disabled event
 
 -- While an event is disabled, reports and ticks have no effect on it.
-pub record IsLeftByReportsAndTicks (life : Life) (event : ℕ) (past : History) : Type 0 where
+pub record IsLeftByReportsAndTicks (life : Start) (event : ℕ) (past : History) : Type 0 where
   pub reports : (other : ℕ) (report : Report) → happening_of life event past (ops.Report other report) ≡ None
   pub ticks : (ticks : ℕ) → happening_of life event past (ops.Tick ticks) ≡ None
 
 abbrev pub DisabledEventsAreLeft : Type 0
-DisabledEventsAreLeft = (life : Life) (event : ℕ) (past : History) → is_enabled life event past ≡ false → IsLeftByReportsAndTicks life event past
+DisabledEventsAreLeft = (life : Start) (event : ℕ) (past : History) → is_enabled life event past ≡ false → IsLeftByReportsAndTicks life event past
 
 -- The event is disabled during these calls, newest first: each is a report, ticks, or a call on a condition.
-abbrev pub IsDisabledThrough : Life → ℕ → History → History → Type 0
+abbrev pub IsDisabledThrough : Start → ℕ → History → History → Type 0
 IsDisabledThrough life event past [] = Unit {0}
 IsDisabledThrough life event past (ops.Enable condition fulfilled ∷ between) = IsDisabledThrough life event past between
 IsDisabledThrough life event past (ops.Report other report ∷ between) = (is_enabled life event (between ++ past) ≡ false) × IsDisabledThrough life event past between
@@ -47,14 +47,14 @@ IsDisabledThrough life event past (_ ∷ between) = ⊥
 
 -- Such calls do not add to what happened to it, so its debouncing continues from the same state.
 abbrev pub DisabledEventsGoOnWhereTheyStood : Type 0
-DisabledEventsGoOnWhereTheyStood = (life : Life) (event : ℕ) (past between : History) → IsDisabledThrough life event past between →
+DisabledEventsGoOnWhereTheyStood = (life : Start) (event : ℕ) (past between : History) → IsDisabledThrough life event past between →
     happenings life event (between ++ past) ≡ happenings life event past
 
 -- ---- conditions that make no difference
 
 -- An event that needs no condition is enabled.
 abbrev pub EventsWithoutNeedsAreEnabled : Type 0
-EventsWithoutNeedsAreEnabled = (life : Life) (event : ℕ) (past : History) → (event_of life event).needs ≡ 0 → is_enabled life event past ≡ true
+EventsWithoutNeedsAreEnabled = (life : Start) (event : ℕ) (past : History) → (event_of life event).needs ≡ 0 → is_enabled life event past ≡ true
 
 -- No call is on a condition.
 abbrev pub HasNoEnable : History → Type 0
@@ -64,10 +64,10 @@ HasNoEnable (_ ∷ past) = HasNoEnable past
 
 -- Then each event is enabled, whatever it needs.
 abbrev pub EventsAreEnabledAtFirst : Type 0
-EventsAreEnabledAtFirst = (life : Life) (event : ℕ) (past : History) → HasNoEnable past → is_enabled life event past ≡ true
+EventsAreEnabledAtFirst = (life : Start) (event : ℕ) (past : History) → HasNoEnable past → is_enabled life event past ≡ true
 
 -- No event needs a condition.
-abbrev pub NeedsNothing : Life → Type 0
+abbrev pub NeedsNothing : Start → Type 0
 NeedsNothing life = (event : ℕ) → (event_of life event).needs ≡ 0
 
 -- The calls other than those on conditions.
@@ -77,10 +77,10 @@ without_conditions (ops.Enable condition fulfilled ∷ past) = without_condition
 without_conditions (op ∷ past) = op ∷ without_conditions past
 
 -- Each call is answered as if no call on a condition had been made, and the durable state is that of the others.
-pub record IsAsWithoutConditions (life : Life) (past : History) : Type 0 where
+pub record IsAsWithoutConditions (life : Start) (past : History) : Type 0 where
   pub answers : (op : Op) → answer life past op ≡ answer life (without_conditions past) op
   pub state : saved_after life past ≡ saved_after life (without_conditions past)
 
 -- This holds if no event needs a condition.
 abbrev pub ConditionsThatNobodyNeeds : Type 0
-ConditionsThatNobodyNeeds = (life : Life) (past : History) → NeedsNothing life → IsAsWithoutConditions life past
+ConditionsThatNobodyNeeds = (life : Start) (past : History) → NeedsNothing life → IsAsWithoutConditions life past

@@ -5,7 +5,7 @@ use Rattle.std.specs.List.{list_any}
 use Rattle.flt_config.specs.declared.persist.EntryState.{EntryState}
 use Rattle.flt_config.specs.Durable.{is_of_event}
 use Rattle.flt_model.specs.declared.status.Rank.{Rank}
-use Rattle.flt_model.specs.Life.{Life, event_of, base_of}
+use Rattle.flt_model.specs.Start.{Start, event_of, base_of}
 use Rattle.flt_model.specs.Mark.{Mark, Row, Restart, Kind, decided, count_since, Traced, Trace, Of, AllCleared, marks_of}
 use Rattle.flt_model.specs.Mark.Mark.{Failed, Clear, Aged, Displaced, Added, Refused}
 use Rattle.flt_model.specs.Status.{test_failed, enters}
@@ -14,7 +14,7 @@ use Rattle.flt_model.specs.Frame.{frame_bytes}
 -- ---- which events have an entry
 
 -- The entry that an event had at power-up.
-abbrev pub base_entry : Life → ℕ → Option EntryState
+abbrev pub base_entry : Start → ℕ → Option EntryState
 base_entry life event = find (is_of_event event) life.base.entries.items
 
 -- Added gives an entry, and Aged, Displaced and Clear remove it.
@@ -26,7 +26,7 @@ entry_row past Clear = Some false
 entry_row past _ = None
 
 -- The event has an entry: it was added, and not removed since.
-abbrev pub has_entry : Life → ℕ → Trace → Bool
+abbrev pub has_entry : Start → ℕ → Trace → Bool
 has_entry life event trace = decided entry_row (is_some (base_entry life event)) (marks_of event trace)
 
 -- ---- in which order
@@ -48,7 +48,7 @@ holders_after Clear event events = filter (is_other event) events
 holders_after _ event events = events
 
 -- The events with an entry, in the order in which they were added.
-abbrev pub holders : Life → Trace → List ℕ
+abbrev pub holders : Start → Trace → List ℕ
 holders life [] = map (λ entry. entry.event) life.base.entries.items
 holders life (Of event mark signals ∷ trace) = holders_after mark event (holders life trace)
 holders life (AllCleared ∷ trace) = holders life trace
@@ -56,7 +56,7 @@ holders life (AllCleared ∷ trace) = holders life trace
 -- ---- which entry gives way
 
 -- The rank of an event: its priority number, and whether its last test did not fail.
-abbrev pub rank_of : Life → Trace → ℕ → Rank
+abbrev pub rank_of : Start → Trace → ℕ → Rank
 rank_of life trace event = record {
   priority = (event_of life event).priority;
   passive = not (test_failed (base_of life event) (marks_of event trace));
@@ -94,7 +94,7 @@ overflow_row trace AllCleared = Some false
 overflow_row trace _ = None
 
 -- Some event found the memory full since the last clear of all.
-abbrev pub overflow : Life → Trace → Bool
+abbrev pub overflow : Start → Trace → Bool
 overflow life trace = decided overflow_row life.base.overflow trace
 
 -- ---- what an entry holds
@@ -104,7 +104,7 @@ abbrev pub restarts_occurrence : Restart
 restarts_occurrence past Added = Some 1
 restarts_occurrence past _ = None
 
-module _ (life : Life) (event : ℕ) where
+module _ (life : Start) (event : ℕ) where
   -- A failure that changes the test result.
   abbrev pub is_entering : Kind
   is_entering past Failed = enters (base_of life event) past
@@ -151,7 +151,7 @@ module _ (life : Life) (event : ℕ) where
   }
 
 -- The entries, in the order in which they were added.
-abbrev pub entries : Life → Trace → List EntryState
+abbrev pub entries : Start → Trace → List EntryState
 entries life trace = map (λ event. entry_of life event trace) (holders life trace)
 
 -- ---- what storing an event does to its entry

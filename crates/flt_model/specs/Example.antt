@@ -4,7 +4,7 @@ use Rattle.flt_config.specs.declared.config.Config.{Config}
 use Rattle.flt_config.specs.declared.config.DidUse.{DidUse}
 use Rattle.flt_config.specs.declared.config.EventCfg.{EventCfg}
 use Rattle.flt_config.specs.declared.config.Debounce.TheVariants as kinds
-use Rattle.flt_model.specs.Life.{Life, History}
+use Rattle.flt_model.specs.Start.{Start, History}
 use Rattle.flt_model.specs.Answer.{answers}
 use Rattle.flt_model.specs.Durable.{saved_after}
 use Rattle.flt_model.specs.declared.call.Op.{Op}
@@ -43,7 +43,7 @@ configured memory events =
     record { id = 0; memory = memory; pages = 512; blocks = 8; events = record { items = events } }
 
 -- The life after these calls and a power-down, at which the durable state was saved.
-abbrev pub restarted : Life → History → Life
+abbrev pub restarted : Start → History → Start
 restarted life past = record { config = life.config; base = saved_after life past }
 
 -- A call, and the answer to it.
@@ -57,7 +57,7 @@ abbrev pub ◌⇒◌ : Op → Reply → Answered
 call ⇒ reply = record { call = call; reply = reply }
 
 -- A life answers these calls, from its beginning, with these replies.
-abbrev pub Replays : Life → List Answered → Type 0
+abbrev pub Replays : Start → List Answered → Type 0
 Replays life rows = answers life [] (map (λ row. row.call) rows) ≡ map (λ row. row.reply) rows
 
 -- A monitor reports that its test failed.

@@ -1,7 +1,7 @@
 -- What the calls mean for each event: started cycles, signals, enable conditions, and what happened to the event (AUTOSAR Dem, in outline).
 use Rattle.std.specs.Prelude.{ℕ, ◌==◌, Bool, true, false, not, ◌&&◌, ◌||◌, if◌then◌else◌, List, [], ◌∷◌, slice_index_or, Option, Some, None, is_none, Result, Ok, Err}
 use Rattle.std.specs.List.{list_all}
-use Rattle.flt_model.specs.Life.{Life, History, event_of}
+use Rattle.flt_model.specs.Start.{Start, History, event_of}
 use Rattle.flt_model.specs.Mark.{decided}
 use Rattle.flt_model.specs.Byte.{is_bit_set}
 use Rattle.flt_model.specs.Debounce.{Happening, Happenings, Reported, Ticked, Ended, Cleared}
@@ -66,7 +66,7 @@ abbrev pub are_met : ℕ → List Bool → Bool
 are_met needs fulfilled = list_all (λ c. not (is_bit_set needs c) || slice_index_or fulfilled c true) (0 ∷ 1 ∷ 2 ∷ 3 ∷ 4 ∷ 5 ∷ 6 ∷ 7 ∷ [])
 
 -- An event is enabled while every condition that it needs is fulfilled.
-abbrev pub is_enabled : Life → ℕ → History → Bool
+abbrev pub is_enabled : Start → ℕ → History → Bool
 is_enabled life event past = are_met (event_of life event).needs (conditions past)
 
 -- ---- clears
@@ -91,7 +91,7 @@ cleared_dtc (ops.Request tester bytes) = clear_asked (asked false bytes.items)
 cleared_dtc _ = None
 
 -- A clear of this DTC reaches an event.
-abbrev pub reaches : Life → ℕ → ℕ → Bool
+abbrev pub reaches : Start → ℕ → ℕ → Bool
 reaches life event dtc = (dtc == all_dtcs) || (dtc == (event_of life event).dtc)
 
 -- A clear that reaches the event.
@@ -100,7 +100,7 @@ cleared_where true = Some Cleared
 cleared_where false = None
 
 -- What a call that clears this DTC is for an event.
-abbrev pub happening_of_clear : Life → ℕ → Option ℕ → Option Happening
+abbrev pub happening_of_clear : Start → ℕ → Option ℕ → Option Happening
 happening_of_clear life event None = None
 happening_of_clear life event (Some dtc) = cleared_where (reaches life event dtc)
 
@@ -116,7 +116,7 @@ pub record Readiness : Type 0 where
   pub enabled : Bool
 
 -- What is seen of an event after a past.
-abbrev pub readiness : Life → ℕ → History → Readiness
+abbrev pub readiness : Start → ℕ → History → Readiness
 readiness life event past = record {
   setting = not (is_setting_off past);
   started = is_started (event_of life event).cycle past;
@@ -132,15 +132,15 @@ cause_of seen =
     else None
 
 -- A report counts if there is no cause to ignore it.
-abbrev pub counts_report : Life → ℕ → History → Bool
+abbrev pub counts_report : Start → ℕ → History → Bool
 counts_report life event past = is_none (cause_of (readiness life event past))
 
 -- Ticks count with the setting on, for an event that is enabled.
-abbrev pub counts_ticks : Life → ℕ → History → Bool
+abbrev pub counts_ticks : Start → ℕ → History → Bool
 counts_ticks life event past = not (is_setting_off past) && is_enabled life event past
 
 -- A report on the event itself.
-abbrev pub own_report : Life → ℕ → History → Bool → Option Bool
+abbrev pub own_report : Start → ℕ → History → Bool → Option Bool
 own_report life event past true = Some (counts_report life event past)
 own_report life event past false = None
 
@@ -151,7 +151,7 @@ reported_where (Some false) report = None
 reported_where None report = None
 
 -- What a call after a past is for an event.
-abbrev pub happening_of : Life → ℕ → History → Op → Option Happening
+abbrev pub happening_of : Start → ℕ → History → Op → Option Happening
 happening_of life event past (ops.Report other report) =
     reported_where (own_report life event past (other == event)) (Reported report)
 happening_of life event past (ops.Tick ticks) = if counts_ticks life event past then Some (Ticked ticks) else None
@@ -165,6 +165,6 @@ with_happening None happenings = happenings
 with_happening (Some happening) happenings = happening ∷ happenings
 
 -- What happened to an event in a list of calls, newest first.
-abbrev pub happenings : Life → ℕ → History → Happenings
+abbrev pub happenings : Start → ℕ → History → Happenings
 happenings life event [] = []
 happenings life event (op ∷ past) = with_happening (happening_of life event past op) (happenings life event past)

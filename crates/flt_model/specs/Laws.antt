@@ -2,7 +2,7 @@
 use Rattle.std.specs.Prelude.{◌≡◌, ℕ, ◌<◌, ◌⊎◌, ◌↔◌, slice_index, ◌≤◌, ◌==◌, Bool, true, false, if◌then◌else◌, IsTrue, List, [], ◌∷◌, length, map, AllPairs, Option, Some, None}
 use Rattle.flt_config.specs.Validity.{IsValid}
 use Rattle.flt_config.specs.Durable.{Fits}
-use Rattle.flt_model.specs.Life.{Life, History}
+use Rattle.flt_model.specs.Start.{Start, History}
 use Rattle.flt_model.specs.Mark.{decided, Traced, Trace, Of}
 use Rattle.flt_model.specs.Mark.Mark.{Added}
 use Rattle.flt_model.specs.Entry.{has_entry, holders, is_among, worst, is_worse, IsWorse, gives_way}
@@ -12,7 +12,7 @@ use Rattle.flt_model.specs.Durable.{saved_after}
 
 -- An event is among the holders if and only if it was added, and not removed since.
 abbrev pub HoldersHaveEntries : Type 0
-HoldersHaveEntries = (life : Life) (trace : Trace) (event : ℕ) →
+HoldersHaveEntries = (life : Start) (trace : Trace) (event : ℕ) →
     is_among event (holders life trace) ≡ has_entry life event trace
 
 -- ---- which entry gives way
@@ -55,16 +55,16 @@ is_behind first second [] = false
 is_behind first second (event ∷ events) = if event == first then is_among second events else is_behind first second events
 
 -- The second event was added after the first, or was after it at power-up if neither was added since.
-abbrev pub was_added_later : Life → Trace → ℕ → ℕ → Bool
+abbrev pub was_added_later : Start → Trace → ℕ → ℕ → Bool
 was_added_later life trace first second =
     decided (behind_row first second) (is_behind first second (map (λ entry. entry.event) life.base.entries.items)) trace
 
 -- The entries are in the order in which they were last added.
-abbrev pub AreInOrder : Life → Trace → Type 0
+abbrev pub AreInOrder : Start → Trace → Type 0
 AreInOrder life trace = AllPairs (λ first second. was_added_later life trace first second ≡ true) (holders life trace)
 
 abbrev pub EntriesStandAsAdded : Type 0
-EntriesStandAsAdded = (life : Life) (past : History) → Fits life.config life.base → AreInOrder life (trace life past)
+EntriesStandAsAdded = (life : Start) (past : History) → Fits life.config life.base → AreInOrder life (trace life past)
 
 -- ---- how many they are
 
@@ -74,18 +74,18 @@ Distinct [] = Unit {0}
 Distinct (event ∷ events) = (is_among event events ≡ false) × Distinct events
 
 -- The entries are of distinct events, and at most as many as the memory has room for.
-pub record IsWithinMemory (life : Life) (marks : Trace) : Type 0 where
+pub record IsWithinMemory (life : Start) (marks : Trace) : Type 0 where
   pub distinct : Distinct (holders life marks)
   pub room : length (holders life marks) ≤ life.config.memory
 
 -- This holds for the entries of a base that fits.
 abbrev pub FittingBaseHasRoom : Type 0
-FittingBaseHasRoom = (life : Life) → Fits life.config life.base → IsWithinMemory life []
+FittingBaseHasRoom = (life : Start) → Fits life.config life.base → IsWithinMemory life []
 
 -- The calls preserve it.
 abbrev pub EntriesKeepRoom : Type 0
-EntriesKeepRoom = (life : Life) (past : History) → IsWithinMemory life [] → IsWithinMemory life (trace life past)
+EntriesKeepRoom = (life : Start) (past : History) → IsWithinMemory life [] → IsWithinMemory life (trace life past)
 
 -- From a state that fits the configuration, every list of calls leaves one that fits it.
 abbrev pub SavedStatesFit : Type 0
-SavedStatesFit = (life : Life) (past : History) → IsValid life.config → Fits life.config life.base → Fits life.config (saved_after life past)
+SavedStatesFit = (life : Start) (past : History) → IsValid life.config → Fits life.config life.base → Fits life.config (saved_after life past)

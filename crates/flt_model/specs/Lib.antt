@@ -1,4 +1,4 @@
-pub mod Life
+pub mod Start
 pub mod Mark
 pub mod Byte
 pub mod Status

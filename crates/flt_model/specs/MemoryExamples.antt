@@ -4,7 +4,7 @@ use Rattle.flt_config.specs.declared.config.EventCfg.{EventCfg}
 use Rattle.flt_config.specs.declared.config.Debounce.TheVariants as kinds
 use Rattle.flt_config.specs.Durable.{initial_state}
 use Rattle.flt_model.specs.Answer.{answers}
-use Rattle.flt_model.specs.Life.{History, fresh}
+use Rattle.flt_model.specs.Start.{History, fresh}
 use Rattle.flt_model.specs.Durable.{below}
 use Rattle.flt_model.specs.declared.call.Op.TheVariants.{Signal, Tick, Cycle, Show}
 use Rattle.flt_model.specs.declared.call.ReplyOf.TheVariants.{Taken, Ignored}

@@ -1,7 +1,7 @@
 -- The events that are noted as first and as most recent, of those that failed and of those that were confirmed (this
 -- profile; read by ISO 14229-1, service 0x19, sub-functions 0x0B to 0x0E).
 use Rattle.std.specs.Prelude.{ℕ, ◌==◌, Bool, true, false, if◌then◌else◌, [], ◌∷◌, Option, Some, None}
-use Rattle.flt_model.specs.Life.{Life, event_of, base_of}
+use Rattle.flt_model.specs.Start.{Start, event_of, base_of}
 use Rattle.flt_model.specs.Mark.{Trace, Of, marks_of}
 use Rattle.flt_model.specs.Mark.Mark.{Failed, Clear}
 use Rattle.flt_model.specs.Status.{enters, confirms}
@@ -11,11 +11,11 @@ abbrev pub Notable : Type 0
 Notable = ℕ → Trace → Bool
 
 -- The failure changes the test result.
-abbrev pub is_entering_failure : Life → Notable
+abbrev pub is_entering_failure : Start → Notable
 is_entering_failure life event trace = enters (base_of life event) (marks_of event trace)
 
 -- The failure confirms its event.
-abbrev pub is_confirming_failure : Life → Notable
+abbrev pub is_confirming_failure : Start → Notable
 is_confirming_failure life event trace = confirms (base_of life event) (event_of life event) (marks_of event trace)
 
 -- A clear removes the event's note.

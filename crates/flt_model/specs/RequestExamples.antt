@@ -1,6 +1,6 @@
 -- Worked examples of requests and sessions.
 use Rattle.std.specs.Prelude.{true, false, [], ◌∷◌, pos}
-use Rattle.flt_model.specs.Life.{fresh}
+use Rattle.flt_model.specs.Start.{fresh}
 use Rattle.flt_model.specs.declared.call.Op.TheVariants.{Tick, Cycle, Show}
 use Rattle.flt_model.specs.Reply.{Reply}
 use Rattle.flt_model.specs.declared.call.ReplyOf.TheVariants.{Taken, Ignored, Silent}

@@ -1,6 +1,6 @@
 -- The testers' sessions, and whether the DTC setting is off (ISO 14229-1, services 0x10 and 0x85).
 use Rattle.std.specs.Prelude.{ℕ, ◌+◌, nat_le, ◌==◌, Bool, false, not, ◌||◌, if◌then◌else◌, [], ◌∷◌, Option, Some, None, Result, Ok, Err}
-use Rattle.flt_model.specs.Life.{History}
+use Rattle.flt_model.specs.Start.{History}
 use Rattle.flt_model.specs.Mark.{decided}
 use Rattle.flt_model.specs.Request.{asked}
 use Rattle.flt_model.specs.declared.call.Op.{Op}

@@ -1,6 +1,6 @@
 -- What holds of the testers' sessions (ISO 14229-1, services 0x10 and 0x85; ISO 14229-2, S3).
 use Rattle.std.specs.Prelude.{◌≡◌, ◌≢◌, ◌↔◌, ℕ, ◌<◌, ◌%◌, ◌==◌, Bool, true, false, not, ◌&&◌, ◌||◌, List, [], ◌∷◌, ◌++◌, sum_by, take_while}
-use Rattle.flt_model.specs.Life.{History}
+use Rattle.flt_model.specs.Start.{History}
 use Rattle.flt_model.specs.Request.{RequestBytes}
 use Rattle.flt_model.specs.Session.{is_extended, silence, holds_off}
 use Rattle.flt_model.specs.declared.call.Op.{Op}

@@ -1,7 +1,7 @@
 -- Worked examples of status bits, counts, healing and aging.
 use Rattle.std.specs.Prelude.{ℕ, true, false, [], ◌∷◌, pos}
 use Rattle.flt_config.specs.Durable.{initial_state}
-use Rattle.flt_model.specs.Life.{Life, fresh}
+use Rattle.flt_model.specs.Start.{Start, fresh}
 use Rattle.flt_model.specs.declared.call.Op.TheVariants.{Cycle, Enable, Show}
 use Rattle.flt_model.specs.declared.call.ReplyOf.TheVariants.{Taken, Ignored}
 use Rattle.flt_model.specs.declared.call.Cause.TheVariants.{SettingOff, NotStarted, NotEnabled}
@@ -164,7 +164,7 @@ NextLife =
     ∷ [])
 
 -- A confirmed event that is lit, with an entry, as it was saved: its status, its counts and the occurrences of its entry.
-abbrev pub saved_once : ℕ → ℕ → ℕ → ℕ → Life
+abbrev pub saved_once : ℕ → ℕ → ℕ → ℕ → Start
 saved_once status failed clean occurrence = record {
   config = configured 16 (record (event 0x123456) { indicator = true; heal = 255; age = 255 } ∷ []);
   base = record (initial_state (configured 16 (event 0x123456 ∷ []))) {

@@ -3,7 +3,7 @@ use Rattle.std.proofs.Common.{◌≡◌, ◌∙◌, ℕ, zero, suc, arith, List,
 use Rattle.std.proofs.lemmas.Bool.{cases_Bool}
 use Rattle.std.specs.Prelude.{slice_set, replicate, slice_index_or, ◌≤◌, ◌<◌, ◌^◌, fold}
 use Rattle.std.proofs.lemmas.List.Sums.{fold-append}
-use Rattle.flt_model.specs.Life.{Life, History}
+use Rattle.flt_model.specs.Start.{Start, History}
 use Rattle.flt_model.specs.declared.call.Op.{Op}
 use Rattle.flt_notify.specs.declared.change.Change.{Change}
 use Rattle.flt_notify.specs.Changes.{changes, changes_from, changes_of_call, statuses_after}
@@ -47,7 +47,7 @@ kinds_apart v w x [] = refl
 kinds_apart v w x (change ∷ made) = kinds_apart (next_value 0 v change) (next_value 1 w change) (next_value 2 x change) made
 
 -- The values after a call more are those before it, taken through its changes.
-pub values_follow : (life : Life) (past : History) (op : Op) (place : ℕ)
+pub values_follow : (life : Start) (past : History) (op : Op) (place : ℕ)
     → fold (next_values 0) (values_after life past) (changes_from place 0 (statuses_after life past) (statuses_after life (op ∷ past)))
     ≡ values_after life (op ∷ past)
 values_follow life past op place =
@@ -59,7 +59,7 @@ values_follow life past op place =
     ∙ (λ i. each 0 i ∷ each 1 i ∷ each 2 i ∷ [])
 
 -- The values by their kinds.
-pub values_by_kind : (life : Life) (past : History) (kind : ℕ) → kind ≤ 2 → slice_index_or (values_after life past) kind 0 ≡ value_after life past kind
+pub values_by_kind : (life : Start) (past : History) (kind : ℕ) → kind ≤ 2 → slice_index_or (values_after life past) kind 0 ≡ value_after life past kind
 values_by_kind life past zero within = refl
 values_by_kind life past (suc zero) within = refl
 values_by_kind life past (suc (suc zero)) within = refl

@@ -1,7 +1,7 @@
 -- A watched machine goes on standing for its base and calls when a call's changes are told.
 use Rattle.std.proofs.Common.{◌≡◌, ◌∙◌, ℕ, ◌+◌, ◌-◌, ◌^◌, List, ◌∷◌, min, arith, ap}
 use Rattle.std.specs.Prelude.{fold}
-use Rattle.flt_model.specs.Life.{Life, History}
+use Rattle.flt_model.specs.Start.{Start, History}
 use Rattle.flt_model.specs.declared.call.Op.{Op}
 use Rattle.flt_dcm.specs.Unit.{Stands, UnitView}
 use Rattle.flt_notify.specs.Changes.{changes_from, statuses_after}
@@ -9,7 +9,7 @@ use Rattle.flt_notify.specs.Value.{next_values, values_after}
 use Rattle.flt_notify.specs.Watch.{IsWatching}
 use Rattle.flt_notify.proofs.ValueLemmas.{values_follow}
 
-pub watching_follows : (life : Life) (past : History) (op : Op) (old new : UnitView) (values now before : List ℕ) (calls later : ℕ)
+pub watching_follows : (life : Start) (past : History) (op : Op) (old new : UnitView) (values now before : List ℕ) (calls later : ℕ)
     → IsWatching life past old values calls
     → Stands life (op ∷ past) new
     → before ≡ statuses_after life past

@@ -1,7 +1,7 @@
 -- The changes of status bytes that calls make (this profile).
 use Rattle.std.specs.Prelude.{ℕ, suc, ◌==◌, if◌then◌else◌, List, [], ◌∷◌, ◌++◌, length, map}
 use Rattle.flt_config.specs.declared.persist.EventState.{EventState}
-use Rattle.flt_model.specs.Life.{Life, History}
+use Rattle.flt_model.specs.Start.{Start, History}
 use Rattle.flt_model.specs.Durable.{saved_after}
 use Rattle.flt_notify.specs.declared.change.Change.{Change}
 
@@ -10,7 +10,7 @@ abbrev pub statuses : List EventState → List ℕ
 statuses states = map (λ state. state.status) states
 
 -- The status bytes of all events after these calls.
-abbrev pub statuses_after : Life → History → List ℕ
+abbrev pub statuses_after : Start → History → List ℕ
 statuses_after life past = statuses (saved_after life past).events.items
 
 -- The changes of a call at a place, where these are the bytes before and after it of the events from a number on: those of the events
@@ -22,10 +22,10 @@ changes_from place event (before ∷ befores) (after ∷ afters) =
 changes_from place event _ _ = []
 
 -- The changes of the last call, behind these.
-abbrev pub changes_of_call : Life → History → History → List Change
+abbrev pub changes_of_call : Start → History → History → List Change
 changes_of_call life past now = changes_from (length past) 0 (statuses_after life past) (statuses_after life now)
 
 -- The changes of all calls: by their places in order, and then by the number of the event.
-abbrev pub changes : Life → History → List Change
+abbrev pub changes : Start → History → List Change
 changes life [] = []
 changes life (op ∷ past) = changes life past ++ changes_of_call life past (op ∷ past)

@@ -1,6 +1,6 @@
 -- Worked examples of changes and values.
 use Rattle.std.specs.Prelude.{◌≡◌, ℕ, List, [], ◌∷◌}
-use Rattle.flt_model.specs.Life.{Life, History, fresh}
+use Rattle.flt_model.specs.Start.{Start, History, fresh}
 use Rattle.flt_model.specs.declared.call.Op.TheVariants.{Cycle}
 use Rattle.flt_model.specs.Example.{event, configured, fail, pass, asks}
 use Rattle.flt_notify.specs.declared.change.Change.{Change}
@@ -12,7 +12,7 @@ abbrev pub at : ℕ → ℕ → ℕ → ℕ → Change
 at place event before after = record { place = place; event = event; before = before; after = after }
 
 -- These calls, the newest first, make these changes and lead to these values of the kinds 0, 1 and 2.
-pub record Leads (life : Life) (past : History) (made : List Change) (values : List ℕ) : Type 0 where
+pub record Leads (life : Start) (past : History) (made : List Change) (values : List ℕ) : Type 0 where
   pub changes_made : changes life past ≡ made
   pub values_kept : values_after life past ≡ values
 

@@ -1,6 +1,6 @@
 -- What a contract sees of a table of subscribers: their kinds, and the values.
 use Rattle.std.specs.Prelude.{◌≡◌, ◌≤◌, true, ℕ, if◌then◌else◌, List, replicate, Option, Some, None, slice_index_or}
-use Rattle.flt_model.specs.Life.{Life, History}
+use Rattle.flt_model.specs.Start.{Start, History}
 use Rattle.flt_notify.specs.Value.{value_after}
 use Rattle.flt_notify.specs.declared.table.SubTable.{SubTable}
 use Rattle.flt_notify.specs.Rows.{has_kind}
@@ -19,7 +19,7 @@ abbrev pub value_in : {n : ℕ} {F : _} {g : _} → SubTable n F g → ℕ → O
 value_in table kind = if has_kind (kinds_in table) kind then Some (slice_index_or (values_in table) kind 0) else None
 
 -- Each subscriber has the value that the changes of these calls give its kind.
-abbrev pub HasValuesOf : {n : ℕ} {F : _} {g : _} → Life → History → SubTable n F g → Type 0
+abbrev pub HasValuesOf : {n : ℕ} {F : _} {g : _} → Start → History → SubTable n F g → Type 0
 HasValuesOf life past table =
     (kind : ℕ) → kind ≤ 2 → has_kind (kinds_in table) kind ≡ true → value_in table kind ≡ Some (value_after life past kind)
 

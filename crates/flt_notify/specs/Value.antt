@@ -1,6 +1,6 @@
 -- The values that subscribers keep, by their kind (this profile).
 use Rattle.std.specs.Prelude.{ℕ, suc, ◌+◌, ◌*◌, ◌-◌, ◌^◌, ◌%◌, ◌<◌, ◌==◌, min, if◌then◌else◌, List, [], ◌∷◌, fold}
-use Rattle.flt_model.specs.Life.{Life, History}
+use Rattle.flt_model.specs.Start.{Start, History}
 use Rattle.flt_notify.specs.declared.change.Change.{Change}
 use Rattle.flt_notify.specs.Changes.{changes}
 
@@ -22,7 +22,7 @@ next_value kind value change =
     else (31 * value + word change) % 2 ^ 32
 
 -- The value of a kind after these calls.
-abbrev pub value_after : Life → History → ℕ → ℕ
+abbrev pub value_after : Start → History → ℕ → ℕ
 value_after life past kind = fold (next_value kind) 0 (changes life past)
 
 -- ---- of all three kinds
@@ -33,5 +33,5 @@ next_values kind [] change = []
 next_values kind (value ∷ values) change = next_value kind value change ∷ next_values (suc kind) values change
 
 -- The values of the three kinds after these calls.
-abbrev pub values_after : Life → History → List ℕ
+abbrev pub values_after : Start → History → List ℕ
 values_after life past = value_after life past 0 ∷ value_after life past 1 ∷ value_after life past 2 ∷ []

@@ -1,11 +1,11 @@
 -- What a watched status machine stands for.
 use Rattle.std.specs.Prelude.{◌≡◌, ℕ, ◌-◌, ◌^◌, min, List, length}
-use Rattle.flt_model.specs.Life.{Life, History}
+use Rattle.flt_model.specs.Start.{Start, History}
 use Rattle.flt_dcm.specs.Unit.{Stands, UnitView}
 use Rattle.flt_notify.specs.Value.{values_after}
 
 -- The unit stands for the base and the calls, each value is that of the changes which these calls make, and the calls are counted, as far as 2^32 - 1.
-pub record IsWatching (life : Life) (past : History) (unit : UnitView) (values : List ℕ) (calls : ℕ) : Type 0 where
+pub record IsWatching (life : Start) (past : History) (unit : UnitView) (values : List ℕ) (calls : ℕ) : Type 0 where
   pub unit_stands : Stands life past unit
   pub values_stand : values ≡ values_after life past
   pub counted : calls ≡ min (length past) (2 ^ 32 - 1)

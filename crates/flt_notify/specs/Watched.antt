@@ -1,6 +1,6 @@
 -- What a contract sees of a watched machine: its unit, and the values of the three kinds.
 use Rattle.std.specs.Prelude.{ℕ, List}
-use Rattle.flt_model.specs.Life.{Life, History}
+use Rattle.flt_model.specs.Start.{Start, History}
 use Rattle.flt_dcm.specs.Unit.{UnitView}
 use Rattle.flt_notify.specs.declared.watched.Watched.{Watched}
 use Rattle.flt_notify.specs.Watch.{IsWatching}
@@ -14,5 +14,5 @@ abbrev pub values_of : Watched → List ℕ
 values_of watched = watched.values
 
 -- It stands for a base and these calls, and so do its values.
-abbrev pub Watches : Life → History → Watched → Type 0
+abbrev pub Watches : Start → History → Watched → Type 0
 Watches life past watched = IsWatching life past (watched_unit watched) (values_of watched) watched.calls

@@ -1,6 +1,6 @@
 //! The status machine with the values of its subscribers, as it lies under the lock.
 ghost use Rattle.std.specs.Prelude.{◌≡◌, ◌≤◌, ◌^◌, ◌-◌, ◌+◌, [], min, fold, length, map, reverse};
-ghost use Rattle.flt_model.specs.Life.{Life, History};
+ghost use Rattle.flt_model.specs.Start.{Start, History};
 ghost use Rattle.flt_did.specs.Serves.{Serves};
 ghost use Rattle.flt_did.specs.Table.{dids_of};
 ghost use Rattle.flt_dcm.specs.Unit.{Stands, written};
@@ -22,7 +22,7 @@ use flt_config::{EVENTS, EventState, Persist};
 use flt_did::{DID_ROWS, DidTable};
 use flt_model::RESPONSE;
 use flt_shared::{BoxedUnit, DemStart, Guarded, Op, Reply, ReplyKind};
-use flt_turn::{Machine, Step, StepInto};
+use flt_turn::{Machine, StepInto, Stepper};
 
 /// What is lent to each step of a watched machine: the functions that it calls, which are only read.
 #[derive(Drop)]
@@ -79,12 +79,12 @@ impl Watched {
 
     /// The unit and the table of subscribers, with their values.
     pub fn into_parts(self, lent: Lent) -> (BoxedUnit, SubTable<KINDS>)
-        requires served { Serves (dids_of lent.dids) (watched_unit self).dem.faults.config.events.items }
+        requires served { Serves (dids_of lent.dids) (watched_unit self).dem.durable.config.events.items }
         ensures unit { unit_in result.0 ≡ watched_unit self }
         ensures dids { dids_of result.0.dids ≡ dids_of lent.dids }
         ensures subs { kinds_in result.1 ≡ kinds_of lent.subscribers }
         ensures values { values_in result.1 ≡ values_of self }
-        ensures told { (life : Life) (past : History) → Watches life past self → HasValuesOf life past result.1 }
+        ensures told { (life : Start) (past : History) → Watches life past self → HasValuesOf life past result.1 }
     {
         let Watched {
             guarded,
@@ -105,10 +105,10 @@ impl Watched {
 
     /// Ends a step: tells the changes since the status bytes were these, and counts the call.
     fn tell(&mut self, subscribers: &Subscribers<KINDS>, before: &[u8])
-        requires one_each { length before.now ≡ length (watched_unit self.old).dem.faults.config.events.items }
+        requires one_each { length before.now ≡ length (watched_unit self.old).dem.durable.config.events.items }
         ensures unit { self.new.guarded ≡ self.old.guarded }
         ensures calls { self.new.calls ≡ min (self.old.calls + 1) (2 ^ 32 - 1) }
-        ensures values { (life : Life) (now : History) → Stands life now (watched_unit self.old)
+        ensures values { (life : Start) (now : History) → Stands life now (watched_unit self.old)
             → self.new.values ≡ fold (next_values 0) self.old.values (changes_from self.old.calls 0 before.now (statuses_after life now)) }
     {
         let states = self.guarded.state.states();
@@ -140,7 +140,7 @@ impl Machine for Watched {
     ghost written = { λ start ops op out. written start (reverse ops) op out };
 }
 
-impl Step for Watched {
+impl Stepper for Watched {
     type Context = Lent;
 
     ghost serves = { λ lent start. Serves (dids_of lent.dids) start.config.events.items };

@@ -165,7 +165,7 @@ impl<B: Blocks + Drop> Nvm<B> {
         ensures refuses_damage { OnOk result ((driver_of self.old).damage ≡ None) }
         ensures never_full { NeverFull result }
         ensures spent { SameSpent (driver_of self.old) (driver_of self.new) }
-        ensures settled { OnOk result (IsFalse (driver_of self.new).is_stale) }
+        ensures not_stale { OnOk result (IsFalse (driver_of self.new).is_stale) }
         ensures stale { IsFalse (driver_of self.old).is_stale → IsFalse (driver_of self.new).is_stale }
         ensures image { IsFalse (driver_of self.old).is_stale → SameImage (driver_of self.old) (driver_of self.new) }
         ensures costs { ReadCosts (driver_of self.old) (driver_of self.new) (number_of id 1) }
@@ -233,7 +233,7 @@ impl<B: Blocks + Drop> Nvm<B> {
     /// What a read of an index of a block, or of a copy counted from 0, would find, without its bytes. It makes no operation of the
     /// device.
     pub fn look_up(&self, id: u16, place: u8) -> Found
-        requires settled { IsFalse (driver_of self.now).is_stale }
+        requires not_stale { IsFalse (driver_of self.now).is_stale }
         requires place { HasPlace (table_of self.now) id place }
         ensures { result ≡ found_of ((driver_of self.now).value (number_of id place)) }
     {

@@ -4,13 +4,13 @@
 //! that is not done, and at most 32 jobs wait. The layer above uses the four calls of `QueueLock`. Read `specs/Queue.antt` first.
 #![tactic(auto)]
 
-mod guarded;
+mod boxed_queue;
 mod job;
 pub mod laws;
 mod lock;
 mod queue;
 
-pub use guarded::Guarded;
+pub use boxed_queue::BoxedQueue;
 pub use job::{BLOCKS, BYTES, Job, LastResult, QueueOp, QueueReply, WAITING};
 pub use lock::{QueueAnswer, QueueEnd, QueueLock, QueueSeat};
 pub use queue::JobQueue;

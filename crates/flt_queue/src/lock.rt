@@ -10,7 +10,7 @@ ghost use Rattle.flt_turn.specs.Call.{IsRefusal};
 ghost use Rattle.flt_turn.specs.Journal.{Interleaves, ops_of};
 ghost use Rattle.flt_turn.specs.Seats.{IsSeatOf, main_seat, split_off, split_seat, joined_seat};
 
-use crate::guarded::Guarded;
+use crate::boxed_queue::BoxedQueue;
 use crate::job::{Job, QueueOp, QueueReply};
 use crate::queue::JobQueue;
 use flt_turn::{Answer, Entry, HistoryFull, Seat, Turn, Vault};
@@ -18,7 +18,7 @@ use std::alloc::{AllocError, Global};
 use std::sync::Wait;
 
 /// The right to call a locked queue.
-pub type QueueSeat = Seat<Guarded>;
+pub type QueueSeat = Seat<BoxedQueue>;
 
 /// What a call was told, or that no call was left to its seat.
 pub type QueueAnswer = Result<Answer<QueueReply>, HistoryFull<QueueOp>>;
@@ -36,7 +36,7 @@ pub struct QueueEnd {
 #[derive(Drop)]
 pub struct QueueLock {
     /// The ticket lock over the queue.
-    pub turn: Turn<Guarded>,
+    pub turn: Turn<BoxedQueue>,
 }
 
 impl QueueLock {
@@ -50,7 +50,7 @@ impl QueueLock {
         ensures lock { IfOk result (λ made. IsSeatOf made.0.turn made.1) }
     {
         let queue = Box::new(alloc, JobQueue::new(alloc, blocks)?)?;
-        match Turn::make(alloc, Guarded { queue }, room) {
+        match Turn::make(alloc, BoxedQueue { queue }, room) {
             Ok((turn, seat)) => Ok((QueueLock { turn }, seat)),
             Err(_) => Err(AllocError),
         }
@@ -153,7 +153,7 @@ impl QueueLock {
     {
         let QueueLock { turn } = self;
         let Vault { journal, machine } = turn.close(main);
-        let Guarded { queue } = machine;
+        let BoxedQueue { queue } = machine;
         QueueEnd { journal, queue }
     }
 }

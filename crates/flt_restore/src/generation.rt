@@ -16,7 +16,7 @@ use crate::content::Held;
 use crate::fault::StartFault;
 use crate::judging::{damaged, judge_mark};
 use crate::lengths::{judge_applications, judge_excess};
-use crate::reading::{Source, read_content};
+use crate::reading::{CommitRead, read_content};
 use flt_config::{Persist, ValidConfig, put_initial};
 use flt_flash::Blocks;
 use flt_generation::{COMMIT_ID, Commit, END_PART, FIRST_PART};
@@ -127,12 +127,12 @@ pub(crate) fn read_image<B: Blocks + Drop>(
     nvm: &mut Nvm<B>,
     config: &ValidConfig,
     mark: &Held,
-    source: Source,
+    source: CommitRead,
     out: &mut Persist,
 ) -> Result<Option<CommitCopy>, StartFault>
     requires table { table_of nvm.old ≡ block_table }
     requires mounted { IsTrue (driver_of nvm.old).has_mounted }
-    requires settled { IsFalse (driver_of nvm.old).is_stale }
+    requires not_stale { IsFalse (driver_of nvm.old).is_stale }
     requires mark { content_of mark.now ≡ (driver_of nvm.old).value mark_number }
     ensures told { IfOk result (λ commit. held_by config.now (driver_of nvm.old).value (content_of source.held) ≡ Ok (generation commit out.new)) }
     ensures source { IfOk result (λ commit. IsReadFrom (content_of source.held) source.copy commit) }

@@ -25,7 +25,7 @@ fn judge_application<B: Blocks + Drop>(
     block: u16,
 ) -> Result<(), StartFault>
     requires table { table_of nvm.now ≡ block_table }
-    requires settled { IsFalse (driver_of nvm.now).is_stale }
+    requires not_stale { IsFalse (driver_of nvm.now).is_stale }
     requires within { block < applications }
     ensures { result ≡ as_told config.now (application_judged (driver_of nvm.now).value block) }
 {
@@ -43,7 +43,7 @@ pub(crate) fn judge_applications<B: Blocks + Drop>(
     config: &ValidConfig,
 ) -> Result<(), StartFault>
     requires table { table_of nvm.now ≡ block_table }
-    requires settled { IsFalse (driver_of nvm.now).is_stale }
+    requires not_stale { IsFalse (driver_of nvm.now).is_stale }
     ensures { result ≡ as_told config.now (applications_judged (driver_of nvm.now).value) }
 {
     for block in 0..APPLICATIONS {
@@ -55,7 +55,7 @@ pub(crate) fn judge_applications<B: Blocks + Drop>(
 // The pages that the record of an index takes beyond the configuration's own.
 fn pages_beyond<B: Blocks + Drop>(nvm: &Nvm<B>, config: &ValidConfig, id: u16, index: u8) -> u32
     requires table { table_of nvm.now ≡ block_table }
-    requires settled { IsFalse (driver_of nvm.now).is_stale }
+    requires not_stale { IsFalse (driver_of nvm.now).is_stale }
     requires id { id < 104 }
     requires place { HasPlace block_table id index }
     ensures pages { result ≡ beyond config.now (driver_of nvm.now).value (number_of id index) }
@@ -71,7 +71,7 @@ fn pages_beyond<B: Blocks + Drop>(nvm: &Nvm<B>, config: &ValidConfig, id: u16, i
 
 fn pages_beyond_of_part<B: Blocks + Drop>(nvm: &Nvm<B>, config: &ValidConfig, id: u16) -> u32
     requires table { table_of nvm.now ≡ block_table }
-    requires settled { IsFalse (driver_of nvm.now).is_stale }
+    requires not_stale { IsFalse (driver_of nvm.now).is_stale }
     requires first { first_part ≤ id }
     requires end { id < end_part }
     ensures pages { result ≡ beyond_of_part config.now (driver_of nvm.now).value id }
@@ -83,7 +83,7 @@ fn pages_beyond_of_part<B: Blocks + Drop>(nvm: &Nvm<B>, config: &ValidConfig, id
 // The same of all parts, whether the configuration uses them or not.
 fn pages_beyond_of_parts<B: Blocks + Drop>(nvm: &Nvm<B>, config: &ValidConfig) -> u32
     requires table { table_of nvm.now ≡ block_table }
-    requires settled { IsFalse (driver_of nvm.now).is_stale }
+    requires not_stale { IsFalse (driver_of nvm.now).is_stale }
     ensures pages { result ≡ beyond_of_parts config.now (driver_of nvm.now).value parts }
     ensures most { result ≤ 12 * parts }
 {
@@ -97,7 +97,7 @@ fn pages_beyond_of_parts<B: Blocks + Drop>(nvm: &Nvm<B>, config: &ValidConfig) -
 // The same of all application blocks.
 fn pages_beyond_of_applications<B: Blocks + Drop>(nvm: &Nvm<B>, config: &ValidConfig) -> u32
     requires table { table_of nvm.now ≡ block_table }
-    requires settled { IsFalse (driver_of nvm.now).is_stale }
+    requires not_stale { IsFalse (driver_of nvm.now).is_stale }
     ensures pages { result ≡ beyond_of_applications config.now (driver_of nvm.now).value applications }
     ensures most { result ≤ 6 * applications }
 {
@@ -111,7 +111,7 @@ fn pages_beyond_of_applications<B: Blocks + Drop>(nvm: &Nvm<B>, config: &ValidCo
 // The pages that the records of the image take beyond the configuration's own.
 fn excess<B: Blocks + Drop>(nvm: &Nvm<B>, config: &ValidConfig) -> u32
     requires table { table_of nvm.now ≡ block_table }
-    requires settled { IsFalse (driver_of nvm.now).is_stale }
+    requires not_stale { IsFalse (driver_of nvm.now).is_stale }
     ensures pages { result ≡ excess config.now (driver_of nvm.now).value }
     ensures most { result ≤ 18 + 12 * parts + 6 * applications }
 {
@@ -128,7 +128,7 @@ pub(crate) fn judge_excess<B: Blocks + Drop>(
     config: &ValidConfig,
 ) -> Result<(), StartFault>
     requires table { table_of nvm.now ≡ block_table }
-    requires settled { IsFalse (driver_of nvm.now).is_stale }
+    requires not_stale { IsFalse (driver_of nvm.now).is_stale }
     ensures { result ≡ as_told config.now (excess_judged config.now (driver_of nvm.now).value) }
 {
     let excess = excess(nvm, config);

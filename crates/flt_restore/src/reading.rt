@@ -25,7 +25,7 @@ pub(crate) fn read_content<B: Blocks + Drop>(
     ensures content { IfOk result (λ held. content_of held ≡ (driver_of nvm.old).value (number_of id index)) }
     ensures unread { OnErr result (FailsToRead (number_of id index) (driver_of nvm.old) (driver_of nvm.new)) }
     ensures flash { OnErr result (HasRisenBy 3 (driver_of nvm.old).device.faults (driver_of nvm.new).device.faults) }
-    ensures settled { OnOk result (IsFalse (driver_of nvm.new).is_stale) }
+    ensures not_stale { OnOk result (IsFalse (driver_of nvm.new).is_stale) }
     ensures reads { Reads (driver_of nvm.old) (driver_of nvm.new) }
     ensures table { table_of nvm.new ≡ table_of nvm.old }
 {
@@ -38,13 +38,13 @@ pub(crate) fn read_content<B: Blocks + Drop>(
 
 /// What counts as the commit, and which copy it is.
 #[derive(Drop)]
-pub(crate) struct Source {
+pub(crate) struct CommitRead {
     pub held: Held,
     pub copy: u8,
 }
 
 // Reads copy 1 or copy 2 of the commit.
-fn read_source<B: Blocks + Drop>(nvm: &mut Nvm<B>, copy: u8) -> Result<Source, FlashFailed>
+fn read_source<B: Blocks + Drop>(nvm: &mut Nvm<B>, copy: u8) -> Result<CommitRead, FlashFailed>
     requires table { table_of nvm.old ≡ block_table }
     requires mounted { IsTrue (driver_of nvm.old).has_mounted }
     requires least { 1 ≤ copy }
@@ -58,7 +58,7 @@ fn read_source<B: Blocks + Drop>(nvm: &mut Nvm<B>, copy: u8) -> Result<Source, F
 {
     let mut out = [0; 128];
     match nvm.read_copy(COMMIT_ID, copy, &mut out) {
-        Ok(got) => Ok(Source {
+        Ok(got) => Ok(CommitRead {
             held: held_in(got, &out),
             copy,
         }),
@@ -68,10 +68,10 @@ fn read_source<B: Blocks + Drop>(nvm: &mut Nvm<B>, copy: u8) -> Result<Source, F
 
 /// Reads the copy of the commit that counts: copy 1 if it has bytes, else copy 2 if that has bytes, else copy 1. If copy 1
 /// can't be read in three tries and copy 2 has bytes, copy 2 is read.
-pub(crate) fn read_commit<B: Blocks + Drop>(nvm: &mut Nvm<B>) -> Result<Source, FlashFailed>
+pub(crate) fn read_commit<B: Blocks + Drop>(nvm: &mut Nvm<B>) -> Result<CommitRead, FlashFailed>
     requires table { table_of nvm.old ≡ block_table }
     requires mounted { IsTrue (driver_of nvm.old).has_mounted }
-    requires settled { IsFalse (driver_of nvm.old).is_stale }
+    requires not_stale { IsFalse (driver_of nvm.old).is_stale }
     ensures source { IfOk result (λ source. IsSource (driver_of nvm.old) (driver_of nvm.new) (content_of source.held) source.copy) }
     ensures unread { OnErr result (IsCommitUnread (driver_of nvm.old) (driver_of nvm.new)) }
     ensures flash { OnErr result (HasRisenBy 3 (driver_of nvm.old).device.faults (driver_of nvm.new).device.faults) }
@@ -86,11 +86,11 @@ pub(crate) fn read_commit<B: Blocks + Drop>(nvm: &mut Nvm<B>) -> Result<Source, 
         },
         (Found::Bytes(_), _) => read_source(nvm, 1),
         (_, Found::Bytes(_)) => read_source(nvm, 2),
-        (Found::Missing, _) => Ok(Source {
+        (Found::Missing, _) => Ok(CommitRead {
             held: Held::Missing,
             copy: 1,
         }),
-        (Found::Invalid, _) => Ok(Source {
+        (Found::Invalid, _) => Ok(CommitRead {
             held: Held::Invalid,
             copy: 1,
         }),

@@ -45,7 +45,7 @@ pub fn judge<B: Blocks + Drop>(
 ) -> Result<Restored, StartFault>
     requires table { table_of nvm.old ≡ block_table }
     requires mounted { IsTrue (driver_of nvm.old).has_mounted }
-    requires settled { IsFalse (driver_of nvm.old).is_stale }
+    requires not_stale { IsFalse (driver_of nvm.old).is_stale }
     ensures restored { IfOk result (λ found. IsRestored config.now (driver_of nvm.old) (driver_of nvm.new) found.commit out.new) }
     ensures mark { IfOk result (λ found. IsTrue found.is_mark_due ↔ IsMarkDue (mark_of config.now) ((driver_of nvm.old).value mark_number)) }
     ensures refused { (fault : StartFault) → result ≡ Err fault → Refuses config.now (driver_of nvm.old) (driver_of nvm.new) fault }
@@ -78,7 +78,7 @@ pub fn restore<B: Blocks + Drop>(
 ) -> Result<Restored, StartFault>
     requires table { table_of nvm.old ≡ block_table }
     requires mounted { IsTrue (driver_of nvm.old).has_mounted }
-    requires settled { IsFalse (driver_of nvm.old).is_stale }
+    requires not_stale { IsFalse (driver_of nvm.old).is_stale }
     ensures restored { IfOk result (λ found. Restores config.now (driver_of nvm.old) (driver_of nvm.new) found.commit out.new) }
     ensures mark { IfOk result (λ found. IsTrue found.is_mark_due ↔ IsMarkDue (mark_of config.now) ((driver_of nvm.old).value mark_number)) }
     ensures refused { (fault : StartFault) → result ≡ Err fault → Refuses config.now (driver_of nvm.old) (driver_of nvm.new) fault }

@@ -4,7 +4,7 @@ use Rattle.std.specs.Prelude.{All, IfSome, Vec}
 use Rattle.std.proofs.lemmas.List.{length-map, reverse-append, reverse-reverse}
 use Rattle.std.proofs.lemmas.List.Elements.{All-nil, All-cons, All-head, All-tail, All-append}
 use Rattle.flt_flash.specs.declared.arm.ArmMade.{ArmMade}
-use Rattle.flt_flash.specs.State.{FlashState, Boot as PowerUp}
+use Rattle.flt_flash.specs.State.{FlashState, PowerUp}
 use Rattle.flt_config.specs.declared.config.Config.{Config}
 use Rattle.flt_generation.specs.Laws.{IsGiven}
 use Rattle.flt_restore.specs.declared.fault.StartFault.TheVariants.{Flash}

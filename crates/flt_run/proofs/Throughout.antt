@@ -4,7 +4,7 @@ use Rattle.std.specs.Prelude.{All, IfSome, IsSomeAnd}
 use Rattle.std.proofs.lemmas.List.{reverse-append}
 use Rattle.std.proofs.lemmas.List.Elements.{All-head, All-tail}
 use Rattle.flt_flash.specs.declared.arm.ArmMade.{ArmMade}
-use Rattle.flt_flash.specs.State.{FlashState, Boot as PowerUp}
+use Rattle.flt_flash.specs.State.{FlashState, PowerUp}
 use Rattle.flt_config.specs.declared.config.Config.{Config}
 use Rattle.flt_config.specs.declared.config.DidUse.{DidUse}
 use Rattle.flt_generation.specs.Laws.{IsGiven}

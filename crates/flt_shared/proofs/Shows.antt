@@ -1,7 +1,7 @@
 -- What is shown of an event says what the standard says.
 use Rattle.std.proofs.Common.{◌≡◌, ℕ, sym, subst, ⊎_elim}
 use Rattle.std.specs.Prelude.{IfOk, Result, Ok, Err}
-use Rattle.flt_model.specs.Life.{Life, History, base_of, event_of}
+use Rattle.flt_model.specs.Start.{Start, History, base_of, event_of}
 use Rattle.flt_model.specs.Answer.{answer}
 use Rattle.flt_model.specs.Mark.{marks_of}
 use Rattle.flt_model.specs.Trace.{trace}
@@ -14,7 +14,7 @@ use Rattle.flt_turn.specs.declared.answer.HistoryFull.{HistoryFull}
 use Rattle.flt_turn.specs.Call.{past}
 use Rattle.flt_shared.specs.Call.{Seat, IsCall, ShowsStandard}
 
-shows_standard : (life : Life) (before : History) (event : ℕ) (reply : Reply) → reply ≡ answer life before (ops.Show event) → ShowsStandard life before event reply
+shows_standard : (life : Start) (before : History) (event : ℕ) (reply : Reply) → reply ≡ answer life before (ops.Show event) → ShowsStandard life before event reply
 shows_standard life before event reply is =
     let marks = marks_of event (trace life before) in
     subst (ShowsStandard life before event) (sym is)

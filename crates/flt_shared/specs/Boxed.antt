@@ -9,4 +9,4 @@ unit_in boxed = boxed.state.value
 
 -- Its configuration.
 abbrev pub config_in : {F : _} {g : _} → BoxedUnit F g → Config
-config_in boxed = boxed.state.value.dem.faults.config
+config_in boxed = boxed.state.value.dem.durable.config

@@ -1,7 +1,7 @@
 -- What a call of the locked status machine tells.
 use Rattle.std.specs.Prelude.{ℕ, List, reverse}
 use Rattle.arrayvec.specs.ArrayVec.{ArrayVec}
-use Rattle.flt_model.specs.Life.{Life, History}
+use Rattle.flt_model.specs.Start.{Start, History}
 use Rattle.flt_model.specs.Answer.{answer}
 use Rattle.flt_model.specs.Mark.{marks_of}
 use Rattle.flt_model.specs.StatusLaws.{since_clear}
@@ -51,7 +51,7 @@ abbrev pub IsCall : Seat → Seat → Op → Answer Reply → Type 0
 IsCall before after op told = turn.IsCall MayBeAsked reply_after before after op told
 
 -- The status byte that is shown of an event says what the standard says of its marks.
-abbrev pub ShowsStandard : Life → History → ℕ → Reply → Type 0
+abbrev pub ShowsStandard : Start → History → ℕ → Reply → Type 0
 ShowsStandard life before event (replies.Shown shown) =
     IsFromStart life event (marks_of event (trace life before)) → StandardBits shown.status (since_clear (marks_of event (trace life before)))
 ShowsStandard life before event _ = ⊥

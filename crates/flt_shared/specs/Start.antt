@@ -1,12 +1,12 @@
 -- What a lock over the status machine begins with.
 use Rattle.std.specs.Prelude.{[]}
 use Rattle.flt_model.specs.declared.life.DemStart.{DemStart}
-use Rattle.flt_model.specs.Life.{fresh}
+use Rattle.flt_model.specs.Start.{fresh}
 use Rattle.flt_dcm.specs.Unit.{UnitView}
 
 -- The configuration of a unit, and the durable state that it was last started from.
 abbrev pub start_of : UnitView → DemStart
-start_of unit = record { config = unit.dem.faults.config; base = unit.base }
+start_of unit = record { config = unit.dem.durable.config; base = unit.base }
 
 -- Some start. It stands where nobody looks.
 abbrev pub some_start : DemStart

@@ -19,7 +19,7 @@ pub struct BoxedUnit {
     pub state: Box<UnitState>,
     /// The table of data identifiers.
     pub dids: DidTable<DID_ROWS>,
-    ghost served: { Serves (dids_of dids) state.value.dem.faults.config.events.items } by { Prim.hlevel props },
+    ghost served: { Serves (dids_of dids) state.value.dem.durable.config.events.items } by { Prim.hlevel props },
 }
 
 impl BoxedUnit {

@@ -11,7 +11,7 @@ use flt_config::Persist;
 use flt_dcm::{DemStart, Op, Reply, ReplyKind, UnitState};
 use flt_did::{DID_ROWS, DidTable};
 use flt_model::RESPONSE;
-use flt_turn::{Machine, Step, StepInto};
+use flt_turn::{Machine, StepInto, Stepper};
 
 /// The status machine without the functions of its table, which are lent to each of its steps. It is boxed, since it goes out of the
 /// lock's slot and back with each call.
@@ -43,7 +43,7 @@ impl Machine for Guarded {
     ghost written = { λ start ops op out. written start (reverse ops) op out };
 }
 
-impl Step for Guarded {
+impl Stepper for Guarded {
     type Context = DidTable<DID_ROWS>;
 
     ghost serves = { λ dids start. Serves (dids_of dids) start.config.events.items };

@@ -37,7 +37,7 @@ fn write_block<B: Blocks + Drop>(
     requires index { index ≤ 1 }
     requires size { length bytes.now ≡ part_length (part_of id) }
     ensures spends { (most : ℕ) → Spends most (driver_of nvm.old) (driver_of nvm.new) (record_pages (length bytes.now)) most }
-    ensures fresh { OnOk result (IsFalse (driver_of nvm.new).is_stale) }
+    ensures not_stale { OnOk result (IsFalse (driver_of nvm.new).is_stale) }
     ensures gives { Gives (driver_of nvm.old) (driver_of nvm.new) (number_of id index) (holding bytes.now) (length bytes.now) result }
     ensures writes { Writes (driver_of nvm.old) (driver_of nvm.new) result }
     ensures table { table_of nvm.new ≡ table_of nvm.old }
@@ -86,7 +86,7 @@ fn write_moved<B: Blocks + Drop>(
     ensures spends { (most : ℕ) → Spends most (driver_of nvm.old) (driver_of nvm.new)
         (if is_written config.now current.now next.now id then record_pages (length (bytes_at blocks.now id)) else 0)
         (if is_written config.now current.now next.now id then most else 0) }
-    ensures fresh { IsFalse (driver_of nvm.old).is_stale → OnOk result (IsFalse (driver_of nvm.new).is_stale) }
+    ensures not_stale { IsFalse (driver_of nvm.old).is_stale → OnOk result (IsFalse (driver_of nvm.new).is_stale) }
     ensures writes { Writes (driver_of nvm.old) (driver_of nvm.new) result }
     ensures table { table_of nvm.new ≡ table_of nvm.old }
 {
@@ -114,7 +114,7 @@ fn write_blocks<B: Blocks + Drop>(
     ensures spends { (most : ℕ) → IsFalse (driver_of nvm.old).is_stale → Spends most (driver_of nvm.old) (driver_of nvm.new)
         (written_sum config.now current.now next.now (λ id. record_pages (length (bytes_at blocks.now id))) parts)
         (written_sum config.now current.now next.now (λ id. most) parts) }
-    ensures fresh { IsFalse (driver_of nvm.old).is_stale → OnOk result (IsFalse (driver_of nvm.new).is_stale) }
+    ensures not_stale { IsFalse (driver_of nvm.old).is_stale → OnOk result (IsFalse (driver_of nvm.new).is_stale) }
     ensures writes { Writes (driver_of nvm.old) (driver_of nvm.new) result }
     ensures table { table_of nvm.new ≡ table_of nvm.old }
 {
@@ -144,7 +144,7 @@ pub(crate) fn write_generation<B: Blocks + Drop>(
         → OldOrNew config.now (driver_of nvm.new).value g g (next_generation current.now state.now) }
     ensures spends { (most : ℕ) → IsFalse (driver_of nvm.old).is_stale → Spends most (driver_of nvm.old) (driver_of nvm.new)
         (6 + pages_to_write config.now current.now (bytes_at saved.now) (block_bytes state.now)) ((length (used_ids config.now) + 2) * most) }
-    ensures fresh { OnOk result (IsFalse (driver_of nvm.new).is_stale) }
+    ensures not_stale { OnOk result (IsFalse (driver_of nvm.new).is_stale) }
     ensures next { IfOk result (IsNext config.now current.now (bytes_at saved.now) (bytes_at blocks.new)) }
     ensures encodes { AreBlocksOf config.now state.now (bytes_at blocks.new) }
     ensures rewritten { IfOk result (λ commit. AreCopiesOf commit (driver_of nvm.new).value) }

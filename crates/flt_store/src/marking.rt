@@ -27,12 +27,12 @@ pub(crate) fn write_mark<B: Blocks + Drop>(
 ) -> Result<(), BlockFault>
     requires table { table_of nvm.old ≡ block_table }
     requires due { IsTrue is_due ↔ IsMarkDue mark.now ((driver_of nvm.old).value mark_number) }
-    requires settled { IsFalse (driver_of nvm.old).is_stale }
+    requires not_stale { IsFalse (driver_of nvm.old).is_stale }
     ensures marked { (c : Config) (commit : Content) → mark.now ≡ mark_of c → MarkAllows c ((driver_of nvm.old).value mark_number) commit
         → OnOk result (HasMark c (driver_of nvm.new).value) }
     ensures tried { (c : Config) → mark.now ≡ mark_of c → IsMarkTried c (driver_of nvm.old).value (driver_of nvm.new).value }
     ensures others { OthersKept mark_number (driver_of nvm.old) (driver_of nvm.new) }
-    ensures fresh { OnOk result (IsFalse (driver_of nvm.new).is_stale) }
+    ensures not_stale { OnOk result (IsFalse (driver_of nvm.new).is_stale) }
     ensures unwritten { (c : Config) → mark.now ≡ mark_of c → IsErrOf result BlockFault.Flash → IsMarkUnwritten c (driver_of nvm.old) (driver_of nvm.new) }
     ensures stuck { (c : Config) → mark.now ≡ mark_of c → IsErrOf result BlockFault.SequenceSpent → IsMarkStuck c (driver_of nvm.old) (driver_of nvm.new) }
     ensures writes { Writes (driver_of nvm.old) (driver_of nvm.new) result }

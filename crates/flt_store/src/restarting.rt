@@ -40,7 +40,7 @@ pub(crate) fn restart<B: Blocks + Drop>(
     ensures kept { AgreeButForCommit (driver_of nvm.old).value (driver_of nvm.new).value }
     ensures form { IfOk result (λ commit. IfSome commit (IsCommit config.now)) }
     ensures first { IfOk result (IsOfFirst config.now (driver_of nvm.old) (driver_of nvm.new)) }
-    ensures fresh { OnOk result (IsFalse (driver_of nvm.new).is_stale) }
+    ensures not_stale { OnOk result (IsFalse (driver_of nvm.new).is_stale) }
     ensures follows { Follows (driver_of nvm.old) (driver_of nvm.new) }
     ensures table { table_of nvm.new ≡ table_of nvm.old }
 {
@@ -71,7 +71,7 @@ pub(crate) fn repair_by<B: Blocks + Drop>(
         → IfOk result (λ commit. IsStarted config.now (driver_of nvm.new).value (Some commit) g) }
     ensures read { IfOk result (λ commit. commit_in config.now bytes.now ≡ Some commit) }
     ensures form { IfOk result (IsCommit config.now) }
-    ensures fresh { OnOk result (IsFalse (driver_of nvm.new).is_stale) }
+    ensures not_stale { OnOk result (IsFalse (driver_of nvm.new).is_stale) }
     ensures other { IsEither (driver_of nvm.old) (driver_of nvm.new) (number_of commit_id (2 - copy)) (holding bytes.now) }
     ensures others { OthersKept (number_of commit_id (2 - copy)) (driver_of nvm.old) (driver_of nvm.new) }
     ensures within { IsWithinOwn config.now (driver_of nvm.old).value (driver_of nvm.new).value }

@@ -130,7 +130,7 @@ impl<B: Blocks + Drop> Store<B> {
         ensures spends { (g : Generation) (most : ℕ) → Knows config.now (kept_of self.old) g.state → IsFalse (driver_of self.old).is_stale
             → Spends most (driver_of self.old) (driver_of self.new)
             (6 + pages_to_write config.now (commit_of self.old) (block_bytes g.state) (block_bytes state.now)) ((length (used_ids config.now) + 2) * most) }
-        ensures fresh { OnOk result (IsFalse (driver_of self.new).is_stale) }
+        ensures not_stale { OnOk result (IsFalse (driver_of self.new).is_stale) }
         ensures follows { Follows (driver_of self.old) (driver_of self.new) }
     {
         self.is_settled = false;
@@ -202,7 +202,7 @@ impl<B: Blocks + Drop> Store<B> {
         ensures at_most { WhileRunning config.now self.old (λ held spare. IsTrue (is_settled self.old) → IsFalse (driver_of self.old).is_stale
             → NoFault (driver_of self.old) (driver_of self.new)
             → CostsAtMost ((length (used_ids config.now) + 2) * (2 * config.now.pages + 4)) (driver_of self.old) (driver_of self.new)) }
-        ensures fresh { OnOk result (IsFalse (driver_of self.new).is_stale) }
+        ensures not_stale { OnOk result (IsFalse (driver_of self.new).is_stale) }
         ensures follows { Follows (driver_of self.old) (driver_of self.new) }
     {
         match self.settle(config) {

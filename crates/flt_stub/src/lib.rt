@@ -101,7 +101,7 @@ impl BlocksMem {
     // Counts a call, and mounts.
     fn settle(&mut self)
         ensures calls { self.new.calls ≡ counted self.old.calls }
-        ensures settled { IsFalse self.new.is_stale }
+        ensures not_stale { IsFalse self.new.is_stale }
         ensures mounted { IsTrue self.new.has_mounted }
         ensures cells { self.new.cells ≡ self.old.cells }
         ensures boots { self.new.boots ≡ self.old.boots }

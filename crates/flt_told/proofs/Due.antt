@@ -4,7 +4,7 @@ use Rattle.std.specs.Prelude.{Contains, slice_get, ◌==◌}
 use Rattle.std.proofs.lemmas.Bool.{cases_eq, eqb-true}
 use Rattle.std.proofs.lemmas.List.{append-nil, append_assoc, get_or-replicate, length-append, length-map, length-replicate, reverse-append}
 use Rattle.flt_model.specs.Answer.{answer, answers}
-use Rattle.flt_model.specs.Life.{Life, History}
+use Rattle.flt_model.specs.Start.{Start, History}
 use Rattle.flt_model.specs.declared.call.Op.{Op}
 use Rattle.flt_model.specs.declared.call.Op.TheVariants as ops
 use Rattle.flt_model.specs.Reply.{Reply}
@@ -38,11 +38,11 @@ use Rattle.flt_told.proofs.Paired.{EachCall, parts_give, parts_paired}
 
 -- ---- the text that is due at a place
 
-abbrev due_of : Life → History → Journal → List (List ℕ)
+abbrev due_of : Start → History → Journal → List (List ℕ)
 due_of start past journal = map reply_text (answers start past (ops_of journal))
 
 -- At the place of a call stands the text of the machine's answer to it.
-due_at : (start : Life) (past : History) (journal : Journal) (place : ℕ) (e : Entry Op) → slice_get journal place ≡ Some e
+due_at : (start : Start) (past : History) (journal : Journal) (place : ℕ) (e : Entry Op) → slice_get journal place ≡ Some e
     → (place < length (due_of start past journal)) × (get_or (due_of start past journal) place [] ≡ reply_text (answer start (reverse (ops_before place journal) ++ past) e.op))
 due_at start past [] place e is = absurd cc
 due_at start past (x ∷ journal) zero e is = let same : x ≡ e = cc in (omega arith, ap (λ (y : Entry Op). reply_text (answer start past y.op)) same)
@@ -54,12 +54,12 @@ due_at start past (x ∷ journal) (suc place) e is =
     ap (λ (l : List Op). l ++ past) (reverse-append (x.op ∷ []) earlier) ∙ append_assoc (reverse earlier) (x.op ∷ []) past in
     (omega (arith, within), rest.1 ∙ ap (λ (l : History). reply_text (answer start l e.op)) (sym turned))
 
-pub due_length : (start : Life) (past : History) (journal : Journal) → length (due_of start past journal) ≡ length journal
+pub due_length : (start : Start) (past : History) (journal : Journal) → length (due_of start past journal) ≡ length journal
 due_length start past [] = refl
 due_length start past (x ∷ journal) = let rest = due_length start (x.op ∷ past) journal in omega (arith, rest)
 
 -- The answer to a call of a save is that it was taken.
-save_taken : (start : Life) (past : History) (op : Op) → IsSaveCall op → reply_text (answer start past op) ≡ taken_text
+save_taken : (start : Start) (past : History) (op : Op) → IsSaveCall op → reply_text (answer start past op) ≡ taken_text
 save_taken start past ops.Snapshot is = refl
 save_taken start past (ops.Saved number) is = refl
 save_taken start past (ops.Report event report) is = absurd is
@@ -166,7 +166,7 @@ module _ {O : Type 0} where
 
 -- ---- a life
 
-module _ (start : Life) (parts : List (PartOf Step)) (own : List Told) (lanes : List (List Told)) (journal : Journal) (queue : List (Entry QueueOp))
+module _ (start : Start) (parts : List (PartOf Step)) (own : List Told) (lanes : List (List Told)) (journal : Journal) (queue : List (Entry QueueOp))
     (life : IsLifeInRange start parts own lanes journal queue) where
   abbrev due : List (List ℕ)
   due = due_of start [] journal

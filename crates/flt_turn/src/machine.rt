@@ -4,7 +4,7 @@ ghost use Rattle.std.specs.Prelude.{◌≡◌, ◌++◌, ◌∷◌, [], List};
 /// What is specified of a machine that takes one operation after another. Its answers are functions of its start, the
 /// operations before and the operation.
 ///
-/// These members bound the types of the lock. The step itself is in [`Step`], so that a machine may call stored functions: no
+/// These members bound the types of the lock. The step itself is in [`Stepper`], so that a machine may call stored functions: no
 /// type can keep a fact about a machine whose bound mentions a function pointer.
 pub trait Machine {
     /// What a machine starts from: plain data, which no step changes.
@@ -35,7 +35,7 @@ pub trait Machine {
 
 /// A machine that makes its steps with a context, which the caller lends. The context has the functions that the machine calls:
 /// all callers read them at the same time, so they are kept outside the lock.
-pub trait Step: Machine {
+pub trait Stepper: Machine {
     type Context;
 
     // The context has what a machine with this start needs.
@@ -55,7 +55,7 @@ pub trait Step: Machine {
 
 /// A machine that can also make its steps without its buffer, for callers that want nothing written. Such a step returns only the
 /// kind of the reply, which is small and cheap to move. The rest of the reply is written where the caller wants it.
-pub trait StepInto: Step {
+pub trait StepInto: Stepper {
     /// The small part of a reply.
     type Kind: Drop;
 
@@ -65,7 +65,7 @@ pub trait StepInto: Step {
     // The whole reply, made of the two.
     ghost reply_with: { Self.Kind → Self.Payload → Self.Reply };
 
-    /// Takes one operation as [`Step::step`] does, but writes only the rest of its reply.
+    /// Takes one operation as [`Stepper::step`] does, but writes only the rest of its reply.
     fn step_into(
         &mut self,
         context: &Self::Context,

@@ -10,7 +10,7 @@ ghost use Rattle.flt_turn.specs.Seats.{IsSeatOf, main_seat, Extends, ops_before,
 ghost use Rattle.flt_turn.specs.Views.{drawn, turned, done, parent, child};
 
 use crate::answer::{Answer, HistoryFull, MachineBack};
-use crate::machine::{Machine, Step, StepInto};
+use crate::machine::{Machine, StepInto, Stepper};
 use crate::rule::{Count, Cut, Draw, Look, Merge, Order, Serve, Share, Terms};
 use crate::seat::Seat;
 use crate::vault::Vault;
@@ -113,9 +113,9 @@ impl<M: Machine> Turn<M> {
         out: &mut M::Out,
     ) -> Result<Answer<M::Reply>, HistoryFull<M::Op>>
     where
-        M: Step,
+        M: Stepper,
         requires lock { IsSeatOf self.now seat.old }
-        requires serves { M.Step.serves context.now seat.old.start }
+        requires serves { M.Stepper.serves context.now seat.old.start }
         requires admitted { M.admits seat.old.start op }
 
         ensures full { IsErr result ↔ (seat.old.left ≡ 0) }

@@ -3,7 +3,7 @@ ghost use Rattle.std.specs.Prelude.{◌≡◌, ◌++◌, ◌∷◌, [], ◌<◌,
 ghost use Rattle.std.specs.Vec.{vec_capacity};
 ghost use Rattle.flt_turn.specs.Journal.{entry, ops_of};
 
-use crate::machine::{Machine, Step, StepInto};
+use crate::machine::{Machine, StepInto, Stepper};
 
 /// An operation, and the number of the seat that asked for it.
 #[derive(Drop)]
@@ -32,8 +32,8 @@ impl<M: Machine> Vault<M> {
         out: &mut M::Out,
     ) -> M::Reply
     where
-        M: Step,
-        requires serves { M.Step.serves context.now (M.start self.old.machine) }
+        M: Stepper,
+        requires serves { M.Stepper.serves context.now (M.start self.old.machine) }
         requires admitted { M.admits (M.start self.old.machine) op }
         requires room { length self.old.journal.items < vec_capacity self.old.journal }
         ensures journal { self.new.journal.items ≡ self.old.journal.items ++ entry lane op ∷ [] }

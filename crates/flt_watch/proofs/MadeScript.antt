@@ -5,7 +5,7 @@ use Rattle.std.specs.Io.KnownBytes.{Appends}
 use Rattle.std.proofs.KnownBytes.{Appends-nil}
 use Rattle.flt_config.specs.declared.config.Config.{Config}
 use Rattle.flt_config.specs.declared.persist.Persist.{Persist}
-use Rattle.flt_model.specs.Life.{Life as Start, History, fresh}
+use Rattle.flt_model.specs.Start.{Start as Start, History, fresh}
 use Rattle.flt_model.specs.declared.call.Op.{Op}
 use Rattle.flt_turn.specs.declared.vault.Entry.{Entry}
 use Rattle.flt_turn.specs.Journal.{ops_of}

@@ -1,7 +1,7 @@
 -- A watched life: its journal, its answers, and the values that its changes give the subscribers.
 use Rattle.std.specs.Prelude.{ℕ, List, reverse}
 use Rattle.flt_config.specs.declared.config.Config.{Config}
-use Rattle.flt_model.specs.Life.{fresh}
+use Rattle.flt_model.specs.Start.{fresh}
 use Rattle.flt_model.specs.declared.call.Op.{Op}
 use Rattle.flt_turn.specs.declared.vault.Entry.{Entry}
 use Rattle.flt_turn.specs.Journal.{ops_of}

@@ -3,7 +3,7 @@ ghost use Rattle.std.specs.Prelude.{◌≡◌, ◌+◌, ◌*◌, ◌%◌, ◌^�
 ghost use Rattle.std.specs.Thread.{IsSync};
 ghost use Rattle.flt_turn.specs.Seats.{IsSeatOf};
 
-use flt_turn::{Answer, Entry, Machine, Seat, Step, StepInto, Turn};
+use flt_turn::{Answer, Entry, Machine, Seat, StepInto, Stepper, Turn};
 use std::sync::Wait;
 use std::test::*;
 use std::thread::{Threads, join};
@@ -37,7 +37,7 @@ impl Machine for Adder {
     ghost written = { λ _ _ _ out. out };
 }
 
-impl Step for Adder {
+impl Stepper for Adder {
     type Context = ();
 
     ghost serves = { λ _ _. Unit {0} };

@@ -14,7 +14,7 @@ use flt_did::DidTable;
 use flt_model::{REQUEST, Report};
 use flt_notify::{KINDS, Lent, SubTable, Watched, note_0, note_1, note_2};
 use flt_shared::BoxedUnit;
-use flt_turn::Step;
+use flt_turn::Stepper;
 use std::alloc::Global;
 use std::process::Abort;
 use std::test::*;
@@ -35,8 +35,8 @@ struct Watcher {
     lent: Lent,
     saved: Persist,
     events: u16,
-    ghost served: { Serves (dids_of lent.dids) (watched_unit watched).dem.faults.config.events.items } by { Prim.hlevel props },
-    ghost counted: { length (watched_unit watched).dem.faults.config.events.items ≡ events },
+    ghost served: { Serves (dids_of lent.dids) (watched_unit watched).dem.durable.config.events.items } by { Prim.hlevel props },
+    ghost counted: { length (watched_unit watched).dem.durable.config.events.items ≡ events },
 }
 
 /// An event with the settings that a script gives it where it names none.
@@ -71,7 +71,7 @@ fn configured() -> Config {
 
 impl Watcher {
     fn call(&mut self, op: Op)
-        requires { IsAdmitted (watched_unit self.old.watched).dem.faults.config op }
+        requires { IsAdmitted (watched_unit self.old.watched).dem.durable.config op }
     {
         self.watched.step(&self.lent, &op, &mut self.saved);
     }

@@ -35,7 +35,7 @@ fn write_application<B: Blocks + Drop>(
     requires least { 1 ≤ length bytes.now }
     requires most { length bytes.now ≤ application_length }
     ensures gives { Gives (driver_beneath nvm.old) (driver_beneath nvm.new) (application_number block) (holding bytes.now) (length bytes.now) result }
-    ensures fresh { OnOk result (IsFalse (driver_beneath nvm.new).is_stale) }
+    ensures not_stale { OnOk result (IsFalse (driver_beneath nvm.new).is_stale) }
     ensures writes { Writes (driver_beneath nvm.old) (driver_beneath nvm.new) result }
     ensures table { table_of nvm.new ≡ table_of nvm.old }
 {
@@ -84,7 +84,7 @@ impl<B: Blocks + Drop> Store<B> {
         ensures sequence { IsErrOf result PutFault.SequenceSpent → IsTrue ((driver_of self.new).is_stuck (application_number block) (length bytes.now)) }
         ensures completed { (c : Config) → block < c.blocks → WhileRunning c self.old (λ held spare. IsUnhindered self.old self.new → IsOk result) }
         ensures settled { is_settled self.new ≡ is_settled self.old }
-        ensures fresh { OnOk result (IsFalse (driver_of self.new).is_stale) }
+        ensures not_stale { OnOk result (IsFalse (driver_of self.new).is_stale) }
         ensures follows { Follows (driver_of self.old) (driver_of self.new) }
     {
         match write_application(&mut self.nvm, block, bytes) {

@@ -54,7 +54,7 @@ fn mend_by<B: Blocks + Drop>(
 ) -> Result<Option<Commit>, BlockFault>
     requires table { table_of nvm.old ≡ block_table }
     requires found { IsFoundIn (driver_beneath nvm.old).value found }
-    requires settled { IsFalse (driver_beneath nvm.old).is_stale }
+    requires not_stale { IsFalse (driver_beneath nvm.old).is_stale }
     ensures started { (g : Generation) → HasMark config.now (driver_beneath nvm.old).value → Begins config.now (driver_beneath nvm.old).value found g
         → IfOk result (λ commit. IsStarted config.now (driver_beneath nvm.new).value commit g) }
     ensures tried { (held spare g : Generation) → IsSound config.now (driver_beneath nvm.old).value held spare
@@ -66,7 +66,7 @@ fn mend_by<B: Blocks + Drop>(
     ensures writes { (g : Generation) → Begins config.now (driver_beneath nvm.old).value found g
         → Writes (driver_beneath nvm.old) (driver_beneath nvm.new) result }
     ensures within { IsWithinOwn config.now (driver_beneath nvm.old).value (driver_beneath nvm.new).value }
-    ensures fresh { OnOk result (IsFalse (driver_beneath nvm.new).is_stale) }
+    ensures not_stale { OnOk result (IsFalse (driver_beneath nvm.new).is_stale) }
     ensures applications { SameApplications (driver_beneath nvm.old).value (driver_beneath nvm.new).value }
     ensures follows { Follows (driver_beneath nvm.old) (driver_beneath nvm.new) }
     ensures table { table_of nvm.new ≡ table_of nvm.old }
@@ -91,7 +91,7 @@ fn begin_by<B: Blocks + Drop>(
     requires mark { mark.now ≡ mark_of config.now }
     requires due { IsTrue found.is_mark_due ↔ IsMarkDue mark.now ((driver_beneath nvm.old).value mark_number) }
     requires found { IsFoundIn (driver_beneath nvm.old).value found.commit }
-    requires settled { IsFalse (driver_beneath nvm.old).is_stale }
+    requires not_stale { IsFalse (driver_beneath nvm.old).is_stale }
     ensures started { (g : Generation) → Begins config.now (driver_beneath nvm.old).value found.commit g
         → IfOk result (λ commit. IsStarted config.now (driver_beneath nvm.new).value commit g) }
     ensures tried { (held spare g : Generation) → IsSound config.now (driver_beneath nvm.old).value held spare
@@ -103,7 +103,7 @@ fn begin_by<B: Blocks + Drop>(
     ensures writes { (g : Generation) → Begins config.now (driver_beneath nvm.old).value found.commit g
         → Writes (driver_beneath nvm.old) (driver_beneath nvm.new) result }
     ensures borne { (g : Generation) → Begins config.now (driver_beneath nvm.old).value found.commit g → IsBorne config.now (driver_beneath nvm.new).value }
-    ensures fresh { OnOk result (IsFalse (driver_beneath nvm.new).is_stale) }
+    ensures not_stale { OnOk result (IsFalse (driver_beneath nvm.new).is_stale) }
     ensures applications { SameApplications (driver_beneath nvm.old).value (driver_beneath nvm.new).value }
     ensures follows { Follows (driver_beneath nvm.old) (driver_beneath nvm.new) }
     ensures table { table_of nvm.new ≡ table_of nvm.old }
@@ -122,7 +122,7 @@ impl<B: Blocks + Drop> Store<B> {
     fn start_mounted(&mut self, config: &ValidConfig, out: &mut Persist) -> Result<u32, StartFault>
         requires room { HasRoom config.now (driver_of self.old).room }
         requires mounted { IsTrue (driver_of self.old).has_mounted }
-        requires settled { IsFalse (driver_of self.old).is_stale }
+        requires not_stale { IsFalse (driver_of self.old).is_stale }
         ensures started { IfOk result (λ number. Starts config.now number out.new self.old self.new) }
         ensures refused { IfErr result (RefusedFor config.now self.old self.new) }
         ensures unready { IsErrOf result StartFault.Flash
@@ -134,7 +134,7 @@ impl<B: Blocks + Drop> Store<B> {
             → OnErr result (OldOrNew config.now (driver_of self.new).value held spare held) }
         ensures fits { OnOk result (Fits config.now out.new) }
         ensures unsettled { IsFalse (is_settled self.old) → OnErr result (IsFalse (is_settled self.new)) }
-        ensures fresh { OnOk result (IsFalse (driver_of self.new).is_stale) }
+        ensures not_stale { OnOk result (IsFalse (driver_of self.new).is_stale) }
         ensures applications { SameApplications (driver_of self.old).value (driver_of self.new).value }
         ensures follows { Follows (driver_of self.old) (driver_of self.new) }
     {
@@ -184,7 +184,7 @@ impl<B: Blocks + Drop> Store<B> {
             → OnErr result (OldOrNew config.now (driver_of self.new).value held spare held) }
         ensures fits { OnOk result (Fits config.now out.new) }
         ensures unsettled { OnErr result (IsFalse (is_settled self.new)) }
-        ensures fresh { OnOk result (IsFalse (driver_of self.new).is_stale) }
+        ensures not_stale { OnOk result (IsFalse (driver_of self.new).is_stale) }
         ensures applications { SameApplications (driver_of self.old).value (driver_of self.new).value }
         ensures follows { Follows (driver_of self.old) (driver_of self.new) }
     {

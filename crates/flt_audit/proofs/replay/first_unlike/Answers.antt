@@ -2,7 +2,7 @@ use Rattle.std.proofs.Common.{◌≡◌, ◌∙◌, ◌+◌, ◌<◌, ◌++◌, 
 use Rattle.std.proofs.lemmas.Bool.{not-false, not-true}
 use Rattle.std.proofs.lemmas.List.{get_or-map, length-map}
 use Rattle.flt_model.specs.Answer.{answer}
-use Rattle.flt_model.specs.Life.{Life}
+use Rattle.flt_model.specs.Start.{Start}
 use Rattle.flt_model.specs.declared.call.Op.{Op}
 use Rattle.flt_report.specs.Answer.{reply_text}
 use Rattle.flt_dcm.specs.ReplyKind.{reply_with}
@@ -40,7 +40,7 @@ returns-then-ne g c =
     let among_seen : place < length (seen texts) = omega (arith, among_texts, length-map texts (λ (t : Bor (List ℕ)). t.now)) in
     let past = ops_of (reverse (take place calls)) in
     let kind = c.apply_into-kind.result in
-    let printed = λ (life : Life) (stands : Stands life [] (state_of c.args.unit.now)).
+    let printed = λ (life : Start) (stands : Stands life [] (state_of c.args.unit.now)).
     c.as_slice.ensures.value ∙ c.in_ok-put_reply.ensures.ok ∙ ap (λ (front : List ℕ). front ++ reply_text (reply_with kind c.deref.result.now)) c.clear.ensures.items
     ∙ ap (λ (bytes : List ℕ). reply_text (reply_with kind bytes)) c.deref.ensures.0
     ∙ ap reply_text (c.apply_into-kind.ensures.answer life past (c.loop-place.invariant.stands life stands)) in
@@ -62,7 +62,7 @@ loop-place-preserved g c =
     let among_seen : place < length (seen texts) = omega (arith, among_texts, length-map texts (λ (t : Bor (List ℕ)). t.now)) in
     let past = ops_of (reverse (take place calls)) in
     let kind = c.apply_into-kind.result in
-    let printed = λ (life : Life) (stands : Stands life [] (state_of c.args.unit.now)).
+    let printed = λ (life : Start) (stands : Stands life [] (state_of c.args.unit.now)).
     c.as_slice.ensures.value ∙ c.in_ok-put_reply.ensures.ok ∙ ap (λ (front : List ℕ). front ++ reply_text (reply_with kind c.deref.result.now)) c.clear.ensures.items
     ∙ ap (λ (bytes : List ℕ). reply_text (reply_with kind bytes)) c.deref.ensures.0
     ∙ ap reply_text (c.apply_into-kind.ensures.answer life past (c.loop-place.invariant.stands life stands)) in

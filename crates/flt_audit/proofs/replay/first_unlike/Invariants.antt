@@ -1,5 +1,5 @@
 use Rattle.std.proofs.Common.{◌≡◌, [], drop, reverse, take}
-use Rattle.flt_model.specs.Life.{Life}
+use Rattle.flt_model.specs.Start.{Start}
 use Rattle.flt_dcm.specs.Unit.{Stands}
 use Rattle.flt_dcm.specs.Whole.{config_of, state_of}
 use Rattle.flt_turn.specs.Journal.{ops_of}
@@ -11,8 +11,8 @@ use Rattle.flt_audit.proofs.replay.first_unlike.Given as goal
 abbrev pub invariant-loop-place : goal.invariant-loop-place
 invariant-loop-place g l = record {
   config : config_of l.unit ≡ config_of l.initial.unit;
-  stands : (life : Life) → Stands life [] (state_of l.initial.unit) → Stands life (ops_of (reverse (take l.place l.calls))) (state_of l.unit);
-  left : (life : Life) → Stands life [] (state_of l.initial.unit)
+  stands : (life : Start) → Stands life [] (state_of l.initial.unit) → Stands life (ops_of (reverse (take l.place l.calls))) (state_of l.unit);
+  left : (life : Start) → Stands life [] (state_of l.initial.unit)
       → unlike_from 0 (seen l.texts) (due_after life [] l.calls)
       ≡ unlike_from l.place (drop l.place (seen l.texts)) (due_after life (ops_of (reverse (take l.place l.calls))) (drop l.place l.calls));
 }

@@ -7,8 +7,8 @@ use Rattle.flt_dcm.proofs.response.put_noted.Goals as goal
 pub returns-then-event-event_count : goal.returns-then-event-event_count
 returns-then-event-event_count c =
     let dem = c.args.dem.now in
-    let n = length dem.faults.config.events.items in
-    let noted : noted_at dem.faults.notes c.args.sub ≡ Some c.in-Some.event = sym (c.which_of.ensures dem) ∙ sym c.noted.ensures.value ∙ c.in-Some.is in
+    let n = length dem.durable.config.events.items in
+    let noted : noted_at dem.durable.notes c.args.sub ≡ Some c.in-Some.event = sym (c.which_of.ensures dem) ∙ sym c.noted.ensures.value ∙ c.in-Some.is in
     let told = ap (noted_bytes (seen_to dem n)) noted
     ∙ noted_seen dem n c.in-Some.event (omega (arith, c.if-event-event_count.true, c.event_count.ensures.count)) in
     let head = ap (λ xs. xs ++ 0x59 ∷ c.args.sub ∷ 0xFF ∷ []) c.requires in
@@ -17,8 +17,8 @@ returns-then-event-event_count c =
 pub returns-else-event-event_count : goal.returns-else-event-event_count
 returns-else-event-event_count c =
     let dem = c.args.dem.now in
-    let n = length dem.faults.config.events.items in
-    let noted : noted_at dem.faults.notes c.args.sub ≡ Some c.in-Some.event = sym (c.which_of.ensures dem) ∙ sym c.noted.ensures.value ∙ c.in-Some.is in
+    let n = length dem.durable.config.events.items in
+    let noted : noted_at dem.durable.notes c.args.sub ≡ Some c.in-Some.event = sym (c.which_of.ensures dem) ∙ sym c.noted.ensures.value ∙ c.in-Some.is in
     let told = ap (noted_bytes (seen_to dem n)) noted
     ∙ noted_past dem n c.in-Some.event (omega (arith, c.if-event-event_count.false, c.event_count.ensures.count)) in
     let head = ap (λ xs. xs ++ 0x59 ∷ c.args.sub ∷ 0xFF ∷ []) c.requires in

@@ -21,7 +21,7 @@ loop-id-preserved g c =
       within = within_on c.args.config.now before.value middle.value after.value c.loop-id.invariant.within c.write_moved.ensures.within;
       spends = λ most settled. spends_through most before middle after c.loop-id.invariant.follows c.write_moved.ensures.writes.follows c.args.config.now c.args.current.now c.args.next.now
           (λ id. record_pages (length (bytes_at c.args.blocks.now id))) c.loop-id.id c.loop-id.auto.id (c.loop-id.invariant.fresh settled) (c.loop-id.invariant.spends most settled) (c.write_moved.ensures.spends most);
-      fresh = λ settled. c.in_ok-write_moved.ensures.fresh (c.loop-id.invariant.fresh settled);
+      fresh = λ settled. c.in_ok-write_moved.ensures.not_stale (c.loop-id.invariant.fresh settled);
       follows = more_calls before middle after c.loop-id.invariant.follows c.write_moved.ensures.writes.follows;
       table = c.write_moved.ensures.table ∙ c.loop-id.invariant.table;
     }

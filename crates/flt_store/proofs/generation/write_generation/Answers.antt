@@ -110,7 +110,7 @@ returns-in-Ok-clause-spends g c = λ most settled.
     let times = add-mul (length (used_ids c.args.config.now)) 2 most in
     spends_less most (driver_of c.args.nvm.now) (driver_of c.write.new.self) _ _ _ _ (omega (arith, pages, written)) (omega (arith, limit, times))
     (spends_more (driver_of c.args.nvm.now) (driver_of c.write_blocks.new.nvm) (driver_of c.write.new.self) c.write_blocks.ensures.writes.follows c.write.ensures.calls.follows most _ _ _ _
-    (c.in_ok-write_blocks.ensures.fresh settled) (c.write_blocks.ensures.spends most settled)
+    (c.in_ok-write_blocks.ensures.not_stale settled) (c.write_blocks.ensures.spends most settled)
     (jobs_spend 2 _ _ most (omega (arith, size)) (driver_of c.write_blocks.new.nvm) (driver_of c.write.new.self) c.write.result jobs))
 
 pub returns-in-Err-clause-spends : goal.returns-in-Err-clause-spends
@@ -123,7 +123,7 @@ returns-in-Err-clause-spends g c = λ most settled.
     let times = add-mul (length (used_ids c.args.config.now)) 2 most in
     spends_less most (driver_of c.args.nvm.now) (driver_of c.write.new.self) _ _ _ _ (omega (arith, pages, written)) (omega (arith, limit, times))
     (spends_more (driver_of c.args.nvm.now) (driver_of c.write_blocks.new.nvm) (driver_of c.write.new.self) c.write_blocks.ensures.writes.follows c.write.ensures.calls.follows most _ _ _ _
-    (c.in_ok-write_blocks.ensures.fresh settled) (c.write_blocks.ensures.spends most settled)
+    (c.in_ok-write_blocks.ensures.not_stale settled) (c.write_blocks.ensures.spends most settled)
     (jobs_spend 2 _ _ most (omega (arith, size)) (driver_of c.write_blocks.new.nvm) (driver_of c.write.new.self) c.write.result jobs))
 
 pub returns-in_err-write_blocks-clause-spends : goal.returns-in_err-write_blocks-clause-spends

@@ -1,6 +1,6 @@
 use Rattle.std.proofs.Common.{◌≡◌, List, map, reverse, sym, ap, subst, ◌∙◌}
 use Rattle.std.proofs.lemmas.List.{reverse-reverse}
-use Rattle.flt_model.specs.Life.{Life, fresh}
+use Rattle.flt_model.specs.Start.{Start, fresh}
 use Rattle.flt_model.specs.declared.call.Op.{Op}
 use Rattle.flt_turn.specs.declared.vault.Entry.{Entry}
 use Rattle.flt_turn.specs.Journal.{ops_of}
@@ -37,12 +37,12 @@ returns-clause-life g c =
     let begins : main.start ≡ fresh config = ap (λ (s : Seat). s.start) c.in_ok-lock.ensures.ok ∙ c.in_ok-unit.ensures.start ∙ ap (λ s. start_from config s) c.initial-base.ensures.value in
     let whole = closed after journal c.close-journal.ensures.seen c.close-journal.ensures.olds c.close-journal.ensures.calls in
     let made = made_of reply_after StepMakes main after parts own lanes journal (fresh_of main _ _ _ c.in_ok-lock.ensures.ok) lived whole in
-    let started = subst (λ (s : Life). IsMade StepMakes reply_after s parts own lanes journal) begins made in
+    let started = subst (λ (s : Start). IsMade StepMakes reply_after s parts own lanes journal) begins made in
     let turned : reverse made_journal ≡ reverse journal = ap (λ (v : LifeView). v.journal) view in
     let same : made_journal ≡ journal = sym (reverse-reverse made_journal) ∙ ap (λ (l : List (Entry Op)). reverse l) turned ∙ reverse-reverse journal in
     let owns : own_told replies ≡ own = ap (λ (v : LifeView). v.own) view in
     let others : lanes_told replies ≡ lanes = ap (λ (v : LifeView). v.lanes) view in
-    let values = subst (λ (s : Life). HasValuesOf s (reverse (ops_of journal)) c.close-journal.result.subs) (lived.lived.start_is ∙ begins) c.close-journal.ensures.values in
+    let values = subst (λ (s : Start). HasValuesOf s (reverse (ops_of journal)) c.close-journal.result.subs) (lived.lived.start_is ∙ begins) c.close-journal.ensures.values in
     subst (λ (l : List (Entry Op)). IsWatched config parts l replies c.close-journal.result.subs) (sym same) record {
       made = subst (λ (l : List Told). IsMade StepMakes reply_after (fresh config) parts l (lanes_told replies) journal) (sym owns)
           (subst (λ (l : List (List Told)). IsMade StepMakes reply_after (fresh config) parts own l journal) (sym others) started);

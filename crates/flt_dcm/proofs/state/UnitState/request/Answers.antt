@@ -17,12 +17,12 @@ returns-clause-stands c = λ life past s.
     let bytes = c.args.bytes.now in
     let sessions = c.self.inside.sessions in
     let within : tester < length sessions = omega (arith, c.requires.tester, c.self.invariant.one_each) in
-    let new : c.request.new.session ≡ after_asked (heard (session_at sessions tester)) (asked (is_extended_one (session_at sessions tester)) bytes.items) =
-    c.request.ensures.session
+    let new : c.answer_request.new.session ≡ after_asked (heard (session_at sessions tester)) (asked (is_extended_one (session_at sessions tester)) bytes.items) =
+    c.answer_request.ensures.session
     ∙ ap (λ session. after_asked (heard session) (asked (is_extended_one session) c.deref.result.now)) (read_within sessions tester _ Default within)
     ∙ ap (λ xs. after_asked (heard (session_at sessions tester)) (asked (is_extended_one (session_at sessions tester)) xs)) c.deref.ensures.0 in
     record {
-      dem = c.request.ensures.stands life past tester bytes (sym c.deref.ensures.0) inside.dem;
+      dem = c.answer_request.ensures.stands life past tester bytes (sym c.deref.ensures.0) inside.dem;
       sessions = subst (λ session. SessionsStand (ops.Request tester bytes ∷ past) (slice_set sessions tester session)) (sym new) (sessions_asked past tester bytes sessions within inside.sessions);
       base = inside.base;
     }
@@ -35,14 +35,14 @@ returns-clause-answer c = λ life past s.
     let within : tester < length sessions = omega (arith, c.requires.tester, c.self.invariant.one_each) in
     let extended = ap is_extended_one (read_within sessions tester _ Default within) ∙ sym (inside.sessions tester c.requires.tester).extended in
     let seen = view_told life past c.self.inside.dem inside.dem in
-    c.request.ensures.answer ∙ (λ i. response (seen i) (extended i) (c.deref.ensures.0 i))
+    c.answer_request.ensures.answer ∙ (λ i. response (seen i) (extended i) (c.deref.ensures.0 i))
 
 pub returns-clause-negative : goal.returns-clause-negative
 returns-clause-negative c = λ negative.
     let tester = c.args.tester in
     let sessions = c.self.inside.sessions in
     let within : tester < length sessions = omega (arith, c.requires.tester, c.self.invariant.one_each) in
-    let kept = c.request.ensures.negative negative in
+    let kept = c.answer_request.ensures.negative negative in
     let session = kept.1 ∙ ap heard (read_within sessions tester _ Default within) in
     (λ i. record { dem = kept.0 i; sessions = slice_set sessions tester (session i); base = c.self.inside.base })
     ∙ ap (λ (unit : UnitView). record { dem = unit.dem; sessions = slice_set unit.sessions tester (heard (session_at unit.sessions tester)); base = unit.base }) c.self.view_is

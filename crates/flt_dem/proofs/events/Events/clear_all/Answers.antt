@@ -3,10 +3,10 @@ use Rattle.std.specs.List.{All}
 use Rattle.std.proofs.lemmas.List.Elements.{All-filter}
 use Rattle.flt_config.specs.declared.persist.EntryState.{EntryState}
 use Rattle.flt_config.specs.Durable.{is_of_event}
-use Rattle.flt_model.specs.Life.{count}
+use Rattle.flt_model.specs.Start.{count}
 use Rattle.flt_model.specs.Happening.{all_dtcs}
 use Rattle.flt_model.specs.declared.call.Op.TheVariants as ops
-use Rattle.flt_dem.specs.Faults.{without_entry}
+use Rattle.flt_dem.specs.DurablePart.{without_entry}
 use Rattle.flt_dem.specs.Events.{EventsView, holding}
 use Rattle.flt_dem.specs.Calls.{StandsAfter, StandsPartly}
 use Rattle.flt_dem.proofs.CallLemmas.{partly_first, partly_next, partly_cleared}
@@ -15,19 +15,19 @@ use Rattle.flt_dem.proofs.events.Events.clear_all.Goals as goal
 
 pub loop-event-init : goal.loop-event-init
 loop-event-init c =
-    let faults = c.self.inside.faults in
-    let held = faults.memory in
-    let first : EventsView = record { faults = c.remove_entries.new.self; debounces = c.self.inside.debounces.items } in
+    let durable = c.self.inside.durable in
+    let held = durable.memory in
+    let first : EventsView = record { durable = c.remove_entries.new.self; debounces = c.self.inside.debounces.items } in
     let same : holding held first ≡ c.args.self.now =
-    (λ i. holding held (record { faults = c.remove_entries.ensures i; debounces = c.self.inside.debounces.items })) ∙ c.self.view_is in
+    (λ i. holding held (record { durable = c.remove_entries.ensures i; debounces = c.self.inside.debounces.items })) ∙ c.self.view_is in
     record {
-      config = ap (λ f. f.config) c.remove_entries.ensures ∙ ap (λ e. e.faults.config) c.self.view_is;
+      config = ap (λ f. f.config) c.remove_entries.ensures ∙ ap (λ e. e.durable.config) c.self.view_is;
       gone = ap (λ f. f.memory) c.remove_entries.ensures;
       cleared = record {
         held = held;
         stands = λ life past tester bytes clears s. partly_first life past (ops.Request tester bytes) (holding held first) (subst (λ e. StandsAfter life past e) (sym same) s);
         left = λ k d within. omega arith;
-        within = subst (λ (e : EventsView). All (λ (entry : EntryState). entry.event < length e.faults.config.events.items) held.entries) c.self.view_is
+        within = subst (λ (e : EventsView). All (λ (entry : EntryState). entry.event < length e.durable.config.events.items) held.entries) c.self.view_is
             (subst (λ n. All (λ (entry : EntryState). entry.event < n) held.entries) c.count-count.ensures.count c.count-count.ensures.within);
       };
     }
@@ -37,7 +37,7 @@ loop-event-preserved c =
     let inv = c.loop-event.invariant in
     let event = c.loop-event.event in
     let held = inv.cleared.held in
-    let n = length c.args.self.now.faults.config.events.items in
+    let n = length c.args.self.now.durable.config.events.items in
     record {
       config = c.forget.ensures.config ∙ inv.config;
       gone = c.forget.ensures.memory ∙ inv.gone;
@@ -57,14 +57,14 @@ returns-clause-stands c = λ life past tester bytes clears s.
     let inv = c.loop-event.invariant in
     let events = c.loop-event.self in
     let held = inv.cleared.held in
-    let n = length c.args.self.now.faults.config.events.items in
+    let n = length c.args.self.now.durable.config.events.items in
     let last : c.loop-event.event ≡ n =
-    omega (arith, c.count-count.ensures.count, ap (λ e. length e.faults.config.events.items) c.self.view_is, c.loop-event-test.false, c.loop-event.auto.event-end) in
-    let all : c.loop-event.event ≡ count life = omega (arith, last, ap (λ k. length k.events.items) s.faults_stand.config) in
+    omega (arith, c.count-count.ensures.count, ap (λ e. length e.durable.config.events.items) c.self.view_is, c.loop-event-test.false, c.loop-event.auto.event-end) in
+    let all : c.loop-event.event ≡ count life = omega (arith, last, ap (λ k. length k.events.items) s.durable_stands.config) in
     let whole = subst (λ m. StandsPartly life past op m (holding held events)) all (inv.cleared.stands life past tester bytes clears s) in
     let none = none_left n held.entries (subst (λ k. All (λ (entry : EntryState). k ≤ entry.event) held.entries) last inv.cleared.left) inv.cleared.within in
-    let stood = whole.faults_stand in
-    partly_cleared life past op (holding held events) events.faults clears whole (record {
+    let stood = whole.durable_stands in
+    partly_cleared life past op (holding held events) events.durable clears whole (record {
       config = stood.config;
       states_stand = record { one_each = stood.states_stand.one_each; each = stood.states_stand.each };
       memory_stands = record {

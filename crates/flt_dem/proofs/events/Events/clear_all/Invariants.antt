@@ -4,7 +4,7 @@ use Rattle.flt_dem.proofs.events.Events.clear_all.Given as goal
 
 abbrev pub invariant-loop-event : goal.invariant-loop-event
 invariant-loop-event l = record {
-  config : l.self.faults.config ≡ l.fn.self.faults.config;
-  gone : l.self.faults.memory ≡ record { entries = []; overflow = false };
+  config : l.self.durable.config ≡ l.fn.self.durable.config;
+  gone : l.self.durable.memory ≡ record { entries = []; overflow = false };
   cleared : ClearedBelow l.event l.fn.self l.self;
 }

@@ -1,6 +1,6 @@
 use Rattle.std.proofs.Common.{◌<◌, ◌∙◌, ◌∷◌, refl, ap, length, arith}
 use Rattle.std.specs.Prelude.{slice_get, slice_set}
-use Rattle.flt_model.specs.Life.{count}
+use Rattle.flt_model.specs.Start.{count}
 use Rattle.flt_model.specs.Debounce.{Reported, debounced, qualified}
 use Rattle.flt_model.specs.declared.call.Op.TheVariants as ops
 use Rattle.flt_dem.specs.Events.{EventsView}
@@ -13,7 +13,7 @@ use Rattle.flt_dem.proofs.events.Events.report.Goals as goal
 pub invariant_of-self : goal.invariant_of-self
 invariant_of-self g c =
     let event = c.args.event in
-    let config = c.self.inside.faults.config in
+    let config = c.self.inside.durable.config in
     let debounces = c.self.inside.debounces.items in
     let lent = c.deref_mut.result.now in
     let configured = rw (← c.self.view_is) at c.requires.configured in
@@ -27,18 +27,18 @@ returns-clause-stands g c = λ life past counts signals_are s.
     let inside = rw (← c.self.view_is) at s in
     let report = c.args.report in
     let event = c.args.event in
-    let config = c.self.inside.faults.config in
+    let config = c.self.inside.durable.config in
     let debounces = c.self.inside.debounces.items in
     let lent = c.deref_mut.result.now in
     let new = c.report-qualified.new.state in
     let configured = rw (← c.self.view_is) at c.requires.configured in
     let rules = c.index-deref-event.result in
     let items_is = c.deref.ensures.0 ∙ ap (λ k. k.events.items) c.config.ensures.value in
-    let known = inside.faults_stand.config in
+    let known = inside.durable_stands.config in
     let within : event < count life = omega (arith, configured, ap (λ k. length k.events.items) known) in
     let found = rules_read config c.deref.result.now event rules c.index-deref-event.is items_is configured life known in
-    let before : EventsView = record { faults = c.self.inside.faults; debounces = debounces } in
-    let now : EventsView = record { faults = c.take.new.self; debounces = slice_set debounces event new } in
+    let before : EventsView = record { durable = c.self.inside.durable; debounces = debounces } in
+    let now : EventsView = record { durable = c.take.new.self; debounces = slice_set debounces event new } in
     rw (refill-set debounces lent event new c.deref_mut.ensures.value)
     (stands_one life past (ops.Report event report) event before now within (λ marks. refl) (λ other ne. other_report life past event other report ne)
     (λ items marks own t.
@@ -47,7 +47,7 @@ returns-clause-stands g c = λ life past counts signals_are s.
     (c.report-qualified.ensures.qualified (items event) was ∙ ap (λ k. qualified k.debounce (items event) (Reported report)) found)
     (debounced_more life event (Reported report) items debounces new within
     (c.report-qualified.ensures.debounced (items event) was ∙ ap (λ k. debounced k.debounce (Reported report ∷ items event)) found) t.debounces_stand)
-    (c.take.ensures.stands life marks t.faults_stand))
+    (c.take.ensures.stands life marks t.durable_stands))
     inside)
 
 pub returns-clause-debouncing : goal.returns-clause-debouncing

@@ -11,8 +11,8 @@ returns-then-not-meet-clause-cause c =
     let event = c.args.event in
     let configured = rw (← c.self.view_is) at c.requires in
     let rules = c.index-deref-event.result in
-    let events = c.self.inside.events.faults.config.events.items in
-    let read : rules ≡ get_or events event rules = c.index-deref-event.is ∙ ap (λ xs. get_or xs event rules) (c.deref.ensures.0 ∙ ap (λ k. k.events.items) (c.config.ensures.value ∙ ap (λ f. f.config) c.faults.ensures)) in
+    let events = c.self.inside.events.durable.config.events.items in
+    let read : rules ≡ get_or events event rules = c.index-deref-event.is ∙ ap (λ xs. get_or xs event rules) (c.deref.ensures.0 ∙ ap (λ k. k.events.items) (c.config.ensures.value ∙ ap (λ f. f.config) c.durable.ensures)) in
     sym
     (ap (λ m. cause_of (readiness_at c.args.setting m event)) (sym c.self.view_is)
     ∙ cause_read (the_view c.self.inside) event rules c.args.setting c.meet.result configured read c.meet.ensures
@@ -25,8 +25,8 @@ returns-else-not-meet-clause-cause c =
     let event = c.args.event in
     let configured = rw (← c.self.view_is) at c.requires in
     let rules = c.index-deref-event.result in
-    let events = c.self.inside.events.faults.config.events.items in
-    let read : rules ≡ get_or events event rules = c.index-deref-event.is ∙ ap (λ xs. get_or xs event rules) (c.deref.ensures.0 ∙ ap (λ k. k.events.items) (c.config.ensures.value ∙ ap (λ f. f.config) c.faults.ensures)) in
+    let events = c.self.inside.events.durable.config.events.items in
+    let read : rules ≡ get_or events event rules = c.index-deref-event.is ∙ ap (λ xs. get_or xs event rules) (c.deref.ensures.0 ∙ ap (λ k. k.events.items) (c.config.ensures.value ∙ ap (λ f. f.config) c.durable.ensures)) in
     sym
     (ap (λ m. cause_of (readiness_at c.args.setting m event)) (sym c.self.view_is)
     ∙ cause_read (the_view c.self.inside) event rules c.args.setting c.meet.result configured read c.meet.ensures

@@ -1,7 +1,7 @@
 use Rattle.std.proofs.Common.{◌<◌, ◌∙◌, length, sym, ap, subst, arith}
 use Rattle.std.specs.Prelude.{slice_get}
 use Rattle.flt_config.specs.Validity.{IsValid}
-use Rattle.flt_model.specs.Life.{count, event_of}
+use Rattle.flt_model.specs.Start.{count, event_of}
 use Rattle.flt_model.specs.Happening.{cleared_dtc}
 use Rattle.flt_model.specs.declared.call.Op.TheVariants as ops
 use Rattle.flt_dem.proofs.CallLemmas.{stands_one}
@@ -15,7 +15,7 @@ returns-clause-stands c = λ life past tester bytes clears s.
     let op = ops.Request tester bytes in
     let dtc = (event_of life event).dtc in
     let inside = rw (← c.self.view_is) at s in
-    let config = inside.events.faults_stand.config in
+    let config = inside.events.durable_stands.config in
     let configured = rw (← c.self.view_is) at c.requires in
     let within : event < count life = omega (arith, configured, ap (λ k. length k.events.items) config) in
     let valid = subst (λ k. IsValid k) (sym config) c.clear_one.ensures.valid in
@@ -32,5 +32,5 @@ returns-clause-stands c = λ life past tester bytes clears s.
 pub returns-clause-others : goal.returns-clause-others
 returns-clause-others c = λ other ne. record {
   debouncing = c.clear_one.ensures.debouncing other ne ∙ ap (λ m. slice_get m.debounces other) c.self.view_is;
-  state = c.clear_one.ensures.states other ne ∙ ap (λ m. slice_get m.faults.states other) c.self.view_is;
+  state = c.clear_one.ensures.states other ne ∙ ap (λ m. slice_get m.durable.states other) c.self.view_is;
 }

@@ -9,5 +9,5 @@ pub returns-clause-stands : goal.returns-clause-stands
 returns-clause-stands c = λ life past s.
     let inside = rw (← c.self.view_is) at s in
     c.entry.ensures
-    ∙ ap (λ f. find (is_of_event c.args.event) f.memory.entries) c.faults.ensures
-    ∙ entry_found life (trace life past) c.args.event c.self.inside.events.faults.memory.entries inside.events.faults_stand.memory_stands.entries
+    ∙ ap (λ f. find (is_of_event c.args.event) f.memory.entries) c.durable.ensures
+    ∙ entry_found life (trace life past) c.args.event c.self.inside.events.durable.memory.entries inside.events.durable_stands.memory_stands.entries

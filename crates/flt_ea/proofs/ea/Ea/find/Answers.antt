@@ -13,7 +13,7 @@ use Rattle.flt_ea.proofs.ea.Ea.find.Goals.{After-index}
 use Rattle.flt_ea.proofs.ea.Ea.find.Goals as goal
 
 stands : (g : _) (c : After-index g) → StandsAt (g.E.Eeprom.state c.args.self.now.device) c.args.self.now.numbers c.position-position.result c.args.block c.index.result.now
-stands g c = stands_at c.args.self.now (g.met.E.Eeprom.shape c.args.self.now.device) c.requires.settled c.position-position.result c.args.block c.index.result.now c.position-position.ensures.within c.position-position.ensures.is c.index.ensures
+stands g c = stands_at c.args.self.now (g.met.E.Eeprom.shape c.args.self.now.device) c.requires.not_stale c.position-position.result c.args.block c.index.result.now c.position-position.ensures.within c.position-position.ensures.is c.index.ensures
 
 pub read_bytes-requires-clause-most : goal.read_bytes-requires-clause-most
 read_bytes-requires-clause-most g c =

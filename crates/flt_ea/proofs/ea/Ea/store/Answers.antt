@@ -15,7 +15,7 @@ use Rattle.flt_ea.proofs.ea.Ea.store.Goals.{After-index-held, After-write_record
 use Rattle.flt_ea.proofs.ea.Ea.store.Goals as goal
 
 stands : (g : _) (c : After-index-held g) → StandsAt (g.E.Eeprom.state c.args.self.now.device) c.args.self.now.numbers c.position-position.result c.args.block c.index-held.result.now
-stands g c = stands_at c.args.self.now (g.met.E.Eeprom.shape c.args.self.now.device) c.requires.settled c.position-position.result c.args.block c.index-held.result.now c.position-position.ensures.within c.position-position.ensures.is c.index-held.ensures
+stands g c = stands_at c.args.self.now (g.met.E.Eeprom.shape c.args.self.now.device) c.requires.not_stale c.position-position.result c.args.block c.index-held.result.now c.position-position.ensures.within c.position-position.ensures.is c.index-held.ensures
 
 abbrev new_gate : (g : _) (c : After-write_record g) → Gate
 new_gate g c = record { block = c.args.block; length = length c.args.bytes.now; valid = c.args.valid; sequence = c.next_sequence.result }
@@ -74,10 +74,10 @@ invariant_of-self-in-Ok-clause-mounted g c =
     let here = stands g (goal.at.invariant_of-self-in-Ok-clause-mounted g c).After-index-held in
     let put = puts g (goal.at.invariant_of-self-in-Ok-clause-mounted g c).After-write_record (Ok tt) c.in-Ok.ensures.writes in
     record {
-      mounted = λ fresh. self.mounted.mounted c.requires.settled;
+      mounted = λ fresh. self.mounted.mounted c.requires.not_stale;
       undamaged = λ yes. stored_sound here put;
       places = λ fresh. subst (λ n. IsTable (length self.numbers) (sector_at (g.E.Eeprom.state c.write_record.new.device).image 0) (set self.table.items c.position-position.result (held_at n (new_gate g (goal.at.invariant_of-self-in-Ok-clause-mounted g c).After-write_record)))) (sym c.next_place-place.ensures)
-          (table_now here put self.is_stale self.has_mounted (whole_now here put) self.table.items self.size (self.mounted.places c.requires.settled));
+          (table_now here put self.is_stale self.has_mounted (whole_now here put) self.table.items self.size (self.mounted.places c.requires.not_stale));
     }
 
 pub returns-in-Ok-clause-changes : goal.returns-in-Ok-clause-changes

@@ -8,7 +8,7 @@ use Rattle.flt_ea.proofs.ea.EaBlocks.look_up.Goals.{After-index}
 use Rattle.flt_ea.proofs.ea.EaBlocks.look_up.Goals as goal
 
 stands : (g : _) (c : After-index g) → StandsAt (g.E.Eeprom.state c.args.self.now.device) c.args.self.now.numbers c.position.result c.args.block c.index.result.now
-stands g c = stands_at c.args.self.now (g.met.E.Eeprom.shape c.args.self.now.device) c.requires.settled c.position.result c.args.block c.index.result.now c.position.ensures.within c.position.ensures.is c.index.ensures
+stands g c = stands_at c.args.self.now (g.met.E.Eeprom.shape c.args.self.now.device) c.requires.not_stale c.position.result c.args.block c.index.result.now c.position.ensures.within c.position.ensures.is c.index.ensures
 
 pub returns-in-None : goal.returns-in-None
 returns-in-None g c =

@@ -22,40 +22,40 @@ pub append_record-requires-clause-blank : goal.append_record-requires-clause-bla
 append_record-requires-clause-blank g c =
     let self = c.args.self.now in
     let image = (g.F.Flash.state self.flash).image in
-    let stands = mounted_stands self.is_stale self.has_mounted c.requires.settled self.used self.numbers image self.sector self.sequence self.end self.mounted in
+    let stands = mounted_stands self.is_stale self.has_mounted c.requires.not_stale self.used self.numbers image self.sector self.sequence self.end self.mounted in
     λ k low high. blank_at_end self.used self.numbers image self.sector self.sequence self.end _ (omega (arith, self.least)) stands k low (omega (arith, c.requires.room))
 
 pub returns-in-Err-clause-changes : goal.returns-in-Err-clause-changes
 returns-in-Err-clause-changes g c =
     let self = c.args.self.now in
     let image = (g.F.Flash.state self.flash).image in
-    let stands = mounted_stands self.is_stale self.has_mounted c.requires.settled self.used self.numbers image self.sector self.sequence self.end self.mounted in
+    let stands = mounted_stands self.is_stale self.has_mounted c.requires.not_stale self.used self.numbers image self.sector self.sequence self.end self.mounted in
     let proper : IsWord (Head c.args.block (length c.args.bytes.now) c.args.valid self.end) = (omega arith, omega arith, omega arith, c.requires.length) in
     failed_changes self.used self.numbers (g.F.Flash.state self.flash) (g.F.Flash.state c.append_record.new.flash) (g.met.F.Flash.shape self.flash) self.sector self.sequence self.end c.args.block c.args.bytes.now c.args.valid
     self.sectors (omega (arith, self.least)) stands proper (is_among self.numbers c.args.block c.requires.number) c.requires.room
-    self.is_stale self.has_mounted (self.mounted.mounted c.requires.settled) c.in-Err.field-0 c.in-Err.ensures.records
+    self.is_stale self.has_mounted (self.mounted.mounted c.requires.not_stale) c.in-Err.field-0 c.in-Err.ensures.records
 
 pub returns-in-Err-clause-calls : goal.returns-in-Err-clause-calls
 returns-in-Err-clause-calls g c =
     let self = c.args.self.now in
     let image = (g.F.Flash.state self.flash).image in
-    let stands = mounted_stands self.is_stale self.has_mounted c.requires.settled self.used self.numbers image self.sector self.sequence self.end self.mounted in
+    let stands = mounted_stands self.is_stale self.has_mounted c.requires.not_stale self.used self.numbers image self.sector self.sequence self.end self.mounted in
     let proper : IsWord (Head c.args.block (length c.args.bytes.now) c.args.valid self.end) = (omega arith, omega arith, omega arith, c.requires.length) in
     failed_calls self.used self.numbers (g.F.Flash.state self.flash) (g.F.Flash.state c.append_record.new.flash) (g.met.F.Flash.shape self.flash) self.sector self.sequence self.end c.args.block c.args.bytes.now c.args.valid
     self.sectors (omega (arith, self.least)) stands proper (is_among self.numbers c.args.block c.requires.number) c.requires.room
-    self.is_stale self.has_mounted (self.mounted.mounted c.requires.settled) c.in-Err.field-0 c.in-Err.ensures.records
+    self.is_stale self.has_mounted (self.mounted.mounted c.requires.not_stale) c.in-Err.field-0 c.in-Err.ensures.records
 
 pub invariant_of-self-in-Ok : goal.invariant_of-self-in-Ok
 invariant_of-self-in-Ok g c =
     let self = c.args.self.now in
     let image = (g.F.Flash.state self.flash).image in
     let after = (g.F.Flash.state c.append_record.new.flash).image in
-    let stands = mounted_stands self.is_stale self.has_mounted c.requires.settled self.used self.numbers image self.sector self.sequence self.end self.mounted in
+    let stands = mounted_stands self.is_stale self.has_mounted c.requires.not_stale self.used self.numbers image self.sector self.sequence self.end self.mounted in
     let proper : IsWord (Head c.args.block (length c.args.bytes.now) c.args.valid self.end) = (omega arith, omega arith, omega arith, c.requires.length) in
     let value : ℕ → Content = given c.args.block (asked_of c.args.valid c.args.bytes.now) (block_value self.used self.numbers image) in
     let now = now_stands self.used self.numbers (g.F.Flash.state self.flash) (g.F.Flash.state c.append_record.new.flash) (g.met.F.Flash.shape self.flash) self.sector self.sequence self.end c.args.block c.args.bytes.now c.args.valid
     self.sectors (omega (arith, self.least)) stands proper (is_among self.numbers c.args.block c.requires.number) c.requires.room
-    self.is_stale self.has_mounted (self.mounted.mounted c.requires.settled) c.in-Ok.ensures.records in
+    self.is_stale self.has_mounted (self.mounted.mounted c.requires.not_stale) c.in-Ok.ensures.records in
     let last : self.end + (2 + byte_pages (length c.args.bytes.now)) ≡ self.end + 2 + c.byte_pages.result = omega (arith, c.byte_pages.ensures) in
     let same = with_items_is self.places c.note.new.places (omega (arith, c.note.ensures.size, ap length c.deref_mut.ensures.value, self.places.ok.0)) in
     let place : RecordPlace = record { page = self.end; length = length c.args.bytes.now; valid = c.args.valid } in
@@ -68,8 +68,8 @@ invariant_of-self-in-Ok g c =
       distinct = self.distinct;
       sized = ap length same ∙ c.note.ensures.size ∙ ap length c.deref_mut.ensures.value ∙ self.sized;
       table = λ fresh. subst (λ (places : List (Option RecordPlace)). TellsPlaces self.numbers places (sector_at after self.sector) (self.end + 2 + c.byte_pages.result) (block_value self.used self.numbers after)) (sym same) (tells_appended self.used self.numbers (g.F.Flash.state self.flash) (g.F.Flash.state c.append_record.new.flash) (g.met.F.Flash.shape self.flash) self.sector self.sequence self.end c.args.block c.args.bytes.now c.args.valid
-          self.sectors (omega (arith, self.least)) stands proper c.in-Ok.ensures.records now self.places.items c.note.new.places (self.table c.requires.settled) place refl noted (self.end + 2 + c.byte_pages.result) last);
-      mounted = stands_mounted self.has_mounted (self.mounted.mounted c.requires.settled) self.used self.numbers after self.sector self.sequence (self.end + 2 + c.byte_pages.result) value
+          self.sectors (omega (arith, self.least)) stands proper c.in-Ok.ensures.records now self.places.items c.note.new.places (self.table c.requires.not_stale) place refl noted (self.end + 2 + c.byte_pages.result) last);
+      mounted = stands_mounted self.has_mounted (self.mounted.mounted c.requires.not_stale) self.used self.numbers after self.sector self.sequence (self.end + 2 + c.byte_pages.result) value
           (subst (λ n. StandsAt self.used self.numbers after self.sector self.sequence n value) last now);
     }
 
@@ -77,17 +77,17 @@ pub returns-in-Ok-clause-changes : goal.returns-in-Ok-clause-changes
 returns-in-Ok-clause-changes g c =
     let self = c.args.self.now in
     let image = (g.F.Flash.state self.flash).image in
-    let stands = mounted_stands self.is_stale self.has_mounted c.requires.settled self.used self.numbers image self.sector self.sequence self.end self.mounted in
+    let stands = mounted_stands self.is_stale self.has_mounted c.requires.not_stale self.used self.numbers image self.sector self.sequence self.end self.mounted in
     let proper : IsWord (Head c.args.block (length c.args.bytes.now) c.args.valid self.end) = (omega arith, omega arith, omega arith, c.requires.length) in
     done_changes self.used self.numbers (g.F.Flash.state self.flash) (g.F.Flash.state c.append_record.new.flash) (g.met.F.Flash.shape self.flash) self.sector self.sequence self.end c.args.block c.args.bytes.now c.args.valid
     self.sectors (omega (arith, self.least)) stands proper (is_among self.numbers c.args.block c.requires.number) c.requires.room
-    self.is_stale self.has_mounted (self.mounted.mounted c.requires.settled) c.in-Ok.ensures.records
+    self.is_stale self.has_mounted (self.mounted.mounted c.requires.not_stale) c.in-Ok.ensures.records
 
 pub invariant_of-self : goal.invariant_of-self
 invariant_of-self g c =
     let self = c.args.self.now in
     let image = (g.F.Flash.state self.flash).image in
-    let stands = mounted_stands self.is_stale self.has_mounted c.requires.settled self.used self.numbers image self.sector self.sequence self.end self.mounted in
+    let stands = mounted_stands self.is_stale self.has_mounted c.requires.not_stale self.used self.numbers image self.sector self.sequence self.end self.mounted in
     let proper : IsWord (Head c.args.block (length c.args.bytes.now) c.args.valid self.end) = (omega arith, omega arith, omega arith, c.requires.length) in
     let sound = left_sound self.used self.numbers (g.F.Flash.state self.flash) (g.F.Flash.state c.append_record.new.flash) (g.met.F.Flash.shape self.flash) self.sector self.sequence self.end c.args.block c.args.bytes.now c.args.valid
     self.sectors (omega (arith, self.least)) stands proper (is_among self.numbers c.args.block c.requires.number) c.requires.room {result = c.append_record.result} c.append_record.ensures.records in
@@ -105,7 +105,7 @@ pub returns-in-Err-clause-even : goal.returns-in-Err-clause-even
 returns-in-Err-clause-even g c =
     let self = c.args.self.now in
     let image = (g.F.Flash.state self.flash).image in
-    let stands = mounted_stands self.is_stale self.has_mounted c.requires.settled self.used self.numbers image self.sector self.sequence self.end self.mounted in
+    let stands = mounted_stands self.is_stale self.has_mounted c.requires.not_stale self.used self.numbers image self.sector self.sequence self.end self.mounted in
     let proper : IsWord (Head c.args.block (length c.args.bytes.now) c.args.valid self.end) = (omega arith, omega arith, omega arith, c.requires.length) in
     even_same self.used (g.F.Flash.state self.flash) (g.F.Flash.state c.append_record.new.flash)
     (current_stays self.used self.numbers (g.F.Flash.state self.flash) (g.F.Flash.state c.append_record.new.flash) (g.met.F.Flash.shape self.flash) self.sector self.sequence self.end c.args.block c.args.bytes.now c.args.valid
@@ -116,7 +116,7 @@ pub returns-in-Ok-clause-even : goal.returns-in-Ok-clause-even
 returns-in-Ok-clause-even g c =
     let self = c.args.self.now in
     let image = (g.F.Flash.state self.flash).image in
-    let stands = mounted_stands self.is_stale self.has_mounted c.requires.settled self.used self.numbers image self.sector self.sequence self.end self.mounted in
+    let stands = mounted_stands self.is_stale self.has_mounted c.requires.not_stale self.used self.numbers image self.sector self.sequence self.end self.mounted in
     let proper : IsWord (Head c.args.block (length c.args.bytes.now) c.args.valid self.end) = (omega arith, omega arith, omega arith, c.requires.length) in
     even_same self.used (g.F.Flash.state self.flash) (g.F.Flash.state c.append_record.new.flash)
     (current_stays self.used self.numbers (g.F.Flash.state self.flash) (g.F.Flash.state c.append_record.new.flash) (g.met.F.Flash.shape self.flash) self.sector self.sequence self.end c.args.block c.args.bytes.now c.args.valid
@@ -127,8 +127,8 @@ pub returns-in-Ok-clause-calls : goal.returns-in-Ok-clause-calls
 returns-in-Ok-clause-calls g c =
     let self = c.args.self.now in
     let image = (g.F.Flash.state self.flash).image in
-    let stands = mounted_stands self.is_stale self.has_mounted c.requires.settled self.used self.numbers image self.sector self.sequence self.end self.mounted in
+    let stands = mounted_stands self.is_stale self.has_mounted c.requires.not_stale self.used self.numbers image self.sector self.sequence self.end self.mounted in
     let proper : IsWord (Head c.args.block (length c.args.bytes.now) c.args.valid self.end) = (omega arith, omega arith, omega arith, c.requires.length) in
     done_calls self.used self.numbers (g.F.Flash.state self.flash) (g.F.Flash.state c.append_record.new.flash) (g.met.F.Flash.shape self.flash) self.sector self.sequence self.end c.args.block c.args.bytes.now c.args.valid
     self.sectors (omega (arith, self.least)) stands proper (is_among self.numbers c.args.block c.requires.number) c.requires.room
-    self.is_stale self.has_mounted (self.mounted.mounted c.requires.settled) c.in-Ok.ensures.records
+    self.is_stale self.has_mounted (self.mounted.mounted c.requires.not_stale) c.in-Ok.ensures.records

@@ -15,7 +15,7 @@ switch_sectors-requires-clause-table g c =
     let self = c.args.self.now in
     let pages = sector_at (g.F.Flash.state self.flash).image self.sector in
     subst (λ (places : List (Option RecordPlace)). TellsPlaces self.numbers places pages self.used (held_in self.used self.numbers pages)) (sym c.deref_mut.ensures.value)
-    (tells_old self.is_stale self.has_mounted c.requires.settled self.used self.numbers (g.F.Flash.state self.flash) (g.met.F.Flash.shape self.flash) self.sector self.sequence self.end self.least self.within self.sectors self.distinct self.mounted self.places.items self.sized (self.table c.requires.settled))
+    (tells_old self.is_stale self.has_mounted c.requires.not_stale self.used self.numbers (g.F.Flash.state self.flash) (g.met.F.Flash.shape self.flash) self.sector self.sequence self.end self.least self.within self.sectors self.distinct self.mounted self.places.items self.sized (self.table c.requires.not_stale))
 
 pub invariant_of-self-in-Ok-clause-table : goal.invariant_of-self-in-Ok-clause-table
 invariant_of-self-in-Ok-clause-table g c =
@@ -54,4 +54,4 @@ pub returns-in-Ok-clause-even : goal.returns-in-Ok-clause-even
 returns-in-Ok-clause-even g c =
     let self = c.args.self.now in
     even_switched self.used (g.F.Flash.state self.flash) (g.F.Flash.state c.switch_sectors.new.flash) (g.met.F.Flash.shape self.flash) self.sector self.sequence (self.sequence + 1) self.sectors
-    (self.mounted.current c.requires.settled) c.in-Ok.ensures.switched.current c.in-Ok.ensures.erases.wear
+    (self.mounted.current c.requires.not_stale) c.in-Ok.ensures.switched.current c.in-Ok.ensures.erases.wear

@@ -1,0 +1,48 @@
+//! What lies under the lock.
+ghost use Rattle.std.specs.Prelude.{reverse};
+ghost use Rattle.flt_queue.specs.Call.{reply_after};
+ghost use Rattle.flt_queue.specs.Queue.{IsAdmitted};
+ghost use Rattle.flt_queue.specs.Stands.{Stands};
+
+use crate::job::{QueueOp, QueueReply};
+use crate::queue::JobQueue;
+use flt_turn::{Machine, Stepper};
+
+/// The queue of write jobs. It is boxed, since it goes out of the lock's slot and back with each call.
+#[derive(Drop)]
+pub struct BoxedQueue {
+    pub(crate) queue: Box<JobQueue>,
+}
+
+impl Machine for BoxedQueue {
+    type Start = u8;
+
+    type Op = QueueOp;
+
+    type Reply = QueueReply;
+
+    type Out = ();
+
+    ghost some_start = { 0 };
+
+    ghost start = { λ guarded. guarded.queue.value.blocks };
+
+    ghost admits = { IsAdmitted };
+
+    ghost stands_for = { λ guarded blocks ops. Stands blocks (reverse ops) guarded.queue.value };
+
+    ghost answer = { reply_after };
+
+    ghost written = { λ _ _ _ out. out };
+}
+
+impl Stepper for BoxedQueue {
+    type Context = ();
+
+    ghost serves = { λ _ _. Unit {0} };
+
+    #[inline(always)]
+    fn step(&mut self, _context: &(), op: &QueueOp, _out: &mut ()) -> QueueReply {
+        self.queue.apply(op)
+    }
+}
