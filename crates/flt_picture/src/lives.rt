@@ -3,7 +3,7 @@ ghost use Rattle.std.specs.Prelude.{◌≤◌};
 ghost use Rattle.flt_did.specs.Serves.{Serves};
 ghost use Rattle.flt_did.specs.Table.{dids_of};
 
-use crate::band::bands_of;
+use crate::band::{Band, bands_of};
 use crate::columns::{Columns, LifeColumns, Span, count_calls};
 use crate::layout::{
     BAND, BANDS_Y, BAR, LETTER_WIDTH, LIFE_HEIGHT, LIVES_Y, MARGIN, PLACES_Y, ROW, SAVES_Y,
@@ -294,6 +294,15 @@ impl Drawing<'_, '_> {
         }
         Ok(())
     }
+
+    /// Draws the lives, and below them what their calls did.
+    fn draw(&mut self, bands: &[Band]) -> Result<(), AllocError> {
+        self.draw_lives()?;
+        self.draw_places()?;
+        self.draw_begun()?;
+        self.draw_acknowledged()?;
+        self.draw_bands(bands)
+    }
 }
 
 /// The note of what a timeline leaves out.
@@ -319,6 +328,36 @@ fn timeline_title(alloc: Global, lives: &[Life], events: usize) -> Result<String
     format!(in alloc; "timeline: lives {count}, calls {calls}, events {events}")
 }
 
+/// The bands of the first events of a script, as the machine's calls leave them.
+fn played_bands(
+    alloc: Global,
+    config: &ValidConfig,
+    dids: DidTable<DID_ROWS>,
+    lives: &[Life],
+    columns: &Columns,
+) -> Result<Vec<Band>, AllocError>
+    requires { Serves (dids_of dids) config.now.events.items }
+{
+    let mut bands = bands_of(alloc, config, columns, EVENTS)?;
+    let mut machine = Machine::new(config, dids);
+    replay(&mut machine, lives, columns, &mut bands);
+    Ok(bands)
+}
+
+/// The beginning of a timeline of this height.
+fn head_timeline(
+    alloc: Global,
+    config: &ValidConfig,
+    lives: &[Life],
+    columns: &Columns,
+    height: u32,
+) -> Result<Svg, AllocError> {
+    let events = config.config().events.len();
+    let title = timeline_title(alloc, lives, events)?;
+    let note = note_words(alloc, events, columns.calls)?;
+    Svg::headed(alloc, height, &title, &note)
+}
+
 /// Draws the lives of a script from left to right, each with the calls of its journal, which the machine makes again: how its first 16
 /// events stand after each, what becomes of them, where generations were acknowledged, and where the power went. A life that is dark or
 /// refused is drawn as such.
@@ -335,24 +374,15 @@ pub fn timeline(
     requires { Serves (dids_of dids) config.now.events.items }
 {
     let columns = Columns::of(alloc, lives)?;
-    let mut bands = bands_of(alloc, config, &columns, EVENTS)?;
-    let mut machine = Machine::new(config, dids);
-    replay(&mut machine, lives, &columns, &mut bands);
-    let events = config.config().events.len();
-    let title = timeline_title(alloc, lives, events)?;
-    let note = note_words(alloc, events, columns.calls)?;
+    let bands = played_bands(alloc, config, dids, lives, &columns)?;
     let height = BANDS_Y + bands.len().min(EVENTS) as u32 * BAND;
     let mut picture = Drawing {
         alloc,
         columns: &columns,
         lives,
         height,
-        svg: Svg::headed(alloc, height, &title, &note)?,
+        svg: head_timeline(alloc, config, lives, &columns, height)?,
     };
-    picture.draw_lives()?;
-    picture.draw_places()?;
-    picture.draw_begun()?;
-    picture.draw_acknowledged()?;
-    picture.draw_bands(&bands)?;
+    picture.draw(&bands)?;
     picture.svg.end()
 }

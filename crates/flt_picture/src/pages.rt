@@ -22,6 +22,15 @@ use std::fmt::Write;
 static NOTE: &str =
     "blue: a gate; green: the current record of its block; grey: an older one, or blank; red: torn, or incomplete";
 
+/// The page that stands at an index in an image of the first pages of both sectors, if the flash has it.
+fn page_of(flash: &FlashMem, used: u16, index: usize) -> Option<&[u8; 32]>
+    requires { 2 ≤ used }
+{
+    let used = usize::from(used);
+    let sector = if index < used { 0 } else { 1 };
+    page_at(flash, sector, (index % used) as u16)
+}
+
 /// A flash on which nothing fails, with the first pages of another one's sectors.
 fn copy_of(alloc: Global, flash: &FlashMem, used: u16) -> Result<FlashMem, AllocError>
     requires least { 2 ≤ used }
@@ -29,9 +38,7 @@ fn copy_of(alloc: Global, flash: &FlashMem, used: u16) -> Result<FlashMem, Alloc
 {
     let mut pages = vec![in alloc; BLANK_PAGE; 2 * used as usize]?;
     for (index, bytes) in pages.iter_mut().enumerate() {
-        let sector = if index < used as usize { 0 } else { 1 };
-        let page = index % used as usize;
-        if let Some(found) = page_at(flash, sector, page as u16) {
+        if let Some(found) = page_of(flash, used, index) {
             *bytes = *found;
         }
     }
@@ -353,6 +360,27 @@ fn log_height(log: &Log) -> u32 {
     )
 }
 
+/// How high the picture of two sectors is.
+fn picture_height(logs: &[Log; 2]) -> u32 {
+    let [first, second] = logs;
+    SECTORS_Y
+        .saturating_add(log_height(first))
+        .saturating_add(log_height(second))
+        .saturating_add(3 * ROW)
+}
+
+/// The beginning of the picture of two sectors of which so many pages are in use.
+fn head_sectors(
+    alloc: Global,
+    used: u16,
+    flash: &FlashMem,
+    logs: &[Log; 2],
+) -> Result<Svg, AllocError> {
+    let operations = flash.operations();
+    let title = format!(in alloc; "sectors: {used} pages each, {operations} operations")?;
+    Svg::headed(alloc, picture_height(logs), &title, NOTE)
+}
+
 /// Draws the sectors of a flash, a cell a page of those that a configuration uses: its gates, the records of the log with the names of their
 /// blocks, which of them are current, the generation that each copy of the commit names, and how often each sector was erased.
 ///
@@ -367,17 +395,13 @@ pub fn sectors(
     let used = config.config().pages.clamp(2, 1024);
     let mut copy = copy_of(alloc, flash, used)?;
     let current = current_of(&mut copy, used);
-    let first = read_log(alloc, &mut copy, 0, used)?;
-    let second = read_log(alloc, &mut copy, 1, used)?;
-    let height = SECTORS_Y
-        .saturating_add(log_height(&first))
-        .saturating_add(log_height(&second))
-        .saturating_add(3 * ROW);
-    let operations = flash.operations();
-    let title = format!(in alloc; "sectors: {used} pages each, {operations} operations")?;
-    let mut svg = Svg::headed(alloc, height, &title, NOTE)?;
+    let logs = [
+        read_log(alloc, &mut copy, 0, used)?,
+        read_log(alloc, &mut copy, 1, used)?,
+    ];
+    let mut svg = head_sectors(alloc, used, flash, &logs)?;
     let mut top = SECTORS_Y;
-    for (number, log) in [(0u8, &first), (1, &second)] {
+    for (number, log) in (0u8..).zip(&logs) {
         let sector = Sector {
             alloc,
             config,
