@@ -1,5 +1,5 @@
 // The answer to a step.
-ghost use Rattle.std.specs.Prelude.{◌≡◌, ◌≤◌, ◌+◌, ◌++◌, ◌∷◌, [], OnOk, OnErr, IfSome, length, vec_len};
+ghost use Rattle.std.specs.Prelude.{◌≡◌, ◌≤◌, ◌+◌, ◌++◌, ◌∷◌, [], OnOk, OnErr, length, vec_len};
 ghost use Rattle.std.specs.Vec.{vec_capacity};
 ghost use Rattle.flt_dcm.specs.ReplyKind.{reply_with};
 ghost use Rattle.flt_life.specs.Answers.{IsReplyWithin, IsAnswerWithin, reply_in, with_reply};
@@ -219,21 +219,6 @@ fn put_told(answer: &StepAnswer<KeptReply>, responses: &[u8], out: &mut Vec<u8>)
     }
 }
 
-/// How many bytes an answer has at most, or none where no memory has as many.
-fn answer_room(answer: &StepAnswer<KeptReply>) -> Option<usize>
-    ensures { IfSome result (λ room. room ≡ answer_room answer.now) }
-{
-    match answer {
-        StepAnswer::Dem(
-            Answer {
-                reply: ReplyOf::Response(kept),
-                ..
-            },
-        ) => kept.length.checked_mul(3),
-        _ => Some(ANSWER_ROOM),
-    }
-}
-
 /// Puts an arrow, an answer and the end of the line. Where memory is short it puts nothing.
 pub(crate) fn put_answer(
     answer: &StepAnswer<KeptReply>,
@@ -244,7 +229,15 @@ pub(crate) fn put_answer(
     ensures ok { OnOk result (out.new.items ≡ out.old.items ++ answer_part (with_reply (reply_in responses.now) answer.now)) }
     ensures err { OnErr result (out.new.items ≡ out.old.items) }
 {
-    let room = answer_room(answer).ok_or(AllocError)?;
+    let room = match answer {
+        StepAnswer::Dem(
+            Answer {
+                reply: ReplyOf::Response(kept),
+                ..
+            },
+        ) => kept.length.checked_mul(3).ok_or(AllocError)?,
+        _ => ANSWER_ROOM,
+    };
     out.reserve(room.checked_add(ABOUT_ANSWER).ok_or(AllocError)?)?;
     put_text(b" -> ", out);
     put_told(answer, responses, out);
