@@ -83,27 +83,6 @@ pub fn put_refused(fault: &StartFault, out: &mut Vec<u8>) -> Result<(), AllocErr
     Ok(())
 }
 
-/// Puts what a power-up came to, in at most 124 bytes.
-fn put_start(boot: &Boot, out: &mut Vec<u8>)
-    requires refused { boot.now ≢ Boot.Refused faults.Flash }
-    requires room { vec_len out.old + 124 ≤ vec_capacity out.old }
-    ensures items { out.new.items ≡ out.old.items ++ boot_text boot.now }
-    ensures len { vec_len out.new ≤ vec_len out.old + 124 }
-    ensures room { vec_capacity out.old ≤ vec_capacity out.new }
-{
-    match boot {
-        Boot::Started { generation, .. } => {
-            put_text(b"generation ", out);
-            put_number(*generation, out);
-        }
-        Boot::Dark => put_text(b"dark", out),
-        Boot::Refused(fault) => {
-            put_text(b"refused ", out);
-            put_refusal(fault, out);
-        }
-    }
-}
-
 /// Puts the line that begins the life of this number, counted from 1. Where memory is short it puts nothing;
 /// with room for 160 bytes it takes none.
 pub fn put_boot(life: u32, boot: &Boot, out: &mut Vec<u8>) -> Result<(), AllocError>
@@ -116,7 +95,17 @@ pub fn put_boot(life: u32, boot: &Boot, out: &mut Vec<u8>) -> Result<(), AllocEr
     put_text(b"life ", out);
     put_number(life, out);
     put_text(b" ", out);
-    put_start(boot, out);
+    match boot {
+        Boot::Started { generation, .. } => {
+            put_text(b"generation ", out);
+            put_number(*generation, out);
+        }
+        Boot::Dark => put_text(b"dark", out),
+        Boot::Refused(fault) => {
+            put_text(b"refused ", out);
+            put_refusal(fault, out);
+        }
+    }
     put_text(b"\n", out);
     Ok(())
 }
