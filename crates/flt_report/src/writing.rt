@@ -13,7 +13,7 @@ ghost use Rattle.flt_life.specs.Room.{told_in};
 ghost use Rattle.flt_report.specs.Answer.{step_line};
 ghost use Rattle.flt_report.specs.Boot.{boot_line, script_fault_line, unread_line};
 ghost use Rattle.flt_report.specs.Left.{IsWritten};
-ghost use Rattle.flt_report.specs.Life.{block_text, lane_steps, lane_text, lanes_text, life_text, lines_text, parts_text, told_text};
+ghost use Rattle.flt_report.specs.Life.{block_text, lane_steps, lane_text, lanes_text, life_text, lines_text, parts_text};
 
 use crate::block::{put_end, put_lane, put_par};
 use crate::boot::put_boot;
@@ -178,34 +178,6 @@ fn write_block<K: Sink>(
     Ok(())
 }
 
-/// Pushes the lines that `piece` holds where they have come to a piece, and keeps them else.
-fn push_piece<K: Sink>(piece: &mut Vec<u8>, sink: &mut K) -> Result<(), WriteFault>
-    ensures ok { OnOk result (IsWritten (K.held sink.old) (K.held sink.new) piece.new.items piece.old.items) }
-    ensures err { OnErr result (AppendsFront (K.held sink.old) (K.held sink.new) piece.old.items) }
-    ensures later { K.faults sink.old ≤ K.faults sink.new }
-    ensures cause { IsErrOf result WriteFault.Failed → Rose (K.faults sink.old) (K.faults sink.new) }
-{
-    if piece.len() < PIECE {
-        return Ok(());
-    }
-    sink.push(piece)?;
-    piece.clear();
-    Ok(())
-}
-
-/// Puts the line of the next step of lane 0, which was answered, behind the lines that `piece` holds.
-fn put_next(
-    piece: &mut Vec<u8>,
-    step: &Step,
-    own: &LaneReplies,
-    index: usize,
-) -> Result<(), AllocError>
-    requires { index < vec_len own.now.answers }
-    ensures { OnOk result (piece.new.items ≡ piece.old.items ++ step_line step.now (slice_index_or (told_in own.now) index answers.Dark)) }
-{
-    put_step(step, &own.answers[index], &own.responses, piece)
-}
-
 /// Puts the line of the next step of lane 0, which was answered, behind the lines that `piece` holds, and pushes them where they
 /// have come to a piece.
 fn write_one<K: Sink>(
@@ -223,8 +195,13 @@ fn write_one<K: Sink>(
     ensures later { K.faults sink.old ≤ K.faults sink.new }
     ensures cause { IsErrOf result WriteFault.Failed → Rose (K.faults sink.old) (K.faults sink.new) }
 {
-    put_next(piece, step, own, index)?;
-    push_piece(piece, sink)
+    put_step(step, &own.answers[index], &own.responses, piece)?;
+    if piece.len() < PIECE {
+        return Ok(());
+    }
+    sink.push(piece)?;
+    piece.clear();
+    Ok(())
 }
 
 /// Pushes the lines that `piece` holds, and writes the lines of a block behind them. No line is kept.
@@ -314,26 +291,8 @@ fn write_parts<K: Sink>(
 {
     piece.clear();
     put_parts(piece, parts, own, told, sink)?;
-    write_text(piece, sink)
-}
-
-/// Writes the lines of parts that were made, with the answers of all lanes, lane 0 first.
-fn write_told<K: Sink>(
-    line: &mut Vec<u8>,
-    parts: &[Part],
-    replies: &[LaneReplies],
-    sink: &mut K,
-) -> Result<(), WriteFault>
-    requires { widths (parts_of parts.now) + 1 < 2 ^ 32 }
-    ensures ok { OnOk result (Appends (K.held sink.old) (K.held sink.new) (told_text (parts_of parts.now) replies.now)) }
-    ensures err { OnErr result (AppendsFront (K.held sink.old) (K.held sink.new) (told_text (parts_of parts.now) replies.now)) }
-    ensures later { K.faults sink.old ≤ K.faults sink.new }
-    ensures cause { IsErrOf result WriteFault.Failed → Rose (K.faults sink.old) (K.faults sink.new) }
-{
-    match replies {
-        [own, told @ ..] => write_parts(line, parts, own, told, sink),
-        [] => Ok(()),
-    }
+    sink.push(piece)?;
+    Ok(())
 }
 
 /// Writes the line that begins a life of this number.
@@ -374,8 +333,10 @@ pub fn write_life<K: Sink>(
 {
     write_boot(line, number, boot, sink)?;
     match boot {
-        Boot::Started { .. } => write_told(line, parts, replies, sink),
-        Boot::Dark => write_told(line, parts, replies, sink),
+        Boot::Started { .. } | Boot::Dark => match replies {
+            [own, told @ ..] => write_parts(line, parts, own, told, sink),
+            [] => Ok(()),
+        },
         Boot::Refused(_) => Ok(()),
     }
 }
