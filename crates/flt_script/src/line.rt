@@ -5,7 +5,7 @@ ghost use Rattle.flt_script.specs.Said as line;
 ghost use Rattle.flt_script.specs.Behind.{step_of};
 ghost use Rattle.flt_script.specs.Bytes.{tester_of};
 ghost use Rattle.flt_script.specs.Event.{only, event_of};
-ghost use Rattle.flt_script.specs.Line.{two_numbers, three_numbers, number_and_pattern, alone, did_with, request_with, post_with, line_with, line_of, is_comment};
+ghost use Rattle.flt_script.specs.Line.{two_numbers, three_numbers, number_and_pattern, alone, did_with, request_with, post_with, line_with, line_of};
 ghost use Rattle.flt_script.specs.Next.{begins_step, said_behind};
 ghost use Rattle.flt_script.specs.Numeral.{number};
 ghost use Rattle.flt_script.specs.Step.{is_step_in};
@@ -347,15 +347,6 @@ pub(crate) fn event_with(alloc: Global, words: Words<'_>) -> Result<Option<Event
     Ok(event_of(&words))
 }
 
-fn is_comment(word: &[u8]) -> bool
-    ensures { result ≡ is_comment word.now }
-{
-    match word {
-        [b'#', ..] => true,
-        _ => false,
-    }
-}
-
 /// The keyword that a line begins with and the words behind it, or nothing where it is blank or a comment.
 #[tactic(auto, unfolding(crate::specs::Line::line_of, crate::specs::Line::by_words))]
 #[inline(always)]
@@ -372,7 +363,7 @@ pub(crate) fn first_word(line: TextLine<'_>) -> Result<Option<(Keyword, Words<'_
     let Some(first) = words.next() else {
         return Ok(None);
     };
-    if is_comment(first) {
+    if let [b'#', ..] = first {
         return Ok(None);
     }
     let keyword = read_keyword(first).ok_or(LineCause::Word)?;
