@@ -13,7 +13,7 @@ use Rattle.flt_script.specs.declared.keyword.Keyword.TheVariants as keyword
 use Rattle.flt_script.specs.Said.{Line}
 use Rattle.flt_script.specs.Said as line
 use Rattle.flt_script.specs.declared.step.Step.{Step}
-use Rattle.flt_script.specs.Behind.{Behind, added, in_last_lane, with_step}
+use Rattle.flt_script.specs.Behind.{Behind, added, in_last_lane}
 use Rattle.flt_script.specs.Gives.{◌>>=◌}
 use Rattle.flt_script.specs.Line.{line_with, line_of}
 use Rattle.flt_script.specs.Part.{parts_of}
@@ -63,12 +63,6 @@ with_text dids number b text = line_of text >>= λ line. with_line dids number b
 -- The lanes of a block with a step more, or that it may not stand there.
 abbrev pub with_lane_step : Step → List (List Step) → Result (List (List Step)) LineCause
 with_lane_step step lanes = if is_step_misplaced (Some lanes) step then Err Block else Ok (in_last_lane (Some step) lanes)
-
--- What stands after a step that is not yet counted, or that it may not stand there.
-abbrev pub with_step_put : Step → Behind → Result Behind LineCause
-with_step_put step b =
-    if is_step_misplaced b.block step then Err Block
-    else Ok (record b { parts = with_step b.block (Some step) b.parts; block = option_map (in_last_lane (Some step)) b.block })
 
 -- What stands after the words behind a keyword, or why they are refused.
 unfoldable pub with_words : List DidUse → ℕ → Behind → Keyword → List (List ℕ) → Result Behind LineCause

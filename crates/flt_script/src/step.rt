@@ -1,7 +1,7 @@
 ghost use Rattle.std.specs.Prelude.{◌≡◌};
 ghost use Rattle.flt_model.specs.Byte.{value_of};
 ghost use Rattle.flt_script.specs.Bytes.{letter_of};
-ghost use Rattle.flt_script.specs.Step.{arm_count, drain_count, is_lane_step, is_store_step};
+ghost use Rattle.flt_script.specs.Step.{is_lane_step, is_store_step};
 
 use crate::arm::ArmWords;
 use crate::bytes::HexBytes;
@@ -100,26 +100,6 @@ fn value_of(fulfilled: bool) -> u8
 }
 
 impl Step {
-    /// How many of `cut`, `fault` and `mute` it is: one or none.
-    pub(crate) fn arm_count(&self) -> usize
-        ensures { result ≡ arm_count self.now }
-    {
-        match *self {
-            Step::Arming(_) => 1,
-            _ => 0,
-        }
-    }
-
-    /// How many `drain` it is: one or none.
-    pub(crate) fn drain_count(&self) -> usize
-        ensures { result ≡ drain_count self.now }
-    {
-        match *self {
-            Step::Drain => 1,
-            _ => 0,
-        }
-    }
-
     /// Whether it may stand in a lane: it is none of `cut`, `fault` and `mute`.
     pub fn is_lane_step(&self) -> bool
         ensures { result ≡ is_lane_step self.now }
