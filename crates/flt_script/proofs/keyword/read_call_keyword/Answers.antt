@@ -1,4 +1,5 @@
 use Rattle.std.proofs.Common.{refl, arith, rules}
+use Rattle.std.proofs.lemmas.List.{nil_from_length}
 use Rattle.std.proofs.lemmas.Slice.Eq.{text_from_reads}
 use Rattle.std.specs.Prelude.{codes}
 use Rattle.flt_script.proofs.keyword.read_call_keyword.Goals as goal
@@ -50,3 +51,6 @@ returns-in-t c = rw (text_from_reads c.args.word.now (codes "t") (omega arith) (
 
 pub returns-in-did : goal.returns-in-did
 returns-in-did c = rw (text_from_reads c.args.word.now (codes "did") (omega arith) (search rules)) refl
+
+pub returns-in_default : goal.returns-in_default
+returns-in_default c = rw (nil_from_length c.args.word.now (omega arith)) refl

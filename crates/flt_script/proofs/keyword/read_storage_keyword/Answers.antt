@@ -1,6 +1,7 @@
-use Rattle.std.proofs.Common.{refl, arith, rules}
+use Rattle.std.proofs.Common.{◌≡◌, ℕ, ◌<◌, List, [], ◌∷◌, length, Bool, true, false, ◌&&◌, None, refl, arith, rules}
 use Rattle.std.proofs.lemmas.Slice.Eq.{text_from_reads}
 use Rattle.std.specs.Prelude.{codes}
+use Rattle.flt_script.specs.Line.{keyword_in, storage_keywords}
 use Rattle.flt_script.proofs.keyword.read_storage_keyword.Goals as goal
 
 pub returns-in-fault : goal.returns-in-fault
@@ -41,3 +42,17 @@ returns-in-lane c = rw (text_from_reads c.args.word.now (codes "lane") (omega ar
 
 pub returns-in-end : goal.returns-in-end
 returns-in-end c = rw (text_from_reads c.args.word.now (codes "end") (omega arith) (search rules)) refl
+
+and_none : (test : Bool) → (test && false) ≡ false
+and_none true = refl
+and_none false = refl
+
+-- No keyword has less than three letters.
+short : (word : List ℕ) → length word < 3 → None ≡ keyword_in storage_keywords word
+short [] few = refl
+short (a ∷ []) few = simp and_none
+short (a ∷ b ∷ []) few = simp and_none
+short (a ∷ b ∷ c ∷ more) few = absurd (omega (arith, few))
+
+pub returns-in_default : goal.returns-in_default
+returns-in_default c = short c.args.word.now c.in_default.len_below
