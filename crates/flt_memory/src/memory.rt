@@ -1,6 +1,5 @@
 //! The fault memory.
 ghost use Rattle.std.specs.Prelude.{◌≡◌, ℕ, ◌+◌, ◌<◌, ◌≤◌, ◌↔◌, [], false, not, length, IsTrue, IsSome, is_some, All, AllPairs, position, find, filter, option_copied, slice_set, slice_index_or};
-ghost use Rattle.flt_config.specs.Durable.{is_of_event as is_event};
 ghost use Rattle.flt_config.specs.declared.persist.EntryState.{EntryState as Entry};
 ghost use Rattle.flt_model.specs.Entry.{updated, new_entry};
 
@@ -92,7 +91,7 @@ impl EventMemory {
     pub fn find(&self, event: u16) -> Option<&EntryState>
         ensures { option_copied result ≡ find (is_of_event event) self.now.entries }
     {
-        find_entry(&self.entries, event)
+        self.entries.iter().find(|entry| entry.event == event)
     }
 
     /// Which events have an entry, by their numbers, found in one pass over the entries.
@@ -118,13 +117,6 @@ impl EventMemory {
         self.entries.retain(|entry| entry.event != event);
         self.entries.len() < before
     }
-}
-
-/// The event's entry among these.
-fn find_entry(entries: &[EntryState], event: u16) -> Option<&EntryState>
-    ensures { option_copied result ≡ find (is_event event) entries.now }
-{
-    entries.iter().find(|entry| entry.event == event)
 }
 
 /// A first entry of an event, with the frame of its first occurrence.
