@@ -9,13 +9,11 @@
 pub mod laws;
 mod listing;
 mod record;
-mod reply_kind;
 mod response;
 mod session;
 mod state;
 mod unit;
 
 pub use flt_model::{Cause, DemStart, Op, Reply, Shown};
-pub use reply_kind::ReplyKind;
-pub use state::{TESTERS, UnitState};
+pub use state::{ReplyKind, TESTERS, UnitState};
 pub use unit::Unit;

@@ -1,5 +1,5 @@
 //! The whole status machine without the functions of its table of data identifiers.
-ghost use Rattle.std.specs.Prelude.{◌≡◌, ◌≢◌, ◌<◌, ◌≤◌, [], ◌∷◌, map, length, Some, IfSome};
+ghost use Rattle.std.specs.Prelude.{◌≡◌, ◌≢◌, ◌<◌, ◌≤◌, ℕ, List, [], ◌∷◌, map, length, Some};
 ghost use Rattle.std.specs.List.{list_any};
 ghost use Rattle.flt_config.specs.Durable.{Fits};
 ghost use Rattle.flt_model.specs.Start.{Start, History, fresh};
@@ -7,12 +7,11 @@ ghost use Rattle.flt_model.specs.Answer.{answer};
 ghost use Rattle.flt_model.specs.Durable.{saved_after};
 ghost use Rattle.flt_model.specs.Happening.{dtc_of_clear};
 ghost use Rattle.flt_model.specs.Request.{asked};
-ghost use Rattle.flt_model.specs.Response.{negative, positive, reply_of, responded, response, unless_silent};
+ghost use Rattle.flt_model.specs.Response.{negative, positive, reply_of, responded, response};
 ghost use Rattle.flt_model.specs.declared.call.Op.TheVariants as ops;
 ghost use Rattle.flt_model.specs.declared.call.ReplyOf.TheVariants as replies;
 ghost use Rattle.flt_did.specs.Table.{dids_of};
 ghost use Rattle.flt_did.specs.Serves.{Serves};
-ghost use Rattle.flt_model.specs.Answer.{report_reply as cause_reply};
 ghost use Rattle.flt_dem.specs.View.{view_of};
 ghost use Rattle.flt_dcm.specs.Session.{is_extended_one, has_hold, heard, after, after_asked, ticked};
 ghost use Rattle.flt_dcm.specs.Standard.{SaysStandard};
@@ -20,16 +19,18 @@ ghost use Rattle.flt_dcm.specs.Requests.{TakesClearOf, TakesBytes};
 ghost use Rattle.flt_dcm.specs.Unit.{Stands, Takes, Answers, IsAdmitted, IsIgnored, IsReading, IsNegative, IsTesterCall, OnlyHearsWhereNegative, written, with_heard};
 ghost use Rattle.flt_dcm.specs.ReplyKind.{reply_with};
 
-use crate::reply_kind::{ReplyKind, kind_of_report, kind_of_request};
 use crate::response::{ALL_DTCS, UnknownDtc, put_positive};
 use crate::session::Session;
 use arrayvec::ArrayVec;
 use flt_config::{EVENTS, EventState, Persist, ValidConfig, initial};
 use flt_dem::DemState;
 use flt_did::{DID_ROWS, DidTable};
-use flt_model::{Cause, Op, REQUEST, Reply, Report, Shown};
+use flt_model::{Op, REQUEST, Reply, ReplyOf, Report, Shown};
 use flt_uds::{Asked, Negative, REQUEST_OUT_OF_RANGE, RESPONSE, Request, put_negative, read};
 use std::marker::Model;
+
+/// The answer to a call. The bytes of a response are kept separately.
+pub type ReplyKind = ReplyOf<()>;
 
 /// The number of testers; they have the numbers 0 to 3.
 pub const TESTERS: usize = 4;
@@ -89,48 +90,53 @@ fn carry_out(dem: &mut DemState, session: &mut Session, request: Request)
     }
 }
 
-/// Answers a request that was read, of this service, and carries it out if its DTC is known. The answer says
-/// whether the response is suppressed.
+/// Answers a request that was read, of this service, and carries it out if its DTC is known. The response is
+/// written to `out`, also one that is suppressed.
 fn respond(
     dem: &mut DemState,
     session: &mut Session,
     service: u8,
     asked: Asked,
     out: &mut ArrayVec<u8, RESPONSE>,
-) -> bool
+) -> ReplyKind
     requires { out.old.items ≡ [] }
     ensures config { dem.new.durable.config ≡ dem.old.durable.config }
     ensures session { session.new ≡ after session.old asked.request }
     ensures stands { TakesClearOf (dtc_of_clear asked.request) dem.old dem.new }
-    ensures answer { unless_silent result out.new.items ≡ responded service asked.silent (positive (view_of dem.old) asked.request) }
-    ensures negative { IsNegative (unless_silent result out.new.items) → (dem.new ≡ dem.old) × (session.new ≡ session.old) }
+    ensures answer { reply_with result out.new.items ≡ responded service asked.silent (positive (view_of dem.old) asked.request) }
+    ensures never_ignored { ¬ IsIgnored (reply_with result out.new.items) }
+    ensures negative { IsNegative (reply_with result out.new.items) → (dem.new ≡ dem.old) × (session.new ≡ session.old) }
 {
     match put_positive(dem, asked.request, out) {
         Ok(()) => {
             carry_out(dem, session, asked.request);
-            asked.silent
+            if asked.silent {
+                ReplyKind::Silent
+            } else {
+                ReplyKind::Response(())
+            }
         }
         Err(UnknownDtc) => {
             refuse(service, REQUEST_OUT_OF_RANGE, out);
-            false
+            ReplyKind::Response(())
         }
     }
 }
 
 /// Answers a tester's request: the silent time restarts, and the request is carried out if it is not refused.
-/// The answer says whether the response is suppressed.
 fn answer_request(
     dem: &mut DemState,
     session: &mut Session,
     bytes: &[u8],
     out: &mut ArrayVec<u8, RESPONSE>,
-) -> bool
+) -> ReplyKind
     requires { 0 < length bytes.now }
     ensures config { dem.new.durable.config ≡ dem.old.durable.config }
     ensures session { session.new ≡ after_asked (heard session.old) (asked (is_extended_one session.old) bytes.now) }
     ensures stands { TakesBytes bytes.now dem.old dem.new }
-    ensures answer { unless_silent result out.new.items ≡ response (view_of dem.old) (is_extended_one session.old) bytes.now }
-    ensures negative { IsNegative (unless_silent result out.new.items) → (dem.new ≡ dem.old) × (session.new ≡ heard session.old) }
+    ensures answer { reply_with result out.new.items ≡ response (view_of dem.old) (is_extended_one session.old) bytes.now }
+    ensures never_ignored { ¬ IsIgnored (reply_with result out.new.items) }
+    ensures negative { IsNegative (reply_with result out.new.items) → (dem.new ≡ dem.old) × (session.new ≡ heard session.old) }
 {
     out.clear();
     *session = session.heard();
@@ -138,7 +144,7 @@ fn answer_request(
         Ok(asked) => respond(dem, session, bytes[0], asked, out),
         Err(Negative { service, code }) => {
             refuse(service, code, out);
-            false
+            ReplyKind::Response(())
         }
     }
 }
@@ -225,17 +231,20 @@ impl UnitState {
 
     /// Takes a monitor's report of an event. If it is ignored, the answer says why: a tester holds the DTC setting off,
     /// else the event's operation cycle was not started since power-up, or else an enable condition that it needs is not fulfilled.
-    fn report(&mut self, dids: &DidTable<DID_ROWS>, event: u16, report: Report) -> Option<Cause>
+    fn report(&mut self, dids: &DidTable<DID_ROWS>, event: u16, report: Report) -> ReplyKind
         requires served { Serves (dids_of dids.now) self.old.dem.durable.config.events.items }
         requires configured { event < length self.old.dem.durable.config.events.items }
         ensures config { self.new.dem.durable.config ≡ self.old.dem.durable.config }
         ensures base { self.new.base ≡ self.old.base }
         ensures stands { Takes (ops.Report event report) self.old self.new }
-        ensures answer { Answers (ops.Report event report) self.old (cause_reply result) }
-        ensures ignored { IfSome result (λ _. self.new ≡ self.old) }
+        ensures answer { (response : List ℕ) → Answers (ops.Report event report) self.old (reply_with result response) }
+        ensures ignored { (response : List ℕ) → IsIgnored (reply_with result response) → self.new ≡ self.old }
     {
         let setting = !is_setting_off(&self.sessions);
-        self.dem.report(dids, event, report, setting)
+        match self.dem.report(dids, event, report, setting) {
+            Some(cause) => ReplyKind::Ignored(cause),
+            None => ReplyKind::Taken,
+        }
     }
 
     /// Lets ticks of 10 ms pass, for the events unless a tester holds the DTC setting off, and then for the testers.
@@ -260,21 +269,21 @@ impl UnitState {
         self.dem.cycle(cycle);
     }
 
-    /// Takes the request of a tester, of the number 0 to 3, and writes the response, replacing what `out` holds. The answer says
-    /// whether the response is suppressed.
+    /// Takes the request of a tester, of the number 0 to 3, and writes the response, replacing what `out` holds.
     fn request(
         &mut self,
         tester: u8,
         bytes: &ArrayVec<u8, REQUEST>,
         out: &mut ArrayVec<u8, RESPONSE>,
-    ) -> bool
+    ) -> ReplyKind
         requires tester { tester < 4 }
         requires some { 0 < length bytes.now.items }
         ensures config { self.new.dem.durable.config ≡ self.old.dem.durable.config }
         ensures base { self.new.base ≡ self.old.base }
         ensures stands { Takes (ops.Request tester bytes.now) self.old self.new }
-        ensures answer { Answers (ops.Request tester bytes.now) self.old (unless_silent result out.new.items) }
-        ensures negative { IsNegative (unless_silent result out.new.items) → self.new ≡ with_heard tester self.old }
+        ensures answer { Answers (ops.Request tester bytes.now) self.old (reply_with result out.new.items) }
+        ensures never_ignored { ¬ IsIgnored (reply_with result out.new.items) }
+        ensures negative { IsNegative (reply_with result out.new.items) → self.new ≡ with_heard tester self.old }
     {
         answer_request(
             &mut self.dem,
@@ -323,7 +332,7 @@ impl UnitState {
                 self.enable(*condition, *fulfilled);
                 ReplyKind::Taken
             }
-            Op::Report { event, report } => { kind_of_report(self.report(dids, *event, *report)) }
+            Op::Report { event, report } => self.report(dids, *event, *report),
             Op::Tick { ticks } => {
                 self.tick(dids, *ticks);
                 ReplyKind::Taken
@@ -332,41 +341,11 @@ impl UnitState {
                 self.cycle(*cycle);
                 ReplyKind::Taken
             }
-            Op::Request { tester, bytes } => {
-                kind_of_request(self.request(*tester, bytes, response))
-            }
+            Op::Request { tester, bytes } => self.request(*tester, bytes, response),
             Op::Show { event } => ReplyKind::Shown(self.show(*event)),
             Op::Snapshot => ReplyKind::Taken,
             Op::Saved { .. } => ReplyKind::Taken,
         }
-    }
-
-    /// Carries out a call, and answers it.
-    fn take(
-        &mut self,
-        dids: &DidTable<DID_ROWS>,
-        op: &Op,
-        out: &mut Persist,
-        response: &mut ArrayVec<u8, RESPONSE>,
-    ) -> ReplyKind
-        requires served { Serves (dids_of dids.now) self.old.dem.durable.config.events.items }
-        requires admitted { IsAdmitted self.old.dem.durable.config op.now }
-        ensures config { self.new.dem.durable.config ≡ self.old.dem.durable.config }
-        ensures base { self.new.base ≡ self.old.base }
-        ensures stands { Takes op.now self.old self.new }
-        ensures answer { Answers op.now self.old (reply_with result response.new.items) }
-        ensures unsent { ¬ IsTesterCall op.now → response.new ≡ response.old }
-        ensures written { (life : Start) (past : History) → Stands life past self.old → out.new ≡ written life past op.now out.old }
-        ensures kept { op.now ≢ ops.Snapshot → out.new ≡ out.old }
-        ensures reading { IsReading op.now → self.new ≡ self.old }
-        ensures ignored { IsIgnored (reply_with result response.new.items) → self.new ≡ self.old }
-        ensures negative { OnlyHearsWhereNegative op.now (reply_with result response.new.items) self.old self.new }
-    {
-        match op {
-            Op::Snapshot => self.dem.persist(out),
-            _ => {}
-        }
-        self.apply_alone_into(dids, op, response)
     }
 
     /// Carries out a call, and answers it. A unit that runs is changed or asked only in this way. The bytes of a response
@@ -392,7 +371,11 @@ impl UnitState {
         ensures negative { OnlyHearsWhereNegative op.now (reply_with result response.new.items) self.old self.new }
         ensures standard { (life : Start) (past : History) → Stands life past self.old → SaysStandard life (op.now ∷ past) self.new.dem }
     {
-        self.take(dids, op, out, response)
+        match op {
+            Op::Snapshot => self.dem.persist(out),
+            _ => {}
+        }
+        self.apply_alone_into(dids, op, response)
     }
 
     /// Carries out a call, and answers it, as `apply_into` does, with the bytes of a response in the answer.

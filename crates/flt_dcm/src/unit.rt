@@ -12,8 +12,7 @@ ghost use Rattle.flt_dcm.specs.Standard.{SaysStandard};
 ghost use Rattle.flt_dcm.specs.Unit.{Stands, Takes, Answers, IsAdmitted, IsIgnored, IsReading, IsTesterCall, OnlyHearsWhereNegative, written};
 ghost use Rattle.flt_dcm.specs.ReplyKind.{reply_with};
 
-use crate::reply_kind::ReplyKind;
-use crate::state::UnitState;
+use crate::state::{ReplyKind, UnitState};
 use arrayvec::ArrayVec;
 use flt_config::{Persist, ValidConfig};
 use flt_dem::Dem;

@@ -1,11 +1,8 @@
-use Rattle.std.proofs.Common.{ℕ, Bool, true, false, List, ◌∷◌, Option, Some, None, IfSome, sym, subst}
-use Rattle.flt_model.specs.Answer.{report_reply}
-use Rattle.flt_model.specs.Response.{unless_silent}
-use Rattle.flt_model.specs.declared.call.Cause.{Cause}
+use Rattle.std.proofs.Common.{◌∷◌, sym, subst}
 use Rattle.flt_model.specs.Start.{Start, History}
 use Rattle.flt_model.specs.declared.call.Op.TheVariants as ops
 use Rattle.flt_dem.proofs.IdleLemmas.{stands_idle}
-use Rattle.flt_dcm.specs.Unit.{UnitView, Stands, IsIgnored}
+use Rattle.flt_dcm.specs.Unit.{UnitView, Stands}
 use Rattle.flt_dcm.proofs.SessionLemmas.{sessions_kept}
 use Rattle.flt_dcm.proofs.state.UnitState.apply_alone_into.Goals as goal
 
@@ -34,20 +31,3 @@ returns-in-Snapshot-clause-stands g c = λ life past s.
 pub returns-in-Saved-clause-stands : goal.returns-in-Saved-clause-stands
 returns-in-Saved-clause-stands g c = λ life past s.
     subst (λ call. Stands life (call ∷ past) c.args.self.now) (sym c.in-Saved.is) (stands_saved life past c.in-Saved.generation c.args.self.now s)
-
--- A report that is ignored has a cause, and then the unit is as it was; and the answer to a request ignores none.
-with_cause : (cause : Option Cause) (left : Type 0) → IfSome cause (λ _. left) → IsIgnored (report_reply cause) → left
-with_cause None left kept ignored = absurd ignored
-with_cause (Some cause) left kept ignored = kept
-
-no_report : (silent : Bool) (bytes : List ℕ) → IsIgnored (unless_silent silent bytes) → ⊥
-no_report true bytes ignored = ignored
-no_report false bytes ignored = ignored
-
-pub returns-in-Report-clause-ignored : goal.returns-in-Report-clause-ignored
-returns-in-Report-clause-ignored g c = λ ignored.
-    with_cause c.report.result _ c.report.ensures.ignored (subst IsIgnored (c.kind_of_report.ensures _) ignored)
-
-pub returns-in-Request-clause-ignored : goal.returns-in-Request-clause-ignored
-returns-in-Request-clause-ignored g c = λ ignored.
-    absurd (no_report c.request.result _ (subst IsIgnored (c.kind_of_request.ensures _) ignored))

@@ -1,7 +1,8 @@
-use Rattle.std.proofs.Common.{◌∙◌, not, ap, Option, Some, None, IfSome}
+use Rattle.std.proofs.Common.{◌∙◌, not, ap}
 use Rattle.flt_model.specs.declared.call.Op.TheVariants as ops
 use Rattle.flt_dcm.proofs.SessionLemmas.{sessions_kept, off_told}
 use Rattle.flt_dcm.proofs.state.UnitState.report.Goals as goal
+use Rattle.flt_dcm.proofs.state.UnitState.report.Goals.{in-Some, in-None}
 
 pub returns-clause-stands : goal.returns-clause-stands
 returns-clause-stands g c = λ life past s.
@@ -14,16 +15,10 @@ returns-clause-stands g c = λ life past s.
     }
 
 pub returns-clause-answer : goal.returns-clause-answer
-returns-clause-answer g c = λ life past s.
+returns-clause-answer g c = λ response life past s.
     let inside = rw (← c.self.view_is) at s in
     let setting = ap not (c.is_setting_off-setting.ensures ∙ off_told past c.self.inside.sessions c.self.invariant.one_each inside.sessions) in
-    c.report.ensures.answer life past setting inside.dem
-
-ignored_leaves : {A : Type 0} (cause : Option A) (old new : Type 0) → (old → new) → IfSome cause (λ _. old) → IfSome cause (λ _. new)
-ignored_leaves None old new more kept = tt
-ignored_leaves (Some cause) old new more kept = more kept
-
-pub returns-clause-ignored : goal.returns-clause-ignored
-returns-clause-ignored g c =
-    ignored_leaves c.report.result _ _
-    (λ same. ap (λ dem. record { dem = dem; sessions = c.self.inside.sessions; base = c.self.inside.base }) same ∙ c.self.view_is) c.report.ensures.unchanged
+    elim c.match-report.branch [
+      | in-Some w ↦ rw w.result-is (w.in-Some.ensures.answer life past setting inside.dem)
+      | in-None w ↦ rw w.result-is (w.in-None.ensures.answer life past setting inside.dem)
+    ]
