@@ -129,8 +129,7 @@ impl<M: Machine> Turn<M> {
         }
         let (place, mut vault) = self.take_turn(rt, &mut seat.token);
         let reply = vault.apply(context, seat.number, op, out);
-        self.end_turn(&mut seat.token, vault);
-        self.wake_after(place);
+        self.end_turn(&mut seat.token, vault, place);
         seat.left -= 1;
         Ok(Answer { place, reply })
     }
@@ -162,8 +161,7 @@ impl<M: Machine> Turn<M> {
         }
         let (place, mut vault) = self.take_turn(rt, &mut seat.token);
         let reply = vault.apply_into(context, seat.number, op, payload);
-        self.end_turn(&mut seat.token, vault);
-        self.wake_after(place);
+        self.end_turn(&mut seat.token, vault, place);
         seat.left -= 1;
         Ok(Answer { place, reply })
     }
@@ -197,9 +195,10 @@ impl<M: Machine> Turn<M> {
         unreachable!()
     }
 
-    // Puts the vault back, with one more call in its journal, and passes the turn on.
+    // Puts the vault back, with one more call in its journal, and passes the turn on. It wakes those who sleep until a ticket after
+    // this place is served, if there may be one.
     #[inline(always)]
-    fn end_turn(&self, token: &mut Token<M>, vault: Vault<M>)
+    fn end_turn(&self, token: &mut Token<M>, vault: Vault<M>, place: u32)
         requires lock { token.old.table_id ≡ self.now }
         requires held { token.old.me.1 ≡ (0, None) ∷ [] }
         requires turn { IsTurn token.old.me.0 vault }
@@ -211,11 +210,6 @@ impl<M: Machine> Turn<M> {
         let empty = shared.exchange(token, 0, Some(vault));
         let None = empty else { unreachable!() };
         shared.fetch_add::<Serve>(token, SERVED, 1);
-    }
-
-    // Wakes those who sleep until a ticket after this place is served, if there may be one.
-    fn wake_after(&self, place: u32) {
-        let shared = &self.table.shared;
         if shared.peek(NEXT) > u64::from(place) + 1 {
             shared.wake_all(SERVED);
         }

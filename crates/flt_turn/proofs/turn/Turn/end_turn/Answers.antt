@@ -14,8 +14,15 @@ fetch_add-requires g c =
     let is = gave.3 ∙ ap (λ held. (before.0, (0, Some c.args.vault) ∷ rest held)) c.requires.held in
     (gave.0 ∙ (c.requires.lock ∙ sym c.self.view_is), omega arith, serves_held _ _ _ _ _ (step 1 1 1 0 none) _ _ is c.requires.turn)
 
-pub returns-clause-done : goal.returns-clause-done
-returns-clause-done g c = λ op longer.
+pub returns-then-peek-from-clause-done : goal.returns-then-peek-from-clause-done
+returns-then-peek-from-clause-done g c = λ op longer.
+    let before = c.args.token.now.me in
+    let is = c.exchange-empty.ensures.3 ∙ ap (λ held. (before.0, (0, Some c.args.vault) ∷ rest held)) c.requires.held in
+    let seat = ap (λ me. me.0) is in
+    c.fetch_add.ensures.2 c.args.vault op (ap (λ me. me.1) is) (longer ∙ ap (λ v. v.seen ++ entry v.number op ∷ []) (sym seat)) ∙ ap (λ v. (done c.args.vault.journal.items op v, [])) seat
+
+pub returns-else-peek-from-clause-done : goal.returns-else-peek-from-clause-done
+returns-else-peek-from-clause-done g c = λ op longer.
     let before = c.args.token.now.me in
     let is = c.exchange-empty.ensures.3 ∙ ap (λ held. (before.0, (0, Some c.args.vault) ∷ rest held)) c.requires.held in
     let seat = ap (λ me. me.0) is in
