@@ -6,9 +6,8 @@ use Rattle.flt_sector.specs.Log.{LogFrom, log}
 use Rattle.flt_sector.specs.Blocks.{Current, current}
 use Rattle.flt_pages.specs.declared.fault.PageFault.{PageFault}
 use Rattle.flt_pages.specs.declared.fault.PageFault.TheVariants.{Flash}
-use Rattle.flt_pages.specs.Told.{TellsOrFails}
-use Rattle.flt_fee.specs.Place.{current_of, told_current}
-use Rattle.flt_fee.specs.declared.place.CurrentSector.{CurrentSector}
+use Rattle.flt_pages.specs.Told.{TellsOrFails, current_of, told_current}
+use Rattle.flt_pages.specs.declared.sectors.CurrentSector.{CurrentSector}
 use Rattle.flt_dump.specs.Listed.{IsListed}
 use Rattle.flt_dump.specs.Listing.{listing_by, listing_in, listing_text, sector_line}
 

@@ -5,7 +5,7 @@ use Rattle.flt_flash.specs.Blocks.{byte_pages, record_pages}
 use Rattle.flt_sector.specs.Log.{Entry, LogFrom, item_at, first_written, log_after, log_from, log}
 use Rattle.flt_sector.specs.declared.log.Item.{Item}
 use Rattle.flt_sector.specs.declared.log.Item.TheVariants.{End, Torn, Kept}
-use Rattle.flt_record.proofs.Items.{item_within}
+use Rattle.flt_pages.proofs.ItemPages.{item_within}
 use Rattle.std.specs.Result.{is_ok}
 use Rattle.flt_pages.specs.declared.fault.PageFault.{PageFault}
 use Rattle.flt_pages.specs.declared.fault.PageFault.TheVariants.{Flash}

@@ -3,15 +3,14 @@ ghost use Rattle.std.specs.Prelude.{◌≡◌, ◌++◌, ◌<◌, ◌≤◌, IfO
 ghost use Rattle.flt_flash.specs.Image.{sector_at};
 ghost use Rattle.flt_sector.specs.Log.{log};
 ghost use Rattle.flt_generation.specs.Layout.{numbers};
-ghost use Rattle.flt_fee.specs.Place.{current_of};
+ghost use Rattle.flt_pages.specs.Told.{current_of};
 ghost use Rattle.flt_dump.specs.Copy.{state_of};
 ghost use Rattle.flt_dump.specs.Listing.{ending_text, listing_text, record_line, sector_line, torn_line};
 ghost use Rattle.flt_dump.specs.Listed.{IsListed, entry_of};
 
 use crate::copy::ImageCopy;
-use flt_fee::{CurrentSector, current_sector};
 use flt_image::fee_numbers;
-use flt_pages::{Item, Numbers, blank_from, byte_pages, item};
+use flt_pages::{CurrentSector, Item, Numbers, blank_from, byte_pages, current_sector, item};
 use std::alloc::{AllocError, Global};
 use std::fmt::Write;
 

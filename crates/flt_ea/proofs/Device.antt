@@ -7,7 +7,7 @@ use Rattle.flt_flash.specs.Tearing.{IsTornPage, IsTorn}
 use Rattle.flt_flash.specs.declared.flash.FlashFailed.{FlashFailed}
 use Rattle.flt_flash.proofs.Following.{one_run, one_read}
 use Rattle.flt_flash.proofs.TornParts.{torn_sector_of, torn_page_of}
-use Rattle.flt_record.specs.Recorded.{OnSector}
+use Rattle.flt_pages.specs.Recorded.{OnSector}
 use Rattle.flt_ea.specs.State.{HasUnits}
 
 pub wear_stays : (before after : FlashState) → HasUnits before → HasUnits after → after.wear ≡ before.wear

@@ -6,11 +6,11 @@ use Rattle.flt_flash.specs.State.{FlashState, HasRisenBy}
 use Rattle.flt_flash.specs.declared.flash.FlashFailed.{FlashFailed}
 use Rattle.flt_flash.specs.Blocks.{byte_pages}
 use Rattle.flt_pages.specs.Append.{filled}
-use Rattle.flt_record.specs.Record.{KeptApart}
-use Rattle.flt_record.specs.Recorded.{OnSector, Fills}
-use Rattle.flt_record.proofs.Steps.{set_apart, apart_on, wider}
-use Rattle.flt_record.proofs.Filling.{Filled, filled_more, ones_behind}
-use Rattle.flt_record.proofs.Recording.{on_sector}
+use Rattle.flt_pages.specs.Record.{KeptApart}
+use Rattle.flt_pages.specs.Recorded.{OnSector, Fills}
+use Rattle.flt_pages.proofs.Steps.{set_apart, apart_on, wider}
+use Rattle.flt_pages.proofs.Filling.{Filled, filled_more, ones_behind}
+use Rattle.flt_pages.proofs.Recording.{on_sector}
 use Rattle.flt_ea.specs.State.{HasUnits}
 use Rattle.flt_ea.proofs.Device.{GivesUnit, units_on}
 

@@ -13,8 +13,8 @@ use Rattle.flt_flash.specs.declared.blocks.BlockFault.TheVariants.{Flash, Damage
 use Rattle.flt_flash.specs.declared.blocks.Found.TheVariants.{Bytes}
 use Rattle.flt_flash.specs.declared.flash.FlashFailed.{FlashFailed}
 use Rattle.flt_code.specs.Spoiled.{is_spoiled}
-use Rattle.flt_record.specs.LogHolds.{asked_of}
-use Rattle.flt_record.specs.Record.{KeptApart}
+use Rattle.flt_pages.specs.LogHolds.{asked_of}
+use Rattle.flt_pages.specs.Record.{KeptApart}
 use Rattle.flt_ea.specs.State.{HasUnits}
 use Rattle.flt_code.specs.Word.{is_length}
 use Rattle.flt_ea.specs.Gate.{IsGate, gate_bytes, gate_of}

@@ -5,10 +5,10 @@ use Rattle.std.specs.List.{flat_map}
 use Rattle.std.proofs.lemmas.Bool.{cases_lt, eq-eqb, eqb-true}
 use Rattle.flt_flash.specs.Blocks.{byte_pages}
 use Rattle.flt_flash.specs.Content.{invalid, bytes}
-use Rattle.flt_record.specs.LogHolds.{asked_of}
-use Rattle.flt_record.specs.Record.{KeptApart}
-use Rattle.flt_record.proofs.Finding.{length_most}
-use Rattle.flt_record.proofs.Values.{same_range}
+use Rattle.flt_pages.specs.LogHolds.{asked_of}
+use Rattle.flt_pages.specs.Record.{KeptApart}
+use Rattle.flt_pages.proofs.Finding.{length_most}
+use Rattle.flt_pages.proofs.Values.{same_range}
 use Rattle.flt_ea.specs.Gate.{gate_bytes, gate_of}
 use Rattle.flt_ea.specs.Image.{gate_unit, gate_at, bytes_behind, content_of, current, gate_in, newer, judged, next_place, next_sequence}
 use Rattle.flt_ea.specs.Written.{IsEmptyAt, HoldsRecord}

@@ -12,13 +12,13 @@ use Rattle.flt_code.specs.Spoiled.{is_spoiled}
 use Rattle.flt_code.proofs.Unsealed.{unsealed_code}
 use Rattle.flt_code.proofs.Unspoiled.{erased_or_none, erased_unspoiled, programmed_or_none, programmed_unspoiled, unspoiled_word}
 use Rattle.flt_code.proofs.WordCode.{unsealed_blank}
-use Rattle.flt_record.specs.Record.{KeptApart, on_pages}
-use Rattle.flt_record.proofs.Begun.{unspoiled_blank}
-use Rattle.flt_record.proofs.Filling.{bytes_on_pages}
-use Rattle.flt_record.specs.Recorded.{OnSector, Fills}
-use Rattle.flt_record.proofs.Steps.{set_apart, apart_on, wider}
-use Rattle.flt_record.proofs.Recording.{on_sector}
-use Rattle.flt_record.proofs.Values.{same_range}
+use Rattle.flt_pages.specs.Record.{KeptApart, on_pages}
+use Rattle.flt_pages.proofs.Begun.{unspoiled_blank}
+use Rattle.flt_pages.proofs.Filling.{bytes_on_pages}
+use Rattle.flt_pages.specs.Recorded.{OnSector, Fills}
+use Rattle.flt_pages.proofs.Steps.{set_apart, apart_on, wider}
+use Rattle.flt_pages.proofs.Recording.{on_sector}
+use Rattle.flt_pages.proofs.Values.{same_range}
 use Rattle.flt_ea.specs.State.{HasUnits}
 use Rattle.flt_ea.specs.Gate.{gate_bytes}
 use Rattle.flt_ea.specs.Written.{IsEmptyAt, HoldsRecord, RecordLeft, WritesRecord}

@@ -6,8 +6,8 @@ use Rattle.flt_flash.specs.Content.{Content, missing, invalid, bytes, size_of, I
 use Rattle.flt_flash.specs.Blocks.{byte_pages}
 use Rattle.flt_flash.specs.Image.{sector_at, ArePages}
 use Rattle.flt_flash.specs.State.{FlashState}
-use Rattle.flt_record.proofs.Finding.{length_most}
-use Rattle.flt_record.proofs.PageBytes.{flat, flat_size, range_size}
+use Rattle.flt_pages.proofs.Finding.{length_most}
+use Rattle.flt_pages.proofs.PageBytes.{flat, flat_size, range_size}
 use Rattle.flt_ea.specs.State.{HasUnits}
 use Rattle.flt_ea.specs.Image.{gate_unit, bytes_behind, content_of, current, is_last, value_from, spent_from, stuck_from, value_in, is_spent_in, is_stuck_in}
 use Rattle.flt_ea.specs.declared.place.Held.{Held}

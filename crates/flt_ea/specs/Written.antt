@@ -7,8 +7,8 @@ use Rattle.flt_flash.specs.Image.{sector_at}
 use Rattle.flt_flash.specs.declared.flash.FlashFailed.{FlashFailed}
 use Rattle.flt_code.specs.Seal.{unsealed}
 use Rattle.flt_code.specs.Spoiled.{is_spoiled}
-use Rattle.flt_record.specs.Record.{KeptApart, on_pages}
-use Rattle.flt_record.specs.Recorded.{OnSector}
+use Rattle.flt_pages.specs.Record.{KeptApart, on_pages}
+use Rattle.flt_pages.specs.Recorded.{OnSector}
 use Rattle.flt_ea.specs.Gate.{gate_bytes}
 use Rattle.flt_ea.specs.Image.{bytes_behind}
 use Rattle.flt_ea.specs.declared.gate.Gate.{Gate}

@@ -6,7 +6,7 @@ ghost use Rattle.flt_flash.specs.Content.{invalid, bytes as holding, size_of};
 ghost use Rattle.flt_flash.specs.Calls.{Calls, CountsCall, Changes, Costs, ReadCosts, NeverFull, ReadsContent, SameImage, SameSpent, SameValues, Settles};
 ghost use Rattle.flt_flash.specs.declared.blocks.BlockFault.TheVariants.{Flash};
 ghost use Rattle.flt_code.specs.Word.{is_length};
-ghost use Rattle.flt_record.specs.LogHolds.{asked_of};
+ghost use Rattle.flt_pages.specs.LogHolds.{asked_of};
 ghost use Rattle.flt_ea.specs.Image.{gate_unit, is_stuck_in};
 ghost use Rattle.flt_ea.specs.Mounted.{IsMounted};
 ghost use Rattle.flt_ea.specs.Refusal.{AnswersBy};

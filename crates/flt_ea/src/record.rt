@@ -4,7 +4,7 @@ ghost use Rattle.flt_flash.specs.Blocks.{byte_pages, record_pages};
 ghost use Rattle.flt_flash.specs.Image.{sector_at};
 ghost use Rattle.flt_flash.specs.State.{HasRisenBy, OnlyReads};
 ghost use Rattle.flt_code.specs.Spoiled.{is_spoiled};
-ghost use Rattle.flt_record.specs.Recorded.{Fills};
+ghost use Rattle.flt_pages.specs.Recorded.{Fills};
 ghost use Rattle.flt_ea.specs.Gate.{IsGate};
 ghost use Rattle.flt_ea.specs.Image.{bytes_behind};
 ghost use Rattle.flt_ea.specs.State.{unit_at};

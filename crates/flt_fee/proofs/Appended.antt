@@ -12,14 +12,13 @@ use Rattle.flt_flash.specs.declared.blocks.BlockFault.{BlockFault}
 use Rattle.flt_flash.specs.declared.blocks.BlockFault.TheVariants.{Flash, Damaged}
 use Rattle.flt_code.specs.Word.{IsWord}
 use Rattle.flt_code.specs.declared.words.Word.TheVariants.{Head}
-use Rattle.flt_record.specs.Blank.{AreBlank}
+use Rattle.flt_pages.specs.Blank.{AreBlank}
 use Rattle.flt_flash.specs.Blocks.{byte_pages}
 use Rattle.flt_sector.specs.Blocks.{current, first_fault, block_value}
-use Rattle.flt_record.specs.LogHolds.{asked_of, given}
-use Rattle.flt_record.proofs.LogOn.{blank_behind}
-use Rattle.flt_fee.specs.Mounted.{StandsAt}
+use Rattle.flt_pages.specs.LogHolds.{asked_of, given, StandsAt}
+use Rattle.flt_pages.proofs.LogOn.{blank_behind}
 use Rattle.flt_fee.specs.Fee.{is_last, state_by}
-use Rattle.flt_record.specs.Recorded.{Records}
+use Rattle.flt_pages.specs.Recorded.{Records}
 use Rattle.flt_fee.proofs.Composed.{follows_by}
 use Rattle.flt_fee.proofs.Standing.{stands_value, stands_sound, left_standing, done_standing, current_stays}
 

@@ -8,11 +8,12 @@ use Rattle.flt_flash.specs.Calls.{Calls, SameSpent, SameValues}
 use Rattle.flt_flash.specs.declared.blocks.BlockFault.{BlockFault}
 use Rattle.flt_flash.specs.declared.blocks.BlockFault.TheVariants.{Flash, Damaged}
 use Rattle.flt_sector.specs.Blocks.{current, first_fault, fault_by, value_by, block_value}
-use Rattle.flt_record.proofs.Begun.{holds_nothing}
+use Rattle.flt_pages.proofs.Begun.{holds_nothing}
 use Rattle.flt_fee.specs.Fee.{is_last, state_by}
-use Rattle.flt_fee.specs.Mounted.{StandsAt, IsMounted}
+use Rattle.flt_pages.specs.LogHolds.{StandsAt}
+use Rattle.flt_fee.specs.Mounted.{IsMounted}
 use Rattle.flt_fee.proofs.Composed.{follows_by}
-use Rattle.flt_fee.specs.SetUp.{IsFresh, HoldsNothing}
+use Rattle.flt_pages.specs.SetUp.{IsFresh, HoldsNothing}
 use Rattle.flt_fee.proofs.Standing.{stands_value, stands_sound, stands_mounted}
 
 module _ (used : ℕ) (numbers : List ℕ) (least : 2 ≤ used) where

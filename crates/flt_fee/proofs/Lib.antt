@@ -1,14 +1,8 @@
 pub mod Composed
 pub mod Standing
 pub mod Appended
-pub mod Placing
 pub mod Mounting
-pub mod Beginning
-pub mod SettingUp
 pub mod Formatting
-pub mod CopyingBlock
-pub mod CopyingBlocks
-pub mod Switching
 pub mod Refusing
 pub mod Putting
 pub mod Placed

@@ -10,8 +10,7 @@ use Rattle.flt_flash.specs.declared.blocks.BlockFault.TheVariants.{Flash, Damage
 use Rattle.flt_sector.specs.Log.{LogFrom, log}
 use Rattle.flt_sector.specs.Blocks.{Current, current, first_fault, fault_by, place_in, block_value}
 use Rattle.flt_pages.specs.declared.fault.PageFault.TheVariants.{Damaged as damaged_page}
-use Rattle.flt_pages.specs.Told.{TellsOrFails}
-use Rattle.flt_record.specs.Scan.{told_end}
+use Rattle.flt_pages.specs.Told.{TellsOrFails, told_end}
 use Rattle.flt_fee.specs.Fee.{is_last, is_past, state_by}
 use Rattle.flt_fee.specs.Refusal.{KeepsStuck}
 use Rattle.flt_fee.specs.Mounted.{IsMounted}

@@ -11,17 +11,17 @@ use Rattle.flt_flash.specs.State.{FlashState, HasShape}
 use Rattle.flt_code.specs.Word.{IsWord}
 use Rattle.flt_code.specs.declared.words.Word.TheVariants.{Head}
 use Rattle.flt_sector.specs.Blocks.{current, block_value, value_by}
-use Rattle.flt_record.specs.declared.place.RecordPlace.{RecordPlace}
-use Rattle.flt_record.specs.LogHolds.{asked_of, given}
-use Rattle.flt_record.specs.Live.{held_in}
-use Rattle.flt_record.specs.RecordPlace.{IsAt, IsPlaceOf, TellsPlaces, bytes_at, pages_found, record_at}
-use Rattle.flt_record.specs.Recorded.{Records}
-use Rattle.flt_record.proofs.LogOn.{end_least}
-use Rattle.flt_record.proofs.PageBytes.{bytes_size}
-use Rattle.flt_record.proofs.Recording.{pages_on}
-use Rattle.flt_record.proofs.Telling.{farther_at, tells_more, told_place, live_told}
+use Rattle.flt_pages.specs.declared.place.RecordPlace.{RecordPlace}
+use Rattle.flt_pages.specs.LogHolds.{asked_of, given, StandsAt}
+use Rattle.flt_pages.specs.Live.{held_in}
+use Rattle.flt_pages.specs.RecordPlace.{IsAt, IsPlaceOf, TellsPlaces, bytes_at, pages_found, record_at}
+use Rattle.flt_pages.specs.Recorded.{Records}
+use Rattle.flt_pages.proofs.LogOn.{end_least}
+use Rattle.flt_pages.proofs.PageBytes.{bytes_size}
+use Rattle.flt_pages.proofs.Recording.{pages_on}
+use Rattle.flt_pages.proofs.Telling.{farther_at, tells_more, told_place, live_told}
 use Rattle.flt_fee.specs.Fee.{state_by}
-use Rattle.flt_fee.specs.Mounted.{StandsAt, IsMounted}
+use Rattle.flt_fee.specs.Mounted.{IsMounted}
 use Rattle.flt_fee.proofs.Refusing.{end_within, live_end}
 use Rattle.flt_fee.proofs.Standing.{stands_value}
 

@@ -8,8 +8,8 @@ use Rattle.flt_flash.specs.State.{FlashState}
 use Rattle.flt_flash.specs.Blocks.{BlocksState, live_pages, pages_of, record_pages, IsFull}
 use Rattle.flt_flash.specs.declared.blocks.BlockFault.TheVariants.{Full, SequenceSpent}
 use Rattle.flt_sector.specs.Blocks.{Current, current, value_by}
-use Rattle.flt_record.specs.Live.{current_pages}
-use Rattle.flt_record.proofs.Counting.{live_within, log_within}
+use Rattle.flt_pages.specs.Live.{current_pages}
+use Rattle.flt_pages.proofs.Counting.{live_within, log_within}
 use Rattle.flt_fee.specs.Fee.{is_last, is_past, state_by}
 use Rattle.flt_fee.specs.Mounted.{IsMounted}
 use Rattle.flt_fee.specs.Refusal.{refusal}

@@ -1,6 +1,6 @@
 -- What an image means whose current sector is known.
 use Rattle.std.proofs.Common.{◌≡◌, ◌⊎◌, ⊎_elim, inl, inr, ◌+◌, ◌<◌, ◌≤◌, ℕ, Bool, true, false, List, [], get_or, set, length, get_or-set_same, get_or-set_other, None, Result, Ok, sym, ◌∙◌, ap, subst, arith}
-use Rattle.std.specs.Prelude.{◌==◌}
+use Rattle.std.specs.Prelude.{◌==◌, OnOk}
 use Rattle.std.specs.List.{list_any}
 use Rattle.std.proofs.lemmas.Bool.{cases_eq}
 use Rattle.flt_flash.specs.Image.{sector_at}
@@ -8,20 +8,18 @@ use Rattle.flt_flash.specs.Content.{Content}
 use Rattle.flt_sector.specs.Log.{LogFrom, log}
 use Rattle.flt_sector.specs.Gates.{gate_by, started_by, activated_by, both_gates, gates_of}
 use Rattle.flt_sector.specs.Blocks.{current, current_by, first_fault, fault_by, place_in, block_value, value_by, content_of, last_complete}
-use Rattle.flt_record.specs.Record.{KeptApart}
-use Rattle.flt_fee.specs.Mounted.{StandsAt, IsMounted}
-use Rattle.flt_record.specs.Recorded.{Records}
-use Rattle.flt_record.proofs.Recording.{pages_on}
-use Rattle.flt_record.proofs.Appending.{left_record, whole_record}
-use Rattle.flt_record.proofs.LogOn.{end_least}
+use Rattle.flt_pages.specs.Record.{KeptApart, IsWhole, RecordLeft}
+use Rattle.flt_pages.specs.LogHolds.{StandsAt, LogHolds, asked_of, given}
+use Rattle.flt_fee.specs.Mounted.{IsMounted}
+use Rattle.flt_pages.specs.Recorded.{Records}
+use Rattle.flt_pages.proofs.Recording.{pages_on}
+use Rattle.flt_pages.proofs.LogAppended.{left_record, whole_record}
+use Rattle.flt_pages.proofs.LogOn.{end_least}
 use Rattle.flt_flash.specs.Blocks.{byte_pages}
-use Rattle.flt_record.specs.Record.{IsWhole, RecordLeft}
-use Rattle.flt_record.specs.LogHolds.{LogHolds, asked_of, given}
 use Rattle.flt_flash.specs.State.{FlashState, HasShape}
 use Rattle.flt_flash.specs.declared.flash.FlashFailed.{FlashFailed}
 use Rattle.flt_code.specs.Word.{IsWord}
 use Rattle.flt_code.specs.declared.words.Word.TheVariants.{Head}
-use Rattle.std.specs.Prelude.{OnOk}
 
 module _ (used : ℕ) (numbers : List ℕ) (image : List (List (List ℕ))) (sector sequence end : ℕ) (value : ℕ → Content) (stands : StandsAt used numbers image sector sequence end value) where
   pub stands_value : (block : ℕ) → block_value used numbers image block ≡ value block

@@ -1,20 +1,16 @@
 -- What a call on a driver that is not stale costs, of operations and of erases.
-use Rattle.std.specs.Prelude.{◌≡◌, ◌⊎◌, ◌+◌, ◌-◌, ◌*◌, ◌<◌, ◌≤◌, ℕ, Bool, false, Result, Ok, Err, IfSome, IsSomeAnd, slice_index, slice_set}
-use Rattle.flt_flash.specs.State.{FlashState, counted}
+use Rattle.std.specs.Prelude.{◌≡◌, ◌⊎◌, ◌+◌, ◌-◌, ◌*◌, ◌<◌, ◌≤◌, ℕ, Bool, false, Result, Ok, Err, IfSome, IsSomeAnd}
+use Rattle.flt_flash.specs.State.{FlashState}
 use Rattle.flt_flash.specs.Blocks.{BlocksState, record_pages, live_pages}
 use Rattle.flt_flash.specs.Calls.{CostsAtMost}
 use Rattle.flt_flash.specs.declared.blocks.BlockFault.{BlockFault}
 use Rattle.flt_flash.specs.declared.blocks.BlockFault.TheVariants.{Flash, Full, SequenceSpent, Damaged}
+use Rattle.flt_pages.specs.Switch.{Erases}
 
 -- This many operations at most, and no erase.
 pub record SpendsAtMost (limit : ℕ) (before after : FlashState) : Type 0 where
   pub operations : after.operations ≤ before.operations + limit
   pub wear : after.wear ≡ before.wear
-
--- This many operations at most, with one erase, of this sector.
-pub record Erases (limit sector : ℕ) (before after : FlashState) : Type 0 where
-  pub operations : after.operations ≤ before.operations + limit
-  pub wear : after.wear ≡ slice_set before.wear sector (counted (slice_index before.wear sector))
 
 -- The sectors were switched, since the record does not fit behind the log and has room beside the current ones.
 pub record IsSwitched (limit used end live size sector : ℕ) (before after : FlashState) : Type 0 where

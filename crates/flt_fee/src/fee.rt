@@ -10,21 +10,19 @@ ghost use Rattle.flt_flash.specs.Calls.{Calls, CountsCall, Changes, Costs, Reads
 ghost use Rattle.flt_flash.specs.declared.blocks.BlockFault.TheVariants.{Full, SequenceSpent};
 ghost use Rattle.flt_code.specs.Word.{is_length};
 ghost use Rattle.flt_sector.specs.Blocks.{current, block_value};
-ghost use Rattle.flt_record.specs.LogHolds.{asked_of};
-ghost use Rattle.flt_record.specs.RecordPlace.{IsPlaceWithin, IsAt, TellsPlaces, bytes_at};
-ghost use Rattle.flt_fee.specs.Costs.{SpendsAtMost, Erases, MakesRoom, StoreCosts, Stores, UnlessFailed};
+ghost use Rattle.flt_pages.specs.LogHolds.{asked_of};
+ghost use Rattle.flt_pages.specs.Switch.{Erases};
+ghost use Rattle.flt_pages.specs.Told.{current_of};
+ghost use Rattle.flt_pages.specs.RecordPlace.{IsPlaceWithin, IsAt, TellsPlaces, bytes_at};
+ghost use Rattle.flt_fee.specs.Costs.{SpendsAtMost, MakesRoom, StoreCosts, Stores, UnlessFailed};
 ghost use Rattle.flt_fee.specs.Mounted.{IsMounted};
-ghost use Rattle.flt_fee.specs.Place.{current_of};
 ghost use Rattle.flt_fee.specs.Refusal.{refusal, AnswersBy, KeepsStuck};
 ghost use Rattle.flt_fee.specs.Wear.{StaysEven, UnlessFlash};
 
-use crate::place::{CurrentSector, current_sector};
-use crate::set_up::set_up_flash;
-use crate::switch::switch_sectors;
 use flt_flash::{Arm, Bench, BlockFault, Blocks, Flash, FlashFailed, Found, Refused};
-use flt_pages::{Numbers, PageFault, byte_pages};
-use flt_record::{
-    RecordPlace, append_record, find_places, forget, live_pages, note, place_of, read_record,
+use flt_pages::{
+    CurrentSector, Numbers, PageFault, RecordPlace, append_record, byte_pages, current_sector,
+    find_places, forget, live_pages, note, place_of, read_record, set_up_flash, switch_sectors,
 };
 use std::alloc::{AllocError, Global};
 
@@ -426,7 +424,7 @@ impl<F: Flash> Fee<F> {
 }
 
 impl<F: Bench> Blocks for Fee<F> {
-    ghost use Rattle.flt_record.proofs.Short.{value_is_short};
+    ghost use Rattle.flt_pages.proofs.Short.{value_is_short};
     ghost use Rattle.flt_fee.specs.Fee.{is_past, state_of};
     ghost use Rattle.flt_fee.specs.Refusal.{first_holds};
 

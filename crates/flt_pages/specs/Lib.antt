@@ -4,3 +4,11 @@ pub mod Append
 pub mod Place
 pub mod Next
 pub mod Numbers
+pub mod Blank
+pub mod LogHolds
+pub mod Record
+pub mod Recorded
+pub mod RecordPlace
+pub mod Live
+pub mod SetUp
+pub mod Switch

@@ -1,7 +1,9 @@
 -- What a look at pages answers.
 use Rattle.std.specs.Prelude.{◌≡◌, ◌⊎◌, ℕ, Option, Some, None, Result, Ok, Err}
+use Rattle.flt_sector.specs.Blocks.{Current}
 use Rattle.flt_pages.specs.declared.fault.PageFault.{PageFault}
 use Rattle.flt_pages.specs.declared.fault.PageFault.TheVariants.{Flash, Damaged}
+use Rattle.flt_pages.specs.declared.sectors.CurrentSector.{CurrentSector}
 
 -- A value, or a fault at its page of this sector.
 abbrev pub told : {T : Type 0} → ℕ → Result T ℕ → Result T PageFault
@@ -12,6 +14,20 @@ told sector (Err page) = Err (Damaged sector page)
 abbrev pub told_fault : ℕ → Option ℕ → Result (Unit {0}) PageFault
 told_fault sector None = Ok tt
 told_fault sector (Some page) = Err (Damaged sector page)
+
+-- The end of a log, or its fault at its page of this sector.
+abbrev pub told_end : ℕ → ℕ → Option ℕ → Result ℕ PageFault
+told_end sector end None = Ok end
+told_end sector end (Some page) = Err (Damaged sector page)
+
+-- The current sector, or the fault of a gate.
+abbrev pub told_current : Result (Option Current) (ℕ × ℕ) → Result (Option CurrentSector) PageFault
+told_current (Err place) = Err (Damaged place.0 place.1)
+told_current (Ok None) = Ok None
+told_current (Ok (Some at)) = Ok (Some (record { sector = at.sector; sequence = at.sequence }))
+
+abbrev pub current_of : CurrentSector → Current
+current_of at = record { sector = at.sector; sequence = at.sequence }
 
 -- This answer, or that of a failed read.
 abbrev pub TellsOrFails : {T : Type 0} → Result T PageFault → Result T PageFault → Type 0

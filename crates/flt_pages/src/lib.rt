@@ -1,24 +1,38 @@
-//! The gates and the log of one sector on a flash: looks at them, and programs of them.
+//! The pages of a flash of two sectors: gates, the items of a log, records, and the two sectors; looks at them, and programs of them.
 //!
-//! It stands on `flt_flash`, `flt_code` and the definitions of `flt_sector`. The layer above uses its eight calls over any
-//! flash: `gates`, `item` and `blank_from` report exactly what the definitions say of the image (`specs/Told.antt`), and `begin`,
-//! the appends and `activate` leave the page that was asked for or, after a failure, a tearing of it (`specs/Append.antt`, to
-//! be read first).
+//! It stands on `flt_flash`, `flt_code` and the definitions of `flt_sector`, and keeps nothing from call to call: the driver above
+//! uses its calls over any flash. `gates`, `item`, `blank_from`, `find_places` and `current_sector` report exactly what the definitions
+//! say of the image (`specs/Told.antt`). `begin`, the appends of pages and `activate` leave the page that was asked for or, after a
+//! failure, a tearing of it (`specs/Append.antt`, to be read first), and `append_record` leaves the record whole or, after a failure,
+//! one of the forms that no reader accepts as a record (`specs/Record.antt`). `switch_sectors` copies all that the blocks hold to
+//! the other sector, and whatever fails the image gives each block what it held (`specs/Switch.antt`).
 #![tactic(auto)]
 
 mod append;
+mod bytes;
 mod fault;
 mod first;
 mod gate_pages;
 mod items;
 mod law;
+mod live;
 mod numbers;
+mod place;
+mod record;
+mod scan;
+mod sectors;
 
 pub use append::{activate, append_gate, append_head, append_piece, begin, fill_up};
+pub use bytes::{copy_record, read_record};
 pub use fault::PageFault;
 pub use first::byte_pages;
 pub use flt_sector::Item;
 pub use gate_pages::gates;
 pub use items::{blank_from, item};
 pub use law::appending;
+pub use live::live_pages;
 pub use numbers::Numbers;
+pub use place::{RecordPlace, forget, note, place_of};
+pub use record::append_record;
+pub use scan::find_places;
+pub use sectors::{CurrentSector, current_sector, set_up_flash, switch_sectors};

@@ -2,11 +2,10 @@ use Rattle.std.proofs.Common.{◌≡◌, ◌∙◌, ◌++◌, ℕ, List, [], ◌
 use Rattle.std.specs.Prelude.{codes}
 use Rattle.flt_flash.specs.Image.{sector_at}
 use Rattle.flt_generation.specs.Layout.{numbers}
-use Rattle.flt_pages.specs.Told.{TellsOrFails}
+use Rattle.flt_pages.specs.Told.{TellsOrFails, current_of, told_current}
 use Rattle.flt_sector.specs.Blocks.{current}
 use Rattle.flt_sector.specs.Log.{LogFrom, log}
-use Rattle.flt_fee.specs.Place.{current_of, told_current}
-use Rattle.flt_fee.specs.declared.place.CurrentSector.{CurrentSector}
+use Rattle.flt_pages.specs.declared.sectors.CurrentSector.{CurrentSector}
 use Rattle.flt_dump.specs.Copy.{state_of}
 use Rattle.flt_dump.specs.Listed.{IsListed}
 use Rattle.flt_dump.specs.Listing.{sector_line}

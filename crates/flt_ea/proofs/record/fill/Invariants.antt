@@ -1,8 +1,8 @@
 use Rattle.std.proofs.Common.{◌+◌, ◌≤◌}
 use Rattle.flt_flash.specs.Image.{sector_at}
-use Rattle.flt_record.specs.Record.{KeptApart}
-use Rattle.flt_record.specs.Recorded.{OnSector}
-use Rattle.flt_record.proofs.Filling.{Filled}
+use Rattle.flt_pages.specs.Record.{KeptApart}
+use Rattle.flt_pages.specs.Recorded.{OnSector}
+use Rattle.flt_pages.proofs.Filling.{Filled}
 use Rattle.flt_ea.proofs.record.fill.Given as goal
 
 abbrev pub invariant-loop-index : goal.invariant-loop-index

@@ -2,7 +2,7 @@ use Rattle.std.proofs.Common.{◌≡◌, ◌+◌, ◌*◌, ◌<◌, ◌≤◌, �
 use Rattle.std.proofs.lemmas.Slice.{take-put_mid}
 use Rattle.flt_flash.specs.Image.{sector_at, page_at}
 use Rattle.flt_flash.proofs.Following.{reads_on}
-use Rattle.flt_record.proofs.Reading.{flat_more}
+use Rattle.flt_pages.proofs.Reading.{flat_more}
 use Rattle.flt_ea.proofs.Device.{one_reading}
 use Rattle.flt_ea.proofs.record.read_bytes.Goals as goal
 

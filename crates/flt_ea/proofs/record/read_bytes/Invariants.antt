@@ -2,7 +2,7 @@ use Rattle.std.proofs.Common.{◌≡◌, ◌+◌, ◌*◌, take, ◌≤◌}
 use Rattle.std.specs.Prelude.{slice_range}
 use Rattle.flt_flash.specs.Image.{sector_at}
 use Rattle.flt_flash.specs.State.{OnlyReads}
-use Rattle.flt_record.proofs.PageBytes.{flat}
+use Rattle.flt_pages.proofs.PageBytes.{flat}
 use Rattle.flt_ea.proofs.record.read_bytes.Given as goal
 
 abbrev pub invariant-loop-index : goal.invariant-loop-index

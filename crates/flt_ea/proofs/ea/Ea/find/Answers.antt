@@ -4,7 +4,7 @@ use Rattle.flt_flash.specs.Calls.{ReadsContent}
 use Rattle.flt_flash.specs.Content.{Content, size_of}
 use Rattle.flt_flash.specs.Image.{sector_at}
 use Rattle.flt_flash.specs.declared.blocks.Found.TheVariants.{Bytes, Missing, Invalid}
-use Rattle.flt_record.proofs.Finding.{length_most}
+use Rattle.flt_pages.proofs.Finding.{length_most}
 use Rattle.flt_ea.specs.Image.{bytes_behind, content_of, value_in}
 use Rattle.flt_ea.specs.declared.place.Held.{Held}
 use Rattle.flt_pages.proofs.BlankPages.{unless, lest}

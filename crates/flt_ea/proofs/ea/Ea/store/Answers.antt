@@ -2,7 +2,7 @@ use Rattle.std.proofs.Common.{length, length-set, set, Result, Ok, Err, refl, sy
 use Rattle.flt_flash.specs.Image.{sector_at}
 use Rattle.flt_flash.specs.declared.flash.FlashFailed.{FlashFailed}
 use Rattle.flt_code.specs.Spoiled.{is_spoiled}
-use Rattle.flt_record.specs.LogHolds.{asked_of}
+use Rattle.flt_pages.specs.LogHolds.{asked_of}
 use Rattle.flt_ea.specs.State.{unit_at}
 use Rattle.flt_ea.specs.Image.{gate_unit}
 use Rattle.flt_ea.specs.Scan.{IsTable}

@@ -7,13 +7,12 @@ use Rattle.flt_code.specs.declared.words.Word.TheVariants.{Head}
 use Rattle.flt_flash.specs.Blocks.{byte_pages}
 use Rattle.flt_sector.specs.Blocks.{block_value}
 use Rattle.flt_sector.proofs.Items.{is_among}
-use Rattle.flt_record.specs.LogHolds.{asked_of, given}
-use Rattle.flt_fee.specs.Mounted.{StandsAt}
+use Rattle.flt_pages.specs.LogHolds.{asked_of, given, StandsAt}
 use Rattle.flt_fee.proofs.Standing.{mounted_stands, stale_mounted, stands_mounted, current_stays}
 use Rattle.flt_fee.proofs.Appended.{blank_at_end, left_sound, failed_changes, failed_calls, done_calls, done_changes, now_stands}
-use Rattle.flt_record.specs.declared.place.RecordPlace.{RecordPlace}
+use Rattle.flt_pages.specs.declared.place.RecordPlace.{RecordPlace}
 use Rattle.flt_flash.specs.Image.{sector_at}
-use Rattle.flt_record.specs.RecordPlace.{TellsPlaces}
+use Rattle.flt_pages.specs.RecordPlace.{TellsPlaces}
 use Rattle.flt_fee.proofs.Placed.{tells_appended}
 use Rattle.flt_fee.proofs.Wearing.{even_same}
 use Rattle.flt_fee.proofs.fee.Fee.append.Goals as goal

@@ -5,9 +5,9 @@ use Rattle.flt_fee.proofs.Standing.{stale_mounted}
 use Rattle.flt_fee.proofs.Formatting.{fresh_mounted, nothing_held, nothing_wrong, nothing_changes, nothing_spent, formatting_calls}
 use Rattle.flt_flash.specs.Image.{sector_at}
 use Rattle.flt_sector.specs.Blocks.{block_value}
-use Rattle.flt_record.specs.declared.place.RecordPlace.{RecordPlace}
-use Rattle.flt_record.specs.RecordPlace.{TellsPlaces}
-use Rattle.flt_record.proofs.Telling.{tells_nothing}
+use Rattle.flt_pages.specs.declared.place.RecordPlace.{RecordPlace}
+use Rattle.flt_pages.specs.RecordPlace.{TellsPlaces}
+use Rattle.flt_pages.proofs.Telling.{tells_nothing}
 use Rattle.flt_fee.proofs.fee.Fee.format.Goals as goal
 
 pub invariant_of-self : goal.invariant_of-self

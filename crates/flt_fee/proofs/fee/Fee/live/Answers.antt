@@ -1,7 +1,7 @@
 use Rattle.std.proofs.Common.{◌∙◌, ◌<◌, List, Option, ap, sym, subst}
 use Rattle.std.specs.Prelude.{sum_by}
-use Rattle.flt_record.specs.declared.place.RecordPlace.{RecordPlace}
-use Rattle.flt_record.specs.RecordPlace.{pages_found}
+use Rattle.flt_pages.specs.declared.place.RecordPlace.{RecordPlace}
+use Rattle.flt_pages.specs.RecordPlace.{pages_found}
 use Rattle.flt_fee.proofs.Placed.{live_of_table, live_fits}
 use Rattle.flt_fee.proofs.fee.Fee.live.Goals as goal
 

@@ -1,6 +1,6 @@
 use Rattle.std.proofs.Common.{List, Option, subst}
-use Rattle.flt_record.specs.declared.place.RecordPlace.{RecordPlace}
-use Rattle.flt_record.specs.RecordPlace.{IsPlaceOf}
+use Rattle.flt_pages.specs.declared.place.RecordPlace.{RecordPlace}
+use Rattle.flt_pages.specs.RecordPlace.{IsPlaceOf}
 use Rattle.flt_fee.proofs.Placed.{placed}
 use Rattle.flt_fee.proofs.fee.Fee.place.Goals as goal
 

@@ -1,11 +1,11 @@
 use Rattle.std.proofs.Common.{ℕ, List, Option, subst, arith, ◌∙◌, sym, ap, length}
 use Rattle.std.proofs.lemmas.List.{with_items_is}
 use Rattle.flt_flash.specs.Image.{sector_at}
-use Rattle.flt_fee.specs.Place.{current_of}
+use Rattle.flt_pages.specs.Told.{current_of}
 use Rattle.flt_fee.proofs.Mounting.{resumed}
 use Rattle.flt_sector.specs.Blocks.{block_value}
-use Rattle.flt_record.specs.declared.place.RecordPlace.{RecordPlace}
-use Rattle.flt_record.specs.RecordPlace.{TellsPlaces}
+use Rattle.flt_pages.specs.declared.place.RecordPlace.{RecordPlace}
+use Rattle.flt_pages.specs.RecordPlace.{TellsPlaces}
 use Rattle.flt_fee.proofs.Placed.{tells_current}
 use Rattle.flt_fee.proofs.fee.Fee.resume.Goals as goal
 

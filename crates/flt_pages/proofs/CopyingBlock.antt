@@ -1,0 +1,164 @@
+-- The current record of a block, copied behind the log of the other sector.
+use Rattle.std.proofs.Common.{◌≡◌, inl, inr, ◌+◌, ◌<◌, ◌≤◌, ◌^◌, ℕ, Bool, true, false, List, [], get_or, length, Option, Some, None, Result, Ok, Err, refl, sym, ◌∙◌, ap, subst, arith}
+use Rattle.std.specs.Prelude.{◌==◌, ◌&&◌, if◌then◌else◌, Contains, IsErr, OnOk}
+use Rattle.std.proofs.lemmas.Bool.{eqb-true, eq-eqb, ne_eqb}
+use Rattle.std.proofs.lemmas.List.{set-get_or, get_or_past}
+use Rattle.flt_flash.specs.Image.{sector_at}
+use Rattle.flt_flash.specs.Content.{Content, missing}
+use Rattle.flt_flash.specs.Blocks.{byte_pages, record_pages, pages_of}
+use Rattle.flt_flash.specs.State.{FlashState, HasShape, HasRisenBy}
+use Rattle.flt_flash.specs.declared.flash.FlashFailed.{FlashFailed}
+use Rattle.flt_flash.proofs.Following.{no_run}
+use Rattle.flt_code.specs.Word.{IsWord, is_length}
+use Rattle.flt_code.specs.declared.words.Word.TheVariants.{Head}
+use Rattle.flt_pages.specs.declared.place.RecordPlace.{RecordPlace}
+use Rattle.flt_pages.specs.LogHolds.{LogHolds, asked_of, given}
+use Rattle.flt_pages.specs.Live.{held_in}
+use Rattle.flt_pages.specs.RecordPlace.{record_at, IsPlaceWithin, IsAt, IsPlaceOf, bytes_at}
+use Rattle.flt_pages.proofs.Recording.{pages_on}
+use Rattle.flt_pages.proofs.Telling.{new_at}
+use Rattle.flt_pages.specs.Record.{KeptApart, IsWhole, RecordLeft}
+use Rattle.flt_pages.specs.Recorded.{Records}
+use Rattle.flt_pages.proofs.LogAppended.{whole_record}
+use Rattle.flt_pages.proofs.PageBytes.{bytes_size}
+use Rattle.flt_pages.proofs.Finding.{found_pages, length_most}
+use Rattle.flt_pages.specs.Switch.{KeepsGates, CopiesBlock, Replaces}
+use Rattle.flt_sector.proofs.Items.{is_among}
+
+pub same_kept : (pages : List (List ℕ)) → KeepsGates pages pages
+same_kept pages = record { size = refl; before = λ k lt. refl; behind = λ k le. refl }
+
+left_apart : (pages after : List (List ℕ)) (page block : ℕ) (bytes : List ℕ) (valid : Bool) → RecordLeft pages after page block bytes valid → (to : ℕ) × KeptApart pages after page to
+left_apart pages after page block bytes valid (inl torn) = (page + 1, torn.apart)
+left_apart pages after page block bytes valid (inr (inl stood)) = (page + 2 + byte_pages (length bytes), stood.apart)
+left_apart pages after page block bytes valid (inr (inr whole)) = (page + 2 + byte_pages (length bytes), whole.apart)
+
+past_pages : (pages after : List (List ℕ)) (k : ℕ) → length after ≡ length pages → length pages ≤ k → get_or after k [] ≡ get_or pages k []
+past_pages pages after k size past = get_or_past after k [] (omega (arith, size)) ∙ sym (get_or_past pages k [] past)
+
+pub left_gates : (pages after : List (List ℕ)) (page block : ℕ) (bytes : List ℕ) (valid : Bool) → 2 ≤ page → RecordLeft pages after page block bytes valid → KeepsGates pages after
+left_gates pages after page block bytes valid begun left =
+    let apart = left_apart pages after page block bytes valid left in
+    record { size = apart.1.size; before = λ k lt. apart.1.before k (omega arith); behind = λ k le. past_pages pages after k apart.1.size le }
+
+module _ (used : ℕ) (numbers : List ℕ) (before : FlashState) (shape : HasShape before) (sector other number end : ℕ) (in_sector : sector < 2) (in_other : other < 2) (begun : 2 ≤ end)
+    (least : 2 ≤ used) (most : used ≤ before.pages) (fits : used < 2 ^ 16) (small : number < 2 ^ 16) (member : Contains numbers number)
+    (room : end + pages_of (held_in used numbers (sector_at before.image sector) number) ≤ used) where
+  abbrev source : List (List ℕ)
+  source = sector_at before.image sector
+
+  abbrev content : Content
+  content = held_in used numbers (sector_at before.image sector) number
+
+  -- A block without a record.
+  module _ (is : IsAt (sector_at before.image sector) used (held_in used numbers (sector_at before.image sector) number) None) where
+    nothing : held_in used numbers (sector_at before.image sector) number ≡ missing
+    nothing = is.holds
+
+    pub block_missing : CopiesBlock before before other used numbers number end content (Ok end)
+    block_missing = record {
+      pages = sector_at before.image other;
+      on = record { image = sym (set-get_or before.image other []); wear = refl; runs = no_run before };
+      gates = same_kept (sector_at before.image other);
+      stays = λ k lt. refl;
+      place = (let pages : pages_of content ≡ 0 = ap pages_of nothing in omega (arith, pages));
+      done = λ value unset holds. record { entries = holds.entries; is = holds.is; gives = λ block. holds.gives block ∙ by_test value unset block (number == block) refl };
+      cause = tt;
+    }
+      where
+        by_test : (value : ℕ → Content) → value number ≡ missing → (block : ℕ) (test : Bool) → test ≡ (number == block)
+            → value block ≡ (if test then held_in used numbers (sector_at before.image sector) number else value block)
+        by_test value unset block false is = refl
+        by_test value unset block true is = (let one : number ≡ block = eqb-true number block (sym is) in ap value (sym one) ∙ unset ∙ sym nothing)
+
+    -- Its place stays empty.
+    pub place_empty : (places : List (Option RecordPlace)) → ((found : Option RecordPlace) → IsPlaceOf numbers places number found → IsAt (sector_at before.image sector) used (held_in used numbers (sector_at before.image sector) number) found)
+        → Replaces numbers (sector_at before.image other) places places number end (held_in used numbers (sector_at before.image sector) number)
+    place_empty places at = record {
+      own = λ k within same. by_place (get_or places k None) (at (get_or places k None) (record { index = k; within = within; number = same; place = refl }));
+      others = λ k within apart. refl;
+    }
+      where
+        by_valid : (valid : Bool) (held : List ℕ) → ◌≡◌ {A = Content} missing (asked_of valid held) → ⊥
+        by_valid true held same = cc same
+        by_valid false held same = cc same
+
+        by_place : (found : Option RecordPlace) → IsAt (sector_at before.image sector) used (held_in used numbers (sector_at before.image sector) number) found
+            → IsAt (sector_at before.image other) end (held_in used numbers (sector_at before.image sector) number) found
+        by_place None at = record { holds = nothing; inside = tt }
+        by_place (Some place) at = absurd (by_valid place.valid (bytes_at (sector_at before.image sector) place) (sym nothing ∙ at.holds))
+
+  -- A block with a record.
+  module _ (place : RecordPlace) (is : IsAt (sector_at before.image sector) used (held_in used numbers (sector_at before.image sector) number) (Some place)) where
+    pub within : IsPlaceWithin used place
+    within = is.inside.within
+
+    size : length (bytes_at (sector_at before.image sector) place) ≡ place.length
+    size = bytes_size source (shape.bytes sector in_sector) (record_at 0 place) (omega (arith, within.below, most, shape.pages sector in_sector))
+
+    pub content_size : pages_of (held_in used numbers (sector_at before.image sector) number) ≡ record_pages place.length
+    content_size = ap pages_of is.holds ∙ found_pages used source (shape.bytes sector in_sector) (omega (arith, most, shape.pages sector in_sector)) number (Some place) within
+
+    pub place_room : end + record_pages place.length ≤ used
+    place_room = omega (arith, room, content_size)
+
+    kind : is_length place.valid (length (bytes_at (sector_at before.image sector) place)) ≡ true
+    kind = ap (is_length place.valid) size ∙ within.kind
+
+    module _ (after : FlashState) (result : Result (Unit {0}) FlashFailed) (does : Records before after other end number (bytes_at (sector_at before.image sector) place) place.valid result) where
+      gates_of_both : KeepsGates (sector_at before.image other) does.pages
+      gates_of_both = left_gates (sector_at before.image other) does.pages end number (bytes_at (sector_at before.image sector) place) place.valid begun does.left
+
+      stays_below : (k : ℕ) → k < end → get_or does.pages k [] ≡ get_or (sector_at before.image other) k []
+      stays_below k lt = (left_apart (sector_at before.image other) does.pages end number (bytes_at (sector_at before.image sector) place) place.valid does.left).1.before k lt
+
+      pub block_torn : (told : Result ℕ FlashFailed) → IsErr told → HasRisenBy 1 before.faults after.faults → CopiesBlock before after other used numbers number end content told
+      block_torn (Ok x) fails rose = absurd (cc fails)
+      block_torn (Err e) fails rose = record { pages = does.pages; on = does.on; gates = gates_of_both; stays = stays_below; place = tt; done = tt; cause = rose }
+
+      module _ (last : ℕ) (ok : result ≡ Ok tt) (ends : last ≡ end + (2 + byte_pages place.length)) where
+        whole : IsWhole (sector_at before.image other) does.pages end number (bytes_at (sector_at before.image sector) place) place.valid
+        whole = subst (λ (r : Result (Unit {0}) FlashFailed). OnOk r (IsWhole (sector_at before.image other) does.pages end number (bytes_at (sector_at before.image sector) place) place.valid)) ok does.done
+
+        far : end + (2 + byte_pages (length (bytes_at (sector_at before.image sector) place))) ≡ last
+        far = omega (arith, size, ends)
+
+        pub block_copied : CopiesBlock before after other used numbers number end content (Ok last)
+        block_copied =
+            let short = length_most place.valid place.length within.kind in
+            let proper : IsWord (Head number (length (bytes_at (sector_at before.image sector) place)) place.valid end) = (small, omega (arith, size, short), omega (arith, place_room, fits), kind) in
+            record {
+              pages = does.pages;
+              on = does.on;
+              gates = gates_of_both;
+              stays = stays_below;
+              place = omega (arith, ends, content_size);
+              done = λ value unset holds.
+                  subst (λ (c : Content). LogHolds used numbers does.pages last (given number c value)) (sym is.holds)
+                  (subst (λ n. LogHolds used numbers does.pages n (given number (asked_of place.valid (bytes_at (sector_at before.image sector) place)) value)) far
+                  (whole_record used numbers (sector_at before.image other) does.pages end value least holds number (bytes_at (sector_at before.image sector) place) place.valid proper (proper.0, proper.2)
+                  (is_among numbers number member) (omega (arith, size, place_room)) whole));
+              cause = tt;
+            }
+
+        -- Its place is that of the copy.
+        pub place_moved : (places now : List (Option RecordPlace))
+            → ((k : ℕ) → k < length numbers → get_or now k None ≡ (if true && (number == get_or numbers k 0) then Some (record { page = end; length = place.length; valid = place.valid }) else get_or places k None))
+            → Replaces numbers (sector_at after.image other) places now number last (held_in used numbers (sector_at before.image sector) number)
+        place_moved places now noted = record {
+          own = λ k inside same.
+              subst (λ (found : Option RecordPlace). IsAt (sector_at after.image other) last (held_in used numbers (sector_at before.image sector) number) found)
+              (sym (noted k inside ∙ ap (λ (test : Bool). if test then Some (record { page = end; length = place.length; valid = place.valid }) else get_or places k None) (eq-eqb number (get_or numbers k 0) (sym same)))) copy_at;
+          others = λ k inside apart. noted k inside ∙ ap (λ (test : Bool). if test then Some (record { page = end; length = place.length; valid = place.valid }) else get_or places k None) (ne_eqb number (get_or numbers k 0) (λ e. apart (sym e)));
+        }
+          where
+            there : sector_at after.image other ≡ does.pages
+            there = pages_on before after other does.pages shape in_other does.on
+
+            copy_at : IsAt (sector_at after.image other) last (held_in used numbers (sector_at before.image sector) number) (Some (record { page = end; length = place.length; valid = place.valid }))
+            copy_at =
+                subst (λ (pages : List (List ℕ)). IsAt pages last (held_in used numbers (sector_at before.image sector) number) (Some (record { page = end; length = place.length; valid = place.valid }))) (sym there)
+                (subst (λ n. IsAt does.pages last (held_in used numbers (sector_at before.image sector) number) (Some (record { page = end; length = n; valid = place.valid }))) size
+                (subst (λ (c : Content). IsAt does.pages last c (Some (record { page = end; length = length (bytes_at (sector_at before.image sector) place); valid = place.valid }))) (sym is.holds)
+                (subst (λ n. IsAt does.pages n (asked_of place.valid (bytes_at (sector_at before.image sector) place)) (Some (record { page = end; length = length (bytes_at (sector_at before.image sector) place); valid = place.valid }))) far
+                (new_at (sector_at before.image other) does.pages end number (bytes_at (sector_at before.image sector) place) place.valid begun kind whole))))

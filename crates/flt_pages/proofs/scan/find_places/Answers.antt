@@ -1,0 +1,92 @@
+use Rattle.std.proofs.Common.{◌≡◌, ◌+◌, ◌-◌, ℕ, List, Ok, Option, None, sym, ◌∙◌, ap, subst, arith, get_or}
+use Rattle.flt_flash.specs.Image.{sector_at}
+use Rattle.flt_flash.proofs.Following.{no_reads, reads_on}
+use Rattle.flt_flash.specs.Blocks.{byte_pages}
+use Rattle.flt_sector.specs.Log.{item_at, log, first_written}
+use Rattle.flt_pages.specs.Told.{TellsOrFails, told_end}
+use Rattle.flt_pages.proofs.Scanning.{GoesOn, from_start, item_told, torn_on, kept_on, at_end, at_fault, handed_on, item_fault, blank_fault, blank_end}
+use Rattle.flt_pages.specs.declared.place.RecordPlace.{RecordPlace}
+use Rattle.flt_pages.proofs.Finding.{Seeks, seek, seek_on, seek_behind, found_at}
+use Rattle.flt_pages.proofs.scan.find_places.Goals as goal
+
+pub log-init : goal.log-init
+log-init g c = record {
+  reads = no_reads (g.F.Flash.state c.args.flash.now);
+  goes_on = from_start c.args.used c.args.numbers.now (sector_at (g.F.Flash.state c.args.flash.now).image c.args.sector) c.requires.least;
+  size = c.forget.ensures.size ∙ c.requires.size;
+  seeks = λ k within. subst (λ (found : Option RecordPlace). Seeks c.args.used c.args.numbers.now (sector_at (g.F.Flash.state c.args.flash.now).image c.args.sector) (get_or c.args.numbers.now k 0) 2 found)
+      (sym (c.forget.ensures.none k (omega (arith, within, c.requires.size))))
+      (seek c.args.used c.args.numbers.now (sector_at (g.F.Flash.state c.args.flash.now).image c.args.sector) (get_or c.args.numbers.now k 0) c.requires.least);
+}
+
+pub returns-in_err-item-clause-end : goal.returns-in_err-item-clause-end
+returns-in_err-item-clause-end g c =
+    let pages = sector_at (g.F.Flash.state c.args.flash.now).image c.args.sector in
+    let whole = log c.args.used c.args.numbers.now pages in
+    let same = ap (λ (image : List (List (List ℕ))). item_at c.args.used c.args.numbers.now (sector_at image c.args.sector) c.log.page) c.log.invariant.reads.image in
+    handed_on (λ r. TellsOrFails r (told_end c.args.sector whole.end whole.fault)) c.from_residual.result c.in_err-item.field-0.0 c.from_residual.ensures.1
+    (item_fault c.args.sector whole.end whole.fault c.in_err-item.field-0.0 _ c.in_err-item.ensures.item
+    (λ page found. at_fault c.args.used c.args.numbers.now pages c.log.page c.log.invariant.goes_on page (sym same ∙ found)))
+
+pub returns-in_err-blank_from-in-End-clause-end : goal.returns-in_err-blank_from-in-End-clause-end
+returns-in_err-blank_from-in-End-clause-end g c =
+    let pages = sector_at (g.F.Flash.state c.args.flash.now).image c.args.sector in
+    let whole = log c.args.used c.args.numbers.now pages in
+    let found = sym (ap (λ (image : List (List (List ℕ))). item_at c.args.used c.args.numbers.now (sector_at image c.args.sector) c.log.page) c.log.invariant.reads.image)
+    ∙ item_told c.args.sector c.in_ok-item.field-0 (item_at c.args.used c.args.numbers.now (sector_at (g.F.Flash.state c.log.flash).image c.args.sector) c.log.page) c.in_ok-item.ensures.item
+    ∙ (λ i. Ok (c.in-End.is i)) in
+    let ends = at_end c.args.used c.args.numbers.now pages c.log.page c.log.invariant.goes_on found in
+    let same = c.in_ok-item.ensures.reads.image ∙ c.log.invariant.reads.image in
+    handed_on (λ r. TellsOrFails r (told_end c.args.sector whole.end whole.fault)) c.from_residual-in_err-blank_from-in-End.result c.in_err-blank_from-in-End.field-0.0 c.from_residual-in_err-blank_from-in-End.ensures.1
+    (blank_fault c.args.sector whole.end whole.fault c.in_err-blank_from-in-End.field-0.0 _ c.in_err-blank_from-in-End.ensures.blank
+    (ends.1 ∙ sym (ap (λ (image : List (List (List ℕ))). first_written (sector_at image c.args.sector) c.log.page (c.args.used - c.log.page)) same)))
+
+pub log-preserved-in-Torn : goal.log-preserved-in-Torn
+log-preserved-in-Torn g c =
+    let pages = sector_at (g.F.Flash.state c.args.flash.now).image c.args.sector in
+    let found = sym (ap (λ (image : List (List (List ℕ))). item_at c.args.used c.args.numbers.now (sector_at image c.args.sector) c.log.page) c.log.invariant.reads.image)
+    ∙ item_told c.args.sector c.in_ok-item.field-0 (item_at c.args.used c.args.numbers.now (sector_at (g.F.Flash.state c.log.flash).image c.args.sector) c.log.page) c.in_ok-item.ensures.item
+    ∙ (λ i. Ok (c.in-Torn.is i)) in
+    record {
+      reads = reads_on c.log.invariant.reads c.in_ok-item.ensures.reads;
+      goes_on = torn_on c.args.used c.args.numbers.now pages c.log.page c.log.invariant.goes_on found;
+      size = c.log.invariant.size;
+      seeks = λ k within. seek_on c.args.used c.args.numbers.now pages (get_or c.args.numbers.now k 0) c.log.page (get_or c.log.places k None) (c.log.invariant.seeks k within) found;
+    }
+
+pub log-preserved : goal.log-preserved
+log-preserved g c =
+    let pages = sector_at (g.F.Flash.state c.args.flash.now).image c.args.sector in
+    let found = sym (ap (λ (image : List (List (List ℕ))). item_at c.args.used c.args.numbers.now (sector_at image c.args.sector) c.log.page) c.log.invariant.reads.image)
+    ∙ item_told c.args.sector c.in_ok-item.field-0 (item_at c.args.used c.args.numbers.now (sector_at (g.F.Flash.state c.log.flash).image c.args.sector) c.log.page) c.in_ok-item.ensures.item
+    ∙ (λ i. Ok (c.in-Kept.is i)) in
+    let next : c.log.page + 2 + byte_pages c.in-Kept.length ≡ c.from.result + 2 + c.from-in-Kept.result
+    = (λ i. sym c.from.ensures i + 2 + (sym c.byte_pages.ensures ∙ sym c.from-in-Kept.ensures) i) in
+    record {
+      reads = reads_on c.log.invariant.reads c.in_ok-item.ensures.reads;
+      goes_on = subst (GoesOn c.args.used c.args.numbers.now pages) next (kept_on c.args.used c.args.numbers.now pages c.log.page c.log.invariant.goes_on c.in-Kept.block c.in-Kept.length c.in-Kept.valid c.in-Kept.complete found);
+      size = c.note.ensures.size ∙ c.log.invariant.size;
+      seeks = λ k within. subst (λ n. Seeks c.args.used c.args.numbers.now pages (get_or c.args.numbers.now k 0) n (get_or c.note.new.places k None)) next
+          (subst (λ (place : Option RecordPlace). Seeks c.args.used c.args.numbers.now pages (get_or c.args.numbers.now k 0) (c.log.page + 2 + byte_pages c.in-Kept.length) place) (sym (c.note.ensures.noted k within))
+          (seek_behind c.args.used c.args.numbers.now pages (get_or c.args.numbers.now k 0) c.log.page (get_or c.log.places k None) (c.log.invariant.seeks k within) c.in-Kept.block c.in-Kept.length c.in-Kept.valid c.in-Kept.complete found));
+    }
+
+pub returns-in-End-clause-end : goal.returns-in-End-clause-end
+returns-in-End-clause-end g c =
+    let pages = sector_at (g.F.Flash.state c.args.flash.now).image c.args.sector in
+    let whole = log c.args.used c.args.numbers.now pages in
+    let found = sym (ap (λ (image : List (List (List ℕ))). item_at c.args.used c.args.numbers.now (sector_at image c.args.sector) c.log.page) c.log.invariant.reads.image)
+    ∙ item_told c.args.sector c.in_ok-item.field-0 (item_at c.args.used c.args.numbers.now (sector_at (g.F.Flash.state c.log.flash).image c.args.sector) c.log.page) c.in_ok-item.ensures.item
+    ∙ (λ i. Ok (c.in-End.is i)) in
+    let ends = at_end c.args.used c.args.numbers.now pages c.log.page c.log.invariant.goes_on found in
+    let same = c.in_ok-item.ensures.reads.image ∙ c.log.invariant.reads.image in
+    blank_end c.args.sector whole.end c.log.page whole.fault _ c.in_ok-blank_from-in-End.ensures.blank
+    (ends.1 ∙ sym (ap (λ (image : List (List (List ℕ))). first_written (sector_at image c.args.sector) c.log.page (c.args.used - c.log.page)) same)) ends.0
+
+pub returns-in-End-clause-places : goal.returns-in-End-clause-places
+returns-in-End-clause-places g c =
+    let pages = sector_at (g.F.Flash.state c.args.flash.now).image c.args.sector in
+    let found = sym (ap (λ (image : List (List (List ℕ))). item_at c.args.used c.args.numbers.now (sector_at image c.args.sector) c.log.page) c.log.invariant.reads.image)
+    ∙ item_told c.args.sector c.in_ok-item.field-0 (item_at c.args.used c.args.numbers.now (sector_at (g.F.Flash.state c.log.flash).image c.args.sector) c.log.page) c.in_ok-item.ensures.item
+    ∙ (λ i. Ok (c.in-End.is i)) in
+    λ k within. found_at c.args.used c.args.numbers.now pages (get_or c.args.numbers.now k 0) c.log.page (get_or c.log.places k None) (c.log.invariant.seeks k within) found

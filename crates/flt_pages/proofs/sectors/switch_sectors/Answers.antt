@@ -1,0 +1,98 @@
+use Rattle.std.proofs.Common.{◌+◌, ◌≤◌, ◌∙◌, ℕ, List, sym, subst, arith}
+use Rattle.flt_flash.proofs.Following.{runs_on, one_run}
+use Rattle.flt_pages.specs.LogHolds.{LogHolds}
+use Rattle.flt_pages.specs.Live.{held_in, current_pages}
+use Rattle.flt_pages.specs.RecordPlace.{TellsPlaces}
+use Rattle.flt_pages.proofs.Switching.{switch_unbegun, begun_blank, source_stays, keeps_inactive, active_blank, goes_over, table_over, activation_left}
+use Rattle.flt_pages.proofs.sectors.switch_sectors.Goals as goal
+
+pub returns-in_err-begin-clause-left : goal.returns-in_err-begin-clause-left
+returns-in_err-begin-clause-left g c =
+    switch_unbegun c.args.used c.args.numbers.now (g.F.Flash.state c.args.flash.now) (g.met.F.Flash.shape c.args.flash.now) c.args.sector c.args.sequence c.requires.sector c.requires.least (omega arith) c.requires.most
+    c.requires.current c.requires.sound c.requires.next (g.F.Flash.state c.begin.new.flash) c.in_err-begin.ensures.begins.torn
+
+pub copy_blocks-requires-clause-blank : goal.copy_blocks-requires-clause-blank
+copy_blocks-requires-clause-blank g c =
+    begun_blank c.args.used c.args.numbers.now (g.F.Flash.state c.args.flash.now) (g.met.F.Flash.shape c.args.flash.now) c.args.sector c.args.sequence c.requires.sector c.requires.least (omega arith) c.requires.most
+    c.requires.current c.requires.sound c.requires.next (g.F.Flash.state c.begin.new.flash) (g.met.F.Flash.shape c.begin.new.flash) c.in_ok-begin.ensures.begins.done
+
+pub returns-in_err-end-clause-left : goal.returns-in_err-end-clause-left
+returns-in_err-end-clause-left g c =
+    let copies = c.in_err-end.ensures.copies in
+    keeps_inactive c.args.used c.args.numbers.now (g.F.Flash.state c.args.flash.now) (g.met.F.Flash.shape c.args.flash.now) c.args.sector c.args.sequence c.requires.sector c.requires.least (omega arith) c.requires.most
+    c.requires.current c.requires.sound c.requires.next (g.F.Flash.state c.begin.new.flash) (g.met.F.Flash.shape c.begin.new.flash) c.in_ok-begin.ensures.begins.done
+    (g.F.Flash.state c.copy_blocks.new.flash) copies.pages copies.on copies.gates
+
+pub activate-requires-clause-blank : goal.activate-requires-clause-blank
+activate-requires-clause-blank g c =
+    let copies = c.in_ok-end.ensures.copies in
+    active_blank c.args.used c.args.numbers.now (g.F.Flash.state c.args.flash.now) (g.met.F.Flash.shape c.args.flash.now) c.args.sector c.args.sequence c.requires.sector c.requires.least (omega arith) c.requires.most
+    c.requires.current c.requires.sound c.requires.next (g.F.Flash.state c.begin.new.flash) (g.met.F.Flash.shape c.begin.new.flash) c.in_ok-begin.ensures.begins.done
+    (g.F.Flash.state c.copy_blocks.new.flash) copies.pages copies.on copies.gates
+
+pub returns-in_err-activate-clause-left : goal.returns-in_err-activate-clause-left
+returns-in_err-activate-clause-left g c =
+    let copies = c.in_ok-end.ensures.copies in
+    let source = source_stays c.args.used c.args.numbers.now (g.F.Flash.state c.args.flash.now) (g.met.F.Flash.shape c.args.flash.now) c.args.sector c.args.sequence c.requires.sector c.requires.least (omega arith) c.requires.most
+    c.requires.current c.requires.sound c.requires.next (g.F.Flash.state c.begin.new.flash) (g.met.F.Flash.shape c.begin.new.flash) c.in_ok-begin.ensures.begins.done in
+    activation_left c.args.used c.args.numbers.now (g.F.Flash.state c.args.flash.now) (g.met.F.Flash.shape c.args.flash.now) c.args.sector c.args.sequence c.requires.sector c.requires.least (omega arith) c.requires.most
+    c.requires.current c.requires.sound c.requires.next (g.F.Flash.state c.begin.new.flash) (g.met.F.Flash.shape c.begin.new.flash) c.in_ok-begin.ensures.begins.done
+    (g.F.Flash.state c.copy_blocks.new.flash) copies.pages copies.on copies.gates c.in_ok-end.end
+    (subst (λ (p : List (List ℕ)). LogHolds c.args.used c.args.numbers.now copies.pages c.in_ok-end.end (held_in c.args.used c.args.numbers.now p)) source copies.done)
+    (g.F.Flash.state c.activate.new.flash) c.activate.result c.activate.ensures.appends
+
+pub returns-clause-switched : goal.returns-clause-switched
+returns-clause-switched g c =
+    let copies = c.in_ok-end.ensures.copies in
+    let source = source_stays c.args.used c.args.numbers.now (g.F.Flash.state c.args.flash.now) (g.met.F.Flash.shape c.args.flash.now) c.args.sector c.args.sequence c.requires.sector c.requires.least (omega arith) c.requires.most
+    c.requires.current c.requires.sound c.requires.next (g.F.Flash.state c.begin.new.flash) (g.met.F.Flash.shape c.begin.new.flash) c.in_ok-begin.ensures.begins.done in
+    goes_over c.args.used c.args.numbers.now (g.F.Flash.state c.args.flash.now) (g.met.F.Flash.shape c.args.flash.now) c.args.sector c.args.sequence c.requires.sector c.requires.least (omega arith) c.requires.most
+    c.requires.current c.requires.sound c.requires.next (g.F.Flash.state c.begin.new.flash) (g.met.F.Flash.shape c.begin.new.flash) c.in_ok-begin.ensures.begins.done
+    (g.F.Flash.state c.copy_blocks.new.flash) copies.pages copies.on copies.gates c.in_ok-end.end
+    (subst (λ (p : List (List ℕ)). LogHolds c.args.used c.args.numbers.now copies.pages c.in_ok-end.end (held_in c.args.used c.args.numbers.now p)) source copies.done)
+    (g.F.Flash.state c.activate.new.flash) c.in_ok-activate.ensures.appends.done
+
+pub returns-clause-left : goal.returns-clause-left
+returns-clause-left g c =
+    let copies = c.in_ok-end.ensures.copies in
+    let source = source_stays c.args.used c.args.numbers.now (g.F.Flash.state c.args.flash.now) (g.met.F.Flash.shape c.args.flash.now) c.args.sector c.args.sequence c.requires.sector c.requires.least (omega arith) c.requires.most
+    c.requires.current c.requires.sound c.requires.next (g.F.Flash.state c.begin.new.flash) (g.met.F.Flash.shape c.begin.new.flash) c.in_ok-begin.ensures.begins.done in
+    activation_left c.args.used c.args.numbers.now (g.F.Flash.state c.args.flash.now) (g.met.F.Flash.shape c.args.flash.now) c.args.sector c.args.sequence c.requires.sector c.requires.least (omega arith) c.requires.most
+    c.requires.current c.requires.sound c.requires.next (g.F.Flash.state c.begin.new.flash) (g.met.F.Flash.shape c.begin.new.flash) c.in_ok-begin.ensures.begins.done
+    (g.F.Flash.state c.copy_blocks.new.flash) copies.pages copies.on copies.gates c.in_ok-end.end
+    (subst (λ (p : List (List ℕ)). LogHolds c.args.used c.args.numbers.now copies.pages c.in_ok-end.end (held_in c.args.used c.args.numbers.now p)) source copies.done)
+    (g.F.Flash.state c.activate.new.flash) c.activate.result c.activate.ensures.appends
+
+pub returns-clause-runs : goal.returns-clause-runs
+returns-clause-runs g c = runs_on c.in_ok-begin.ensures.begins.runs (runs_on c.in_ok-end.ensures.copies.on.runs (one_run c.in_ok-activate.ensures.appends.operation))
+
+pub copy_blocks-requires-clause-table : goal.copy_blocks-requires-clause-table
+copy_blocks-requires-clause-table g c =
+    let source = source_stays c.args.used c.args.numbers.now (g.F.Flash.state c.args.flash.now) (g.met.F.Flash.shape c.args.flash.now) c.args.sector c.args.sequence c.requires.sector c.requires.least (omega arith) c.requires.most
+    c.requires.current c.requires.sound c.requires.next (g.F.Flash.state c.begin.new.flash) (g.met.F.Flash.shape c.begin.new.flash) c.in_ok-begin.ensures.begins.done in
+    subst (λ (p : List (List ℕ)). TellsPlaces c.args.numbers.now c.args.places.now p c.args.used (held_in c.args.used c.args.numbers.now p)) (sym source) c.requires.table
+
+pub returns-clause-table : goal.returns-clause-table
+returns-clause-table g c =
+    let copies = c.in_ok-end.ensures.copies in
+    table_over c.args.used c.args.numbers.now (g.F.Flash.state c.args.flash.now) (g.met.F.Flash.shape c.args.flash.now) c.args.sector c.args.sequence c.requires.sector c.requires.least (omega arith) c.requires.most
+    c.requires.current c.requires.sound c.requires.next (g.F.Flash.state c.begin.new.flash) (g.met.F.Flash.shape c.begin.new.flash) c.in_ok-begin.ensures.begins.done
+    (g.F.Flash.state c.copy_blocks.new.flash) copies.pages copies.on copies.gates c.in_ok-end.end c.copy_blocks.new.places c.in_ok-end.ensures.table
+    (g.F.Flash.state c.activate.new.flash) c.in_ok-activate.ensures.appends.done
+
+pub returns-clause-erases : goal.returns-clause-erases
+returns-clause-erases g c =
+    let copies = c.in_ok-end.ensures.copies in
+    let source = source_stays c.args.used c.args.numbers.now (g.F.Flash.state c.args.flash.now) (g.met.F.Flash.shape c.args.flash.now) c.args.sector c.args.sequence c.requires.sector c.requires.least (omega arith) c.requires.most
+    c.requires.current c.requires.sound c.requires.next (g.F.Flash.state c.begin.new.flash) (g.met.F.Flash.shape c.begin.new.flash) c.in_ok-begin.ensures.begins.done in
+    let room = subst (λ (p : List (List ℕ)). c.in_ok-end.end ≤ 2 + current_pages c.args.used c.args.numbers.now p) source copies.room in
+    record {
+      operations = omega (arith, c.in_ok-begin.ensures.begins.operations, c.in_ok-end.ensures.operations, room, c.in_ok-activate.ensures.appends.operation.operations);
+      wear = c.in_ok-activate.ensures.appends.wear ∙ copies.on.wear ∙ c.in_ok-begin.ensures.begins.wear;
+    }
+
+pub copy_blocks-requires-clause-room : goal.copy_blocks-requires-clause-room
+copy_blocks-requires-clause-room g c =
+    let source = source_stays c.args.used c.args.numbers.now (g.F.Flash.state c.args.flash.now) (g.met.F.Flash.shape c.args.flash.now) c.args.sector c.args.sequence c.requires.sector c.requires.least (omega arith) c.requires.most
+    c.requires.current c.requires.sound c.requires.next (g.F.Flash.state c.begin.new.flash) (g.met.F.Flash.shape c.begin.new.flash) c.in_ok-begin.ensures.begins.done in
+    subst (λ (p : List (List ℕ)). 2 + current_pages c.args.used c.args.numbers.now p ≤ c.args.used) (sym source) c.requires.room

@@ -1,0 +1,214 @@
+// The two sectors of a flash: the current one, the first one, and the switch from one to the other.
+ghost use Rattle.std.specs.Prelude.{Option, ◌≡◌, ◌+◌, ◌-◌, ◌*◌, ◌^◌, ◌<◌, ◌≤◌, ◌≢◌, Ok, Some, None, Contains, IfOk, OnOk, OnErr, IsErrOf, length, slice_index, slice_set};
+ghost use Rattle.std.specs.List.{AllPairs};
+ghost use Rattle.flt_flash.specs.Image.{sector_at};
+ghost use Rattle.flt_flash.specs.State.{OnlyReads, MakesOperations, HasRisenBy, counted};
+ghost use Rattle.flt_flash.specs.Blocks.{pages_of};
+ghost use Rattle.flt_sector.specs.Log.{log};
+ghost use Rattle.flt_sector.specs.Blocks.{current, greater_of};
+ghost use Rattle.flt_pages.specs.Told.{TellsOrFails, told_current};
+ghost use Rattle.flt_pages.specs.Blank.{AreBlank};
+ghost use Rattle.flt_pages.specs.Live.{held_in, current_pages};
+ghost use Rattle.flt_pages.specs.LogHolds.{StandsAt};
+ghost use Rattle.flt_pages.specs.RecordPlace.{IsAt, IsPlaceOf, TellsPlaces};
+ghost use Rattle.flt_pages.specs.SetUp.{IsFresh, HoldsNothing};
+ghost use Rattle.flt_pages.specs.Switch.{CopiesBlock, CopiesBlocks, Erases, GivesValues, Replaces};
+
+use crate::PageFault;
+use crate::append::{activate, begin};
+use crate::bytes::copy_record;
+use crate::first::byte_pages;
+use crate::gate_pages::gates;
+use crate::numbers::Numbers;
+use crate::place::{RecordPlace, note, place_of};
+use flt_flash::{Flash, FlashFailed};
+
+/// A valid sector with its sequence number.
+#[derive(Clone, Copy, Debug, PartialEq, Eq)]
+pub struct CurrentSector {
+    pub sector: u8,
+    pub sequence: u32,
+}
+
+// The valid sector of the greater number.
+fn greater(first: Option<u32>, second: Option<u32>) -> Result<Option<CurrentSector>, PageFault>
+    ensures { result ≡ told_current (greater_of first second) }
+{
+    match (first, second) {
+        (None, None) => Ok(None),
+        (Some(sequence), None) => Ok(Some(CurrentSector {
+            sector: 0,
+            sequence,
+        })),
+        (None, Some(sequence)) => Ok(Some(CurrentSector {
+            sector: 1,
+            sequence,
+        })),
+        (Some(first), Some(second)) => {
+            if first == second {
+                Err(PageFault::Damaged { sector: 1, page: 0 })
+            } else if first < second {
+                Ok(Some(CurrentSector {
+                    sector: 1,
+                    sequence: second,
+                }))
+            } else {
+                Ok(Some(CurrentSector {
+                    sector: 0,
+                    sequence: first,
+                }))
+            }
+        }
+    }
+}
+
+/// The valid sector of the greatest number; `None` where no sector is valid. It reads the four gates, and changes nothing. `Damaged` is
+/// the first fault of the gates.
+pub fn current_sector<F: Flash>(
+    flash: &mut F,
+    used: u16,
+) -> Result<Option<CurrentSector>, PageFault>
+    requires least { 2 ≤ used }
+    requires most { used ≤ (F.state flash.old).pages }
+    ensures current { TellsOrFails result (told_current (current used (F.state flash.old).image)) }
+    ensures reads { OnlyReads (F.state flash.old) (F.state flash.new) }
+    ensures cause { IsErrOf result PageFault.Flash → HasRisenBy 1 (F.state flash.old).faults (F.state flash.new).faults }
+{
+    let first = gates(flash, 0, used)?;
+    let second = gates(flash, 1, used)?;
+    greater(first, second)
+}
+
+/// Makes the first sector of a flash, of which no sector is valid, the current one, with the number 1 and an empty log.
+pub fn set_up_flash<F: Flash>(flash: &mut F, used: u16) -> Result<(), FlashFailed>
+    requires least { 4 ≤ used }
+    requires most { used ≤ (F.state flash.old).pages }
+    requires none { current used (F.state flash.old).image ≡ Ok None }
+    ensures fresh { OnOk result (IsFresh used (F.state flash.new).image) }
+    ensures wear { OnOk result ((F.state flash.new).wear ≡ slice_set (F.state flash.old).wear 0 (counted (slice_index (F.state flash.old).wear 0))) }
+    ensures left { HoldsNothing used (F.state flash.new).image }
+    ensures runs { MakesOperations (F.state flash.old) (F.state flash.new) }
+    ensures cause { OnErr result (HasRisenBy 1 (F.state flash.old).faults (F.state flash.new).faults) }
+{
+    begin(flash, 0, used, 1)?;
+    activate(flash, 0, 1)
+}
+
+// Copies the current record of a block, if it has one, behind the log of the other sector, and tells where that ends then.
+fn copy_block<F: Flash>(
+    flash: &mut F,
+    sector: u8,
+    other: u8,
+    used: u16,
+    numbers: &Numbers,
+    places: &mut [Option<RecordPlace>],
+    number: u16,
+    end: u16,
+) -> Result<u16, FlashFailed>
+    requires sector { sector < 2 }
+    requires other { other < 2 }
+    requires apart { other ≢ sector }
+    requires least { 2 ≤ used }
+    requires most { used ≤ (F.state flash.old).pages }
+    requires sound { (log used numbers.now (sector_at (F.state flash.old).image sector)).fault ≡ None }
+    requires size { length places.old ≡ length numbers.now }
+    requires distinct { AllPairs (λ a b. a ≢ b) numbers.now }
+    requires place { (found : Option RecordPlace) → IsPlaceOf numbers.now places.old number found
+        → IsAt (sector_at (F.state flash.old).image sector) used (held_in used numbers.now (sector_at (F.state flash.old).image sector) number) found }
+    requires number { Contains numbers.now number }
+    requires begun { 2 ≤ end }
+    requires room { end + pages_of (held_in used numbers.now (sector_at (F.state flash.old).image sector) number) ≤ used }
+    requires blank { AreBlank (sector_at (F.state flash.old).image other) end used }
+    ensures copies { CopiesBlock (F.state flash.old) (F.state flash.new) other used numbers.now number end
+        (held_in used numbers.now (sector_at (F.state flash.old).image sector) number) result }
+    ensures size { length places.new ≡ length numbers.now }
+    ensures operations { IfOk result (λ last. (F.state flash.new).operations + 2 * end ≤ (F.state flash.old).operations + 2 * last) }
+    ensures table { IfOk result (λ last. Replaces numbers.now (sector_at (F.state flash.new).image other) places.old places.new number last
+        (held_in used numbers.now (sector_at (F.state flash.old).image sector) number)) }
+{
+    match place_of(numbers, places, number) {
+        None => Ok(end),
+        Some(place) => {
+            copy_record(flash, sector, place, number, other, end)?;
+            let copy = RecordPlace { page: end, ..place };
+            note(numbers, places, number, true, copy);
+            Ok(end + (2 + byte_pages(place.length)))
+        }
+    }
+}
+
+// Copies the current records of all blocks, in ascending order of their numbers, behind the gates of the other sector.
+fn copy_blocks<F: Flash>(
+    flash: &mut F,
+    sector: u8,
+    other: u8,
+    used: u16,
+    numbers: &Numbers,
+    places: &mut [Option<RecordPlace>],
+) -> Result<u16, FlashFailed>
+    requires sector { sector < 2 }
+    requires other { other < 2 }
+    requires apart { other ≢ sector }
+    requires least { 2 ≤ used }
+    requires most { used ≤ (F.state flash.old).pages }
+    requires sound { (log used numbers.now (sector_at (F.state flash.old).image sector)).fault ≡ None }
+    requires room { 2 + current_pages used numbers.now (sector_at (F.state flash.old).image sector) ≤ used }
+    requires blank { AreBlank (sector_at (F.state flash.old).image other) 2 used }
+    requires size { length places.old ≡ length numbers.now }
+    requires distinct { AllPairs (λ a b. a ≢ b) numbers.now }
+    requires table { TellsPlaces numbers.now places.old (sector_at (F.state flash.old).image sector) used
+        (held_in used numbers.now (sector_at (F.state flash.old).image sector)) }
+    ensures size { length places.new ≡ length numbers.now }
+    ensures table { IfOk result (λ end. TellsPlaces numbers.now places.new (sector_at (F.state flash.new).image other) end
+        (held_in used numbers.now (sector_at (F.state flash.old).image sector))) }
+    ensures operations { IfOk result (λ end. (F.state flash.new).operations + 4 ≤ (F.state flash.old).operations + 2 * end) }
+    ensures copies { CopiesBlocks (F.state flash.old) (F.state flash.new) sector other used numbers.now result }
+{
+    let mut end = 2;
+    let mut from = 0;
+    'copies: while let Some(number) = numbers.next_from(from) {
+        end = copy_block(flash, sector, other, used, numbers, places, number, end)?;
+        from = u32::from(number) + 1;
+    }
+    Ok(end)
+}
+
+/// Makes the other sector the current one with the next sequence number, and copies all that the blocks hold. It tells where
+/// the log ends then. After a failure the image gives each block what it held, whichever sector is the current one.
+pub fn switch_sectors<F: Flash>(
+    flash: &mut F,
+    used: u16,
+    numbers: &Numbers,
+    places: &mut [Option<RecordPlace>],
+    sector: u8,
+    sequence: u32,
+) -> Result<u16, FlashFailed>
+    requires sector { sector < 2 }
+    requires least { 4 ≤ used }
+    requires most { used ≤ (F.state flash.old).pages }
+    requires current { current used (F.state flash.old).image ≡ Ok (Some (record { sector = sector; sequence = sequence })) }
+    requires sound { (log used numbers.now (sector_at (F.state flash.old).image sector)).fault ≡ None }
+    requires next { sequence + 1 < 2 ^ 32 }
+    requires room { 2 + current_pages used numbers.now (sector_at (F.state flash.old).image sector) ≤ used }
+    requires size { length places.old ≡ length numbers.now }
+    requires distinct { AllPairs (λ a b. a ≢ b) numbers.now }
+    requires table { TellsPlaces numbers.now places.old (sector_at (F.state flash.old).image sector) used
+        (held_in used numbers.now (sector_at (F.state flash.old).image sector)) }
+    ensures size { length places.new ≡ length numbers.now }
+    ensures table { IfOk result (λ end. TellsPlaces numbers.now places.new (sector_at (F.state flash.new).image (1 - sector)) end
+        (held_in used numbers.now (sector_at (F.state flash.old).image sector))) }
+    ensures room { IfOk result (λ end. end ≤ 2 + current_pages used numbers.now (sector_at (F.state flash.old).image sector)) }
+    ensures switched { IfOk result (λ end. StandsAt used numbers.now (F.state flash.new).image (1 - sector) (sequence + 1) end
+        (held_in used numbers.now (sector_at (F.state flash.old).image sector))) }
+    ensures left { GivesValues used numbers.now (F.state flash.new).image (held_in used numbers.now (sector_at (F.state flash.old).image sector)) }
+    ensures erases { OnOk result (Erases (3 + 2 * current_pages used numbers.now (sector_at (F.state flash.old).image sector)) (1 - sector) (F.state flash.old)
+        (F.state flash.new)) }
+    ensures runs { MakesOperations (F.state flash.old) (F.state flash.new) }
+    ensures cause { OnErr result (HasRisenBy 1 (F.state flash.old).faults (F.state flash.new).faults) }
+{
+    let other = 1 - sector;
+    begin(flash, other, used, sequence + 1)?;
+    let end = copy_blocks(flash, sector, other, used, numbers, places)?;
+    activate(flash, other, sequence + 1)?;
+    Ok(end)
+}

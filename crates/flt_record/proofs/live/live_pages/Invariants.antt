@@ -1,7 +1,0 @@
-use Rattle.std.proofs.Common.{◌≡◌, take}
-use Rattle.std.specs.Prelude.{sum_by}
-use Rattle.flt_record.specs.RecordPlace.{pages_found}
-use Rattle.flt_record.proofs.live.live_pages.Given as goal
-
-abbrev pub invariant-loop-found : goal.invariant-loop-found
-invariant-loop-found l = l.live ≡ sum_by pages_found (take l.found-index l.places)
