@@ -1,5 +1,5 @@
 -- One page of plain bytes more.
-use Rattle.std.proofs.Common.{◌≡◌, ◌⊎◌, ◌+◌, ◌-◌, ◌*◌, ◌<◌, ◌≤◌, ℕ, List, set, drop, length, Result, Ok, Err, sym, subst, arith}
+use Rattle.std.proofs.Common.{◌≡◌, ◌⊎◌, ◌+◌, ◌*◌, ◌<◌, ◌≤◌, ℕ, List, set, drop, length, Result, Ok, Err, sym, subst, arith}
 use Rattle.std.specs.Prelude.{IsErr, slice_range}
 use Rattle.flt_flash.specs.Image.{sector_at, blank_page}
 use Rattle.flt_flash.specs.State.{FlashState, HasShape, HasRisenBy}

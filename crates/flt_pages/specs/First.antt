@@ -4,8 +4,8 @@ use Rattle.flt_code.specs.Seal.{unsealed}
 use Rattle.flt_sector.specs.Log.{item_by_gate}
 use Rattle.flt_sector.specs.declared.log.Item.{Item}
 use Rattle.flt_sector.specs.declared.log.Item.TheVariants.{Kept}
-use Rattle.flt_pages.specs.declared.first.Begin.{Begin}
-use Rattle.flt_pages.specs.declared.first.Begin.TheVariants.{Whole, Damaged, Record}
+use Rattle.flt_pages.specs.declared.items.Begin.{Begin}
+use Rattle.flt_pages.specs.declared.items.Begin.TheVariants.{Whole, Damaged, Record}
 
 -- The item that begins at this page with this first page.
 abbrev pub item_begun : Begin → List (List ℕ) → ℕ → Result Item ℕ

@@ -8,7 +8,7 @@ ghost use Rattle.flt_pages.specs.RecordPlace.{IsPlaceWithin, bytes_at};
 ghost use Rattle.flt_pages.specs.Recorded.{Fills, Records};
 
 use crate::append::{append_gate, append_head, append_piece};
-use crate::first::byte_pages;
+use crate::items::byte_pages;
 use crate::place::RecordPlace;
 use flt_flash::{Flash, FlashFailed};
 

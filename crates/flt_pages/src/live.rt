@@ -4,7 +4,7 @@ ghost use Rattle.std.specs.List.{All};
 ghost use Rattle.std.specs.Option.{ForSome};
 ghost use Rattle.flt_pages.specs.RecordPlace.{pages_found};
 
-use crate::first::byte_pages;
+use crate::items::byte_pages;
 use crate::place::RecordPlace;
 
 // The pages of the record that was found.

@@ -7,7 +7,7 @@ ghost use Rattle.flt_pages.specs.Blank.{AreBlank};
 ghost use Rattle.flt_pages.specs.Recorded.{Fills, Records};
 
 use crate::append::{append_gate, append_head, append_piece};
-use crate::first::byte_pages;
+use crate::items::byte_pages;
 use flt_flash::{Flash, FlashFailed};
 
 // Programs the pages of plain bytes of a record.

@@ -17,8 +17,8 @@ ghost use Rattle.flt_pages.specs.Switch.{CopiesBlock, CopiesBlocks, Erases, Give
 use crate::PageFault;
 use crate::append::{activate, begin};
 use crate::bytes::copy_record;
-use crate::first::byte_pages;
 use crate::gate_pages::gates;
+use crate::items::byte_pages;
 use crate::numbers::Numbers;
 use crate::place::{RecordPlace, note, place_of};
 use flt_flash::{Flash, FlashFailed};

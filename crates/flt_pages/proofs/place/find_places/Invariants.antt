@@ -3,7 +3,7 @@ use Rattle.flt_flash.specs.Image.{sector_at}
 use Rattle.flt_flash.specs.State.{OnlyReads}
 use Rattle.flt_pages.proofs.Scanning.{GoesOn}
 use Rattle.flt_pages.proofs.Finding.{Seeks}
-use Rattle.flt_pages.proofs.scan.find_places.Given as goal
+use Rattle.flt_pages.proofs.place.find_places.Given as goal
 
 abbrev pub invariant-log : goal.invariant-log
 invariant-log g l = record {

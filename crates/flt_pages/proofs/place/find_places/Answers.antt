@@ -7,7 +7,7 @@ use Rattle.flt_pages.specs.Told.{TellsOrFails, told_end}
 use Rattle.flt_pages.proofs.Scanning.{GoesOn, from_start, item_told, torn_on, kept_on, at_end, at_fault, handed_on, item_fault, blank_fault, blank_end}
 use Rattle.flt_pages.specs.declared.place.RecordPlace.{RecordPlace}
 use Rattle.flt_pages.proofs.Finding.{Seeks, seek, seek_on, seek_behind, found_at}
-use Rattle.flt_pages.proofs.scan.find_places.Goals as goal
+use Rattle.flt_pages.proofs.place.find_places.Goals as goal
 
 pub log-init : goal.log-init
 log-init g c = record {
