@@ -1,6 +1,7 @@
-// A page of 16 bytes and their complements.
+// A page of 16 bytes and their complements, and the pages that no program or erase of one can have left.
 ghost use Rattle.std.specs.Prelude.{◌≡◌, ℕ, List, Some, IfSome, IfNone};
 ghost use Rattle.flt_code.specs.Seal.{sealed, unsealed, IsCodeWordOf};
+ghost use Rattle.flt_code.specs.Spoiled.{is_spoiled};
 
 /// The page of 16 bytes, followed by their complements.
 pub fn seal(bytes: &[u8; 16]) -> [u8; 32]
@@ -36,4 +37,16 @@ pub fn unseal(page: &[u8; 32]) -> Option<[u8; 16]>
     } else {
         None
     }
+}
+
+/// Whether a bit of the first 16 bytes and the same bit of the last 16 bytes are both 0.
+pub fn is_spoiled(page: &[u8; 32]) -> bool
+    ensures { result ≡ is_spoiled page.now }
+{
+    for byte in 0..16 {
+        if page[byte] | page[16 + byte] != 255 {
+            return true;
+        }
+    }
+    false
 }

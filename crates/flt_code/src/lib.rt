@@ -7,10 +7,8 @@
 
 mod code;
 mod law;
-mod spoiled;
 mod words;
 
-pub use code::{seal, unseal};
+pub use code::{is_spoiled, seal, unseal};
 pub use law::tearing;
-pub use spoiled::is_spoiled;
 pub use words::{Word, get_word, put_word};
