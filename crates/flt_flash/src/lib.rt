@@ -16,7 +16,6 @@ mod made;
 mod memory;
 mod pages;
 mod power;
-mod standing;
 mod torn;
 pub mod worked;
 

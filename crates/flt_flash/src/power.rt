@@ -1,12 +1,76 @@
-// The power of a flash in memory, its counts, and the arms that stand.
-ghost use Rattle.std.specs.Prelude.{◌≡◌, ◌≤◌, ◌||◌, if◌then◌else◌, is_some};
+// The power of a flash in memory, its counts, and the arms that stand, in the order in which they were made.
+ghost use Rattle.std.specs.Prelude.{◌≡◌, ◌≤◌, ◌||◌, if◌then◌else◌, is_some, map};
+ghost use Rattle.std.specs.List.{filter, find, list_any};
 ghost use Rattle.arrayvec.specs.ArrayVec.{array_vec_len};
 ghost use Rattle.flt_flash.specs.State.{counted};
-ghost use Rattle.flt_flash.specs.Arms.{standing_after_write, standing_after_read};
+ghost use Rattle.flt_flash.specs.Arms.{after_write, mutes, after_read, stands, acting, standing_after_write, standing_after_read, is_due_cut, is_due_fault};
 
-use crate::standing::{count_read, count_write};
 use crate::{Arm, Pattern};
 use arrayvec::ArrayVec;
+
+fn bring_nearer(arms: &mut [Arm])
+    ensures { arms.new ≡ map after_write arms.old }
+{
+    for arm in arms.iter_mut() {
+        *arm = arm.after_write();
+    }
+}
+
+fn use_up(arms: &mut [Arm], sector: u8, page: u16)
+    ensures { arms.new ≡ map (after_read sector page) arms.old }
+{
+    for arm in arms.iter_mut() {
+        *arm = arm.after_read(sector, page);
+    }
+}
+
+fn keep_standing(arms: &mut ArrayVec<Arm, 64>)
+    ensures items { arms.new.items ≡ filter stands arms.old.items }
+    ensures fewer { array_vec_len arms.new ≤ array_vec_len arms.old }
+{
+    arms.retain(|arm| arm.stands());
+}
+
+fn first_cut(met: &[Arm]) -> Option<Arm>
+    ensures { result ≡ find is_due_cut met.now }
+{
+    for arm in met {
+        if arm.is_due_cut() {
+            return Some(*arm);
+        }
+    }
+    None
+}
+
+fn first_fault(met: &[Arm]) -> Option<Arm>
+    ensures { result ≡ find is_due_fault met.now }
+{
+    for arm in met {
+        if arm.is_due_fault() {
+            return Some(*arm);
+        }
+    }
+    None
+}
+
+fn acting(met: &[Arm]) -> Option<Arm>
+    ensures { result ≡ acting met.now }
+{
+    first_cut(met).or(first_fault(met))
+}
+
+// Counts a read of a page where arms stand, and says whether one makes it fail. It is not inlined, so that a read without them is short.
+#[inline(never)]
+fn count_read_under(arms: &mut ArrayVec<Arm, 64>, sector: u8, page: u16) -> bool
+    ensures muted { result ≡ list_any (mutes sector page) arms.old.items }
+    ensures stand { arms.new.items ≡ standing_after_read sector page arms.old.items }
+    ensures fewer { array_vec_len arms.new ≤ array_vec_len arms.old }
+{
+    let muted = arms.as_slice().iter().any(|arm| arm.mutes(sector, page));
+    use_up(arms.as_mut_slice(), sector, page);
+    keep_standing(arms);
+    muted
+}
 
 /// Whether a device in memory is off, its counts of faults and of operations, and the arms that stand.
 #[derive(Drop)]
@@ -40,7 +104,10 @@ impl Power {
             self.count_fault();
             return Some(Pattern::Nothing);
         }
-        match count_write(&mut self.standing) {
+        bring_nearer(self.standing.as_mut_slice());
+        let acts = acting(self.standing.as_slice());
+        keep_standing(&mut self.standing);
+        match acts {
             Some(Arm::Cut { pattern, .. }) => {
                 self.is_off = true;
                 self.count_fault();
@@ -70,7 +137,7 @@ impl Power {
             self.count_fault();
             return true;
         }
-        if count_read(&mut self.standing, sector, page) {
+        if !self.standing.is_empty() && count_read_under(&mut self.standing, sector, page) {
             self.count_fault();
             return true;
         }

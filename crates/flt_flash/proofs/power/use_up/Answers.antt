@@ -2,7 +2,7 @@ use Rattle.std.proofs.Common.{◌<◌, length, set, ap, ◌∙◌, arith}
 use Rattle.std.proofs.lemmas.List.{get_or_default}
 use Rattle.std.proofs.lemmas.List.Edits.{map_over_more}
 use Rattle.flt_flash.specs.Arms.{after_read}
-use Rattle.flt_flash.proofs.standing.use_up.Goals as goal
+use Rattle.flt_flash.proofs.power.use_up.Goals as goal
 
 pub loop-arm-preserved : goal.loop-arm-preserved
 loop-arm-preserved c =

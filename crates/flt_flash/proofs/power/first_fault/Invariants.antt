@@ -1,7 +1,7 @@
 use Rattle.std.proofs.Common.{◌≡◌, drop}
 use Rattle.std.specs.List.{find}
 use Rattle.flt_flash.specs.Arms.{is_due_fault}
-use Rattle.flt_flash.proofs.standing.first_fault.Given as goal
+use Rattle.flt_flash.proofs.power.first_fault.Given as goal
 
 abbrev pub invariant-loop-arm : goal.invariant-loop-arm
 invariant-loop-arm l = find is_due_fault l.met ≡ find is_due_fault (drop l.arm-index l.met)
