@@ -286,25 +286,6 @@ impl<F: Flash> Fee<F> {
         }
     }
 
-    // Gives a block of a driver that is not stale these bytes, or makes it invalid.
-    fn store(&mut self, block: u16, bytes: &[u8], valid: bool) -> Result<(), BlockFault>
-        requires not_stale { IsFalse (uncounted_of F.state self.old).is_stale }
-        requires number { Contains (uncounted_of F.state self.old).numbers block }
-        requires most { length bytes.now ≤ 128 }
-        requires length { is_length valid (length bytes.now) ≡ true }
-        ensures changes { Changes (uncounted_of F.state self.old) (uncounted_of F.state self.new) block (asked_of valid bytes.now) (length bytes.now) result }
-        ensures calls { Calls (uncounted_of F.state self.old) (uncounted_of F.state self.new) result }
-        ensures count { self.new.calls ≡ self.old.calls }
-        ensures stale { Settles result (uncounted_of F.state self.new) }
-        ensures answers { AnswersBy (refusal (uncounted_of F.state self.old) block (length bytes.now)) result }
-        ensures stores { UnlessFailed result (Stores self.old.used self.old.end (live_pages (uncounted_of F.state self.old)) (length bytes.now) self.old.sector
-            (F.state self.old.flash) (F.state self.new.flash)) }
-        ensures even { UnlessFlash result (StaysEven self.old.used (F.state self.old.flash) (F.state self.new.flash)) }
-    {
-        self.make_room(block, bytes.len() as u16)?;
-        self.append(block, bytes, valid)
-    }
-
     // Gives a block these bytes, or makes it invalid.
     fn put(&mut self, block: u16, bytes: &[u8], valid: bool) -> Result<(), BlockFault>
         requires number { Contains (uncounted_of F.state self.old).numbers block }
@@ -323,7 +304,8 @@ impl<F: Flash> Fee<F> {
         ensures even { UnlessFlash result (StaysEven self.old.used (F.state self.old.flash) (F.state self.new.flash)) }
     {
         self.settle()?;
-        self.store(block, bytes, valid)
+        self.make_room(block, bytes.len() as u16)?;
+        self.append(block, bytes, valid)
     }
 
     // The place of a block's current record, if it has one.
@@ -333,29 +315,6 @@ impl<F: Flash> Fee<F> {
         ensures { IsAt (sector_at (F.state self.now.flash).image self.now.sector) self.now.used ((uncounted_of F.state self.now).value block) result }
     {
         place_of(&self.numbers, &self.places, block)
-    }
-
-    // Reads a block of a driver that is not stale.
-    fn find(&mut self, block: u16, out: &mut [u8; 128]) -> Result<Found, BlockFault>
-        requires not_stale { IsFalse (uncounted_of F.state self.old).is_stale }
-        requires number { Contains (uncounted_of F.state self.old).numbers block }
-        ensures found { IfOk result (λ found. ReadsContent ((uncounted_of F.state self.old).value block) found out.old out.new) }
-        ensures nothing { OnErr result (out.new ≡ out.old) }
-        ensures values { SameValues (uncounted_of F.state self.old) (uncounted_of F.state self.new) }
-        ensures spent { SameSpent (uncounted_of F.state self.old) (uncounted_of F.state self.new) }
-        ensures calls { Calls (uncounted_of F.state self.old) (uncounted_of F.state self.new) result }
-        ensures count { self.new.calls ≡ self.old.calls }
-        ensures never_full { NeverFull result }
-        ensures stale { IsFalse (uncounted_of F.state self.new).is_stale }
-        ensures image { SameImage (uncounted_of F.state self.old) (uncounted_of F.state self.new) }
-        ensures spends { OnOk result (SpendsAtMost (byte_pages (size_of ((uncounted_of F.state self.old).value block))) (F.state self.old.flash)
-            (F.state self.new.flash)) }
-        ensures even { StaysEven self.old.used (F.state self.old.flash) (F.state self.new.flash) }
-    {
-        match self.place(block) {
-            None => Ok(Found::Missing),
-            Some(place) => self.take(place, out),
-        }
     }
 
     // Reads the record at a place.
@@ -503,7 +462,10 @@ impl<F: Bench> Blocks for Fee<F> {
     {
         self.calls = self.calls.saturating_add(1);
         self.settle()?;
-        self.find(block, out)
+        match self.place(block) {
+            None => Ok(Found::Missing),
+            Some(place) => self.take(place, out),
+        }
     }
 
     fn look_up(&self, block: u16) -> Found {

@@ -1,63 +1,107 @@
-use Rattle.std.proofs.Common.{Option, length, subst}
+use Rattle.std.proofs.Common.{◌≡◌, Option, Result, Err, length, sym, ◌∙◌, subst, arith}
 use Rattle.flt_flash.specs.Blocks.{live_pages}
 use Rattle.flt_flash.specs.declared.blocks.BlockFault.{BlockFault}
+use Rattle.flt_pages.specs.LogHolds.{asked_of}
 use Rattle.flt_fee.specs.declared.fee.Fee.{Fee}
-use Rattle.flt_fee.specs.Costs.{Stores, UnlessFailed}
-use Rattle.flt_fee.specs.Fee.{state_by}
-use Rattle.flt_fee.specs.Refusal.{AnswersBy}
-use Rattle.flt_flash.proofs.CallsInARow.{calls_after}
-use Rattle.flt_fee.proofs.Costing.{put_costs, store_costs, unless}
+use Rattle.flt_fee.specs.Costs.{MakesRoom, Stores}
+use Rattle.flt_fee.specs.Fee.{uncounted_of}
+use Rattle.flt_fee.specs.Refusal.{refusal, AnswersBy}
+use Rattle.flt_flash.proofs.CallsInARow.{calls_after, more_calls}
+use Rattle.flt_fee.proofs.Costing.{put_costs, store_costs, stored_behind, unless}
 use Rattle.flt_fee.proofs.Refusing.{past_is}
-use Rattle.flt_fee.proofs.Putting.{same_refusal}
-use Rattle.flt_fee.specs.Wear.{StaysEven}
-use Rattle.flt_fee.proofs.Wearing.{even_on, unless_map, used_same}
+use Rattle.flt_fee.proofs.Putting.{same_refusal, values_on, changes_on, not_refused}
+use Rattle.flt_fee.specs.Wear.{StaysEven, UnlessFlash}
+use Rattle.flt_fee.proofs.Wearing.{even_on, unless_any, unless_map, used_same}
 use Rattle.flt_fee.proofs.fee.Fee.put.Goals as goal
+
+pub returns-in_err-make_room-clause-answers : goal.returns-in_err-make_room-clause-answers
+returns-in_err-make_room-clause-answers g c =
+    let before = uncounted_of g.F.Flash.state c.args.self.now in
+    let settled = uncounted_of g.F.Flash.state c.settle.new.self in
+    let same = same_refusal before settled c.args.block (length c.args.bytes.now) c.in_ok-settle.ensures.calls.follows.numbers c.in_ok-settle.ensures.calls.follows.room c.in_ok-settle.ensures.values (c.in_ok-settle.ensures.stuck c.args.block (length c.args.bytes.now)) in
+    let told : c.from_residual-in_err-make_room.result ≡ Err c.in_err-make_room.field-0.0 = grind arith in
+    subst (λ (result : Result (Unit {0}) BlockFault). AnswersBy (refusal before c.args.block (length c.args.bytes.now)) result) (sym told)
+    (subst (λ (refused : Option BlockFault). AnswersBy refused (Err c.in_err-make_room.field-0.0)) same c.in_err-make_room.ensures.answers)
+
+pub returns-in_err-make_room-clause-even : goal.returns-in_err-make_room-clause-even
+returns-in_err-make_room-clause-even g c =
+    let old = c.args.self.now in
+    let settled = c.settle.new.self in
+    let new = c.make_room.new.self in
+    let same = used_same settled.used old.used settled.least old.least c.in_ok-settle.ensures.calls.follows.room in
+    let told : c.from_residual-in_err-make_room.result ≡ Err c.in_err-make_room.field-0.0 = grind arith in
+    unless_map c.from_residual-in_err-make_room.result (StaysEven settled.used (g.F.Flash.state settled.flash) (g.F.Flash.state new.flash)) (StaysEven old.used (g.F.Flash.state old.flash) (g.F.Flash.state new.flash))
+    (λ two. even_on old.used (g.F.Flash.state old.flash) (g.F.Flash.state settled.flash) (g.F.Flash.state new.flash) c.in_ok-settle.ensures.even
+    (subst (λ n. StaysEven n (g.F.Flash.state settled.flash) (g.F.Flash.state new.flash)) same two))
+    (subst (λ (result : Result (Unit {0}) BlockFault). UnlessFlash result (StaysEven settled.used (g.F.Flash.state settled.flash) (g.F.Flash.state new.flash))) (sym told) c.in_err-make_room.ensures.even)
+
+pub returns-clause-changes : goal.returns-clause-changes
+returns-clause-changes g c =
+    let before = uncounted_of g.F.Flash.state c.args.self.now in
+    let settled = uncounted_of g.F.Flash.state c.settle.new.self in
+    let roomy = uncounted_of g.F.Flash.state c.make_room.new.self in
+    let after = uncounted_of g.F.Flash.state c.append.new.self in
+    changes_on before roomy after c.args.block (asked_of c.args.valid c.args.bytes.now) (length c.args.bytes.now) c.append.result
+    (values_on before settled roomy c.in_ok-settle.ensures.values c.in_ok-make_room.ensures.values) c.append.ensures.never_full c.append.ensures.changes
+
+pub returns-clause-calls : goal.returns-clause-calls
+returns-clause-calls g c =
+    let before = uncounted_of g.F.Flash.state c.args.self.now in
+    let settled = uncounted_of g.F.Flash.state c.settle.new.self in
+    let roomy = uncounted_of g.F.Flash.state c.make_room.new.self in
+    let after = uncounted_of g.F.Flash.state c.append.new.self in
+    calls_after before roomy after c.append.result (more_calls before settled roomy c.in_ok-settle.ensures.calls.follows c.in_ok-make_room.ensures.calls.follows) c.append.ensures.calls
 
 pub returns-clause-answers : goal.returns-clause-answers
 returns-clause-answers g c =
-    let old = c.args.self.now in
-    let new = c.settle.new.self in
-    let before = state_by old.used old.numbers old.is_stale old.has_mounted (g.F.Flash.state old.flash) in
-    let after = state_by new.used new.numbers new.is_stale new.has_mounted (g.F.Flash.state new.flash) in
-    let same = same_refusal before after c.args.block (length c.args.bytes.now) c.in_ok-settle.ensures.calls.follows.numbers c.in_ok-settle.ensures.calls.follows.room c.in_ok-settle.ensures.values (c.in_ok-settle.ensures.stuck c.args.block (length c.args.bytes.now)) in
-    subst (λ (refused : Option BlockFault). AnswersBy refused c.store.result) same c.store.ensures.answers
-
-pub returns-clause-costs : goal.returns-clause-costs
-returns-clause-costs g c =
-    let old = c.args.self.now in
-    let middle = c.settle.new.self in
-    let new = c.store.new.self in
-    let before = state_by old.used old.numbers old.is_stale old.has_mounted (g.F.Flash.state old.flash) in
-    let settled = state_by middle.used middle.numbers middle.is_stale middle.has_mounted (g.F.Flash.state middle.flash) in
-    let after = state_by new.used new.numbers new.is_stale new.has_mounted (g.F.Flash.state new.flash) in
-    put_costs old.used new.used old.numbers new.numbers (g.F.Flash.state old.flash) (g.F.Flash.state new.flash) (g.met.F.Flash.shape old.flash) old.least old.end (live_pages before) (length c.args.bytes.now) old.sector old.sectors
-    old.is_stale old.has_mounted new.is_stale new.has_mounted c.store.result old.mounted.mounted
-    (calls_after before settled after c.store.result c.in_ok-settle.ensures.calls.follows c.store.ensures.calls)
-    (λ fresh. subst (λ (fee : Fee g.row.F.Denot g.F.Flash). UnlessFailed c.store.result (Stores fee.used fee.end (live_pages (state_by fee.used fee.numbers fee.is_stale fee.has_mounted (g.F.Flash.state fee.flash))) (length c.args.bytes.now) fee.sector (g.F.Flash.state fee.flash) (g.F.Flash.state new.flash)))
-    (c.in_ok-settle.ensures.nothing fresh).1 c.store.ensures.stores)
+    let before = uncounted_of g.F.Flash.state c.args.self.now in
+    let settled = uncounted_of g.F.Flash.state c.settle.new.self in
+    let same = same_refusal before settled c.args.block (length c.args.bytes.now) c.in_ok-settle.ensures.calls.follows.numbers c.in_ok-settle.ensures.calls.follows.room c.in_ok-settle.ensures.values (c.in_ok-settle.ensures.stuck c.args.block (length c.args.bytes.now)) in
+    not_refused (refusal before c.args.block (length c.args.bytes.now)) c.append.result (sym same ∙ c.in_ok-make_room.ensures.answers) c.append.ensures.never_full
 
 pub returns-clause-stores : goal.returns-clause-stores
 returns-clause-stores g c =
     let old = c.args.self.now in
-    let middle = c.settle.new.self in
-    let new = c.store.new.self in
-    let before = state_by old.used old.numbers old.is_stale old.has_mounted (g.F.Flash.state old.flash) in
-    let settled = state_by middle.used middle.numbers middle.is_stale middle.has_mounted (g.F.Flash.state middle.flash) in
-    let after = state_by new.used new.numbers new.is_stale new.has_mounted (g.F.Flash.state new.flash) in
-    λ fresh none. (let stores = subst (λ (fee : Fee g.row.F.Denot g.F.Flash). UnlessFailed c.store.result (Stores fee.used fee.end (live_pages (state_by fee.used fee.numbers fee.is_stale fee.has_mounted (g.F.Flash.state fee.flash))) (length c.args.bytes.now) fee.sector (g.F.Flash.state fee.flash) (g.F.Flash.state new.flash)))
-    (c.in_ok-settle.ensures.nothing fresh).1 c.store.ensures.stores in
+    let roomy = c.make_room.new.self in
+    let new = c.append.new.self in
+    let before = uncounted_of g.F.Flash.state old in
+    let settled = uncounted_of g.F.Flash.state c.settle.new.self in
+    let after = uncounted_of g.F.Flash.state new in
+    λ fresh none. (let made = subst (λ (fee : Fee g.row.F.Denot g.F.Flash). MakesRoom fee.used fee.end (live_pages (uncounted_of g.F.Flash.state fee)) (length c.args.bytes.now) fee.sector (g.F.Flash.state fee.flash) (g.F.Flash.state roomy.flash))
+    (c.in_ok-settle.ensures.nothing fresh).1 c.in_ok-make_room.ensures.made in
     store_costs old.used new.used old.numbers new.numbers (g.F.Flash.state old.flash) (g.F.Flash.state new.flash) (g.met.F.Flash.shape old.flash) old.end (length c.args.bytes.now) old.sector old.sectors
     old.is_stale old.has_mounted new.is_stale new.has_mounted
-    (unless before after c.store.result (Stores old.used old.end (live_pages before) (length c.args.bytes.now) old.sector (g.F.Flash.state old.flash) (g.F.Flash.state new.flash))
-    (calls_after before settled after c.store.result c.in_ok-settle.ensures.calls.follows c.store.ensures.calls) (old.mounted.mounted fresh) none stores)
+    (unless before after c.append.result (Stores old.used old.end (live_pages before) (length c.args.bytes.now) old.sector (g.F.Flash.state old.flash) (g.F.Flash.state new.flash))
+    (calls_after before (uncounted_of g.F.Flash.state roomy) after c.append.result (more_calls before settled (uncounted_of g.F.Flash.state roomy) c.in_ok-settle.ensures.calls.follows c.in_ok-make_room.ensures.calls.follows) c.append.ensures.calls)
+    (old.mounted.mounted fresh) none
+    (stored_behind old.used old.end (live_pages before) (length c.args.bytes.now) old.sector (g.F.Flash.state old.flash) (g.F.Flash.state roomy.flash) (g.F.Flash.state new.flash) made c.append.result c.append.ensures.never_full c.append.ensures.spends))
     _ (past_is old.is_stale old.has_mounted fresh old.used old.numbers (g.F.Flash.state old.flash) old.sector old.sequence old.end old.least old.distinct old.mounted (length c.args.bytes.now)))
+
+pub returns-clause-costs : goal.returns-clause-costs
+returns-clause-costs g c =
+    let old = c.args.self.now in
+    let roomy = c.make_room.new.self in
+    let new = c.append.new.self in
+    let before = uncounted_of g.F.Flash.state old in
+    let settled = uncounted_of g.F.Flash.state c.settle.new.self in
+    let after = uncounted_of g.F.Flash.state new in
+    put_costs old.used new.used old.numbers new.numbers (g.F.Flash.state old.flash) (g.F.Flash.state new.flash) (g.met.F.Flash.shape old.flash) old.least old.end (live_pages before) (length c.args.bytes.now) old.sector old.sectors
+    old.is_stale old.has_mounted new.is_stale new.has_mounted c.append.result old.mounted.mounted
+    (calls_after before (uncounted_of g.F.Flash.state roomy) after c.append.result (more_calls before settled (uncounted_of g.F.Flash.state roomy) c.in_ok-settle.ensures.calls.follows c.in_ok-make_room.ensures.calls.follows) c.append.ensures.calls)
+    (λ fresh. stored_behind old.used old.end (live_pages before) (length c.args.bytes.now) old.sector (g.F.Flash.state old.flash) (g.F.Flash.state roomy.flash) (g.F.Flash.state new.flash)
+    (subst (λ (fee : Fee g.row.F.Denot g.F.Flash). MakesRoom fee.used fee.end (live_pages (uncounted_of g.F.Flash.state fee)) (length c.args.bytes.now) fee.sector (g.F.Flash.state fee.flash) (g.F.Flash.state roomy.flash))
+    (c.in_ok-settle.ensures.nothing fresh).1 c.in_ok-make_room.ensures.made) c.append.result c.append.ensures.never_full c.append.ensures.spends)
 
 pub returns-clause-even : goal.returns-clause-even
 returns-clause-even g c =
     let old = c.args.self.now in
-    let middle = c.settle.new.self in
-    let new = c.store.new.self in
-    let same = used_same middle.used old.used middle.least old.least c.in_ok-settle.ensures.calls.follows.room in
-    unless_map c.store.result (StaysEven middle.used (g.F.Flash.state middle.flash) (g.F.Flash.state new.flash)) (StaysEven old.used (g.F.Flash.state old.flash) (g.F.Flash.state new.flash))
-    (λ two. even_on old.used (g.F.Flash.state old.flash) (g.F.Flash.state middle.flash) (g.F.Flash.state new.flash) c.in_ok-settle.ensures.even
-    (subst (λ n. StaysEven n (g.F.Flash.state middle.flash) (g.F.Flash.state new.flash)) same two)) c.store.ensures.even
+    let settled = c.settle.new.self in
+    let roomy = c.make_room.new.self in
+    let new = c.append.new.self in
+    let one = used_same settled.used old.used settled.least old.least c.in_ok-settle.ensures.calls.follows.room in
+    let two = used_same roomy.used settled.used roomy.least settled.least c.in_ok-make_room.ensures.calls.follows.room in
+    unless_any c.append.result (StaysEven old.used (g.F.Flash.state old.flash) (g.F.Flash.state new.flash))
+    (even_on old.used (g.F.Flash.state old.flash) (g.F.Flash.state settled.flash) (g.F.Flash.state new.flash) c.in_ok-settle.ensures.even
+    (even_on old.used (g.F.Flash.state settled.flash) (g.F.Flash.state roomy.flash) (g.F.Flash.state new.flash)
+    (subst (λ n. StaysEven n (g.F.Flash.state settled.flash) (g.F.Flash.state roomy.flash)) one c.in_ok-make_room.ensures.even)
+    (subst (λ n. StaysEven n (g.F.Flash.state roomy.flash) (g.F.Flash.state new.flash)) (two ∙ one) c.append.ensures.even)))
