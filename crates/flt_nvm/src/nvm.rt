@@ -1,8 +1,10 @@
 //! Blocks by identifier.
-ghost use Rattle.std.specs.Prelude.{◌↔◌, ◌≤◌, ℕ, IsTrue, length};
+ghost use Rattle.std.specs.Prelude.{◌≡◌, ◌↔◌, ◌≤◌, ℕ, List, IsTrue, length};
+ghost use Rattle.flt_flash.specs.Content.{Content, invalid, bytes as holding};
 ghost use Rattle.flt_nvm.specs.Table.{serves, IsRedundant, NoneFrom};
+ghost use Rattle.flt_nvm.specs.Leaves.{GotOf};
 
-use crate::got::{Got, holds};
+use crate::got::Got;
 use crate::job;
 use crate::table::{BlockCfg, is_redundant, redundant_rows};
 use flt_flash::{Arm, BlockFault, Blocks, Found};
@@ -19,9 +21,18 @@ pub struct Nvm<B: Blocks + Drop> {
     ghost none: { NoneFrom redundant_rows table.items },
 }
 
+// Whether these are the bytes of a content that was read to the start of `out`.
+fn holds(got: Got, out: &[u8; 128], bytes: &[u8]) -> bool
+    ensures { (copy : ℕ) (content : Content) (before : List ℕ) → GotOf copy content got before out.now → IsTrue result ↔ (content ≡ holding bytes.now) }
+{
+    match got {
+        Got::Bytes { length, .. } if length <= out.len() => &out[..length] == bytes,
+        _ => false,
+    }
+}
+
 impl<B: Blocks + Drop> Nvm<B> {
-    ghost use Rattle.std.specs.Prelude.{◌≡◌, ◌<◌, ◌-◌, ◌⊎◌, Some, None, Result, Contains, IsFalse, IsErrOf, IfOk, OnOk, OnErr};
-    ghost use Rattle.flt_flash.specs.Content.{invalid, bytes as holding};
+    ghost use Rattle.std.specs.Prelude.{◌<◌, ◌-◌, ◌⊎◌, Some, None, Result, Contains, IsFalse, IsErrOf, IfOk, OnOk, OnErr};
     ghost use Rattle.flt_flash.specs.State.{CanArm, HasRisenBy};
     ghost use Rattle.flt_flash.specs.Calls.{ArmsDriver, Follows, NeverFull, PowersUpDriver, ReadCosts, SameImage, SameSpent, SameValues, found_of};
     ghost use Rattle.flt_flash.specs.declared.blocks.BlockFault.{BlockFault};

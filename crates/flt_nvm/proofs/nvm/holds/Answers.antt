@@ -2,7 +2,7 @@ use Rattle.std.proofs.Common.{subst}
 use Rattle.flt_nvm.specs.declared.got.Got.{Got}
 use Rattle.flt_nvm.specs.Leaves.{GotOf}
 use Rattle.flt_nvm.proofs.Found.{is_held}
-use Rattle.flt_nvm.proofs.got.holds.Goals as goal
+use Rattle.flt_nvm.proofs.nvm.holds.Goals as goal
 
 pub returns-in-Bytes : goal.returns-in-Bytes
 returns-in-Bytes c = λ copy content before got.
