@@ -7,7 +7,7 @@ use Rattle.flt_flash.specs.Blocks.{BlocksState}
 use Rattle.flt_config.specs.declared.config.Config.{Config}
 use Rattle.flt_config.specs.declared.persist.Persist.{Persist}
 use Rattle.flt_generation.specs.Layout.{number_of, commit_id, first_commit, second_commit}
-use Rattle.flt_generation.specs.Form.{IsBytesOfCommit}
+use Rattle.flt_generation.specs.Reading.{commit_in}
 use Rattle.flt_generation.specs.Holding.{Generation, Fault, held_by, either_copy, only_bytes}
 use Rattle.flt_restore.specs.declared.commit.CommitCopy.{CommitCopy}
 use Rattle.flt_restore.specs.declared.fault.StartFault.{StartFault}
@@ -18,21 +18,21 @@ use Rattle.flt_restore.proofs.Telling.{same_values}
 use Rattle.flt_restore.specs.Restored.{HasBytes, IsJudged, generation, IsCopy, IsCommitOf, IsRestored, Refuses}
 
 -- ---- the copy that was read
-copy_is : (value : ℕ → Content) (found : CommitCopy) (raw : List ℕ) → raw ≡ found.bytes.items → IsBytesOfCommit found.commit found.bytes.items
-    → ((found.copy ≡ 1) × (value first_commit ≡ bytes raw)) ⊎ ((found.copy ≡ 2) × (value second_commit ≡ bytes raw)) → IsCopy value found
-copy_is value found raw same form (inl first) =
+copy_is : (c : Config) (value : ℕ → Content) (found : CommitCopy) (raw : List ℕ) → raw ≡ found.bytes.items → commit_in c found.bytes.items ≡ Some found.commit
+    → ((found.copy ≡ 1) × (value first_commit ≡ bytes raw)) ⊎ ((found.copy ≡ 2) × (value second_commit ≡ bytes raw)) → IsCopy c value found
+copy_is c value found raw same read (inl first) =
     let place : number_of commit_id (found.copy - 1) ≡ 16 = omega (arith, first.0) in
-    record { least = omega (arith, first.0); most = omega (arith, first.0); holds = ap value place ∙ first.1 ∙ ap bytes same; form = form }
-copy_is value found raw same form (inr second) =
+    record { least = omega (arith, first.0); most = omega (arith, first.0); holds = ap value place ∙ first.1 ∙ ap bytes same; read = read }
+copy_is c value found raw same read (inr second) =
     let place : number_of commit_id (found.copy - 1) ≡ 17 = omega (arith, second.0) in
-    record { least = omega (arith, second.0); most = omega (arith, second.0); holds = ap value place ∙ second.1 ∙ ap bytes same; form = form }
+    record { least = omega (arith, second.0); most = omega (arith, second.0); holds = ap value place ∙ second.1 ∙ ap bytes same; read = read }
 
-pub commit_by_either : (value : ℕ → Content) (content : Content) (copy : ℕ) (commit : Option CommitCopy) → content ≡ either_copy (value first_commit) (value second_commit)
-    → IsOfCopy (value first_commit) (value second_commit) content copy → IsReadFrom content copy commit → IsCommitOf value (either_copy (value first_commit) (value second_commit)) commit
-commit_by_either value content copy None is from read = sym is ∙ read
-commit_by_either value content copy (Some found) is from read = (
+pub commit_by_either : (c : Config) (value : ℕ → Content) (content : Content) (copy : ℕ) (commit : Option CommitCopy) → content ≡ either_copy (value first_commit) (value second_commit)
+    → IsOfCopy (value first_commit) (value second_commit) content copy → IsReadFrom c content copy commit → IsCommitOf c value (either_copy (value first_commit) (value second_commit)) commit
+commit_by_either c value content copy None is from read = sym is ∙ read
+commit_by_either c value content copy (Some found) is from read = (
   sym is ∙ read.1,
-  copy_is value found found.bytes.items refl read.2
+  copy_is c value found found.bytes.items refl read.2
       (subst (λ (n : ℕ). ((n ≡ 1) × (value first_commit ≡ bytes found.bytes.items)) ⊎ ((n ≡ 2) × (value second_commit ≡ bytes found.bytes.items))) (sym read.0) (from found.bytes.items read.1)),
 )
 
@@ -41,12 +41,12 @@ no_bytes missing is has = has
 no_bytes invalid is has = has
 no_bytes (bytes raw) is has = cc
 
-pub commit_by_second : (value : ℕ → Content) (content : Content) (commit : Option CommitCopy) → content ≡ value second_commit → HasBytes content → IsReadFrom content 2 commit
-    → IsCommitOf value (only_bytes (value second_commit)) commit
-commit_by_second value content None is has read = absurd (no_bytes content read has)
-commit_by_second value content (Some found) is has read =
+pub commit_by_second : (c : Config) (value : ℕ → Content) (content : Content) (commit : Option CommitCopy) → content ≡ value second_commit → HasBytes content → IsReadFrom c content 2 commit
+    → IsCommitOf c value (only_bytes (value second_commit)) commit
+commit_by_second c value content None is has read = absurd (no_bytes content read has)
+commit_by_second c value content (Some found) is has read =
     let here : value second_commit ≡ bytes found.bytes.items = sym is ∙ read.1 in
-    (ap only_bytes here, copy_is value found found.bytes.items refl read.2 (inr (read.0, here)))
+    (ap only_bytes here, copy_is c value found found.bytes.items refl read.2 (inr (read.0, here)))
 
 pub only_itself : (content : Content) → HasBytes content → only_bytes content ≡ content
 only_itself missing has = absurd has
@@ -87,12 +87,12 @@ module _ (c : Config) (start before after : BlocksState) (values : before.value 
   pub spent : (g : Generation) → held_by c before.value content ≡ Ok g → IsTrue after.is_spent → Refuses c start after SequenceSpent
   spent g is last = ((g, judged (Ok g) is), last)
 
-  pub restores : (commit : Option CommitCopy) (state : Persist) → held_by c before.value content ≡ Ok (generation commit state) → IsReadFrom content copy commit → IsRestored c start after commit state
+  pub restores : (commit : Option CommitCopy) (state : Persist) → held_by c before.value content ≡ Ok (generation commit state) → IsReadFrom c content copy commit → IsRestored c start after commit state
   restores commit state is from = elim source [
-    | inl either ↦ inl (ap (held_by c start.value) (sym either.0) ∙ held_there (Ok (generation commit state)) is, commit_by_either start.value content copy commit either.0 either.1 from)
+    | inl either ↦ inl (ap (held_by c start.value) (sym either.0) ∙ held_there (Ok (generation commit state)) is, commit_by_either c start.value content copy commit either.0 either.1 from)
     | inr second ↦ inr (
       ap (held_by c start.value) (ap only_bytes (sym second.0) ∙ only_itself content second.1) ∙ held_there (Ok (generation commit state)) is,
-      commit_by_second start.value content commit second.0 second.1 (subst (λ (n : ℕ). IsReadFrom content n commit) second.2 from),
+      commit_by_second c start.value content commit second.0 second.1 (subst (λ (n : ℕ). IsReadFrom c content n commit) second.2 from),
       subst HasBytes second.0 second.1,
       omega (arith, counts, second.3),
     )

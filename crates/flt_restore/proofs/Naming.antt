@@ -8,7 +8,7 @@ use Rattle.flt_config.specs.declared.persist.Persist.{Persist}
 use Rattle.flt_config.specs.Durable.{initial_state}
 use Rattle.flt_generation.specs.declared.commit.Commit.{Commit}
 use Rattle.flt_generation.specs.Layout.{commit_id, mark_number, parts}
-use Rattle.flt_generation.specs.Form.{IsCommit, IsBytesOfCommit}
+use Rattle.flt_generation.specs.Form.{IsCommit}
 use Rattle.flt_generation.specs.Reading.{commit_in}
 use Rattle.flt_generation.specs.Holding.{Generation, Fault, damaged_at, ◌>>=◌, marked, parts_read, generation_of, named, applications_judged, excess_judged, held_by}
 use Rattle.flt_generation.proofs.ImageLaws.{commits_are_read}
@@ -43,8 +43,8 @@ module _ (c : Config) (value : ℕ → Content) where
       subst (λ (r : Result Generation Fault). Tells c before after r fault) (sym (named_bytes raw (Some commit) (sym is)))
       (tells_first c before after (parts_read c value commit parts) (λ state. Ok (record { number = commit.generation; state = state })) fault tells)
 
-pub read_form : (c : Config) (raw : List ℕ) (commit : Commit) → Some commit ≡ commit_in c raw → IsCommit c commit × IsBytesOfCommit commit raw
-read_form c raw commit is = (commits_are_read c raw commit).0 (sym is)
+pub read_form : (c : Config) (raw : List ℕ) (commit : Commit) → Some commit ≡ commit_in c raw → IsCommit c commit
+read_form c raw commit is = ((commits_are_read c raw commit).0 (sym is)).0
 
 -- The steps of an image.
 module _ (c : Config) (value : ℕ → Content) (commit : Content) where

@@ -11,8 +11,8 @@ use Rattle.flt_nvm.specs.declared.table.Kind.{Kind}
 use Rattle.flt_nvm.specs.declared.table.Kind.TheVariants.{Native, Redundant, Dataset}
 use Rattle.flt_nvm.specs.Table.{block_in}
 use Rattle.flt_image.specs.Table.{block_table}
-use Rattle.flt_restore.specs.declared.content.Held.{Held}
-use Rattle.flt_restore.specs.declared.content.Held.TheVariants.{Missing, Invalid, Bytes}
+use Rattle.flt_restore.specs.declared.reading.Held.{Held}
+use Rattle.flt_restore.specs.declared.reading.Held.TheVariants.{Missing, Invalid, Bytes}
 
 -- What a block holds, by what was read of it.
 abbrev pub content_of : Held → Content

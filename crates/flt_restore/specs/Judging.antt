@@ -6,7 +6,8 @@ use Rattle.flt_flash.specs.State.{HasRisenBy}
 use Rattle.flt_flash.specs.Blocks.{BlocksState, pages_of}
 use Rattle.flt_config.specs.declared.config.Config.{Config}
 use Rattle.flt_generation.specs.Layout.{number_of, first_commit, second_commit, first_part, first_application, application_number}
-use Rattle.flt_generation.specs.Form.{mark_of, IsBytesOfCommit}
+use Rattle.flt_generation.specs.Form.{mark_of}
+use Rattle.flt_generation.specs.Reading.{commit_in}
 use Rattle.flt_generation.specs.Excess.{own_pages}
 use Rattle.flt_generation.specs.Holding.{Fault, damaged, other, damaged_at, either_copy, is_application}
 use Rattle.flt_restore.specs.declared.commit.CommitCopy.{CommitCopy}
@@ -48,9 +49,9 @@ abbrev pub application_judged : (ℕ → Content) → ℕ → Result (Unit {0}) 
 application_judged value block = if is_application (value (application_number block)) then Ok tt else damaged_at (first_application + block)
 
 -- A commit was read from these bytes of this copy; no commit if the copy is missing.
-abbrev pub IsReadFrom : Content → ℕ → Option CommitCopy → Type 0
-IsReadFrom content copy None = content ≡ missing
-IsReadFrom content copy (Some found) = (found.copy ≡ copy) × (content ≡ bytes found.bytes.items) × IsBytesOfCommit found.commit found.bytes.items
+abbrev pub IsReadFrom : Config → Content → ℕ → Option CommitCopy → Type 0
+IsReadFrom c content copy None = content ≡ missing
+IsReadFrom c content copy (Some found) = (found.copy ≡ copy) × (content ≡ bytes found.bytes.items) × (commit_in c found.bytes.items ≡ Some found.commit)
 
 -- The bytes are those of the named copy, the first or the second.
 abbrev pub IsOfCopy : Content → Content → Content → ℕ → Type 0

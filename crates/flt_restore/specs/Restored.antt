@@ -7,7 +7,8 @@ use Rattle.flt_config.specs.declared.config.Config.{Config}
 use Rattle.flt_config.specs.declared.persist.Persist.{Persist}
 use Rattle.flt_generation.specs.declared.mark.Mark.{Mark}
 use Rattle.flt_generation.specs.Layout.{commit_id, number_of, first_commit, second_commit}
-use Rattle.flt_generation.specs.Form.{mark_of, IsBytesOfCommit, mark_bytes_1}
+use Rattle.flt_generation.specs.Form.{mark_of, mark_bytes_1}
+use Rattle.flt_generation.specs.Reading.{commit_in}
 use Rattle.flt_generation.specs.Holding.{Generation, Fault, damaged, other, held, spare, either_copy, only_bytes}
 use Rattle.flt_restore.specs.declared.commit.CommitCopy.{CommitCopy}
 use Rattle.flt_restore.specs.declared.fault.StartFault.{StartFault}
@@ -30,25 +31,25 @@ abbrev pub generation : Option CommitCopy → Persist → Generation
 generation None state = record { number = 0; state = state }
 generation (Some found) state = record { number = found.commit.generation; state = state }
 
--- The copy has the bytes of its commit.
-pub record IsCopy (value : ℕ → Content) (found : CommitCopy) : Type 0 where
+-- The copy has these bytes, from which this commit is read.
+pub record IsCopy (c : Config) (value : ℕ → Content) (found : CommitCopy) : Type 0 where
   pub least : 1 ≤ found.copy
   pub most : found.copy ≤ 2
   pub holds : value (number_of commit_id (found.copy - 1)) ≡ bytes found.bytes.items
-  pub form : IsBytesOfCommit found.commit found.bytes.items
+  pub read : commit_in c found.bytes.items ≡ Some found.commit
 
 -- The commit that this content of a copy has; none if it is missing.
-abbrev pub IsCommitOf : (ℕ → Content) → Content → Option CommitCopy → Type 0
-IsCommitOf value content None = content ≡ missing
-IsCommitOf value content (Some found) = (content ≡ bytes found.bytes.items) × IsCopy value found
+abbrev pub IsCommitOf : Config → (ℕ → Content) → Content → Option CommitCopy → Type 0
+IsCommitOf c value content None = content ≡ missing
+IsCommitOf c value content (Some found) = (content ≡ bytes found.bytes.items) × IsCopy c value found
 
 -- The image holds the generation of this commit and state; or, if the flash failed three times, it does so by the second copy of
 -- its commit, which has bytes; the commit is that of the copy that decides.
 abbrev pub IsRestored : Config → BlocksState → BlocksState → Option CommitCopy → Persist → Type 0
 IsRestored c before after commit state =
     ((held c before.value ≡ Ok (generation commit state))
-    × IsCommitOf before.value (either_copy (before.value first_commit) (before.value second_commit)) commit)
-    ⊎ ((spare c before.value ≡ Ok (generation commit state)) × IsCommitOf before.value (only_bytes (before.value second_commit)) commit
+    × IsCommitOf c before.value (either_copy (before.value first_commit) (before.value second_commit)) commit)
+    ⊎ ((spare c before.value ≡ Ok (generation commit state)) × IsCommitOf c before.value (only_bytes (before.value second_commit)) commit
     × HasBytes (before.value second_commit) × HasRisenBy 3 before.device.faults after.device.faults)
 
 -- A mark that has to be written: it is missing, or in version 1.

@@ -12,11 +12,10 @@ ghost use Rattle.flt_restore.specs.Judging.{IsReadFrom, Tells};
 ghost use Rattle.flt_restore.specs.Restored.{generation};
 
 use crate::commit::CommitCopy;
-use crate::content::Held;
 use crate::fault::StartFault;
 use crate::judging::{damaged, judge_mark};
 use crate::lengths::{judge_applications, judge_excess};
-use crate::reading::{CommitRead, read_content};
+use crate::reading::{CommitRead, Held, read_content};
 use flt_config::{Persist, ValidConfig, put_initial};
 use flt_flash::Blocks;
 use flt_generation::{COMMIT_ID, Commit, END_PART, FIRST_PART};
@@ -96,7 +95,7 @@ fn read_generation<B: Blocks + Drop>(
     requires table { table_of nvm.old ≡ block_table }
     requires mounted { IsTrue (driver_of nvm.old).has_mounted }
     ensures told { IfOk result (λ commit. named config.now (driver_of nvm.old).value (content_of held) ≡ Ok (generation commit out.new)) }
-    ensures source { IfOk result (λ commit. IsReadFrom (content_of held) copy commit) }
+    ensures source { IfOk result (λ commit. IsReadFrom config.now (content_of held) copy commit) }
     ensures refused { IfErr result (Tells config.now (driver_of nvm.old) (driver_of nvm.new) (named config.now (driver_of nvm.old).value (content_of held))) }
     ensures unread { IsErrOf result Flash → IsPartUnread config.now (driver_of nvm.old) (driver_of nvm.new) }
     ensures reads { Reads (driver_of nvm.old) (driver_of nvm.new) }
@@ -135,7 +134,7 @@ pub(crate) fn read_image<B: Blocks + Drop>(
     requires not_stale { IsFalse (driver_of nvm.old).is_stale }
     requires mark { content_of mark.now ≡ (driver_of nvm.old).value mark_number }
     ensures told { IfOk result (λ commit. held_by config.now (driver_of nvm.old).value (content_of source.held) ≡ Ok (generation commit out.new)) }
-    ensures source { IfOk result (λ commit. IsReadFrom (content_of source.held) source.copy commit) }
+    ensures source { IfOk result (λ commit. IsReadFrom config.now (content_of source.held) source.copy commit) }
     ensures refused { IfErr result (Tells config.now (driver_of nvm.old) (driver_of nvm.new)
         (held_by config.now (driver_of nvm.old).value (content_of source.held))) }
     ensures unread { IsErrOf result Flash → IsPartUnread config.now (driver_of nvm.old) (driver_of nvm.new) }

@@ -2,14 +2,14 @@
 ghost use Rattle.std.specs.Prelude.{◌≡◌, ◌≤◌, ◌<◌, ℕ, ◌↔◌, IsTrue};
 ghost use Rattle.flt_flash.specs.Calls.{found_of};
 ghost use Rattle.flt_flash.specs.Content.{Content};
-ghost use Rattle.flt_generation.specs.Holding.{is_same_mark, judged_mark, marked, is_application};
+ghost use Rattle.flt_generation.specs.Holding.{is_same_mark, marked, is_application};
 ghost use Rattle.flt_restore.specs.Found.{content_of};
 ghost use Rattle.flt_restore.specs.Judging.{as_told};
 ghost use Rattle.flt_generation.specs.Form.{mark_of};
 ghost use Rattle.flt_restore.specs.Restored.{IsMarkDue};
 
-use crate::content::Held;
 use crate::fault::StartFault;
+use crate::reading::Held;
 use flt_config::ValidConfig;
 use flt_flash::Found;
 use flt_generation::{APPLICATION_LENGTH, MARK_ID, Mark, Place};
@@ -28,25 +28,20 @@ fn is_same(first: &Mark, second: &Mark) -> bool
     first.id == second.id && first.events == second.events && first.entries == second.entries
 }
 
-// Whether what was read as a mark is that of the configuration.
-fn judge_own(config: &ValidConfig, read: Option<Mark>) -> Result<(), StartFault>
-    ensures { result ≡ as_told config.now (judged_mark config.now read) }
-{
-    let wanted = mark_of(config);
-    match read {
-        None => Err(damaged(MARK_ID)),
-        Some(found) if is_same(&found, &wanted) => Ok(()),
-        Some(found) => Err(StartFault::OtherConfig { found, wanted }),
-    }
-}
-
 /// The mark has to be the configuration's; it may be missing if the commit is.
 #[tactic(auto, unfolding(flt_generation::specs::Holding::marked))]
 pub(crate) fn judge_mark(config: &ValidConfig, mark: &Held, commit: &Held) -> Result<(), StartFault>
     ensures { result ≡ as_told config.now (marked config.now (content_of mark.now) (content_of commit.now)) }
 {
     match mark {
-        Held::Bytes(bytes) => judge_own(config, get_mark(bytes)),
+        Held::Bytes(bytes) => {
+            let wanted = mark_of(config);
+            match get_mark(bytes) {
+                None => Err(damaged(MARK_ID)),
+                Some(found) if is_same(&found, &wanted) => Ok(()),
+                Some(found) => Err(StartFault::OtherConfig { found, wanted }),
+            }
+        }
         Held::Invalid => Err(damaged(MARK_ID)),
         Held::Missing => match commit {
             Held::Missing => Ok(()),

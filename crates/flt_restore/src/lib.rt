@@ -8,7 +8,6 @@
 #![tactic(auto)]
 
 mod commit;
-mod content;
 mod fault;
 mod generation;
 mod judging;

@@ -8,8 +8,7 @@ ghost use Rattle.flt_generation.specs.Form.{IsCommit};
 ghost use Rattle.flt_restore.specs.Found.{content_of, Reads};
 ghost use Rattle.flt_restore.specs.Learning.{AreLearned, IsLearned, part_in};
 
-use crate::content::Held;
-use crate::reading::read_content;
+use crate::reading::{Held, read_content};
 use flt_config::ValidConfig;
 use flt_flash::Blocks;
 use flt_generation::{Commit, END_PART, FIRST_PART};

@@ -1,17 +1,51 @@
-//! Reads of a mounted driver, which fail only if the flash failed in three tries.
-ghost use Rattle.std.specs.Prelude.{◌≡◌, ◌-◌, ◌≤◌, ◌<◌, IfOk, OnOk, OnErr, IsTrue, IsFalse};
+//! Reads of a mounted driver, which fail only if the flash failed in three tries, and what they find.
+ghost use Rattle.std.specs.Prelude.{◌≡◌, ◌-◌, ◌≤◌, ◌<◌, ℕ, List, length, take, IfOk, OnOk, OnErr, IsTrue, IsFalse};
+ghost use Rattle.flt_flash.specs.Content.{Content};
 ghost use Rattle.flt_flash.specs.State.{HasRisenBy};
 ghost use Rattle.flt_nvm.specs.Driver.{driver_of, table_of};
+ghost use Rattle.flt_nvm.specs.Leaves.{GotOf};
 ghost use Rattle.flt_image.specs.Table.{block_table};
 ghost use Rattle.flt_generation.specs.Layout.{commit_id, number_of};
-ghost use Rattle.flt_restore.specs.Found.{content_of, IsSingle, Reads};
+ghost use Rattle.flt_restore.specs.Found.{content_of, IsShortRead, IsSingle, Reads};
 ghost use Rattle.flt_restore.specs.Judging.{IsSource};
 ghost use Rattle.flt_restore.specs.Unread.{FailsToRead, IsCommitUnread};
 
-use crate::content::{Held, held_in};
+use arrayvec::ArrayVec;
 use flt_flash::{Blocks, FlashFailed, Found};
 use flt_generation::COMMIT_ID;
-use flt_nvm::Nvm;
+use flt_image::BlockBytes;
+use flt_nvm::{Got, Nvm};
+
+/// What a block holds.
+#[derive(Drop)]
+pub(crate) enum Held {
+    /// The block was never written.
+    Missing,
+    /// The block was made invalid.
+    Invalid,
+    Bytes(BlockBytes),
+}
+
+fn first_bytes(out: &[u8; 128], length: usize) -> BlockBytes
+    requires { length ≤ 128 }
+    ensures { result.items ≡ take length out.now }
+{
+    let mut bytes = ArrayVec::new();
+    bytes.try_extend_from_slice(&out[..length]).unwrap();
+    bytes
+}
+
+// What was read, whose bytes are at the start of `out`.
+fn held_in(got: Got, out: &[u8; 128]) -> Held
+    requires { IsShortRead got }
+    ensures { (copy : ℕ) (content : Content) (before : List ℕ) → GotOf copy content got before out.now → content_of result ≡ content }
+{
+    match got {
+        Got::Missing => Held::Missing,
+        Got::Invalid => Held::Invalid,
+        Got::Bytes { length, .. } => Held::Bytes(first_bytes(out, length)),
+    }
+}
 
 /// Reads a block of one copy, or an index of a part.
 pub(crate) fn read_content<B: Blocks + Drop>(

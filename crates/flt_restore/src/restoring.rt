@@ -1,5 +1,5 @@
 // Start-up's reading: the image is judged block by block, in the order of its definition.
-ghost use Rattle.std.specs.Prelude.{◌≡◌, IfOk, IfErr, OnOk, Err, IsErrOf, IsTrue, IsFalse, ◌↔◌};
+ghost use Rattle.std.specs.Prelude.{◌≡◌, IfOk, Err, IsErrOf, IsTrue, IsFalse, ◌↔◌};
 ghost use Rattle.flt_flash.specs.Calls.{Follows, SameImage, SameSpent, SameValues};
 ghost use Rattle.flt_nvm.specs.Driver.{driver_of, table_of};
 ghost use Rattle.flt_image.specs.Table.{block_table};
@@ -18,19 +18,6 @@ use flt_config::{Persist, ValidConfig};
 use flt_flash::Blocks;
 use flt_generation::MARK_ID;
 use flt_nvm::Nvm;
-
-// A sequence number has to be left for the records to come.
-fn check_sequence<B: Blocks + Drop>(nvm: &Nvm<B>) -> Result<(), StartFault>
-    requires { IsFalse (driver_of nvm.now).is_stale }
-    ensures left { OnOk result (IsFalse (driver_of nvm.now).is_spent) }
-    ensures refused { IfErr result (λ fault. (fault ≡ SequenceSpent) × IsTrue (driver_of nvm.now).is_spent) }
-{
-    if nvm.spent() {
-        Err(StartFault::SequenceSpent)
-    } else {
-        Ok(())
-    }
-}
 
 /// Finds out what the image of a driver that is not stale holds: the commit by which it was judged, with its state in `out`, or
 /// `None` for the first generation; and whether its mark has to be written. It judges by copy 1 of the commit, or by copy 2 if copy 1
@@ -91,6 +78,9 @@ pub fn restore<B: Blocks + Drop>(
     ensures table { table_of nvm.new ≡ table_of nvm.old }
 {
     let found = judge(nvm, config, out)?;
-    check_sequence(nvm)?;
-    Ok(found)
+    if nvm.spent() {
+        Err(StartFault::SequenceSpent)
+    } else {
+        Ok(found)
+    }
 }

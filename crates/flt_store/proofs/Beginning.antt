@@ -1,7 +1,6 @@
 -- What a start-up makes of the generation that it judged.
 use Rattle.std.proofs.Common.{◌≡◌, ◌≢◌, inl, inr, ⊎_elim, ℕ, ◌-◌, Bool, true, false, Option, Some, None, Result, refl, sym, ◌∙◌, ap, subst, arith}
 use Rattle.std.specs.Prelude.{IsFalse}
-use Rattle.std.proofs.lemmas.Bool.{cases_eq}
 use Rattle.flt_flash.specs.Content.{Content, missing, invalid, bytes}
 use Rattle.flt_flash.specs.State.{HasRisenBy}
 use Rattle.flt_flash.specs.Blocks.{BlocksState}
@@ -19,7 +18,6 @@ use Rattle.flt_restore.specs.declared.commit.CommitCopy.{CommitCopy}
 use Rattle.flt_restore.specs.Restored.{HasBytes, IsJudged, IsCopy, IsRestored, generation}
 use Rattle.flt_store.specs.Started.{HasMark, IsStarted, IsMarkTried}
 use Rattle.flt_store.specs.Start.{Begins, IsFoundIn}
-use Rattle.flt_store.proofs.Copies.{IsAt}
 use Rattle.flt_store.proofs.Marks.{holds_marked}
 
 first_missing : (first second : Content) → either_copy first second ≡ missing → first ≡ missing
@@ -49,12 +47,12 @@ none_started c value g mark begins = record {
 
 -- What a generation begins with stays, where the mark alone was written.
 module _ (c : Config) (before after : ℕ → Content) (tried : IsMarkTried c before after) (others : (other : ℕ) → other ≢ mark_number → after other ≡ before other) where
-  copy_marked : (found : CommitCopy) → IsCopy before found → IsCopy after found
+  copy_marked : (found : CommitCopy) → IsCopy c before found → IsCopy c after found
   copy_marked found is = record {
     least = is.least;
     most = is.most;
     holds = others (number_of commit_id (found.copy - 1)) (λ same. omega (arith, same)) ∙ is.holds;
-    form = is.form;
+    read = is.read;
   }
 
   pub begins_marked : (found : Option CommitCopy) (g : Generation) → Begins c before found g → Begins c after found g
@@ -65,7 +63,7 @@ module _ (c : Config) (before after : ℕ → Content) (tried : IsMarkTried c be
   )
   begins_marked (Some found) g begins = (holds_marked c before after tried others (bytes found.bytes.items) g begins.0, copy_marked found begins.1)
 
-  pub found_marked : (found : Option CommitCopy) → IsFoundIn before found → IsFoundIn after found
+  pub found_marked : (found : Option CommitCopy) → IsFoundIn c before found → IsFoundIn c after found
   found_marked None is = tt
   found_marked (Some found) is = copy_marked found is
 
@@ -77,13 +75,6 @@ allows_of c value (Some found) g begins = (bytes found.bytes.items, begins.0.mar
 pub borne_of : (c : Config) (value : ℕ → Content) (found : Option CommitCopy) (g : Generation) → Begins c value found g → IsBorne c value
 borne_of c value None g begins = begins.0.excess
 borne_of c value (Some found) g begins = begins.0.excess
-
--- A copy that was found.
-pub copy_at : (value : ℕ → Content) (found : CommitCopy) → IsCopy value found → IsAt value found.bytes.items found.copy
-copy_at value found is = elim (cases_eq found.copy 1) [
-  | inl one ↦ inl (one, subst (λ (k : ℕ). value (number_of commit_id (k - 1)) ≡ bytes found.bytes.items) one is.holds)
-  | inr apart ↦ (let two : found.copy ≡ 2 = omega (arith, is.least, is.most, apart) in inr (two, subst (λ (k : ℕ). value (number_of commit_id (k - 1)) ≡ bytes found.bytes.items) two is.holds))
-]
 
 -- What was restored is where a start-up begins.
 begins_at : (c : Config) → IsGiven c → (before after : BlocksState) (found : Option CommitCopy) (state : Persist) → IsRestored c before after found state → Begins c before.value found (generation found state)
@@ -121,10 +112,6 @@ begun_fits c value (Some found) state begins = begins.0.names.2.fits
 
 pub restored_fits : (c : Config) → IsGiven c → (before after : BlocksState) (found : Option CommitCopy) (state : Persist) → SameValues before after → IsRestored c before after found state → Fits c state
 restored_fits c given before after found state same restored = begun_fits c after.value found state (begins_of c given before after found state same restored)
-
-pub found_in : (value : ℕ → Content) (found : Option CommitCopy) (c : Config) (g : Generation) → Begins c value found g → IsFoundIn value found
-found_in value None c g begins = tt
-found_in value (Some found) c g begins = begins.1
 
 -- What was judged between a mount and the writes was judged in the whole start-up.
 pub judged_in : (c : Config) (first second third fourth : BlocksState) (judged : Result Generation Fault) → SameValues first second → HasRisenBy 0 first.device.faults second.device.faults

@@ -1,6 +1,7 @@
 -- The causes of faults along a row of writes, and that there is always room.
 use Rattle.std.proofs.Common.{◌≡◌, ◌⊎◌, inl, inr, ⊎_elim, ℕ, ◌+◌, ◌-◌, ◌/◌, ◌<◌, ◌≤◌, max, List, length, Option, Some, None, Result, Ok, Err, refl, sym, ◌∙◌, ap, subst, arith}
 use Rattle.std.specs.Prelude.{IsTrue, IsErrOf, IsSomeAnd, sum_by}
+use Rattle.std.specs.Result.{IsErrAnd}
 use Rattle.std.proofs.lemmas.Bool.{cases_eq}
 use Rattle.std.proofs.lemmas.List.Sums.{sum_by-le-sum_by}
 use Rattle.flt_flash.specs.Content.{Content, bytes}
@@ -72,6 +73,22 @@ writes_as {S} {T} before after fault writes = record {
   where
     again : (other : BlockFault) → IsErrOf {T = T} (Err fault) other → IsErrOf {T = S} (Err fault) other
     again other told = let same : fault ≡ other = cc told in ap Err same
+
+-- An answer that hands on the fault of the writes, and one behind writes that answered Ok.
+pub writes_handed : {S T : Type 0} (before after : BlocksState) (result : Result S BlockFault) (answer : Result T BlockFault) (fault : BlockFault) → result ≡ Err fault → IsErrAnd answer (λ e. e ≡ fault)
+    → Writes before after result → Writes before after answer
+writes_handed before after result (Ok value) fault was made writes = absurd made
+writes_handed {S} {T} before after result (Err told) fault was made writes =
+    writes_as {S = S} {T = T} before after told (subst (λ (r : Result S BlockFault). Writes before after r) (was ∙ ap Err (sym made)) writes)
+
+pub writes_done : {S T : Type 0} (before after : BlocksState) (result : Result S BlockFault) (value : T) → Writes before after result → Writes {T = T} before after (Ok value)
+writes_done before after result value writes = record {
+  follows = writes.follows;
+  flash = λ told. absurd (cc told);
+  full = λ live needed told. absurd (cc told);
+  stuck = λ told. absurd (cc told);
+  mounted = λ has sector page told. absurd (cc told);
+}
 
 -- What stands and what is written stays within the bounds.
 pub none_written : (c : Config) (value : ℕ → Content) → IsWithinOwn c value value

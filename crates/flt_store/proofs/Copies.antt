@@ -1,5 +1,6 @@
 -- A copy of the commit was read, and the other one tried with its bytes.
 use Rattle.std.proofs.Common.{◌≡◌, ◌⊎◌, inl, inr, ⊎_elim, ℕ, ◌+◌, ◌-◌, ◌≤◌, List, length, take, drop, Some, None, length-append, refl, sym, ◌∙◌, ap, subst, arith}
+use Rattle.std.proofs.lemmas.Bool.{cases_eq}
 use Rattle.flt_flash.specs.Content.{Content, missing, invalid, bytes}
 use Rattle.flt_flash.specs.State.{HasRisenBy}
 use Rattle.flt_flash.specs.Blocks.{BlocksState}
@@ -29,6 +30,12 @@ IsCopyRead before after raw copy =
 -- The copy has these bytes.
 abbrev pub IsAt : (ℕ → Content) → List ℕ → ℕ → Type 0
 IsAt value raw copy = ((copy ≡ 1) × (value first_commit ≡ bytes raw)) ⊎ ((copy ≡ 2) × (value second_commit ≡ bytes raw))
+
+pub at_copy : (value : ℕ → Content) (raw : List ℕ) (copy : ℕ) → 1 ≤ copy → copy ≤ 2 → value (number_of commit_id (copy - 1)) ≡ bytes raw → IsAt value raw copy
+at_copy value raw copy least most holds = elim (cases_eq copy 1) [
+  | inl one ↦ inl (one, subst (λ (k : ℕ). value (number_of commit_id (k - 1)) ≡ bytes raw) one holds)
+  | inr apart ↦ (let two : copy ≡ 2 = omega (arith, least, most, apart) in inr (two, subst (λ (k : ℕ). value (number_of commit_id (k - 1)) ≡ bytes raw) two holds))
+]
 
 pub at_of : (before after : BlocksState) (raw : List ℕ) (copy : ℕ) → IsCopyRead before after raw copy → IsAt before.value raw copy
 at_of before after raw copy = ⊎_elim (λ one. inl one) (λ two. inr (two.0, two.1))

@@ -6,6 +6,7 @@ pub mod Saving
 pub mod Writing
 pub mod Repairing
 pub mod Copies
+pub mod Mending
 pub mod Running
 pub mod Known
 pub mod Costs

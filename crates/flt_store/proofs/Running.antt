@@ -1,6 +1,7 @@
 -- What keeps a store running.
-use Rattle.std.proofs.Common.{◌≡◌, ◌⊎◌, inl, inr, ⊎_elim, ℕ, ◌≤◌, Bool, false, Result, Ok, Err, sym, ap, subst, arith}
-use Rattle.std.specs.Prelude.{IsTrue, IsFalse, IfOk, OnOk, OnErr}
+use Rattle.std.proofs.Common.{◌≡◌, ◌⊎◌, inl, inr, ⊎_elim, ℕ, ◌≤◌, Bool, false, Result, Ok, Err, sym, ◌∙◌, ap, subst, arith}
+use Rattle.std.specs.Prelude.{IsTrue, IsFalse, IfOk, OnOk, OnErr, IsErrOf}
+use Rattle.std.specs.Result.{IsErrAnd}
 use Rattle.flt_flash.specs.Blocks.{BlocksState}
 use Rattle.flt_flash.specs.Calls.{Follows}
 use Rattle.flt_config.specs.declared.config.Config.{Config}
@@ -80,6 +81,18 @@ taken {P = P} {x = x} result is p = subst (λ r. OnOk r P) is p
 
 pub err_taken : {T E : Type 0} {P : Type 0} {e : E} (result : Result T E) → result ≡ Err e → OnErr result P → P
 err_taken {P = P} {e = e} result is p = subst (λ r. OnErr r P) is p
+
+pub whenever : {T E : Type 0} {P : Type 0} (result : Result T E) → P → OnErr result P
+whenever (Ok x) p = tt
+whenever (Err e) p = p
+
+-- What holds of the fault that an answer was made of holds of the one that it is.
+pub told_by : {T E : Type 0} (P : E → Type 0) (answer : Result T E) (told : E) → IsErrAnd answer P → IsErrOf answer told → P told
+told_by P answer told made is = subst (λ r. IsErrAnd r P) is made
+
+-- A fault that is handed on was the one of the step.
+pub handed : {T U E : Type 0} (result : Result T E) (answer : Result U E) (fault told : E) → result ≡ Err fault → IsErrAnd answer (λ e. e ≡ fault) → IsErrOf answer told → IsErrOf result told
+handed result answer fault told was made is = was ∙ ap Err (sym (told_by (λ e. e ≡ fault) answer told made is))
 
 -- A store runs behind a save, whatever that answered.
 pub alive_after : {B : Type 0} {b : Ghosts B} (c : Config) (h s : Generation) (state : Persist) (before after : Store B b) (result : Result ℕ SaveFault)

@@ -1,5 +1,5 @@
 -- One block more of a generation was written, and then the copies of its commit.
-use Rattle.std.proofs.Common.{◌≡◌, inl, inr, ⊎_elim, ℕ, ◌+◌, ◌<◌, ◌^◌, List, length, Option, Some, None, Result, Ok, Err, refl, sym, ◌∙◌, ap, subst, arith}
+use Rattle.std.proofs.Common.{◌≡◌, inl, inr, ⊎_elim, ℕ, ◌+◌, ◌<◌, ◌≤◌, ◌^◌, List, length, Option, Some, None, Result, Ok, Err, refl, sym, ◌∙◌, ap, subst, arith}
 use Rattle.std.specs.Prelude.{IsTrue, IfSome, OnOk}
 use Rattle.std.proofs.lemmas.Bool.{cases_eq}
 use Rattle.flt_flash.specs.Content.{Content, bytes}
@@ -8,7 +8,7 @@ use Rattle.flt_flash.specs.declared.blocks.BlockFault.{BlockFault}
 use Rattle.flt_config.specs.declared.config.Config.{Config}
 use Rattle.flt_config.specs.declared.persist.Persist.{Persist}
 use Rattle.flt_config.specs.Durable.{Fits}
-use Rattle.flt_nvm.specs.Leaves.{GivesBoth}
+use Rattle.flt_nvm.specs.Leaves.{Gives, GivesBoth}
 use Rattle.flt_generation.specs.declared.commit.Commit.{Commit}
 use Rattle.flt_generation.specs.Layout.{commit_id, number_of, mark_number, application_number, index_in}
 use Rattle.flt_generation.specs.Form.{commit_bytes, IsCommit, commit_length_2}
@@ -55,6 +55,18 @@ module _ (c : Config) (current : Option Commit) (next : Commit) (bytes_of : ℕ 
       (earlier number))
       (λ new. inr (now, new))
       (only number)
+
+  -- The block was written at the index at which the next commit names it.
+  pub only_written : (id : ℕ) → IsTrue (is_written c current next id) → index_in next id ≤ 1 → (before after : BlocksState) (index : ℕ) (raw : List ℕ) (size : ℕ) (result : Result (Unit {0}) BlockFault)
+      → index ≡ index_in next id → raw ≡ bytes_of id → Gives before after (number_of id index) (bytes raw) size result → OnlyNewBlock c current next bytes_of id before.value after.value
+  only_written id written small before after index raw size result place held gives number = elim (cases_eq number (number_of id index)) [
+    | inl same ↦
+        ⊎_elim
+        (λ kept. inl (subst (λ (n : ℕ). after.value n ≡ before.value n) (sym same) kept))
+        (λ is. inr (record { written = written; small = small; place = same ∙ ap (number_of id) place; is = ap after.value same ∙ is ∙ ap bytes held }))
+        gives.either
+    | inr apart ↦ inl (gives.others number apart)
+  ]
 
 form_of : (c : Config) (value : ℕ → Content) (current : Option Commit) (g : Generation) → NamesOf c value current g → IfSome current (IsCommit c)
 form_of c value None g names = tt

@@ -1,4 +1,5 @@
 pub mod Cause
+pub mod Fault
 pub mod Started
 pub mod Known
 pub mod Writing

@@ -22,12 +22,12 @@ use Rattle.flt_store.specs.Store.{driver_of, is_settled, numbered, IsRunning}
 -- A generation and the copy of the commit by which an image holds it; none where neither copy has bytes.
 abbrev pub Begins : Config → (ℕ → Content) → Option CommitCopy → Generation → Type 0
 Begins c value None g = Holds c value missing g × (value first_commit ≡ missing) × (only_bytes (value second_commit) ≡ missing)
-Begins c value (Some found) g = Holds c value (bytes found.bytes.items) g × IsCopy value found
+Begins c value (Some found) g = Holds c value (bytes found.bytes.items) g × IsCopy c value found
 
 -- The copy that was found stands in the image.
-abbrev pub IsFoundIn : (ℕ → Content) → Option CommitCopy → Type 0
-IsFoundIn value None = Unit {0}
-IsFoundIn value (Some found) = IsCopy value found
+abbrev pub IsFoundIn : Config → (ℕ → Content) → Option CommitCopy → Type 0
+IsFoundIn c value None = Unit {0}
+IsFoundIn c value (Some found) = IsCopy c value found
 
 -- What a start-up answers to a fault of its mount; want of room and of sequence numbers are none.
 abbrev pub told_of_mount : BlockFault → StartFault

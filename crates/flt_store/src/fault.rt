@@ -1,6 +1,5 @@
 // Why a write of the store does not succeed.
-ghost use Rattle.std.specs.Prelude.{◌≡◌, ◌≢◌};
-ghost use Rattle.flt_flash.specs.declared.blocks.BlockFault.{BlockFault};
+ghost use Rattle.flt_store.specs.Fault.{IsSaveFault, IsPutFault};
 
 use flt_flash::BlockFault;
 use thiserror::Error;
@@ -30,25 +29,24 @@ pub enum PutFault {
     SequenceSpent,
 }
 
-/// What a save answers to a fault of a block.
-pub(crate) fn save_fault(fault: BlockFault) -> SaveFault
-    ensures flash { result ≡ SaveFault.Flash → fault ≢ BlockFault.SequenceSpent }
-    ensures not_spent { result ≢ SaveFault.Spent }
-    ensures sequence { result ≡ SaveFault.SequenceSpent → fault ≡ BlockFault.SequenceSpent }
-{
-    match fault {
-        BlockFault::SequenceSpent => SaveFault::SequenceSpent,
-        _ => SaveFault::Flash,
+impl From<BlockFault> for SaveFault {
+    ghost from_gives = { IsSaveFault };
+
+    fn from(fault: BlockFault) -> Self {
+        match fault {
+            BlockFault::SequenceSpent => SaveFault::SequenceSpent,
+            _ => SaveFault::Flash,
+        }
     }
 }
 
-/// What a put answers to a fault of a block.
-pub(crate) fn put_fault(fault: BlockFault) -> PutFault
-    ensures flash { result ≡ PutFault.Flash → fault ≢ BlockFault.SequenceSpent }
-    ensures sequence { result ≡ PutFault.SequenceSpent → fault ≡ BlockFault.SequenceSpent }
-{
-    match fault {
-        BlockFault::SequenceSpent => PutFault::SequenceSpent,
-        _ => PutFault::Flash,
+impl From<BlockFault> for PutFault {
+    ghost from_gives = { IsPutFault };
+
+    fn from(fault: BlockFault) -> Self {
+        match fault {
+            BlockFault::SequenceSpent => PutFault::SequenceSpent,
+            _ => PutFault::Flash,
+        }
     }
 }

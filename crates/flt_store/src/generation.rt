@@ -2,12 +2,10 @@
 ghost use Rattle.std.specs.Prelude.{◌≡◌, ℕ, ◌≤◌, ◌<◌, ◌+◌, ◌*◌, if◌then◌else◌, length, IsTrue, IsFalse, OnOk, IfOk, Some};
 ghost use Rattle.flt_flash.specs.Content.{bytes as holding};
 ghost use Rattle.flt_flash.specs.Blocks.{record_pages};
-ghost use Rattle.flt_flash.specs.Calls.{Follows};
 ghost use Rattle.flt_nvm.specs.Driver.{driver_of, table_of};
-ghost use Rattle.flt_nvm.specs.Leaves.{Gives};
 ghost use Rattle.flt_config.specs.Durable.{Fits};
-ghost use Rattle.flt_generation.specs.Layout.{first_part, parts, end_part, number_of, mark_number, index_in, part_of, used_ids};
-ghost use Rattle.flt_generation.specs.Form.{block_bytes, part_length};
+ghost use Rattle.flt_generation.specs.Layout.{first_part, parts, end_part, number_of, mark_number, index_in, used_ids};
+ghost use Rattle.flt_generation.specs.Form.{block_bytes};
 ghost use Rattle.flt_generation.specs.Holding.{Generation, OldOrNew, SameApplications, last_number};
 ghost use Rattle.flt_generation.specs.Successor.{IsNext, OnlyNewBlock, OnlyNewBlocks, WritesWithin, is_moved, is_written, number_in};
 ghost use Rattle.flt_image.specs.Blocks.{bytes_at, AreBlocksOf};
@@ -23,27 +21,6 @@ use flt_flash::{BlockFault, Blocks};
 use flt_generation::{COMMIT_ID, END_PART, FIRST_PART};
 use flt_image::{Commit, StateBlocks, is_used, next_commit, put_commit};
 use flt_nvm::Nvm;
-
-// Writes one index of a block.
-fn write_block<B: Blocks + Drop>(
-    nvm: &mut Nvm<B>,
-    id: u16,
-    index: u8,
-    bytes: &[u8],
-) -> Result<(), BlockFault>
-    requires table { table_of nvm.old ≡ block_table }
-    requires first { first_part ≤ id }
-    requires end { id < end_part }
-    requires index { index ≤ 1 }
-    requires size { length bytes.now ≡ part_length (part_of id) }
-    ensures spends { (most : ℕ) → Spends most (driver_of nvm.old) (driver_of nvm.new) (record_pages (length bytes.now)) most }
-    ensures not_stale { OnOk result (IsFalse (driver_of nvm.new).is_stale) }
-    ensures gives { Gives (driver_of nvm.old) (driver_of nvm.new) (number_of id index) (holding bytes.now) (length bytes.now) result }
-    ensures writes { Writes (driver_of nvm.old) (driver_of nvm.new) result }
-    ensures table { table_of nvm.new ≡ table_of nvm.old }
-{
-    nvm.write(id, index, bytes)
-}
 
 // The next commit names the block at another index than the current one.
 fn is_moved(current: &Option<Commit>, next: &Commit, id: u16) -> bool
@@ -91,7 +68,7 @@ fn write_moved<B: Blocks + Drop>(
     ensures table { table_of nvm.new ≡ table_of nvm.old }
 {
     if is_written(config, current, next, id) {
-        write_block(nvm, id, next.index_of(id), blocks.get(id))
+        nvm.write(id, next.index_of(id), blocks.get(id))
     } else {
         Ok(())
     }

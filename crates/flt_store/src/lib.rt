@@ -8,7 +8,6 @@
 mod fault;
 mod generation;
 pub mod laws;
-mod marking;
 mod restarting;
 mod store;
 

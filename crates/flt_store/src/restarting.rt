@@ -56,8 +56,8 @@ pub(crate) fn restart<B: Blocks + Drop>(
     }
 }
 
-/// Makes the other copy hold what this one has, and answers the commit of these bytes. A sound image has no others.
-pub(crate) fn repair_by<B: Blocks + Drop>(
+// Makes the other copy hold what this one has, and answers the commit of these bytes. A sound image has no others.
+fn repair_by<B: Blocks + Drop>(
     nvm: &mut Nvm<B>,
     config: &ValidConfig,
     copy: u8,

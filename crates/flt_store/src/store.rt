@@ -1,7 +1,9 @@
 // Generations in the blocks of a driver.
 ghost use Rattle.std.specs.Prelude.{◌≡◌, ◌≢◌, ◌+◌, ◌*◌, ◌<◌, ℕ, length, Err, IsErr, IsErrOf, IsOk, IfOk, OnOk, OnErr, IsTrue, IsFalse};
-ghost use Rattle.flt_flash.specs.Calls.{Follows, NoFault, NoErase, CostsAtMost};
+ghost use Rattle.flt_flash.specs.State.{CanArm};
+ghost use Rattle.flt_flash.specs.Calls.{ArmsDriver, CostsAtMost, Follows, NoErase, NoFault, PowersUpDriver};
 ghost use Rattle.flt_nvm.specs.Driver.{driver_of as driver_beneath, table_of};
+ghost use Rattle.flt_config.specs.declared.config.Config.{Config};
 ghost use Rattle.flt_config.specs.declared.persist.Persist.{Persist};
 ghost use Rattle.flt_config.specs.Durable.{Fits};
 ghost use Rattle.flt_generation.specs.Form.{block_bytes};
@@ -17,14 +19,13 @@ ghost use Rattle.flt_store.specs.Dark.{IsUnrestarted, IsUnsaved};
 ghost use Rattle.flt_store.specs.Started.{HasMark, IsStarted};
 
 mod applications;
-mod device;
 mod starting;
 
-use crate::fault::{SaveFault, save_fault};
+use crate::fault::SaveFault;
 use crate::generation::write_generation;
 use crate::restarting::restart;
 use flt_config::{Persist, ValidConfig};
-use flt_flash::Blocks;
+use flt_flash::{Arm, Blocks};
 use flt_generation::LAST_NUMBER;
 use flt_image::{Commit, StateBlocks};
 use flt_nvm::Nvm;
@@ -96,14 +97,10 @@ impl<B: Blocks + Drop> Store<B> {
         if self.is_settled {
             return Ok(());
         }
-        match restart(&mut self.nvm, config) {
-            Ok(commit) => {
-                self.saved = read_blocks(&mut self.nvm, config, &commit);
-                self.commit = commit;
-                Ok(())
-            }
-            Err(fault) => Err(save_fault(fault)),
-        }
+        let commit = restart(&mut self.nvm, config)?;
+        self.saved = read_blocks(&mut self.nvm, config, &commit);
+        self.commit = commit;
+        Ok(())
     }
 
     // Saves a state as the next generation, where both copies of the commit name one.
@@ -137,23 +134,18 @@ impl<B: Blocks + Drop> Store<B> {
         if number_in(&self.commit) == LAST_NUMBER {
             return Err(SaveFault::Spent);
         }
-        let written = write_generation(
+        let commit = write_generation(
             &mut self.nvm,
             config,
             state,
             &self.commit,
             &self.saved,
             &mut self.next,
-        );
-        match written {
-            Ok(commit) => {
-                self.commit = Some(commit);
-                mem::swap(&mut self.saved, &mut self.next);
-                self.is_settled = true;
-                Ok(commit.generation)
-            }
-            Err(fault) => Err(save_fault(fault)),
-        }
+        )?;
+        self.commit = Some(commit);
+        mem::swap(&mut self.saved, &mut self.next);
+        self.is_settled = true;
+        Ok(commit.generation)
     }
 
     /// Saves a state that fits as the next generation, and answers its number. Where an earlier save of this life failed, it first
@@ -209,5 +201,46 @@ impl<B: Blocks + Drop> Store<B> {
             Ok(()) => self.save_next(config, state),
             Err(fault) => Err(fault),
         }
+    }
+
+    /// How often the power may still come back.
+    pub fn boots_left(&self) -> u16
+        ensures { result ≡ (driver_of self.now).device.bench.boots_left }
+    {
+        self.nvm.boots_left()
+    }
+
+    /// How many arms stand, 64 at most.
+    pub fn armed(&self) -> u8
+        ensures { result ≡ (driver_of self.now).device.bench.armed }
+    {
+        self.nvm.armed()
+    }
+
+    /// Makes an arm of the device. It changes no block.
+    pub fn arm(&mut self, arm: Arm)
+        requires room { (driver_of self.old).device.bench.armed < 64 }
+        requires number { CanArm arm }
+        ensures arms { ArmsDriver arm (driver_of self.old) (driver_of self.new) }
+        ensures running { (c : Config) → WhileRunning c self.old (λ held spare. IsRunning c held spare self.new) }
+        ensures settled { is_settled self.new ≡ is_settled self.old }
+    {
+        self.nvm.arm(arm)
+    }
+
+    /// Turns the device on again, which adds to its list of boots. A start-up comes next.
+    pub fn power_up(&mut self)
+        requires { 0 < (driver_of self.old).device.bench.boots_left }
+        ensures powers_up { PowersUpDriver (driver_of self.old) (driver_of self.new) }
+        ensures settled { is_settled self.new ≡ is_settled self.old }
+    {
+        self.nvm.power_up()
+    }
+
+    /// The driver comes back.
+    pub fn retire(self) -> B
+        ensures { B.state result ≡ driver_of self }
+    {
+        self.nvm.retire()
     }
 }

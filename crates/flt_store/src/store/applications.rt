@@ -11,7 +11,7 @@ ghost use Rattle.flt_image.specs.Table.{block_table};
 ghost use Rattle.flt_store.specs.Cause.{Writes};
 
 use super::Store;
-use crate::fault::{PutFault, put_fault};
+use crate::fault::PutFault;
 use arrayvec::ArrayVec;
 use flt_flash::{BlockFault, Blocks, FlashFailed};
 use flt_generation::{APPLICATION_LENGTH, FIRST_APPLICATION};
@@ -87,10 +87,8 @@ impl<B: Blocks + Drop> Store<B> {
         ensures not_stale { OnOk result (IsFalse (driver_of self.new).is_stale) }
         ensures follows { Follows (driver_of self.old) (driver_of self.new) }
     {
-        match write_application(&mut self.nvm, block, bytes) {
-            Ok(()) => Ok(()),
-            Err(fault) => Err(put_fault(fault)),
-        }
+        write_application(&mut self.nvm, block, bytes)?;
+        Ok(())
     }
 
     /// Gives the bytes of application block `block` in place of what `out` held, and true; false and no byte, where it was never

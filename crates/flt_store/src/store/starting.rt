@@ -1,30 +1,31 @@
-//! Start-up: what the image holds, and both copies of the commit made equal.
+//! Start-up: what the image holds, the mark written where it is due, and both copies of the commit made equal.
 ghost use Rattle.std.specs.Prelude.{◌≡◌, ◌⊎◌, IfOk, IfErr, IsErrOf, OnOk, OnErr, IsTrue, IsFalse, ◌↔◌};
-ghost use Rattle.flt_flash.specs.Calls.{Follows, SameImage};
+ghost use Rattle.flt_flash.specs.Content.{Content};
+ghost use Rattle.flt_flash.specs.Calls.{Follows, OthersKept, SameImage};
 ghost use Rattle.flt_nvm.specs.Driver.{driver_of as driver_beneath, table_of};
+ghost use Rattle.flt_config.specs.declared.config.Config.{Config};
 ghost use Rattle.flt_config.specs.Durable.{Fits};
-ghost use Rattle.flt_generation.specs.Holding.{Generation, IsSound, OldOrNew, SameApplications};
-ghost use Rattle.flt_generation.specs.Excess.{IsBorne};
-ghost use Rattle.flt_generation.specs.Form.{mark_of};
-ghost use Rattle.flt_image.specs.Table.{block_table};
-ghost use Rattle.flt_store.specs.Cause.{HasRoom, IsWithinOwn, Writes};
-ghost use Rattle.flt_store.specs.Started.{HasMark, IsStarted};
-ghost use Rattle.flt_store.specs.Start.{Begins, IsFoundIn, told_of_mount, told_of_write};
-ghost use Rattle.flt_store.specs.Dark.{IsCommitUnmended, IsUnbegun, IsDark, IsOfBlocks, IsMountedAlone};
-ghost use Rattle.flt_store.specs.Spent.{IsBegunStuck, IsCommitStuck, IsOutOfNumbers};
-ghost use Rattle.flt_restore.specs.Unread.{IsImageUnread};
 ghost use Rattle.flt_generation.specs.Layout.{mark_number};
+ghost use Rattle.flt_generation.specs.Form.{mark_of};
+ghost use Rattle.flt_generation.specs.Excess.{IsBorne};
+ghost use Rattle.flt_generation.specs.Holding.{Generation, IsSound, MarkAllows, OldOrNew, SameApplications};
+ghost use Rattle.flt_generation.specs.Laws.{IsGiven};
+ghost use Rattle.flt_image.specs.Table.{block_table};
 ghost use Rattle.flt_restore.specs.Restored.{IsMarkDue};
+ghost use Rattle.flt_restore.specs.Unread.{IsImageUnread};
+ghost use Rattle.flt_store.specs.Cause.{HasRoom, Writes};
+ghost use Rattle.flt_store.specs.Started.{HasMark, IsMarkTried, IsStarted};
+ghost use Rattle.flt_store.specs.Start.{Begins, IsFoundIn, told_of_mount, told_of_write};
+ghost use Rattle.flt_store.specs.Dark.{IsUnbegun, IsDark, IsMarkUnwritten, IsOfBlocks, IsMountedAlone};
+ghost use Rattle.flt_store.specs.Spent.{IsBegunStuck, IsMarkStuck, IsOutOfNumbers};
 
 use super::{Store, number_in};
-use crate::marking::write_mark;
-use crate::restarting::repair_by;
 use flt_config::{Persist, ValidConfig};
 use flt_flash::{BlockFault, Blocks};
-use flt_generation::Place;
-use flt_image::{Commit, Mark, mark_of};
+use flt_generation::{COMMIT_ID, MARK_ID, Place};
+use flt_image::{Commit, Mark, mark_of, put_mark};
 use flt_nvm::Nvm;
-use flt_restore::{CommitCopy, Restored, StartFault, restore};
+use flt_restore::{CommitCopy, StartFault, restore};
 
 // What a start-up answers to a fault of its mount.
 fn mount_fault(fault: BlockFault) -> StartFault
@@ -46,37 +47,29 @@ fn write_fault(fault: BlockFault) -> StartFault
     }
 }
 
-// Makes both copies of the commit hold what the one has that was found, if one was.
-fn mend_by<B: Blocks + Drop>(
+// Writes the mark of a configuration where it is due: where it is missing or of version 1.
+fn write_mark<B: Blocks + Drop>(
     nvm: &mut Nvm<B>,
-    config: &ValidConfig,
-    found: Option<CommitCopy>,
-) -> Result<Option<Commit>, BlockFault>
+    mark: &Mark,
+    is_due: bool,
+) -> Result<(), BlockFault>
     requires table { table_of nvm.old ≡ block_table }
-    requires found { IsFoundIn (driver_beneath nvm.old).value found }
+    requires due { IsTrue is_due ↔ IsMarkDue mark.now ((driver_beneath nvm.old).value mark_number) }
     requires not_stale { IsFalse (driver_beneath nvm.old).is_stale }
-    ensures started { (g : Generation) → HasMark config.now (driver_beneath nvm.old).value → Begins config.now (driver_beneath nvm.old).value found g
-        → IfOk result (λ commit. IsStarted config.now (driver_beneath nvm.new).value commit g) }
-    ensures tried { (held spare g : Generation) → IsSound config.now (driver_beneath nvm.old).value held spare
-        → Begins config.now (driver_beneath nvm.old).value found g
-        → OnErr result (OldOrNew config.now (driver_beneath nvm.new).value held spare held) }
-    ensures unmended { (g : Generation) → Begins config.now (driver_beneath nvm.old).value found g → IsErrOf result BlockFault.Flash
-        → IsCommitUnmended (driver_beneath nvm.old) (driver_beneath nvm.new) }
-    ensures stuck { IsErrOf result BlockFault.SequenceSpent → IsCommitStuck (driver_beneath nvm.old) (driver_beneath nvm.new) }
-    ensures writes { (g : Generation) → Begins config.now (driver_beneath nvm.old).value found g
-        → Writes (driver_beneath nvm.old) (driver_beneath nvm.new) result }
-    ensures within { IsWithinOwn config.now (driver_beneath nvm.old).value (driver_beneath nvm.new).value }
+    ensures marked { (c : Config) (commit : Content) → mark.now ≡ mark_of c → MarkAllows c ((driver_beneath nvm.old).value mark_number) commit
+        → OnOk result (HasMark c (driver_beneath nvm.new).value) }
+    ensures tried { (c : Config) → mark.now ≡ mark_of c → IsMarkTried c (driver_beneath nvm.old).value (driver_beneath nvm.new).value }
+    ensures others { OthersKept mark_number (driver_beneath nvm.old) (driver_beneath nvm.new) }
     ensures not_stale { OnOk result (IsFalse (driver_beneath nvm.new).is_stale) }
-    ensures applications { SameApplications (driver_beneath nvm.old).value (driver_beneath nvm.new).value }
-    ensures follows { Follows (driver_beneath nvm.old) (driver_beneath nvm.new) }
+    ensures unwritten { (c : Config) → mark.now ≡ mark_of c → IsErrOf result BlockFault.Flash → IsMarkUnwritten c (driver_beneath nvm.old) (driver_beneath nvm.new) }
+    ensures stuck { (c : Config) → mark.now ≡ mark_of c → IsErrOf result BlockFault.SequenceSpent → IsMarkStuck c (driver_beneath nvm.old) (driver_beneath nvm.new) }
+    ensures writes { Writes (driver_beneath nvm.old) (driver_beneath nvm.new) result }
     ensures table { table_of nvm.new ≡ table_of nvm.old }
 {
-    match found {
-        None => Ok(None),
-        Some(found) => match repair_by(nvm, config, found.copy, &found.bytes) {
-            Ok(commit) => Ok(Some(commit)),
-            Err(fault) => Err(fault),
-        },
+    if is_due {
+        nvm.write(MARK_ID, 0, &put_mark(mark))
+    } else {
+        Ok(())
     }
 }
 
@@ -84,33 +77,37 @@ fn mend_by<B: Blocks + Drop>(
 fn begin_by<B: Blocks + Drop>(
     nvm: &mut Nvm<B>,
     config: &ValidConfig,
-    mark: &Mark,
-    found: Restored,
+    is_mark_due: bool,
+    found: Option<CommitCopy>,
 ) -> Result<Option<Commit>, BlockFault>
     requires table { table_of nvm.old ≡ block_table }
-    requires mark { mark.now ≡ mark_of config.now }
-    requires due { IsTrue found.is_mark_due ↔ IsMarkDue mark.now ((driver_beneath nvm.old).value mark_number) }
-    requires found { IsFoundIn (driver_beneath nvm.old).value found.commit }
+    requires due { IsTrue is_mark_due ↔ IsMarkDue (mark_of config.now) ((driver_beneath nvm.old).value mark_number) }
+    requires found { IsFoundIn config.now (driver_beneath nvm.old).value found }
     requires not_stale { IsFalse (driver_beneath nvm.old).is_stale }
-    ensures started { (g : Generation) → Begins config.now (driver_beneath nvm.old).value found.commit g
+    ensures started { (g : Generation) → Begins config.now (driver_beneath nvm.old).value found g
         → IfOk result (λ commit. IsStarted config.now (driver_beneath nvm.new).value commit g) }
     ensures tried { (held spare g : Generation) → IsSound config.now (driver_beneath nvm.old).value held spare
-        → Begins config.now (driver_beneath nvm.old).value found.commit g
+        → Begins config.now (driver_beneath nvm.old).value found g
         → OnErr result (OldOrNew config.now (driver_beneath nvm.new).value held spare held) }
-    ensures unbegun { (g : Generation) → Begins config.now (driver_beneath nvm.old).value found.commit g → IsErrOf result BlockFault.Flash
+    ensures unbegun { (g : Generation) → Begins config.now (driver_beneath nvm.old).value found g → IsErrOf result BlockFault.Flash
         → IsUnbegun config.now (driver_beneath nvm.old) (driver_beneath nvm.new) }
     ensures stuck { IsErrOf result BlockFault.SequenceSpent → IsBegunStuck config.now (driver_beneath nvm.old) (driver_beneath nvm.new) }
-    ensures writes { (g : Generation) → Begins config.now (driver_beneath nvm.old).value found.commit g
+    ensures writes { (g : Generation) → Begins config.now (driver_beneath nvm.old).value found g
         → Writes (driver_beneath nvm.old) (driver_beneath nvm.new) result }
-    ensures borne { (g : Generation) → Begins config.now (driver_beneath nvm.old).value found.commit g → IsBorne config.now (driver_beneath nvm.new).value }
+    ensures borne { (g : Generation) → Begins config.now (driver_beneath nvm.old).value found g → IsBorne config.now (driver_beneath nvm.new).value }
     ensures not_stale { OnOk result (IsFalse (driver_beneath nvm.new).is_stale) }
     ensures applications { SameApplications (driver_beneath nvm.old).value (driver_beneath nvm.new).value }
     ensures follows { Follows (driver_beneath nvm.old) (driver_beneath nvm.new) }
     ensures table { table_of nvm.new ≡ table_of nvm.old }
+    ensures given { IsGiven config.now }
 {
-    match write_mark(nvm, mark, found.is_mark_due) {
-        Ok(()) => mend_by(nvm, config, found.commit),
-        Err(fault) => Err(fault),
+    write_mark(nvm, &mark_of(config), is_mark_due)?;
+    match found {
+        None => Ok(None),
+        Some(found) => {
+            nvm.repair(COMMIT_ID, found.copy, &found.bytes)?;
+            Ok(Some(found.commit))
+        }
     }
 }
 
@@ -138,19 +135,16 @@ impl<B: Blocks + Drop> Store<B> {
         ensures applications { SameApplications (driver_of self.old).value (driver_of self.new).value }
         ensures follows { Follows (driver_of self.old) (driver_of self.new) }
     {
-        let mark = mark_of(config);
-        match restore(&mut self.nvm, config, out) {
-            Ok(found) => match begin_by(&mut self.nvm, config, &mark, found) {
-                Ok(commit) => {
-                    let generation = number_in(&commit);
-                    self.commit = commit;
-                    self.saved.put_all(config, out);
-                    self.is_settled = true;
-                    Ok(generation)
-                }
-                Err(fault) => Err(write_fault(fault)),
-            },
-            Err(fault) => Err(fault),
+        let found = restore(&mut self.nvm, config, out)?;
+        match begin_by(&mut self.nvm, config, found.is_mark_due, found.commit) {
+            Ok(commit) => {
+                let generation = number_in(&commit);
+                self.commit = commit;
+                self.saved.put_all(config, out);
+                self.is_settled = true;
+                Ok(generation)
+            }
+            Err(fault) => Err(write_fault(fault)),
         }
     }
 

@@ -25,7 +25,7 @@ returns-in-Invalid-clause-refused g c =
 pub read_parts-requires-clause-form : goal.read_parts-requires-clause-form
 read_parts-requires-clause-form g c =
     let is : Some c.in-Some.commit ≡ commit_in c.args.config.now c.in-Bytes.bytes.items = sym c.in-Some.is ∙ c.get_commit.ensures ∙ ap (commit_in c.args.config.now) c.deref.ensures.0 in
-    (read_form c.args.config.now c.in-Bytes.bytes.items c.in-Some.commit is).0
+    read_form c.args.config.now c.in-Bytes.bytes.items c.in-Some.commit is
 
 pub returns-in_err-read_parts-in-Some-clause-refused : goal.returns-in_err-read_parts-in-Some-clause-refused
 returns-in_err-read_parts-in-Some-clause-refused g c =
@@ -54,4 +54,4 @@ pub returns-in_ok-read_parts-in-Some-clause-source : goal.returns-in_ok-read_par
 returns-in_ok-read_parts-in-Some-clause-source g c =
     let held : content_of c.args.held ≡ bytes c.in-Bytes.bytes.items = ap content_of c.in-Bytes.is in
     let is : Some c.in-Some.commit ≡ commit_in c.args.config.now c.in-Bytes.bytes.items = sym c.in-Some.is ∙ c.get_commit.ensures ∙ ap (commit_in c.args.config.now) c.deref.ensures.0 in
-    (refl, held, (read_form c.args.config.now c.in-Bytes.bytes.items c.in-Some.commit is).1)
+    (refl, held, sym is)

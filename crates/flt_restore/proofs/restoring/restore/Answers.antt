@@ -1,6 +1,7 @@
-use Rattle.std.proofs.Common.{refl, sym, subst}
+use Rattle.std.proofs.Common.{◌≡◌, refl, sym, ◌∙◌, subst}
 use Rattle.flt_nvm.specs.Driver.{driver_of}
 use Rattle.flt_restore.specs.Restored.{Refuses, generation}
+use Rattle.flt_restore.specs.declared.fault.StartFault.TheVariants.{SequenceSpent}
 use Rattle.flt_restore.proofs.Judged.{judged_of}
 use Rattle.flt_restore.proofs.Telling.{handed_on, each_fault}
 use Rattle.flt_restore.proofs.Failing.{was_flash}
@@ -15,16 +16,15 @@ returns-in_err-found-clause-refused g c =
     (handed_on (Refuses config start after) c.from_residual.result _ c.from_residual.ensures.1
     (c.in_err-found.ensures.refused _ refl))
 
-pub returns-in_err-check_sequence-clause-refused : goal.returns-in_err-check_sequence-clause-refused
-returns-in_err-check_sequence-clause-refused g c =
+pub returns-then-spent-clause-refused : goal.returns-then-spent-clause-refused
+returns-then-spent-clause-refused g c = λ fault is.
     let config = c.args.config.now in
     let start = driver_of c.args.nvm.now in
     let after = driver_of c.judge.new.nvm in
-    let last = c.in_err-check_sequence.ensures.refused in
-    each_fault (Refuses config start after) c.from_residual-in_err-check_sequence.result
-    (handed_on (Refuses config start after) c.from_residual-in_err-check_sequence.result _ c.from_residual-in_err-check_sequence.ensures.1
-    (subst (Refuses config start after) (sym last.0)
-    ((generation c.in_ok-found.found.commit c.judge.new.out, judged_of config start after c.in_ok-found.found.commit c.judge.new.out c.in_ok-found.ensures.restored), last.1)))
+    let found = c.in_ok-found.found.commit in
+    let same : SequenceSpent ≡ fault = cc is in
+    subst (Refuses config start after) same
+    ((generation found c.judge.new.out, judged_of config start after found c.judge.new.out c.in_ok-found.ensures.restored), sym c.spent.ensures ∙ c.if-spent.true)
 
 pub returns-in_err-found-clause-unread : goal.returns-in_err-found-clause-unread
 returns-in_err-found-clause-unread g c = λ flash. c.in_err-found.ensures.unread (was_flash c.from_residual.result _ c.from_residual.ensures.1 flash)

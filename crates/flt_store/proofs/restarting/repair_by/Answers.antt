@@ -1,10 +1,11 @@
-use Rattle.std.proofs.Common.{◌∙◌, Err, sym, arith}
+use Rattle.std.proofs.Common.{◌∙◌, sym}
 use Rattle.flt_nvm.specs.Driver.{driver_of}
 use Rattle.flt_generation.proofs.Commits.{read_commit}
 use Rattle.flt_store.proofs.TableUse.{commit_twice, commit_fits}
-use Rattle.flt_store.proofs.Causes.{one_write, borne_stays, writes_as}
+use Rattle.flt_store.proofs.Causes.{writes_as}
 use Rattle.flt_store.proofs.Dark.{err_as}
-use Rattle.flt_store.proofs.Repairing.{one_commit, repaired, copy_within, bytes_of_commit, but_for_copy}
+use Rattle.flt_store.proofs.Mending.{mended_within, mended_writes, mended_started, commit_stuck}
+use Rattle.flt_store.proofs.Repairing.{one_commit, bytes_of_commit}
 use Rattle.flt_store.proofs.restarting.repair_by.Goals as goal
 
 pub repair-requires-clause-redundant : goal.repair-requires-clause-redundant
@@ -18,28 +19,22 @@ repair-requires-clause-fits g c = let size = bytes_of_commit c.args.config.now c
 
 pub returns-in-Ok-clause-started : goal.returns-in-Ok-clause-started
 returns-in-Ok-clause-started g c = λ h mark holds.
-    let before = (driver_of c.args.nvm.now).value in
-    let after = (driver_of c.repair.new.self).value in
-    let read = sym c.get_commit.ensures ∙ c.in-Some.is in
-    let within = copy_within c.args.config.now before after c.args.bytes.now c.args.copy c.requires.least c.requires.most (bytes_of_commit c.args.config.now c.args.bytes.now _ read).1 c.repair.ensures.gives.either c.repair.ensures.gives.others in
-    repaired c.args.config.now before after (but_for_copy before after c.args.copy c.requires.least c.requires.most c.repair.ensures.gives.others) (borne_stays c.args.config.now before after within holds.excess)
-    c.args.bytes.now c.in-Some.commit h mark read holds c.in-Ok.ensures.first c.in-Ok.ensures.second
+    mended_started c.args.config.now c.args.nvm.now c.repair.new.self c.args.copy c.requires.least c.requires.most c.args.bytes.now c.in-Some.commit (sym c.get_commit.ensures ∙ c.in-Some.is) c.repair.result c.repair.ensures
+    c.in-Ok.is h mark holds
 
 pub returns-in-Ok-clause-within : goal.returns-in-Ok-clause-within
 returns-in-Ok-clause-within g c =
-    copy_within c.args.config.now (driver_of c.args.nvm.now).value (driver_of c.repair.new.self).value c.args.bytes.now c.args.copy c.requires.least c.requires.most
-    (bytes_of_commit c.args.config.now c.args.bytes.now _ (sym c.get_commit.ensures ∙ c.in-Some.is)).1 c.repair.ensures.gives.either c.repair.ensures.gives.others
+    mended_within c.args.config.now c.args.nvm.now c.repair.new.self c.args.copy c.requires.least c.requires.most c.args.bytes.now c.in-Some.commit (sym c.get_commit.ensures ∙ c.in-Some.is) c.repair.result c.repair.ensures
 
 pub returns-in-Err-clause-within : goal.returns-in-Err-clause-within
 returns-in-Err-clause-within g c =
-    copy_within c.args.config.now (driver_of c.args.nvm.now).value (driver_of c.repair.new.self).value c.args.bytes.now c.args.copy c.requires.least c.requires.most
-    (bytes_of_commit c.args.config.now c.args.bytes.now _ (sym c.get_commit.ensures ∙ c.in-Some.is)).1 c.repair.ensures.gives.either c.repair.ensures.gives.others
+    mended_within c.args.config.now c.args.nvm.now c.repair.new.self c.args.copy c.requires.least c.requires.most c.args.bytes.now c.in-Some.commit (sym c.get_commit.ensures ∙ c.in-Some.is) c.repair.result c.repair.ensures
 
 pub returns-in-Err-clause-writes : goal.returns-in-Err-clause-writes
 returns-in-Err-clause-writes g c = λ h holds.
-    let size = bytes_of_commit c.args.config.now c.args.bytes.now _ (sym c.get_commit.ensures ∙ c.in-Some.is) in
     writes_as (driver_of c.args.nvm.now) (driver_of c.repair.new.self) c.in-Err.fault
-    (one_write (driver_of c.args.nvm.now) (driver_of c.repair.new.self) (Err c.in-Err.fault) c.in-Err.ensures.calls c.in-Err.ensures.three _ _ _ (let most = size.1 in omega (arith, most)) c.in-Err.ensures.gives)
+    (rw c.in-Err.is at
+    (mended_writes c.args.config.now c.args.nvm.now c.repair.new.self c.args.copy c.requires.least c.requires.most c.args.bytes.now c.in-Some.commit (sym c.get_commit.ensures ∙ c.in-Some.is) c.repair.result c.repair.ensures))
 
 pub returns-in-None-clause-writes : goal.returns-in-None-clause-writes
 returns-in-None-clause-writes g c = λ h holds.
@@ -62,13 +57,5 @@ returns-in-None-clause-unmended g c = λ h holds flash.
 
 pub returns-in-Err-clause-stuck : goal.returns-in-Err-clause-stuck
 returns-in-Err-clause-stuck g c = λ spent.
-    let told = err_as c.in-Err.fault _ spent in
-    record {
-      copy = c.args.copy;
-      least = c.requires.least;
-      most = c.requires.most;
-      raw = c.args.bytes.now;
-      holds = c.requires.held;
-      needed = c.in-Err.ensures.spent told;
-      stuck = c.in-Err.ensures.gives.spent told;
-    }
+    commit_stuck c.args.config.now c.args.nvm.now c.repair.new.self c.args.copy c.requires.least c.requires.most c.args.bytes.now c.in-Some.commit (sym c.get_commit.ensures ∙ c.in-Some.is) c.repair.result c.repair.ensures
+    c.requires.held (c.in-Err.is ∙ err_as c.in-Err.fault _ spent)

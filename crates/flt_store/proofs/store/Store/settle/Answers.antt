@@ -1,7 +1,7 @@
 use Rattle.std.specs.Prelude.{IsTrue}
-use Rattle.std.proofs.Common.{rules, ◌≡◌, ◌+◌, ◌∙◌, inl, inr, ⊎_elim, refl, ap, Err}
+use Rattle.std.proofs.Common.{rules, ◌+◌, ◌∙◌, inl, inr, ⊎_elim, refl, ap, Err}
 use Rattle.flt_nvm.specs.Driver.{driver_of as driver_beneath}
-use Rattle.flt_store.specs.declared.fault.SaveFault.TheVariants.{Flash}
+use Rattle.flt_store.specs.declared.fault.SaveFault.TheVariants.{Flash, Spent, SequenceSpent}
 use Rattle.flt_store.specs.Started.{IsStarted}
 use Rattle.flt_flash.proofs.CallsInARow.{more_calls}
 use Rattle.flt_generation.specs.Holding.{Generation}
@@ -11,7 +11,7 @@ use Rattle.flt_store.proofs.Changed.{same_commit}
 use Rattle.flt_store.proofs.Known.{knows_may, knows_named, learned_may, learned_all}
 use Rattle.flt_store.proofs.Causes.{resolved}
 use Rattle.flt_store.proofs.Started.{mark_kept, started_kept}
-use Rattle.flt_store.proofs.Running.{served_on, failed_on, failed_later, unfailed}
+use Rattle.flt_store.proofs.Running.{served_on, failed_on, failed_later, unfailed, whenever, told_by}
 use Rattle.flt_store.proofs.Dark.{was_flash}
 use Rattle.flt_store.proofs.store.Store.settle.Goals as goal
 
@@ -35,25 +35,25 @@ returns-then-self-clause-settles g c = λ h s running.
 pub read_blocks-self-requires-clause-table : goal.read_blocks-self-requires-clause-table
 read_blocks-self-requires-clause-table g c = c.restart.ensures.table ∙ c.args.self.now.table
 
-pub returns-in-Ok-clause-settles : goal.returns-in-Ok-clause-settles
-returns-in-Ok-clause-settles g c = λ h s running.
+pub returns-clause-settles : goal.returns-clause-settles
+returns-clause-settles g c = λ h s running.
     let before = driver_of c.args.self.now in
     let middle = driver_beneath c.restart.new.nvm in
     let after = driver_beneath c.read_blocks-self.new.nvm in
     let later = c.read_blocks-self.ensures.reads.follows in
     let served = served_on c.args.config.now before after (more_calls before middle after c.restart.ensures.follows later) running.served in
-    let kept = started_kept c.args.config.now middle.value after.value c.read_blocks-self.ensures.reads.values c.in-Ok.commit in
-    let known = λ (h : Generation) (started : IsStarted c.args.config.now middle.value c.in-Ok.commit h).
-    learned_may c.args.config.now running.served.given middle after h (bytes_at c.read_blocks-self.result) c.in-Ok.commit started.names c.read_blocks-self.ensures.learned in
-    ⊎_elim {A = IsStarted c.args.config.now middle.value c.in-Ok.commit h}
+    let kept = started_kept c.args.config.now middle.value after.value c.read_blocks-self.ensures.reads.values c.in_ok-commit.commit in
+    let known = λ (h : Generation) (started : IsStarted c.args.config.now middle.value c.in_ok-commit.commit h).
+    learned_may c.args.config.now running.served.given middle after h (bytes_at c.read_blocks-self.result) c.in_ok-commit.commit started.names c.read_blocks-self.ensures.learned in
+    ⊎_elim {A = IsStarted c.args.config.now middle.value c.in_ok-commit.commit h}
     (λ by_held. record {
       chosen = h;
       is = inl refl;
       ready = record { served = served; started = kept h by_held; known = known h by_held };
       learns = λ undisturbed. (let never = unfailed before after c.args.self.now.is_settled c.if-self.false undisturbed in record {
-        commit = λ commit has. ⊎_elim (λ is. is) (λ rose. absurd (never (failed_on before middle after later rose))) (c.in-Ok.ensures.first commit has);
+        commit = λ commit has. ⊎_elim (λ is. is) (λ rose. absurd (never (failed_on before middle after later rose))) (c.in_ok-commit.ensures.first commit has);
         known = learned_all c.args.config.now running.served.given middle after h (bytes_at c.read_blocks-self.result) (λ rose. never (failed_later before middle after c.restart.ensures.follows rose))
-            c.in-Ok.commit by_held.names c.read_blocks-self.ensures.learned;
+            c.in_ok-commit.commit by_held.names c.read_blocks-self.ensures.learned;
       });
     })
     (λ by_spare.
@@ -63,13 +63,13 @@ returns-in-Ok-clause-settles g c = λ h s running.
       ready = record { served = served; started = kept s by_spare.0; known = known s by_spare.0 };
       learns = λ undisturbed. absurd (unfailed before after c.args.self.now.is_settled c.if-self.false undisturbed rose);
     })
-    (c.in-Ok.ensures.started h s running.sound running.mark)
+    (c.in_ok-commit.ensures.started h s running.sound running.mark)
 
-pub returns-in-Err-clause-failed : goal.returns-in-Err-clause-failed
-returns-in-Err-clause-failed g c = λ state h s running.
-    let before = driver_of c.args.self.now in
+pub returns-in_err-commit-clause-failed : goal.returns-in_err-commit-clause-failed
+returns-in_err-commit-clause-failed g c = λ state h s running. whenever c.from_residual.result
+    (let before = driver_of c.args.self.now in
     let after = driver_beneath c.restart.new.nvm in
-    let left = c.in-Err.ensures.failed h s (numbered (h.number + 1) state) running.sound in
+    let left = c.in_err-commit.ensures.failed h s (numbered (h.number + 1) state) running.sound in
     record {
       chosen = h;
       is = inl refl;
@@ -85,23 +85,28 @@ returns-in-Err-clause-failed g c = λ state h s running.
       held_is = left.held_is;
       spare_is = left.spare_is;
       rises = left.rises;
-    }
+    })
 
-pub returns-in-Err-clause-flash : goal.returns-in-Err-clause-flash
-returns-in-Err-clause-flash g c = λ h s running told.
+pub returns-in_err-commit-clause-flash : goal.returns-in_err-commit-clause-flash
+returns-in_err-commit-clause-flash g c = λ h s running told.
     let before = driver_of c.args.self.now in
     let after = driver_beneath c.restart.new.nvm in
-    let left = c.in-Err.ensures.failed h s h running.sound in
-    let is : c.save_fault.result ≡ Flash = cc told in
-    resolved c.args.config.now running.served.given before after c.in-Err.fault (c.in-Err.ensures.writes h s running.sound) c.args.self.now.numbers running.served.room running.served.mounted
-    left.sound.holds.excess (c.save_fault.ensures.flash is)
+    let left = c.in_err-commit.ensures.failed h s h running.sound in
+    resolved c.args.config.now running.served.given before after _ (c.in_err-commit.ensures.writes h s running.sound) c.args.self.now.numbers running.served.room running.served.mounted
+    left.sound.holds.excess (told_by _ c.from_residual.result Flash c.from_residual.ensures.1 told)
 
-pub returns-in-Err-clause-unrestarted : goal.returns-in-Err-clause-unrestarted
-returns-in-Err-clause-unrestarted g c = λ h s running told.
+pub returns-in_err-commit-clause-unrestarted : goal.returns-in_err-commit-clause-unrestarted
+returns-in_err-commit-clause-unrestarted g c = λ h s running told.
     let before = driver_of c.args.self.now in
     let after = driver_beneath c.restart.new.nvm in
-    let left = c.in-Err.ensures.failed h s h running.sound in
-    let is : c.save_fault.result ≡ Flash = cc told in
-    let fault = was_flash c.args.config.now running.served.given before after c.in-Err.fault (c.in-Err.ensures.writes h s running.sound) c.args.self.now.numbers running.served.room running.served.mounted
-    left.sound.holds.excess (c.save_fault.ensures.flash is) in
-    c.in-Err.ensures.unrestarted h s running.sound (ap Err fault)
+    let left = c.in_err-commit.ensures.failed h s h running.sound in
+    let fault = was_flash c.args.config.now running.served.given before after _ (c.in_err-commit.ensures.writes h s running.sound) c.args.self.now.numbers running.served.room running.served.mounted
+    left.sound.holds.excess (told_by _ c.from_residual.result Flash c.from_residual.ensures.1 told) in
+    c.in_err-commit.ensures.unrestarted h s running.sound (ap Err fault)
+
+pub returns-in_err-commit-clause-not_spent : goal.returns-in_err-commit-clause-not_spent
+returns-in_err-commit-clause-not_spent g c = λ told. told_by _ c.from_residual.result Spent c.from_residual.ensures.1 told
+
+pub returns-in_err-commit-clause-sequence : goal.returns-in_err-commit-clause-sequence
+returns-in_err-commit-clause-sequence g c = λ h s running told.
+    (c.in_err-commit.ensures.writes h s running.sound).stuck (ap Err (told_by _ c.from_residual.result SequenceSpent c.from_residual.ensures.1 told))

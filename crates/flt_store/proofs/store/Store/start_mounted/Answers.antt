@@ -2,13 +2,13 @@ use Rattle.std.proofs.Common.{◌≡◌, inl, inr, Ok, Err, refl, sym, ◌∙◌
 use Rattle.flt_flash.proofs.CallsInARow.{more_calls}
 use Rattle.std.specs.Prelude.{◌↔◌, IsTrue}
 use Rattle.flt_flash.specs.Content.{Content}
-use Rattle.flt_generation.specs.declared.mark.Mark.{Mark}
 use Rattle.flt_generation.specs.Layout.{mark_number}
 use Rattle.flt_generation.specs.Form.{mark_of}
 use Rattle.flt_nvm.specs.Driver.{driver_of as driver_beneath}
 use Rattle.flt_generation.specs.Holding.{Generation}
-use Rattle.flt_restore.specs.Restored.{generation, IsJudged, IsMarkDue, Refuses}
+use Rattle.flt_restore.specs.Restored.{generation, IsJudged, IsMarkDue}
 use Rattle.flt_restore.proofs.Judged.{judged_of}
+use Rattle.flt_restore.proofs.Telling.{handed_on}
 use Rattle.flt_store.specs.Dark.{IsOfBlocks}
 use Rattle.flt_store.specs.Start.{RefusedFor}
 use Rattle.flt_store.specs.Started.{IsStarted}
@@ -17,117 +17,118 @@ use Rattle.flt_store.proofs.Causes.{resolved, writes_on}
 use Rattle.flt_store.proofs.Started.{sound_started}
 use Rattle.flt_store.proofs.Started.{numbered as number_of_started}
 use Rattle.flt_store.proofs.Repairing.{sound_kept, both_old}
-use Rattle.flt_store.proofs.Running.{served_on}
+use Rattle.flt_store.proofs.Running.{served_on, told_by, whenever}
 use Rattle.flt_store.proofs.Beginning.{begins_of, restored_fits, judged_in, same_generation, not_spent}
 use Rattle.flt_store.proofs.Faults.{refused_by_reading, refused_by_writing}
 use Rattle.flt_restore.specs.declared.fault.StartFault.TheVariants.{Flash, SequenceSpent}
 use Rattle.flt_store.specs.Start.{told_of_write}
-use Rattle.flt_store.proofs.Dark.{err_as, not_by_write, unbegun_from, was_flash_of_write}
+use Rattle.flt_store.proofs.Dark.{not_by_write, unbegun_from, was_flash_of_write}
 use Rattle.flt_store.proofs.OutOfNumbers.{begun_stuck_from, was_stuck}
 use Rattle.flt_store.proofs.store.Store.start_mounted.Goals as goal
 
 pub begin_by-requires-clause-due : goal.begin_by-requires-clause-due
 begin_by-requires-clause-due g c =
-    let after = driver_beneath c.restore.new.nvm in
-    subst (λ (mark : Mark). IsTrue c.in-Ok.found.is_mark_due ↔ IsMarkDue mark (after.value mark_number)) (sym c.mark_of-mark.ensures.value)
-    (subst (λ (content : Content). IsTrue c.in-Ok.found.is_mark_due ↔ IsMarkDue (mark_of c.args.config.now) content) (sym (c.restore.ensures.values mark_number)) c.in-Ok.ensures.mark)
+    subst (λ (content : Content). IsTrue c.in_ok-found.found.is_mark_due ↔ IsMarkDue (mark_of c.args.config.now) content) (sym (c.restore.ensures.values mark_number)) c.in_ok-found.ensures.mark
 
-pub returns-in-Ok-begin_by-clause-started : goal.returns-in-Ok-begin_by-clause-started
-returns-in-Ok-begin_by-clause-started g c =
+pub returns-in-Ok-clause-started : goal.returns-in-Ok-clause-started
+returns-in-Ok-clause-started g c =
     let first = driver_of c.args.self.now in
     let second = driver_beneath c.restore.new.nvm in
     let third = driver_beneath c.begin_by.new.nvm in
-    let restored = c.in-Ok.ensures.restored in
-    let d = generation c.in-Ok.found.commit c.restore.new.out in
-    let begins = begins_of c.args.config.now c.mark_of-mark.ensures.given first second c.in-Ok.found.commit c.restore.new.out c.restore.ensures.values restored.restored in
-    let started = c.in-Ok-begin_by.ensures.started d begins in
+    let restored = c.in_ok-found.ensures.restored in
+    let d = generation c.in_ok-found.found.commit c.restore.new.out in
+    let begins = begins_of c.args.config.now c.begin_by.ensures.given first second c.in_ok-found.found.commit c.restore.new.out c.restore.ensures.values restored.restored in
+    let started = c.in-Ok.ensures.started d begins in
     let number = c.number_in-generation.result in
-    let is = number_of_started c.args.config.now third.value c.in-Ok-begin_by.commit d started.names ∙ sym c.number_in-generation.ensures in
-    let same = same_generation c.in-Ok.found.commit c.restore.new.out number is in
-    let now = subst (λ (h : Generation). IsStarted c.args.config.now third.value c.in-Ok-begin_by.commit h) same started in
+    let is = number_of_started c.args.config.now third.value c.in-Ok.commit d started.names ∙ sym c.number_in-generation.ensures in
+    let same = same_generation c.in_ok-found.found.commit c.restore.new.out number is in
+    let now = subst (λ (h : Generation). IsStarted c.args.config.now third.value c.in-Ok.commit h) same started in
     let follows = more_calls first second third c.restore.ensures.follows c.begin_by.ensures.follows in
     record {
       undamaged = g.met.B.Blocks.mounted_is_sound c.args.self.now.nvm.blocks c.requires.mounted;
       judged = subst (λ (h : Generation). IsJudged c.args.config.now first third (Ok h)) same
-          (judged_in c.args.config.now first first second third (Ok d) (λ n. refl) (omega arith) c.begin_by.ensures.follows.counts (judged_of c.args.config.now first second c.in-Ok.found.commit c.restore.new.out restored.restored));
+          (judged_in c.args.config.now first first second third (Ok d) (λ n. refl) (omega arith) c.begin_by.ensures.follows.counts (judged_of c.args.config.now first second c.in_ok-found.found.commit c.restore.new.out restored.restored));
       usable = not_spent first second c.restore.ensures.follows restored.usable;
       running = record {
-        served = served_on c.args.config.now first third follows (record { given = c.mark_of-mark.ensures.given; room = c.requires.room; mounted = c.requires.mounted });
+        served = served_on c.args.config.now first third follows (record { given = c.begin_by.ensures.given; room = c.requires.room; mounted = c.requires.mounted });
         mark = now.mark;
-        sound = sound_started c.args.config.now third.value c.in-Ok-begin_by.commit (numbered number c.restore.new.out) now;
+        sound = sound_started c.args.config.now third.value c.in-Ok.commit (numbered number c.restore.new.out) now;
         settled = λ yes. now;
         known = λ yes. c.put_all.ensures.bytes;
       };
       settled = refl;
     }
 
-pub returns-in-Err-begin_by-clause-refused : goal.returns-in-Err-begin_by-clause-refused
-returns-in-Err-begin_by-clause-refused g c =
+pub returns-in-Err-clause-refused : goal.returns-in-Err-clause-refused
+returns-in-Err-clause-refused g c =
     let first = driver_of c.args.self.now in
     let second = driver_beneath c.restore.new.nvm in
     let third = driver_beneath c.begin_by.new.nvm in
-    let restored = c.in-Ok.ensures.restored in
-    let d = generation c.in-Ok.found.commit c.restore.new.out in
-    let begins = begins_of c.args.config.now c.mark_of-mark.ensures.given first second c.in-Ok.found.commit c.restore.new.out c.restore.ensures.values restored.restored in
-    let writes = writes_on first second third (Err c.in-Err-begin_by.fault) c.restore.ensures.follows (c.in-Err-begin_by.ensures.writes d begins) in
-    let judged = judged_in c.args.config.now first first second third (Ok d) (λ n. refl) (omega arith) c.begin_by.ensures.follows.counts (judged_of c.args.config.now first second c.in-Ok.found.commit c.restore.new.out restored.restored) in
+    let restored = c.in_ok-found.ensures.restored in
+    let d = generation c.in_ok-found.found.commit c.restore.new.out in
+    let begins = begins_of c.args.config.now c.begin_by.ensures.given first second c.in_ok-found.found.commit c.restore.new.out c.restore.ensures.values restored.restored in
+    let writes = writes_on first second third (Err c.in-Err.fault) c.restore.ensures.follows (c.in-Err.ensures.writes d begins) in
+    let judged = judged_in c.args.config.now first first second third (Ok d) (λ n. refl) (omega arith) c.begin_by.ensures.follows.counts (judged_of c.args.config.now first second c.in_ok-found.found.commit c.restore.new.out restored.restored) in
     subst (RefusedFor c.args.config.now c.args.self.now _) (sym c.write_fault.ensures)
-    (refused_by_writing c.args.config.now c.args.self.now _ c.in-Err-begin_by.fault d (record { undamaged = g.met.B.Blocks.mounted_is_sound c.args.self.now.nvm.blocks c.requires.mounted; is = judged })
+    (refused_by_writing c.args.config.now c.args.self.now _ c.in-Err.fault d (record { undamaged = g.met.B.Blocks.mounted_is_sound c.args.self.now.nvm.blocks c.requires.mounted; is = judged })
     (λ is. (let stuck = writes.stuck (ap Err is) in g.met.B.Blocks.stuck_is_spent c.begin_by.new.nvm.blocks stuck.0 stuck.1 stuck.3))
-    (resolved c.args.config.now c.mark_of-mark.ensures.given first third c.in-Err-begin_by.fault writes c.args.self.now.numbers c.requires.room c.requires.mounted (c.begin_by.ensures.borne d begins)))
+    (resolved c.args.config.now c.begin_by.ensures.given first third c.in-Err.fault writes c.args.self.now.numbers c.requires.room c.requires.mounted (c.begin_by.ensures.borne d begins)))
 
-pub returns-in-Err-clause-refused : goal.returns-in-Err-clause-refused
-returns-in-Err-clause-refused g c =
-    refused_by_reading c.args.config.now c.args.self.now _ c.in-Err.fault (g.met.B.Blocks.mounted_is_sound c.args.self.now.nvm.blocks c.requires.mounted) c.restore.ensures.values (c.restore.ensures.refused c.in-Err.fault c.in-Err.is)
-
-pub returns-in-Err-begin_by-clause-left : goal.returns-in-Err-begin_by-clause-left
-returns-in-Err-begin_by-clause-left g c = λ h s sound.
-    let first = driver_of c.args.self.now in
-    let second = driver_beneath c.restore.new.nvm in
-    let d = generation c.in-Ok.found.commit c.restore.new.out in
-    let begins = begins_of c.args.config.now c.mark_of-mark.ensures.given first second c.in-Ok.found.commit c.restore.new.out c.restore.ensures.values c.in-Ok.ensures.restored.restored in
-    c.in-Err-begin_by.ensures.tried h s d (sound_kept c.args.config.now first.value second.value h s c.restore.ensures.values sound) begins
+pub returns-in_err-found-clause-refused : goal.returns-in_err-found-clause-refused
+returns-in_err-found-clause-refused g c =
+    handed_on _ c.from_residual.result _ c.from_residual.ensures.1
+    (refused_by_reading c.args.config.now c.args.self.now _ _ (g.met.B.Blocks.mounted_is_sound c.args.self.now.nvm.blocks c.requires.mounted) c.restore.ensures.values (c.restore.ensures.refused _ c.in_err-found.was))
 
 pub returns-in-Err-clause-left : goal.returns-in-Err-clause-left
 returns-in-Err-clause-left g c = λ h s sound.
-    both_old c.args.config.now (driver_beneath c.restore.new.nvm).value h s h (sound_kept c.args.config.now (driver_of c.args.self.now).value (driver_beneath c.restore.new.nvm).value h s c.restore.ensures.values sound)
+    let first = driver_of c.args.self.now in
+    let second = driver_beneath c.restore.new.nvm in
+    let d = generation c.in_ok-found.found.commit c.restore.new.out in
+    let begins = begins_of c.args.config.now c.begin_by.ensures.given first second c.in_ok-found.found.commit c.restore.new.out c.restore.ensures.values c.in_ok-found.ensures.restored.restored in
+    c.in-Err.ensures.tried h s d (sound_kept c.args.config.now first.value second.value h s c.restore.ensures.values sound) begins
+
+pub returns-in_err-found-clause-left : goal.returns-in_err-found-clause-left
+returns-in_err-found-clause-left g c = λ h s sound. whenever c.from_residual.result
+    (both_old c.args.config.now (driver_beneath c.restore.new.nvm).value h s h (sound_kept c.args.config.now (driver_of c.args.self.now).value (driver_beneath c.restore.new.nvm).value h s c.restore.ensures.values sound))
 
 pub put_all-requires : goal.put_all-requires
 put_all-requires g c =
-    restored_fits c.args.config.now c.mark_of-mark.ensures.given (driver_of c.args.self.now) (driver_beneath c.restore.new.nvm) c.in-Ok.found.commit c.restore.new.out c.restore.ensures.values c.in-Ok.ensures.restored.restored
+    restored_fits c.args.config.now c.begin_by.ensures.given (driver_of c.args.self.now) (driver_beneath c.restore.new.nvm) c.in_ok-found.found.commit c.restore.new.out c.restore.ensures.values c.in_ok-found.ensures.restored.restored
 
-pub returns-in-Ok-begin_by-clause-fits : goal.returns-in-Ok-begin_by-clause-fits
-returns-in-Ok-begin_by-clause-fits g c =
-    restored_fits c.args.config.now c.mark_of-mark.ensures.given (driver_of c.args.self.now) (driver_beneath c.restore.new.nvm) c.in-Ok.found.commit c.restore.new.out c.restore.ensures.values c.in-Ok.ensures.restored.restored
+pub returns-in-Ok-clause-fits : goal.returns-in-Ok-clause-fits
+returns-in-Ok-clause-fits g c =
+    restored_fits c.args.config.now c.begin_by.ensures.given (driver_of c.args.self.now) (driver_beneath c.restore.new.nvm) c.in_ok-found.found.commit c.restore.new.out c.restore.ensures.values c.in_ok-found.ensures.restored.restored
 
-pub returns-in-Err-begin_by-clause-unready : goal.returns-in-Err-begin_by-clause-unready
-returns-in-Err-begin_by-clause-unready g c = λ flash.
+pub returns-in-Err-clause-unready : goal.returns-in-Err-clause-unready
+returns-in-Err-clause-unready g c = λ flash.
     let first = driver_of c.args.self.now in
     let second = driver_beneath c.restore.new.nvm in
     let third = driver_beneath c.begin_by.new.nvm in
-    let d = generation c.in-Ok.found.commit c.restore.new.out in
-    let begins = begins_of c.args.config.now c.mark_of-mark.ensures.given first second c.in-Ok.found.commit c.restore.new.out c.restore.ensures.values c.in-Ok.ensures.restored.restored in
-    let writes = writes_on first second third (Err c.in-Err-begin_by.fault) c.restore.ensures.follows (c.in-Err-begin_by.ensures.writes d begins) in
+    let d = generation c.in_ok-found.found.commit c.restore.new.out in
+    let begins = begins_of c.args.config.now c.begin_by.ensures.given first second c.in_ok-found.found.commit c.restore.new.out c.restore.ensures.values c.in_ok-found.ensures.restored.restored in
+    let writes = writes_on first second third (Err c.in-Err.fault) c.restore.ensures.follows (c.in-Err.ensures.writes d begins) in
     let told = c.write_fault.ensures in
-    let is : told_of_write c.in-Err-begin_by.fault ≡ Flash = cc (flash, told) in
-    let fault_is = was_flash_of_write c.args.config.now c.mark_of-mark.ensures.given first third c.in-Err-begin_by.fault writes c.args.self.now.numbers c.requires.room c.requires.mounted (c.begin_by.ensures.borne d begins) is in
-    inr (unbegun_from first second third c.restore.ensures.follows c.restore.ensures.values c.args.config.now (c.in-Err-begin_by.ensures.unbegun d begins (ap Err fault_is)))
+    let is : told_of_write c.in-Err.fault ≡ Flash = cc (flash, told) in
+    let fault_is = was_flash_of_write c.args.config.now c.begin_by.ensures.given first third c.in-Err.fault writes c.args.self.now.numbers c.requires.room c.requires.mounted (c.begin_by.ensures.borne d begins) is in
+    inr (unbegun_from first second third c.restore.ensures.follows c.restore.ensures.values c.args.config.now (c.in-Err.ensures.unbegun d begins (ap Err fault_is)))
 
-pub returns-in-Err-clause-unready : goal.returns-in-Err-clause-unready
-returns-in-Err-clause-unready g c = λ flash. inl (c.in-Err.ensures.unread (err_as c.in-Err.fault _ flash))
+pub returns-in_err-found-clause-unready : goal.returns-in_err-found-clause-unready
+returns-in_err-found-clause-unready g c = λ flash. inl (c.in_err-found.ensures.unread (ap Err (sym (told_by _ c.from_residual.result Flash c.from_residual.ensures.1 flash))))
 
-pub returns-in-Err-begin_by-clause-unwritten : goal.returns-in-Err-begin_by-clause-unwritten
-returns-in-Err-begin_by-clause-unwritten g c = λ judged. absurd (not_by_write c.in-Err-begin_by.fault (subst IsOfBlocks c.write_fault.ensures judged))
+pub returns-in-Err-clause-unwritten : goal.returns-in-Err-clause-unwritten
+returns-in-Err-clause-unwritten g c = λ judged. absurd (not_by_write c.in-Err.fault (subst IsOfBlocks c.write_fault.ensures judged))
+
+pub returns-in_err-found-clause-spent : goal.returns-in_err-found-clause-spent
+returns-in_err-found-clause-spent g c = λ spent.
+    let last = c.restore.ensures.refused SequenceSpent (c.in_err-found.was ∙ ap Err (sym (told_by _ c.from_residual.result SequenceSpent c.from_residual.ensures.1 spent))) in
+    inl (sym c.restore.ensures.spent ∙ last.1)
 
 pub returns-in-Err-clause-spent : goal.returns-in-Err-clause-spent
 returns-in-Err-clause-spent g c = λ spent.
-    let same : c.in-Err.fault ≡ SequenceSpent = cc spent in
-    let last = subst (Refuses c.args.config.now (driver_of c.args.self.now) (driver_beneath c.restore.new.nvm)) same (c.restore.ensures.refused c.in-Err.fault c.in-Err.is) in
-    inl (sym c.restore.ensures.spent ∙ last.1)
-
-pub returns-in-Err-begin_by-clause-spent : goal.returns-in-Err-begin_by-clause-spent
-returns-in-Err-begin_by-clause-spent g c = λ spent.
     let told = c.write_fault.ensures in
-    let is : told_of_write c.in-Err-begin_by.fault ≡ SequenceSpent = cc (spent, told) in
-    let stuck = c.in-Err-begin_by.ensures.stuck (ap Err (was_stuck c.in-Err-begin_by.fault is)) in
+    let is : told_of_write c.in-Err.fault ≡ SequenceSpent = cc (spent, told) in
+    let stuck = c.in-Err.ensures.stuck (ap Err (was_stuck c.in-Err.fault is)) in
     inr (begun_stuck_from c.args.config.now (driver_of c.args.self.now) (driver_beneath c.restore.new.nvm) (driver_beneath c.begin_by.new.nvm) c.restore.ensures.follows c.restore.ensures.values stuck)
+
+pub returns-in_err-found-clause-unwritten : goal.returns-in_err-found-clause-unwritten
+returns-in_err-found-clause-unwritten g c = handed_on _ c.from_residual.result _ c.from_residual.ensures.1 (λ judged. c.restore.ensures.image)

@@ -15,7 +15,7 @@ use Rattle.flt_store.proofs.Causes.{no_write, one_write}
 use Rattle.flt_store.proofs.Running.{on_ok}
 use Rattle.flt_store.proofs.Marks.{stands_anew}
 use Rattle.flt_store.proofs.Dark.{write_at_once}
-use Rattle.flt_store.proofs.marking.write_mark.Goals as goal
+use Rattle.flt_store.proofs.store.starting.write_mark.Goals as goal
 
 pub write-requires-clause-index : goal.write-requires-clause-index
 write-requires-clause-index g c = mark_index _ c.requires.table
