@@ -23,7 +23,9 @@ use flt_image::{Commit, get_commit};
 use flt_nvm::{Got, Nvm};
 
 /// Makes both copies of the commit hold what the first has, or the second where the first has no bytes or can't be read;
-/// answers their commit, or none before the first save.
+/// answers their commit, or none before the first save. It stands apart from the saves that find the store settled: in line, each of them
+/// would clear the room for the blocks that are read behind it.
+#[inline(never)]
 pub(crate) fn restart<B: Blocks + Drop>(
     nvm: &mut Nvm<B>,
     config: &ValidConfig,
