@@ -8,7 +8,7 @@ ghost use Rattle.flt_config.specs.declared.config.DidUse.{DidUse};
 ghost use Rattle.flt_life.specs.Moment.{Medium};
 ghost use Rattle.flt_lives.specs.Devices.{ServesAll};
 ghost use Rattle.flt_run.specs.declared.command.Command.TheVariants.{Check, Load, Run};
-ghost use Rattle.flt_run.specs.declared.ending.Ending.TheVariants.{Loaded, Ran, Usage};
+ghost use Rattle.flt_run.specs.declared.ending.Ending.TheVariants.{Loaded, Usage};
 ghost use Rattle.flt_run.specs.Ending.{ComesTo, EndingHasCause};
 ghost use Rattle.flt_run.specs.Seen.{inside_of, unread_inside};
 
@@ -53,17 +53,6 @@ fn check<S: Source>(alloc: Global, source: &mut S, dids: &DidTable<DID_ROWS>) ->
         Fetched::Refused(fault) => Some(Ending::Refused(fault)),
         Fetched::Failed => Some(Ending::Unreadable),
         Fetched::Memory => None,
-    }
-}
-
-/// The lives of a script that was read were made, or memory was wanting.
-fn ran<D: Drop>(made_on: MadeOn<D>) -> Performed<D>
-    ensures { result ≡ record { ending = option_map Ran made_on.made; device = made_on.device } }
-{
-    let MadeOn { made, device } = made_on;
-    Performed {
-        ending: made.map(|made| Ending::Ran(made)),
-        device,
     }
 }
 
@@ -185,7 +174,13 @@ fn run_script<R: Threads + Wait + Sync, G: SharedGate, S: Source, D: Driver>(
     match fetch(alloc, source, &dids) {
         Fetched::Script(script) => {
             let unit = unit_of(&script.config, dids);
-            ran(live_in_lanes::<R, G, D>(rt, gate, alloc, unit, device, script))
+            let MadeOn { made, device } = live_in_lanes::<R, G, D>(
+                rt, gate, alloc, unit, device, script,
+            );
+            Performed {
+                ending: made.map(|made| Ending::Ran(made)),
+                device,
+            }
         }
         Fetched::Refused(fault) => Performed {
             ending: Some(Ending::Refused(fault)),
