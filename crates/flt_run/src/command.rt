@@ -1,6 +1,6 @@
 ghost use Rattle.std.specs.Prelude.{◌≡◌, ◌≤◌, map, IfSome};
 ghost use Rattle.std.specs.String.{string_bytes};
-ghost use Rattle.flt_run.specs.Command.{IsInRange, command_named, command_of, count_of, ea_command_named, ea_command_of, kind_of, load_of};
+ghost use Rattle.flt_run.specs.Command.{IsInRange, command_of, count_of, ea_command_of, kind_of, load_of};
 
 use flt_script::read_number;
 
@@ -20,16 +20,6 @@ const REPORTS: u64 = 60_000;
 
 /// The most digits of their number.
 const DIGITS: usize = 5;
-
-fn command_named(word: &[u8]) -> Option<Command>
-    ensures { result ≡ command_named word.now }
-{
-    match word {
-        b"run" => Some(Command::Run),
-        b"check" => Some(Command::Check),
-        _ => None,
-    }
-}
 
 /// How many reports a load has.
 #[tactic(auto, unfolding(crate::specs::Command::count_of))]
@@ -80,17 +70,12 @@ pub(crate) fn read_command(words: &[String]) -> Option<Command>
     ensures range { IsInRange result }
 {
     match words {
-        [word] => command_named(word.as_bytes()),
+        [word] => match word.as_bytes() {
+            b"run" => Some(Command::Run),
+            b"check" => Some(Command::Check),
+            _ => None,
+        },
         [word, count, kind] => read_load(word.as_bytes(), count.as_bytes(), kind.as_bytes()),
-        _ => None,
-    }
-}
-
-fn ea_command_named(word: &[u8]) -> Option<Command>
-    ensures { result ≡ ea_command_named word.now }
-{
-    match word {
-        b"ea" => Some(Command::Run),
         _ => None,
     }
 }
@@ -101,7 +86,7 @@ pub(crate) fn read_ea_command(words: &[String]) -> Option<Command>
     ensures range { IsInRange result }
 {
     match words {
-        [word] => ea_command_named(word.as_bytes()),
+        [word] if matches!(word.as_bytes(), b"ea") => Some(Command::Run),
         _ => None,
     }
 }
