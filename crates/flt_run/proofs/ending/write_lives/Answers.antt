@@ -10,7 +10,7 @@ use Rattle.flt_run.specs.Left.{lives_left}
 use Rattle.flt_report.specs.Life.{life_text}
 use Rattle.flt_report.proofs.Written.{always_on_err, goes_on, stops, ends}
 use Rattle.flt_run.proofs.LivesLeft.{lives_more, lives_end}
-use Rattle.flt_run.proofs.report.write_lives.Goals as goal
+use Rattle.flt_run.proofs.ending.write_lives.Goals as goal
 
 pub loop-index-preserved : goal.loop-index-preserved
 loop-index-preserved g c =

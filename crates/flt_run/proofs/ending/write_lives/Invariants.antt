@@ -1,7 +1,7 @@
 use Rattle.std.proofs.Common.{◌≤◌}
 use Rattle.flt_report.specs.Left.{IsWritten}
 use Rattle.flt_run.specs.Left.{lives_left}
-use Rattle.flt_run.proofs.report.write_lives.Given as goal
+use Rattle.flt_run.proofs.ending.write_lives.Given as goal
 
 abbrev pub invariant-loop-index : goal.invariant-loop-index
 invariant-loop-index g l = record {
