@@ -1,26 +1,39 @@
-// What a run comes to, by its command, before it is told.
-ghost use Rattle.std.specs.Prelude.{◌≡◌, ◌≤◌, ℕ, List, Option, None, Some, IfSome, option_map, false, true};
+// What a run comes to by its command, before it is told: the lives of its script over a device, or an answer without lives.
+ghost use Rattle.std.specs.Prelude.{◌≡◌, ◌≢◌, ◌≤◌, ℕ, List, Option, None, Some, All, IfSome, option_map, false, true};
 ghost use Rattle.flt_flash.specs.State.{FlashState};
-ghost use Rattle.flt_did.specs.Table.{dids_of};
-ghost use Rattle.flt_run.specs.Command.{IsInRange, plain_of};
 ghost use Rattle.flt_config.specs.declared.config.Config.{Config};
 ghost use Rattle.flt_config.specs.declared.config.DidUse.{DidUse};
+ghost use Rattle.flt_did.specs.Serves.{Serves};
+ghost use Rattle.flt_did.specs.Table.{dids_of};
+ghost use Rattle.flt_dcm.specs.Whole.{config_of};
+ghost use Rattle.flt_script.specs.Part.{parts_of};
+ghost use Rattle.flt_script.specs.Script.{content};
+ghost use Rattle.flt_generation.specs.Laws.{IsGiven};
+ghost use Rattle.flt_restore.specs.declared.fault.StartFault.TheVariants.{Flash};
+ghost use Rattle.flt_life.specs.declared.life.Boot.TheVariants.{Refused};
+ghost use Rattle.flt_life.specs.Lives.{lists};
 ghost use Rattle.flt_life.specs.Moment.{Medium};
+ghost use Rattle.flt_lives.specs.Alone.{AreAlone};
 ghost use Rattle.flt_lives.specs.Devices.{ServesAll};
-ghost use Rattle.flt_run.specs.declared.command.Command.TheVariants.{Check, Load, Run};
+ghost use Rattle.flt_run.specs.declared.command.Command.TheVariants as commands;
 ghost use Rattle.flt_run.specs.declared.ending.Ending.TheVariants.{Loaded, Usage};
-ghost use Rattle.flt_run.specs.Ending.{ComesTo, EndingHasCause};
+ghost use Rattle.flt_run.specs.Command.{IsInRange, plain_of};
+ghost use Rattle.flt_run.specs.Ending.{ComesTo, EndingHasCause, MakesLives};
 ghost use Rattle.flt_run.specs.Seen.{inside_of, unread_inside};
 
 use crate::command::Command;
 use crate::ending::Ending;
-use crate::engine::{MadeOn, live_alone, live_in_lanes, unit_of};
+use crate::made::Made;
+use flt_config::ValidConfig;
+use flt_dcm::Unit;
+use flt_dem::Dem;
 use flt_did::{DID_ROWS, DidTable};
+use flt_engine::run_in_lanes;
 use flt_io::Source;
 use flt_lane::SharedGate;
-use flt_lives::Driver;
+use flt_lives::{Driver, Run, run_alone};
 use flt_report::{Fetched, fetch};
-use flt_script::load;
+use flt_script::{Script, load};
 use std::alloc::Global;
 use std::marker::Sync;
 use std::sync::Wait;
@@ -31,6 +44,88 @@ use std::thread::Threads;
 pub(crate) struct Performed<D> {
     pub(crate) ending: Option<Ending>,
     pub(crate) device: D,
+}
+
+/// The lives that were made, or none for want of memory, and the device as they left it.
+#[derive(Drop)]
+struct MadeOn<D> {
+    made: Option<Made>,
+    device: D,
+}
+
+/// The machine of a script.
+fn unit_of(config: &ValidConfig, dids: DidTable<DID_ROWS>) -> Unit
+    requires { Serves (dids_of dids) config.now.events.items }
+    ensures { config_of result ≡ config.now }
+{
+    Unit::make(Dem::make(config.twin(), dids))
+}
+
+/// Looks at a configuration, which is valid, and whose numbers are those of their types.
+fn look_at_config(config: &ValidConfig)
+    ensures { IsGiven config.now }
+{
+    let config = config.config();
+    let _id = config.id;
+    let _events = config.events.len();
+}
+
+/// The lives of a script, as they were made.
+fn made_of<D: Drop>(script: Script, run: Run<D>) -> MadeOn<D>
+    requires { IfSome run.lives (λ lives. All (λ life. life.boot ≢ Refused Flash) lives.items) }
+    ensures device { result.device ≡ run.device }
+    ensures made { IfSome result.made (λ made. (lists made.script.items ≡ lists script.lives.items) × (run.lives ≡ Some made.lives)) }
+{
+    let Script { lives: script, .. } = script;
+    let Run { lives, device } = run;
+    match lives {
+        Some(lives) => MadeOn {
+            made: Some(Made { script, lives }),
+            device,
+        },
+        None => MadeOn { made: None, device },
+    }
+}
+
+/// Makes the lives of a script without blocks of lanes, one after the other, up to the first that is refused, on a machine without a
+/// lock.
+fn live_alone<D: Driver>(
+    alloc: Global,
+    unit: Unit,
+    device: D::Device,
+    script: Script,
+) -> MadeOn<D::Device>
+    requires same { config_of unit ≡ script.config }
+    requires alone { All (λ life. AreAlone (parts_of life.items)) script.lives.items }
+    requires serves { ServesAll D.serves (D.device_state device) }
+    requires boots { 256 ≤ (D.device_state device).bench.boots_left }
+    requires unarmed { (D.device_state device).bench.armed ≡ 0 }
+    ensures { MakesLives D.medium (content script) (D.device_state device) (D.device_state result.device) result.made }
+{
+    look_at_config(&script.config);
+    let run = run_alone::<D>(alloc, unit, device, &script.config, &script.lives);
+    made_of(script, run)
+}
+
+/// Makes the lives of a script one after the other, up to the first that is refused, all calls of a life under two locks, of the status
+/// machine and of the queue, and the lanes of a block at the same time. Each step is made between the two calls of the gate.
+fn live_in_lanes<R: Threads + Wait + Sync, G: SharedGate, D: Driver>(
+    rt: &R,
+    gate: &G,
+    alloc: Global,
+    unit: Unit,
+    device: D::Device,
+    script: Script,
+) -> MadeOn<D::Device>
+    requires same { config_of unit ≡ script.config }
+    requires serves { ServesAll D.serves (D.device_state device) }
+    requires boots { 256 ≤ (D.device_state device).bench.boots_left }
+    requires unarmed { (D.device_state device).bench.armed ≡ 0 }
+    ensures { MakesLives D.medium (content script) (D.device_state device) (D.device_state result.device) result.made }
+{
+    look_at_config(&script.config);
+    let run = run_in_lanes::<R, G, D>(rt, gate, alloc, unit, device, &script.config, &script.lives);
+    made_of(script, run)
 }
 
 /// The words are not those of a command.
@@ -46,7 +141,7 @@ fn usage<D: Drop>(device: D) -> Performed<D>
 /// Reads the script, and makes none of its steps.
 fn check<S: Source>(alloc: Global, source: &mut S, dids: &DidTable<DID_ROWS>) -> Option<Ending>
     ensures { (media : Config → Medium) (device : FlashState) → IfSome result (EndingHasCause (dids_of dids.now)
-        (inside_of S.left S.faults source.old source.new media device device) (Some Check) None) }
+        (inside_of S.left S.faults source.old source.new media device device) (Some commands.Check) None) }
 {
     match fetch(alloc, source, dids) {
         Fetched::Script(script) => Some(Ending::Accepted(script)),
@@ -80,7 +175,7 @@ fn load_plain<D: Driver>(
     requires boots { 256 ≤ (D.device_state device).bench.boots_left }
     requires unarmed { (D.device_state device).bench.armed ≡ 0 }
     ensures { (dids : List DidUse) (left : Option (List ℕ)) (faults : ℕ) → ComesTo dids
-        (unread_inside left faults D.medium (D.device_state device) (D.device_state result.device)) (Some (Load count false)) result.ending }
+        (unread_inside left faults D.medium (D.device_state device) (D.device_state result.device)) (Some (commands.Load count false)) result.ending }
 {
     match load(alloc, count, false) {
         Ok(script) => {
@@ -142,7 +237,7 @@ fn load_in_lanes<R: Threads + Wait + Sync, G: SharedGate, D: Driver>(
     requires boots { 256 ≤ (D.device_state device).bench.boots_left }
     requires unarmed { (D.device_state device).bench.armed ≡ 0 }
     ensures { (dids : List DidUse) (left : Option (List ℕ)) (faults : ℕ) → ComesTo dids
-        (unread_inside left faults D.medium (D.device_state device) (D.device_state result.device)) (Some (Load count true)) result.ending }
+        (unread_inside left faults D.medium (D.device_state device) (D.device_state result.device)) (Some (commands.Load count true)) result.ending }
 {
     match load(alloc, count, true) {
         Ok(script) => {
@@ -169,7 +264,7 @@ fn run_script<R: Threads + Wait + Sync, G: SharedGate, S: Source, D: Driver>(
     requires boots { 256 ≤ (D.device_state device).bench.boots_left }
     requires unarmed { (D.device_state device).bench.armed ≡ 0 }
     ensures { ComesTo (dids_of dids)
-        (inside_of S.left S.faults source.old source.new D.medium (D.device_state device) (D.device_state result.device)) (Some Run) result.ending }
+        (inside_of S.left S.faults source.old source.new D.medium (D.device_state device) (D.device_state result.device)) (Some commands.Run) result.ending }
 {
     match fetch(alloc, source, &dids) {
         Fetched::Script(script) => {

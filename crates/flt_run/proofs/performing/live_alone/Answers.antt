@@ -5,7 +5,7 @@ use Rattle.flt_script.specs.Part.{parts_of}
 use Rattle.flt_life.specs.Parts.{IsPossiblePart}
 use Rattle.flt_report.proofs.Possible.{possible_lives, all_arms_same, all_widths_same}
 use Rattle.flt_run.proofs.Lived.{if_some, begun_by, lived_by, none_by_flash}
-use Rattle.flt_run.proofs.engine.live_alone.Goals as goal
+use Rattle.flt_run.proofs.performing.live_alone.Goals as goal
 
 pub run_alone-run-requires-clause-small : goal.run_alone-run-requires-clause-small
 run_alone-run-requires-clause-small g c =

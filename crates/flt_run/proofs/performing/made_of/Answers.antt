@@ -4,7 +4,7 @@ use Rattle.flt_restore.specs.declared.fault.StartFault.TheVariants.{Flash}
 use Rattle.flt_life.specs.declared.life.Boot.TheVariants.{Refused}
 use Rattle.flt_life.specs.declared.life.Life.{Life}
 use Rattle.flt_report.proofs.Possible.{each_few}
-use Rattle.flt_run.proofs.engine.made_of.Goals as goal
+use Rattle.flt_run.proofs.performing.made_of.Goals as goal
 
 pub invariant_of-result : goal.invariant_of-result
 invariant_of-result g c = record {
