@@ -9,7 +9,6 @@ ghost use Rattle.flt_run.specs.Ending.{Runs};
 ghost use Rattle.flt_run.specs.Seen.{inside_of, outside_of};
 ghost use Rattle.flt_watch.specs.Watch.{Watches, reading_of, writing_of};
 ghost use Rattle.flt_program.specs.Program.{EndsOn};
-ghost use Rattle.flt_program.specs.Words.{asks_watch, begins_ea};
 
 use flt_did::{DID_ROWS, DidTable};
 use flt_ea::Eeprom;
@@ -33,26 +32,6 @@ pub enum Ended<B, E> {
     Device(Outcome<E>),
     /// It watched.
     Watch(WatchOutcome),
-}
-
-/// Whether the words ask for a watch.
-fn asks_watch(words: &[String]) -> bool
-    ensures { result ≡ asks_watch (map string_bytes words.now) }
-{
-    match words {
-        [word] => matches!(word.as_bytes(), b"watch"),
-        _ => false,
-    }
-}
-
-/// Whether the first of the words asks for an EEPROM.
-fn begins_ea(words: &[String]) -> bool
-    ensures { result ≡ begins_ea (map string_bytes words.now) }
-{
-    match words {
-        [word, ..] => matches!(word.as_bytes(), b"ea"),
-        _ => false,
-    }
 }
 
 /// Does what the program does: `watch` with these subscribers, each at 0, under the one word `watch`; `run_ea` over the device where the
@@ -94,11 +73,13 @@ pub fn program<
         (kinds_in subs) (values_in subs) outcome)
         result }
 {
-    if asks_watch(words) {
-        Ended::Watch(watch(rt, alloc, source, sink, dids, subs, gate))
-    } else if begins_ea(words) {
-        Ended::Device(run_ea(rt, alloc, words, source, sink, device, dids, gate))
-    } else {
-        Ended::Bench(run(rt, alloc, words, source, sink, bench, dids, gate))
+    match words {
+        [word] if word.as_str() == "watch" => {
+            Ended::Watch(watch(rt, alloc, source, sink, dids, subs, gate))
+        }
+        [word, ..] if word.as_str() == "ea" => Ended::Device(run_ea(
+            rt, alloc, words, source, sink, device, dids, gate,
+        )),
+        _ => Ended::Bench(run(rt, alloc, words, source, sink, bench, dids, gate)),
     }
 }
