@@ -7,8 +7,6 @@
 //! first.
 #![tactic(auto)]
 
-mod device;
 mod engine;
 
-pub use device::run_in_lanes;
-pub use engine::LockEngine;
+pub use engine::{LockEngine, run_in_lanes};
