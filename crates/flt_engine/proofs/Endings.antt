@@ -14,7 +14,7 @@ use Rattle.flt_life.specs.Applications.{AreGot, HoldApplications, jobs_told}
 use Rattle.flt_life.specs.Journal.{Journal}
 use Rattle.flt_life.specs.Ordered.{Deed}
 use Rattle.flt_shared.specs.Call.{Seat}
-use Rattle.flt_lives.specs.Living.{IsKeptSince}
+use Rattle.flt_life.specs.SoFar.{IsKeptSince}
 use Rattle.flt_fork.specs.Lived.{CouldClose}
 use Rattle.flt_fork.specs.Known.{IsKnownTo}
 use Rattle.flt_lane.specs.Living.{AreHeld, HoldsOn, IsLivingOn, answers_of, drains_in, drains_of, saves_in, saves_of}

@@ -27,8 +27,8 @@ use Rattle.flt_life.specs.Ordered.{deeds_in}
 use Rattle.flt_life.specs.Parts.{IsPossibleInLane, IsPossiblePart, steps_in}
 use Rattle.flt_life.specs.Played.{IsLife, IsMade, StepMakes, StepQueues}
 use Rattle.flt_shared.specs.Call.{Seat, reply_after}
-use Rattle.flt_lives.specs.Living.{IsCaused, IsKeptSince}
-use Rattle.flt_lives.proofs.Causing.{are_caused}
+use Rattle.flt_life.specs.SoFar.{IsCaused, IsKeptSince}
+use Rattle.flt_life.proofs.Causing.{are_caused}
 use Rattle.flt_lane.specs.Block.{HaveRunParts}
 use Rattle.flt_fork.specs.Lived.{CouldClose}
 use Rattle.flt_lane.specs.Living.{Carries, answers_of, drains_in, drains_of, saves_in, saves_of}

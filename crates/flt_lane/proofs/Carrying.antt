@@ -23,8 +23,8 @@ use Rattle.flt_life.specs.Applications.{GetsBy, HoldApplications, MayHold, jobs_
 use Rattle.flt_life.specs.Ordered.{Deed}
 use Rattle.flt_life.specs.declared.answer.StepAnswer.TheVariants as answers
 use Rattle.flt_shared.specs.Call.{Seat}
-use Rattle.flt_lives.specs.Living.{IsCaused}
-use Rattle.flt_lives.proofs.Causing.{caused_arm}
+use Rattle.flt_life.specs.SoFar.{IsCaused}
+use Rattle.flt_life.proofs.Causing.{caused_arm}
 use Rattle.flt_fork.specs.Seats.{AreJoined}
 use Rattle.flt_lane.specs.Draining.{DrainsOn}
 use Rattle.flt_fork.specs.Known.{IsKnownTo}

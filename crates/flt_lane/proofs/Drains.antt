@@ -28,7 +28,7 @@ use Rattle.flt_life.specs.Applications.{job_behind}
 use Rattle.flt_life.specs.Draining.{Drained, calls_for, calls_for_all}
 use Rattle.flt_life.specs.Ordered.{Deed}
 use Rattle.flt_life.specs.declared.answer.StepAnswer.TheVariants as answers
-use Rattle.flt_lives.specs.Living.{IsCaused}
+use Rattle.flt_life.specs.SoFar.{IsCaused}
 use Rattle.flt_fork.specs.Chain.{Chain}
 use Rattle.flt_lane.specs.Draining.{DrainsOn, HasDrained, MakesJobs, TakesJob}
 use Rattle.flt_lane.specs.Living.{AreHeld, HoldsBy, drain_call, drains_in}

@@ -18,7 +18,7 @@ use Rattle.flt_life.specs.Journal.{Journal, entry, calls_of, snapshot_of, Acknow
 use Rattle.flt_life.specs.Saving.{AreRising, IsLeft, IsUnacknowledged, failures, last_number}
 use Rattle.flt_life.specs.Actions.{IsStepCall}
 use Rattle.flt_life.specs.Chain.{start_from}
-use Rattle.flt_lives.specs.Living.{IsKeptSince}
+use Rattle.flt_life.specs.SoFar.{IsKeptSince}
 
 -- ---- a call of a step acknowledges nothing and takes nothing
 

@@ -23,7 +23,7 @@ use Rattle.flt_life.specs.Ordered.{Deed}
 use Rattle.flt_life.specs.declared.answer.StepAnswer.TheVariants as answers
 use Rattle.flt_script.specs.declared.step.Step.TheVariants as steps
 use Rattle.flt_shared.specs.Call.{Seat, IsCall}
-use Rattle.flt_lives.specs.Living.{IsKeptSince}
+use Rattle.flt_life.specs.SoFar.{IsKeptSince}
 use Rattle.flt_lane.specs.Living.{IsLivingOn, answers_of, save_call, saves_in, saves_of}
 use Rattle.flt_fork.proofs.Knowing.{Since, since, knows_all}
 use Rattle.flt_lane.proofs.Keeping.{kept_failed, kept_further, kept_saved, pushed, snapshot_further}

@@ -35,7 +35,7 @@ use Rattle.flt_life.specs.Draining.{calls_for_all, take_at}
 use Rattle.flt_life.specs.Parts.{IsPossibleInLane}
 use Rattle.flt_life.specs.Played.{ActionMakes, ActionQueues, StepMakes, StepQueues}
 use Rattle.flt_life.specs.declared.action.Action.TheVariants as action
-use Rattle.flt_lives.proofs.Rooms.{answer_size, size_most}
+use Rattle.flt_life.proofs.Responses.{answer_size, size_most}
 use Rattle.flt_life.specs.declared.answer.StepAnswer.TheVariants as answers
 use Rattle.flt_fork.specs.Chain.{Chain}
 use Rattle.flt_lane.specs.Draining.{FindsNone, HasDrained}

@@ -16,7 +16,7 @@ use Rattle.flt_life.specs.Answers.{Told}
 use Rattle.flt_life.specs.Ordered.{Deed, lane_deeds, with_deed}
 use Rattle.flt_life.specs.Played.{StepMakes}
 use Rattle.flt_life.specs.Room.{told_in}
-use Rattle.flt_lives.specs.Going.{GoesOn, WereGiven}
+use Rattle.flt_life.specs.Going.{GoesOn, WereGiven}
 use Rattle.flt_lane.specs.declared.lane.LaneWork.{LaneWork}
 use Rattle.flt_lane.specs.declared.locks.Locks.{Locks}
 use Rattle.flt_lane.specs.Living.{Carries}

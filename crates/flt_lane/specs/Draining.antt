@@ -19,7 +19,7 @@ use Rattle.flt_life.specs.Answers.{Told}
 use Rattle.flt_life.specs.Draining.{Drained, QueueCall, calls_for, calls_for_all, take_at}
 use Rattle.flt_life.specs.Ordered.{Deed}
 use Rattle.flt_life.specs.declared.answer.StepAnswer.TheVariants as answers
-use Rattle.flt_lives.specs.Living.{IsCaused}
+use Rattle.flt_life.specs.SoFar.{IsCaused}
 use Rattle.flt_fork.specs.Chain.{Chain}
 use Rattle.flt_lane.specs.Living.{HoldsBy}
 use Rattle.flt_lane.specs.Runs.{QueueSeat}

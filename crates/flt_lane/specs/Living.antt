@@ -21,7 +21,7 @@ use Rattle.flt_life.specs.Journal.{Journal}
 use Rattle.flt_life.specs.Ordered.{Deed}
 use Rattle.flt_life.specs.declared.answer.StepAnswer.TheVariants.{Saved, SaveFailed, Drained}
 use Rattle.flt_shared.specs.Call.{Seat}
-use Rattle.flt_lives.specs.Living.{IsKeptSince, IsCaused}
+use Rattle.flt_life.specs.SoFar.{IsKeptSince, IsCaused}
 use Rattle.flt_lane.specs.Runs.{QueueSeat}
 
 -- The answers of deeds.

@@ -8,7 +8,7 @@ use Rattle.flt_script.specs.Step.{has_store_step}
 use Rattle.flt_store.specs.declared.store.Store.{Store}
 use Rattle.flt_store.specs.Store.{IsAlive, driver_of}
 use Rattle.flt_life.specs.Ordered.{Deed, lane_deeds}
-use Rattle.flt_lives.specs.Going.{GoesOn, WereGiven}
+use Rattle.flt_life.specs.Going.{GoesOn, WereGiven}
 use Rattle.flt_lane.specs.declared.lane.LaneWork.{LaneWork}
 use Rattle.flt_lane.specs.Living.{Carries}
 use Rattle.flt_lane.specs.Work.{HasRun}

@@ -12,7 +12,7 @@ ghost use Rattle.flt_life.specs.Room.{HasRoomForSteps, told_in};
 ghost use Rattle.flt_shared.specs.Lock.{IsSeatOf};
 ghost use Rattle.flt_store.specs.Store.{IsAlive, driver_of};
 ghost use Rattle.flt_turn.specs.Seats as turn;
-ghost use Rattle.flt_lives.specs.Going.{GoesOn, WereGiven};
+ghost use Rattle.flt_life.specs.Going.{GoesOn, WereGiven};
 ghost use Rattle.flt_lane.specs.Block.{HaveRunParts};
 ghost use Rattle.flt_lane.specs.BlockRun.{GainsPart, StepsOne};
 ghost use Rattle.flt_fork.specs.Lived.{IsMain};

@@ -20,7 +20,7 @@ ghost use Rattle.flt_shared.specs.Call.{Seat as DemView};
 ghost use Rattle.flt_shared.specs.Lock.{IsSeatOf};
 ghost use Rattle.flt_store.specs.Store.{IsAlive, driver_of};
 ghost use Rattle.flt_turn.specs.Seats as turn;
-ghost use Rattle.flt_lives.specs.Going.{GoesOn, WereGiven};
+ghost use Rattle.flt_life.specs.Going.{GoesOn, WereGiven};
 ghost use Rattle.flt_lane.specs.Living.{Carries};
 ghost use Rattle.flt_lane.specs.Runs.{Makes, Queues, QueueSeat as Jobs, calls_by, queued_by};
 ghost use Rattle.flt_lane.specs.Stored.{LeavesStore};

@@ -7,3 +7,8 @@ pub mod Sizes
 pub mod Older
 pub mod WorkedLife
 pub mod PossibleSteps
+pub mod Responses
+pub mod Calls
+pub mod Giving
+pub mod Riding
+pub mod Causing

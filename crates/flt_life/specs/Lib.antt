@@ -14,5 +14,7 @@ pub mod Parts
 pub mod Played
 pub mod Room
 pub mod Saving
+pub mod SoFar
+pub mod Going
 pub mod Statuses
 pub mod Examples

@@ -1,12 +1,13 @@
 //! The lives of a controller, each from one power-up to the next: the calls that a step makes and its answer, and what a life
 //! leaves of the image that it found.
 //!
-//! This crate has the definitions of the chain of lives, over any machine that keeps blocks, and the types that describe a life.
+//! This crate has the definitions of the chain of lives, over any machine that keeps blocks, the types that describe a life, and the
+//! room that a life needs for its calls and its answers.
 //! It stands on `flt_script` for the steps, on `flt_model`, `flt_turn` and `flt_fork` for the calls and their answers, on `flt_queue` for the
 //! write jobs, and on the storage for what an image holds. The layers above make lives: without a lock, and in lanes. Read
 //! `specs/Played` first (which calls the parts of a life make, and how each step is answered), then `Chain` (what holds of a life and
-//! its two power-ups), `Journal`, `Saving` and `Causes`; `Making` holds for any machine and any kind of steps, and so does
-//! `Mixing` of `flt_fork`.
+//! its two power-ups), `Journal`, `Saving` and `Causes`, and `Going` and `SoFar` for what holds in the midst of a life; `Making` holds for
+//! any machine and any kind of steps, and so does `Mixing` of `flt_fork`.
 #![tactic(auto)]
 
 mod action;
@@ -24,4 +25,4 @@ pub use flt_turn::{Answer, Entry};
 pub use life::{Boot, Life};
 pub use possible::are_possible;
 pub use replies::LaneReplies;
-pub use room::{LaneRoom, LifeRoom, life_of};
+pub use room::{CallRoom, LaneRoom, LifeRoom, life_of};

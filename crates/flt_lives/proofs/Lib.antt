@@ -1,12 +1,8 @@
 pub mod Deeds
 pub mod Keeping
-pub mod Riding
 pub mod Playing
 pub mod Starting
 pub mod Linking
 pub mod Beginning
 pub mod Bridge
-pub mod Causing
-pub mod Giving
-pub mod Calls
 pub mod Rooms

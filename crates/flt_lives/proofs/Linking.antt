@@ -18,7 +18,7 @@ use Rattle.flt_life.specs.declared.life.Boot.{Boot}
 use Rattle.flt_life.specs.declared.life.Boot.TheVariants.{Started, Dark, Refused}
 use Rattle.flt_life.specs.Moment.{Moment, Medium, IsOn, moment_of, moment_at, boot_of}
 use Rattle.flt_life.specs.Chain.{LifeView, IsFound, Finds, IsRefused, IsLifeBetween, IsLifeBegunBy, AreLinked, arms_between, start_count, count_at}
-use Rattle.flt_lives.specs.Going.{IsMadeIn, AddsArms, ArmsSince, AddsLife}
+use Rattle.flt_life.specs.Going.{IsMadeIn, AddsArms, ArmsSince, AddsLife}
 use Rattle.flt_lives.specs.Living.{IsLived}
 use Rattle.flt_lives.specs.Linked.{IsPast, ArePast, AreLinkedBy, MadeInRun, IsLinkedBy}
 use Rattle.flt_life.specs.Lives.{IsLinked}

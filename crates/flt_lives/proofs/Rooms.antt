@@ -1,6 +1,6 @@
 -- The room that the steps of a life need.
 use Rattle.std.proofs.Common.{◌≡◌, inl, inr, ℕ, suc, ◌+◌, ◌*◌, ◌<◌, ◌≤◌, List, [], ◌∷◌, ◌++◌, length, map, take, drop, get_or, refl, ap, sym, subst, arith, drop-cons, add-one, ◌∙◌}
-use Rattle.std.specs.Prelude.{sum_by, All, IsTrue, vec_len, Option, Some, None}
+use Rattle.std.specs.Prelude.{sum_by, All, IsTrue, vec_len}
 use Rattle.std.specs.Vec.{vec_capacity}
 use Rattle.std.proofs.lemmas.List.{get_or-map, length-append, length-map, map-append, take-append-drop}
 use Rattle.std.proofs.lemmas.List.Sums.{sum_by-cons}
@@ -8,10 +8,7 @@ use Rattle.std.proofs.lemmas.List.Elements.{All-nil, All-cons, All-head, All-tai
 use Rattle.flt_config.specs.declared.config.Config.{Config}
 use Rattle.flt_dcm.specs.Unit.{IsTesterCall}
 use Rattle.flt_dcm.specs.ReplyKind.{ReplyKind, reply_with}
-use Rattle.flt_model.specs.declared.call.ReplyOf.TheVariants as kinds
-use Rattle.flt_model.specs.Answer.{answer, report_reply}
-use Rattle.flt_model.specs.Happening.{readiness, cause_of}
-use Rattle.flt_model.specs.declared.call.Cause.{Cause}
+use Rattle.flt_model.specs.Answer.{answer}
 use Rattle.flt_model.specs.Start.{Start, History}
 use Rattle.flt_model.specs.declared.TheConstants.{RESPONSE}
 use Rattle.flt_model.specs.declared.call.Op.{Op}
@@ -35,7 +32,8 @@ use Rattle.flt_lives.specs.Alone.{IsAlone, AreAlone, actions_in}
 use Rattle.flt_lives.specs.Dark.{IsLaneSteps}
 use Rattle.flt_lives.specs.declared.account.Account.{Account}
 use Rattle.flt_lives.specs.Living.{HasRoomFor}
-use Rattle.flt_lives.proofs.Calls.{call_most}
+use Rattle.flt_life.proofs.Calls.{call_most}
+use Rattle.flt_life.proofs.Responses.{answer_size, size_most}
 
 -- ---- bounds of one step and of all
 
@@ -120,27 +118,6 @@ room_after before after action rest room calls call_room answers answer_room res
       answers = omega (arith, answer_fits, answers, answer_room);
       responses = omega (arith, response_fits, response_sum, responses, response_room);
     }
-
--- A response has at most so many bytes.
-pub size_most : (kind : ReplyKind) (response : List ℕ) → length response ≤ RESPONSE → reply_size (reply_with kind response) ≤ RESPONSE
-size_most (kinds.Response _) response few = few
-size_most kind response few = omega arith
-
--- A reply to a call of no tester is no response.
-report_size : (cause : Option Cause) → reply_size (report_reply cause) ≡ 0
-report_size None = refl
-report_size (Some cause) = refl
-
-pub answer_size : (life : Start) (past : History) (op : Op) → ¬ IsTesterCall op → reply_size (answer life past op) ≡ 0
-answer_size life past (ops.Request tester bytes) other = absurd (other tt)
-answer_size life past (ops.Report event report) other = report_size (cause_of (readiness life event past))
-answer_size life past (ops.Signal index value) other = refl
-answer_size life past (ops.Enable condition fulfilled) other = refl
-answer_size life past (ops.Tick ticks) other = refl
-answer_size life past (ops.Cycle cycle) other = refl
-answer_size life past (ops.Show event) other = refl
-answer_size life past ops.Snapshot other = refl
-answer_size life past (ops.Saved number) other = refl
 
 pub no_response : (life : Start) (past : History) (op : Op) (kind : ReplyKind) (response : List ℕ) → reply_with kind response ≡ answer life past op → ¬ IsTesterCall op →
     reply_size (reply_with kind response) ≡ 0

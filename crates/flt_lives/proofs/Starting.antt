@@ -26,8 +26,8 @@ use Rattle.flt_life.specs.declared.life.Boot.{Boot}
 use Rattle.flt_flash.specs.State.{HasRisenBy}
 use Rattle.flt_life.specs.Answers.{Told}
 use Rattle.flt_life.specs.Causes.{AreCaused}
-use Rattle.flt_lives.specs.Going.{ArmsSince, GoesOn, AddsLife}
-use Rattle.flt_lives.proofs.Riding.{goes_nowhere}
+use Rattle.flt_life.specs.Going.{ArmsSince, GoesOn, AddsLife}
+use Rattle.flt_life.proofs.Riding.{goes_nowhere}
 
 -- A fault that does not make the life dark.
 abbrev pub Refuses : StartFault → Type 0

@@ -1,7 +1,6 @@
 pub mod Alone
 pub mod Carried
 pub mod Dark
-pub mod Going
 pub mod Living
 pub mod Linked
 pub mod Media

@@ -1,5 +1,5 @@
 -- A life on its way: what holds of its unit, its store, its journal and its answers after each step.
-use Rattle.std.specs.Prelude.{◌≡◌, ℕ, ◌+◌, ◌-◌, ◌*◌, ◌^◌, ◌≤◌, List, [], ◌∷◌, ◌++◌, length, map, reverse, sum_by, vec_len, IsTrue, IsFalse}
+use Rattle.std.specs.Prelude.{◌≡◌, ℕ, ◌+◌, ◌-◌, ◌≤◌, List, [], ◌∷◌, ◌++◌, length, map, reverse, sum_by, vec_len}
 use Rattle.std.specs.Vec.{vec_capacity}
 use Rattle.flt_flash.specs.State.{HasRisenBy}
 use Rattle.flt_flash.specs.Blocks.{BlocksState}
@@ -10,9 +10,8 @@ use Rattle.flt_config.specs.Validity.{IsValid}
 use Rattle.flt_model.specs.Start.{History}
 use Rattle.flt_generation.specs.Holding.{Generation}
 use Rattle.flt_dcm.specs.Unit.{UnitView, Stands}
-use Rattle.flt_store.specs.declared.fault.SaveFault.TheVariants.{Spent, SequenceSpent}
 use Rattle.flt_store.specs.declared.store.Store.{Store}
-use Rattle.flt_store.specs.Store.{driver_of, IsRunning}
+use Rattle.flt_store.specs.Store.{IsRunning}
 use Rattle.flt_script.specs.declared.step.Step.{Step}
 use Rattle.flt_script.specs.Part.{PartOf}
 use Rattle.flt_life.specs.declared.action.Action.{Action}
@@ -22,13 +21,12 @@ use Rattle.flt_life.specs.Answers.{Told}
 use Rattle.flt_life.specs.Ordered.{deeds_in}
 use Rattle.flt_life.specs.Room.{told_in}
 use Rattle.flt_lives.specs.Carried.{IsCarriedOut}
-use Rattle.flt_life.specs.Causes.{HasFailedBy, flash_failures, jobs_failed}
 use Rattle.flt_life.specs.Chain.{LifeView, start_from, IsLifeBetween}
-use Rattle.flt_life.specs.Journal.{Journal, calls_of, Acknowledges}
+use Rattle.flt_life.specs.Journal.{Journal, calls_of}
 use Rattle.flt_life.specs.Moment.{moment_of}
-use Rattle.flt_life.specs.Saving.{IsLeft, AreRising, last_number}
 use Rattle.flt_lives.specs.declared.account.Account.{Account}
-use Rattle.flt_lives.specs.Going.{ArmsSince}
+use Rattle.flt_life.specs.Going.{ArmsSince}
+use Rattle.flt_life.specs.SoFar.{IsCaused, IsKeptSince}
 
 -- The unit stands for some calls from a base that fits a valid configuration.
 pub record IsUnderWay (c : Config) (unit : UnitView) : Type 0 where
@@ -62,15 +60,6 @@ pub record IsLived (c : Config) (before after : BlocksState) (life : LifeView) :
   pub later : HasRisenBy 0 ended after.device.faults
   pub arms : ArmsSince (length before.device.bench.boots + 1) ended before.device.bench.arms after.device.bench.arms
 
--- Both generations of the image are the one that was acknowledged last, or one of a save since then.
-pub record IsKeptSince (c : Config) (first : Generation) (journal : Journal) (told : List Told) (held spare : Generation) : Type 0 where
-  pub last : Generation
-  pub acknowledged : Acknowledges (start_from c first.state) first journal last
-  pub number : last_number first.number told ≡ last.number
-  pub held_is : IsLeft (start_from c first.state) journal told last held
-  pub spare_is : IsLeft (start_from c first.state) journal told last spare
-  pub rising : AreRising first.number told
-
 module _ {B : Type 0} {b : Ghosts B} where
   pub record IsLiving (c : Config) (first : Generation) (journal : Journal) (told : List Told) (unit : UnitView) (store : Store B b) : Type 0 where
     pub stands : Stands (start_from c first.state) (calls_of journal) unit
@@ -78,16 +67,6 @@ module _ {B : Type 0} {b : Ghosts B} where
     pub spare : Generation
     pub running : IsRunning c held spare store
     pub kept : IsKeptSince c first journal told held spare
-
-  -- Each step that failed has its cause so far, since this count of faults.
-  pub record IsCaused (c : Config) (begun : ℕ) (told : List Told) (store : Store B b) : Type 0 where
-    pub held_now : Generation
-    pub spare_now : Generation
-    pub running : IsRunning c held_now spare_now store
-    pub flash : HasRisenBy (3 * flash_failures told) begun (driver_of store).device.faults
-    pub jobs : IsFalse (driver_of store).is_spent → HasRisenBy (3 * (flash_failures told + jobs_failed told)) begun (driver_of store).device.faults
-    pub spent : HasFailedBy Spent told → 2 ^ 32 - 1 ≤ spare_now.number
-    pub sequence : HasFailedBy SequenceSpent told → IsTrue (driver_of store).is_spent
 
   -- A step of lane 0 added its calls and its answer.
   pub record TakesStep (c : Config) (action : Action) (unit next_unit : UnitView) (store next_store : Store B b) (before after : Account) : Type 0 where

@@ -12,7 +12,7 @@ ghost use Rattle.flt_life.specs.Parts.{arms_in, lanes_in, own_actions, own_steps
 ghost use Rattle.flt_life.specs.Played.{dark_answer, dark_answers};
 ghost use Rattle.flt_life.specs.Room.{HasRoomForSteps, IsLaneRoom, IsLifeRoom, steps_of, told_in};
 ghost use Rattle.flt_lives.specs.Dark.{IsLaneSteps};
-ghost use Rattle.flt_lives.specs.Going.{GoesOn, WereGiven};
+ghost use Rattle.flt_life.specs.Going.{GoesOn, WereGiven};
 
 use flt_dcm::ReplyKind;
 use flt_flash::Blocks;

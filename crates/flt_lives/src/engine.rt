@@ -15,7 +15,7 @@ ghost use Rattle.flt_life.specs.Moment.{Moment, moment_of};
 ghost use Rattle.flt_life.specs.Parts.{IsPossiblePart, arms_in, own_actions, steps_in, widths};
 ghost use Rattle.flt_life.specs.Played.{IsPlayed};
 ghost use Rattle.flt_life.specs.Room.{IsLifeRoom};
-ghost use Rattle.flt_lives.specs.Going.{GoesOn, WereGiven};
+ghost use Rattle.flt_life.specs.Going.{GoesOn, WereGiven};
 
 use crate::buffers::Buffers;
 use flt_config::ValidConfig;

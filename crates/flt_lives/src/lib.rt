@@ -8,7 +8,6 @@
 #![tactic(auto)]
 
 mod account;
-mod accounting;
 mod buffers;
 mod dark;
 mod device;
@@ -19,7 +18,6 @@ mod living;
 mod plain;
 mod step;
 
-pub use accounting::CallRoom;
 pub use buffers::Buffers;
 pub use device::{Run, run_alone, run_on_device};
 pub use driver::Driver;

@@ -10,7 +10,7 @@ ghost use Rattle.flt_life.specs.Moment.{moment_of};
 ghost use Rattle.flt_life.specs.Parts.{IsPossiblePart, arms_in, steps_in, widths};
 ghost use Rattle.flt_life.specs.Played.{IsPlayed};
 ghost use Rattle.flt_lives.specs.Devices.{BeginsLives};
-ghost use Rattle.flt_lives.specs.Going.{WereGiven, AddsLife};
+ghost use Rattle.flt_life.specs.Going.{WereGiven, AddsLife};
 ghost use Rattle.flt_lives.specs.Living.{IsLived};
 
 use crate::buffers::Buffers;

@@ -16,9 +16,10 @@ ghost use Rattle.flt_life.specs.Answers.{Told, told_with, response_length, reply
 ghost use Rattle.flt_lives.specs.Carried.{IsCarriedOut, SaveIsCarriedOut};
 ghost use Rattle.flt_life.specs.Chain.{start_from};
 ghost use Rattle.flt_life.specs.Journal.{entry, calls_of};
-ghost use Rattle.flt_lives.specs.Going.{GoesOn, WereGiven};
+ghost use Rattle.flt_life.specs.Going.{GoesOn, WereGiven};
 ghost use Rattle.flt_lives.specs.Alone.{IsPlain};
-ghost use Rattle.flt_lives.specs.Living.{IsUnderWay, IsLiving, IsCaused, with_answer};
+ghost use Rattle.flt_life.specs.SoFar.{IsCaused};
+ghost use Rattle.flt_lives.specs.Living.{IsUnderWay, IsLiving, with_answer};
 
 use crate::buffers::Buffers;
 use flt_config::ValidConfig;

@@ -1,4 +1,4 @@
-use flt_lives::CallRoom;
+use flt_life::CallRoom;
 use flt_script::{Part, Step};
 use std::test::Fail;
 

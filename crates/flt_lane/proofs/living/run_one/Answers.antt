@@ -4,9 +4,9 @@ use Rattle.flt_life.specs.Actions.{IsPossible, action_of}
 use Rattle.flt_life.specs.Answers.{told_with}
 use Rattle.flt_life.specs.Room.{told_in}
 use Rattle.flt_store.specs.Store.{driver_of}
-use Rattle.flt_lives.specs.Going.{WereGiven}
-use Rattle.flt_lives.proofs.Giving.{none_given}
-use Rattle.flt_lives.proofs.Riding.{goes_nowhere}
+use Rattle.flt_life.specs.Going.{WereGiven}
+use Rattle.flt_life.proofs.Giving.{none_given}
+use Rattle.flt_life.proofs.Riding.{goes_nowhere}
 use Rattle.flt_lane.proofs.OffStore.{carries_call}
 use Rattle.flt_lane.proofs.Stepping.{IsCallStep, IsQueueStep, ask_step, call_step, none_made, none_queued, post_step}
 use Rattle.flt_lane.proofs.living.run_one.Goals as goal

@@ -5,9 +5,9 @@ use Rattle.flt_flash.specs.declared.arm.Arm.{Arm}
 use Rattle.flt_store.specs.Store.{driver_of}
 use Rattle.flt_life.specs.Ordered.{Deed, deeds_in}
 use Rattle.flt_life.specs.Room.{told_in}
-use Rattle.flt_lives.specs.Going.{WereGiven}
-use Rattle.flt_lives.proofs.Giving.{none_given, given_further}
-use Rattle.flt_lives.proofs.Riding.{goes_nowhere, goes_further}
+use Rattle.flt_life.specs.Going.{WereGiven}
+use Rattle.flt_life.proofs.Giving.{none_given, given_further}
+use Rattle.flt_life.proofs.Riding.{goes_nowhere, goes_further}
 use Rattle.flt_lane.specs.Living.{Carries}
 use Rattle.flt_lane.specs.Room.{IsPartFor}
 use Rattle.flt_lane.proofs.Carrying.{carries_beside, carries_further}

@@ -4,7 +4,7 @@ use Rattle.flt_life.specs.Actions.{all_arms}
 use Rattle.flt_life.specs.Ordered.{deeds_in}
 use Rattle.flt_life.specs.Parts.{own_actions}
 use Rattle.flt_life.specs.Room.{told_in}
-use Rattle.flt_lives.specs.Going.{GoesOn, WereGiven}
+use Rattle.flt_life.specs.Going.{GoesOn, WereGiven}
 use Rattle.flt_lane.specs.Living.{Carries}
 use Rattle.flt_lane.proofs.Lives.{IsLiving, parts_in}
 use Rattle.flt_lane.proofs.living.run_parts.Given as goal

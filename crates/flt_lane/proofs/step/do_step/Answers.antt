@@ -6,9 +6,9 @@ use Rattle.flt_life.specs.declared.answer.StepAnswer.TheVariants.{Armed}
 use Rattle.flt_script.specs.declared.step.Step.{Step}
 use Rattle.flt_script.specs.declared.step.Step.TheVariants as steps
 use Rattle.flt_store.specs.Store.{driver_of}
-use Rattle.flt_lives.specs.Going.{WereGiven}
-use Rattle.flt_lives.proofs.Giving.{none_given}
-use Rattle.flt_lives.proofs.Riding.{goes_nowhere}
+use Rattle.flt_life.specs.Going.{WereGiven}
+use Rattle.flt_life.proofs.Giving.{none_given}
+use Rattle.flt_life.proofs.Riding.{goes_nowhere}
 use Rattle.flt_lane.specs.Living.{Carries}
 use Rattle.flt_lane.specs.Runs.{Makes, Queues}
 use Rattle.flt_lane.proofs.OffStore.{carries_call}

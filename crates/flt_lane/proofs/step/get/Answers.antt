@@ -14,8 +14,8 @@ use Rattle.flt_life.specs.Applications.{GetsBy, MayHold, jobs_told, up_to_done}
 use Rattle.flt_life.specs.Ordered.{Deed}
 use Rattle.flt_life.specs.declared.answer.StepAnswer.TheVariants as answers
 use Rattle.flt_shared.specs.Call.{Seat}
-use Rattle.flt_lives.specs.Living.{IsCaused}
-use Rattle.flt_lives.proofs.Causing.{caused_read, caused_unread}
+use Rattle.flt_life.specs.SoFar.{IsCaused}
+use Rattle.flt_life.proofs.Causing.{caused_read, caused_unread}
 use Rattle.flt_lane.specs.Living.{AreHeld, Carries, answers_of, drains_by, saves_by}
 use Rattle.flt_lane.specs.Runs.{QueueSeat}
 use Rattle.flt_lane.proofs.Carrying.{gets_bytes, gets_none, holds_deed, living_deed}

@@ -3,7 +3,7 @@ use Rattle.flt_life.specs.declared.answer.StepAnswer.TheVariants as answers
 use Rattle.flt_script.specs.declared.step.Step.TheVariants as steps
 use Rattle.flt_store.specs.Store.{driver_of}
 use Rattle.flt_turn.specs.Call.{past}
-use Rattle.flt_lives.proofs.Causing.{caused_saved, caused_failed}
+use Rattle.flt_life.proofs.Causing.{caused_saved, caused_failed}
 use Rattle.flt_lane.specs.Living.{answers_of}
 use Rattle.flt_lane.proofs.Carrying.{holds_deed}
 use Rattle.flt_lane.proofs.Saves.{living_saved, living_failed}

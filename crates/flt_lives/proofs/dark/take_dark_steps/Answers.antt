@@ -8,9 +8,9 @@ use Rattle.flt_life.specs.Actions.{IsPossibleArm, all_arms}
 use Rattle.flt_life.specs.Parts.{arms_in, own_actions, own_steps}
 use Rattle.flt_life.specs.Played.{dark_answer}
 use Rattle.flt_life.proofs.Sizes.{parts_more_by, sum_within}
-use Rattle.flt_lives.specs.Going.{WereGiven}
-use Rattle.flt_lives.proofs.Giving.{all_arms-append, given_further}
-use Rattle.flt_lives.proofs.Riding.{goes_further}
+use Rattle.flt_life.specs.Going.{WereGiven}
+use Rattle.flt_life.proofs.Giving.{all_arms-append, given_further}
+use Rattle.flt_life.proofs.Riding.{goes_further}
 use Rattle.flt_lives.proofs.Rooms.{actions_are, own_among, own_steps_within, steps_are}
 use Rattle.flt_lives.proofs.dark.take_dark_steps.Goals as goal
 

@@ -8,7 +8,7 @@ use Rattle.flt_life.specs.Moment.{moment_of}
 use Rattle.flt_life.specs.Parts.{arms_in, own_actions, own_steps}
 use Rattle.flt_life.specs.Played.{dark_answer}
 use Rattle.flt_life.specs.Room.{told_in}
-use Rattle.flt_lives.specs.Going.{GoesOn, WereGiven}
+use Rattle.flt_life.specs.Going.{GoesOn, WereGiven}
 use Rattle.flt_lives.proofs.dark.take_dark_steps.Given as goal
 
 abbrev pub invariant-loop-part : goal.invariant-loop-part

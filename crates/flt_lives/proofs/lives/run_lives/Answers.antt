@@ -14,9 +14,9 @@ use Rattle.flt_life.specs.Chain.{LifeView}
 use Rattle.flt_life.specs.Played.{IsPlayed}
 use Rattle.flt_life.specs.Lives.{ArePlayed, AreEnded, arms_given, is_refused, lists, lives_seen, view_of, views_of}
 use Rattle.flt_life.specs.Moment.{boot_of}
-use Rattle.flt_lives.specs.Going.{WereGivenIn}
+use Rattle.flt_life.specs.Going.{WereGivenIn}
 use Rattle.flt_lives.specs.Linked.{IsLinkedBy}
-use Rattle.flt_lives.proofs.Giving.{none_added, more_given, all_given}
+use Rattle.flt_life.proofs.Giving.{none_added, more_given, all_given}
 use Rattle.flt_lives.proofs.Linking.{links_none, links_more, linked_of}
 use Rattle.flt_lives.proofs.Beginning.{none_begun, begun_next, begun_within}
 use Rattle.flt_lives.proofs.lives.run_lives.Goals as goal

@@ -8,7 +8,7 @@ use Rattle.flt_life.specs.Chain.{LifeView}
 use Rattle.flt_life.specs.Lives.{ArePlayed, StaysSound, arms_given, is_refused, lists, lives_seen}
 use Rattle.flt_life.specs.Moment.{Medium, moment_of}
 use Rattle.flt_lives.specs.Devices.{BeginsLives}
-use Rattle.flt_lives.specs.Going.{WereGivenIn}
+use Rattle.flt_life.specs.Going.{WereGivenIn}
 use Rattle.flt_lives.specs.Linked.{KeepsOn, IsLinkedBy}
 use Rattle.flt_lives.proofs.lives.run_lives.Given as goal
 

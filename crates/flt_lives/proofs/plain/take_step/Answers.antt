@@ -5,7 +5,8 @@ use Rattle.flt_life.specs.Actions.{action_of, response_size, call_count}
 use Rattle.flt_life.specs.Answers.{Told, told_with, response_length}
 use Rattle.flt_lives.specs.Carried.{IsCarriedOut}
 use Rattle.flt_life.specs.Chain.{start_from}
-use Rattle.flt_lives.specs.Living.{IsLiving, IsCaused, with_answer}
+use Rattle.flt_life.specs.SoFar.{IsCaused}
+use Rattle.flt_lives.specs.Living.{IsLiving, with_answer}
 use Rattle.flt_lives.proofs.Rooms.{response_fits, room_after}
 use Rattle.flt_lives.proofs.plain.take_step.Goals as goal
 

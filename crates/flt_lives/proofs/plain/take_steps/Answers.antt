@@ -17,12 +17,13 @@ use Rattle.flt_dcm.specs.Whole.{state_of}
 use Rattle.flt_lives.specs.Alone.{IsAlone, actions_in}
 use Rattle.flt_life.specs.Chain.{start_from}
 use Rattle.flt_store.specs.Store.{driver_of}
-use Rattle.flt_lives.specs.Going.{WereGiven}
-use Rattle.flt_lives.specs.Living.{HasRoomFor, IsLiving, IsCaused, deeds_told, with_answer}
+use Rattle.flt_life.specs.Going.{WereGiven}
+use Rattle.flt_life.specs.SoFar.{IsCaused}
+use Rattle.flt_lives.specs.Living.{HasRoomFor, IsLiving, deeds_told, with_answer}
 use Rattle.flt_lives.proofs.Deeds.{deeds_told_more}
-use Rattle.flt_lives.proofs.Riding.{goes_further, goes_nowhere}
+use Rattle.flt_life.proofs.Riding.{goes_further, goes_nowhere}
 use Rattle.flt_lives.proofs.Playing.{life_more, no_parts}
-use Rattle.flt_lives.proofs.Giving.{given_further, arms_more, none_given}
+use Rattle.flt_life.proofs.Giving.{given_further, arms_more, none_given}
 use Rattle.flt_lives.proofs.Rooms.{left_more, made_more, parts_are, one_of, one_alone}
 use Rattle.flt_lives.proofs.plain.take_steps.Goals as goal
 

@@ -10,8 +10,9 @@ use Rattle.flt_life.specs.Parts.{own_steps}
 use Rattle.flt_life.specs.Played.{IsLife}
 use Rattle.flt_life.specs.Room.{told_in}
 use Rattle.flt_lives.specs.Alone.{actions_in}
-use Rattle.flt_lives.specs.Going.{GoesOn, WereGiven}
-use Rattle.flt_lives.specs.Living.{IsUnderWay, IsLiving, IsCaused, HasRoomFor, deeds_told}
+use Rattle.flt_life.specs.Going.{GoesOn, WereGiven}
+use Rattle.flt_life.specs.SoFar.{IsCaused}
+use Rattle.flt_lives.specs.Living.{IsUnderWay, IsLiving, HasRoomFor, deeds_told}
 use Rattle.flt_lives.proofs.plain.take_steps.Given as goal
 
 abbrev pub invariant-loop-part : goal.invariant-loop-part

@@ -8,7 +8,7 @@ use Rattle.flt_generation.specs.Layout.{application_number}
 use Rattle.flt_life.specs.Answers.{reply_size}
 use Rattle.flt_lives.specs.Carried.{answer_at}
 use Rattle.flt_life.specs.Actions.{arms_of}
-use Rattle.flt_lives.specs.Going.{WereGiven}
+use Rattle.flt_life.specs.Going.{WereGiven}
 use Rattle.flt_life.specs.declared.action.Action.{Action}
 use Rattle.flt_life.specs.declared.action.Action.TheVariants as actions
 use Rattle.flt_life.specs.declared.answer.StepAnswer.TheVariants as answers
@@ -18,11 +18,12 @@ use Rattle.flt_life.specs.Actions.{IsPossible, response_size}
 use Rattle.flt_lives.specs.Carried.{IsCarriedOut}
 use Rattle.flt_life.specs.Chain.{start_from}
 use Rattle.flt_life.specs.Journal.{Journal, entry}
-use Rattle.flt_lives.specs.Living.{IsCaused, IsLiving, with_answer}
+use Rattle.flt_life.specs.SoFar.{IsCaused}
+use Rattle.flt_lives.specs.Living.{IsLiving, with_answer}
 use Rattle.flt_lives.proofs.Keeping.{kept_call}
-use Rattle.flt_lives.proofs.Riding.{goes_nowhere}
-use Rattle.flt_lives.proofs.Causing.{caused_arm}
-use Rattle.flt_lives.proofs.Giving.{none_given}
+use Rattle.flt_life.proofs.Riding.{goes_nowhere}
+use Rattle.flt_life.proofs.Causing.{caused_arm}
+use Rattle.flt_life.proofs.Giving.{none_given}
 use Rattle.flt_lives.proofs.Rooms.{size_of_call}
 use Rattle.flt_lives.proofs.step.make_step.Goals as goal
 

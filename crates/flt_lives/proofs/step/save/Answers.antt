@@ -6,9 +6,9 @@ use Rattle.flt_life.specs.Journal.{Journal, entry, calls_of}
 use Rattle.flt_life.specs.Chain.{start_from}
 use Rattle.flt_lives.specs.Living.{IsLiving}
 use Rattle.flt_lives.proofs.Keeping.{kept_saved, kept_failed}
-use Rattle.flt_lives.proofs.Causing.{caused_saved, caused_failed}
-use Rattle.flt_lives.proofs.Giving.{none_since}
-use Rattle.flt_lives.proofs.Riding.{goes_by_calls}
+use Rattle.flt_life.proofs.Causing.{caused_saved, caused_failed}
+use Rattle.flt_life.proofs.Giving.{none_since}
+use Rattle.flt_life.proofs.Riding.{goes_by_calls}
 use Rattle.flt_store.specs.Store.{driver_of}
 use Rattle.flt_lives.proofs.step.save.Goals as goal
 

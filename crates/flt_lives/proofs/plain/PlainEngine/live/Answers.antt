@@ -14,8 +14,9 @@ use Rattle.flt_life.specs.Moment.{moment_of}
 use Rattle.flt_life.specs.Parts.{own_steps}
 use Rattle.flt_life.specs.Played.{IsPlayed}
 use Rattle.flt_life.specs.Room.{told_in}
-use Rattle.flt_lives.specs.Living.{IsLiving, IsCaused, deeds_told}
-use Rattle.flt_lives.proofs.Causing.{are_caused}
+use Rattle.flt_life.specs.SoFar.{IsCaused}
+use Rattle.flt_lives.specs.Living.{IsLiving, deeds_told}
+use Rattle.flt_life.proofs.Causing.{are_caused}
 use Rattle.flt_lives.proofs.Deeds.{alone_got}
 use Rattle.flt_lives.proofs.Keeping.{kept_first}
 use Rattle.flt_lives.proofs.Playing.{alone_is, alone_view, played_by}

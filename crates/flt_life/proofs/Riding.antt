@@ -6,7 +6,7 @@ use Rattle.flt_flash.specs.declared.arm.ArmMade.{ArmMade}
 use Rattle.flt_flash.specs.State.{HasRisenBy}
 use Rattle.flt_flash.specs.Blocks.{BlocksState}
 use Rattle.flt_flash.specs.Calls.{Follows}
-use Rattle.flt_lives.specs.Going.{IsMadeIn, ArmsSince, GoesOn}
+use Rattle.flt_life.specs.Going.{IsMadeIn, ArmsSince, GoesOn}
 
 pub no_arms : (boots count : ℕ) (arms : Option (List ArmMade)) → ArmsSince boots count arms arms
 no_arms boots count None = tt

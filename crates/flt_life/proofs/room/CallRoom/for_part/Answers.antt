@@ -4,8 +4,8 @@ use Rattle.flt_script.specs.declared.step.Part.{Part}
 use Rattle.flt_script.specs.Part.{part_of}
 use Rattle.flt_life.specs.Actions.{action_of, call_count, queue_count}
 use Rattle.flt_life.specs.Parts.{calls_of, queued_of, steps_in}
-use Rattle.flt_lives.proofs.Calls.{lane_fits, lane_within, step_calls_most, step_queued_most}
-use Rattle.flt_lives.proofs.accounting.CallRoom.for_part.Goals as goal
+use Rattle.flt_life.proofs.Calls.{lane_fits, lane_within, step_calls_most, step_queued_most}
+use Rattle.flt_life.proofs.room.CallRoom.for_part.Goals as goal
 
 pub for_lane-requires : goal.for_lane-requires
 for_lane-requires c =

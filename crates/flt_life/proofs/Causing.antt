@@ -20,7 +20,7 @@ use Rattle.flt_life.specs.Answers.{Told}
 use Rattle.flt_life.specs.declared.answer.StepAnswer.TheVariants as answers
 use Rattle.flt_life.specs.Moment.{Moment, moment_of}
 use Rattle.flt_life.specs.Causes.{AreCaused, HasFailedBy, flash_failures, jobs_failed}
-use Rattle.flt_lives.specs.Living.{IsCaused}
+use Rattle.flt_life.specs.SoFar.{IsCaused}
 
 number_small : (c : Config) (value : ℕ → Content) (commit : Content) (g : Generation) → Names c value commit g → g.number ≤ 2 ^ 32 - 1
 number_small c value missing g names = let is = ap (λ (d : Generation). d.number) names in omega (arith, is)

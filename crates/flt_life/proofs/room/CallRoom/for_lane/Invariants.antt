@@ -1,6 +1,6 @@
 use Rattle.std.proofs.Common.{◌≡◌, take}
 use Rattle.flt_life.specs.Parts.{calls_of, queued_of}
-use Rattle.flt_lives.proofs.accounting.CallRoom.for_lane.Given as goal
+use Rattle.flt_life.proofs.room.CallRoom.for_lane.Given as goal
 
 abbrev pub invariant-loop-step : goal.invariant-loop-step
 invariant-loop-step l = record {

@@ -1,8 +1,8 @@
 use Rattle.std.proofs.Common.{arith}
 use Rattle.flt_life.specs.Parts.{calls_in, queued_in}
 use Rattle.flt_life.proofs.Sizes.{steps_within}
-use Rattle.flt_lives.proofs.Calls.{part_calls_most, part_fits, part_more, part_queued_most}
-use Rattle.flt_lives.proofs.accounting.CallRoom.for_parts.Goals as goal
+use Rattle.flt_life.proofs.Calls.{part_calls_most, part_fits, part_more, part_queued_most}
+use Rattle.flt_life.proofs.room.CallRoom.for_parts.Goals as goal
 
 pub for_part-requires : goal.for_part-requires
 for_part-requires c =

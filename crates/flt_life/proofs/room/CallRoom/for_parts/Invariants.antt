@@ -2,7 +2,7 @@ use Rattle.std.proofs.Common.{◌≡◌, take}
 use Rattle.std.specs.Prelude.{sum_by}
 use Rattle.flt_script.specs.Part.{parts_of}
 use Rattle.flt_life.specs.Parts.{calls_in, queued_in}
-use Rattle.flt_lives.proofs.accounting.CallRoom.for_parts.Given as goal
+use Rattle.flt_life.proofs.room.CallRoom.for_parts.Given as goal
 
 abbrev pub invariant-loop-part : goal.invariant-loop-part
 invariant-loop-part l = record {

@@ -10,7 +10,7 @@ use Rattle.flt_life.specs.declared.action.Action.{Action}
 use Rattle.flt_life.specs.Actions.{all_arms, arms_of}
 use Rattle.flt_life.specs.Chain.{LifeView}
 use Rattle.flt_life.specs.Lives.{AreGiven, arms_by, arms_given, arms_in_life}
-use Rattle.flt_lives.specs.Going.{IsMadeIn, ArmsSince, WereAdded, WereGiven, WereGivenIn}
+use Rattle.flt_life.specs.Going.{IsMadeIn, ArmsSince, WereAdded, WereGiven, WereGivenIn}
 
 -- None.
 pub none_added : {A : Type 0} (of : ArmMade → A) (arms : Option (List ArmMade)) → WereAdded of [] arms arms

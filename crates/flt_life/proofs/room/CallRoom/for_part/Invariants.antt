@@ -1,7 +1,7 @@
 use Rattle.std.proofs.Common.{◌≡◌, take, map}
 use Rattle.std.specs.Prelude.{sum_by}
 use Rattle.flt_life.specs.Parts.{calls_of, queued_of}
-use Rattle.flt_lives.proofs.accounting.CallRoom.for_part.Given as goal
+use Rattle.flt_life.proofs.room.CallRoom.for_part.Given as goal
 
 abbrev pub invariant-loop-lane : goal.invariant-loop-lane
 invariant-loop-lane l = record {

@@ -1,7 +1,7 @@
 use Rattle.std.proofs.Common.{arith}
 use Rattle.flt_life.specs.Actions.{action_of, call_count, queue_count}
-use Rattle.flt_lives.proofs.Calls.{step_calls_most, step_fits, step_queued_most}
-use Rattle.flt_lives.proofs.accounting.CallRoom.for_lane.Goals as goal
+use Rattle.flt_life.proofs.Calls.{step_calls_most, step_fits, step_queued_most}
+use Rattle.flt_life.proofs.room.CallRoom.for_lane.Goals as goal
 
 pub grow-requires-clause-machine : goal.grow-requires-clause-machine
 grow-requires-clause-machine c =
