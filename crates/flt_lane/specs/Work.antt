@@ -7,17 +7,11 @@ use Rattle.flt_life.specs.Answers.{Told}
 use Rattle.flt_life.specs.Parts.{IsPossibleInLane, calls_of, queued_of}
 use Rattle.flt_life.specs.Room.{HasRoomForSteps, told_in}
 use Rattle.flt_turn.specs.Seats as turn
-use Rattle.flt_queue.specs.declared.lock.QueueLock.{QueueLock}
-use Rattle.flt_shared.specs.declared.lock.DemLock.{DemLock}
 use Rattle.flt_shared.specs.Call.{Seat}
 use Rattle.flt_shared.specs.Lock.{IsSeatOf}
 use Rattle.flt_lane.specs.declared.lane.LaneWork.{LaneWork}
 use Rattle.flt_lane.specs.declared.locks.Locks.{Locks}
 use Rattle.flt_lane.specs.Runs.{QueueSeat, RunsQueue, RunsSteps}
-
--- The two locks together.
-abbrev pub both : {F : _} {g : _} → DemLock F g → QueueLock → Locks F g
-both dem queue = record { dem = dem; queue = queue }
 
 -- Both seats are of these locks, and the queue has as many blocks as the status machine's configuration.
 pub record AreSeatsOf {F : _} {g : _} (locks : Locks F g) (work : LaneWork) : Type 0 where

@@ -4,7 +4,7 @@ ghost use Rattle.flt_config.specs.Durable.{Fits};
 ghost use Rattle.flt_config.specs.Validity.{IsValid};
 ghost use Rattle.flt_script.specs.Step.{store_lanes};
 ghost use Rattle.flt_store.specs.Store.{IsAlive, driver_of};
-ghost use Rattle.flt_lane.specs.Work.{AreSeatsOf, IsPrepared, HasRun, both};
+ghost use Rattle.flt_lane.specs.Work.{AreSeatsOf, IsPrepared, HasRun};
 ghost use Rattle.flt_lane.specs.Stored.{AreRun, CanStore, HasRunStore, HaveRun, RunsStore, StoresAt, is_store_lane};
 ghost use Rattle.flt_lane.specs.declared.lane.LaneWork.{LaneWork};
 
@@ -16,9 +16,9 @@ use flt_config::ValidConfig;
 use flt_flash::Blocks;
 use flt_fork::{Owned, Work, work_beside, work_first};
 use flt_life::LaneReplies;
-use flt_queue::{QueueLock, QueueSeat};
+use flt_queue::QueueSeat;
 use flt_script::Step;
-use flt_shared::{DemLock, DemSeat};
+use flt_shared::DemSeat;
 use flt_store::Store;
 use std::marker::Sync;
 use std::sync::Wait;
@@ -39,55 +39,48 @@ pub struct LaneWork<'a> {
     pub replies: LaneReplies,
 }
 
-/// Makes the steps of a lane that does not touch the store in their order, each between the two calls of the gate.
-fn run_lane<R: Wait, G: Gate>(
-    rt: &R,
-    dem: &DemLock,
-    queue: &QueueLock,
-    gate: &G,
-    lane: &mut LaneWork<'_>,
-)
-    requires ready { IsPrepared (both dem.now queue.now) lane.old }
-    requires no_store { is_store_lane lane.old ≡ false }
-    ensures ran { HasRun lane.old lane.new }
-    ensures seats { AreSeatsOf (both dem.now queue.now) lane.new }
-{
-    let steps = lane.steps;
-    let mut response = ArrayVec::new();
-    for (index, step) in steps.iter().enumerate() {
-        gate.before(rt, lane.number, index as u32);
-        let answer = make_call(
-            rt,
-            dem,
-            queue,
-            &mut lane.seat,
-            &mut lane.queue_seat,
-            step,
-            &mut response,
-        );
-        lane.replies.keep(answer, response.as_slice());
-        gate.after(rt, lane.number, index as u32);
+impl<G: Gate> Work<Locks, G> for LaneWork<'_> {
+    ghost ready = { λ locks lane. IsPrepared locks lane × (is_store_lane lane ≡ false) };
+
+    ghost done = { λ locks before after. HasRun before after × AreSeatsOf locks after };
+
+    /// Makes the steps of a lane that does not touch the store in their order, each between the two calls of the gate.
+    fn work<R: Wait>(&mut self, rt: &R, locks: &Locks, gate: &G) {
+        let steps = self.steps;
+        let mut response = ArrayVec::new();
+        for (index, step) in steps.iter().enumerate() {
+            gate.before(rt, self.number, index as u32);
+            let answer = make_call(
+                rt,
+                locks,
+                &mut self.seat,
+                &mut self.queue_seat,
+                step,
+                &mut response,
+            );
+            self.replies.keep(answer, response.as_slice());
+            gate.after(rt, self.number, index as u32);
+        }
     }
 }
 
 /// Makes the steps of the lane that touches the store, likewise.
 fn run_store_lane<R: Wait, G: Gate, B: Blocks + Drop>(
     rt: &R,
-    dem: &DemLock,
-    queue: &QueueLock,
+    locks: &Locks,
     gate: &G,
     store: &mut Store<B>,
     config: &ValidConfig,
     lane: &mut LaneWork<'_>,
 )
-    requires ready { IsPrepared (both dem.now queue.now) lane.old }
+    requires ready { IsPrepared locks.now lane.old }
     requires same { lane.old.seat.start.config ≡ config.now }
     requires valid { IsValid config.now }
     requires fits { Fits config.now lane.old.seat.start.base }
     requires alive { IsAlive config.now store.old }
     requires arms { (driver_of store.old).device.bench.armed ≤ 64 }
     ensures ran { HasRunStore config.now lane.old lane.new store.old store.new }
-    ensures seats { AreSeatsOf (both dem.now queue.now) lane.new }
+    ensures seats { AreSeatsOf locks.now lane.new }
 {
     let steps = lane.steps;
     let mut response = ArrayVec::new();
@@ -95,8 +88,7 @@ fn run_store_lane<R: Wait, G: Gate, B: Blocks + Drop>(
         gate.before(rt, lane.number, index as u32);
         let answer = do_step(
             rt,
-            dem,
-            queue,
+            locks,
             store,
             config,
             &mut lane.seat,
@@ -109,32 +101,20 @@ fn run_store_lane<R: Wait, G: Gate, B: Blocks + Drop>(
     }
 }
 
-impl<G: Gate> Work<DemLock, QueueLock, G> for LaneWork<'_> {
-    ghost ready = { λ dem queue lane. IsPrepared (both dem queue) lane × (is_store_lane lane ≡ false) };
+impl<'a, G: Gate, B: Blocks + Drop> Owned<LaneWork<'a>, Locks, G, ValidConfig> for Store<B> {
+    ghost able = { λ locks config store lane. IsPrepared locks lane × CanStore config lane store };
 
-    ghost done = { λ dem queue before after. HasRun before after × AreSeatsOf (both dem queue) after };
-
-    fn work<R: Wait>(&mut self, rt: &R, first: &DemLock, second: &QueueLock, gate: &G) {
-        run_lane(rt, first, second, gate, self);
-    }
-}
-
-impl<'a, G: Gate, B: Blocks + Drop> Owned<LaneWork<'a>, DemLock, QueueLock, G, ValidConfig>
-    for Store<B> {
-    ghost able = { λ dem queue config store lane. IsPrepared (both dem queue) lane × CanStore config lane store };
-
-    ghost made = { λ dem queue config store now before after. HasRunStore config before after store now × AreSeatsOf (both dem queue) after };
+    ghost made = { λ locks config store now before after. HasRunStore config before after store now × AreSeatsOf locks after };
 
     fn work<R: Wait>(
         &mut self,
         rt: &R,
-        first: &DemLock,
-        second: &QueueLock,
+        locks: &Locks,
         gate: &G,
         config: &ValidConfig,
-        one: &mut LaneWork<'a>,
+        lane: &mut LaneWork<'a>,
     ) {
-        run_store_lane(rt, first, second, gate, self, config, one);
+        run_store_lane(rt, locks, gate, self, config, lane);
     }
 }
 
@@ -162,40 +142,38 @@ fn store_place(lanes: &[LaneWork<'_>]) -> Option<usize>
 /// Runs lanes that do not touch the store, all at once.
 fn run_others<R: Threads + Wait + Sync, G: Gate + Sync>(
     rt: &R,
-    dem: &DemLock,
-    queue: &QueueLock,
+    locks: &Locks,
     gate: &G,
     lanes: &mut [LaneWork<'_>],
 )
-    requires ready { All (IsPrepared (both dem.now queue.now)) lanes.old }
+    requires ready { All (IsPrepared locks.now) lanes.old }
     requires no_store { All (λ lane. is_store_lane lane ≡ false) lanes.old }
     ensures ran { HaveRun lanes.old lanes.new }
-    ensures seats { All (AreSeatsOf (both dem.now queue.now)) lanes.new }
+    ensures seats { All (AreSeatsOf locks.now) lanes.new }
 {
-    work_beside(rt, dem, queue, gate, lanes);
+    work_beside(rt, locks, gate, lanes);
 }
 
 /// Runs the first lane, which touches the store, in this thread, and the others beside it.
 fn run_first<R: Threads + Wait + Sync, G: Gate + Sync, B: Blocks + Drop>(
     rt: &R,
-    dem: &DemLock,
-    queue: &QueueLock,
+    locks: &Locks,
     gate: &G,
     store: &mut Store<B>,
     config: &ValidConfig,
     lanes: &mut [LaneWork<'_>],
 )
     requires first { StoresAt 0 lanes.old }
-    requires ready { All (IsPrepared (both dem.now queue.now)) lanes.old }
+    requires ready { All (IsPrepared locks.now) lanes.old }
     requires same { All (λ lane. lane.seat.start.config ≡ config.now) lanes.old }
     requires valid { IsValid config.now }
     requires fits { All (λ lane. Fits config.now lane.seat.start.base) lanes.old }
     requires alive { IsAlive config.now store.old }
     requires arms { (driver_of store.old).device.bench.armed ≤ 64 }
     ensures ran { RunsStore config.now 0 lanes.old lanes.new store.old store.new }
-    ensures seats { All (AreSeatsOf (both dem.now queue.now)) lanes.new }
+    ensures seats { All (AreSeatsOf locks.now) lanes.new }
 {
-    work_first(rt, dem, queue, gate, config, store, lanes);
+    work_first(rt, locks, gate, config, store, lanes);
 }
 
 /// Makes the steps of each lane, all lanes at once: each in a thread of its own where one can be made, but that the lane that touches
@@ -218,12 +196,11 @@ pub fn run_block<R: Threads + Wait + Sync, G: Gate + Sync, B: Blocks + Drop>(
     ensures ran { AreRun config.now lanes.old lanes.new store.old store.new }
     ensures seats { All (AreSeatsOf locks.now) lanes.new }
 {
-    let Locks { dem, queue } = locks;
     let Some(place) = store_place(lanes) else {
-        run_others(rt, dem, queue, gate, lanes);
+        run_others(rt, locks, gate, lanes);
         return;
     };
     lanes.swap(0, place);
-    run_first(rt, dem, queue, gate, store, config, lanes);
+    run_first(rt, locks, gate, store, config, lanes);
     lanes.swap(0, place);
 }

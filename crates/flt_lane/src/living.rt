@@ -84,8 +84,7 @@ fn run_one<R: Wait, G: Gate, B: Blocks + Drop>(
         Step::Save | Step::Drain | Step::Get { .. } | Step::Arming(_) => {
             let answer = do_step(
                 rt,
-                &locks.dem,
-                &locks.queue,
+                locks,
                 store,
                 config,
                 &mut seats.dem,

@@ -1,5 +1,5 @@
 //! One step of a lane.
-ghost use Rattle.std.specs.Prelude.{◌≡◌, ◌+◌, ◌<◌, ◌≤◌, ◌∷◌, [], ℕ, List, IsErr, IfOk, false, true};
+ghost use Rattle.std.specs.Prelude.{◌≡◌, ◌+◌, ◌<◌, ◌≤◌, ◌∷◌, ℕ, List, IsErr, IfOk, false};
 ghost use mathlib.Core.Logic.{◌↔◌};
 ghost use Rattle.flt_config.specs.declared.config.Config.{Config};
 ghost use Rattle.flt_config.specs.Durable.{Fits};
@@ -24,9 +24,10 @@ ghost use Rattle.flt_life.specs.Going.{GoesOn, WereGiven};
 ghost use Rattle.flt_lane.specs.Living.{Carries};
 ghost use Rattle.flt_lane.specs.Runs.{Makes, Queues, QueueSeat as Jobs, calls_by, queued_by};
 ghost use Rattle.flt_lane.specs.Stored.{LeavesStore};
-ghost use Rattle.flt_lane.specs.Work.{AreReady, both};
+ghost use Rattle.flt_lane.specs.Work.{AreReady};
 
 use crate::drain::drain;
+use crate::locks::Locks;
 use arrayvec::ArrayVec;
 use flt_config::{ValidConfig, initial};
 use flt_flash::Blocks;
@@ -124,15 +125,14 @@ pub(crate) fn ask_queue<R: Wait>(
 #[inline(always)]
 pub(crate) fn make_call<R: Wait>(
     rt: &R,
-    dem: &DemLock,
-    queue: &QueueLock,
+    locks: &Locks,
     seat: &mut DemSeat,
     jobs: &mut QueueSeat,
     step: &Step,
     response: &mut ArrayVec<u8, RESPONSE>,
 ) -> StepAnswer<ReplyKind>
-    requires lock { IsSeatOf dem.now seat.old }
-    requires queue { turn.IsSeatOf queue.now.turn jobs.old }
+    requires lock { IsSeatOf locks.now.dem seat.old }
+    requires queue { turn.IsSeatOf locks.now.queue.turn jobs.old }
     requires blocks { jobs.old.start ≡ seat.old.start.config.blocks }
     requires step { IsPossibleInLane seat.old.start.config step.now }
     requires no_store { is_store_step step.now ≡ false }
@@ -141,12 +141,12 @@ pub(crate) fn make_call<R: Wait>(
     ensures made { Makes seat.old step.now (told_with response.new.items result) seat.new }
     ensures queues { Queues jobs.old step.now (told_with response.new.items result) jobs.new }
     ensures size { told_size (told_with response.new.items result) ≤ response_size (action_of step.now) }
-    ensures lock { IsSeatOf dem.now seat.new }
-    ensures queue { turn.IsSeatOf queue.now.turn jobs.new }
+    ensures lock { IsSeatOf locks.now.dem seat.new }
+    ensures queue { turn.IsSeatOf locks.now.queue.turn jobs.new }
 {
     match step {
-        Step::Post { .. } | Step::Ask { .. } => ask_queue(rt, queue, jobs, step),
-        _ => call_dem(rt, dem, seat, step, response),
+        Step::Post { .. } | Step::Ask { .. } => ask_queue(rt, &locks.queue, jobs, step),
+        _ => call_dem(rt, &locks.dem, seat, step, response),
     }
 }
 
@@ -203,45 +203,10 @@ fn get<B: Blocks + Drop>(store: &mut Store<B>, block: u8) -> StepAnswer<ReplyKin
     }
 }
 
-/// Makes a step that touches the store, on seats that have its calls left, and answers it.
-fn touch_store<R: Wait, B: Blocks + Drop>(
-    rt: &R,
-    dem: &DemLock,
-    queue: &QueueLock,
-    store: &mut Store<B>,
-    config: &ValidConfig,
-    seat: &mut DemSeat,
-    jobs: &mut QueueSeat,
-    step: &Step,
-) -> StepAnswer<ReplyKind>
-    requires ready { AreReady (both dem.now queue.now) config.now seat.old jobs.old }
-    requires alive { IsAlive config.now store.old }
-    requires step { IsPossible config.now (action_of step.now) }
-    requires store { is_store_step step.now ≡ true }
-    requires left { calls_by step.now ≤ seat.old.left }
-    requires queued { queued_by step.now ≤ jobs.old.left }
-    ensures made { (bytes : List ℕ) → Makes seat.old step.now (told_with bytes result) seat.new }
-    ensures queues { (bytes : List ℕ) → Queues jobs.old step.now (told_with bytes result) jobs.new }
-    ensures size { (bytes : List ℕ) → told_size (told_with bytes result) ≡ 0 }
-    ensures lock { IsSeatOf dem.now seat.new }
-    ensures queue { turn.IsSeatOf queue.now.turn jobs.new }
-    ensures carries { (bytes : List ℕ) (earlier : List Deed)
-        → Carries config.now seat.old seat.new jobs.old jobs.new earlier ((step.now, told_with bytes result) ∷ earlier) store.old store.new }
-    ensures leaves { LeavesStore store.old store.new }
-{
-    match step {
-        Step::Save => save(rt, dem, store, config, seat),
-        Step::Drain => drain(rt, queue, store, config, jobs),
-        Step::Get { block } => get(store, *block),
-        _ => unreachable!(),
-    }
-}
-
 /// Makes a step over the store, on seats that have its calls left, and answers it.
 pub(crate) fn do_step<R: Wait, B: Blocks + Drop>(
     rt: &R,
-    dem: &DemLock,
-    queue: &QueueLock,
+    locks: &Locks,
     store: &mut Store<B>,
     config: &ValidConfig,
     seat: &mut DemSeat,
@@ -249,7 +214,7 @@ pub(crate) fn do_step<R: Wait, B: Blocks + Drop>(
     step: &Step,
     response: &mut ArrayVec<u8, RESPONSE>,
 ) -> StepAnswer<ReplyKind>
-    requires ready { AreReady (both dem.now queue.now) config.now seat.old jobs.old }
+    requires ready { AreReady locks.now config.now seat.old jobs.old }
     requires alive { IsAlive config.now store.old }
     requires step { IsPossible config.now (action_of step.now) }
     requires arms { (driver_of store.old).device.bench.armed + arm_count (action_of step.now) ≤ 64 }
@@ -258,8 +223,8 @@ pub(crate) fn do_step<R: Wait, B: Blocks + Drop>(
     ensures made { Makes seat.old step.now (told_with response.new.items result) seat.new }
     ensures queues { Queues jobs.old step.now (told_with response.new.items result) jobs.new }
     ensures size { told_size (told_with response.new.items result) ≤ response_size (action_of step.now) }
-    ensures lock { IsSeatOf dem.now seat.new }
-    ensures queue { turn.IsSeatOf queue.now.turn jobs.new }
+    ensures lock { IsSeatOf locks.now.dem seat.new }
+    ensures queue { turn.IsSeatOf locks.now.queue.turn jobs.new }
     ensures carries { (earlier : List Deed)
         → Carries config.now seat.old seat.new jobs.old jobs.new earlier
         (with_deed step.now (told_with response.new.items result) earlier) store.old store.new }
@@ -268,13 +233,13 @@ pub(crate) fn do_step<R: Wait, B: Blocks + Drop>(
     ensures armed { (driver_of store.new).device.bench.armed ≤ (driver_of store.old).device.bench.armed + arm_count (action_of step.now) }
 {
     match step {
-        Step::Save | Step::Drain | Step::Get { .. } => {
-            touch_store(rt, dem, queue, store, config, seat, jobs, step)
-        }
+        Step::Save => save(rt, &locks.dem, store, config, seat),
+        Step::Drain => drain(rt, &locks.queue, store, config, jobs),
+        Step::Get { block } => get(store, *block),
         Step::Arming(arm) => {
             store.arm(*arm);
             StepAnswer::Armed
         }
-        _ => make_call(rt, dem, queue, seat, jobs, step, response),
+        _ => make_call(rt, locks, seat, jobs, step, response),
     }
 }

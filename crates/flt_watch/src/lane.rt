@@ -71,13 +71,13 @@ fn run_lane<R: Wait, G: Gate>(rt: &R, lock: &WatchLock, gate: &G, lane: &mut Wat
     }
 }
 
-impl<G: Gate> Work<WatchLock, (), G> for WatchLane<'_> {
-    ghost ready = { λ lock _ lane. IsPrepared lock lane };
+impl<G: Gate> Work<WatchLock, G> for WatchLane<'_> {
+    ghost ready = { λ lock lane. IsPrepared lock lane };
 
-    ghost done = { λ lock _ before after. HasRun before after × IsSeatOf lock after.seat };
+    ghost done = { λ lock before after. HasRun before after × IsSeatOf lock after.seat };
 
-    fn work<R: Wait>(&mut self, rt: &R, first: &WatchLock, _second: &(), gate: &G) {
-        run_lane(rt, first, gate, self);
+    fn work<R: Wait>(&mut self, rt: &R, lock: &WatchLock, gate: &G) {
+        run_lane(rt, lock, gate, self);
     }
 }
 
@@ -92,5 +92,5 @@ pub(crate) fn run_beside<R: Threads + Wait + Sync, G: Gate + Sync>(
     ensures ran { HaveRun lanes.old lanes.new }
     ensures seats { All (λ lane. IsSeatOf lock.now lane.seat) lanes.new }
 {
-    work_beside(rt, lock, &(), gate, lanes);
+    work_beside(rt, lock, gate, lanes);
 }

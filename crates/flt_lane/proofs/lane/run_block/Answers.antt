@@ -1,7 +1,7 @@
 use Rattle.std.proofs.Common.{◌<◌, length, arith}
 use Rattle.flt_config.specs.Durable.{Fits}
 use Rattle.flt_lane.specs.declared.lane.LaneWork.{LaneWork}
-use Rattle.flt_lane.specs.Work.{IsPrepared, both}
+use Rattle.flt_lane.specs.Work.{IsPrepared}
 use Rattle.flt_lane.proofs.Swapping.{all_exchanged, are_run, exchanged, stores_exchanged}
 use Rattle.flt_lane.proofs.lane.run_block.Goals as goal
 
@@ -13,7 +13,7 @@ run_first-requires-clause-first g c κs within =
 pub run_first-requires-clause-ready : goal.run_first-requires-clause-ready
 run_first-requires-clause-ready g c κs within =
     let stores = c.in-Some.ensures.some in
-    all_exchanged (IsPrepared (both c.args.locks.now.dem c.args.locks.now.queue)) c.in-Some.place c.args.lanes.now c.swap.new.self
+    all_exchanged (IsPrepared c.args.locks.now) c.in-Some.place c.args.lanes.now c.swap.new.self
     (exchanged c.in-Some.place c.args.lanes.now c.swap.new.self stores.within c.swap.ensures.len c.swap.ensures.by_index) c.requires.ready
 
 pub run_first-requires-clause-fits : goal.run_first-requires-clause-fits

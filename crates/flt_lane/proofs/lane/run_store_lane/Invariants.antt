@@ -1,6 +1,5 @@
-use Rattle.flt_lane.specs.Work.{both}
 use Rattle.flt_lane.proofs.Storing.{IsStoring}
 use Rattle.flt_lane.proofs.lane.run_store_lane.Given as goal
 
 abbrev pub invariant-loop-index : goal.invariant-loop-index
-invariant-loop-index g l = IsStoring l.config (both l.dem l.queue) l.initial.lane l.lane l.index l.initial.store l.store
+invariant-loop-index g l = IsStoring l.config l.locks l.initial.lane l.lane l.index l.initial.store l.store

@@ -1,5 +1,6 @@
 use Rattle.std.proofs.Common.{List, arith, refl, subst, sym}
 use Rattle.flt_flash.specs.declared.arm.Arm.{Arm}
+use Rattle.flt_life.specs.Actions.{IsPossible, action_of}
 use Rattle.flt_life.specs.Answers.{told_with}
 use Rattle.flt_life.specs.Ordered.{with_deed}
 use Rattle.flt_life.specs.declared.answer.StepAnswer.TheVariants.{Armed}
@@ -15,6 +16,30 @@ use Rattle.flt_lane.proofs.OffStore.{carries_call}
 use Rattle.flt_lane.proofs.Carrying.{carries_arm}
 use Rattle.flt_lane.proofs.Stepping.{no_arms, no_store_step, none_made, none_queued}
 use Rattle.flt_lane.proofs.step.do_step.Goals as goal
+
+pub get-requires-clause-alive : goal.get-requires-clause-alive
+get-requires-clause-alive g c = (c.args.config.now, subst (λ (s : Step). IsPossible c.args.config.now (action_of s)) c.in-Get.is c.requires.step, c.requires.alive)
+
+pub returns-in-Save-clause-queues : goal.returns-in-Save-clause-queues
+returns-in-Save-clause-queues g c =
+    let told = told_with c.args.response.now.items c.save.result in
+    subst (λ (s : Step). Queues c.args.jobs.now s told c.args.jobs.now) (sym c.in-Save.is) (none_queued c.args.jobs.now steps.Save told refl)
+
+pub returns-in-Drain-clause-made : goal.returns-in-Drain-clause-made
+returns-in-Drain-clause-made g c =
+    let told = told_with c.args.response.now.items c.drain.result in
+    subst (λ (s : Step). Makes c.args.seat.now s told c.args.seat.now) (sym c.in-Drain.is) (none_made c.args.seat.now steps.Drain told refl)
+
+pub returns-in-Get-clause-made : goal.returns-in-Get-clause-made
+returns-in-Get-clause-made g c =
+    let told = told_with c.args.response.now.items c.get.result in
+    subst (λ (s : Step). Makes c.args.seat.now s told c.args.seat.now) (sym c.in-Get.is)
+    (none_made c.args.seat.now (steps.Get _) told (c.get.ensures.got c.args.response.now.items, refl))
+
+pub returns-in-Get-clause-queues : goal.returns-in-Get-clause-queues
+returns-in-Get-clause-queues g c =
+    let told = told_with c.args.response.now.items c.get.result in
+    subst (λ (s : Step). Queues c.args.jobs.now s told c.args.jobs.now) (sym c.in-Get.is) (none_queued c.args.jobs.now (steps.Get _) told refl)
 
 pub returns-in-Arming-clause-made : goal.returns-in-Arming-clause-made
 returns-in-Arming-clause-made g c = subst (λ (s : Step). Makes c.args.seat.now s Armed c.args.seat.now) (sym c.in-Arming.is) (none_made c.args.seat.now (steps.Arming _) Armed (refl, refl))
