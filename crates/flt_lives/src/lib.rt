@@ -14,7 +14,6 @@ mod device;
 mod driver;
 mod engine;
 mod lives;
-mod living;
 mod plain;
 mod step;
 
@@ -22,6 +21,5 @@ pub use buffers::Buffers;
 pub use device::{Run, run_alone, run_on_device};
 pub use driver::Driver;
 pub use engine::{Engine, Lived};
-pub use lives::run_lives;
-pub use living::run_life;
+pub use lives::{run_life, run_lives};
 pub use plain::Plain;

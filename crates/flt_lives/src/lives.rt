@@ -1,23 +1,100 @@
-// Lives one after the other.
-ghost use Rattle.std.specs.Prelude.{◌≡◌, ◌+◌, ◌≤◌, All, IfOk, length, sum_by};
-ghost use Rattle.flt_script.specs.Part.{parts_of};
+// Lives, each from its power-up on, one after the other.
+ghost use Rattle.std.specs.Prelude.{◌≡◌, ◌+◌, ◌≤◌, ◌<◌, ◌^◌, [], List, All, IfOk, OnOk, length, sum_by};
+ghost use Rattle.flt_script.specs.declared.step.Step.{Step};
+ghost use Rattle.flt_script.specs.Part.{PartOf, parts_of};
 ghost use Rattle.flt_store.specs.Store.{driver_of};
 ghost use Rattle.flt_store.specs.Cause.{HasRoom};
-ghost use Rattle.flt_life.specs.Lives.{IsLinked, ArePlayed, AreEnded, AreGiven, StaysSound, arms_given, is_refused, lists, lives_seen};
+ghost use Rattle.flt_life.specs.declared.life.Boot.TheVariants as boots;
+ghost use Rattle.flt_life.specs.Going.{AddsLife, WereGiven};
+ghost use Rattle.flt_life.specs.Lives.{AreEnded, AreGiven, ArePlayed, IsLinked, StaysSound, arms_by, arms_given, is_refused, lists, lives_seen, view_of};
 ghost use Rattle.flt_life.specs.Moment.{Medium, moment_of};
 ghost use Rattle.flt_life.specs.Parts.{IsPossiblePart, arms_in, steps_in, widths};
+ghost use Rattle.flt_life.specs.Played.{IsPlayed};
 ghost use Rattle.flt_lives.specs.Devices.{BeginsLives};
+ghost use Rattle.flt_lives.specs.Living.{IsLived};
 ghost use Rattle.flt_lives.specs.Linked.{KeepsOn};
 
 use crate::buffers::Buffers;
-use crate::engine::Engine;
-use crate::living::run_life;
+use crate::dark::dark_life;
+use crate::engine::{Engine, Lived};
 use flt_config::ValidConfig;
 use flt_flash::Blocks;
-use flt_life::{Boot, Life};
+use flt_life::{Boot, Life, LifeRoom};
 use flt_script::Part;
-use flt_store::Store;
+use flt_store::{StartFault, Store};
 use std::alloc::{AllocError, Global};
+
+/// A life whose start-up was refused.
+fn refused(alloc: Global, fault: StartFault) -> Life
+    ensures { (parts : List (PartOf Step)) → view_of parts result ≡ record {
+      parts = parts;
+      boot = boots.Refused fault;
+      journal = [];
+      queue = [];
+      own = [];
+      lanes = [];
+    } }
+{
+    Life {
+        boot: Boot::Refused(fault),
+        journal: Vec::new(alloc),
+        queue: Vec::new(alloc),
+        replies: Vec::new(alloc),
+    }
+}
+
+/// Lives from one power-up to the next: the power comes, the store starts up, and the engine makes the steps. Memory is taken before the
+/// power comes, and by the engine before the first step.
+pub fn run_life<D: Blocks + Drop, E: Engine<D> + Drop>(
+    alloc: Global,
+    engine: E,
+    store: &mut Store<D>,
+    config: &ValidConfig,
+    buffers: &mut Buffers,
+    parts: &[Part],
+) -> Result<Lived<E>, AllocError>
+    requires same { E.machine_config engine ≡ config.now }
+    requires can { E.can_make (parts_of parts.now) }
+    requires room { HasRoom config.now (driver_of store.old).room }
+    requires boots { 0 < (driver_of store.old).device.bench.boots_left }
+    requires few { sum_by steps_in (parts_of parts.now) ≤ 65536 }
+    requires numbers { widths (parts_of parts.now) + 1 < 2 ^ 32 }
+    requires indices { length parts.now < 2 ^ 32 }
+    requires possible { All (IsPossiblePart config.now) (parts_of parts.now) }
+    requires arms { (driver_of store.old).device.bench.armed + sum_by arms_in (parts_of parts.now) ≤ 64 }
+    ensures same { IfOk result (λ lived. E.machine_config lived.engine ≡ config.now) }
+    ensures lived { IfOk result (λ lived. IsLived config.now (driver_of store.old) (driver_of store.new) (view_of (parts_of parts.now) lived.life)) }
+    ensures played { IfOk result (λ lived. IsPlayed config.now (view_of (parts_of parts.now) lived.life)) }
+    ensures given { IfOk result (λ lived.
+        WereGiven (arms_by (parts_of parts.now) lived.life.boot) (driver_of store.old).device.bench.arms (driver_of store.new).device.bench.arms) }
+    ensures sound { StaysSound config.now (moment_of (driver_of store.old)) (moment_of (driver_of store.new)) }
+    ensures adds { OnOk result (AddsLife (driver_of store.old) (driver_of store.new)) }
+    ensures begun { BeginsLives 1 (driver_of store.old).device (driver_of store.new).device }
+    ensures armed { OnOk result ((driver_of store.new).device.bench.armed ≤ (driver_of store.old).device.bench.armed + sum_by arms_in (parts_of parts.now)) }
+    ensures room { (driver_of store.new).room ≡ (driver_of store.old).room }
+{
+    let room = LifeRoom::for_parts(alloc, parts)?;
+    store.power_up();
+    match store.start_up(config, &mut buffers.state) {
+        Ok(generation) => engine.live(alloc, store, config, buffers, generation, parts, room),
+        Err(StartFault::Flash) => {
+            let life = dark_life(alloc, store, parts, room);
+            Ok(Lived { engine, life })
+        }
+        Err(StartFault::Damaged(place)) => {
+            let life = refused(alloc, StartFault::Damaged(place));
+            Ok(Lived { engine, life })
+        }
+        Err(StartFault::OtherConfig { found, wanted }) => {
+            let life = refused(alloc, StartFault::OtherConfig { found, wanted });
+            Ok(Lived { engine, life })
+        }
+        Err(StartFault::SequenceSpent) => {
+            let life = refused(alloc, StartFault::SequenceSpent);
+            Ok(Lived { engine, life })
+        }
+    }
+}
 
 fn is_refused(life: &Life) -> bool
     ensures { result ≡ is_refused life.now.boot }

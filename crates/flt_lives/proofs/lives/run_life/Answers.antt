@@ -15,7 +15,7 @@ use Rattle.flt_life.proofs.Giving.{none_since}
 use Rattle.flt_lives.proofs.Rooms.{possible_own, possible_lanes}
 use Rattle.flt_lives.proofs.Starting.{if_ok, keeps, stays_by_keeping, lived_refused, lived_started, lived_dark}
 use Rattle.flt_lives.proofs.Beginning.{none_begun, one_begun}
-use Rattle.flt_lives.proofs.living.run_life.Goals as goal
+use Rattle.flt_lives.proofs.lives.run_life.Goals as goal
 
 pub dark_life-life-requires-clause-possible : goal.dark_life-life-requires-clause-possible
 dark_life-life-requires-clause-possible g c = possible_own c.args.config.now (parts_of c.args.parts.now) c.requires.possible
