@@ -57,7 +57,6 @@ impl<D: Blocks + Drop, R: Threads + Wait + Sync, G: SharedGate> Engine<D> for Lo
             told,
             replies,
         } = room;
-        let rooms = part_rooms(alloc, parts, lanes)?;
         let start = buffers.state.twin();
         unit.boot(&buffers.state);
         let calls = CallRoom::for_parts(parts);
@@ -68,6 +67,7 @@ impl<D: Blocks + Drop, R: Threads + Wait + Sync, G: SharedGate> Engine<D> for Lo
         let Ok((queue, jobs)) = QueueLock::make(alloc, blocks, calls.queue) else {
             return Err(AllocError);
         };
+        let rooms = part_rooms(alloc, parts, lanes)?;
         let locks = Locks { dem, queue };
         let mut seats = Seats {
             dem: main,
