@@ -9,7 +9,7 @@ mod job;
 use flt_flash::{Arm, BlockFault, Blocks, Found};
 use std::process::Abort;
 
-// A step of a worked row, on the block 8 or 9, with its answer.
+/// A step of a worked row, on the block 8 or 9, with its answer.
 #[derive(Clone, Copy)]
 pub enum Step {
     Mount(Result<(), BlockFault>),

@@ -6,7 +6,7 @@ use flt_flash::{Arm, BlockFault, Blocks, Found};
 use std::process::Abort;
 use std::test::Fail;
 
-// What a block holds: as many bytes as the job gives it, all of them this one, or something else.
+/// What a block holds: as many bytes as the job gives it, all of them this one, or something else.
 #[derive(Clone, Copy, Debug, PartialEq, Eq)]
 pub enum Held {
     Missing,
@@ -53,7 +53,7 @@ fn held_with(bytes: &[u8]) -> Held {
     Held::Bytes(*first)
 }
 
-// What a block holds with so many bytes from the start of these.
+/// What a block holds with so many bytes from the start of these.
 pub fn held_of(block: u16, length: usize, bytes: &[u8; 128]) -> Held {
     match (block, length) {
         (8, 1) => held_with(&bytes[..1]),
@@ -171,8 +171,8 @@ fn read_again<B: Blocks>(driver: &mut B) -> Result<(Held, Held), BlockFault>
     }
 }
 
-// Makes the job over a driver with this arm, and reads the blocks with the power on again, a second time where the arm made that fail:
-// each holds what it held or what was asked. It tells whether all of the job was made, and what the blocks hold.
+/// Makes the job over a driver with this arm, and reads the blocks with the power on again, a second time where the arm made that fail:
+/// each holds what it held or what was asked. It tells whether all of the job was made, and what the blocks hold.
 pub fn run_armed<B: Blocks>(
     rt: &impl Abort,
     driver: &mut B,
