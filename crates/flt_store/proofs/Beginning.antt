@@ -1,24 +1,37 @@
 -- What a start-up makes of the generation that it judged.
-use Rattle.std.proofs.Common.{◌≡◌, ◌≢◌, inl, inr, ⊎_elim, ℕ, ◌-◌, Bool, true, false, Option, Some, None, Result, refl, sym, ◌∙◌, ap, subst, arith}
-use Rattle.std.specs.Prelude.{IsFalse}
+use Rattle.std.proofs.Common.{◌≡◌, inl, inr, ⊎_elim, ℕ, ◌-◌, Bool, true, false, length, Option, Some, None, Result, Ok, refl, sym, ◌∙◌, ap, subst, arith}
+use Rattle.std.specs.Prelude.{IsFalse, IsErrOf}
 use Rattle.flt_flash.specs.Content.{Content, missing, invalid, bytes}
 use Rattle.flt_flash.specs.State.{HasRisenBy}
 use Rattle.flt_flash.specs.Blocks.{BlocksState}
 use Rattle.flt_flash.specs.Calls.{Follows, SameValues}
+use Rattle.flt_flash.specs.declared.blocks.Blocks.{Ghosts}
+use Rattle.flt_flash.specs.declared.blocks.BlockFault.{BlockFault}
+use Rattle.flt_flash.specs.declared.blocks.BlockFault.TheVariants.{Flash, SequenceSpent}
+use Rattle.flt_nvm.specs.declared.nvm.Nvm.{Nvm}
+use Rattle.flt_nvm.specs.Blocks.{Repairs}
+use Rattle.flt_nvm.specs.Driver.{driver_of}
 use Rattle.flt_config.specs.declared.config.Config.{Config}
 use Rattle.flt_config.specs.declared.persist.Persist.{Persist}
 use Rattle.flt_config.specs.Durable.{Fits}
 use Rattle.flt_generation.specs.Layout.{commit_id, number_of, mark_number, first_commit, second_commit}
 use Rattle.flt_generation.specs.Excess.{IsBorne}
 use Rattle.flt_generation.specs.Laws.{IsGiven}
-use Rattle.flt_generation.specs.Holding.{Generation, Fault, Holds, MarkAllows, either_copy, only_bytes, held, spare}
+use Rattle.flt_generation.specs.Holding.{Generation, Fault, Holds, IsSound, MarkAllows, OldOrNew, SameApplications, either_copy, only_bytes, held, spare}
 use Rattle.flt_config.proofs.InitialFits.{initial_fits}
 use Rattle.flt_generation.proofs.ImageLaws.{held_stands, spare_stands}
 use Rattle.flt_restore.specs.declared.commit.CommitCopy.{CommitCopy}
 use Rattle.flt_restore.specs.Restored.{HasBytes, IsJudged, IsCopy, IsRestored, generation}
-use Rattle.flt_store.specs.Started.{HasMark, IsStarted, IsMarkTried}
-use Rattle.flt_store.specs.Start.{Begins, IsFoundIn}
-use Rattle.flt_store.proofs.Marks.{holds_marked}
+use Rattle.flt_store.specs.Started.{HasMark, IsStarted}
+use Rattle.flt_store.specs.Cause.{Writes}
+use Rattle.flt_store.specs.Dark.{IsCommitUnmended}
+use Rattle.flt_store.specs.Spent.{IsCommitStuck}
+use Rattle.flt_store.specs.Start.{Begins}
+use Rattle.flt_store.proofs.Causes.{borne_stays, writes_on}
+use Rattle.flt_store.proofs.Dark.{commit_from}
+use Rattle.flt_store.proofs.Marks.{TriesMark, holds_marked, sound_marked, borne_marked, applications_marked}
+use Rattle.flt_store.proofs.Mending.{Mends, mended_within, mended_writes, mended_started, mended_tried, mended_applications, commit_unmended, commit_stuck}
+use Rattle.flt_store.proofs.OutOfNumbers.{commit_stuck_from}
 
 first_missing : (first second : Content) → either_copy first second ≡ missing → first ≡ missing
 first_missing missing second is = refl
@@ -34,47 +47,74 @@ second_missing missing (bytes raw) is = absurd (cc is)
 second_missing invalid (bytes raw) is = absurd (cc is)
 second_missing (bytes other) (bytes raw) is = absurd (cc is)
 
--- No copy was found, and the mark stands.
-pub none_started : (c : Config) (value : ℕ → Content) (g : Generation) → HasMark c value → Begins c value None g → IsStarted c value None g
-none_started c value g mark begins = record {
-  mark = mark;
-  first = begins.1;
-  second = begins.2;
-  names = begins.0.names;
-  applications = begins.0.applications;
-  excess = begins.0.excess;
-}
+borne_of : (c : Config) (value : ℕ → Content) (found : Option CommitCopy) (g : Generation) → Begins c value found g → IsBorne c value
+borne_of c value None g begins = begins.0.excess
+borne_of c value (Some found) g begins = begins.0.excess
 
 -- What a generation begins with stays, where the mark alone was written.
-module _ (c : Config) (before after : ℕ → Content) (tried : IsMarkTried c before after) (others : (other : ℕ) → other ≢ mark_number → after other ≡ before other) where
-  copy_marked : (found : CommitCopy) → IsCopy c before found → IsCopy c after found
+module _ {c : Config} {before after : BlocksState} (tries : TriesMark c before after) where
+  pub copy_marked : (found : CommitCopy) → IsCopy c before.value found → IsCopy c after.value found
   copy_marked found is = record {
     least = is.least;
     most = is.most;
-    holds = others (number_of commit_id (found.copy - 1)) (λ same. omega (arith, same)) ∙ is.holds;
+    holds = tries.others (number_of commit_id (found.copy - 1)) (λ same. omega (arith, same)) ∙ is.holds;
     read = is.read;
   }
 
-  pub begins_marked : (found : Option CommitCopy) (g : Generation) → Begins c before found g → Begins c after found g
+  begins_marked : (found : Option CommitCopy) (g : Generation) → Begins c before.value found g → Begins c after.value found g
   begins_marked None g begins = (
-    holds_marked c before after tried others missing g begins.0,
-    others first_commit (λ same. omega (arith, same)) ∙ begins.1,
-    ap only_bytes (others second_commit (λ same. omega (arith, same))) ∙ begins.2,
+    holds_marked tries missing g begins.0,
+    tries.others first_commit (λ same. omega (arith, same)) ∙ begins.1,
+    ap only_bytes (tries.others second_commit (λ same. omega (arith, same))) ∙ begins.2,
   )
-  begins_marked (Some found) g begins = (holds_marked c before after tried others (bytes found.bytes.items) g begins.0, copy_marked found begins.1)
+  begins_marked (Some found) g begins = (holds_marked tries (bytes found.bytes.items) g begins.0, copy_marked found begins.1)
 
-  pub found_marked : (found : Option CommitCopy) → IsFoundIn c before found → IsFoundIn c after found
-  found_marked None is = tt
-  found_marked (Some found) is = copy_marked found is
+  pub borne_with_mark : (found : Option CommitCopy) (g : Generation) → Begins c before.value found g → IsBorne c after.value
+  borne_with_mark found g begins = borne_marked tries (borne_of c before.value found g begins)
 
--- What is known of the mark and of the excess, by either way to begin.
-pub allows_of : (c : Config) (value : ℕ → Content) (found : Option CommitCopy) (g : Generation) → Begins c value found g → (commit : Content) × MarkAllows c (value mark_number) commit
-allows_of c value None g begins = (missing, begins.0.mark)
-allows_of c value (Some found) g begins = (bytes found.bytes.items, begins.0.mark)
+  -- No copy was found, and the mark stands.
+  pub none_started : ((commit : Content) → MarkAllows c (before.value mark_number) commit → HasMark c after.value) → (g : Generation) → Begins c before.value None g → IsStarted c after.value None g
+  none_started marked g begins = let now = begins_marked None g begins in record {
+    mark = marked missing begins.0.mark;
+    first = now.1;
+    second = now.2;
+    names = now.0.names;
+    applications = now.0.applications;
+    excess = now.0.excess;
+  }
 
-pub borne_of : (c : Config) (value : ℕ → Content) (found : Option CommitCopy) (g : Generation) → Begins c value found g → IsBorne c value
-borne_of c value None g begins = begins.0.excess
-borne_of c value (Some found) g begins = begins.0.excess
+module _ {B : Type 0} {b : Ghosts B} where
+  -- Nothing was written but the mark, and then the copies of the commit were repaired by the one that was found.
+  pub record Begun (c : Config) (before middle after : Nvm B b) (found : CommitCopy) (result : Result (Unit {0}) BlockFault) : Type 0 where
+    pub tries : TriesMark c (driver_of before) (driver_of middle)
+    pub is : IsCopy c (driver_of before).value found
+    pub repairs : Repairs commit_id found.copy (bytes found.bytes.items) (length found.bytes.items) middle after result
+
+module _ {B : Type 0} {b : Ghosts B} {c : Config} {before middle after : Nvm B b} {found : CommitCopy} {result : Result (Unit {0}) BlockFault} (begun : Begun c before middle after found result) where
+  mends : Mends c middle after found.copy found.bytes.items found.commit result
+  mends = let is = copy_marked begun.tries found begun.is in record { least = is.least; most = is.most; holds = is.holds; read = is.read; repairs = begun.repairs }
+
+  pub begun_started : result ≡ Ok tt → ((commit : Content) → MarkAllows c ((driver_of before).value mark_number) commit → HasMark c (driver_of middle).value)
+      → (g : Generation) → Begins c (driver_of before).value (Some found) g → IsStarted c (driver_of after).value (Some found.commit) g
+  begun_started done marked g begins = mended_started mends done g (marked (bytes found.bytes.items) begins.0.mark) (holds_marked begun.tries (bytes found.bytes.items) g begins.0)
+
+  pub begun_tried : (h s new : Generation) → IsSound c (driver_of before).value h s → OldOrNew c (driver_of after).value h s new
+  begun_tried h s new sound = mended_tried mends h s new (sound_marked begun.tries h s sound)
+
+  pub begun_borne : (held : Option CommitCopy) (g : Generation) → Begins c (driver_of before).value held g → IsBorne c (driver_of after).value
+  begun_borne held g begins = borne_stays c (driver_of middle).value (driver_of after).value (mended_within mends) (borne_with_mark begun.tries held g begins)
+
+  pub begun_applications : SameApplications (driver_of before).value (driver_of after).value
+  begun_applications block below = mended_applications mends block below ∙ applications_marked begun.tries block below
+
+  pub begun_writes : Writes (driver_of before) (driver_of after) result
+  begun_writes = writes_on (driver_of before) (driver_of middle) (driver_of after) result begun.tries.follows (mended_writes mends)
+
+  pub begun_unmended : IsErrOf result Flash → IsCommitUnmended (driver_of before) (driver_of after)
+  begun_unmended told = commit_from (driver_of before) (driver_of middle) (driver_of after) begun.tries.follows begun.tries.others (commit_unmended mends told)
+
+  pub begun_stuck : IsErrOf result SequenceSpent → IsCommitStuck (driver_of before) (driver_of after)
+  begun_stuck told = commit_stuck_from (driver_of before) (driver_of middle) (driver_of after) begun.tries.follows begun.tries.others (commit_stuck mends told)
 
 -- What was restored is where a start-up begins.
 begins_at : (c : Config) → IsGiven c → (before after : BlocksState) (found : Option CommitCopy) (state : Persist) → IsRestored c before after found state → Begins c before.value found (generation found state)

@@ -1,14 +1,15 @@
 -- The mark of the configuration was read, and written where it was missing or of version 1.
-use Rattle.std.proofs.Common.{◌≡◌, ◌≢◌, ◌⊎◌, inl, inr, ⊎_elim, ℕ, ◌≤◌, length, refl, sym, ap, subst, arith}
+use Rattle.std.proofs.Common.{◌≡◌, ◌⊎◌, inl, inr, ⊎_elim, ℕ, ◌≤◌, length, refl, sym, ap, subst, arith}
 use Rattle.std.specs.Prelude.{IsTrue}
 use Rattle.std.proofs.lemmas.Bool.{cases_eq}
 use Rattle.flt_flash.specs.Content.{Content, missing, invalid, bytes}
-use Rattle.flt_flash.specs.Blocks.{pages_of, record_pages}
+use Rattle.flt_flash.specs.Blocks.{BlocksState, pages_of, record_pages}
+use Rattle.flt_flash.specs.Calls.{Follows, OthersKept}
 use Rattle.flt_config.specs.declared.config.Config.{Config}
 use Rattle.flt_generation.specs.Layout.{mark_number, number_of, first_commit, second_commit, application_number, is_used}
 use Rattle.flt_generation.specs.Form.{mark_of, mark_bytes}
 use Rattle.flt_generation.specs.Excess.{IsBorne, own_pages}
-use Rattle.flt_generation.specs.Holding.{Generation, Holds, IsSound, MarkAllows, is_application}
+use Rattle.flt_generation.specs.Holding.{Generation, Holds, IsSound, MarkAllows, SameApplications, is_application}
 use Rattle.flt_generation.proofs.Marks.{mark_size}
 use Rattle.flt_generation.proofs.Pages.{used_range}
 use Rattle.flt_store.specs.Cause.{IsWithinOwn}
@@ -17,57 +18,65 @@ use Rattle.flt_store.proofs.Causes.{borne_stays}
 use Rattle.flt_store.proofs.Started.{AreApplications, content_names_on, sound_on}
 use Rattle.flt_restore.specs.Restored.{IsMarkDue}
 
-module _ (c : Config) (before after : ℕ → Content) (tried : IsMarkTried c before after) (others : (other : ℕ) → other ≢ mark_number → after other ≡ before other) where
+-- Nothing was written but the mark, and that only where it was due.
+pub record TriesMark (c : Config) (before after : BlocksState) : Type 0 where
+  pub tried : IsMarkTried c before.value after.value
+  pub others : OthersKept mark_number before after
+  pub follows : Follows before after
+
+module _ {c : Config} {before after : BlocksState} (tries : TriesMark c before after) where
   own_mark : own_pages c mark_number ≡ 3
   unfolding own_pages
   own_mark = refl
 
-  within_mark : IsWithinOwn c before after
+  within_mark : IsWithinOwn c before.value after.value
   within_mark other = elim (cases_eq other mark_number) [
     | inl same ↦
-        subst (λ (n : ℕ). (after n ≡ before n) ⊎ (pages_of (after n) ≤ own_pages c n)) (sym same)
+        subst (λ (n : ℕ). (after.value n ≡ before.value n) ⊎ (pages_of (after.value n) ≤ own_pages c n)) (sym same)
         (⊎_elim
         (λ kept. inl kept)
-        (λ wrote. (let pages : pages_of (after mark_number) ≡ record_pages (length (mark_bytes (mark_of c))) = ap pages_of wrote.1 in
+        (λ wrote. (let pages : pages_of (after.value mark_number) ≡ record_pages (length (mark_bytes (mark_of c))) = ap pages_of wrote.1 in
         inr (omega (arith, pages, own_mark, mark_size (mark_of c)))))
-        tried)
-    | inr apart ↦ inl (others other apart)
+        tries.tried)
+    | inr apart ↦ inl (tries.others other apart)
   ]
 
-  pub borne_marked : IsBorne c before → IsBorne c after
-  borne_marked = borne_stays c before after within_mark
+  pub borne_marked : IsBorne c before.value → IsBorne c after.value
+  borne_marked = borne_stays c before.value after.value within_mark
 
-  first_same : after first_commit ≡ before first_commit
-  first_same = others first_commit (λ same. omega (arith, same))
+  first_same : after.value first_commit ≡ before.value first_commit
+  first_same = tries.others first_commit (λ same. omega (arith, same))
 
-  second_same : after second_commit ≡ before second_commit
-  second_same = others second_commit (λ same. omega (arith, same))
+  second_same : after.value second_commit ≡ before.value second_commit
+  second_same = tries.others second_commit (λ same. omega (arith, same))
 
-  pub good_marked : AreApplications before → AreApplications after
-  good_marked are block below =
-      subst (λ (content : Content). IsTrue (is_application content)) (sym (others (application_number block) (λ same. omega (arith, same)))) (are block below)
+  pub applications_marked : SameApplications before.value after.value
+  applications_marked block below = tries.others (application_number block) (λ same. omega (arith, same))
 
-  mark_by : (commit : Content) → MarkAllows c (before mark_number) commit → MarkAllows c (after mark_number) commit
+  good_marked : AreApplications before.value → AreApplications after.value
+  good_marked are block below = subst (λ (content : Content). IsTrue (is_application content)) (sym (applications_marked block below)) (are block below)
+
+  mark_by : (commit : Content) → MarkAllows c (before.value mark_number) commit → MarkAllows c (after.value mark_number) commit
   mark_by commit allows =
       ⊎_elim
       (λ kept. subst (λ (mark : Content). MarkAllows c mark commit) (sym kept) allows)
       (λ wrote. subst (λ (mark : Content). MarkAllows c mark commit) (sym wrote.1) (inl refl))
-      tried
+      tries.tried
 
-  above : (id index : ℕ) → IsTrue (is_used c id) → index ≤ 1 → after (number_of id index) ≡ before (number_of id index)
-  above id index used small = let range = used_range c id used in others (number_of id index) (λ same. omega (arith, range.0, same))
+  above : (id index : ℕ) → IsTrue (is_used c id) → index ≤ 1 → after.value (number_of id index) ≡ before.value (number_of id index)
+  above id index used small = let range = used_range c id used in tries.others (number_of id index) (λ same. omega (arith, range.0, same))
 
   -- What the image holds it holds with the mark written anew.
-  pub holds_marked : (content : Content) (g : Generation) → Holds c before content g → Holds c after content g
+  pub holds_marked : (content : Content) (g : Generation) → Holds c before.value content g → Holds c after.value content g
   holds_marked content g is = record {
     mark = mark_by content is.mark;
-    names = content_names_on c before after above content g is.names;
+    names = content_names_on c before.value after.value above content g is.names;
     applications = good_marked is.applications;
     excess = borne_marked is.excess;
   }
 
-  pub sound_marked : (h s : Generation) → IsSound c before h s → IsSound c after h s
-  sound_marked = sound_on c before after first_same second_same holds_marked
+  pub sound_marked : (h s : Generation) → IsSound c before.value h s → IsSound c after.value h s
+  sound_marked = sound_on c before.value after.value first_same second_same holds_marked
 
 -- A mark that is allowed and has not to be written stands in the version that is written.
 pub stands_anew : (c : Config) (content commit : Content) → MarkAllows c content commit → (IsMarkDue (mark_of c) content → ⊥) → content ≡ bytes (mark_bytes (mark_of c))

@@ -4,9 +4,13 @@ use Rattle.flt_generation.proofs.Commits.{read_commit}
 use Rattle.flt_store.proofs.TableUse.{commit_twice, commit_fits}
 use Rattle.flt_store.proofs.Causes.{writes_as}
 use Rattle.flt_store.proofs.Dark.{err_as}
-use Rattle.flt_store.proofs.Mending.{mended_within, mended_writes, mended_started, commit_stuck}
+use Rattle.flt_store.proofs.Mending.{Mends, mended_within, mended_writes, mended_started, commit_stuck}
 use Rattle.flt_store.proofs.Repairing.{one_commit, bytes_of_commit}
+use Rattle.flt_store.proofs.restarting.repair_by.Goals.{After-repair}
 use Rattle.flt_store.proofs.restarting.repair_by.Goals as goal
+
+mends : (g : _) (c : After-repair g) → Mends c.args.config.now c.args.nvm.now c.repair.new.self c.args.copy c.args.bytes.now c.in-Some.commit c.repair.result
+mends g c = record { least = c.requires.least; most = c.requires.most; holds = c.requires.held; read = sym c.get_commit.ensures ∙ c.in-Some.is; repairs = c.repair.ensures }
 
 pub repair-requires-clause-redundant : goal.repair-requires-clause-redundant
 repair-requires-clause-redundant g c = commit_twice _ c.requires.table
@@ -18,23 +22,17 @@ pub repair-requires-clause-fits : goal.repair-requires-clause-fits
 repair-requires-clause-fits g c = let size = bytes_of_commit c.args.config.now c.args.bytes.now _ (sym c.get_commit.ensures ∙ c.in-Some.is) in commit_fits _ c.requires.table _ size.1
 
 pub returns-in-Ok-clause-started : goal.returns-in-Ok-clause-started
-returns-in-Ok-clause-started g c = λ h mark holds.
-    mended_started c.args.config.now c.args.nvm.now c.repair.new.self c.args.copy c.requires.least c.requires.most c.args.bytes.now c.in-Some.commit (sym c.get_commit.ensures ∙ c.in-Some.is) c.repair.result c.repair.ensures
-    c.in-Ok.is h mark holds
+returns-in-Ok-clause-started g c = mended_started (mends g (goal.at.returns-in-Ok-clause-started g c).After-repair) c.in-Ok.is
 
 pub returns-in-Ok-clause-within : goal.returns-in-Ok-clause-within
-returns-in-Ok-clause-within g c =
-    mended_within c.args.config.now c.args.nvm.now c.repair.new.self c.args.copy c.requires.least c.requires.most c.args.bytes.now c.in-Some.commit (sym c.get_commit.ensures ∙ c.in-Some.is) c.repair.result c.repair.ensures
+returns-in-Ok-clause-within g c = mended_within (mends g (goal.at.returns-in-Ok-clause-within g c).After-repair)
 
 pub returns-in-Err-clause-within : goal.returns-in-Err-clause-within
-returns-in-Err-clause-within g c =
-    mended_within c.args.config.now c.args.nvm.now c.repair.new.self c.args.copy c.requires.least c.requires.most c.args.bytes.now c.in-Some.commit (sym c.get_commit.ensures ∙ c.in-Some.is) c.repair.result c.repair.ensures
+returns-in-Err-clause-within g c = mended_within (mends g (goal.at.returns-in-Err-clause-within g c).After-repair)
 
 pub returns-in-Err-clause-writes : goal.returns-in-Err-clause-writes
 returns-in-Err-clause-writes g c = λ h holds.
-    writes_as (driver_of c.args.nvm.now) (driver_of c.repair.new.self) c.in-Err.fault
-    (rw c.in-Err.is at
-    (mended_writes c.args.config.now c.args.nvm.now c.repair.new.self c.args.copy c.requires.least c.requires.most c.args.bytes.now c.in-Some.commit (sym c.get_commit.ensures ∙ c.in-Some.is) c.repair.result c.repair.ensures))
+    writes_as (driver_of c.args.nvm.now) (driver_of c.repair.new.self) c.in-Err.fault (rw c.in-Err.is at (mended_writes (mends g (goal.at.returns-in-Err-clause-writes g c).After-repair)))
 
 pub returns-in-None-clause-writes : goal.returns-in-None-clause-writes
 returns-in-None-clause-writes g c = λ h holds.
@@ -56,6 +54,4 @@ returns-in-None-clause-unmended g c = λ h holds flash.
     absurd (cc (read, none, read_as))
 
 pub returns-in-Err-clause-stuck : goal.returns-in-Err-clause-stuck
-returns-in-Err-clause-stuck g c = λ spent.
-    commit_stuck c.args.config.now c.args.nvm.now c.repair.new.self c.args.copy c.requires.least c.requires.most c.args.bytes.now c.in-Some.commit (sym c.get_commit.ensures ∙ c.in-Some.is) c.repair.result c.repair.ensures
-    c.requires.held (c.in-Err.is ∙ err_as c.in-Err.fault _ spent)
+returns-in-Err-clause-stuck g c = λ spent. commit_stuck (mends g (goal.at.returns-in-Err-clause-stuck g c).After-repair) (c.in-Err.is ∙ err_as c.in-Err.fault _ spent)
