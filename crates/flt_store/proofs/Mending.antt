@@ -1,5 +1,5 @@
 -- A repair of the commit's copies by one that was read.
-use Rattle.std.proofs.Common.{◌≡◌, ℕ, ◌-◌, ◌≤◌, List, length, Some, Result, Ok, refl, arith}
+use Rattle.std.proofs.Common.{◌≡◌, ℕ, ◌-◌, ◌≤◌, List, length, Some, Result, Ok, arith}
 use Rattle.std.specs.Prelude.{IsErrOf}
 use Rattle.flt_flash.specs.Content.{bytes}
 use Rattle.flt_flash.specs.declared.blocks.Blocks.{Ghosts}
@@ -50,8 +50,7 @@ module _ {B : Type 0} {b : Ghosts B} {c : Config} {before after : Nvm B b} {copy
 
   pub mended_tried : (h s new : Generation) → IsSound c (driver_of before).value h s → OldOrNew c (driver_of after).value h s new
   mended_tried h s new sound =
-      tried_by c (driver_of before) (driver_of before) raw copy (λ number. refl) (at_copy (driver_of before).value raw copy mends.least mends.most mends.holds) h s sound (driver_of after) new
-      mended_within mends.repairs.gives.either mends.repairs.gives.others
+      tried_by c (driver_of before) (driver_of after) raw copy (at_copy (driver_of before).value raw copy mends.least mends.most mends.holds) h s new sound mended_within mends.repairs.gives.either mends.repairs.gives.others
 
   pub mended_applications : SameApplications (driver_of before).value (driver_of after).value
   mended_applications block below = mends.repairs.gives.others (application_number block) (λ same. omega (arith, same))
