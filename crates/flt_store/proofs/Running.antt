@@ -5,13 +5,14 @@ use Rattle.std.specs.Result.{IsErrAnd}
 use Rattle.flt_flash.specs.Blocks.{BlocksState}
 use Rattle.flt_flash.specs.Calls.{Follows}
 use Rattle.flt_config.specs.declared.config.Config.{Config}
-use Rattle.flt_generation.specs.Holding.{Generation, IsOneOf}
+use Rattle.flt_generation.specs.Holding.{Generation, IsOneOf, IsSound}
 use Rattle.flt_store.specs.Cause.{FailsThrice, HasRoom}
+use Rattle.flt_store.specs.Started.{HasMark}
 use Rattle.flt_config.specs.declared.persist.Persist.{Persist}
 use Rattle.flt_flash.specs.declared.blocks.Blocks.{Ghosts}
 use Rattle.flt_store.specs.declared.fault.SaveFault.{SaveFault}
 use Rattle.flt_store.specs.declared.store.Store.{Store}
-use Rattle.flt_store.specs.Store.{IsServed, IsAlive, Saves, MayHaveSaved}
+use Rattle.flt_store.specs.Store.{driver_of, is_settled, IsServed, IsRunning, IsAlive, Saves, MayHaveSaved}
 
 pub served_on : (c : Config) (before after : BlocksState) → Follows before after → IsServed c before → IsServed c after
 served_on c before after follows served = record { given = served.given; room = subst (HasRoom c) (sym follows.room) served.room; mounted = follows.once_mounted served.mounted }
@@ -93,6 +94,11 @@ told_by P answer told made is = subst (λ r. IsErrAnd r P) is made
 -- A fault that is handed on was the one of the step.
 pub handed : {T U E : Type 0} (result : Result T E) (answer : Result U E) (fault told : E) → result ≡ Err fault → IsErrAnd answer (λ e. e ≡ fault) → IsErrOf answer told → IsErrOf result told
 handed result answer fault told was made is = was ∙ ap Err (sym (told_by (λ e. e ≡ fault) answer told made is))
+
+-- A store that is not settled runs.
+pub unsettled_runs : {B : Type 0} {b : Ghosts B} (c : Config) (h s : Generation) (store : Store B b) → IsFalse (is_settled store) → IsServed c (driver_of store) → HasMark c (driver_of store).value → IsSound c (driver_of store).value h s
+    → IsRunning c h s store
+unsettled_runs c h s store unsettled served mark sound = record { served = served; mark = mark; sound = sound; settled = λ yes. absurd (cc (yes, unsettled)); known = λ yes. absurd (cc (yes, unsettled)) }
 
 -- A store runs behind a save, whatever that answered.
 pub alive_after : {B : Type 0} {b : Ghosts B} (c : Config) (h s : Generation) (state : Persist) (before after : Store B b) (result : Result ℕ SaveFault)

@@ -1,5 +1,5 @@
-use Rattle.std.proofs.Common.{inl, inr, ℕ, Err, ◌≡◌, ◌+◌, ◌*◌, ◌∙◌, ⊎_elim, length, sym, subst, ap, refl, arith}
-use Rattle.std.specs.Prelude.{IsFalse}
+use Rattle.std.proofs.Common.{inl, inr, ℕ, Err, ◌≡◌, ◌+◌, ◌*◌, ◌∙◌, ⊎_elim, length, subst, ap, refl, arith}
+use Rattle.std.specs.Prelude.{IsTrue, IsFalse}
 use Rattle.flt_flash.specs.Calls.{CostsAtMost}
 use Rattle.flt_generation.specs.Form.{block_bytes}
 use Rattle.flt_generation.specs.Layout.{used_ids}
@@ -9,11 +9,12 @@ use Rattle.flt_store.proofs.Changed.{pages_of_later}
 use Rattle.flt_store.proofs.Costs.{switch_within}
 use Rattle.flt_store.proofs.Started.{numbered as number_of_started}
 use Rattle.flt_generation.specs.Holding.{Generation, last_number}
-use Rattle.flt_store.specs.Store.{driver_of, commit_of, kept_of, is_settled, numbered, IsReady}
+use Rattle.flt_store.specs.Store.{driver_of, commit_of, kept_of, is_settled, numbered, IsReady, IsRunning}
 use Rattle.flt_store.proofs.Started.{sound_started}
-use Rattle.flt_store.proofs.Running.{alive_after, served_on, undisturbed_until, held_is_chosen, ok_map, on_ok, err_taken, err_both, chosen_on, one_of_chosen, rises_from}
+use Rattle.flt_store.proofs.Running.{alive_after, served_on, undisturbed_until, held_is_chosen, ok_map, on_ok, err_taken, err_both, chosen_on, one_of_chosen, rises_from, unsettled_runs}
 use Rattle.flt_store.proofs.Dark.{err_as, is_unsettled}
 use Rattle.flt_store.proofs.Completing.{save_met_none, not_last}
+use Rattle.flt_store.proofs.store.Store.save.Goals.{After-save_next}
 use Rattle.flt_store.proofs.store.Store.save.Goals as goal
 
 pub returns-in-Ok-clause-saved : goal.returns-in-Ok-clause-saved
@@ -32,13 +33,8 @@ returns-in-Ok-clause-failed g c = λ h s running.
       is = is;
       now_held = left.held;
       now_spare = left.spare;
-      running = record {
-        served = served_on c.args.config.now (driver_of c.settle.new.self) (driver_of c.save_next.new.self) c.save_next.ensures.follows settled.ready.served;
-        mark = c.save_next.ensures.mark settled.ready.started.mark;
-        sound = left.sound;
-        settled = λ yes. absurd (cc (yes, no));
-        known = λ yes. absurd (cc (yes, no));
-      };
+      running = unsettled_runs c.args.config.now left.held left.spare c.save_next.new.self no
+          (served_on c.args.config.now (driver_of c.settle.new.self) (driver_of c.save_next.new.self) c.save_next.ensures.follows settled.ready.served) (c.save_next.ensures.mark settled.ready.started.mark) left.sound;
       held_is = one_of_chosen h s settled.chosen new left.held settled.is left.held_is;
       spare_is = one_of_chosen h s settled.chosen new left.spare settled.is left.spare_is;
       rises = rises_from h s settled.chosen left.spare.number settled.is running.sound.order left.rises;
@@ -73,13 +69,9 @@ returns-in-Ok-clause-spent g c = λ h s running told.
       last = settled.chosen;
       is = is;
       number = last.0;
-      running = record {
-        served = served_on c.args.config.now (driver_of c.settle.new.self) (driver_of c.save_next.new.self) c.save_next.ensures.follows settled.ready.served;
-        mark = last.1.mark;
-        sound = sound_started c.args.config.now (driver_of c.save_next.new.self).value (commit_of c.save_next.new.self) settled.chosen last.1;
-        settled = λ yes. last.1;
-        known = λ yes. (let no = err_taken c.save_next.result told c.save_next.ensures.unsettled in absurd (cc (yes, no)));
-      };
+      running = unsettled_runs c.args.config.now settled.chosen settled.chosen c.save_next.new.self (err_taken c.save_next.result told c.save_next.ensures.unsettled)
+          (served_on c.args.config.now (driver_of c.settle.new.self) (driver_of c.save_next.new.self) c.save_next.ensures.follows settled.ready.served) last.1.mark
+          (sound_started c.args.config.now (driver_of c.save_next.new.self).value (commit_of c.save_next.new.self) settled.chosen last.1);
     }
 
 pub returns-in-Ok-clause-last : goal.returns-in-Ok-clause-last
@@ -102,27 +94,26 @@ returns-in-Ok-clause-places g c = λ h s running undisturbed.
     let ready = subst (λ (d : Generation). IsReady c.args.config.now d c.settle.new.self) held settled.ready in
     on_ok c.save_next.result (λ keeps. λ current next first now. keeps current next (learns.commit current first) now) (c.save_next.ensures.places h ready learns.known)
 
+spends : (g : _) (c : After-save_next g) (h s : Generation) → IsRunning c.args.config.now h s c.args.self.now → IsTrue (is_settled c.args.self.now) → IsFalse (driver_of c.args.self.now).is_stale
+    → Spends (2 * c.args.config.now.pages + 4) (driver_of c.args.self.now) (driver_of c.save_next.new.self)
+    (6 + pages_to_write c.args.config.now (commit_of c.args.self.now) (block_bytes h.state) (block_bytes c.args.state.now)) ((length (used_ids c.args.config.now) + 2) * (2 * c.args.config.now.pages + 4))
+spends g c h s running is =
+    let most = 2 * c.args.config.now.pages + 4 in
+    subst (λ before. Knows c.args.config.now (kept_of before) h.state → IsFalse (driver_of before).is_stale → Spends most (driver_of before) (driver_of c.save_next.new.self)
+    (6 + pages_to_write c.args.config.now (commit_of before) (block_bytes h.state) (block_bytes c.args.state.now)) ((length (used_ids c.args.config.now) + 2) * most)) (c.settle.ensures.still is)
+    (c.save_next.ensures.spends h most) (running.known is)
+
 pub returns-in-Ok-clause-by_changes : goal.returns-in-Ok-clause-by_changes
 returns-in-Ok-clause-by_changes g c = λ h s running yes some settled unfailed none.
-    let same = c.settle.ensures.still yes in
-    let most = 2 * c.args.config.now.pages + 4 in
-    let spends = subst (λ before. IsFalse (driver_of before).is_stale → Spends most (driver_of before) (driver_of c.save_next.new.self)
-    (6 + pages_to_write c.args.config.now (commit_of before) (block_bytes h.state) (block_bytes c.args.state.now)) ((length (used_ids c.args.config.now) + 2) * most)) same
-    (c.save_next.ensures.spends h most (subst (λ before. Knows c.args.config.now (kept_of before) h.state) (sym same) (running.known yes))) settled in
-    let started = running.settled yes in
-    let number = number_of_started c.args.config.now (driver_of c.args.self.now).value (commit_of c.args.self.now) h started.names in
+    let number = number_of_started c.args.config.now (driver_of c.args.self.now).value (commit_of c.args.self.now) h (running.settled yes).names in
     subst (λ pages. CostsAtMost (6 + pages) (driver_of c.args.self.now) (driver_of c.save_next.new.self))
     (pages_of_later c.args.config.now (commit_of c.args.self.now) (block_bytes h.state) (block_bytes c.args.state.now) (λ none. some (number ∙ none)))
-    (spends.at_the_end settled unfailed none)
+    ((spends g (goal.at.returns-in-Ok-clause-by_changes g c).After-save_next h s running yes settled).at_the_end settled unfailed none)
 
 pub returns-in-Ok-clause-at_most : goal.returns-in-Ok-clause-at_most
 returns-in-Ok-clause-at_most g c = λ h s running yes settled unfailed.
-    let same = c.settle.ensures.still yes in
-    let most = 2 * c.args.config.now.pages + 4 in
-    let spends = subst (λ before. IsFalse (driver_of before).is_stale → Spends most (driver_of before) (driver_of c.save_next.new.self)
-    (6 + pages_to_write c.args.config.now (commit_of before) (block_bytes h.state) (block_bytes c.args.state.now)) ((length (used_ids c.args.config.now) + 2) * most)) same
-    (c.save_next.ensures.spends h most (subst (λ before. Knows c.args.config.now (kept_of before) h.state) (sym same) (running.known yes))) settled in
-    spends.at_most (switch_within c.args.config.now running.served.given (driver_of c.args.self.now).room running.served.room) settled unfailed
+    (spends g (goal.at.returns-in-Ok-clause-at_most g c).After-save_next h s running yes settled).at_most
+    (switch_within c.args.config.now running.served.given (driver_of c.args.self.now).room running.served.room) settled unfailed
 
 pub returns-in-Err-clause-by_changes : goal.returns-in-Err-clause-by_changes
 returns-in-Err-clause-by_changes g c = λ h s running yes. absurd (c.in-Err.ensures.at_once yes refl)

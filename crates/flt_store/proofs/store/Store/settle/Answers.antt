@@ -11,7 +11,7 @@ use Rattle.flt_store.proofs.Changed.{same_commit}
 use Rattle.flt_store.proofs.Known.{knows_may, knows_named, learned_may, learned_all}
 use Rattle.flt_store.proofs.Causes.{resolved}
 use Rattle.flt_store.proofs.Started.{mark_kept, started_kept}
-use Rattle.flt_store.proofs.Running.{served_on, failed_on, failed_later, unfailed, whenever, told_by}
+use Rattle.flt_store.proofs.Running.{served_on, failed_on, failed_later, unfailed, whenever, told_by, unsettled_runs}
 use Rattle.flt_store.proofs.Dark.{was_flash}
 use Rattle.flt_store.proofs.store.Store.settle.Goals as goal
 
@@ -75,13 +75,8 @@ returns-in_err-commit-clause-failed g c = λ state h s running. whenever c.from_
       is = inl refl;
       now_held = left.held;
       now_spare = left.spare;
-      running = record {
-        served = served_on c.args.config.now before after c.restart.ensures.follows running.served;
-        mark = mark_kept c.args.config.now before.value after.value c.restart.ensures.kept running.mark;
-        sound = left.sound;
-        settled = λ yes. (let no = c.if-self.false in absurd (cc (yes, no)));
-        known = λ yes. (let no = c.if-self.false in absurd (cc (yes, no)));
-      };
+      running = unsettled_runs c.args.config.now left.held left.spare _ c.if-self.false (served_on c.args.config.now before after c.restart.ensures.follows running.served)
+          (mark_kept c.args.config.now before.value after.value c.restart.ensures.kept running.mark) left.sound;
       held_is = left.held_is;
       spare_is = left.spare_is;
       rises = left.rises;
