@@ -146,12 +146,9 @@ begins_of c given before after found state same restored =
     subst (λ (value : ℕ → Content). Begins c value found (generation found state)) values (begins_at c given before after found state restored)
 
 -- The state from which a start-up begins fits.
-begun_fits : (c : Config) (value : ℕ → Content) (found : Option CommitCopy) (state : Persist) → Begins c value found (generation found state) → Fits c state
+pub begun_fits : (c : Config) (value : ℕ → Content) (found : Option CommitCopy) (state : Persist) → Begins c value found (generation found state) → Fits c state
 begun_fits c value None state begins = subst (λ (g : Generation). Fits c g.state) (sym begins.0.names) (initial_fits c)
 begun_fits c value (Some found) state begins = begins.0.names.2.fits
-
-pub restored_fits : (c : Config) → IsGiven c → (before after : BlocksState) (found : Option CommitCopy) (state : Persist) → SameValues before after → IsRestored c before after found state → Fits c state
-restored_fits c given before after found state same restored = begun_fits c after.value found state (begins_of c given before after found state same restored)
 
 -- What was judged between a mount and the writes was judged in the whole start-up.
 pub judged_in : (c : Config) (first second third fourth : BlocksState) (judged : Result Generation Fault) → SameValues first second → HasRisenBy 0 first.device.faults second.device.faults

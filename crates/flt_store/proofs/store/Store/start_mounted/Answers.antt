@@ -10,7 +10,7 @@ use Rattle.flt_restore.specs.Restored.{generation, IsJudged, IsMarkDue}
 use Rattle.flt_restore.proofs.Judged.{judged_of}
 use Rattle.flt_restore.proofs.Telling.{handed_on}
 use Rattle.flt_store.specs.Dark.{IsOfBlocks}
-use Rattle.flt_store.specs.Start.{RefusedFor}
+use Rattle.flt_store.specs.Start.{Begins, RefusedFor}
 use Rattle.flt_store.specs.Started.{IsStarted}
 use Rattle.flt_store.specs.Store.{driver_of, numbered}
 use Rattle.flt_store.proofs.Causes.{resolved, writes_on}
@@ -18,27 +18,36 @@ use Rattle.flt_store.proofs.Started.{sound_started}
 use Rattle.flt_store.proofs.Started.{numbered as number_of_started}
 use Rattle.flt_store.proofs.Repairing.{sound_kept, both_old}
 use Rattle.flt_store.proofs.Running.{served_on, told_by, whenever}
-use Rattle.flt_store.proofs.Beginning.{begins_of, restored_fits, judged_in, same_generation, not_spent}
+use Rattle.flt_store.proofs.Beginning.{begins_of, begun_fits, judged_in, same_generation, not_spent}
 use Rattle.flt_store.proofs.Faults.{refused_by_reading, refused_by_writing}
 use Rattle.flt_restore.specs.declared.fault.StartFault.TheVariants.{Flash, SequenceSpent}
 use Rattle.flt_store.specs.Start.{told_of_write}
 use Rattle.flt_store.proofs.Dark.{not_by_write, unbegun_from, was_flash_of_write}
 use Rattle.flt_store.proofs.OutOfNumbers.{begun_stuck_from, was_stuck}
+use Rattle.flt_store.proofs.store.Store.start_mounted.Goals.{After-begin_by}
 use Rattle.flt_store.proofs.store.Store.start_mounted.Goals as goal
 
 pub begin_by-requires-clause-due : goal.begin_by-requires-clause-due
 begin_by-requires-clause-due g c =
     subst (λ (content : Content). IsTrue c.in_ok-found.found.is_mark_due ↔ IsMarkDue (mark_of c.args.config.now) content) (sym (c.restore.ensures.values mark_number)) c.in_ok-found.ensures.mark
 
+begins : (g : _) (c : After-begin_by g) → Begins c.args.config.now (driver_beneath c.restore.new.nvm).value c.in_ok-found.found.commit (generation c.in_ok-found.found.commit c.restore.new.out)
+begins g c = begins_of c.args.config.now c.begin_by.ensures.given (driver_of c.args.self.now) (driver_beneath c.restore.new.nvm) c.in_ok-found.found.commit c.restore.new.out c.restore.ensures.values c.in_ok-found.ensures.restored.restored
+
+judged : (g : _) (c : After-begin_by g) → IsJudged c.args.config.now (driver_of c.args.self.now) (driver_beneath c.begin_by.new.nvm) (Ok (generation c.in_ok-found.found.commit c.restore.new.out))
+judged g c =
+    let first = driver_of c.args.self.now in
+    let second = driver_beneath c.restore.new.nvm in
+    judged_in c.args.config.now first first second (driver_beneath c.begin_by.new.nvm) _ (λ n. refl) (omega arith) c.begin_by.ensures.follows.counts
+    (judged_of c.args.config.now first second c.in_ok-found.found.commit c.restore.new.out c.in_ok-found.ensures.restored.restored)
+
 pub returns-in-Ok-clause-started : goal.returns-in-Ok-clause-started
 returns-in-Ok-clause-started g c =
     let first = driver_of c.args.self.now in
     let second = driver_beneath c.restore.new.nvm in
     let third = driver_beneath c.begin_by.new.nvm in
-    let restored = c.in_ok-found.ensures.restored in
     let d = generation c.in_ok-found.found.commit c.restore.new.out in
-    let begins = begins_of c.args.config.now c.begin_by.ensures.given first second c.in_ok-found.found.commit c.restore.new.out c.restore.ensures.values restored.restored in
-    let started = c.in-Ok.ensures.started d begins in
+    let started = c.in-Ok.ensures.started d (begins g (goal.at.returns-in-Ok-clause-started g c).After-begin_by) in
     let number = c.number_in-generation.result in
     let is = number_of_started c.args.config.now third.value c.in-Ok.commit d started.names ∙ sym c.number_in-generation.ensures in
     let same = same_generation c.in_ok-found.found.commit c.restore.new.out number is in
@@ -46,9 +55,8 @@ returns-in-Ok-clause-started g c =
     let follows = more_calls first second third c.restore.ensures.follows c.begin_by.ensures.follows in
     record {
       undamaged = g.met.B.Blocks.mounted_is_sound c.args.self.now.nvm.blocks c.requires.mounted;
-      judged = subst (λ (h : Generation). IsJudged c.args.config.now first third (Ok h)) same
-          (judged_in c.args.config.now first first second third (Ok d) (λ n. refl) (omega arith) c.begin_by.ensures.follows.counts (judged_of c.args.config.now first second c.in_ok-found.found.commit c.restore.new.out restored.restored));
-      usable = not_spent first second c.restore.ensures.follows restored.usable;
+      judged = subst (λ (h : Generation). IsJudged c.args.config.now first third (Ok h)) same (judged g (goal.at.returns-in-Ok-clause-started g c).After-begin_by);
+      usable = not_spent first second c.restore.ensures.follows c.in_ok-found.ensures.restored.usable;
       running = record {
         served = served_on c.args.config.now first third follows (record { given = c.begin_by.ensures.given; room = c.requires.room; mounted = c.requires.mounted });
         mark = now.mark;
@@ -61,18 +69,13 @@ returns-in-Ok-clause-started g c =
 
 pub returns-in-Err-clause-refused : goal.returns-in-Err-clause-refused
 returns-in-Err-clause-refused g c =
-    let first = driver_of c.args.self.now in
-    let second = driver_beneath c.restore.new.nvm in
+    let at = (goal.at.returns-in-Err-clause-refused g c).After-begin_by in
     let third = driver_beneath c.begin_by.new.nvm in
-    let restored = c.in_ok-found.ensures.restored in
-    let d = generation c.in_ok-found.found.commit c.restore.new.out in
-    let begins = begins_of c.args.config.now c.begin_by.ensures.given first second c.in_ok-found.found.commit c.restore.new.out c.restore.ensures.values restored.restored in
-    let writes = writes_on first second third (Err c.in-Err.fault) c.restore.ensures.follows (c.in-Err.ensures.writes d begins) in
-    let judged = judged_in c.args.config.now first first second third (Ok d) (λ n. refl) (omega arith) c.begin_by.ensures.follows.counts (judged_of c.args.config.now first second c.in_ok-found.found.commit c.restore.new.out restored.restored) in
+    let writes = writes_on (driver_of c.args.self.now) (driver_beneath c.restore.new.nvm) third (Err c.in-Err.fault) c.restore.ensures.follows (c.in-Err.ensures.writes _ (begins g at)) in
     subst (RefusedFor c.args.config.now c.args.self.now _) (sym c.write_fault.ensures)
-    (refused_by_writing c.args.config.now c.args.self.now _ c.in-Err.fault d (record { undamaged = g.met.B.Blocks.mounted_is_sound c.args.self.now.nvm.blocks c.requires.mounted; is = judged })
+    (refused_by_writing c.args.config.now c.args.self.now _ c.in-Err.fault _ (record { undamaged = g.met.B.Blocks.mounted_is_sound c.args.self.now.nvm.blocks c.requires.mounted; is = judged g at })
     (λ is. (let stuck = writes.stuck (ap Err is) in g.met.B.Blocks.stuck_is_spent c.begin_by.new.nvm.blocks stuck.0 stuck.1 stuck.3))
-    (resolved c.args.config.now c.begin_by.ensures.given first third c.in-Err.fault writes c.args.self.now.numbers c.requires.room c.requires.mounted (c.begin_by.ensures.borne d begins)))
+    (resolved c.args.config.now c.begin_by.ensures.given (driver_of c.args.self.now) third c.in-Err.fault writes c.args.self.now.numbers c.requires.room c.requires.mounted (c.begin_by.ensures.borne _ (begins g at))))
 
 pub returns-in_err-found-clause-refused : goal.returns-in_err-found-clause-refused
 returns-in_err-found-clause-refused g c =
@@ -81,11 +84,7 @@ returns-in_err-found-clause-refused g c =
 
 pub returns-in-Err-clause-left : goal.returns-in-Err-clause-left
 returns-in-Err-clause-left g c = λ h s sound.
-    let first = driver_of c.args.self.now in
-    let second = driver_beneath c.restore.new.nvm in
-    let d = generation c.in_ok-found.found.commit c.restore.new.out in
-    let begins = begins_of c.args.config.now c.begin_by.ensures.given first second c.in_ok-found.found.commit c.restore.new.out c.restore.ensures.values c.in_ok-found.ensures.restored.restored in
-    c.in-Err.ensures.tried h s d (sound_kept c.args.config.now first.value second.value h s c.restore.ensures.values sound) begins
+    c.in-Err.ensures.tried h s _ (sound_kept c.args.config.now (driver_of c.args.self.now).value (driver_beneath c.restore.new.nvm).value h s c.restore.ensures.values sound) (begins g (goal.at.returns-in-Err-clause-left g c).After-begin_by)
 
 pub returns-in_err-found-clause-left : goal.returns-in_err-found-clause-left
 returns-in_err-found-clause-left g c = λ h s sound. whenever c.from_residual.result
@@ -93,24 +92,23 @@ returns-in_err-found-clause-left g c = λ h s sound. whenever c.from_residual.re
 
 pub put_all-requires : goal.put_all-requires
 put_all-requires g c =
-    restored_fits c.args.config.now c.begin_by.ensures.given (driver_of c.args.self.now) (driver_beneath c.restore.new.nvm) c.in_ok-found.found.commit c.restore.new.out c.restore.ensures.values c.in_ok-found.ensures.restored.restored
+    begun_fits c.args.config.now (driver_beneath c.restore.new.nvm).value c.in_ok-found.found.commit c.restore.new.out (begins g (goal.at.put_all-requires g c).After-begin_by)
 
 pub returns-in-Ok-clause-fits : goal.returns-in-Ok-clause-fits
 returns-in-Ok-clause-fits g c =
-    restored_fits c.args.config.now c.begin_by.ensures.given (driver_of c.args.self.now) (driver_beneath c.restore.new.nvm) c.in_ok-found.found.commit c.restore.new.out c.restore.ensures.values c.in_ok-found.ensures.restored.restored
+    begun_fits c.args.config.now (driver_beneath c.restore.new.nvm).value c.in_ok-found.found.commit c.restore.new.out (begins g (goal.at.returns-in-Ok-clause-fits g c).After-begin_by)
 
 pub returns-in-Err-clause-unready : goal.returns-in-Err-clause-unready
 returns-in-Err-clause-unready g c = λ flash.
     let first = driver_of c.args.self.now in
     let second = driver_beneath c.restore.new.nvm in
     let third = driver_beneath c.begin_by.new.nvm in
-    let d = generation c.in_ok-found.found.commit c.restore.new.out in
-    let begins = begins_of c.args.config.now c.begin_by.ensures.given first second c.in_ok-found.found.commit c.restore.new.out c.restore.ensures.values c.in_ok-found.ensures.restored.restored in
-    let writes = writes_on first second third (Err c.in-Err.fault) c.restore.ensures.follows (c.in-Err.ensures.writes d begins) in
+    let begun = begins g (goal.at.returns-in-Err-clause-unready g c).After-begin_by in
+    let writes = writes_on first second third (Err c.in-Err.fault) c.restore.ensures.follows (c.in-Err.ensures.writes _ begun) in
     let told = c.write_fault.ensures in
     let is : told_of_write c.in-Err.fault ≡ Flash = cc (flash, told) in
-    let fault_is = was_flash_of_write c.args.config.now c.begin_by.ensures.given first third c.in-Err.fault writes c.args.self.now.numbers c.requires.room c.requires.mounted (c.begin_by.ensures.borne d begins) is in
-    inr (unbegun_from first second third c.restore.ensures.follows c.restore.ensures.values c.args.config.now (c.in-Err.ensures.unbegun d begins (ap Err fault_is)))
+    let fault_is = was_flash_of_write c.args.config.now c.begin_by.ensures.given first third c.in-Err.fault writes c.args.self.now.numbers c.requires.room c.requires.mounted (c.begin_by.ensures.borne _ begun) is in
+    inr (unbegun_from first second third c.restore.ensures.follows c.restore.ensures.values c.args.config.now (c.in-Err.ensures.unbegun _ begun (ap Err fault_is)))
 
 pub returns-in_err-found-clause-unready : goal.returns-in_err-found-clause-unready
 returns-in_err-found-clause-unready g c = λ flash. inl (c.in_err-found.ensures.unread (ap Err (sym (told_by _ c.from_residual.result Flash c.from_residual.ensures.1 flash))))
