@@ -72,39 +72,50 @@ form_of : (c : Config) (value : ℕ → Content) (current : Option Commit) (g : 
 form_of c value None g names = tt
 form_of c value (Some commit) g names = names.form
 
-module _ (c : Config) (state : Persist) (current : Option Commit) (kept_bytes bytes_of : ℕ → List ℕ) (next : Commit) (follows : IsNext c current kept_bytes bytes_of next) (most : number_in current + 1 < 2 ^ 32)
-    (fits : Fits c state) (told : AreBlocksOf c state bytes_of) (before middle after : BlocksState) (only : OnlyNewBlocks c current next bytes_of before.value middle.value) (within : IsWithinOwn c before.value middle.value)
-    (stand : AreWritten c current next bytes_of middle.value) (raw : List ℕ) (is : raw ≡ commit_bytes next) (result : Result (Unit {0}) BlockFault) (gives : GivesBoth middle after commit_id (bytes raw) (length raw) result) where
-  size : length raw ≡ commit_length_2
-  size = ap (λ (held : List ℕ). length held) is ∙ commit_size next
+-- The blocks of a generation were written, and then the copies of its commit were tried.
+pub record TriesCommit (c : Config) (state : Persist) (current : Option Commit) (kept_bytes bytes_of : ℕ → List ℕ) (next : Commit) (before middle after : BlocksState) (raw : List ℕ) (result : Result (Unit {0}) BlockFault) : Type 0 where
+  pub follows : IsNext c current kept_bytes bytes_of next
+  pub most : number_in current + 1 < 2 ^ 32
+  pub fits : Fits c state
+  pub told : AreBlocksOf c state bytes_of
+  pub only : OnlyNewBlocks c current next bytes_of before.value middle.value
+  pub within : IsWithinOwn c before.value middle.value
+  pub stand : AreWritten c current next bytes_of middle.value
+  pub is : raw ≡ commit_bytes next
+  pub gives : GivesBoth middle after commit_id (bytes raw) (length raw) result
+
+module _ {c : Config} {state : Persist} {current : Option Commit} {kept_bytes bytes_of : ℕ → List ℕ} {next : Commit} {before middle after : BlocksState} {raw : List ℕ} {result : Result (Unit {0}) BlockFault}
+    (tries : TriesCommit c state current kept_bytes bytes_of next before middle after raw result) where
+  pub size_tried : length raw ≡ commit_length_2
+  size_tried = ap (λ (held : List ℕ). length held) tries.is ∙ commit_size next
 
   within_commit : IsWithinOwn c middle.value after.value
-  within_commit = both_within c middle after raw result (omega (arith, size)) gives
+  within_commit = both_within c middle after raw result (let size = size_tried in omega (arith, size)) tries.gives
 
   given : GivesBoth middle after commit_id (bytes (commit_bytes next)) (length raw) result
-  given = subst (λ (held : List ℕ). GivesBoth middle after commit_id (bytes held) (length raw) result) is gives
+  given = subst (λ (held : List ℕ). GivesBoth middle after commit_id (bytes held) (length raw) result) tries.is tries.gives
 
   agree : AgreeButForCommit middle.value after.value
-  agree = gives.others
+  agree = tries.gives.others
 
   pub same_applications : SameApplications before.value after.value
   same_applications block below =
-      agree (application_number block) (λ same. omega (arith, same)) (λ same. omega (arith, same)) ∙ kept_application c current next bytes_of before.value middle.value only block
+      agree (application_number block) (λ same. omega (arith, same)) (λ same. omega (arith, same)) ∙ kept_application c current next bytes_of before.value middle.value tries.only block
 
   pub same_mark : after.value mark_number ≡ before.value mark_number
-  same_mark = agree mark_number (λ same. omega (arith, same)) (λ same. omega (arith, same)) ∙ kept_low c current next bytes_of before.value middle.value only mark_number (omega arith)
+  same_mark = agree mark_number (λ same. omega (arith, same)) (λ same. omega (arith, same)) ∙ kept_low c current next bytes_of before.value middle.value tries.only mark_number (omega arith)
 
   module _ (g : Generation) (started : IsStarted c before.value current g) (known : MayKnow c current kept_bytes g.state) where
     names : NamesOf c middle.value (Some next) (next_generation current state)
     names = record {
-      form = next_form c current kept_bytes bytes_of next follows most (form_of c before.value current g started.names);
-      number = follows.number;
-      blocks = blocks_hold c current next bytes_of before.value middle.value only kept_bytes g state follows told stand started.names known;
-      fits = fits;
+      form = next_form c current kept_bytes bytes_of next tries.follows tries.most (form_of c before.value current g started.names);
+      number = tries.follows.number;
+      blocks = blocks_hold c current next bytes_of before.value middle.value tries.only kept_bytes g state tries.follows tries.told tries.stand started.names known;
+      fits = tries.fits;
     }
 
     middle_started : IsStarted c middle.value current g
-    middle_started = settled c current next bytes_of before.value middle.value only g within started
+    middle_started = settled c current next bytes_of before.value middle.value tries.only g tries.within started
 
     excess : IsBorne c after.value
     excess = borne_stays c middle.value after.value within_commit middle_started.excess

@@ -1,4 +1,5 @@
-use Rattle.std.proofs.Common.{◌≡◌, ◌∙◌, ℕ, List, length, ap, arith}
+use Rattle.std.specs.Prelude.{IsFalse}
+use Rattle.std.proofs.Common.{◌≡◌, ◌∙◌, ◌+◌, ◌*◌, ℕ, List, length, ap, arith}
 use Rattle.flt_flash.specs.Content.{bytes}
 use Rattle.flt_nvm.specs.Driver.{driver_of}
 use Rattle.flt_generation.proofs.Commits.{commit_size}
@@ -9,13 +10,15 @@ use Rattle.flt_store.proofs.Causes.{both_written, writes_as, writes_on}
 use Rattle.std.proofs.Math.Nat.{add-mul}
 use Rattle.flt_flash.specs.Blocks.{record_pages}
 use Rattle.flt_generation.specs.Layout.{used_ids}
-use Rattle.flt_generation.specs.Form.{commit_length_2}
+use Rattle.flt_generation.specs.Form.{block_bytes, commit_length_2}
+use Rattle.flt_store.specs.Cost.{Spends, pages_to_write}
 use Rattle.flt_store.proofs.Changed.{written_pages}
 use Rattle.flt_store.proofs.Costs.{spends_more, spends_less, jobs_spend, limit_of_used}
 use Rattle.flt_store.proofs.Running.{taken}
 use Rattle.flt_store.proofs.Saving.{settled, still_old, kept_low, kept_application}
 use Rattle.flt_store.proofs.Successors.{writes_within}
-use Rattle.flt_store.proofs.Writing.{same_applications, same_mark, commit_written, commit_tried}
+use Rattle.flt_store.proofs.Writing.{TriesCommit, size_tried, same_applications, same_mark, commit_written, commit_tried}
+use Rattle.flt_store.proofs.generation.write_generation.Goals.{After-write}
 use Rattle.flt_store.proofs.generation.write_generation.Goals as goal
 
 pub write_blocks-requires-clause-moves : goal.write_blocks-requires-clause-moves
@@ -43,88 +46,68 @@ write-requires-clause-fits g c =
     let size : length c.put_commit.result ≡ commit_length_2 = ap (λ (raw : List ℕ). length raw) c.put_commit.ensures ∙ commit_size c.next_commit-commit.result in
     commit_fits _ (c.write_blocks.ensures.table ∙ c.requires.table) _ (omega (arith, size))
 
+tries : (g : _) (c : After-write g)
+    → TriesCommit c.args.config.now c.args.state.now c.args.current.now (bytes_at c.args.saved.now) (bytes_at c.put_all.new.self) c.next_commit-commit.result (driver_of c.args.nvm.now) (driver_of c.write_blocks.new.nvm) (driver_of c.write.new.self)
+    c.put_commit.result c.write.result
+tries g c = record {
+  follows = c.next_commit-commit.ensures;
+  most = (let most = c.requires.number in omega (arith, most));
+  fits = c.requires.fits;
+  told = c.put_all.ensures;
+  only = c.write_blocks.ensures.only;
+  within = c.write_blocks.ensures.within;
+  stand = c.in_ok-write_blocks.ensures.written;
+  is = c.put_commit.ensures;
+  gives = commit_both _ (c.write_blocks.ensures.table ∙ c.requires.table) _ _ c.write.ensures.gives;
+}
+
+spends : (g : _) (c : After-write g) (most : ℕ) → IsFalse (driver_of c.args.nvm.now).is_stale → Spends most (driver_of c.args.nvm.now) (driver_of c.write.new.self)
+    (6 + pages_to_write c.args.config.now c.args.current.now (bytes_at c.args.saved.now) (block_bytes c.args.state.now)) ((length (used_ids c.args.config.now) + 2) * most)
+spends g c most settled =
+    let jobs = commit_both _ (c.write_blocks.ensures.table ∙ c.requires.table) _ _ c.write.ensures.jobs in
+    let size = size_tried (tries g c) in
+    let pages = ap record_pages size in
+    let written = written_pages c.args.config.now c.args.current.now c.next_commit-commit.result _ (bytes_at c.put_all.new.self) c.args.state.now c.next_commit-commit.ensures c.put_all.ensures in
+    let limit = limit_of_used c.args.config.now c.args.current.now c.next_commit-commit.result most in
+    let times = add-mul (length (used_ids c.args.config.now)) 2 most in
+    spends_less most (driver_of c.args.nvm.now) (driver_of c.write.new.self) _ _ _ _ (omega (arith, pages, written)) (omega (arith, limit, times))
+    (spends_more (driver_of c.args.nvm.now) (driver_of c.write_blocks.new.nvm) (driver_of c.write.new.self) c.write_blocks.ensures.writes.follows c.write.ensures.calls.follows most _ _ _ _
+    (c.in_ok-write_blocks.ensures.not_stale settled) (c.write_blocks.ensures.spends most settled)
+    (jobs_spend 2 _ _ most (omega (arith, size)) (driver_of c.write_blocks.new.nvm) (driver_of c.write.new.self) c.write.result jobs))
+
 pub returns-in-Ok-clause-done : goal.returns-in-Ok-clause-done
-returns-in-Ok-clause-done g c = λ h started known.
-    taken c.write.result c.in-Ok.is
-    (commit_written c.args.config.now c.args.state.now c.args.current.now _ (bytes_at c.put_all.new.self) c.next_commit-commit.result c.next_commit-commit.ensures
-    (let most = c.requires.number in omega (arith, most)) c.requires.fits c.put_all.ensures (driver_of c.args.nvm.now) (driver_of c.write_blocks.new.nvm) (driver_of c.write.new.self)
-    c.write_blocks.ensures.only c.write_blocks.ensures.within c.in_ok-write_blocks.ensures.written c.put_commit.result c.put_commit.ensures c.write.result
-    (commit_both _ (c.write_blocks.ensures.table ∙ c.requires.table) _ _ c.write.ensures.gives) h started known)
+returns-in-Ok-clause-done g c = λ h started known. taken c.write.result c.in-Ok.is (commit_written (tries g (goal.at.returns-in-Ok-clause-done g c).After-write) h started known)
 
 pub returns-in-Ok-clause-either : goal.returns-in-Ok-clause-either
-returns-in-Ok-clause-either g c = λ h started known.
-    commit_tried c.args.config.now c.args.state.now c.args.current.now _ (bytes_at c.put_all.new.self) c.next_commit-commit.result c.next_commit-commit.ensures
-    (let most = c.requires.number in omega (arith, most)) c.requires.fits c.put_all.ensures (driver_of c.args.nvm.now) (driver_of c.write_blocks.new.nvm) (driver_of c.write.new.self)
-    c.write_blocks.ensures.only c.write_blocks.ensures.within c.in_ok-write_blocks.ensures.written c.put_commit.result c.put_commit.ensures c.write.result
-    (commit_both _ (c.write_blocks.ensures.table ∙ c.requires.table) _ _ c.write.ensures.gives) h started known
+returns-in-Ok-clause-either g c = commit_tried (tries g (goal.at.returns-in-Ok-clause-either g c).After-write)
 
 pub returns-in-Ok-clause-applications : goal.returns-in-Ok-clause-applications
-returns-in-Ok-clause-applications g c =
-    same_applications c.args.config.now c.args.state.now c.args.current.now _ (bytes_at c.put_all.new.self) c.next_commit-commit.result c.next_commit-commit.ensures
-    (let most = c.requires.number in omega (arith, most)) c.requires.fits c.put_all.ensures (driver_of c.args.nvm.now) (driver_of c.write_blocks.new.nvm) (driver_of c.write.new.self)
-    c.write_blocks.ensures.only c.write_blocks.ensures.within c.in_ok-write_blocks.ensures.written c.put_commit.result c.put_commit.ensures c.write.result
-    (commit_both _ (c.write_blocks.ensures.table ∙ c.requires.table) _ _ c.write.ensures.gives)
+returns-in-Ok-clause-applications g c = same_applications (tries g (goal.at.returns-in-Ok-clause-applications g c).After-write)
 
 pub returns-in-Ok-clause-mark : goal.returns-in-Ok-clause-mark
-returns-in-Ok-clause-mark g c =
-    same_mark c.args.config.now c.args.state.now c.args.current.now _ (bytes_at c.put_all.new.self) c.next_commit-commit.result c.next_commit-commit.ensures
-    (let most = c.requires.number in omega (arith, most)) c.requires.fits c.put_all.ensures (driver_of c.args.nvm.now) (driver_of c.write_blocks.new.nvm) (driver_of c.write.new.self)
-    c.write_blocks.ensures.only c.write_blocks.ensures.within c.in_ok-write_blocks.ensures.written c.put_commit.result c.put_commit.ensures c.write.result
-    (commit_both _ (c.write_blocks.ensures.table ∙ c.requires.table) _ _ c.write.ensures.gives)
+returns-in-Ok-clause-mark g c = same_mark (tries g (goal.at.returns-in-Ok-clause-mark g c).After-write)
+
+pub returns-in-Ok-clause-spends : goal.returns-in-Ok-clause-spends
+returns-in-Ok-clause-spends g c = spends g (goal.at.returns-in-Ok-clause-spends g c).After-write
 
 pub returns-in-Err-clause-either : goal.returns-in-Err-clause-either
-returns-in-Err-clause-either g c = λ h started known.
-    commit_tried c.args.config.now c.args.state.now c.args.current.now _ (bytes_at c.put_all.new.self) c.next_commit-commit.result c.next_commit-commit.ensures
-    (let most = c.requires.number in omega (arith, most)) c.requires.fits c.put_all.ensures (driver_of c.args.nvm.now) (driver_of c.write_blocks.new.nvm) (driver_of c.write.new.self)
-    c.write_blocks.ensures.only c.write_blocks.ensures.within c.in_ok-write_blocks.ensures.written c.put_commit.result c.put_commit.ensures c.write.result
-    (commit_both _ (c.write_blocks.ensures.table ∙ c.requires.table) _ _ c.write.ensures.gives) h started known
+returns-in-Err-clause-either g c = commit_tried (tries g (goal.at.returns-in-Err-clause-either g c).After-write)
 
 pub returns-in-Err-clause-applications : goal.returns-in-Err-clause-applications
-returns-in-Err-clause-applications g c =
-    same_applications c.args.config.now c.args.state.now c.args.current.now _ (bytes_at c.put_all.new.self) c.next_commit-commit.result c.next_commit-commit.ensures
-    (let most = c.requires.number in omega (arith, most)) c.requires.fits c.put_all.ensures (driver_of c.args.nvm.now) (driver_of c.write_blocks.new.nvm) (driver_of c.write.new.self)
-    c.write_blocks.ensures.only c.write_blocks.ensures.within c.in_ok-write_blocks.ensures.written c.put_commit.result c.put_commit.ensures c.write.result
-    (commit_both _ (c.write_blocks.ensures.table ∙ c.requires.table) _ _ c.write.ensures.gives)
+returns-in-Err-clause-applications g c = same_applications (tries g (goal.at.returns-in-Err-clause-applications g c).After-write)
 
 pub returns-in-Err-clause-mark : goal.returns-in-Err-clause-mark
-returns-in-Err-clause-mark g c =
-    same_mark c.args.config.now c.args.state.now c.args.current.now _ (bytes_at c.put_all.new.self) c.next_commit-commit.result c.next_commit-commit.ensures
-    (let most = c.requires.number in omega (arith, most)) c.requires.fits c.put_all.ensures (driver_of c.args.nvm.now) (driver_of c.write_blocks.new.nvm) (driver_of c.write.new.self)
-    c.write_blocks.ensures.only c.write_blocks.ensures.within c.in_ok-write_blocks.ensures.written c.put_commit.result c.put_commit.ensures c.write.result
-    (commit_both _ (c.write_blocks.ensures.table ∙ c.requires.table) _ _ c.write.ensures.gives)
+returns-in-Err-clause-mark g c = same_mark (tries g (goal.at.returns-in-Err-clause-mark g c).After-write)
+
+pub returns-in-Err-clause-spends : goal.returns-in-Err-clause-spends
+returns-in-Err-clause-spends g c = spends g (goal.at.returns-in-Err-clause-spends g c).After-write
 
 pub returns-in-Err-clause-writes : goal.returns-in-Err-clause-writes
 returns-in-Err-clause-writes g c =
-    let size : length c.put_commit.result ≡ commit_length_2 = ap (λ (raw : List ℕ). length raw) c.put_commit.ensures ∙ commit_size c.next_commit-commit.result in
-    let gives = commit_both _ (c.write_blocks.ensures.table ∙ c.requires.table) _ _ c.write.ensures.gives in
+    let put = tries g (goal.at.returns-in-Err-clause-writes g c).After-write in
+    let size = size_tried put in
     writes_on (driver_of c.args.nvm.now) (driver_of c.write_blocks.new.nvm) (driver_of c.write.new.self) _ c.write_blocks.ensures.writes.follows
-    (writes_as (driver_of c.write_blocks.new.nvm) (driver_of c.write.new.self) c.in-Err.fault (rw c.in-Err.is at (both_written (driver_of c.write_blocks.new.nvm) (driver_of c.write.new.self) c.write.result c.write.ensures.calls c.write.ensures.three _ _ _ (omega (arith, size)) gives)))
-
-pub returns-in-Ok-clause-spends : goal.returns-in-Ok-clause-spends
-returns-in-Ok-clause-spends g c = λ most settled.
-    let jobs = commit_both _ (c.write_blocks.ensures.table ∙ c.requires.table) _ _ c.write.ensures.jobs in
-    let size : length c.put_commit.result ≡ commit_length_2 = ap (λ (raw : List ℕ). length raw) c.put_commit.ensures ∙ commit_size c.next_commit-commit.result in
-    let pages = ap record_pages size in
-    let written = written_pages c.args.config.now c.args.current.now c.next_commit-commit.result _ (bytes_at c.put_all.new.self) c.args.state.now c.next_commit-commit.ensures c.put_all.ensures in
-    let limit = limit_of_used c.args.config.now c.args.current.now c.next_commit-commit.result most in
-    let times = add-mul (length (used_ids c.args.config.now)) 2 most in
-    spends_less most (driver_of c.args.nvm.now) (driver_of c.write.new.self) _ _ _ _ (omega (arith, pages, written)) (omega (arith, limit, times))
-    (spends_more (driver_of c.args.nvm.now) (driver_of c.write_blocks.new.nvm) (driver_of c.write.new.self) c.write_blocks.ensures.writes.follows c.write.ensures.calls.follows most _ _ _ _
-    (c.in_ok-write_blocks.ensures.not_stale settled) (c.write_blocks.ensures.spends most settled)
-    (jobs_spend 2 _ _ most (omega (arith, size)) (driver_of c.write_blocks.new.nvm) (driver_of c.write.new.self) c.write.result jobs))
-
-pub returns-in-Err-clause-spends : goal.returns-in-Err-clause-spends
-returns-in-Err-clause-spends g c = λ most settled.
-    let jobs = commit_both _ (c.write_blocks.ensures.table ∙ c.requires.table) _ _ c.write.ensures.jobs in
-    let size : length c.put_commit.result ≡ commit_length_2 = ap (λ (raw : List ℕ). length raw) c.put_commit.ensures ∙ commit_size c.next_commit-commit.result in
-    let pages = ap record_pages size in
-    let written = written_pages c.args.config.now c.args.current.now c.next_commit-commit.result _ (bytes_at c.put_all.new.self) c.args.state.now c.next_commit-commit.ensures c.put_all.ensures in
-    let limit = limit_of_used c.args.config.now c.args.current.now c.next_commit-commit.result most in
-    let times = add-mul (length (used_ids c.args.config.now)) 2 most in
-    spends_less most (driver_of c.args.nvm.now) (driver_of c.write.new.self) _ _ _ _ (omega (arith, pages, written)) (omega (arith, limit, times))
-    (spends_more (driver_of c.args.nvm.now) (driver_of c.write_blocks.new.nvm) (driver_of c.write.new.self) c.write_blocks.ensures.writes.follows c.write.ensures.calls.follows most _ _ _ _
-    (c.in_ok-write_blocks.ensures.not_stale settled) (c.write_blocks.ensures.spends most settled)
-    (jobs_spend 2 _ _ most (omega (arith, size)) (driver_of c.write_blocks.new.nvm) (driver_of c.write.new.self) c.write.result jobs))
+    (writes_as (driver_of c.write_blocks.new.nvm) (driver_of c.write.new.self) c.in-Err.fault (rw c.in-Err.is at (both_written (driver_of c.write_blocks.new.nvm) (driver_of c.write.new.self) c.write.result c.write.ensures.calls c.write.ensures.three _ _ _ (omega (arith, size)) put.gives)))
 
 pub returns-in_err-write_blocks-clause-spends : goal.returns-in_err-write_blocks-clause-spends
 returns-in_err-write_blocks-clause-spends g c = λ most settled.
@@ -135,5 +118,5 @@ returns-in_err-write_blocks-clause-spends g c = λ most settled.
 
 pub returns-in-Ok-clause-rewritten : goal.returns-in-Ok-clause-rewritten
 returns-in-Ok-clause-rewritten g c =
-    let gives = commit_both _ (c.write_blocks.ensures.table ∙ c.requires.table) _ _ c.write.ensures.gives in
+    let gives = (tries g (goal.at.returns-in-Ok-clause-rewritten g c).After-write).gives in
     (taken c.write.result c.in-Ok.is gives.first ∙ ap bytes c.put_commit.ensures, taken c.write.result c.in-Ok.is gives.second ∙ ap bytes c.put_commit.ensures)
