@@ -1,13 +1,15 @@
 -- One application block was written, or read.
-use Rattle.std.proofs.Common.{◌≡◌, ◌≢◌, ◌⊎◌, inl, inr, ⊎_elim, ℕ, ◌+◌, ◌/◌, ◌<◌, ◌≤◌, true, false, List, [], length, take, drop, Option, refl, sym, ◌∙◌, ap, subst, arith}
+use Rattle.std.proofs.Common.{◌≡◌, ◌⊎◌, inl, inr, ⊎_elim, ℕ, ◌+◌, ◌/◌, ◌<◌, ◌≤◌, true, false, List, [], length, take, drop, Option, refl, sym, ◌∙◌, ap, subst, arith}
 use Rattle.std.proofs.Math.Seq.{take-append_seam}
 use Rattle.std.specs.Prelude.{IsTrue, nat_lt}
 use Rattle.std.proofs.lemmas.Bool.{cases_eq, le-leb, leb-true, lt-ltb}
 use Rattle.flt_flash.specs.Content.{Content, missing, invalid, bytes}
-use Rattle.flt_flash.specs.Blocks.{pages_of, record_pages}
+use Rattle.flt_flash.specs.Blocks.{BlocksState, pages_of, record_pages}
+use Rattle.flt_flash.specs.Calls.{Follows, OthersKept}
+use Rattle.flt_flash.specs.declared.blocks.Blocks.{Ghosts}
 use Rattle.flt_config.specs.declared.config.Config.{Config}
 use Rattle.flt_nvm.specs.declared.got.Got.TheVariants.{Bytes, Missing, Invalid}
-use Rattle.flt_nvm.specs.Leaves.{GotOf}
+use Rattle.flt_nvm.specs.Leaves.{IsEither, GotOf}
 use Rattle.flt_generation.specs.declared.commit.Commit.{Commit}
 use Rattle.flt_generation.specs.Layout.{number_of, mark_number, first_commit, second_commit, application_number, applications, is_used}
 use Rattle.flt_generation.specs.Excess.{own_pages, IsBorne}
@@ -17,79 +19,99 @@ use Rattle.flt_generation.proofs.Pages.{applications_of}
 use Rattle.flt_generation.proofs.Choices.{chosen}
 use Rattle.flt_store.specs.Cause.{IsWithinOwn}
 use Rattle.flt_store.specs.Started.{HasMark, IsStarted}
-use Rattle.flt_store.specs.Store.{Gets}
+use Rattle.flt_store.specs.declared.store.Store.{Store}
+use Rattle.flt_store.specs.Known.{Knows}
+use Rattle.flt_store.specs.Store.{driver_of, commit_of, kept_of, is_settled, IsRunning, Gets}
 use Rattle.flt_generation.proofs.Pages.{used_range}
 use Rattle.flt_store.proofs.Causes.{borne_stays}
+use Rattle.flt_store.proofs.Running.{served_on}
 use Rattle.flt_store.proofs.Started.{AreApplications, names_on, mark_on, holds_on, sound_on}
 
-module _ (c : Config) (block : ℕ) (own : block < c.blocks) (within : block < applications) (before after : ℕ → Content) (raw : List ℕ) (short : length raw ≤ 32)
-    (either : (after (application_number block) ≡ before (application_number block)) ⊎ (after (application_number block) ≡ bytes raw))
-    (others : (other : ℕ) → other ≢ application_number block → after other ≡ before other) where
-  low : (number : ℕ) → number < 512 → after number ≡ before number
-  low number below = others number (λ same. omega (arith, below, same))
+-- Bytes were put into an application block of the configuration, and nothing else was written.
+pub record Puts (c : Config) (block : ℕ) (raw : List ℕ) (before after : BlocksState) : Type 0 where
+  pub own : block < c.blocks
+  pub within : block < applications
+  pub short : length raw ≤ 32
+  pub either : IsEither before after (application_number block) (bytes raw)
+  pub others : OthersKept (application_number block) before after
 
-  mark_same : after mark_number ≡ before mark_number
+module _ {c : Config} {block : ℕ} {raw : List ℕ} {before after : BlocksState} (puts : Puts c block raw before after) where
+  low : (number : ℕ) → number < 512 → after.value number ≡ before.value number
+  low number below = puts.others number (λ same. omega (arith, below, same))
+
+  mark_same : after.value mark_number ≡ before.value mark_number
   mark_same = low mark_number (omega arith)
 
-  above : (id index : ℕ) → IsTrue (is_used c id) → index ≤ 1 → after (number_of id index) ≡ before (number_of id index)
+  above : (id index : ℕ) → IsTrue (is_used c id) → index ≤ 1 → after.value (number_of id index) ≡ before.value (number_of id index)
   above id index used small = let range = used_range c id used in low (number_of id index) (omega (arith, range.1, small))
 
-  first_same : after first_commit ≡ before first_commit
+  first_same : after.value first_commit ≡ before.value first_commit
   first_same = low first_commit (omega arith)
 
-  second_same : after second_commit ≡ before second_commit
+  second_same : after.value second_commit ≡ before.value second_commit
   second_same = low second_commit (omega arith)
 
   own_three : own_pages c (application_number block) ≡ 3
   own_three =
       let at : application_number (0 + block) ≡ application_number block = omega arith in
-      ap (own_pages c) (sym at) ∙ applications_of c block within ∙ chosen (nat_lt block c.blocks) 3 0 (lt-ltb block c.blocks own)
+      ap (own_pages c) (sym at) ∙ applications_of c block puts.within ∙ chosen (nat_lt block c.blocks) 3 0 (lt-ltb block c.blocks puts.own)
 
-  within_own : IsWithinOwn c before after
+  within_own : IsWithinOwn c before.value after.value
   within_own other = elim (cases_eq other (application_number block)) [
     | inl same ↦
-        subst (λ (n : ℕ). (after n ≡ before n) ⊎ (pages_of (after n) ≤ own_pages c n)) (sym same)
+        subst (λ (n : ℕ). (after.value n ≡ before.value n) ⊎ (pages_of (after.value n) ≤ own_pages c n)) (sym same)
         (⊎_elim
         (λ kept. inl kept)
-        (λ is. (let pages : pages_of (after (application_number block)) ≡ record_pages (length raw) = ap pages_of is in
-        let most : (length raw + 31) / 32 ≤ 1 = omega (arith, short) in inr (omega (arith, pages, own_three, most))))
-        either)
-    | inr apart ↦ inl (others other apart)
+        (λ is. (let pages : pages_of (after.value (application_number block)) ≡ record_pages (length raw) = ap pages_of is in
+        let short = puts.short in let most : (length raw + 31) / 32 ≤ 1 = omega (arith, short) in inr (omega (arith, pages, own_three, most))))
+        puts.either)
+    | inr apart ↦ inl (puts.others other apart)
   ]
 
-  pub borne_on : IsBorne c before → IsBorne c after
-  borne_on = borne_stays c before after within_own
+  pub borne_on : IsBorne c before.value → IsBorne c after.value
+  borne_on = borne_stays c before.value after.value within_own
 
-  good : AreApplications before → AreApplications after
+  good : AreApplications before.value → AreApplications after.value
   good are other below = elim (cases_eq other block) [
     | inl same ↦
-        subst (λ (n : ℕ). IsTrue (is_application (after (application_number n)))) (sym same)
+        subst (λ (n : ℕ). IsTrue (is_application (after.value (application_number n)))) (sym same)
         (⊎_elim
-        (λ kept. subst (λ (content : Content). IsTrue (is_application content)) (sym kept) (are block within))
-        (λ is. subst (λ (content : Content). IsTrue (is_application content)) (sym is) (le-leb (length raw) 32 short))
-        either)
-    | inr apart ↦ subst (λ (content : Content). IsTrue (is_application content)) (sym (others (application_number other) (λ same. apart (omega (arith, same))))) (are other below)
+        (λ kept. subst (λ (content : Content). IsTrue (is_application content)) (sym kept) (are block puts.within))
+        (λ is. subst (λ (content : Content). IsTrue (is_application content)) (sym is) (le-leb (length raw) 32 puts.short))
+        puts.either)
+    | inr apart ↦ subst (λ (content : Content). IsTrue (is_application content)) (sym (puts.others (application_number other) (λ same. apart (omega (arith, same))))) (are other below)
   ]
 
-  pub mark_put : HasMark c before → HasMark c after
-  mark_put = mark_on c before after mark_same above
+  mark_put : HasMark c before.value → HasMark c after.value
+  mark_put = mark_on c before.value after.value mark_same above
 
-  holds_put : (content : Content) (g : Generation) → Holds c before content g → Holds c after content g
-  holds_put content g is = holds_on c before after mark_same above content g (good is.applications) (borne_on is.excess) is
+  holds_put : (content : Content) (g : Generation) → Holds c before.value content g → Holds c after.value content g
+  holds_put content g is = holds_on c before.value after.value mark_same above content g (good is.applications) (borne_on is.excess) is
 
   -- No generation changes.
-  pub sound_put : (h s : Generation) → IsSound c before h s → IsSound c after h s
-  sound_put = sound_on c before after first_same second_same holds_put
+  sound_put : (h s : Generation) → IsSound c before.value h s → IsSound c after.value h s
+  sound_put = sound_on c before.value after.value first_same second_same holds_put
 
-  pub started_put : (commit : Option Commit) (g : Generation) → IsStarted c before commit g → IsStarted c after commit g
+  started_put : (commit : Option Commit) (g : Generation) → IsStarted c before.value commit g → IsStarted c after.value commit g
   started_put commit g started = record {
     mark = mark_put started.mark;
     first = subst (IsContentOf commit) (sym first_same) started.first;
     second = subst (λ (content : Content). IsContentOf commit (only_bytes content)) (sym second_same) started.second;
-    names = names_on c before after above commit g started.names;
+    names = names_on c before.value after.value above commit g started.names;
     applications = good started.applications;
     excess = borne_on started.excess;
   }
+
+-- A store runs on behind a put.
+pub put_runs : {B : Type 0} {b : Ghosts B} {c : Config} {block : ℕ} {raw : List ℕ} (before after : Store B b) → Puts c block raw (driver_of before) (driver_of after) → Follows (driver_of before) (driver_of after)
+    → (is_settled after ≡ is_settled before) × (commit_of after ≡ commit_of before) × (kept_of after ≡ kept_of before) → (h s : Generation) → IsRunning c h s before → IsRunning c h s after
+put_runs {c = c} before after puts follows (settled, commit, kept) h s running = record {
+  served = served_on c (driver_of before) (driver_of after) follows running.served;
+  mark = mark_put puts running.mark;
+  sound = sound_put puts h s running.sound;
+  settled = λ is. subst (λ (d : Option Commit). IsStarted c (driver_of after).value d h) (sym commit) (started_put puts (commit_of before) h (running.settled (sym settled ∙ is)));
+  known = λ is. subst (λ (bytes_of : ℕ → List ℕ). Knows c bytes_of h.state) (sym kept) (running.known (sym settled ∙ is));
+}
 
 pub gets_nothing : (content : Content) (before after out : List ℕ) → GotOf 1 content Missing before after → out ≡ [] → Gets content false out
 gets_nothing missing before after out got empty = (refl, empty)

@@ -13,7 +13,7 @@ use Rattle.flt_generation.specs.declared.commit.Commit.{Commit}
 use Rattle.flt_generation.specs.Layout.{commit_id, number_of, first_commit, second_commit}
 use Rattle.flt_generation.specs.Reading.{commit_in}
 use Rattle.flt_generation.specs.Excess.{IsBorne, own_pages}
-use Rattle.flt_generation.specs.Holding.{Generation, CommitNames, Names, Holds, IsHeld, IsSpare, IsSound, either_copy, only_bytes, OldOrNew}
+use Rattle.flt_generation.specs.Holding.{Generation, Names, Holds, IsHeld, IsSpare, IsSound, either_copy, only_bytes, OldOrNew}
 use Rattle.flt_generation.proofs.Commits.{bytes_of_commit_size, commit_read, read_commit}
 use Rattle.flt_generation.specs.Form.{commit_length}
 use Rattle.flt_store.specs.Cause.{IsWithinOwn}
@@ -30,9 +30,9 @@ content_read (bytes held) n before after found =
     ap bytes (sym seam)
 
 module _ (c : Config) where
-  -- A commit that bytes name is the one that is read from them.
-  pub one_commit : (value : ℕ → Content) (raw : List ℕ) (g : Generation) → Holds c value (bytes raw) g → (commit : Commit) × (commit_in c raw ≡ Some commit) × CommitNames c value commit g
-  one_commit value raw g holds = let named = holds.names in (named.0, commit_read c raw named.0 named.2.form named.1, named.2)
+  -- From bytes that name a generation a commit is read.
+  pub never_unread : (value : ℕ → Content) (raw : List ℕ) (g : Generation) → Holds c value (bytes raw) g → commit_in c raw ≡ None → ⊥
+  never_unread value raw g holds none = let named = holds.names in let read = commit_read c raw named.0 named.2.form named.1 in cc (read, none)
 
   module _ (before after : ℕ → Content) (agree : AgreeButForCommit before after) (excess : IsBorne c after) where
     -- Both copies hold the bytes of a commit that names a generation.

@@ -5,7 +5,7 @@ use Rattle.flt_store.proofs.TableUse.{commit_twice, commit_fits}
 use Rattle.flt_store.proofs.Causes.{writes_as}
 use Rattle.flt_store.proofs.Dark.{err_as}
 use Rattle.flt_store.proofs.Mending.{Mends, mended_within, mended_writes, mended_started, commit_stuck}
-use Rattle.flt_store.proofs.Repairing.{one_commit, bytes_of_commit}
+use Rattle.flt_store.proofs.Repairing.{never_unread, bytes_of_commit}
 use Rattle.flt_store.proofs.restarting.repair_by.Goals.{After-repair}
 use Rattle.flt_store.proofs.restarting.repair_by.Goals as goal
 
@@ -35,23 +35,13 @@ returns-in-Err-clause-writes g c = λ h holds.
     writes_as (driver_of c.args.nvm.now) (driver_of c.repair.new.self) c.in-Err.fault (rw c.in-Err.is at (mended_writes (mends g (goal.at.returns-in-Err-clause-writes g c).After-repair)))
 
 pub returns-in-None-clause-writes : goal.returns-in-None-clause-writes
-returns-in-None-clause-writes g c = λ h holds.
-    let found = one_commit c.args.config.now (driver_of c.args.nvm.now).value c.args.bytes.now h holds in
-    let read = c.get_commit.ensures in
-    let none = c.in-None.is in
-    let read_as = found.1 in
-    absurd (cc (read, none, read_as))
+returns-in-None-clause-writes g c = λ h holds. absurd (never_unread c.args.config.now (driver_of c.args.nvm.now).value c.args.bytes.now h holds (sym c.get_commit.ensures ∙ c.in-None.is))
 
 pub returns-in-Ok-clause-form : goal.returns-in-Ok-clause-form
 returns-in-Ok-clause-form g c = (read_commit c.args.config.now c.args.bytes.now c.in-Some.commit (sym c.get_commit.ensures ∙ c.in-Some.is)).0
 
 pub returns-in-None-clause-unmended : goal.returns-in-None-clause-unmended
-returns-in-None-clause-unmended g c = λ h holds flash.
-    let found = one_commit c.args.config.now (driver_of c.args.nvm.now).value c.args.bytes.now h holds in
-    let read = c.get_commit.ensures in
-    let none = c.in-None.is in
-    let read_as = found.1 in
-    absurd (cc (read, none, read_as))
+returns-in-None-clause-unmended g c = λ h holds flash. absurd (never_unread c.args.config.now (driver_of c.args.nvm.now).value c.args.bytes.now h holds (sym c.get_commit.ensures ∙ c.in-None.is))
 
 pub returns-in-Err-clause-stuck : goal.returns-in-Err-clause-stuck
 returns-in-Err-clause-stuck g c = λ spent. commit_stuck (mends g (goal.at.returns-in-Err-clause-stuck g c).After-repair) (c.in-Err.is ∙ err_as c.in-Err.fault _ spent)
