@@ -16,7 +16,6 @@ mod made;
 mod memory;
 mod pages;
 mod power;
-mod torn;
 pub mod worked;
 
 pub use arm::{Arm, ArmMade, Pattern};
@@ -26,6 +25,5 @@ pub use flash::{Bench, Flash, FlashFailed};
 pub use laws::{counts_rise, erases_stand};
 pub use made::ArmsTold;
 pub use memory::FlashMem;
-pub use pages::{blank_pages, outcome, pages_of, write_page};
+pub use pages::{BLANK_PAGE, blank_pages, outcome, pages_of, write_page};
 pub use power::Power;
-pub use torn::BLANK_PAGE;

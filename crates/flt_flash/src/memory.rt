@@ -10,9 +10,8 @@ ghost use Rattle.flt_flash.specs.Boots.{HaveRoom, HoldPages, boot_at};
 
 use crate::boot::{SavedBoot, reserved_boots};
 use crate::made::ArmsTold;
-use crate::pages::{blank_pages, outcome, pages_of, write_page};
+use crate::pages::{blank_pages, clear_sector, outcome, pages_of, tear_sector, write_page};
 use crate::power::Power;
-use crate::torn::{clear_sector, tear_sector};
 use crate::{Arm, ArmMade, Bench, Flash, FlashFailed, Pattern};
 use arrayvec::ArrayVec;
 use std::alloc::{AllocError, Global};

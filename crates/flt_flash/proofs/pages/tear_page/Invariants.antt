@@ -1,7 +1,7 @@
 use Rattle.std.proofs.Common.{◌≡◌, ℕ, ◌<◌, ◌≤◌, get_or}
 use Rattle.std.specs.Prelude.{nat_le}
 use Rattle.flt_flash.specs.Arms.{IsTornBy}
-use Rattle.flt_flash.proofs.torn.tear_page.Given as goal
+use Rattle.flt_flash.proofs.pages.tear_page.Given as goal
 
 abbrev pub invariant-loop-byte : goal.invariant-loop-byte
 invariant-loop-byte l =

@@ -1,7 +1,7 @@
 use Rattle.std.proofs.Common.{◌<◌, [], length, sym, ◌∙◌, get_or-set_same, get_or-set_other, below_more, arith}
 use Rattle.std.proofs.lemmas.List.{ext_get_or, get_or-replicate, length-replicate}
 use Rattle.flt_flash.specs.Image.{blank_page}
-use Rattle.flt_flash.proofs.torn.clear_sector.Goals as goal
+use Rattle.flt_flash.proofs.pages.clear_sector.Goals as goal
 
 pub loop-page-preserved : goal.loop-page-preserved
 unfolding blank_page

@@ -1,7 +1,7 @@
 use Rattle.std.proofs.Common.{◌≡◌, ℕ, ◌<◌, ◌≤◌, [], get_or}
 use Rattle.flt_flash.specs.Image.{blank_page}
 use Rattle.flt_flash.specs.Arms.{IsTornPageBy, erase_tail}
-use Rattle.flt_flash.proofs.torn.tear_sector.Given as goal
+use Rattle.flt_flash.proofs.pages.tear_sector.Given as goal
 
 abbrev pub invariant-loop-page : goal.invariant-loop-page
 invariant-loop-page l =
