@@ -16,11 +16,12 @@ ghost use Rattle.flt_watch.specs.Watched.{IsWatchedLife};
 
 use crate::living::run_parts;
 use crate::lock::{WatchEnd, WatchLock};
+use arrayvec::ArrayVec;
 use flt_config::{Persist, ValidConfig, initial};
 use flt_dcm::Unit;
 use flt_dem::Dem;
 use flt_did::{DID_ROWS, DidTable};
-use flt_lane::Gate;
+use flt_lane::{Gate, LifeAnswers};
 use flt_life::{Boot, CallRoom, Life, LifeRoom, life_of};
 use flt_notify::{KINDS, SubTable};
 use flt_script::Part;
@@ -81,18 +82,31 @@ pub(crate) fn live<R: Threads + Wait + Sync, G: Gate + Sync>(
     ensures kinds { IfOk result (λ lived. kinds_in lived.subs ≡ kinds_in subs) }
 {
     let LifeRoom {
-        mut own,
+        own,
         lanes,
-        mut told,
+        told,
         replies,
     } = LifeRoom::for_parts(alloc, parts)?;
     let base = initial(config);
     let unit = unit_from(alloc, config, &base, dids)?;
     let calls = CallRoom::for_parts(parts);
     let (lock, mut main) = WatchLock::make(alloc, unit, subs, calls.machine)?;
+    let mut answers = LifeAnswers {
+        own,
+        told,
+        response: ArrayVec::new(),
+    };
     run_parts(
-        rt, alloc, &lock, gate, &mut main, parts, lanes, &mut own, &mut told,
+        rt,
+        alloc,
+        &lock,
+        gate,
+        &mut main,
+        parts,
+        lanes,
+        &mut answers,
     )?;
+    let LifeAnswers { own, told, .. } = answers;
     let WatchEnd { journal, subs } = lock.close(main);
     let boot = Boot::Started {
         generation: 0,

@@ -12,10 +12,8 @@ ghost use Rattle.flt_watch.specs.Lane.{IsSeatOf, IsWatchable};
 use crate::block::run_block;
 use crate::lane::make_call;
 use crate::lock::{WatchLock, WatchSeat};
-use arrayvec::ArrayVec;
-use flt_lane::{Gate, next_lanes};
-use flt_life::{LaneReplies, LaneRoom};
-use flt_model::RESPONSE;
+use flt_lane::{Gate, LifeAnswers, next_lanes};
+use flt_life::LaneRoom;
 use flt_script::{Part, Step};
 use std::alloc::{AllocError, Global};
 use std::marker::Sync;
@@ -30,23 +28,23 @@ fn run_one<R: Wait, G: Gate>(
     gate: &G,
     main: &mut WatchSeat,
     step: &Step,
-    own: &mut LaneReplies,
-    response: &mut ArrayVec<u8, RESPONSE>,
+    answers: &mut LifeAnswers,
 )
     requires lock { IsSeatOf lock.now main.old }
     requires step { IsWatchable main.old.start.config step.now }
     requires left { 1 ≤ main.old.left }
-    requires index { vec_len own.old.answers < 2 ^ 32 }
-    requires room { HasRoomForSteps own.old (step.now ∷ []) }
-    ensures stepped { HasStepped main.old main.new step.now (told_in own.old) (told_in own.new) }
+    requires index { vec_len answers.old.own.answers < 2 ^ 32 }
+    requires room { HasRoomForSteps answers.old.own (step.now ∷ []) }
+    ensures stepped { HasStepped main.old main.new step.now (told_in answers.old.own) (told_in answers.new.own) }
     ensures lock { IsSeatOf lock.now main.new }
-    ensures len { vec_len own.new.answers ≡ vec_len own.old.answers + 1 }
-    ensures room { (rest : List Step) → HasRoomForSteps own.old (step.now ∷ rest) → HasRoomForSteps own.new rest }
+    ensures len { vec_len answers.new.own.answers ≡ vec_len answers.old.own.answers + 1 }
+    ensures others { answers.new.told ≡ answers.old.told }
+    ensures room { (rest : List Step) → HasRoomForSteps answers.old.own (step.now ∷ rest) → HasRoomForSteps answers.new.own rest }
 {
-    let index = own.answers.len() as u32;
+    let index = answers.own.answers.len() as u32;
     gate.before(rt, 0, index);
-    let answer = make_call(rt, lock, main, step, response);
-    own.keep(answer, response.as_slice());
+    let answer = make_call(rt, lock, main, step, &mut answers.response);
+    answers.own.keep(answer, answers.response.as_slice());
     gate.after(rt, 0, index);
 }
 
@@ -59,41 +57,39 @@ fn run_part<'a, R: Threads + Wait + Sync, G: Gate + Sync>(
     main: &mut WatchSeat,
     part: &Part,
     lanes: &mut IntoIter<LaneRoom<'a>>,
-    own: &mut LaneReplies,
-    told: &mut Vec<LaneReplies>,
-    response: &mut ArrayVec<u8, RESPONSE>,
+    answers: &mut LifeAnswers,
 ) -> Result<(), AllocError>
     requires lock { IsSeatOf lock.now main.old × IsMain main.old }
     requires steps { IsPartFor main.old.start.config (part_of part.now) }
     requires calls { calls_in (part_of part.now) ≤ main.old.left }
     requires children { main.old.children + width (part_of part.now) < 2 ^ 32 }
-    requires index { vec_len own.old.answers < 2 ^ 32 }
-    requires own_room { HasRoomForSteps own.old (own_steps (part_of part.now ∷ [])) }
-    requires told_room { vec_len told.old + width (part_of part.now) ≤ vec_capacity told.old }
+    requires index { vec_len answers.old.own.answers < 2 ^ 32 }
+    requires own_room { HasRoomForSteps answers.old.own (own_steps (part_of part.now ∷ [])) }
+    requires told_room { vec_len answers.old.told + width (part_of part.now) ≤ vec_capacity answers.old.told }
     requires lanes { (later : List (List Step)) × (steps_of lanes.old.rest.items ≡ lanes_in (part_of part.now ∷ []) ++ later) }
     requires ready { All IsLaneRoom lanes.old.rest.items }
-    ensures gains { OnOk result (Gains main.old main.new (part_of part.now) (told_in own.old) (told_in own.new)
-        (map told_in told.old.items) (map told_in told.new.items)) }
+    ensures gains { OnOk result (Gains main.old main.new (part_of part.now) (told_in answers.old.own) (told_in answers.new.own)
+        (map told_in answers.old.told.items) (map told_in answers.new.told.items)) }
     ensures lock { OnOk result (IsSeatOf lock.now main.new) }
     ensures left { OnOk result (main.old.left ≤ main.new.left + calls_in (part_of part.now)) }
-    ensures own_len { OnOk result (vec_len own.new.answers ≤ vec_len own.old.answers + 1) }
-    ensures own_room { OnOk result ((rest : List (PartOf Step)) → HasRoomForSteps own.old (own_steps (part_of part.now ∷ rest))
-        → HasRoomForSteps own.new (own_steps rest)) }
-    ensures told_len { OnOk result (vec_len told.new ≡ vec_len told.old + width (part_of part.now)) }
-    ensures told_capacity { OnOk result (vec_capacity told.new ≡ vec_capacity told.old) }
+    ensures own_len { OnOk result (vec_len answers.new.own.answers ≤ vec_len answers.old.own.answers + 1) }
+    ensures own_room { OnOk result ((rest : List (PartOf Step)) → HasRoomForSteps answers.old.own (own_steps (part_of part.now ∷ rest))
+        → HasRoomForSteps answers.new.own (own_steps rest)) }
+    ensures told_len { OnOk result (vec_len answers.new.told ≡ vec_len answers.old.told + width (part_of part.now)) }
+    ensures told_capacity { OnOk result (vec_capacity answers.new.told ≡ vec_capacity answers.old.told) }
     ensures later { OnOk result ((later : List (List Step)) → steps_of lanes.old.rest.items ≡ lanes_in (part_of part.now ∷ []) ++ later
         → steps_of lanes.new.rest.items ≡ later) }
     ensures ready { OnOk result (All IsLaneRoom lanes.new.rest.items) }
 {
     match part {
         Part::One(step) => {
-            run_one(rt, lock, gate, main, step, own, response);
+            run_one(rt, lock, gate, main, step, answers);
             Ok(())
         }
         Part::Lanes(block) => {
             let rooms = next_lanes(alloc, block.len(), lanes)?;
             let works = Vec::with_capacity(alloc, block.len())?;
-            run_block(rt, lock, gate, main, rooms, works, told);
+            run_block(rt, lock, gate, main, rooms, works, &mut answers.told);
             Ok(())
         }
     }
@@ -108,39 +104,26 @@ pub(crate) fn run_parts<'a, R: Threads + Wait + Sync, G: Gate + Sync>(
     main: &mut WatchSeat,
     parts: &[Part],
     lanes: Vec<LaneRoom<'a>>,
-    own: &mut LaneReplies,
-    told: &mut Vec<LaneReplies>,
+    answers: &mut LifeAnswers,
 ) -> Result<(), AllocError>
     requires lock { IsSeatOf lock.now main.old × IsMain main.old }
     requires steps { All (IsPartFor main.old.start.config) (parts_of parts.now) }
     requires calls { sum_by calls_in (parts_of parts.now) ≤ main.old.left }
     requires children { main.old.children + widths (parts_of parts.now) < 2 ^ 32 }
     requires indices { length parts.now < 2 ^ 32 }
-    requires no_answers { (told_in own.old ≡ []) × (vec_len own.old.answers ≡ 0) }
-    requires own_room { HasRoomForSteps own.old (own_steps (parts_of parts.now)) }
-    requires none_told { (told.old.items ≡ []) × (vec_len told.old ≡ 0) }
-    requires told_room { widths (parts_of parts.now) ≤ vec_capacity told.old }
+    requires no_answers { (told_in answers.old.own ≡ []) × (vec_len answers.old.own.answers ≡ 0) }
+    requires own_room { HasRoomForSteps answers.old.own (own_steps (parts_of parts.now)) }
+    requires none_told { (answers.old.told.items ≡ []) × (vec_len answers.old.told ≡ 0) }
+    requires told_room { widths (parts_of parts.now) ≤ vec_capacity answers.old.told }
     requires lanes { steps_of lanes.items ≡ lanes_in (parts_of parts.now) }
     requires ready { All IsLaneRoom lanes.items }
-    ensures lived { OnOk result (HaveRunParts main.old main.new (parts_of parts.now) (told_in own.new) (map told_in told.new.items)) }
+    ensures lived { OnOk result (HaveRunParts main.old main.new (parts_of parts.now) (told_in answers.new.own) (map told_in answers.new.told.items)) }
     ensures lock { OnOk result (IsSeatOf lock.now main.new) }
-    ensures told_len { OnOk result (vec_len told.new ≡ widths (parts_of parts.now)) }
+    ensures told_len { OnOk result (vec_len answers.new.told ≡ widths (parts_of parts.now)) }
 {
-    let mut response = ArrayVec::new();
     let mut lanes = lanes.into_iter();
     for part in parts {
-        run_part(
-            rt,
-            alloc,
-            lock,
-            gate,
-            main,
-            part,
-            &mut lanes,
-            own,
-            told,
-            &mut response,
-        )?;
+        run_part(rt, alloc, lock, gate, main, part, &mut lanes, answers)?;
     }
     Ok(())
 }

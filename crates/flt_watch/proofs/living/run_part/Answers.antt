@@ -1,11 +1,14 @@
 use Rattle.std.proofs.Common.{◌≡◌, ℕ, ◌+◌, ◌≤◌, inr, List, [], ◌∷◌, ◌++◌, All, Vec, length, map, ap, sym, subst, arith, ◌∙◌}
 use Rattle.std.specs.Prelude.{vec_len}
+use Rattle.std.specs.Vec.{vec_capacity}
 use Rattle.std.proofs.lemmas.List.{length-map}
 use Rattle.flt_script.specs.declared.step.Step.{Step}
 use Rattle.flt_script.specs.declared.step.Part.{Part}
 use Rattle.flt_script.specs.Part.{PartOf, part_of}
+use Rattle.flt_life.specs.declared.replies.LaneReplies.{LaneReplies}
 use Rattle.flt_life.specs.declared.room.LaneRoom.{LaneRoom}
-use Rattle.flt_life.specs.Parts.{calls_in, lanes_in}
+use Rattle.flt_life.specs.Answers.{Told}
+use Rattle.flt_life.specs.Parts.{calls_in, lanes_in, width}
 use Rattle.flt_life.specs.Room.{IsLaneRoom, steps_of, told_in}
 use Rattle.flt_fork.proofs.Blocks.{all_right}
 use Rattle.flt_lane.proofs.Rooms.{taken_rooms}
@@ -15,11 +18,21 @@ use Rattle.flt_watch.proofs.living.run_part.Goals as goal
 
 pub returns-in-One-clause-gains : goal.returns-in-One-clause-gains
 returns-in-One-clause-gains g c =
-    let own = told_in c.args.own.now in
-    let own_after = told_in c.run_one.new.own in
-    let told = map told_in c.args.told.now.items in
-    subst (λ (p : Part). Gains c.args.main.now c.run_one.new.main (part_of p) own own_after told told) (sym c.in-One.is)
-    (gains_one c.args.main.now c.run_one.new.main c.in-One.step own own_after told c.requires.lock.1 c.run_one.ensures.stepped)
+    let own = told_in c.args.answers.now.own in
+    let own_after = told_in c.run_one.new.answers.own in
+    let told = map told_in c.args.answers.now.told.items in
+    let same : map told_in c.run_one.new.answers.told.items ≡ told = ap (λ (v : Vec LaneReplies _). map told_in v.items) c.run_one.ensures.others in
+    subst (λ (l : List (List Told)). Gains c.args.main.now c.run_one.new.main (part_of c.args.part.now) own own_after told l) (sym same)
+    (subst (λ (p : Part). Gains c.args.main.now c.run_one.new.main (part_of p) own own_after told told) (sym c.in-One.is)
+    (gains_one c.args.main.now c.run_one.new.main c.in-One.step own own_after told c.requires.lock.1 c.run_one.ensures.stepped))
+
+pub returns-in-One-clause-told_len : goal.returns-in-One-clause-told_len
+returns-in-One-clause-told_len g c =
+    let same = ap vec_len c.run_one.ensures.others in
+    subst (λ (p : Part). vec_len c.run_one.new.answers.told ≡ vec_len c.args.answers.now.told + width (part_of p)) (sym c.in-One.is) (omega (arith, same))
+
+pub returns-in-One-clause-told_capacity : goal.returns-in-One-clause-told_capacity
+returns-in-One-clause-told_capacity g c = ap vec_capacity c.run_one.ensures.others
 
 -- The part is the block whose rooms were taken, and the rooms that are left are those of the later ones.
 record IsBlock (part : PartOf Step) (rooms left : List LaneRoom) (later : List (List Step)) : Type 0 where
@@ -50,8 +63,8 @@ pub returns-in_ok-works-in-Lanes-clause-gains : goal.returns-in_ok-works-in-Lane
 returns-in_ok-works-in-Lanes-clause-gains g c =
     let block = block_of (part_of c.args.part.now) c.in-Lanes.block c.len.result c.args.lanes.now.rest.items c.in_ok-rooms-in-Lanes.rooms.items c.next_lanes.new.lanes.rest.items c.requires.lanes.0 (ap part_of c.in-Lanes.is)
     c.in_ok-rooms-in-Lanes.ensures.lanes c.in_ok-rooms-in-Lanes.ensures.count c.len.ensures c.requires.lanes.1 in
-    let own = told_in c.args.own.now in
-    let told = map told_in c.args.told.now.items in
+    let own = told_in c.args.answers.now.own in
+    let told = map told_in c.args.answers.now.told.items in
     let told_after = map told_in c.run_block.new.told.items in
     subst (λ (p : PartOf Step). Gains c.args.main.now c.run_block.new.main p own own told told_after) (sym block.part_is)
     (gains_block c.args.main.now c.run_block.new.main (steps_of c.in_ok-rooms-in-Lanes.rooms.items) own told told_after c.run_block.ensures.part)
