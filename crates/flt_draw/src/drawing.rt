@@ -11,11 +11,10 @@ ghost use Rattle.flt_report.specs.Boot.{script_fault_line};
 ghost use Rattle.flt_draw.specs.Drawing.{Draws, IsDrawn, IsDue, IsRunOf};
 
 use crate::command::Command;
-use crate::quiet::Quiet;
 use flt_config::ValidConfig;
 use flt_did::{DID_ROWS, DidTable, Reader};
 use flt_flash::FlashMem;
-use flt_io::{MemSource, ReadFault, Sink, Source, read_front};
+use flt_io::{Discard, MemSource, ReadFault, Sink, Source, read_front};
 use flt_picture::{sectors, timeline};
 use flt_report::put_script_fault;
 use flt_run::{OpenGate, Outcome, run};
@@ -83,7 +82,7 @@ fn run_bytes<R: Threads + Wait + Sync>(
         alloc,
         &words,
         &mut source,
-        &mut Quiet,
+        &mut Discard,
         flash,
         dids,
         &OpenGate,

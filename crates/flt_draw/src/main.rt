@@ -5,7 +5,6 @@
 
 mod command;
 mod drawing;
-mod quiet;
 
 use crate::command::{Command, command_of};
 use crate::drawing::{Tables, draw};

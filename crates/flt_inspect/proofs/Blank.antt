@@ -1,4 +1,4 @@
--- A run over a blank flash, as the streams and the flash of it tell.
+-- A run over a blank flash, as its source and its flash tell.
 use Rattle.std.proofs.Common.{◌≡◌, ◌≢◌, ℕ, List, [], ◌∷◌, Option, Some, subst}
 use Rattle.std.specs.Prelude.{codes}
 use Rattle.flt_config.specs.declared.config.DidUse.{DidUse}

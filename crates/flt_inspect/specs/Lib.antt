@@ -1,6 +1,6 @@
 pub mod Command
 pub mod Inspection
-pub mod Streams
+pub mod Source
 pub mod Lines
 pub mod Traced
 pub mod Examination

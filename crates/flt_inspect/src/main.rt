@@ -9,7 +9,7 @@
 mod command;
 mod examining;
 mod inspecting;
-mod streams;
+mod source;
 mod tracing;
 
 use crate::examining::examine;

@@ -9,12 +9,13 @@ ghost use Rattle.flt_verdict.specs.Verdict.{due_of};
 ghost use Rattle.flt_inspect.specs.Lines.{AreTextsOf, IsLastLine, IsLineOf, IsNoScript, IsReadAs, LastFits};
 ghost use Rattle.flt_inspect.specs.Traced.{IsTraceDue, RunsOnBlank};
 
-use crate::streams::{Held, Nowhere};
+use crate::source::Held;
 use flt_base::base_texts;
 use flt_call::call_texts;
 use flt_config::{Persist, ValidConfig};
 use flt_did::{DID_ROWS, DidTable};
 use flt_flash::FlashMem;
+use flt_io::Discard;
 use flt_life::{Boot, Life};
 use flt_run::{OpenGate, Outcome, run};
 use flt_script::{ParseFault, Script, parse};
@@ -62,7 +63,7 @@ fn run_on_blank<R: Threads + Wait + Sync>(
         alloc,
         &words,
         &mut source,
-        &mut Nowhere,
+        &mut Discard,
         flash,
         dids,
         &OpenGate,

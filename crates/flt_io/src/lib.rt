@@ -4,9 +4,10 @@
 //! `push` takes a whole piece or fails after a prefix of it; either fails only if the object's count of faults rose.
 //! `read_front` reads a source to its end, or up to a number of bytes.
 //! `MemSource` and `MemSink` are in memory and fail when they are told to; `ReadSource` and `WriteSink` are over std's
-//! readers and writers. Read `specs/Fault.antt` first, then `specs/Sink.antt`.
+//! readers and writers; `Discard` is a sink that keeps nothing. Read `specs/Fault.antt` first, then `specs/Sink.antt`.
 #![tactic(auto)]
 
+mod discard;
 mod failing;
 mod front;
 mod mem_sink;
@@ -15,6 +16,7 @@ mod read_source;
 mod stream;
 mod write_sink;
 
+pub use discard::Discard;
 pub use front::{ReadFault, read_front};
 pub use mem_sink::MemSink;
 pub use mem_source::MemSource;

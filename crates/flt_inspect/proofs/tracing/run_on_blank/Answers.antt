@@ -3,7 +3,7 @@ use Rattle.std.specs.String.{string_bytes}
 use Rattle.flt_flash.specs.Memory.{state_of}
 use Rattle.flt_flash.specs.declared.memory.FlashMem.{FlashMem}
 use Rattle.flt_did.specs.Table.{dids_of}
-use Rattle.flt_inspect.specs.Streams.{bytes_in}
+use Rattle.flt_inspect.specs.Source.{bytes_in}
 use Rattle.flt_inspect.specs.Traced.{blank_flash}
 use Rattle.flt_inspect.proofs.Blank.{runs_on_blank}
 use Rattle.flt_inspect.proofs.Made.{of_ok}

@@ -1,8 +1,8 @@
-// The streams of a run that is traced: neither fails.
-ghost use Rattle.std.specs.Prelude.{◌≡◌, Some, None};
-ghost use Rattle.flt_inspect.specs.Streams.{bytes_in};
+// The source of a run that is traced.
+ghost use Rattle.std.specs.Prelude.{◌≡◌, Some};
+ghost use Rattle.flt_inspect.specs.Source.{bytes_in};
 
-use flt_io::{Failed, Sink, Source};
+use flt_io::{Failed, Source};
 
 /// A source of bytes in memory, which never fails.
 #[derive(Drop)]
@@ -29,19 +29,5 @@ impl Source for Held<'_> {
         out[..count].copy_from_slice(&self.left[..count]);
         self.left = &self.left[count..];
         Ok(count)
-    }
-}
-
-/// A sink that takes every piece, keeps none, and never fails.
-#[derive(Drop)]
-pub(crate) struct Nowhere;
-
-impl Sink for Nowhere {
-    ghost held = { λ s. None };
-
-    ghost faults = { λ s. 0 };
-
-    fn push(&mut self, _piece: &[u8]) -> Result<(), Failed> {
-        Ok(())
     }
 }

@@ -1,6 +1,6 @@
 -- The source of a run that is traced.
 use Rattle.std.specs.Prelude.{ℕ, List}
-use Rattle.flt_inspect.specs.declared.streams.Held.{Held}
+use Rattle.flt_inspect.specs.declared.source.Held.{Held}
 
 -- The bytes that are left in it.
 abbrev pub bytes_in : Held → List ℕ
