@@ -2,7 +2,8 @@
 ghost use Rattle.std.specs.Prelude.{◌≡◌, ◌+◌, ◌≤◌, All, IfSome, length, sum_by};
 ghost use Rattle.std.specs.Thread.{IsSync};
 ghost use Rattle.flt_flash.specs.Blocks.{device_of};
-ghost use Rattle.flt_dcm.specs.Whole.{config_of};
+ghost use Rattle.flt_did.specs.Serves.{Serves};
+ghost use Rattle.flt_did.specs.Table.{dids_of};
 ghost use Rattle.flt_script.specs.Part.{parts_of};
 ghost use Rattle.flt_life.specs.Lives.{ArePlayed, AreEnded, AreGiven, arms_given, lists, lives_seen};
 ghost use Rattle.flt_life.specs.Parts.{IsPossiblePart, arms_in, steps_in, widths};
@@ -11,7 +12,7 @@ ghost use Rattle.flt_shared.specs.Boxed.{config_in};
 
 use arrayvec::ArrayVec;
 use flt_config::ValidConfig;
-use flt_dcm::Unit;
+use flt_did::{DID_ROWS, DidTable};
 use flt_flash::Blocks;
 use flt_lane::{LifeAnswers, Locks, Seats, SharedGate, part_rooms, run_parts};
 use flt_life::{Boot, CallRoom, LifeRoom, life_of};
@@ -114,12 +115,12 @@ pub fn run_in_lanes<R: Threads + Wait + Sync, G: SharedGate, D: Driver>(
     rt: &R,
     gate: &G,
     alloc: Global,
-    unit: Unit,
     device: D::Device,
     config: &ValidConfig,
+    dids: DidTable<DID_ROWS>,
     lives: &[Vec<Part>],
 ) -> Run<D::Device>
-    requires same { config_of unit ≡ config.now }
+    requires served { Serves (dids_of dids) config.now.events.items }
     requires serves { D.serves config.now (D.device_state device) }
     requires boots { length lives.now ≤ (D.device_state device).bench.boots_left }
     requires few { sum_by (λ life. sum_by steps_in (parts_of life.items)) lives.now ≤ 65536 }
@@ -136,7 +137,7 @@ pub fn run_in_lanes<R: Threads + Wait + Sync, G: SharedGate, D: Driver>(
     ensures begun { BeginsLives (length lives.now) (device_of (D.device_state device)) (device_of (D.device_state result.device)) }
     ensures sound { DeviceStaysSound (D.medium config.now) config.now (D.device_state device) (D.device_state result.device) }
 {
-    match BoxedUnit::new(alloc, unit) {
+    match BoxedUnit::make(alloc, config.twin(), dids) {
         Ok(unit) => run_on_device::<D, LockEngine<'_, R, G>>(
             alloc,
             LockEngine { rt, gate, unit },

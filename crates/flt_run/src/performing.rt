@@ -5,7 +5,6 @@ ghost use Rattle.flt_config.specs.declared.config.Config.{Config};
 ghost use Rattle.flt_config.specs.declared.config.DidUse.{DidUse};
 ghost use Rattle.flt_did.specs.Serves.{Serves};
 ghost use Rattle.flt_did.specs.Table.{dids_of};
-ghost use Rattle.flt_dcm.specs.Whole.{config_of};
 ghost use Rattle.flt_script.specs.Part.{parts_of};
 ghost use Rattle.flt_script.specs.Script.{content};
 ghost use Rattle.flt_generation.specs.Laws.{IsGiven};
@@ -53,14 +52,6 @@ struct MadeOn<D> {
     device: D,
 }
 
-/// The machine of a script.
-fn unit_of(config: &ValidConfig, dids: DidTable<DID_ROWS>) -> Unit
-    requires { Serves (dids_of dids) config.now.events.items }
-    ensures { config_of result ≡ config.now }
-{
-    Unit::make(Dem::make(config.twin(), dids))
-}
-
 /// Looks at a configuration, which is valid, and whose numbers are those of their types.
 fn look_at_config(config: &ValidConfig)
     ensures { IsGiven config.now }
@@ -91,11 +82,11 @@ fn made_of<D: Drop>(script: Script, run: Run<D>) -> MadeOn<D>
 /// lock.
 fn live_alone<D: Driver>(
     alloc: Global,
-    unit: Unit,
     device: D::Device,
     script: Script,
+    dids: DidTable<DID_ROWS>,
 ) -> MadeOn<D::Device>
-    requires same { config_of unit ≡ script.config }
+    requires served { Serves (dids_of dids) script.config.events.items }
     requires alone { All (λ life. AreAlone (parts_of life.items)) script.lives.items }
     requires serves { ServesAll D.serves (D.device_state device) }
     requires boots { 256 ≤ (D.device_state device).bench.boots_left }
@@ -103,6 +94,7 @@ fn live_alone<D: Driver>(
     ensures { MakesLives D.medium (content script) (D.device_state device) (D.device_state result.device) result.made }
 {
     look_at_config(&script.config);
+    let unit = Unit::make(Dem::make(script.config.twin(), dids));
     let run = run_alone::<D>(alloc, unit, device, &script.config, &script.lives);
     made_of(script, run)
 }
@@ -113,18 +105,18 @@ fn live_in_lanes<R: Threads + Wait + Sync, G: SharedGate, D: Driver>(
     rt: &R,
     gate: &G,
     alloc: Global,
-    unit: Unit,
     device: D::Device,
     script: Script,
+    dids: DidTable<DID_ROWS>,
 ) -> MadeOn<D::Device>
-    requires same { config_of unit ≡ script.config }
+    requires served { Serves (dids_of dids) script.config.events.items }
     requires serves { ServesAll D.serves (D.device_state device) }
     requires boots { 256 ≤ (D.device_state device).bench.boots_left }
     requires unarmed { (D.device_state device).bench.armed ≡ 0 }
     ensures { MakesLives D.medium (content script) (D.device_state device) (D.device_state result.device) result.made }
 {
     look_at_config(&script.config);
-    let run = run_in_lanes::<R, G, D>(rt, gate, alloc, unit, device, &script.config, &script.lives);
+    let run = run_in_lanes::<R, G, D>(rt, gate, alloc, device, &script.config, dids, &script.lives);
     made_of(script, run)
 }
 
@@ -178,10 +170,7 @@ fn load_plain<D: Driver>(
         (unread_inside left faults D.medium (D.device_state device) (D.device_state result.device)) (Some (commands.Load count false)) result.ending }
 {
     match load(alloc, count, false) {
-        Ok(script) => {
-            let unit = unit_of(&script.config, dids);
-            loaded(live_alone::<D>(alloc, unit, device, script))
-        }
+        Ok(script) => loaded(live_alone::<D>(alloc, device, script, dids)),
         Err(_) => Performed {
             ending: None,
             device,
@@ -240,10 +229,7 @@ fn load_in_lanes<R: Threads + Wait + Sync, G: SharedGate, D: Driver>(
         (unread_inside left faults D.medium (D.device_state device) (D.device_state result.device)) (Some (commands.Load count true)) result.ending }
 {
     match load(alloc, count, true) {
-        Ok(script) => {
-            let unit = unit_of(&script.config, dids);
-            loaded(live_in_lanes::<R, G, D>(rt, gate, alloc, unit, device, script))
-        }
+        Ok(script) => loaded(live_in_lanes::<R, G, D>(rt, gate, alloc, device, script, dids)),
         Err(_) => Performed {
             ending: None,
             device,
@@ -268,9 +254,8 @@ fn run_script<R: Threads + Wait + Sync, G: SharedGate, S: Source, D: Driver>(
 {
     match fetch(alloc, source, &dids) {
         Fetched::Script(script) => {
-            let unit = unit_of(&script.config, dids);
             let MadeOn { made, device } = live_in_lanes::<R, G, D>(
-                rt, gate, alloc, unit, device, script,
+                rt, gate, alloc, device, script, dids,
             );
             Performed {
                 ending: made.map(|made| Ending::Ran(made)),

@@ -1,7 +1,7 @@
 -- What a contract sees of a boxed unit.
 use Rattle.flt_config.specs.declared.config.Config.{Config}
 use Rattle.flt_dcm.specs.Unit.{UnitView}
-use Rattle.flt_shared.specs.declared.boxed.BoxedUnit.{BoxedUnit}
+use Rattle.flt_shared.specs.declared.guarded.BoxedUnit.{BoxedUnit}
 
 -- The unit without its table.
 abbrev pub unit_in : {F : _} {g : _} → BoxedUnit F g → UnitView

@@ -1,5 +1,8 @@
-//! What lies under the lock.
-ghost use Rattle.std.specs.Prelude.{reverse};
+//! The status machine, as it goes from life to life, and as it lies under the lock.
+ghost use Rattle.std.specs.Prelude.{◌≡◌, [], IfOk, reverse};
+ghost use Rattle.std.proofs.Props.{props};
+ghost use Rattle.flt_config.specs.Durable.{Fits};
+ghost use Rattle.flt_model.specs.Start.{fresh};
 ghost use Rattle.flt_did.specs.Serves.{Serves};
 ghost use Rattle.flt_did.specs.Table.{dids_of};
 ghost use Rattle.flt_dcm.specs.Unit.{Stands, written};
@@ -7,11 +10,52 @@ ghost use Rattle.flt_shared.specs.Call.{MayBeAsked, reply_after, with_response};
 ghost use Rattle.flt_shared.specs.Start.{some_start, start_of};
 
 use arrayvec::ArrayVec;
-use flt_config::Persist;
+use flt_config::{Persist, ValidConfig};
 use flt_dcm::{DemStart, Op, Reply, ReplyKind, UnitState};
+use flt_dem::DemState;
 use flt_did::{DID_ROWS, DidTable};
 use flt_model::RESPONSE;
 use flt_turn::{Machine, StepInto, Stepper};
+use std::alloc::{AllocError, Global};
+
+/// A unit whose state is boxed, so that it is moved at little cost.
+#[derive(Drop)]
+pub struct BoxedUnit {
+    /// The unit without the functions of its table.
+    pub state: Box<UnitState>,
+    /// The table of data identifiers.
+    pub dids: DidTable<DID_ROWS>,
+    ghost served: { Serves (dids_of dids) state.value.dem.durable.config.events.items } by { Prim.hlevel props },
+}
+
+impl BoxedUnit {
+    ghost use Rattle.flt_shared.specs.Boxed.{config_in, unit_in};
+
+    /// A unit with nothing saved, to which no call was made, in the box in which it stays.
+    pub fn make(
+        alloc: Global,
+        config: ValidConfig,
+        dids: DidTable<DID_ROWS>,
+    ) -> Result<BoxedUnit, AllocError>
+        requires { Serves (dids_of dids) config.events.items }
+        ensures config { IfOk result (λ boxed. config_in boxed ≡ config) }
+        ensures dids { IfOk result (λ boxed. dids_of boxed.dids ≡ dids_of dids) }
+        ensures stands { IfOk result (λ boxed. Stands (fresh config) [] (unit_in boxed)) }
+    {
+        let state = Box::new(alloc, UnitState::make(DemState::make(config)))?;
+        Ok(BoxedUnit { state, dids })
+    }
+
+    /// Starts again from a saved state that fits the configuration, as a unit does.
+    pub fn boot(&mut self, base: &Persist)
+        requires fits { Fits (config_in self.old) base.now }
+        ensures config { config_in self.new ≡ config_in self.old }
+        ensures dids { dids_of self.new.dids ≡ dids_of self.old.dids }
+        ensures stands { Stands (record { config = config_in self.old; base = base.now }) [] (unit_in self.new) }
+    {
+        self.state.boot(base);
+    }
+}
 
 /// The status machine without the functions of its table, which are lent to each of its steps. It is boxed, since it goes out of the
 /// lock's slot and back with each call.

@@ -5,12 +5,10 @@
 //! the one word `IsCall`. Read `specs/Call.antt` first.
 #![tactic(auto)]
 
-mod boxed;
 mod guarded;
 pub mod laws;
 mod lock;
 
-pub use boxed::BoxedUnit;
 pub use flt_dcm::{Cause, DemStart, Op, Reply, ReplyKind, Shown};
-pub use guarded::Guarded;
+pub use guarded::{BoxedUnit, Guarded};
 pub use lock::{DemAnswer, DemEnd, DemLock, DemSeat};

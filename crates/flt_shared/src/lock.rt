@@ -14,8 +14,7 @@ ghost use Rattle.flt_turn.specs.Call.{IsRefusal, past};
 ghost use Rattle.flt_shared.specs.Call.{IsCall, ShowsStandard, whole};
 ghost use Rattle.flt_shared.specs.Start.{start_of};
 
-use crate::boxed::BoxedUnit;
-use crate::guarded::Guarded;
+use crate::guarded::{BoxedUnit, Guarded};
 use arrayvec::ArrayVec;
 use flt_config::{Config, Persist};
 use flt_dcm::{Op, Reply, ReplyKind};

@@ -1,14 +1,10 @@
 //! A watched life, from the state of a controller that never saved one to its journal.
-ghost use Rattle.std.specs.Prelude.{◌≡◌, ◌<◌, ◌≤◌, ◌+◌, ◌^◌, [], All, IfOk, length, sum_by};
-ghost use Rattle.flt_config.specs.Durable.{Fits, initial_state};
+ghost use Rattle.std.specs.Prelude.{◌≡◌, ◌<◌, ◌≤◌, ◌+◌, ◌^◌, All, IfOk, length, sum_by};
+ghost use Rattle.flt_config.specs.Durable.{initial_state};
 ghost use Rattle.flt_did.specs.Serves.{Serves};
 ghost use Rattle.flt_did.specs.Table.{dids_of};
 ghost use Rattle.flt_life.specs.declared.life.Boot.TheVariants as boots;
-ghost use Rattle.flt_dcm.specs.Unit.{Stands};
-ghost use Rattle.flt_life.specs.Chain.{start_from};
 ghost use Rattle.flt_life.specs.Parts.{steps_in, widths};
-ghost use Rattle.flt_shared.specs.Boxed.{unit_in};
-ghost use Rattle.flt_shared.specs.Start.{start_of};
 ghost use Rattle.flt_script.specs.Part.{parts_of};
 ghost use Rattle.flt_notify.specs.Table.{IsAtZero, kinds_in};
 ghost use Rattle.flt_watch.specs.Block.{IsPartFor};
@@ -17,9 +13,7 @@ ghost use Rattle.flt_watch.specs.Watched.{IsWatchedLife};
 use crate::living::run_parts;
 use crate::lock::{WatchEnd, WatchLock};
 use arrayvec::ArrayVec;
-use flt_config::{Persist, ValidConfig, initial};
-use flt_dcm::Unit;
-use flt_dem::Dem;
+use flt_config::{ValidConfig, initial};
 use flt_did::{DID_ROWS, DidTable};
 use flt_lane::{Gate, LifeAnswers};
 use flt_life::{Boot, CallRoom, Life, LifeRoom, life_of};
@@ -36,28 +30,6 @@ use std::thread::Threads;
 pub(crate) struct WatchedLife {
     pub(crate) life: Life,
     pub(crate) subs: SubTable<KINDS>,
-}
-
-/// A unit of this configuration, started from this state.
-fn unit_from(
-    alloc: Global,
-    config: &ValidConfig,
-    base: &Persist,
-    dids: DidTable<DID_ROWS>,
-) -> Result<BoxedUnit, AllocError>
-    requires served { Serves (dids_of dids) config.now.events.items }
-    requires fits { Fits config.now base.now }
-    ensures stands { IfOk result (λ unit. Stands (start_from config.now base.now) [] (unit_in unit)) }
-    ensures start { IfOk result (λ unit. start_of (unit_in unit) ≡ start_from config.now base.now) }
-{
-    let unit = Unit::make(Dem::make(config.twin(), dids));
-    match BoxedUnit::new(alloc, unit) {
-        Ok(mut unit) => {
-            unit.boot(base);
-            Ok(unit)
-        }
-        Err(_) => Err(AllocError),
-    }
 }
 
 /// Lives on a lock over the watched machine: lane 0 makes its steps, and the lanes of each block at once, each step between the two calls
@@ -87,8 +59,7 @@ pub(crate) fn live<R: Threads + Wait + Sync, G: Gate + Sync>(
         told,
         replies,
     } = LifeRoom::for_parts(alloc, parts)?;
-    let base = initial(config);
-    let unit = unit_from(alloc, config, &base, dids)?;
+    let unit = BoxedUnit::make(alloc, config.twin(), dids)?;
     let calls = CallRoom::for_parts(parts);
     let (lock, mut main) = WatchLock::make(alloc, unit, subs, calls.machine)?;
     let mut answers = LifeAnswers {
@@ -110,7 +81,7 @@ pub(crate) fn live<R: Threads + Wait + Sync, G: Gate + Sync>(
     let WatchEnd { journal, subs } = lock.close(main);
     let boot = Boot::Started {
         generation: 0,
-        start: base,
+        start: initial(config),
     };
     let life = life_of(boot, journal, Vec::new(alloc), own, told, replies);
     Ok(WatchedLife { life, subs })

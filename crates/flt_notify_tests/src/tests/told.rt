@@ -8,8 +8,7 @@ ghost use Rattle.flt_notify.specs.Watched.{watched_unit};
 
 use arrayvec::ArrayVec;
 use flt_config::{Config, Debounce, EVENTS, EventCfg, Persist, check, initial};
-use flt_dcm::{Op, Unit};
-use flt_dem::Dem;
+use flt_dcm::Op;
 use flt_did::DidTable;
 use flt_model::{REQUEST, Report};
 use flt_notify::{KINDS, Lent, SubTable, Watched, note_0, note_1, note_2};
@@ -113,10 +112,7 @@ fn values_after(alloc: Global, calls: &[Call]) -> Option<[Option<u64>; 3]> {
     if !dids.serves(&config.config().events) {
         return None;
     }
-    let unit = Unit::make(Dem::make(config, dids));
-    let Ok(unit) = BoxedUnit::new(alloc, unit) else {
-        return None;
-    };
+    let unit = BoxedUnit::make(alloc, config, dids).ok()?;
     let mut subs: SubTable<KINDS> = SubTable::new();
     subs.add(0, note_0).ok()?;
     subs.add(1, note_1).ok()?;

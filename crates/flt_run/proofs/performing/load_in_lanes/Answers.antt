@@ -10,8 +10,8 @@ use Rattle.flt_run.proofs.Comes.{lived}
 use Rattle.flt_run.proofs.Loaded.{served_load}
 use Rattle.flt_run.proofs.performing.load_in_lanes.Goals as goal
 
-pub unit_of-unit-requires : goal.unit_of-unit-requires
-unit_of-unit-requires g c = subst (λ (script : ScriptContent). Serves (dids_of c.args.dids) script.config.events.items) (sym c.in-Ok.ensures) (served_load (dids_of c.args.dids))
+pub live_in_lanes-requires-clause-served : goal.live_in_lanes-requires-clause-served
+live_in_lanes-requires-clause-served g c = λ _ _. subst (λ (script : ScriptContent). Serves (dids_of c.args.dids) script.config.events.items) (sym c.in-Ok.ensures) (served_load (dids_of c.args.dids))
 
 pub returns-in-Ok : goal.returns-in-Ok
 returns-in-Ok g c = λ dids left faults.

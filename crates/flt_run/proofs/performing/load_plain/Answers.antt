@@ -10,8 +10,8 @@ use Rattle.flt_run.proofs.Comes.{lived}
 use Rattle.flt_run.proofs.Loaded.{served_load, alone_lives}
 use Rattle.flt_run.proofs.performing.load_plain.Goals as goal
 
-pub unit_of-unit-requires : goal.unit_of-unit-requires
-unit_of-unit-requires g c = subst (λ (script : ScriptContent). Serves (dids_of c.args.dids) script.config.events.items) (sym c.in-Ok.ensures) (served_load (dids_of c.args.dids))
+pub live_alone-requires-clause-served : goal.live_alone-requires-clause-served
+live_alone-requires-clause-served g c = subst (λ (script : ScriptContent). Serves (dids_of c.args.dids) script.config.events.items) (sym c.in-Ok.ensures) (served_load (dids_of c.args.dids))
 
 pub live_alone-requires-clause-alone : goal.live_alone-requires-clause-alone
 live_alone-requires-clause-alone g c = alone_lives c.args.count c.in-Ok.script.lives.items (ap (λ (script : ScriptContent). script.lives) c.in-Ok.ensures)

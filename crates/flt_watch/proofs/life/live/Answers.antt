@@ -7,7 +7,7 @@ use Rattle.flt_turn.specs.Journal.{ops_of}
 use Rattle.flt_script.specs.Part.{parts_of}
 use Rattle.flt_life.specs.declared.life.Boot.TheVariants as boots
 use Rattle.flt_life.specs.Answers.{Told}
-use Rattle.flt_life.specs.Chain.{LifeView, start_from}
+use Rattle.flt_life.specs.Chain.{LifeView}
 use Rattle.flt_life.specs.Lives.{lanes_told, own_told}
 use Rattle.flt_life.specs.Played.{IsMade, StepMakes}
 use Rattle.flt_life.specs.Room.{told_in}
@@ -19,7 +19,7 @@ use Rattle.flt_watch.specs.Watched.{IsWatched}
 use Rattle.flt_watch.proofs.life.live.Goals as goal
 
 pub returns-clause-boot : goal.returns-clause-boot
-returns-clause-boot g c = ap (λ (view : LifeView). view.boot) (c.life_of-life.ensures (parts_of c.args.parts.now)) ∙ ap (λ s. boots.Started 0 s) c.initial-base.ensures.value
+returns-clause-boot g c = ap (λ (view : LifeView). view.boot) (c.life_of-life.ensures (parts_of c.args.parts.now)) ∙ ap (λ s. boots.Started 0 s) c.initial.ensures.value
 
 pub returns-clause-life : goal.returns-clause-life
 returns-clause-life g c =
@@ -34,7 +34,7 @@ returns-clause-life g c =
     let replies = c.life_of-life.result.replies.items in
     let view = c.life_of-life.ensures parts in
     let lived = c.in_ok-run_parts.ensures.lived in
-    let begins : main.start ≡ fresh config = ap (λ (s : Seat). s.start) c.in_ok-lock.ensures.ok ∙ c.in_ok-unit.ensures.start ∙ ap (λ s. start_from config s) c.initial-base.ensures.value in
+    let begins : main.start ≡ fresh config = ap (λ (s : Seat). s.start) c.in_ok-lock.ensures.ok ∙ (λ i. record { config = c.in_ok-unit.ensures.config i; base = c.in_ok-unit.ensures.stands.base i }) ∙ ap fresh c.twin.ensures in
     let whole = closed after journal c.close-journal.ensures.seen c.close-journal.ensures.olds c.close-journal.ensures.calls in
     let made = made_of reply_after StepMakes main after parts own lanes journal (fresh_of main _ _ _ c.in_ok-lock.ensures.ok) lived whole in
     let started = subst (λ (s : Start). IsMade StepMakes reply_after s parts own lanes journal) begins made in
