@@ -12,13 +12,13 @@ use Rattle.flt_queue.specs.declared.job.QueueOp.TheVariants as ops
 use Rattle.flt_queue.specs.Queue.{History, is_of}
 use Rattle.flt_turn.specs.declared.vault.Entry.{Entry}
 use Rattle.flt_turn.specs.Journal.{ops_of}
-use Rattle.flt_script.specs.declared.step.Step.{Step}
-use Rattle.flt_script.specs.declared.step.Step.TheVariants as steps
-use Rattle.flt_life.specs.Actions.{IsQueueCall}
+use Rattle.flt_life.specs.Actions.{IsQueueCall, action_of}
 use Rattle.flt_life.specs.Answers.{Told}
 use Rattle.flt_life.specs.Applications.{AreGot, Choose, GetsBy, HoldApplications, IsBytesOf, MayHold, done_count, is_done, job_behind, jobs_told, last_taken, up_to_done}
 use Rattle.flt_life.specs.Ordered.{Deed}
+use Rattle.flt_life.specs.declared.action.Action.{Action}
 use Rattle.flt_life.specs.declared.answer.StepAnswer.TheVariants as answers
+use Rattle.flt_life.proofs.Reading.{gets_also}
 use Rattle.flt_lane.specs.Living.{AreHeld, answers_of, drain_call, drains_in}
 
 -- ---- how many calls of drains there are
@@ -104,31 +104,9 @@ last_beside block (ops.Ask asked) past is = refl
 
 module _ (first : ℕ → Content) where
   -- Behind one call more.
-  gets_more : (op : QueueOp) (past : History) (earlier : List Deed) (step : Step) (told : Told) → jobs_told (answers_of earlier) ≤ done_count past → GetsBy first past earlier step told → GetsBy first (op ∷ past) earlier step told
-  gets_more op past earlier (steps.Get block) (answers.Bytes found) few gets =
-      subst (λ l. MayHold block (first (application_number block)) l (holding found.items)) (sym (up_to_fewer (jobs_told (answers_of earlier)) op past few)) gets
-  gets_more op past earlier (steps.Get block) answers.NoBlock few gets =
-      subst (λ l. MayHold block (first (application_number block)) l missing) (sym (up_to_fewer (jobs_told (answers_of earlier)) op past few)) gets
-  gets_more op past earlier (steps.Get block) (answers.Dem reply) few gets = tt
-  gets_more op past earlier (steps.Get block) (answers.Saved number) few gets = tt
-  gets_more op past earlier (steps.Get block) (answers.SaveFailed fault) few gets = tt
-  gets_more op past earlier (steps.Get block) (answers.Queue reply) few gets = tt
-  gets_more op past earlier (steps.Get block) (answers.Drained written failed) few gets = tt
-  gets_more op past earlier (steps.Get block) answers.BlockFlash few gets = tt
-  gets_more op past earlier (steps.Get block) answers.Armed few gets = tt
-  gets_more op past earlier (steps.Get block) answers.Dark few gets = tt
-  gets_more op past earlier (steps.Report event report) told few gets = tt
-  gets_more op past earlier (steps.Show event) told few gets = tt
-  gets_more op past earlier (steps.Cycle cycle) told few gets = tt
-  gets_more op past earlier (steps.Tick ticks) told few gets = tt
-  gets_more op past earlier (steps.Signal index value) told few gets = tt
-  gets_more op past earlier (steps.Enable condition fulfilled) told few gets = tt
-  gets_more op past earlier (steps.Request tester bytes) told few gets = tt
-  gets_more op past earlier steps.Save told few gets = tt
-  gets_more op past earlier (steps.Post urgent block bytes) told few gets = tt
-  gets_more op past earlier steps.Drain told few gets = tt
-  gets_more op past earlier (steps.Ask block) told few gets = tt
-  gets_more op past earlier (steps.Arming arm) told few gets = tt
+  gets_more : (op : QueueOp) (past : History) (earlier : List Deed) (does : Action) (told : Told) → jobs_told (answers_of earlier) ≤ done_count past → GetsBy first past earlier does told → GetsBy first (op ∷ past) earlier does told
+  gets_more op past earlier does told few = gets_also first first past (op ∷ past) earlier does told
+      (λ block found is. subst (λ l. MayHold block (first (application_number block)) l found) (sym (up_to_fewer (jobs_told (answers_of earlier)) op past few)))
 
   told_more : (told : Told) (earlier : List Told) → jobs_told earlier ≤ jobs_told (told ∷ earlier)
   told_more (answers.Dem reply) earlier = omega arith
@@ -147,7 +125,7 @@ module _ (first : ℕ → Content) where
   got_more op past (deed ∷ earlier) few got =
       let more = told_more deed.1 (answers_of earlier) in
       let fewer : jobs_told (answers_of earlier) ≤ done_count past = omega (arith, more, few) in
-      (gets_more op past earlier deed.0 deed.1 fewer got.0, got_more op past earlier fewer got.1)
+      (gets_more op past earlier (action_of deed.0) deed.1 fewer got.0, got_more op past earlier fewer got.1)
 
 -- ---- all of it
 

@@ -19,6 +19,7 @@ use Rattle.flt_turn.specs.declared.vault.Entry.{Entry}
 use Rattle.flt_turn.specs.Journal.{ops_of}
 use Rattle.flt_turn.specs.Seats.{Seated}
 use Rattle.flt_script.specs.declared.step.Step.TheVariants as steps
+use Rattle.flt_life.specs.Actions.{action_of}
 use Rattle.flt_life.specs.Applications.{GetsBy, HoldApplications, MayHold, jobs_told, up_to_done}
 use Rattle.flt_life.specs.Ordered.{Deed}
 use Rattle.flt_life.specs.declared.answer.StepAnswer.TheVariants as answers
@@ -116,7 +117,7 @@ module _ {B : Type 0} {b : Ghosts B} (c : Config) where
 
 module _ (first : ℕ → Content) (seat : QueueSeat) (earlier : List Deed) (deed : Deed) (values now : ℕ → Content) (same : SameApplications values now) (no_drain : drains_by deed.1 ≡ 0)
     (no_job : jobs_told (deed.1 ∷ answers_of earlier) ≡ jobs_told (answers_of earlier))
-    (gets : (past : History) → AreHeld first past (jobs_told (answers_of earlier)) earlier values → GetsBy first past earlier deed.0 deed.1) where
+    (gets : (past : History) → AreHeld first past (jobs_told (answers_of earlier)) earlier values → GetsBy first past earlier (action_of deed.0) deed.1) where
   deed_held : (past : History) → AreHeld first past (jobs_told (answers_of earlier)) earlier values → AreHeld first past (jobs_told (answers_of (deed ∷ earlier))) (deed ∷ earlier) now
   deed_held past held =
       let jobs = jobs_told (answers_of earlier) in

@@ -13,6 +13,7 @@ pub mod Drains
 pub mod Takes
 pub mod Carrying
 pub mod OffStore
+pub mod Answering
 pub mod DrainEnds
 pub mod LaneDeeds
 pub mod Storing

@@ -31,10 +31,11 @@ use Rattle.flt_lane.specs.declared.locks.Locks.{Locks}
 use Rattle.flt_lane.specs.declared.room.PartRoom.{PartRoom}
 use Rattle.flt_fork.specs.Runs.{HasRunBlock, MakesBy}
 use Rattle.flt_lane.specs.Block.{HasRunPart, HasRunParts, Gains}
-use Rattle.flt_lane.specs.BlockRun.{GainsPart, HasRunLanes, StepsOne}
+use Rattle.flt_lane.specs.BlockRun.{GainsPart, HasRunLanes}
 use Rattle.flt_fork.specs.Lived.{IsMain, HasLived}
 use Rattle.flt_lane.specs.Living.{Carries}
 use Rattle.flt_lane.specs.Room.{part_in}
+use Rattle.flt_lane.specs.Stepped.{TakesStep}
 use Rattle.flt_lane.specs.Runs.{QueueSeat, calls_by, queued_by}
 use Rattle.flt_lane.proofs.LaneDeeds.{all_lanes_count, all_own_count, deeds_more, deeds_of_block, lanes_told_count, newest_of_one}
 use Rattle.flt_fork.proofs.Parts.{chain_part, lived_none, lived_more}
@@ -83,18 +84,18 @@ QueueParts = HasRunParts queued.reply_after StepQueues
 -- ---- a part on both
 
 module _ {B : Type 0} {b : Ghosts B} (c : Config) (main after : Seat) (jobs jobs_after : QueueSeat) (store now : Store B b) where
-  pub gains_one : (step : Step) (own own_after : List Told) (lanes : List (List Told)) → IsMain main → IsMain jobs → StepsOne c main after jobs jobs_after step own own_after store now
-      → GainsPart c main after jobs jobs_after (inl step) own own_after lanes lanes store now
+  pub gains_one : (step : Step) (own own_after : LaneReplies) (lanes : List (List Told)) → IsMain main → IsMain jobs → TakesStep c main after jobs jobs_after step own own_after store now
+      → GainsPart c main after jobs jobs_after (inl step) (told_in own) (told_in own_after) lanes lanes store now
   gains_one step own own_after lanes is is_queue one = record {
-    mine = one.answer ∷ [];
+    mine = one.made.answer ∷ [];
     others = [];
     gains = record {
-      own_are = one.stepped.own_are;
+      own_are = one.made.keeps.told;
       lanes_are = sym (append-nil lanes);
-      dem = part_one MayBeAsked reply_after StepMakes calls_by main after step one.answer is one.stepped.dem;
-      queue = part_one queue.IsAdmitted queued.reply_after StepQueues queued_by jobs jobs_after step one.answer is_queue one.stepped.queue;
+      dem = part_one MayBeAsked reply_after StepMakes calls_by main after step one.made.answer is one.made.dem;
+      queue = part_one queue.IsAdmitted queued.reply_after StepQueues queued_by jobs jobs_after step one.made.answer is_queue one.made.queue;
     };
-    carries = λ earlier. subst (λ l. Carries c main after jobs jobs_after earlier l store now) (sym (newest_of_one step one.answer [] earlier)) (one.carries earlier);
+    carries = λ earlier. subst (λ l. Carries c main after jobs jobs_after earlier l store now) (sym (newest_of_one step one.made.answer [] earlier)) (one.carries earlier);
   }
 
   pub gains_block : (lanes : List (List Step)) (own : List Told) (told told_after : List (List Told)) → HasRunLanes c main after jobs jobs_after lanes told told_after store now

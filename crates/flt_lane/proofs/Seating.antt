@@ -59,7 +59,7 @@ module _ {F : _} {g : _} (locks : Locks F g) (before : Seats) (room : LaneRoom) 
   room_for = All-head IsLaneRoom room later can.ready
 
   pub seated : (after : Seats) (work : LaneWork) → after.dem ≡ split_off (calls_of room.steps.now) before.dem → after.queue ≡ split_off (queued_of room.steps.now) before.queue
-      → work.seat ≡ split_seat (calls_of room.steps.now) before.dem → work.queue_seat ≡ split_seat (queued_of room.steps.now) before.queue → work.number ≡ work.seat.number → work.steps ≡ room.steps
+      → work.seats.dem ≡ split_seat (calls_of room.steps.now) before.dem → work.seats.queue ≡ split_seat (queued_of room.steps.now) before.queue → work.number ≡ work.seats.dem.number → work.steps ≡ room.steps
       → work.replies ≡ room.replies → IsSeated locks before room after work
   seated after work dem_off queue_off dem queue number steps_are replies_are =
       let start = ap (λ (s : Seat). s.start.config) dem in
@@ -82,8 +82,8 @@ module _ {F : _} {g : _} (locks : Locks F g) (before : Seats) (room : LaneRoom) 
         };
         steps_are = steps;
         no_answers = ap told_in replies_are ∙ none_told room.replies room_for.empty;
-        dem = splits_with before.dem after.dem work.seat (calls_of room.steps.now) (calls_of work.steps.now) calls calls_for dem_off dem;
-        queue = splits_with before.queue after.queue work.queue_seat (queued_of room.steps.now) (queued_of work.steps.now) queued queued_for queue_off queue;
+        dem = splits_with before.dem after.dem work.seats.dem (calls_of room.steps.now) (calls_of work.steps.now) calls calls_for dem_off dem;
+        queue = splits_with before.queue after.queue work.seats.queue (queued_of room.steps.now) (queued_of work.steps.now) queued queued_for queue_off queue;
       }
 
   -- The later lanes may have their seats behind it.
@@ -91,8 +91,8 @@ module _ {F : _} {g : _} (locks : Locks F g) (before : Seats) (room : LaneRoom) 
   seats_on after work is =
       let start = ap (λ (s : Seat). s.start.config) is.dem.after_is in
       record {
-        dem = splits_on locks.dem.turn before.dem after.dem work.seat (calls_of work.steps.now) (length later) _ (all_calls (steps_of later)) _ is.dem (omega arith) (all_of_first calls_of room later work.steps.now is.steps_are) can.dem;
-        queue = splits_on locks.queue.turn before.queue after.queue work.queue_seat (queued_of work.steps.now) (length later) _ (all_queued (steps_of later)) _ is.queue (omega arith) (all_of_first queued_of room later work.steps.now is.steps_are) can.queue;
+        dem = splits_on locks.dem.turn before.dem after.dem work.seats.dem (calls_of work.steps.now) (length later) _ (all_calls (steps_of later)) _ is.dem (omega arith) (all_of_first calls_of room later work.steps.now is.steps_are) can.dem;
+        queue = splits_on locks.queue.turn before.queue after.queue work.seats.queue (queued_of work.steps.now) (length later) _ (all_queued (steps_of later)) _ is.queue (omega arith) (all_of_first queued_of room later work.steps.now is.steps_are) can.queue;
         config = start ∙ can.config;
         blocks = ap (λ (s : QueueSeat). s.start) is.queue.after_is ∙ can.blocks ∙ sym (ap (λ (s : Seat). s.start.config.blocks) is.dem.after_is);
         ready = All-tail IsLaneRoom room later can.ready;
@@ -103,8 +103,8 @@ module _ {F : _} {g : _} (locks : Locks F g) where
   -- The later lanes may give theirs back behind it.
   pub joins_later : (before : Seats) (work : LaneWork) (later : List LaneWork) (after : Seats) (replies : LaneReplies) → IsJoined before work after replies → CanJoin locks before (work ∷ later) → CanJoin locks after later
   joins_later before work later after replies is can = record {
-    dem = joins_on locks.dem.turn before.dem after.dem work.seat is.dem can.dem;
-    queue = joins_on locks.queue.turn before.queue after.queue work.queue_seat is.queue can.queue;
+    dem = joins_on locks.dem.turn before.dem after.dem work.seats.dem is.dem can.dem;
+    queue = joins_on locks.queue.turn before.queue after.queue work.seats.queue is.queue can.queue;
     config = ap (λ (s : Seat). s.start.config) is.dem ∙ can.config;
     seats = All-tail (AreSeatsOf locks) work later can.seats;
   }
@@ -118,18 +118,18 @@ module _ {F : _} {g : _} (locks : Locks F g) where
         ready = passed_each passes (IsPrepared locks) (λ before room after work is. is.ready) main rooms off works are;
         steps_are = steps;
         no_answers = passed_each passes (λ (w : LaneWork). told_in w.replies ≡ []) (λ before room after work is. is.no_answers) main rooms off works are;
-        dem = split_seats passes (λ (s : Seats). s.dem) (λ (w : LaneWork). w.seat) (λ (w : LaneWork). w.steps.now) calls_of (λ before room after work is. is.dem) main rooms off works are;
-        queue = split_seats passes (λ (s : Seats). s.queue) (λ (w : LaneWork). w.queue_seat) (λ (w : LaneWork). w.steps.now) queued_of (λ before room after work is. is.queue) main rooms off works are;
+        dem = split_seats passes (λ (s : Seats). s.dem) (λ (w : LaneWork). w.seats.dem) (λ (w : LaneWork). w.steps.now) calls_of (λ before room after work is. is.dem) main rooms off works are;
+        queue = split_seats passes (λ (s : Seats). s.queue) (λ (w : LaneWork). w.seats.queue) (λ (w : LaneWork). w.steps.now) queued_of (λ before room after work is. is.queue) main rooms off works are;
         dem_off = subst (λ l. IsSplitOff main.dem off.dem (length works) (all_calls l)) steps
-            (split_main passes (λ (s : Seats). s.dem) (λ (w : LaneWork). w.seat) (λ (w : LaneWork). w.steps.now) calls_of (λ before room after work is. is.dem) main rooms off works are);
+            (split_main passes (λ (s : Seats). s.dem) (λ (w : LaneWork). w.seats.dem) (λ (w : LaneWork). w.steps.now) calls_of (λ before room after work is. is.dem) main rooms off works are);
         queue_off = subst (λ l. IsSplitOff main.queue off.queue (length works) (all_queued l)) steps
-            (split_main passes (λ (s : Seats). s.queue) (λ (w : LaneWork). w.queue_seat) (λ (w : LaneWork). w.steps.now) queued_of (λ before room after work is. is.queue) main rooms off works are);
+            (split_main passes (λ (s : Seats). s.queue) (λ (w : LaneWork). w.seats.queue) (λ (w : LaneWork). w.steps.now) queued_of (λ before room after work is. is.queue) main rooms off works are);
       }
 
 pub have_joined : (off : Seats) (works : List LaneWork) (after : Seats) (before told : List LaneReplies) → (more : List LaneReplies) × (told ≡ before ++ more) × HavePassed IsJoined off works after more
     → HaveJoined off after works (map told_in before) (map told_in told)
 have_joined off works after before told passed = record {
   told_are = passed_behind IsJoined (λ (w : LaneWork). told_in w.replies) told_in (λ before work after replies is. ap told_in is.replies_are) off works after before told passed.0 passed.1 passed.2;
-  dem = joined_seats IsJoined (λ (s : Seats). s.dem) (λ (w : LaneWork). w.seat) (λ before work after replies is. is.dem) off works after passed.0 passed.2;
-  queue = joined_seats IsJoined (λ (s : Seats). s.queue) (λ (w : LaneWork). w.queue_seat) (λ before work after replies is. is.queue) off works after passed.0 passed.2;
+  dem = joined_seats IsJoined (λ (s : Seats). s.dem) (λ (w : LaneWork). w.seats.dem) (λ before work after replies is. is.dem) off works after passed.0 passed.2;
+  queue = joined_seats IsJoined (λ (s : Seats). s.queue) (λ (w : LaneWork). w.seats.queue) (λ before work after replies is. is.queue) off works after passed.0 passed.2;
 }

@@ -1,6 +1,7 @@
 -- What one step makes of its seats.
-use Rattle.std.proofs.Common.{◌≡◌, ℕ, ◌≤◌, ◌<◌, Bool, true, false, List, [], ◌∷◌, ◌++◌, length, arith, refl, sym, ap, subst, ◌∙◌}
-use Rattle.std.proofs.lemmas.Bool.{true≢false, false≢true}
+use Rattle.std.proofs.Common.{◌≡◌, ℕ, ◌≤◌, ◌<◌, Bool, true, false, List, [], ◌∷◌, ◌++◌, Option, Some, None, length, arith, refl, sym, ap, subst, ◌∙◌}
+use Rattle.std.specs.Prelude.{IfSome}
+use Rattle.std.proofs.lemmas.Bool.{false≢true}
 use Rattle.std.proofs.lemmas.List.{append-nil}
 use Rattle.flt_flash.specs.declared.arm.Arm.{Arm}
 use Rattle.flt_config.specs.declared.config.Config.{Config}
@@ -30,16 +31,16 @@ use Rattle.flt_flash.specs.declared.blocks.Blocks.{Ghosts}
 use Rattle.flt_turn.specs.declared.answer.Answer.{Answer}
 use Rattle.flt_shared.specs.Call.{Seat, IsCall, MayBeAsked, reply_after}
 use Rattle.flt_life.specs.Actions.{action_of, arms_of, call_count, queue_count, response_size}
+use Rattle.flt_life.specs.declared.action.Action.{Action}
 use Rattle.flt_life.specs.Answers.{Told, reply_size}
 use Rattle.flt_life.specs.Draining.{calls_for_all, take_at}
-use Rattle.flt_life.specs.Parts.{IsPossibleInLane}
 use Rattle.flt_life.specs.Played.{ActionMakes, ActionQueues, StepMakes, StepQueues}
 use Rattle.flt_life.specs.declared.action.Action.TheVariants as action
 use Rattle.flt_life.proofs.Responses.{answer_size, size_most}
 use Rattle.flt_life.specs.declared.answer.StepAnswer.TheVariants as answers
 use Rattle.flt_fork.specs.Chain.{Chain}
 use Rattle.flt_lane.specs.Draining.{FindsNone, HasDrained}
-use Rattle.flt_lane.specs.Runs.{Makes, Queues, QueueSeat, calls_by}
+use Rattle.flt_lane.specs.Runs.{Makes, Queues, QueueSeat}
 use Rattle.flt_fork.proofs.Chains.{chain_fact, chain_more, chain_of_one}
 
 -- ---- calls of the status machine
@@ -144,92 +145,3 @@ module _ {B : Type 0} {b : Ghosts B} (c : Config) where
         chain = chain_more queue.IsAdmitted queued.reply_after before (calls_for_all drained.jobs) mid (last ∷ []) after drained.chain none.chain;
         left = let left = drained.left in let one = fact.left_is in omega (arith, left, one, few);
       }
-
--- A step that calls the status machine makes no call of the queue.
-pub no_queue : (c : Config) (step : Step) (told : Told) → IsPossibleInLane c step → is_store_step step ≡ false → ((urgent : Bool) (block : ℕ) (bytes : _) → step ≡ steps.Post urgent block bytes → ⊥) → ((block : ℕ) → step ≡ steps.Ask block → ⊥)
-    → StepQueues step told []
-no_queue c (steps.Report event report) told is none post ask = refl
-no_queue c (steps.Show event) told is none post ask = refl
-no_queue c (steps.Cycle cycle) told is none post ask = refl
-no_queue c (steps.Tick ticks) told is none post ask = refl
-no_queue c (steps.Signal index value) told is none post ask = refl
-no_queue c (steps.Enable condition fulfilled) told is none post ask = refl
-no_queue c (steps.Request tester bytes) told is none post ask = refl
-no_queue c steps.Save told is none post ask = absurd (true≢false none)
-no_queue c (steps.Post urgent block bytes) told is none post ask = absurd (post urgent block bytes refl)
-no_queue c steps.Drain told is none post ask = absurd (true≢false none)
-no_queue c (steps.Get block) told is none post ask = absurd (true≢false none)
-no_queue c (steps.Ask block) told is none post ask = absurd (ask block refl)
-no_queue c (steps.Arming arm) told is none post ask = absurd (false≢true is.0)
-
--- ---- the kinds of steps
-
--- A step that makes one call of the status machine.
-pub record IsCallStep (step : Step) : Type 0 where
-  pub lane : is_lane_step step ≡ true
-  pub no_store : is_store_step step ≡ false
-  pub one : (op : Op) × (action_of step ≡ action.Call op)
-  pub calls : calls_by step ≡ 1
-  pub no_queue : (told : Told) → StepQueues step told []
-  pub no_arms : arms_of (action_of step) ≡ []
-
--- It is one that is none of these.
-pub call_step : (step : Step) → (step ≡ steps.Save → ⊥) → (step ≡ steps.Drain → ⊥) → ((block : ℕ) → step ≡ steps.Get block → ⊥) → ((arm : Arm) → step ≡ steps.Arming arm → ⊥)
-    → ((urgent : Bool) (block : ℕ) (bytes : _) → step ≡ steps.Post urgent block bytes → ⊥) → ((block : ℕ) → step ≡ steps.Ask block → ⊥) → IsCallStep step
-call_step (steps.Report event report) save drain get arming post ask = record { lane = refl; no_store = refl; one = (_, refl); calls = refl; no_queue = λ told. refl; no_arms = refl }
-call_step (steps.Show event) save drain get arming post ask = record { lane = refl; no_store = refl; one = (_, refl); calls = refl; no_queue = λ told. refl; no_arms = refl }
-call_step (steps.Cycle cycle) save drain get arming post ask = record { lane = refl; no_store = refl; one = (_, refl); calls = refl; no_queue = λ told. refl; no_arms = refl }
-call_step (steps.Tick ticks) save drain get arming post ask = record { lane = refl; no_store = refl; one = (_, refl); calls = refl; no_queue = λ told. refl; no_arms = refl }
-call_step (steps.Signal index value) save drain get arming post ask = record { lane = refl; no_store = refl; one = (_, refl); calls = refl; no_queue = λ told. refl; no_arms = refl }
-call_step (steps.Enable condition fulfilled) save drain get arming post ask = record { lane = refl; no_store = refl; one = (_, refl); calls = refl; no_queue = λ told. refl; no_arms = refl }
-call_step (steps.Request tester bytes) save drain get arming post ask = record { lane = refl; no_store = refl; one = (_, refl); calls = refl; no_queue = λ told. refl; no_arms = refl }
-call_step steps.Save save drain get arming post ask = absurd (save refl)
-call_step (steps.Post urgent block bytes) save drain get arming post ask = absurd (post urgent block bytes refl)
-call_step steps.Drain save drain get arming post ask = absurd (drain refl)
-call_step (steps.Get block) save drain get arming post ask = absurd (get block refl)
-call_step (steps.Ask block) save drain get arming post ask = absurd (ask block refl)
-call_step (steps.Arming arm) save drain get arming post ask = absurd (arming arm refl)
-
--- A step that makes one call of the queue.
-pub record IsQueueStep (step : Step) : Type 0 where
-  pub no_store : is_store_step step ≡ false
-  pub no_calls : (told : Told) → StepMakes step told []
-  pub no_arms : arms_of (action_of step) ≡ []
-
-pub post_step : (urgent : Bool) (block : ℕ) (bytes : _) → IsQueueStep (steps.Post urgent block bytes)
-post_step urgent block bytes = record { no_store = refl; no_calls = λ told. refl; no_arms = refl }
-
-pub ask_step : (block : ℕ) → IsQueueStep (steps.Ask block)
-ask_step block = record { no_store = refl; no_calls = λ told. refl; no_arms = refl }
-
--- A step that is no save, drain or read touches no store.
-pub no_store_step : (step : Step) → (step ≡ steps.Save → ⊥) → (step ≡ steps.Drain → ⊥) → ((block : ℕ) → step ≡ steps.Get block → ⊥) → is_store_step step ≡ false
-no_store_step (steps.Report event report) save drain get = refl
-no_store_step (steps.Show event) save drain get = refl
-no_store_step (steps.Cycle cycle) save drain get = refl
-no_store_step (steps.Tick ticks) save drain get = refl
-no_store_step (steps.Signal index value) save drain get = refl
-no_store_step (steps.Enable condition fulfilled) save drain get = refl
-no_store_step (steps.Request tester bytes) save drain get = refl
-no_store_step steps.Save save drain get = absurd (save refl)
-no_store_step (steps.Post urgent block bytes) save drain get = refl
-no_store_step steps.Drain save drain get = absurd (drain refl)
-no_store_step (steps.Get block) save drain get = absurd (get block refl)
-no_store_step (steps.Ask block) save drain get = refl
-no_store_step (steps.Arming arm) save drain get = refl
-
--- And one that is no arming makes no arm.
-pub no_arms : (step : Step) → ((arm : Arm) → step ≡ steps.Arming arm → ⊥) → arms_of (action_of step) ≡ []
-no_arms (steps.Report event report) arming = refl
-no_arms (steps.Show event) arming = refl
-no_arms (steps.Cycle cycle) arming = refl
-no_arms (steps.Tick ticks) arming = refl
-no_arms (steps.Signal index value) arming = refl
-no_arms (steps.Enable condition fulfilled) arming = refl
-no_arms (steps.Request tester bytes) arming = refl
-no_arms steps.Save arming = refl
-no_arms (steps.Post urgent block bytes) arming = refl
-no_arms steps.Drain arming = refl
-no_arms (steps.Get block) arming = refl
-no_arms (steps.Ask block) arming = refl
-no_arms (steps.Arming arm) arming = absurd (arming arm refl)

@@ -60,8 +60,8 @@ pub record IsFrom {S O : Type 0} (main seat : Seated S O) : Type 0 where
 
 -- Of each lane.
 pub record IsWorkFrom (main : Seat) (jobs : QueueSeat) (work : LaneWork) : Type 0 where
-  pub dem : IsFrom main work.seat
-  pub queue : IsFrom jobs work.queue_seat
+  pub dem : IsFrom main work.seats.dem
+  pub queue : IsFrom jobs work.seats.queue
   pub no_answers : told_in work.replies ≡ []
 
 split_from : {S O : Type 0} (main seat : Seated S O) (number calls : ℕ) → IsSplitSeat main number calls seat → IsFrom main seat
@@ -69,8 +69,8 @@ split_from main seat number calls is = record { start = is.start_is; seen = is.s
 
 all_from : {F : _} {g : _} (locks : Locks F g) (main off : Seats) (lanes : List (List Step)) (works : List LaneWork) → AreSeated locks main off lanes works → All (IsWorkFrom main.dem main.queue) works
 all_from locks main off lanes works seated = λ k d within. record {
-  dem = split_each (λ (w : LaneWork). w.seat) (λ w. calls_of w.steps.now) main.dem (λ w. IsFrom main.dem w.seat) (λ number w is. split_from main.dem w.seat number _ is) _ works seated.dem k d within;
-  queue = split_each (λ (w : LaneWork). w.queue_seat) (λ w. queued_of w.steps.now) main.queue (λ w. IsFrom main.queue w.queue_seat) (λ number w is. split_from main.queue w.queue_seat number _ is) _ works seated.queue k d within;
+  dem = split_each (λ (w : LaneWork). w.seats.dem) (λ w. calls_of w.steps.now) main.dem (λ w. IsFrom main.dem w.seats.dem) (λ number w is. split_from main.dem w.seats.dem number _ is) _ works seated.dem k d within;
+  queue = split_each (λ (w : LaneWork). w.seats.queue) (λ w. queued_of w.steps.now) main.queue (λ w. IsFrom main.queue w.seats.queue) (λ number w is. split_from main.queue w.seats.queue number _ is) _ works seated.queue k d within;
   no_answers = seated.no_answers k d within;
 }
 
@@ -100,7 +100,7 @@ default_of (w ∷ works) k within = w
 
 module _ {B : Type 0} {b : Ghosts B} (c : Config) (main off after : Seat) (jobs jobs_off jobs_after : QueueSeat) (lanes : List (List Step)) (works ran : List LaneWork) (store now : Store B b) (seats calls job_calls : ℕ)
     (is_off : IsSplitOff main off seats calls) (is_job_off : IsSplitOff jobs jobs_off seats job_calls) (lanes_are : map (λ (w : LaneWork). w.steps.now) works ≡ lanes) (from : All (IsWorkFrom main jobs) works)
-    (joined : AreJoined off after (map (λ (w : LaneWork). w.seat) ran)) (jobs_joined : AreJoined jobs_off jobs_after (map (λ (w : LaneWork). w.queue_seat) ran)) (earlier : List Deed) where
+    (joined : AreJoined off after (map (λ (w : LaneWork). w.seats.dem) ran)) (jobs_joined : AreJoined jobs_off jobs_after (map (λ (w : LaneWork). w.seats.queue) ran)) (earlier : List Deed) where
   -- The steps of a lane.
   steps_at : (k : ℕ) (d : LaneWork) (e : List Step) → k < length works → get_or lanes k e ≡ (get_or works k d).steps.now
   steps_at k d e within = ap (λ l. get_or l k e) (sym lanes_are) ∙ get_or-map (λ (w : LaneWork). w.steps.now) works k d e within
@@ -117,8 +117,8 @@ module _ {B : Type 0} {b : Ghosts B} (c : Config) (main off after : Seat) (jobs 
       ap has_store_step (steps_at k w d inside) ∙ no_store k w inside)) in
       subst (λ s. Carries c main after jobs jobs_after earlier (reverse (block_deeds lanes (map (λ (w : LaneWork). told_in w.replies) ran)) ++ earlier) store s) (sym same)
       (subst (λ l. Carries c main after jobs jobs_after earlier (reverse l ++ earlier) store store) (sym deeds)
-      (carries_beside c main after jobs jobs_after earlier store (knows_main main off after seats calls is_off (map (λ (w : LaneWork). w.seat) ran) joined)
-      (knows_main jobs jobs_off jobs_after seats job_calls is_job_off (map (λ (w : LaneWork). w.queue_seat) ran) jobs_joined)))
+      (carries_beside c main after jobs jobs_after earlier store (knows_main main off after seats calls is_off (map (λ (w : LaneWork). w.seats.dem) ran) joined)
+      (knows_main jobs jobs_off jobs_after seats job_calls is_job_off (map (λ (w : LaneWork). w.seats.queue) ran) jobs_joined)))
 
   carries_one : (place : ℕ) → StoresAt place works → RunsStore c place works ran store now → Carries c main after jobs jobs_after earlier (reverse (block_deeds lanes (map (λ (w : LaneWork). told_in w.replies) ran)) ++ earlier) store now
   carries_one place stores runs =
@@ -132,8 +132,8 @@ module _ {B : Type 0} {b : Ghosts B} (c : Config) (main off after : Seat) (jobs 
       let count = lanes_count in
       let dem = one.ran.dem in
       let jobs_ran = one.ran.queue in
-      let olds : last.seat.olds ≡ main.olds = (chain_fact MayBeAsked reply_after before.seat dem.calls last.seat dem.chain).olds_are ∙ split.dem.olds in
-      let job_olds : last.queue_seat.olds ≡ jobs.olds = (chain_fact queue.IsAdmitted queued.reply_after before.queue_seat jobs_ran.calls last.queue_seat jobs_ran.chain).olds_are ∙ split.queue.olds in
+      let olds : last.seats.dem.olds ≡ main.olds = (chain_fact MayBeAsked reply_after before.seats.dem dem.calls last.seats.dem dem.chain).olds_are ∙ split.dem.olds in
+      let job_olds : last.seats.queue.olds ≡ jobs.olds = (chain_fact queue.IsAdmitted queued.reply_after before.seats.queue jobs_ran.calls last.seats.queue jobs_ran.chain).olds_are ∙ split.queue.olds in
       let told : told_in last.replies ≡ one.ran.told = one.ran.answers ∙ ap (λ l. l ++ one.ran.told) split.no_answers in
       let tolds = map (λ (w : LaneWork). told_in w.replies) ran in
       let deeds : block_deeds lanes tolds ≡ lane_deeds before.steps.now one.ran.told =
@@ -143,11 +143,11 @@ module _ {B : Type 0} {b : Ghosts B} (c : Config) (main off after : Seat) (jobs 
       let w = default_of works k here in
       ap has_store_step (steps_at k w e here) ∙ stores.others k w here apart)) in
       subst (λ l. Carries c main after jobs jobs_after earlier (reverse l ++ earlier) store now) (sym deeds)
-      (carries_between c main before.seat last.seat after jobs before.queue_seat last.queue_seat jobs_after earlier (reverse (lane_deeds before.steps.now one.ran.told) ++ earlier) store now split.dem.start
-      (knows_split main off after seats calls is_off before.seat split.dem)
-      (knows_lane main off after seats calls is_off (λ (w : LaneWork). w.seat) ran place d joined inside olds)
-      (knows_split jobs jobs_off jobs_after seats job_calls is_job_off before.queue_seat split.queue)
-      (knows_lane jobs jobs_off jobs_after seats job_calls is_job_off (λ (w : LaneWork). w.queue_seat) ran place d jobs_joined inside job_olds) (one.carries earlier))
+      (carries_between c main before.seats.dem last.seats.dem after jobs before.seats.queue last.seats.queue jobs_after earlier (reverse (lane_deeds before.steps.now one.ran.told) ++ earlier) store now split.dem.start
+      (knows_split main off after seats calls is_off before.seats.dem split.dem)
+      (knows_lane main off after seats calls is_off (λ (w : LaneWork). w.seats.dem) ran place d joined inside olds)
+      (knows_split jobs jobs_off jobs_after seats job_calls is_job_off before.seats.queue split.queue)
+      (knows_lane jobs jobs_off jobs_after seats job_calls is_job_off (λ (w : LaneWork). w.seats.queue) ran place d jobs_joined inside job_olds) (one.carries earlier))
 
   pub carries_block : AreRun c works ran store now → Carries c main after jobs jobs_after earlier (reverse (block_deeds lanes (map (λ (w : LaneWork). told_in w.replies) ran)) ++ earlier) store now
   carries_block (inl none) = carries_none none.1 none.2

@@ -1,13 +1,12 @@
 -- A lane that touches the store, after some of its steps.
 use Rattle.std.proofs.Common.{◌≡◌, ℕ, ◌<◌, ◌≤◌, ◌+◌, List, [], ◌∷◌, ◌++◌, length, take, get_or, reverse, refl, ap, subst, sym, arith, ◌∙◌}
 use Rattle.std.specs.Prelude.{IsTrue}
-use Rattle.std.proofs.lemmas.Bool.{false≢true}
 use Rattle.std.proofs.lemmas.List.{append-nil, append_assoc, append_cancel_left, take_more}
+use Rattle.flt_flash.specs.declared.arm.Arm.{Arm}
 use Rattle.flt_flash.specs.declared.blocks.Blocks.{Ghosts}
 use Rattle.flt_config.specs.declared.config.Config.{Config}
 use Rattle.flt_script.specs.Step.{is_lane_step}
 use Rattle.flt_script.specs.declared.step.Step.{Step}
-use Rattle.flt_script.specs.declared.step.Step.TheVariants as steps
 use Rattle.flt_shared.specs.Call.{MayBeAsked, reply_after}
 use Rattle.flt_store.specs.declared.store.Store.{Store}
 use Rattle.flt_store.specs.Store.{driver_of}
@@ -17,6 +16,7 @@ use Rattle.flt_life.specs.Ordered.{Deed, lane_deeds, with_deed}
 use Rattle.flt_life.specs.Played.{StepMakes}
 use Rattle.flt_life.specs.Room.{told_in}
 use Rattle.flt_life.specs.Going.{GoesOn, WereGiven}
+use Rattle.flt_life.proofs.ByAction.{no_arm, no_arms}
 use Rattle.flt_lane.specs.declared.lane.LaneWork.{LaneWork}
 use Rattle.flt_lane.specs.declared.locks.Locks.{Locks}
 use Rattle.flt_lane.specs.Living.{Carries}
@@ -35,41 +35,17 @@ module _ {B : Type 0} {b : Ghosts B} where
   pub leaves_step : (step : Step) (store now : Store B b) → IsTrue (is_lane_step step) → GoesOn (driver_of store) (driver_of now)
       → WereGiven (arms_of (action_of step)) (driver_of store).device.bench.arms (driver_of now).device.bench.arms
       → (driver_of now).device.bench.armed ≤ (driver_of store).device.bench.armed + arm_count (action_of step) → LeavesStore store now
-  leaves_step (steps.Report event report) store now is goes given armed = record { goes_on = goes; given = given; armed = omega (arith, armed) }
-  leaves_step (steps.Show event) store now is goes given armed = record { goes_on = goes; given = given; armed = omega (arith, armed) }
-  leaves_step (steps.Cycle cycle) store now is goes given armed = record { goes_on = goes; given = given; armed = omega (arith, armed) }
-  leaves_step (steps.Tick ticks) store now is goes given armed = record { goes_on = goes; given = given; armed = omega (arith, armed) }
-  leaves_step (steps.Signal index value) store now is goes given armed = record { goes_on = goes; given = given; armed = omega (arith, armed) }
-  leaves_step (steps.Enable condition fulfilled) store now is goes given armed = record { goes_on = goes; given = given; armed = omega (arith, armed) }
-  leaves_step (steps.Request tester bytes) store now is goes given armed = record { goes_on = goes; given = given; armed = omega (arith, armed) }
-  leaves_step steps.Save store now is goes given armed = record { goes_on = goes; given = given; armed = omega (arith, armed) }
-  leaves_step (steps.Post urgent block bytes) store now is goes given armed = record { goes_on = goes; given = given; armed = omega (arith, armed) }
-  leaves_step steps.Drain store now is goes given armed = record { goes_on = goes; given = given; armed = omega (arith, armed) }
-  leaves_step (steps.Get block) store now is goes given armed = record { goes_on = goes; given = given; armed = omega (arith, armed) }
-  leaves_step (steps.Ask block) store now is goes given armed = record { goes_on = goes; given = given; armed = omega (arith, armed) }
-  leaves_step (steps.Arming arm) store now is goes given armed = absurd (false≢true is)
-
--- A step of a lane makes no arm.
-pub no_arm : (step : Step) → IsTrue (is_lane_step step) → arm_count (action_of step) ≡ 0
-no_arm (steps.Report event report) is = refl
-no_arm (steps.Show event) is = refl
-no_arm (steps.Cycle cycle) is = refl
-no_arm (steps.Tick ticks) is = refl
-no_arm (steps.Signal index value) is = refl
-no_arm (steps.Enable condition fulfilled) is = refl
-no_arm (steps.Request tester bytes) is = refl
-no_arm steps.Save is = refl
-no_arm (steps.Post urgent block bytes) is = refl
-no_arm steps.Drain is = refl
-no_arm (steps.Get block) is = refl
-no_arm (steps.Ask block) is = refl
-no_arm (steps.Arming arm) is = absurd (false≢true is)
+  leaves_step step store now is goes given armed = record {
+    goes_on = goes;
+    given = subst (λ (l : List Arm). WereGiven l (driver_of store).device.bench.arms (driver_of now).device.bench.arms) (no_arms step is) given;
+    armed = let none = no_arm step is in omega (arith, armed, none);
+  }
 
 -- ---- the lane
 
 pub record IsStoring {F : _} {g : _} {B : Type 0} {b : Ghosts B} (c : Config) (locks : Locks F g) (before now : LaneWork) (index : ℕ) (store current : Store B b) : Type 0 where
   pub part : IsPartway locks before now index
-  pub carries : (earlier : List Deed) → Carries c before.seat now.seat before.queue_seat now.queue_seat earlier (reverse (lane_deeds (take index before.steps.now) part.told) ++ earlier) store current
+  pub carries : (earlier : List Deed) → Carries c before.seats.dem now.seats.dem before.seats.queue now.seats.queue earlier (reverse (lane_deeds (take index before.steps.now) part.told) ++ earlier) store current
   pub leaves : LeavesStore store current
 
 module _ {F : _} {g : _} {B : Type 0} {b : Ghosts B} (c : Config) (locks : Locks F g) where
@@ -78,14 +54,14 @@ module _ {F : _} {g : _} {B : Type 0} {b : Ghosts B} (c : Config) (locks : Locks
       let none : part.told ≡ [] = append_cancel_left (told_in lane.replies) part.told [] (sym part.answers ∙ sym (append-nil (told_in lane.replies))) in
       record {
         part = part;
-        carries = λ earlier. subst (λ l. Carries c lane.seat lane.seat lane.queue_seat lane.queue_seat earlier (reverse (lane_deeds [] l) ++ earlier) store store) (sym none)
-            (carries_beside c lane.seat lane.seat lane.queue_seat lane.queue_seat earlier store (λ known is. is) (λ known is. is));
+        carries = λ earlier. subst (λ l. Carries c lane.seats.dem lane.seats.dem lane.seats.queue lane.seats.queue earlier (reverse (lane_deeds [] l) ++ earlier) store store) (sym none)
+            (carries_beside c lane.seats.dem lane.seats.dem lane.seats.queue lane.seats.queue earlier store (λ known is. is) (λ known is. is));
         leaves = leaves_nothing store;
       }
 
   pub storing_more : (before now after : LaneWork) (index : ℕ) (step : Step) (told : Told) (store current later : Store B b) → index < length before.steps.now → step ≡ get_or before.steps.now index step
       → (on : IsStoring c locks before now index store current) → (more : IsPartway locks before after (index + 1)) → told_in after.replies ≡ told_in now.replies ++ told ∷ []
-      → ((earlier : List Deed) → Carries c now.seat after.seat now.queue_seat after.queue_seat earlier (with_deed step told earlier) current later) → LeavesStore current later → IsStoring c locks before after (index + 1) store later
+      → ((earlier : List Deed) → Carries c now.seats.dem after.seats.dem now.seats.queue after.seats.queue earlier (with_deed step told earlier) current later) → LeavesStore current later → IsStoring c locks before after (index + 1) store later
   storing_more before now after index step told store current later within is on more answers carries leaves =
       let all = before.steps.now in
       let first = take index all in
@@ -94,13 +70,13 @@ module _ {F : _} {g : _} {B : Type 0} {b : Ghosts B} (c : Config) (locks : Locks
       append_cancel_left (told_in before.replies) more.told (on.part.told ++ told ∷ [])
       (sym more.answers ∙ answers ∙ ap (λ l. l ++ told ∷ []) on.part.answers ∙ append_assoc (told_in before.replies) on.part.told (told ∷ [])) in
       let size = told_count StepMakes first on.part.told on.part.dem.calls on.part.dem.made in
-      let start = part_start MayBeAsked reply_after StepMakes calls_by before.seat now.seat first on.part.told on.part.dem in
+      let start = part_start MayBeAsked reply_after StepMakes calls_by before.seats.dem now.seats.dem first on.part.told on.part.dem in
       let deeds : lane_deeds (take (index + 1) all) more.told ≡ lane_deeds first on.part.told ++ with_deed step told [] = (λ i. lane_deeds (taken i) (told_is i)) ∙ lane_deeds_more first on.part.told step told size in
       record {
         part = more;
-        carries = λ earlier. subst (λ l. Carries c before.seat after.seat before.queue_seat after.queue_seat earlier l store later)
+        carries = λ earlier. subst (λ l. Carries c before.seats.dem after.seats.dem before.seats.queue after.seats.queue earlier l store later)
             (sym (ap (λ l. reverse l ++ earlier) deeds ∙ newest_deed step told (lane_deeds first on.part.told) earlier))
-            (carries_further c before.seat now.seat after.seat before.queue_seat now.queue_seat after.queue_seat earlier (reverse (lane_deeds first on.part.told) ++ earlier) (with_deed step told (reverse (lane_deeds first on.part.told) ++ earlier))
+            (carries_further c before.seats.dem now.seats.dem after.seats.dem before.seats.queue now.seats.queue after.seats.queue earlier (reverse (lane_deeds first on.part.told) ++ earlier) (with_deed step told (reverse (lane_deeds first on.part.told) ++ earlier))
             store current later start (on.carries earlier) (carries (reverse (lane_deeds first on.part.told) ++ earlier)));
         leaves = leaves_further store current later on.leaves leaves;
       }
@@ -111,6 +87,6 @@ module _ {F : _} {g : _} {B : Type 0} {b : Ghosts B} (c : Config) (locks : Locks
       let told_is : ran.told ≡ on.part.told = append_cancel_left (told_in before.replies) ran.told on.part.told (sym ran.answers ∙ on.part.answers) in
       record {
         ran = ran;
-        carries = λ earlier. subst (λ l. Carries c before.seat now.seat before.queue_seat now.queue_seat earlier (reverse l ++ earlier) store current) (λ i. lane_deeds (whole i) (sym told_is i)) (on.carries earlier);
+        carries = λ earlier. subst (λ l. Carries c before.seats.dem now.seats.dem before.seats.queue now.seats.queue earlier (reverse l ++ earlier) store current) (λ i. lane_deeds (whole i) (sym told_is i)) (on.carries earlier);
         leaves = on.leaves;
       }

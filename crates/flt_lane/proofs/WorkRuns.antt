@@ -30,12 +30,12 @@ ran_lanes locks main off after lanes works ran told more is is_queue seated same
   others = map (λ (w : LaneWork). told_in w.replies) ran;
   told_are = joined.told_are;
   dem = subst (λ l. HasRunBlock reply_after StepMakes main.dem after.dem l (map (λ (w : LaneWork). told_in w.replies) ran)) seated.steps_are
-      (works_ran MayBeAsked reply_after StepMakes calls_by calls_of (λ (w : LaneWork). w.seat) (λ (w : LaneWork). w.steps.now) (λ (w : LaneWork). told_in w.replies) main.dem off.dem after.dem _ works ran is seated.dem seated.dem_off same
+      (works_ran MayBeAsked reply_after StepMakes calls_by calls_of (λ (w : LaneWork). w.seats.dem) (λ (w : LaneWork). w.steps.now) (λ (w : LaneWork). told_in w.replies) main.dem off.dem after.dem _ works ran is seated.dem seated.dem_off same
       (λ k d within. let one = each k d within in
-      subst (λ l. RunsSteps (get_or works k d).seat (get_or works k d).steps.now l (get_or ran k d).seat) (told_is (get_or works k d) (get_or ran k d) one (seated.no_answers k d within)) one.dem) joined.dem);
+      subst (λ l. RunsSteps (get_or works k d).seats.dem (get_or works k d).steps.now l (get_or ran k d).seats.dem) (told_is (get_or works k d) (get_or ran k d) one (seated.no_answers k d within)) one.dem) joined.dem);
   queue = subst (λ l. HasRunBlock queued.reply_after StepQueues main.queue after.queue l (map (λ (w : LaneWork). told_in w.replies) ran)) seated.steps_are
-      (works_ran queue.IsAdmitted queued.reply_after StepQueues queued_by queued_of (λ (w : LaneWork). w.queue_seat) (λ (w : LaneWork). w.steps.now) (λ (w : LaneWork). told_in w.replies) main.queue off.queue after.queue _ works ran is_queue
+      (works_ran queue.IsAdmitted queued.reply_after StepQueues queued_by queued_of (λ (w : LaneWork). w.seats.queue) (λ (w : LaneWork). w.steps.now) (λ (w : LaneWork). told_in w.replies) main.queue off.queue after.queue _ works ran is_queue
       seated.queue seated.queue_off same
       (λ k d within. let one = each k d within in
-      subst (λ l. RunsQueue (get_or works k d).queue_seat (get_or works k d).steps.now l (get_or ran k d).queue_seat) (told_is (get_or works k d) (get_or ran k d) one (seated.no_answers k d within)) one.queue) joined.queue);
+      subst (λ l. RunsQueue (get_or works k d).seats.queue (get_or works k d).steps.now l (get_or ran k d).seats.queue) (told_is (get_or works k d) (get_or ran k d) one (seated.no_answers k d within)) one.queue) joined.queue);
 }

@@ -12,7 +12,7 @@ use Rattle.flt_life.specs.Parts.{width, widths}
 use Rattle.flt_life.specs.Played.{StepMakes, StepQueues}
 use Rattle.flt_fork.specs.Lived.{HasLived}
 use Rattle.flt_fork.specs.Runs.{HasRunBlock}
-use Rattle.flt_lane.specs.Runs.{Makes, Queues, QueueSeat}
+use Rattle.flt_lane.specs.Runs.{QueueSeat}
 
 -- ---- on one lock
 
@@ -37,12 +37,6 @@ pub record RunsLanes (main after : Seat) (jobs jobs_after : QueueSeat) (lanes : 
   pub told_are : told_after ≡ told ++ others
   pub dem : HasRunBlock reply_after StepMakes main after lanes others
   pub queue : HasRunBlock queued.reply_after StepQueues jobs jobs_after lanes others
-
--- Lane 0 made a step, and the answer was put behind those that it has.
-pub record HasStepped (main after : Seat) (jobs jobs_after : QueueSeat) (step : Step) (answer : Told) (own own_after : List Told) : Type 0 where
-  pub own_are : own_after ≡ own ++ answer ∷ []
-  pub dem : Makes main step answer after
-  pub queue : Queues jobs step answer jobs_after
 
 -- A part was carried out, and its answers were put behind those of lane 0 and of the lanes before.
 pub record Gains (main after : Seat) (jobs jobs_after : QueueSeat) (part : PartOf Step) (mine : List Told) (others : List (List Told))

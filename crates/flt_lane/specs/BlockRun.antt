@@ -6,9 +6,9 @@ use Rattle.flt_script.specs.declared.step.Step.{Step}
 use Rattle.flt_script.specs.Part.{PartOf}
 use Rattle.flt_store.specs.declared.store.Store.{Store}
 use Rattle.flt_life.specs.Answers.{Told}
-use Rattle.flt_life.specs.Ordered.{Deed, block_deeds, deeds_in, with_deed}
+use Rattle.flt_life.specs.Ordered.{Deed, block_deeds, deeds_in}
 use Rattle.flt_shared.specs.Call.{Seat}
-use Rattle.flt_lane.specs.Block.{Gains, HasStepped, RunsLanes}
+use Rattle.flt_lane.specs.Block.{Gains, RunsLanes}
 use Rattle.flt_lane.specs.Living.{Carries}
 use Rattle.flt_lane.specs.Runs.{QueueSeat}
 use Rattle.flt_lane.specs.Stored.{LeavesStore}
@@ -28,10 +28,3 @@ module _ {B : Type 0} {b : Ghosts B} where
     pub others : List (List Told)
     pub gains : Gains main after jobs jobs_after part mine others own own_after lanes lanes_after
     pub carries : (earlier : List Deed) → Carries c main after jobs jobs_after earlier (reverse (deeds_in (part ∷ []) mine others) ++ earlier) store now
-
-  -- Lane 0 made a step, and its deed, where it is one.
-  pub record StepsOne (c : Config) (main after : Seat) (jobs jobs_after : QueueSeat) (step : Step) (own own_after : List Told)
-      (store now : Store B b) : Type 0 where
-    pub answer : Told
-    pub stepped : HasStepped main after jobs jobs_after step answer own own_after
-    pub carries : (earlier : List Deed) → Carries c main after jobs jobs_after earlier (with_deed step answer earlier) store now

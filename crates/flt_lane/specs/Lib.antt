@@ -1,4 +1,5 @@
 pub mod Runs
+pub mod Stepped
 pub mod Room
 pub mod Work
 pub mod Seating

@@ -30,16 +30,16 @@ module _ {F : _} {g : _} (locks : Locks F g) where
     pub ready : IsPrepared locks work
     pub steps_are : work.steps.now ≡ room.steps.now
     pub no_answers : told_in work.replies ≡ []
-    pub dem : Splits before.dem (calls_of work.steps.now) after.dem work.seat
-    pub queue : Splits before.queue (queued_of work.steps.now) after.queue work.queue_seat
+    pub dem : Splits before.dem (calls_of work.steps.now) after.dem work.seats.dem
+    pub queue : Splits before.queue (queued_of work.steps.now) after.queue work.seats.queue
 
   -- All lanes of a block got theirs.
   pub record AreSeated (main off : Seats) (lanes : List (List Step)) (works : List LaneWork) : Type 0 where
     pub ready : All (IsPrepared locks) works
     pub steps_are : map (λ (w : LaneWork). w.steps.now) works ≡ lanes
     pub no_answers : All (λ (w : LaneWork). told_in w.replies ≡ []) works
-    pub dem : AreSplit (λ (w : LaneWork). w.seat) (λ w. calls_of w.steps.now) main.dem (main.dem.children + 1) works
-    pub queue : AreSplit (λ (w : LaneWork). w.queue_seat) (λ w. queued_of w.steps.now) main.queue (main.queue.children + 1) works
+    pub dem : AreSplit (λ (w : LaneWork). w.seats.dem) (λ w. calls_of w.steps.now) main.dem (main.dem.children + 1) works
+    pub queue : AreSplit (λ (w : LaneWork). w.seats.queue) (λ w. queued_of w.steps.now) main.queue (main.queue.children + 1) works
     pub dem_off : IsSplitOff main.dem off.dem (length works) (all_calls lanes)
     pub queue_off : IsSplitOff main.queue off.queue (length works) (all_queued lanes)
 
@@ -53,11 +53,11 @@ module _ {F : _} {g : _} (locks : Locks F g) where
 -- A lane gave its seats back, and left its answers.
 pub record IsJoined (before : Seats) (work : LaneWork) (after : Seats) (replies : LaneReplies) : Type 0 where
   pub replies_are : replies ≡ work.replies
-  pub dem : after.dem ≡ joined_seat before.dem work.seat
-  pub queue : after.queue ≡ joined_seat before.queue work.queue_seat
+  pub dem : after.dem ≡ joined_seat before.dem work.seats.dem
+  pub queue : after.queue ≡ joined_seat before.queue work.seats.queue
 
 -- All lanes of a block gave theirs back, and their answers came behind those that were there.
 pub record HaveJoined (off after : Seats) (works : List LaneWork) (told told_after : List (List Told)) : Type 0 where
   pub told_are : told_after ≡ told ++ map (λ (w : LaneWork). told_in w.replies) works
-  pub dem : AreJoined off.dem after.dem (map (λ (w : LaneWork). w.seat) works)
-  pub queue : AreJoined off.queue after.queue (map (λ (w : LaneWork). w.queue_seat) works)
+  pub dem : AreJoined off.dem after.dem (map (λ (w : LaneWork). w.seats.dem) works)
+  pub queue : AreJoined off.queue after.queue (map (λ (w : LaneWork). w.seats.queue) works)

@@ -31,9 +31,9 @@ pub record HaveRun (lanes afters : List LaneWork) : Type 0 where
 module _ {B : Type 0} {b : Ghosts B} where
   -- What a lane needs to make its steps over the store.
   pub record CanStore (c : Config) (lane : LaneWork) (store : Store B b) : Type 0 where
-    pub same : lane.seat.start.config ≡ c
+    pub same : lane.seats.dem.start.config ≡ c
     pub valid : IsValid c
-    pub fits : Fits c lane.seat.start.base
+    pub fits : Fits c lane.seats.dem.start.base
     pub alive : IsAlive c store
     pub arms : (driver_of store).device.bench.armed ≤ 64
 
@@ -46,7 +46,7 @@ module _ {B : Type 0} {b : Ghosts B} where
   -- A lane made its steps over the store.
   pub record HasRunStore (c : Config) (before after : LaneWork) (store now : Store B b) : Type 0 where
     pub ran : HasRun before after
-    pub carries : (earlier : List Deed) → Carries c before.seat after.seat before.queue_seat after.queue_seat earlier
+    pub carries : (earlier : List Deed) → Carries c before.seats.dem after.seats.dem before.seats.queue after.seats.queue earlier
         (reverse (lane_deeds before.steps.now ran.told) ++ earlier) store now
     pub leaves : LeavesStore store now
 

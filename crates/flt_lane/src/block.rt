@@ -37,14 +37,13 @@ fn split_lane<'a>(locks: &Locks, main: &mut Seats, room: LaneRoom<'a>) -> LaneWo
 {
     let LaneRoom { steps, replies } = room;
     let calls = CallRoom::for_lane(steps);
-    let seat = locks.dem.split(&mut main.dem, calls.machine);
-    let queue_seat = locks.queue.split(&mut main.queue, calls.queue);
-    let number = seat.number();
+    let dem = locks.dem.split(&mut main.dem, calls.machine);
+    let queue = locks.queue.split(&mut main.queue, calls.queue);
+    let number = dem.number();
     LaneWork {
         number,
         steps,
-        seat,
-        queue_seat,
+        seats: Seats { dem, queue },
         replies,
     }
 }
@@ -57,12 +56,11 @@ fn join_lane(locks: &Locks, main: &mut Seats, work: LaneWork<'_>) -> LaneReplies
     let LaneWork {
         number: _,
         steps: _,
-        seat,
-        queue_seat,
+        seats,
         replies,
     } = work;
-    locks.dem.join(&mut main.dem, seat);
-    locks.queue.join(&mut main.queue, queue_seat);
+    locks.dem.join(&mut main.dem, seats.dem);
+    locks.queue.join(&mut main.queue, seats.queue);
     replies
 }
 
@@ -125,9 +123,9 @@ fn run_works<R: Threads + Wait + Sync, G: SharedGate, B: Blocks + Drop>(
 )
     requires ready { All (IsPrepared locks.now) works.old.items }
     requires one_stores { store_lanes (map (λ (lane : LaneWork). lane.steps.now) works.old.items) ≤ 1 }
-    requires same { All (λ lane. lane.seat.start.config ≡ config.now) works.old.items }
+    requires same { All (λ lane. lane.seats.dem.start.config ≡ config.now) works.old.items }
     requires valid { IsValid config.now }
-    requires fits { All (λ lane. Fits config.now lane.seat.start.base) works.old.items }
+    requires fits { All (λ lane. Fits config.now lane.seats.dem.start.base) works.old.items }
     requires alive { IsAlive config.now store.old }
     requires arms { (driver_of store.old).device.bench.armed ≤ 64 }
     ensures ran { AreRun config.now works.old.items works.new.items store.old store.new }

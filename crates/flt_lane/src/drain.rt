@@ -1,9 +1,8 @@
 //! A drain: jobs are taken from the queue, written, and noted as done.
-ghost use Rattle.std.specs.Prelude.{◌≡◌, ◌≤◌, ◌∷◌, ℕ, List};
+ghost use Rattle.std.specs.Prelude.{◌≡◌, ◌≤◌};
 ghost use Rattle.flt_config.specs.declared.config.Config.{Config};
 ghost use Rattle.flt_config.specs.Validity.{IsValid};
-ghost use Rattle.flt_life.specs.Answers.{told_size, told_with};
-ghost use Rattle.flt_life.specs.Ordered.{Deed};
+ghost use Rattle.flt_life.specs.declared.action.Action.TheVariants as action;
 ghost use Rattle.flt_queue.specs.Call as queued;
 ghost use Rattle.flt_queue.specs.Queue.{IsJob};
 ghost use Rattle.flt_queue.specs.declared.job.QueueOp.TheVariants as ops;
@@ -14,15 +13,12 @@ ghost use Rattle.flt_store.specs.Store.{IsAlive};
 ghost use Rattle.flt_shared.specs.Call.{Seat};
 ghost use Rattle.flt_turn.specs.Seats as turn;
 ghost use Rattle.flt_lane.specs.Draining.{LooksForJob, WritesJob};
-ghost use Rattle.flt_lane.specs.Living.{Carries};
-ghost use Rattle.flt_lane.specs.Runs.{Queues};
-ghost use Rattle.flt_lane.specs.Stored.{LeavesStore};
+ghost use Rattle.flt_lane.specs.Stepped.{HasRoomFor, TakesStep};
 
 use flt_config::ValidConfig;
 use flt_flash::Blocks;
-use flt_life::StepAnswer;
+use flt_life::{LaneReplies, StepAnswer};
 use flt_queue::{Job, QueueLock, QueueReply, QueueSeat, WAITING};
-use flt_shared::ReplyKind;
 use flt_store::Store;
 use std::sync::Wait;
 
@@ -75,34 +71,33 @@ fn take_job<R: Wait, B: Blocks + Drop>(
     }
 }
 
-/// Takes jobs until none waits, at most 32, and answers how many were written and how many could not be.
+/// Takes jobs until none waits, at most 32, and keeps how many were written and how many could not be.
 pub(crate) fn drain<R: Wait, B: Blocks + Drop>(
     rt: &R,
     queue: &QueueLock,
     store: &mut Store<B>,
     config: &ValidConfig,
     seat: &mut QueueSeat,
-) -> StepAnswer<ReplyKind>
+    replies: &mut LaneReplies,
+)
     requires lock { turn.IsSeatOf queue.now.turn seat.old }
     requires blocks { seat.old.start ≡ config.now.blocks }
     requires valid { IsValid config.now }
     requires alive { IsAlive config.now store.old }
     requires left { 64 ≤ seat.old.left }
-    ensures queues { (bytes : List ℕ) → Queues seat.old steps.Drain (told_with bytes result) seat.new }
-    ensures size { (bytes : List ℕ) → told_size (told_with bytes result) ≡ 0 }
+    requires room { HasRoomFor replies.old action.Drain }
+    ensures takes { (dem : Seat) → TakesStep config.now dem dem seat.old seat.new steps.Drain replies.old replies.new store.old store.new }
     ensures lock { turn.IsSeatOf queue.now.turn seat.new }
-    ensures carries { (bytes : List ℕ) (dem : Seat) (earlier : List Deed)
-        → Carries config.now dem dem seat.old seat.new earlier ((steps.Drain, told_with bytes result) ∷ earlier) store.old store.new }
-    ensures leaves { LeavesStore store.old store.new }
 {
     let mut written: u16 = 0;
     let mut failed: u16 = 0;
     for _job in 0..WAITING {
         let Some(was_written) = take_job(rt, queue, store, config, seat) else {
-            return StepAnswer::Drained { written, failed };
+            replies.keep(StepAnswer::Drained { written, failed }, &[]);
+            return;
         };
         written += u16::from(was_written);
         failed += u16::from(!was_written);
     }
-    StepAnswer::Drained { written, failed }
+    replies.keep(StepAnswer::Drained { written, failed }, &[]);
 }

@@ -42,9 +42,9 @@ pub trait SharedGate: Gate {
         requires sync { IsSync R.row }
         requires ready { All (IsPrepared locks.now) lanes.old }
         requires one_stores { store_lanes (map (λ (lane : LaneWork). lane.steps.now) lanes.old) ≤ 1 }
-        requires same { All (λ lane. lane.seat.start.config ≡ config.now) lanes.old }
+        requires same { All (λ lane. lane.seats.dem.start.config ≡ config.now) lanes.old }
         requires valid { IsValid config.now }
-        requires fits { All (λ lane. Fits config.now lane.seat.start.base) lanes.old }
+        requires fits { All (λ lane. Fits config.now lane.seats.dem.start.base) lanes.old }
         requires alive { IsAlive config.now store.old }
         requires arms { (driver_of store.old).device.bench.armed ≤ 64 }
         ensures ran { AreRun config.now lanes.old lanes.new store.old store.new }

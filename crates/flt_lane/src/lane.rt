@@ -9,16 +9,14 @@ ghost use Rattle.flt_lane.specs.Stored.{AreRun, CanStore, HasRunStore, HaveRun, 
 ghost use Rattle.flt_lane.specs.declared.lane.LaneWork.{LaneWork};
 
 use crate::gate::Gate;
-use crate::locks::Locks;
+use crate::locks::{Locks, Seats};
 use crate::step::{do_step, make_call};
 use arrayvec::ArrayVec;
 use flt_config::ValidConfig;
 use flt_flash::Blocks;
 use flt_fork::{Owned, Work, work_beside, work_first};
 use flt_life::LaneReplies;
-use flt_queue::QueueSeat;
 use flt_script::Step;
-use flt_shared::DemSeat;
 use flt_store::Store;
 use std::marker::Sync;
 use std::sync::Wait;
@@ -31,10 +29,8 @@ pub struct LaneWork<'a> {
     pub number: u32,
     /// Its steps, in order.
     pub steps: &'a [Step],
-    /// Its seat on the lock of the status machine.
-    pub seat: DemSeat,
-    /// Its seat on the lock of the queue.
-    pub queue_seat: QueueSeat,
+    /// Its seats on the two locks.
+    pub seats: Seats,
     /// Has room for an answer to each step.
     pub replies: LaneReplies,
 }
@@ -50,15 +46,14 @@ impl<G: Gate> Work<Locks, G> for LaneWork<'_> {
         let mut response = ArrayVec::new();
         for (index, step) in steps.iter().enumerate() {
             gate.before(rt, self.number, index as u32);
-            let answer = make_call(
+            make_call(
                 rt,
                 locks,
-                &mut self.seat,
-                &mut self.queue_seat,
+                &mut self.seats,
                 step,
+                &mut self.replies,
                 &mut response,
             );
-            self.replies.keep(answer, response.as_slice());
             gate.after(rt, self.number, index as u32);
         }
     }
@@ -74,9 +69,9 @@ fn run_store_lane<R: Wait, G: Gate, B: Blocks + Drop>(
     lane: &mut LaneWork<'_>,
 )
     requires ready { IsPrepared locks.now lane.old }
-    requires same { lane.old.seat.start.config ≡ config.now }
+    requires same { lane.old.seats.dem.start.config ≡ config.now }
     requires valid { IsValid config.now }
-    requires fits { Fits config.now lane.old.seat.start.base }
+    requires fits { Fits config.now lane.old.seats.dem.start.base }
     requires alive { IsAlive config.now store.old }
     requires arms { (driver_of store.old).device.bench.armed ≤ 64 }
     ensures ran { HasRunStore config.now lane.old lane.new store.old store.new }
@@ -86,17 +81,16 @@ fn run_store_lane<R: Wait, G: Gate, B: Blocks + Drop>(
     let mut response = ArrayVec::new();
     for (index, step) in steps.iter().enumerate() {
         gate.before(rt, lane.number, index as u32);
-        let answer = do_step(
+        do_step(
             rt,
             locks,
             store,
             config,
-            &mut lane.seat,
-            &mut lane.queue_seat,
+            &mut lane.seats,
             step,
+            &mut lane.replies,
             &mut response,
         );
-        lane.replies.keep(answer, response.as_slice());
         gate.after(rt, lane.number, index as u32);
     }
 }
@@ -165,9 +159,9 @@ fn run_first<R: Threads + Wait + Sync, G: Gate + Sync, B: Blocks + Drop>(
 )
     requires first { StoresAt 0 lanes.old }
     requires ready { All (IsPrepared locks.now) lanes.old }
-    requires same { All (λ lane. lane.seat.start.config ≡ config.now) lanes.old }
+    requires same { All (λ lane. lane.seats.dem.start.config ≡ config.now) lanes.old }
     requires valid { IsValid config.now }
-    requires fits { All (λ lane. Fits config.now lane.seat.start.base) lanes.old }
+    requires fits { All (λ lane. Fits config.now lane.seats.dem.start.base) lanes.old }
     requires alive { IsAlive config.now store.old }
     requires arms { (driver_of store.old).device.bench.armed ≤ 64 }
     ensures ran { RunsStore config.now 0 lanes.old lanes.new store.old store.new }
@@ -188,9 +182,9 @@ pub fn run_block<R: Threads + Wait + Sync, G: Gate + Sync, B: Blocks + Drop>(
 )
     requires ready { All (IsPrepared locks.now) lanes.old }
     requires one_stores { store_lanes (map (λ (lane : LaneWork). lane.steps.now) lanes.old) ≤ 1 }
-    requires same { All (λ lane. lane.seat.start.config ≡ config.now) lanes.old }
+    requires same { All (λ lane. lane.seats.dem.start.config ≡ config.now) lanes.old }
     requires valid { IsValid config.now }
-    requires fits { All (λ lane. Fits config.now lane.seat.start.base) lanes.old }
+    requires fits { All (λ lane. Fits config.now lane.seats.dem.start.base) lanes.old }
     requires alive { IsAlive config.now store.old }
     requires arms { (driver_of store.old).device.bench.armed ≤ 64 }
     ensures ran { AreRun config.now lanes.old lanes.new store.old store.new }

@@ -5,7 +5,7 @@ ghost use Rattle.flt_config.specs.Durable.{Fits};
 ghost use Rattle.flt_config.specs.Validity.{IsValid};
 ghost use Rattle.flt_script.specs.declared.step.Step.{Step};
 ghost use Rattle.flt_script.specs.Part.{PartOf};
-ghost use Rattle.flt_life.specs.Actions.{IsPossible, action_of, all_arms, arm_count, arms_of};
+ghost use Rattle.flt_life.specs.Actions.{all_arms};
 ghost use Rattle.flt_life.specs.Ordered.{deeds_in};
 ghost use Rattle.flt_life.specs.Parts.{arms_in, calls_in, own_actions, own_steps, queued_in, width, widths};
 ghost use Rattle.flt_life.specs.Room.{HasRoomForSteps, told_in};
@@ -14,24 +14,22 @@ ghost use Rattle.flt_store.specs.Store.{IsAlive, driver_of};
 ghost use Rattle.flt_turn.specs.Seats as turn;
 ghost use Rattle.flt_life.specs.Going.{GoesOn, WereGiven};
 ghost use Rattle.flt_lane.specs.Block.{HaveRunParts};
-ghost use Rattle.flt_lane.specs.BlockRun.{GainsPart, StepsOne};
+ghost use Rattle.flt_lane.specs.BlockRun.{GainsPart};
 ghost use Rattle.flt_fork.specs.Lived.{IsMain};
 ghost use Rattle.flt_lane.specs.Living.{Carries};
 ghost use Rattle.flt_lane.specs.Room.{IsPartFor, IsPartRoom, part_in};
-ghost use Rattle.flt_lane.specs.Runs.{calls_by, queued_by};
 ghost use Rattle.flt_lane.specs.Work.{AreReady};
 
 use crate::block::run_lanes;
-use crate::gate::{Gate, SharedGate};
+use crate::gate::SharedGate;
 use crate::locks::{Locks, Seats};
 use crate::room::PartRoom;
-use crate::step::{ask_queue, call_dem, do_step};
+use crate::step::do_step;
 use arrayvec::ArrayVec;
 use flt_config::ValidConfig;
 use flt_flash::Blocks;
 use flt_life::LaneReplies;
 use flt_model::RESPONSE;
-use flt_script::Step;
 use flt_store::Store;
 use std::marker::Sync;
 use std::sync::Wait;
@@ -48,65 +46,8 @@ pub struct LifeAnswers {
     pub response: ArrayVec<u8, RESPONSE>,
 }
 
-/// Makes a step of lane 0, between the two calls of the gate.
-fn run_one<R: Wait, G: Gate, B: Blocks + Drop>(
-    rt: &R,
-    locks: &Locks,
-    store: &mut Store<B>,
-    config: &ValidConfig,
-    seats: &mut Seats,
-    step: &Step,
-    answers: &mut LifeAnswers,
-    gate: &G,
-)
-    requires ready { AreReady locks.now config.now seats.old.dem seats.old.queue }
-    requires alive { IsAlive config.now store.old }
-    requires step { IsPossible config.now (action_of step.now) }
-    requires arms { (driver_of store.old).device.bench.armed + arm_count (action_of step.now) ≤ 64 }
-    requires calls { calls_by step.now ≤ seats.old.dem.left }
-    requires queued { queued_by step.now ≤ seats.old.queue.left }
-    requires index { vec_len answers.old.own.answers < 2 ^ 32 }
-    requires room { HasRoomForSteps answers.old.own (step.now ∷ []) }
-    ensures stepped { StepsOne config.now seats.old.dem seats.new.dem seats.old.queue seats.new.queue step.now (told_in answers.old.own) (told_in answers.new.own) store.old store.new }
-    ensures lock { IsSeatOf locks.now.dem seats.new.dem }
-    ensures queue { turn.IsSeatOf locks.now.queue.turn seats.new.queue }
-    ensures len { vec_len answers.new.own.answers ≡ vec_len answers.old.own.answers + 1 }
-    ensures others { answers.new.told ≡ answers.old.told }
-    ensures room { (rest : List Step) → HasRoomForSteps answers.old.own (step.now ∷ rest) → HasRoomForSteps answers.new.own rest }
-    ensures goes_on { GoesOn (driver_of store.old) (driver_of store.new) }
-    ensures given { WereGiven (arms_of (action_of step.now)) (driver_of store.old).device.bench.arms (driver_of store.new).device.bench.arms }
-    ensures armed { (driver_of store.new).device.bench.armed ≤ (driver_of store.old).device.bench.armed + arm_count (action_of step.now) }
-{
-    let index = answers.own.answers.len() as u32;
-    gate.before(rt, 0, index);
-    // Each kind of step keeps its answer by itself, so that it goes to its place at once.
-    match step {
-        Step::Save | Step::Drain | Step::Get { .. } | Step::Arming(_) => {
-            let answer = do_step(
-                rt,
-                locks,
-                store,
-                config,
-                &mut seats.dem,
-                &mut seats.queue,
-                step,
-                &mut answers.response,
-            );
-            answers.own.keep(answer, answers.response.as_slice());
-        }
-        Step::Post { .. } | Step::Ask { .. } => {
-            let answer = ask_queue(rt, &locks.queue, &mut seats.queue, step);
-            answers.own.keep(answer, &[]);
-        }
-        _ => {
-            let answer = call_dem(rt, &locks.dem, &mut seats.dem, step, &mut answers.response);
-            answers.own.keep(answer, answers.response.as_slice());
-        }
-    }
-    gate.after(rt, 0, index);
-}
-
-/// Carries out a part of a life, and puts its answers behind those that are there.
+/// Carries out a part of a life, and puts its answers behind those that are there. A step of lane 0 is made between the two calls of
+/// the gate.
 fn run_part<'a, R: Threads + Wait + Sync, G: SharedGate, B: Blocks + Drop>(
     rt: &R,
     locks: &Locks,
@@ -147,7 +88,19 @@ fn run_part<'a, R: Threads + Wait + Sync, G: SharedGate, B: Blocks + Drop>(
 {
     match part {
         PartRoom::One(step) => {
-            run_one(rt, locks, store, config, seats, step, answers, gate);
+            let index = answers.own.answers.len() as u32;
+            gate.before(rt, 0, index);
+            do_step(
+                rt,
+                locks,
+                store,
+                config,
+                seats,
+                step,
+                &mut answers.own,
+                &mut answers.response,
+            );
+            gate.after(rt, 0, index);
         }
         PartRoom::Lanes(room) => {
             let room = Box::into_inner(room);

@@ -9,7 +9,7 @@ pub struct Locks {
     pub queue: QueueLock,
 }
 
-/// The main seats on the two locks.
+/// The seats of a lane on the two locks. Those of lane 0 are the main seats.
 #[derive(Drop)]
 pub struct Seats {
     pub dem: DemSeat,

@@ -1,175 +1,136 @@
-//! One step of a lane.
-ghost use Rattle.std.specs.Prelude.{◌≡◌, ◌+◌, ◌<◌, ◌≤◌, ◌∷◌, ℕ, List, IsErr, IfOk, false};
-ghost use mathlib.Core.Logic.{◌↔◌};
+//! One step of a lane: what it does, and the answer that is kept.
+ghost use Rattle.std.specs.Prelude.{◌≡◌, ◌+◌, ◌<◌, ◌≤◌, false};
 ghost use Rattle.flt_config.specs.declared.config.Config.{Config};
 ghost use Rattle.flt_config.specs.Durable.{Fits};
 ghost use Rattle.flt_config.specs.Validity.{IsValid};
-ghost use Rattle.flt_life.specs.Actions.{IsPossible, action_of, arm_count, arms_of, response_size};
-ghost use Rattle.flt_life.specs.Answers.{told_size, told_with};
+ghost use Rattle.flt_dcm.specs.Unit.{IsAdmitted};
+ghost use Rattle.flt_flash.specs.State.{CanArm};
+ghost use Rattle.flt_life.specs.Actions.{IsPossible, action_of, arm_count};
 ghost use Rattle.flt_life.specs.declared.action.Action.TheVariants as action;
-ghost use Rattle.flt_life.specs.Ordered.{Deed, with_deed};
 ghost use Rattle.flt_life.specs.Parts.{IsPossibleInLane};
-ghost use Rattle.flt_life.specs.Played.{IsGot};
-ghost use Rattle.flt_model.specs.declared.call.Op.{Op};
-ghost use Rattle.flt_queue.specs.Call as queued;
 ghost use Rattle.flt_queue.specs.Queue as queues;
-ghost use Rattle.flt_queue.specs.declared.job.QueueOp.{QueueOp as JobCall};
 ghost use Rattle.flt_script.specs.Step.{is_store_step};
+ghost use Rattle.flt_script.specs.declared.step.Step.{Step as StepView};
 ghost use Rattle.flt_script.specs.declared.step.Step.TheVariants as steps;
 ghost use Rattle.flt_shared.specs.Call.{Seat as DemView};
 ghost use Rattle.flt_shared.specs.Lock.{IsSeatOf};
 ghost use Rattle.flt_store.specs.Store.{IsAlive, driver_of};
 ghost use Rattle.flt_turn.specs.Seats as turn;
-ghost use Rattle.flt_life.specs.Going.{GoesOn, WereGiven};
-ghost use Rattle.flt_lane.specs.Living.{Carries};
-ghost use Rattle.flt_lane.specs.Runs.{Makes, Queues, QueueSeat as Jobs, calls_by, queued_by};
-ghost use Rattle.flt_lane.specs.Stored.{LeavesStore};
+ghost use Rattle.flt_lane.specs.Runs.{QueueSeat as Jobs, calls_by, queued_by};
+ghost use Rattle.flt_lane.specs.Stepped.{HasRoomFor, MakesStep, TakesStep};
 ghost use Rattle.flt_lane.specs.Work.{AreReady};
 
 use crate::drain::drain;
-use crate::locks::Locks;
+use crate::locks::{Locks, Seats};
 use arrayvec::ArrayVec;
 use flt_config::{ValidConfig, initial};
-use flt_flash::Blocks;
-use flt_life::{Action, StepAnswer, action_of};
-use flt_model::RESPONSE;
-use flt_queue::{BYTES, Job, QueueAnswer, QueueLock, QueueSeat};
+use flt_flash::{Arm, Blocks};
+use flt_life::{Action, LaneReplies, StepAnswer, action_of};
+use flt_model::{Op, RESPONSE};
+use flt_queue::{QueueLock, QueueOp, QueueSeat};
 use flt_script::Step;
-use flt_shared::{DemLock, DemSeat, ReplyKind};
+use flt_shared::{DemLock, DemSeat};
 use flt_store::Store;
 use std::sync::Wait;
 
-/// Makes the call of a step that calls the status machine on a seat that has one left, and answers by it. The bytes of a response are
-/// written in place of what `response` holds.
+/// Makes a call of the status machine on a seat that has one left, and keeps its answer. The bytes of a response are written in place
+/// of what `response` holds.
 #[inline(always)]
-pub(crate) fn call_dem<R: Wait>(
+fn call_dem<R: Wait>(
     rt: &R,
     dem: &DemLock,
     seat: &mut DemSeat,
-    step: &Step,
+    op: Op,
+    replies: &mut LaneReplies,
     response: &mut ArrayVec<u8, RESPONSE>,
-) -> StepAnswer<ReplyKind>
+)
     requires lock { IsSeatOf dem.now seat.old }
-    requires step { IsPossibleInLane seat.old.start.config step.now }
-    requires one { (op : Op) × (action_of step.now ≡ action.Call op) }
+    requires admitted { IsAdmitted seat.old.start.config op }
     requires left { 1 ≤ seat.old.left }
-    ensures made { Makes seat.old step.now (told_with response.new.items result) seat.new }
-    ensures size { told_size (told_with response.new.items result) ≤ response_size (action_of step.now) }
+    requires room { HasRoomFor replies.old (action.Call op) }
+    ensures made { (step : StepView) (jobs : Jobs) → action_of step ≡ action.Call op
+        → MakesStep seat.old seat.new jobs jobs step replies.old replies.new }
     ensures lock { IsSeatOf dem.now seat.new }
 {
-    let Action::Call(op) = action_of(step) else {
-        unreachable!()
-    };
     let Ok(told) = dem.call_into(rt, seat, op, response) else {
         unreachable!()
     };
     let length = response.len();
     prove!(length <= RESPONSE);
-    StepAnswer::Dem(told)
+    replies.keep(StepAnswer::Dem(told), response.as_slice());
 }
 
-/// A copy of the bytes of a job, which takes no memory.
-fn copy_of(bytes: &ArrayVec<u8, BYTES>) -> ArrayVec<u8, BYTES>
-    ensures { result ≡ bytes.now }
-{
-    bytes.clone().unwrap()
-}
-
-/// Makes the call of a step that calls the queue on a seat that has one left.
+/// Makes a call of the queue on a seat that has one left, and keeps its answer.
 #[inline(always)]
-fn call_queue<R: Wait>(rt: &R, queue: &QueueLock, seat: &mut QueueSeat, step: &Step) -> QueueAnswer
-    requires lock { turn.IsSeatOf queue.now.turn seat.old }
-    requires one { (op : JobCall) × (action_of step.now ≡ action.Queue op) × queues.IsAdmitted seat.old.start op }
-    ensures full { IsErr result ↔ (seat.old.left ≡ 0) }
-    ensures call { IfOk result (λ told. (op : JobCall) × (action_of step.now ≡ action.Queue op) × queued.IsCall seat.old seat.new op told) }
-{
-    match step {
-        Step::Post {
-            urgent,
-            block,
-            bytes,
-        } => {
-            let job = Job {
-                block: *block,
-                bytes: copy_of(bytes),
-            };
-            queue.post(rt, seat, *urgent, job)
-        }
-        Step::Ask { block } => queue.ask(rt, seat, *block),
-        _ => unreachable!(),
-    }
-}
-
-/// Posts a job, or asks a block for its last result, and answers by the queue.
-#[inline(always)]
-pub(crate) fn ask_queue<R: Wait>(
+fn call_queue<R: Wait>(
     rt: &R,
     queue: &QueueLock,
     seat: &mut QueueSeat,
-    step: &Step,
-) -> StepAnswer<ReplyKind>
+    op: QueueOp,
+    replies: &mut LaneReplies,
+)
     requires lock { turn.IsSeatOf queue.now.turn seat.old }
-    requires one { (op : JobCall) × (action_of step.now ≡ action.Queue op) × queues.IsAdmitted seat.old.start op }
+    requires admitted { queues.IsAdmitted seat.old.start op }
     requires left { 1 ≤ seat.old.left }
-    ensures queues { (bytes : List ℕ) → Queues seat.old step.now (told_with bytes result) seat.new }
-    ensures size { (bytes : List ℕ) → told_size (told_with bytes result) ≡ 0 }
+    requires room { HasRoomFor replies.old (action.Queue op) }
+    ensures made { (step : StepView) (dem : DemView) → action_of step ≡ action.Queue op
+        → MakesStep dem dem seat.old seat.new step replies.old replies.new }
     ensures lock { turn.IsSeatOf queue.now.turn seat.new }
 {
-    let Ok(told) = call_queue(rt, queue, seat, step) else {
+    let Ok(told) = queue.call(rt, seat, op) else {
         unreachable!()
     };
-    StepAnswer::Queue(told)
+    replies.keep(StepAnswer::Queue(told), &[]);
 }
 
-/// Makes a step that does not touch the store, on seats that have its calls left, and answers it.
+/// Makes a step of a lane that has no store, on seats that have its calls left, and keeps its answer.
 #[inline(always)]
 pub(crate) fn make_call<R: Wait>(
     rt: &R,
     locks: &Locks,
-    seat: &mut DemSeat,
-    jobs: &mut QueueSeat,
+    seats: &mut Seats,
     step: &Step,
+    replies: &mut LaneReplies,
     response: &mut ArrayVec<u8, RESPONSE>,
-) -> StepAnswer<ReplyKind>
-    requires lock { IsSeatOf locks.now.dem seat.old }
-    requires queue { turn.IsSeatOf locks.now.queue.turn jobs.old }
-    requires blocks { jobs.old.start ≡ seat.old.start.config.blocks }
-    requires step { IsPossibleInLane seat.old.start.config step.now }
+)
+    requires lock { IsSeatOf locks.now.dem seats.old.dem }
+    requires queue { turn.IsSeatOf locks.now.queue.turn seats.old.queue }
+    requires blocks { seats.old.queue.start ≡ seats.old.dem.start.config.blocks }
+    requires step { IsPossibleInLane seats.old.dem.start.config step.now }
     requires no_store { is_store_step step.now ≡ false }
-    requires left { calls_by step.now ≤ seat.old.left }
-    requires queued { queued_by step.now ≤ jobs.old.left }
-    ensures made { Makes seat.old step.now (told_with response.new.items result) seat.new }
-    ensures queues { Queues jobs.old step.now (told_with response.new.items result) jobs.new }
-    ensures size { told_size (told_with response.new.items result) ≤ response_size (action_of step.now) }
-    ensures lock { IsSeatOf locks.now.dem seat.new }
-    ensures queue { turn.IsSeatOf locks.now.queue.turn jobs.new }
+    requires left { calls_by step.now ≤ seats.old.dem.left }
+    requires queued { queued_by step.now ≤ seats.old.queue.left }
+    requires room { HasRoomFor replies.old (action_of step.now) }
+    ensures made { MakesStep seats.old.dem seats.new.dem seats.old.queue seats.new.queue step.now replies.old replies.new }
+    ensures lock { IsSeatOf locks.now.dem seats.new.dem }
+    ensures queue { turn.IsSeatOf locks.now.queue.turn seats.new.queue }
 {
-    match step {
-        Step::Post { .. } | Step::Ask { .. } => ask_queue(rt, &locks.queue, jobs, step),
-        _ => call_dem(rt, &locks.dem, seat, step, response),
+    match action_of(step) {
+        Action::Call(op) => call_dem(rt, &locks.dem, &mut seats.dem, op, replies, response),
+        Action::Queue(op) => call_queue(rt, &locks.queue, &mut seats.queue, op, replies),
+        Action::Save | Action::Drain | Action::Get(_) | Action::Arm(_) => unreachable!(),
     }
 }
 
-/// Saves the durable state: the lock is held for the snapshot, and again for the note of its number, but not while it is written.
+/// Saves the durable state, and keeps the answer: the lock is held for the snapshot, and again for the note of its number, but not
+/// while it is written.
 fn save<R: Wait, B: Blocks + Drop>(
     rt: &R,
     dem: &DemLock,
     store: &mut Store<B>,
     config: &ValidConfig,
     seat: &mut DemSeat,
-) -> StepAnswer<ReplyKind>
+    replies: &mut LaneReplies,
+)
     requires lock { IsSeatOf dem.now seat.old }
     requires same { seat.old.start.config ≡ config.now }
     requires valid { IsValid config.now }
     requires fits { Fits config.now seat.old.start.base }
     requires alive { IsAlive config.now store.old }
     requires left { 2 ≤ seat.old.left }
-    ensures made { (bytes : List ℕ) → Makes seat.old steps.Save (told_with bytes result) seat.new }
-    ensures size { (bytes : List ℕ) → told_size (told_with bytes result) ≡ 0 }
+    requires room { HasRoomFor replies.old action.Save }
+    ensures takes { (jobs : Jobs) → TakesStep config.now seat.old seat.new jobs jobs steps.Save replies.old replies.new store.old store.new }
     ensures lock { IsSeatOf dem.now seat.new }
-    ensures carries { (bytes : List ℕ) (jobs : Jobs) (earlier : List Deed)
-        → Carries config.now seat.old seat.new jobs jobs earlier ((steps.Save, told_with bytes result) ∷ earlier) store.old store.new }
-    ensures leaves { LeavesStore store.old store.new }
 {
     let mut state = initial(config);
     let Ok(_taken) = dem.snapshot(rt, seat, &mut state) else {
@@ -180,66 +141,69 @@ fn save<R: Wait, B: Blocks + Drop>(
             let Ok(_noted) = dem.saved(rt, seat, generation) else {
                 unreachable!()
             };
-            StepAnswer::Saved(generation)
+            replies.keep(StepAnswer::Saved(generation), &[]);
         }
-        Err(fault) => StepAnswer::SaveFailed(fault),
+        Err(fault) => replies.keep(StepAnswer::SaveFailed(fault), &[]),
     }
 }
 
-/// Reads an application block.
-fn get<B: Blocks + Drop>(store: &mut Store<B>, block: u8) -> StepAnswer<ReplyKind>
+/// Reads an application block, and keeps what it holds.
+fn get<B: Blocks + Drop>(store: &mut Store<B>, block: u8, replies: &mut LaneReplies)
     requires block { block < 40 }
     requires alive { (c : Config) × (block < c.blocks) × IsAlive c store.old }
-    ensures got { (bytes : List ℕ) → IsGot (told_with bytes result) }
-    ensures carries { (bytes : List ℕ) (c : Config) (seat : DemView) (jobs : Jobs) (earlier : List Deed)
-        → Carries c seat seat jobs jobs earlier ((steps.Get block, told_with bytes result) ∷ earlier) store.old store.new }
-    ensures leaves { LeavesStore store.old store.new }
+    requires room { HasRoomFor replies.old (action.Get block) }
+    ensures takes { (c : Config) (seat : DemView) (jobs : Jobs)
+        → TakesStep c seat seat jobs jobs (steps.Get block) replies.old replies.new store.old store.new }
 {
     let mut bytes = ArrayVec::new();
     match store.get_block(block, &mut bytes) {
-        Ok(true) => StepAnswer::Bytes(bytes),
-        Ok(false) => StepAnswer::NoBlock,
-        Err(_) => StepAnswer::BlockFlash,
+        Ok(true) => replies.keep(StepAnswer::Bytes(bytes), &[]),
+        Ok(false) => replies.keep(StepAnswer::NoBlock, &[]),
+        Err(_) => replies.keep(StepAnswer::BlockFlash, &[]),
     }
 }
 
-/// Makes a step over the store, on seats that have its calls left, and answers it.
+/// Makes an arm on the bench, and keeps that it is made.
+fn make_arm<B: Blocks + Drop>(store: &mut Store<B>, arm: Arm, replies: &mut LaneReplies)
+    requires arm { CanArm arm }
+    requires arms { (driver_of store.old).device.bench.armed < 64 }
+    requires room { HasRoomFor replies.old (action.Arm arm) }
+    ensures takes { (c : Config) (seat : DemView) (jobs : Jobs)
+        → TakesStep c seat seat jobs jobs (steps.Arming arm) replies.old replies.new store.old store.new }
+{
+    store.arm(arm);
+    replies.keep(StepAnswer::Armed, &[]);
+}
+
+/// Makes a step of a lane that has the store, on seats that have its calls left, and keeps its answer.
+#[inline(always)]
 pub(crate) fn do_step<R: Wait, B: Blocks + Drop>(
     rt: &R,
     locks: &Locks,
     store: &mut Store<B>,
     config: &ValidConfig,
-    seat: &mut DemSeat,
-    jobs: &mut QueueSeat,
+    seats: &mut Seats,
     step: &Step,
+    replies: &mut LaneReplies,
     response: &mut ArrayVec<u8, RESPONSE>,
-) -> StepAnswer<ReplyKind>
-    requires ready { AreReady locks.now config.now seat.old jobs.old }
+)
+    requires ready { AreReady locks.now config.now seats.old.dem seats.old.queue }
     requires alive { IsAlive config.now store.old }
     requires step { IsPossible config.now (action_of step.now) }
     requires arms { (driver_of store.old).device.bench.armed + arm_count (action_of step.now) ≤ 64 }
-    requires left { calls_by step.now ≤ seat.old.left }
-    requires queued { queued_by step.now ≤ jobs.old.left }
-    ensures made { Makes seat.old step.now (told_with response.new.items result) seat.new }
-    ensures queues { Queues jobs.old step.now (told_with response.new.items result) jobs.new }
-    ensures size { told_size (told_with response.new.items result) ≤ response_size (action_of step.now) }
-    ensures lock { IsSeatOf locks.now.dem seat.new }
-    ensures queue { turn.IsSeatOf locks.now.queue.turn jobs.new }
-    ensures carries { (earlier : List Deed)
-        → Carries config.now seat.old seat.new jobs.old jobs.new earlier
-        (with_deed step.now (told_with response.new.items result) earlier) store.old store.new }
-    ensures goes_on { GoesOn (driver_of store.old) (driver_of store.new) }
-    ensures given { WereGiven (arms_of (action_of step.now)) (driver_of store.old).device.bench.arms (driver_of store.new).device.bench.arms }
-    ensures armed { (driver_of store.new).device.bench.armed ≤ (driver_of store.old).device.bench.armed + arm_count (action_of step.now) }
+    requires left { calls_by step.now ≤ seats.old.dem.left }
+    requires queued { queued_by step.now ≤ seats.old.queue.left }
+    requires room { HasRoomFor replies.old (action_of step.now) }
+    ensures takes { TakesStep config.now seats.old.dem seats.new.dem seats.old.queue seats.new.queue step.now replies.old replies.new store.old store.new }
+    ensures lock { IsSeatOf locks.now.dem seats.new.dem }
+    ensures queue { turn.IsSeatOf locks.now.queue.turn seats.new.queue }
 {
-    match step {
-        Step::Save => save(rt, &locks.dem, store, config, seat),
-        Step::Drain => drain(rt, &locks.queue, store, config, jobs),
-        Step::Get { block } => get(store, *block),
-        Step::Arming(arm) => {
-            store.arm(*arm);
-            StepAnswer::Armed
-        }
-        _ => make_call(rt, locks, seat, jobs, step, response),
+    match action_of(step) {
+        Action::Call(op) => call_dem(rt, &locks.dem, &mut seats.dem, op, replies, response),
+        Action::Queue(op) => call_queue(rt, &locks.queue, &mut seats.queue, op, replies),
+        Action::Save => save(rt, &locks.dem, store, config, &mut seats.dem, replies),
+        Action::Drain => drain(rt, &locks.queue, store, config, &mut seats.queue, replies),
+        Action::Get(block) => get(store, block, replies),
+        Action::Arm(arm) => make_arm(store, arm, replies),
     }
 }

@@ -12,3 +12,5 @@ pub mod Calls
 pub mod Giving
 pub mod Riding
 pub mod Causing
+pub mod ByAction
+pub mod Reading

@@ -6,10 +6,11 @@ use Rattle.flt_queue.specs.declared.job.Job.{Job}
 use Rattle.flt_queue.specs.declared.job.QueueOp.{QueueOp}
 use Rattle.flt_queue.specs.declared.job.QueueOp.TheVariants as ops
 use Rattle.flt_queue.specs.Queue.{History, is_of, next_of, waiting}
-use Rattle.flt_script.specs.declared.step.Step.{Step}
-use Rattle.flt_script.specs.declared.step.Step.TheVariants.{Get}
+use Rattle.flt_life.specs.Actions.{action_of}
 use Rattle.flt_life.specs.Answers.{Told}
 use Rattle.flt_life.specs.Ordered.{Deed}
+use Rattle.flt_life.specs.declared.action.Action.{Action}
+use Rattle.flt_life.specs.declared.action.Action.TheVariants.{Get}
 use Rattle.flt_life.specs.declared.answer.StepAnswer.TheVariants.{Drained, Bytes, NoBlock}
 
 -- The job that a take would hand out after these calls.
@@ -66,7 +67,7 @@ jobs_told (Drained written failed ∷ earlier) = jobs_told earlier + (written + 
 jobs_told (_ ∷ earlier) = jobs_told earlier
 
 -- A read answers by the drains before it.
-abbrev pub GetsBy : (ℕ → Content) → History → List Deed → Step → Told → Type 0
+abbrev pub GetsBy : (ℕ → Content) → History → List Deed → Action → Told → Type 0
 GetsBy first queue earlier (Get block) (Bytes bytes) =
     MayHold block (first (application_number block)) (up_to_done (jobs_told (map (λ d. d.1) earlier)) queue) (holding bytes.items)
 GetsBy first queue earlier (Get block) NoBlock = MayHold block (first (application_number block))
@@ -76,4 +77,4 @@ GetsBy first queue earlier _ _ = Unit {0}
 -- So does each read among these deeds.
 abbrev pub AreGot : (ℕ → Content) → History → List Deed → Type 0
 AreGot first queue [] = Unit {0}
-AreGot first queue (deed ∷ earlier) = GetsBy first queue earlier deed.0 deed.1 × AreGot first queue earlier
+AreGot first queue (deed ∷ earlier) = GetsBy first queue earlier (action_of deed.0) deed.1 × AreGot first queue earlier

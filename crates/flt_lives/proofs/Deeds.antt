@@ -3,24 +3,26 @@ use Rattle.std.proofs.Common.{◌≡◌, ◌∙◌, inl, inr, ℕ, ◌<◌, Bool
 use Rattle.std.specs.Prelude.{All}
 use Rattle.std.proofs.lemmas.List.{append-nil, append_assoc, reverse-append}
 use Rattle.std.proofs.lemmas.List.Elements.{All-nil, All-cons, All-head, All-tail, All-append, All-weaker}
-use Rattle.flt_flash.specs.Content.{Content, missing, bytes as holding}
+use Rattle.flt_flash.specs.Content.{Content}
 use Rattle.flt_config.specs.declared.config.Config.{Config}
 use Rattle.flt_config.specs.Validity.{IsValid}
 use Rattle.flt_generation.specs.Holding.{SameApplications}
 use Rattle.flt_generation.specs.Layout.{applications, application_number}
 use Rattle.flt_queue.specs.Queue.{History}
 use Rattle.flt_script.specs.declared.step.Step.{Step}
-use Rattle.flt_script.specs.declared.step.Step.TheVariants as steps
 use Rattle.flt_script.specs.Part.{PartOf}
 use Rattle.flt_script.specs.Step.{is_store_step}
 use Rattle.flt_life.specs.Actions.{IsPossible, action_of}
 use Rattle.flt_life.specs.Answers.{Told}
 use Rattle.flt_life.specs.Applications.{AreGot, GetsBy, HoldApplications, MayHold, jobs_told, up_to_done}
-use Rattle.flt_life.specs.declared.answer.StepAnswer.TheVariants as answers
+use Rattle.flt_life.specs.declared.action.Action.{Action}
+use Rattle.flt_life.specs.declared.action.Action.TheVariants as action
 use Rattle.flt_life.specs.Chain.{KeepsApplications, LifeView, deeds_of, queue_of}
 use Rattle.flt_life.specs.Moment.{Moment}
 use Rattle.flt_life.specs.Ordered.{Deed, block_deeds, deed_if, deeds_in, lane_deeds, with_deed}
 use Rattle.flt_life.specs.Parts.{IsPossibleInLane, IsPossiblePart, own_steps}
+use Rattle.flt_life.proofs.ByAction.{touches_by, touches_store}
+use Rattle.flt_life.proofs.Reading.{gets_also}
 use Rattle.flt_lives.specs.Alone.{AreAlone, IsAlone, IsPlain}
 use Rattle.flt_lives.specs.Living.{deeds_told, with_answer}
 
@@ -53,20 +55,16 @@ deed_added step told deeds = ap (map (λ (d : Deed). d.1)) (reverse-append deeds
 deed_none : (deeds : List Deed) → answers_of (deeds ++ []) ≡ answers_of deeds
 deed_none deeds = ap answers_of (append-nil deeds)
 
+answer_of : (does : Action) (step : Step) (told : Told) (deeds : List Deed) → answers_of (deeds ++ deed_if (touches_store does) step told []) ≡ with_answer does told (answers_of deeds)
+answer_of (action.Call op) step told deeds = deed_none deeds
+answer_of (action.Queue op) step told deeds = deed_none deeds
+answer_of action.Save step told deeds = deed_added step told deeds
+answer_of action.Drain step told deeds = deed_added step told deeds
+answer_of (action.Get block) step told deeds = deed_added step told deeds
+answer_of (action.Arm arm) step told deeds = deed_none deeds
+
 answer_added : (step : Step) (told : Told) (deeds : List Deed) → answers_of (deeds ++ with_deed step told []) ≡ with_answer (action_of step) told (answers_of deeds)
-answer_added (steps.Report event report) told deeds = deed_none deeds
-answer_added (steps.Show event) told deeds = deed_none deeds
-answer_added (steps.Cycle cycle) told deeds = deed_none deeds
-answer_added (steps.Tick ticks) told deeds = deed_none deeds
-answer_added (steps.Signal index value) told deeds = deed_none deeds
-answer_added (steps.Enable condition fulfilled) told deeds = deed_none deeds
-answer_added (steps.Request tester bytes) told deeds = deed_none deeds
-answer_added steps.Save told deeds = deed_added steps.Save told deeds
-answer_added (steps.Post urgent block bytes) told deeds = deed_none deeds
-answer_added steps.Drain told deeds = deed_added steps.Drain told deeds
-answer_added (steps.Get block) told deeds = deed_added (steps.Get block) told deeds
-answer_added (steps.Ask block) told deeds = deed_none deeds
-answer_added (steps.Arming arm) told deeds = deed_none deeds
+answer_added step told deeds = ap (λ is. answers_of (deeds ++ deed_if is step told [])) (touches_by step) ∙ answer_of (action_of step) step told deeds
 
 -- The answers of the deeds of parts, and of one step more.
 pub deeds_told_more : (parts : List (PartOf Step)) (own : List Told) (step : Step) (told : Told) → length own ≡ length (own_steps parts)
@@ -123,25 +121,18 @@ module _ (P : Step → Type 0) where
 -- ---- without a read of an application block each read is answered by the drains before it
 
 module _ (first : ℕ → Content) (queue : History) where
-  gets_none : (earlier : List Deed) (step : Step) (told : Told) → IsPlain (action_of step) → GetsBy first queue earlier step told
-  gets_none earlier (steps.Report event report) told plain = tt
-  gets_none earlier (steps.Show event) told plain = tt
-  gets_none earlier (steps.Cycle cycle) told plain = tt
-  gets_none earlier (steps.Tick ticks) told plain = tt
-  gets_none earlier (steps.Signal index value) told plain = tt
-  gets_none earlier (steps.Enable condition fulfilled) told plain = tt
-  gets_none earlier (steps.Request tester bytes) told plain = tt
-  gets_none earlier steps.Save told plain = tt
-  gets_none earlier (steps.Post urgent block bytes) told plain = tt
-  gets_none earlier steps.Drain told plain = tt
-  gets_none earlier (steps.Get block) told plain = absurd plain
-  gets_none earlier (steps.Ask block) told plain = tt
-  gets_none earlier (steps.Arming arm) told plain = tt
+  gets_none : (earlier : List Deed) (does : Action) (told : Told) → IsPlain does → GetsBy first queue earlier does told
+  gets_none earlier (action.Call op) told plain = tt
+  gets_none earlier (action.Queue op) told plain = tt
+  gets_none earlier action.Save told plain = tt
+  gets_none earlier action.Drain told plain = tt
+  gets_none earlier (action.Get block) told plain = absurd plain
+  gets_none earlier (action.Arm arm) told plain = tt
 
   none_got : (deeds : List Deed) → All (OfDeed (λ step. IsPlain (action_of step))) deeds → AreGot first queue deeds
   none_got [] plain = tt
   none_got (deed ∷ earlier) plain = (
-    gets_none earlier deed.0 deed.1 (All-head (OfDeed (λ step. IsPlain (action_of step))) deed earlier plain),
+    gets_none earlier (action_of deed.0) deed.1 (All-head (OfDeed (λ step. IsPlain (action_of step))) deed earlier plain),
     none_got earlier (All-tail (OfDeed (λ step. IsPlain (action_of step))) deed earlier plain),
   )
 
@@ -160,38 +151,14 @@ module _ (c : Config) (valid : IsValid c) (before after : ℕ → Content) (same
   hold_before : (block : ℕ) → block < applications → (past : History) (found : Content) → MayHold block (after (application_number block)) past found → MayHold block (before (application_number block)) past found
   hold_before block below past found = subst (λ first. MayHold block first past found) (same block below)
 
-  gets_before : (earlier : List Deed) (step : Step) (told : Told) → IsPossible c (action_of step) → GetsBy after queue earlier step told → GetsBy before queue earlier step told
-  gets_before earlier (steps.Get block) (answers.Bytes found) possible gets =
-      let most = valid.blocks in
-      hold_before block (omega (arith, possible, most)) (up_to_done (jobs_told (map (λ d. d.1) earlier)) queue) (holding found.items) gets
-  gets_before earlier (steps.Get block) answers.NoBlock possible gets =
-      let most = valid.blocks in
-      hold_before block (omega (arith, possible, most)) (up_to_done (jobs_told (map (λ d. d.1) earlier)) queue) missing gets
-  gets_before earlier (steps.Get block) (answers.Dem reply) possible gets = tt
-  gets_before earlier (steps.Get block) (answers.Saved number) possible gets = tt
-  gets_before earlier (steps.Get block) (answers.SaveFailed fault) possible gets = tt
-  gets_before earlier (steps.Get block) (answers.Queue reply) possible gets = tt
-  gets_before earlier (steps.Get block) (answers.Drained written failed) possible gets = tt
-  gets_before earlier (steps.Get block) answers.BlockFlash possible gets = tt
-  gets_before earlier (steps.Get block) answers.Armed possible gets = tt
-  gets_before earlier (steps.Get block) answers.Dark possible gets = tt
-  gets_before earlier (steps.Report event report) told possible gets = tt
-  gets_before earlier (steps.Show event) told possible gets = tt
-  gets_before earlier (steps.Cycle cycle) told possible gets = tt
-  gets_before earlier (steps.Tick ticks) told possible gets = tt
-  gets_before earlier (steps.Signal index value) told possible gets = tt
-  gets_before earlier (steps.Enable condition fulfilled) told possible gets = tt
-  gets_before earlier (steps.Request tester bytes) told possible gets = tt
-  gets_before earlier steps.Save told possible gets = tt
-  gets_before earlier (steps.Post urgent block bytes) told possible gets = tt
-  gets_before earlier steps.Drain told possible gets = tt
-  gets_before earlier (steps.Ask block) told possible gets = tt
-  gets_before earlier (steps.Arming arm) told possible gets = tt
+  gets_before : (earlier : List Deed) (does : Action) (told : Told) → IsPossible c does → GetsBy after queue earlier does told → GetsBy before queue earlier does told
+  gets_before earlier does told possible = gets_also after before queue queue earlier does told
+      (λ block found is. (let most = valid.blocks in let here : block < c.blocks = subst (IsPossible c) is possible in hold_before block (omega (arith, here, most)) (up_to_done (jobs_told (map (λ (d : Deed). d.1) earlier)) queue) found))
 
   got_before : (deeds : List Deed) → All (OfDeed (λ step. IsPossible c (action_of step))) deeds → AreGot after queue deeds → AreGot before queue deeds
   got_before [] possible got = tt
   got_before (deed ∷ earlier) possible got = (
-    gets_before earlier deed.0 deed.1 (All-head (OfDeed (λ step. IsPossible c (action_of step))) deed earlier possible) got.0,
+    gets_before earlier (action_of deed.0) deed.1 (All-head (OfDeed (λ step. IsPossible c (action_of step))) deed earlier possible) got.0,
     got_before earlier (All-tail (OfDeed (λ step. IsPossible c (action_of step))) deed earlier possible) got.1,
   )
 

@@ -1,5 +1,5 @@
 -- The room that the steps of a life need.
-use Rattle.std.proofs.Common.{◌≡◌, inl, inr, ℕ, suc, ◌+◌, ◌*◌, ◌<◌, ◌≤◌, List, [], ◌∷◌, ◌++◌, length, map, take, drop, get_or, refl, ap, sym, subst, arith, drop-cons, add-one, ◌∙◌}
+use Rattle.std.proofs.Common.{◌≡◌, inl, inr, true, ℕ, suc, ◌+◌, ◌*◌, ◌<◌, ◌≤◌, List, [], ◌∷◌, ◌++◌, length, map, take, drop, get_or, refl, ap, sym, subst, arith, drop-cons, add-one, ◌∙◌}
 use Rattle.std.specs.Prelude.{sum_by, All, IsTrue, vec_len}
 use Rattle.std.specs.Vec.{vec_capacity}
 use Rattle.std.proofs.lemmas.List.{get_or-map, length-append, length-map, map-append, take-append-drop}
@@ -22,7 +22,6 @@ use Rattle.flt_script.specs.declared.step.Step.{Step}
 use Rattle.flt_script.specs.Part.{PartOf, part_of, parts_of}
 use Rattle.flt_life.specs.Actions.{IsPossible, IsPossibleArm, action_of, arm_count, call_count, response_size}
 use Rattle.flt_life.specs.Parts.{IsPossibleInLane, IsPossiblePart, arms_in, calls_in, lanes_in, own_actions, own_steps, steps_in}
-use Rattle.flt_script.specs.declared.step.Step.TheVariants as steps
 use Rattle.flt_life.specs.declared.answer.StepAnswer.TheVariants as answers
 use Rattle.flt_life.specs.Played.{dark_answer}
 use Rattle.flt_fork.proofs.Blocks.{all_left, all_right}
@@ -33,6 +32,7 @@ use Rattle.flt_lives.specs.Dark.{IsLaneSteps}
 use Rattle.flt_lives.specs.declared.account.Account.{Account}
 use Rattle.flt_lives.specs.Living.{HasRoomFor}
 use Rattle.flt_life.proofs.Calls.{call_most}
+use Rattle.flt_life.proofs.ByAction.{may_stand, stands}
 use Rattle.flt_life.proofs.Responses.{answer_size, size_most}
 
 -- ---- bounds of one step and of all
@@ -202,20 +202,16 @@ module _ (parts : List Part) (index : ℕ) (part : Part) (within : index < lengt
 
 -- ---- a step in a lane is not made in a dark life
 
+dark_unarmed : (does : Action) → may_stand does ≡ true → dark_answer does ≡ answers.Dark
+dark_unarmed (Call op) may = refl
+dark_unarmed (Queue op) may = refl
+dark_unarmed Save may = refl
+dark_unarmed Drain may = refl
+dark_unarmed (Get block) may = refl
+dark_unarmed (Arm arm) may = absurd (cc)
+
 pub dark_in_lane : (step : Step) → IsTrue (is_lane_step step) → dark_answer (action_of step) ≡ answers.Dark
-dark_in_lane (steps.Report event report) may = refl
-dark_in_lane (steps.Show event) may = refl
-dark_in_lane (steps.Cycle cycle) may = refl
-dark_in_lane (steps.Tick ticks) may = refl
-dark_in_lane (steps.Signal index value) may = refl
-dark_in_lane (steps.Enable condition fulfilled) may = refl
-dark_in_lane (steps.Request tester bytes) may = refl
-dark_in_lane steps.Save may = refl
-dark_in_lane (steps.Post urgent block bytes) may = refl
-dark_in_lane steps.Drain may = refl
-dark_in_lane (steps.Get block) may = refl
-dark_in_lane (steps.Ask block) may = refl
-dark_in_lane (steps.Arming arm) may = absurd (cc)
+dark_in_lane step may = dark_unarmed (action_of step) (stands step may)
 
 -- Each of parts by themselves is one.
 pub one_alone : (parts : List Part) (index : ℕ) (part : Part) → index < length parts → part ≡ get_or parts index part → AreAlone (parts_of parts) → IsAlone (part_of part)

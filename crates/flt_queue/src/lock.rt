@@ -58,7 +58,7 @@ impl QueueLock {
 
     /// Makes a call when its turn comes.
     #[inline(always)]
-    fn call<R: Wait>(&self, rt: &R, seat: &mut QueueSeat, op: QueueOp) -> QueueAnswer
+    pub fn call<R: Wait>(&self, rt: &R, seat: &mut QueueSeat, op: QueueOp) -> QueueAnswer
         requires lock { IsSeatOf self.now.turn seat.old }
         requires admitted { IsAdmitted seat.old.start op }
         ensures full { IsErr result ↔ (seat.old.left ≡ 0) }

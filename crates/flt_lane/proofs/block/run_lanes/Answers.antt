@@ -26,12 +26,12 @@ run_works-requires-clause-one_stores g c κs within = subst (λ l. store_lanes l
 
 pub run_works-requires-clause-same : goal.run_works-requires-clause-same
 run_works-requires-clause-same g c κs within =
-    split_each (λ (w : LaneWork). w.seat) (λ w. calls_of w.steps.now) c.args.seats.now.dem (λ w. w.seat.start.config ≡ c.args.config.now) (λ number w is. ap (λ s. s.config) is.start_is ∙ c.requires.ready.same) _
+    split_each (λ (w : LaneWork). w.seats.dem) (λ w. calls_of w.steps.now) c.args.seats.now.dem (λ w. w.seats.dem.start.config ≡ c.args.config.now) (λ number w is. ap (λ s. s.config) is.start_is ∙ c.requires.ready.same) _
     c.seat_lanes-works.result.items c.seat_lanes-works.ensures.seated.dem
 
 pub run_works-requires-clause-fits : goal.run_works-requires-clause-fits
 run_works-requires-clause-fits g c κs within =
-    split_each (λ (w : LaneWork). w.seat) (λ w. calls_of w.steps.now) c.args.seats.now.dem (λ w. Fits c.args.config.now w.seat.start.base) (λ number w is. subst (λ s. Fits c.args.config.now s.base) (sym is.start_is) c.requires.ready.fits) _
+    split_each (λ (w : LaneWork). w.seats.dem) (λ w. calls_of w.steps.now) c.args.seats.now.dem (λ w. Fits c.args.config.now w.seats.dem.start.base) (λ number w is. subst (λ s. Fits c.args.config.now s.base) (sym is.start_is) c.requires.ready.fits) _
     c.seat_lanes-works.result.items c.seat_lanes-works.ensures.seated.dem
 
 pub join_lanes-requires-clause-can : goal.join_lanes-requires-clause-can

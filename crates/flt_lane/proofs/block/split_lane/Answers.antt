@@ -6,8 +6,8 @@ use Rattle.flt_lane.proofs.block.split_lane.Goals as goal
 pub for_lane-calls-requires : goal.for_lane-calls-requires
 for_lane-calls-requires g c = (lane_for c.args.locks.now c.args.main.now c.args.room c.requires.can.0 c.requires.can.1).1
 
-pub split-seat-requires : goal.split-seat-requires
-split-seat-requires g c =
+pub split-dem-requires : goal.split-dem-requires
+split-dem-requires g c =
     let can = c.requires.can.1 in
     let calls = calls_for c.args.locks.now c.args.main.now c.args.room c.requires.can.0 can in
     record {
@@ -17,8 +17,8 @@ split-seat-requires g c =
       children = omega (arith, can.dem.numbers);
     }
 
-pub split-queue_seat-requires : goal.split-queue_seat-requires
-split-queue_seat-requires g c =
+pub split-queue-requires : goal.split-queue-requires
+split-queue-requires g c =
     let can = c.requires.can.1 in
     let queued = queued_for c.args.locks.now c.args.main.now c.args.room c.requires.can.0 can in
     record {
@@ -35,6 +35,6 @@ returns g c =
     let queue = c.args.main.now.queue in
     record {
       seated = seated c.args.locks.now c.args.main.now c.args.room c.requires.can.0 c.requires.can.1 _ _
-          (c.split-seat.ensures.main ∙ ap (λ n. split_off n dem) calls.machine) (c.split-queue_seat.ensures.main ∙ ap (λ n. split_off n queue) calls.queue)
-          (c.split-seat.ensures.seat ∙ ap (λ n. split_seat n dem) calls.machine) (c.split-queue_seat.ensures.seat ∙ ap (λ n. split_seat n queue) calls.queue) c.number-number.ensures refl refl;
+          (c.split-dem.ensures.main ∙ ap (λ n. split_off n dem) calls.machine) (c.split-queue.ensures.main ∙ ap (λ n. split_off n queue) calls.queue)
+          (c.split-dem.ensures.seat ∙ ap (λ n. split_seat n dem) calls.machine) (c.split-queue.ensures.seat ∙ ap (λ n. split_seat n queue) calls.queue) c.number-number.ensures refl refl;
     }

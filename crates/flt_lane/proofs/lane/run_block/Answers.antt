@@ -19,7 +19,7 @@ run_first-requires-clause-ready g c κs within =
 pub run_first-requires-clause-fits : goal.run_first-requires-clause-fits
 run_first-requires-clause-fits g c κs within =
     let stores = c.in-Some.ensures.some in
-    all_exchanged (λ (lane : LaneWork). Fits c.args.config.now lane.seat.start.base) c.in-Some.place c.args.lanes.now c.swap.new.self
+    all_exchanged (λ (lane : LaneWork). Fits c.args.config.now lane.seats.dem.start.base) c.in-Some.place c.args.lanes.now c.swap.new.self
     (exchanged c.in-Some.place c.args.lanes.now c.swap.new.self stores.within c.swap.ensures.len c.swap.ensures.by_index) c.requires.fits
 
 pub returns-clause-ran : goal.returns-clause-ran

@@ -1,34 +1,22 @@
-use Rattle.std.proofs.Common.{◌≡◌, ◌+◌, List, Vec, map, arith, ap, subst, sym}
-use Rattle.std.specs.Prelude.{vec_len}
-use Rattle.std.specs.Vec.{vec_capacity}
-use Rattle.flt_life.specs.declared.replies.LaneReplies.{LaneReplies}
-use Rattle.flt_life.specs.Answers.{Told}
-use Rattle.flt_life.specs.Parts.{width}
-use Rattle.flt_life.specs.Room.{steps_of, told_in}
+use Rattle.std.proofs.Common.{[], ◌∷◌, map, subst, sym}
+use Rattle.flt_life.specs.Parts.{own_steps}
+use Rattle.flt_life.specs.Room.{HasRoomForSteps, steps_of, told_in}
 use Rattle.flt_lane.specs.BlockRun.{GainsPart, HasRunLanes}
 use Rattle.flt_lane.specs.Room.{part_in}
 use Rattle.flt_lane.specs.declared.room.BlockRoom.{BlockRoom}
 use Rattle.flt_lane.proofs.Lives.{gains_one, gains_block}
+use Rattle.flt_lane.proofs.Running.{room_for}
 use Rattle.flt_lane.proofs.living.run_part.Goals as goal
+
+pub do_step-requires-clause-room : goal.do_step-requires-clause-room
+do_step-requires-clause-room g c = room_for c.args.answers.now.own c.in-One.step.now [] (subst (λ p. HasRoomForSteps c.args.answers.now.own (own_steps (part_in p ∷ []))) c.in-One.is c.requires.own_room)
 
 pub returns-in-One-clause-gains : goal.returns-in-One-clause-gains
 returns-in-One-clause-gains g c =
-    let own = told_in c.args.answers.now.own in
-    let own_after = told_in c.run_one.new.answers.own in
     let told = map told_in c.args.answers.now.told.items in
-    let same : map told_in c.run_one.new.answers.told.items ≡ told = ap (λ (v : Vec LaneReplies _). map told_in v.items) c.run_one.ensures.others in
-    subst (λ (l : List (List Told)). GainsPart c.args.config.now c.args.seats.now.dem c.run_one.new.seats.dem c.args.seats.now.queue c.run_one.new.seats.queue (part_in c.args.part) own own_after told l c.args.store.now c.run_one.new.store) (sym same)
-    (subst (λ p. GainsPart c.args.config.now c.args.seats.now.dem c.run_one.new.seats.dem c.args.seats.now.queue c.run_one.new.seats.queue (part_in p) own own_after told told c.args.store.now c.run_one.new.store) (sym c.in-One.is)
-    (gains_one c.args.config.now c.args.seats.now.dem c.run_one.new.seats.dem c.args.seats.now.queue c.run_one.new.seats.queue c.args.store.now c.run_one.new.store c.in-One.step.now own own_after told
-    c.requires.main.0 c.requires.main.1 c.run_one.ensures.stepped))
-
-pub returns-in-One-clause-told_len : goal.returns-in-One-clause-told_len
-returns-in-One-clause-told_len g c =
-    let same = ap vec_len c.run_one.ensures.others in
-    subst (λ p. vec_len c.run_one.new.answers.told ≡ vec_len c.args.answers.now.told + width (part_in p)) (sym c.in-One.is) (omega (arith, same))
-
-pub returns-in-One-clause-told_capacity : goal.returns-in-One-clause-told_capacity
-returns-in-One-clause-told_capacity g c = ap vec_capacity c.run_one.ensures.others
+    subst (λ p. GainsPart c.args.config.now c.args.seats.now.dem c.do_step.new.seats.dem c.args.seats.now.queue c.do_step.new.seats.queue (part_in p) (told_in c.args.answers.now.own) (told_in c.do_step.new.replies) told told c.args.store.now c.do_step.new.store) (sym c.in-One.is)
+    (gains_one c.args.config.now c.args.seats.now.dem c.do_step.new.seats.dem c.args.seats.now.queue c.do_step.new.seats.queue c.args.store.now c.do_step.new.store c.in-One.step.now c.args.answers.now.own c.do_step.new.replies told
+    c.requires.main.0 c.requires.main.1 c.do_step.ensures.takes)
 
 pub returns-in-Lanes-clause-gains : goal.returns-in-Lanes-clause-gains
 returns-in-Lanes-clause-gains g c =

@@ -1,20 +1,29 @@
-use Rattle.std.proofs.Common.{◌≤◌, ◌∙◌, rules, subst, sym}
+use Rattle.std.proofs.Common.{◌≡◌, ◌≤◌, arith, refl, rules, subst, sym, []}
 use Rattle.std.specs.Prelude.{reverse}
 use Rattle.flt_turn.specs.Seats.{ops_before}
 use Rattle.flt_shared.specs.Call.{whole}
-use Rattle.flt_life.specs.Actions.{IsPossible, response_size}
+use Rattle.flt_life.specs.Actions.{response_size}
 use Rattle.flt_life.specs.Answers.{reply_size}
-use Rattle.flt_lane.proofs.Stepping.{one_made, size_of_told}
+use Rattle.flt_life.specs.Played.{ActionQueues}
+use Rattle.flt_life.specs.declared.action.Action.TheVariants as action
+use Rattle.flt_life.specs.declared.answer.StepAnswer.TheVariants as answers
+use Rattle.flt_lane.proofs.Answering.{keeps_with}
+use Rattle.flt_lane.proofs.Stepping.{none_queued, one_made, size_of_told}
 use Rattle.flt_lane.proofs.step.call_dem.Goals as goal
+use Rattle.flt_lane.proofs.step.call_dem.Goals.{After-keep}
 
-pub call_into-requires-clause-admitted : goal.call_into-requires-clause-admitted
-call_into-requires-clause-admitted g c = (subst (IsPossible c.args.seat.now.start.config) (sym c.action_of.ensures ∙ c.in-Call.is) c.requires.step.1).1
+-- The response is no longer than one to this call.
+size_is : (g : _) (c : After-keep g) → reply_size (whole c.in-Ok.told c.call_into.new.response).reply ≤ response_size (action.Call c.args.op)
+size_is g c = size_of_told c.args.seat.now.start (reverse (ops_before c.in-Ok.told.place c.call_into.new.seat.seen)) c.args.op c.in-Ok.told.reply c.call_into.new.response.items c.in-Ok.ensures.call.reply (search rules)
 
 pub returns-clause-made : goal.returns-clause-made
-returns-clause-made g c =
-    one_made c.args.seat.now c.args.step.now c.in-Call.op (whole c.in-Ok.told c.call_into.new.response) c.call_into.new.seat (sym c.action_of.ensures ∙ c.in-Call.is) c.in-Ok.ensures.call
-
-pub returns-clause-size : goal.returns-clause-size
-returns-clause-size g c =
-    subst (λ a. reply_size (whole c.in-Ok.told c.call_into.new.response).reply ≤ response_size a) (sym (sym c.action_of.ensures ∙ c.in-Call.is))
-    (size_of_told c.args.seat.now.start (reverse (ops_before c.in-Ok.told.place c.call_into.new.seat.seen)) c.in-Call.op c.in-Ok.told.reply c.call_into.new.response.items c.in-Ok.ensures.call.reply (search rules))
+returns-clause-made g c = λ step jobs makes.
+    let told = whole c.in-Ok.told c.call_into.new.response in
+    let kept = c.keep.ensures in
+    record {
+      answer = answers.Dem told;
+      keeps = keeps_with c.args.replies.now c.keep.new.self step (answers.Dem c.in-Ok.told) c.call_into.new.response.items _ c.as_slice.ensures.value kept.told kept.answers kept.room kept.responses kept.bytes
+          (subst (λ a. reply_size told.reply ≤ response_size a) (sym makes) (size_is g c));
+      dem = one_made c.args.seat.now step c.args.op told c.call_into.new.seat makes c.in-Ok.ensures.call;
+      queue = none_queued jobs step (answers.Dem told) (subst (λ a. ActionQueues a (answers.Dem told) []) (sym makes) refl);
+    }

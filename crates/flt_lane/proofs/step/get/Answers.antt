@@ -12,22 +12,25 @@ use Rattle.flt_store.specs.Store.{IsAlive, IsRunning, driver_of}
 use Rattle.flt_life.specs.Answers.{Told}
 use Rattle.flt_life.specs.Applications.{GetsBy, MayHold, jobs_told, up_to_done}
 use Rattle.flt_life.specs.Ordered.{Deed}
+use Rattle.flt_life.specs.declared.action.Action.TheVariants as action
 use Rattle.flt_life.specs.declared.answer.StepAnswer.TheVariants as answers
 use Rattle.flt_shared.specs.Call.{Seat}
 use Rattle.flt_life.specs.SoFar.{IsCaused}
 use Rattle.flt_life.proofs.Causing.{caused_read, caused_unread}
 use Rattle.flt_lane.specs.Living.{AreHeld, Carries, answers_of, drains_by, saves_by}
 use Rattle.flt_lane.specs.Runs.{QueueSeat}
+use Rattle.flt_lane.proofs.Answering.{keeps, takes_deed}
 use Rattle.flt_lane.proofs.Carrying.{gets_bytes, gets_none, holds_deed, living_deed}
 use Rattle.flt_lane.proofs.Keeping.{IsNoSave}
 use Rattle.flt_lane.proofs.Leaving.{leaves_by_calls}
+use Rattle.flt_lane.proofs.Stepping.{none_made, none_queued}
 use Rattle.flt_lane.proofs.step.get.Goals as goal
 
 -- What a read carries on, by its answer.
 read_carries : {B : Type 0} {b : Ghosts B} (c : Config) (seat : Seat) (jobs : QueueSeat) (earlier : List Deed) (block : ℕ) (told : Told) (store now : Store B b) → SameValues (driver_of store) (driver_of now)
     → ((held spare : Generation) → IsRunning c held spare store → IsRunning c held spare now) → IsNoSave told → saves_by told ≡ 0 → drains_by told ≡ 0 → jobs_told (told ∷ answers_of earlier) ≡ jobs_told (answers_of earlier)
     → ((begun : ℕ) → IsCaused c begun (answers_of earlier) store → IsCaused c begun (told ∷ answers_of earlier) now)
-    → (IsAlive c store → (first : ℕ → Content) (past : History) → AreHeld first past (jobs_told (answers_of earlier)) earlier (driver_of store).value → GetsBy first past earlier (steps.Get block) told)
+    → (IsAlive c store → (first : ℕ → Content) (past : History) → AreHeld first past (jobs_told (answers_of earlier)) earlier (driver_of store).value → GetsBy first past earlier (action.Get block) told)
     → Carries c seat seat jobs jobs earlier ((steps.Get block, told) ∷ earlier) store now
 read_carries c seat jobs earlier block told store now same runs no_save no_saves no_drain no_job causes gets = record {
   alive = λ alive. record { held = alive.held; spare = alive.spare; running = runs alive.held alive.spare alive.running };
@@ -41,35 +44,47 @@ held_by : (first : ℕ → Content) (past : History) (earlier : List Deed) (valu
     → MayHold block (first (application_number block)) (up_to_done (jobs_told (answers_of earlier)) past) content
 held_by first past earlier values block content below is held = subst (MayHold block (first (application_number block)) (up_to_done (jobs_told (answers_of earlier)) past)) is (held.held block below)
 
-pub returns-in-Ok-true-clause-carries : goal.returns-in-Ok-true-clause-carries
-returns-in-Ok-true-clause-carries g c = λ bytes config seat jobs earlier.
-    let told : Told = answers.Bytes c.get_block.new.out in
-    read_carries config seat jobs earlier c.args.block told c.args.store.now c.get_block.new.self c.get_block.ensures.values (c.get_block.ensures.running config) tt refl refl refl
-    (λ begun caused. caused_read config begun (answers_of earlier) c.args.store.now c.get_block.new.self caused told tt c.get_block.ensures.follows (c.get_block.ensures.running config caused.held_now caused.spare_now caused.running))
-    (λ alive first past held. held_by first past earlier (driver_of c.args.store.now).value c.args.block _ c.requires.block
-    (gets_bytes _ c.in-Ok-true.field-0 _ (c.in-Ok-true.ensures.got config alive.held alive.spare alive.running) c.in-Ok-true.field-0-test) held)
+pub returns-in-Ok-true : goal.returns-in-Ok-true
+returns-in-Ok-true g c = record {
+  takes = λ config seat jobs.
+      let told : Told = answers.Bytes c.get_block.new.out in
+      let kept = c.keep.ensures in
+      takes_deed config seat seat jobs jobs (steps.Get c.args.block) told c.args.replies.now c.keep.new.self c.args.store.now c.get_block.new.self refl
+      (keeps c.args.replies.now c.keep.new.self (steps.Get c.args.block) (answers.Bytes c.get_block.new.out) kept.told kept.answers kept.room kept.responses kept.bytes refl)
+      (none_made seat (steps.Get c.args.block) told (tt, refl)) (none_queued jobs (steps.Get c.args.block) told refl)
+      (λ earlier. read_carries config seat jobs earlier c.args.block told c.args.store.now c.get_block.new.self c.get_block.ensures.values (c.get_block.ensures.running config) tt refl refl refl
+      (λ begun caused. caused_read config begun (answers_of earlier) c.args.store.now c.get_block.new.self caused told tt c.get_block.ensures.follows (c.get_block.ensures.running config caused.held_now caused.spare_now caused.running))
+      (λ alive first past held. held_by first past earlier (driver_of c.args.store.now).value c.args.block _ c.requires.block
+      (gets_bytes _ c.in-Ok-true.field-0 _ (c.in-Ok-true.ensures.got config alive.held alive.spare alive.running) c.in-Ok-true.field-0-test) held))
+      (leaves_by_calls c.args.store.now c.get_block.new.self c.get_block.ensures.follows);
+}
 
-pub returns-in-Ok-false-clause-carries : goal.returns-in-Ok-false-clause-carries
-returns-in-Ok-false-clause-carries g c = λ bytes config seat jobs earlier.
-    let told : Told = answers.NoBlock in
-    read_carries config seat jobs earlier c.args.block told c.args.store.now c.get_block.new.self c.get_block.ensures.values (c.get_block.ensures.running config) tt refl refl refl
-    (λ begun caused. caused_read config begun (answers_of earlier) c.args.store.now c.get_block.new.self caused told tt c.get_block.ensures.follows (c.get_block.ensures.running config caused.held_now caused.spare_now caused.running))
-    (λ alive first past held. held_by first past earlier (driver_of c.args.store.now).value c.args.block _ c.requires.block
-    (gets_none _ c.in-Ok-false.field-0 _ (c.in-Ok-false.ensures.got config alive.held alive.spare alive.running) c.in-Ok-false.field-0-test) held)
+pub returns-in-Ok-false : goal.returns-in-Ok-false
+returns-in-Ok-false g c = record {
+  takes = λ config seat jobs.
+      let told : Told = answers.NoBlock in
+      let kept = c.keep-in-Ok-false.ensures in
+      takes_deed config seat seat jobs jobs (steps.Get c.args.block) told c.args.replies.now c.keep-in-Ok-false.new.self c.args.store.now c.get_block.new.self refl
+      (keeps c.args.replies.now c.keep-in-Ok-false.new.self (steps.Get c.args.block) answers.NoBlock kept.told kept.answers kept.room kept.responses kept.bytes refl)
+      (none_made seat (steps.Get c.args.block) told (tt, refl)) (none_queued jobs (steps.Get c.args.block) told refl)
+      (λ earlier. read_carries config seat jobs earlier c.args.block told c.args.store.now c.get_block.new.self c.get_block.ensures.values (c.get_block.ensures.running config) tt refl refl refl
+      (λ begun caused. caused_read config begun (answers_of earlier) c.args.store.now c.get_block.new.self caused told tt c.get_block.ensures.follows (c.get_block.ensures.running config caused.held_now caused.spare_now caused.running))
+      (λ alive first past held. held_by first past earlier (driver_of c.args.store.now).value c.args.block _ c.requires.block
+      (gets_none _ c.in-Ok-false.field-0 _ (c.in-Ok-false.ensures.got config alive.held alive.spare alive.running) c.in-Ok-false.field-0-test) held))
+      (leaves_by_calls c.args.store.now c.get_block.new.self c.get_block.ensures.follows);
+}
 
-pub returns-in-Err-clause-carries : goal.returns-in-Err-clause-carries
-returns-in-Err-clause-carries g c = λ bytes config seat jobs earlier.
-    let told : Told = answers.BlockFlash in
-    read_carries config seat jobs earlier c.args.block told c.args.store.now c.get_block.new.self c.get_block.ensures.values (c.get_block.ensures.running config) tt refl refl refl
-    (λ begun caused. caused_unread config begun (answers_of earlier) c.args.store.now c.get_block.new.self caused c.get_block.ensures.follows
-    (c.in-Err.ensures.flash config caused.held_now caused.spare_now caused.running) (c.get_block.ensures.running config caused.held_now caused.spare_now caused.running))
-    (λ alive first past held. tt)
-
-pub returns-in-Ok-true-clause-leaves : goal.returns-in-Ok-true-clause-leaves
-returns-in-Ok-true-clause-leaves g c = leaves_by_calls c.args.store.now c.get_block.new.self c.get_block.ensures.follows
-
-pub returns-in-Ok-false-clause-leaves : goal.returns-in-Ok-false-clause-leaves
-returns-in-Ok-false-clause-leaves g c = leaves_by_calls c.args.store.now c.get_block.new.self c.get_block.ensures.follows
-
-pub returns-in-Err-clause-leaves : goal.returns-in-Err-clause-leaves
-returns-in-Err-clause-leaves g c = leaves_by_calls c.args.store.now c.get_block.new.self c.get_block.ensures.follows
+pub returns-in-Err : goal.returns-in-Err
+returns-in-Err g c = record {
+  takes = λ config seat jobs.
+      let told : Told = answers.BlockFlash in
+      let kept = c.keep-in-Err.ensures in
+      takes_deed config seat seat jobs jobs (steps.Get c.args.block) told c.args.replies.now c.keep-in-Err.new.self c.args.store.now c.get_block.new.self refl
+      (keeps c.args.replies.now c.keep-in-Err.new.self (steps.Get c.args.block) answers.BlockFlash kept.told kept.answers kept.room kept.responses kept.bytes refl)
+      (none_made seat (steps.Get c.args.block) told (tt, refl)) (none_queued jobs (steps.Get c.args.block) told refl)
+      (λ earlier. read_carries config seat jobs earlier c.args.block told c.args.store.now c.get_block.new.self c.get_block.ensures.values (c.get_block.ensures.running config) tt refl refl refl
+      (λ begun caused. caused_unread config begun (answers_of earlier) c.args.store.now c.get_block.new.self caused c.get_block.ensures.follows
+      (c.in-Err.ensures.flash config caused.held_now caused.spare_now caused.running) (c.get_block.ensures.running config caused.held_now caused.spare_now caused.running))
+      (λ alive first past held. tt))
+      (leaves_by_calls c.args.store.now c.get_block.new.self c.get_block.ensures.follows);
+}

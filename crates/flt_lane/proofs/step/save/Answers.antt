@@ -1,4 +1,5 @@
 use Rattle.std.proofs.Common.{Err, ap, refl}
+use Rattle.flt_life.specs.Answers.{Told}
 use Rattle.flt_life.specs.declared.answer.StepAnswer.TheVariants as answers
 use Rattle.flt_script.specs.declared.step.Step.TheVariants as steps
 use Rattle.flt_store.specs.Store.{driver_of}
@@ -7,7 +8,8 @@ use Rattle.flt_life.proofs.Causing.{caused_saved, caused_failed}
 use Rattle.flt_lane.specs.Living.{answers_of}
 use Rattle.flt_lane.proofs.Carrying.{holds_deed}
 use Rattle.flt_lane.proofs.Saves.{living_saved, living_failed}
-use Rattle.flt_lane.proofs.Stepping.{failed_made, saved_made, taken_fits}
+use Rattle.flt_lane.proofs.Answering.{keeps, takes_deed}
+use Rattle.flt_lane.proofs.Stepping.{failed_made, none_queued, saved_made, taken_fits}
 use Rattle.flt_lane.proofs.Leaving.{leaves_by_calls}
 use Rattle.flt_lane.proofs.step.save.Goals as goal
 
@@ -15,38 +17,39 @@ pub save-requires-clause-fits : goal.save-requires-clause-fits
 save-requires-clause-fits g c =
     taken_fits c.args.config.now c.args.seat.now.start (past c.in-Ok._taken.place c.snapshot.new.seat.seen) c.snapshot.new.out c.requires.same c.requires.valid c.requires.fits c.in-Ok.ensures.state
 
-pub returns-in-Ok-saved-clause-made : goal.returns-in-Ok-saved-clause-made
-returns-in-Ok-saved-clause-made g c = λ bytes.
-    saved_made c.args.seat.now c.snapshot.new.seat c.in-Ok-save.generation c.in-Ok._taken c.in-Ok-saved._noted c.saved.new.seat c.in-Ok.ensures.call c.in-Ok-saved.ensures.call
+pub returns-in-Ok-saved-clause-takes : goal.returns-in-Ok-saved-clause-takes
+returns-in-Ok-saved-clause-takes g c = λ jobs.
+    let told : Told = answers.Saved c.in-Ok-save.generation in
+    let kept = c.keep.ensures in
+    takes_deed c.args.config.now c.args.seat.now c.saved.new.seat jobs jobs steps.Save told c.args.replies.now c.keep.new.self c.args.store.now c.save.new.self refl
+    (keeps c.args.replies.now c.keep.new.self steps.Save (answers.Saved c.in-Ok-save.generation) kept.told kept.answers kept.room kept.responses kept.bytes refl)
+    (saved_made c.args.seat.now c.snapshot.new.seat c.in-Ok-save.generation c.in-Ok._taken c.in-Ok-saved._noted c.saved.new.seat c.in-Ok.ensures.call c.in-Ok-saved.ensures.call) (none_queued jobs steps.Save told refl)
+    (λ earlier. record {
+      alive = λ alive. c.save.ensures.alive;
+      living = λ first start living. living_saved c.args.config.now c.args.seat.now c.snapshot.new.seat c.in-Ok._taken c.snapshot.new.out c.in-Ok.ensures.call c.in-Ok.ensures.state earlier c.args.store.now c.save.new.self
+          first start living c.saved.new.seat c.in-Ok-save.generation c.in-Ok-saved._noted c.in-Ok-saved.ensures.call c.in-Ok-save.ensures.saved;
+      caused = λ begun caused. caused_saved c.args.config.now begun (answers_of earlier) c.args.store.now c.save.new.self caused c.snapshot.new.out c.in-Ok-save.generation c.save.ensures.follows
+          (c.in-Ok-save.ensures.saved caused.held_now caused.spare_now caused.running);
+      holds = λ alive first holds. holds_deed first jobs earlier (steps.Save, told) (driver_of c.args.store.now).value (driver_of c.save.new.self).value c.save.ensures.applications refl refl (λ past held. tt) holds;
+    })
+    (leaves_by_calls c.args.store.now c.save.new.self c.save.ensures.follows)
 
-pub returns-in-Err-clause-made : goal.returns-in-Err-clause-made
-returns-in-Err-clause-made g c = λ bytes. failed_made c.args.seat.now c.in-Err.fault c.in-Ok._taken c.snapshot.new.seat c.in-Ok.ensures.call
-
-pub returns-in-Ok-saved-clause-carries : goal.returns-in-Ok-saved-clause-carries
-returns-in-Ok-saved-clause-carries g c = λ bytes jobs earlier. record {
-  alive = λ alive. c.save.ensures.alive;
-  living = λ first start living. living_saved c.args.config.now c.args.seat.now c.snapshot.new.seat c.in-Ok._taken c.snapshot.new.out c.in-Ok.ensures.call c.in-Ok.ensures.state earlier c.args.store.now c.save.new.self
-      first start living c.saved.new.seat c.in-Ok-save.generation c.in-Ok-saved._noted c.in-Ok-saved.ensures.call c.in-Ok-save.ensures.saved;
-  caused = λ begun caused. caused_saved c.args.config.now begun (answers_of earlier) c.args.store.now c.save.new.self caused c.snapshot.new.out c.in-Ok-save.generation c.save.ensures.follows
-      (c.in-Ok-save.ensures.saved caused.held_now caused.spare_now caused.running);
-  holds = λ alive first holds. holds_deed first jobs earlier (steps.Save, answers.Saved c.in-Ok-save.generation) (driver_of c.args.store.now).value (driver_of c.save.new.self).value c.save.ensures.applications refl refl (λ past held. tt) holds;
-}
-
-pub returns-in-Err-clause-carries : goal.returns-in-Err-clause-carries
-returns-in-Err-clause-carries g c = λ bytes jobs earlier. record {
-  alive = λ alive. c.save.ensures.alive;
-  living = λ first start living. living_failed c.args.config.now c.args.seat.now c.snapshot.new.seat c.in-Ok._taken c.snapshot.new.out c.in-Ok.ensures.call c.in-Ok.ensures.state earlier c.args.store.now c.save.new.self
-      first start living c.in-Err.fault c.in-Err.ensures.failed;
-  caused = λ begun caused. caused_failed c.args.config.now begun (answers_of earlier) c.args.store.now c.save.new.self caused c.snapshot.new.out c.in-Err.fault c.save.ensures.follows
-      (c.in-Err.ensures.failed caused.held_now caused.spare_now caused.running)
-      (λ is. c.in-Err.ensures.flash caused.held_now caused.spare_now caused.running (ap Err is))
-      (λ is. c.in-Err.ensures.spent caused.held_now caused.spare_now caused.running (ap Err is))
-      (λ is. (let stuck = c.in-Err.ensures.sequence caused.held_now caused.spare_now caused.running (ap Err is) in g.met.B.Blocks.stuck_is_spent c.save.new.self.nvm.blocks stuck.0 stuck.1 stuck.3));
-  holds = λ alive first holds. holds_deed first jobs earlier (steps.Save, answers.SaveFailed c.in-Err.fault) (driver_of c.args.store.now).value (driver_of c.save.new.self).value c.save.ensures.applications refl refl (λ past held. tt) holds;
-}
-
-pub returns-in-Ok-saved-clause-leaves : goal.returns-in-Ok-saved-clause-leaves
-returns-in-Ok-saved-clause-leaves g c = leaves_by_calls c.args.store.now c.save.new.self c.save.ensures.follows
-
-pub returns-in-Err-clause-leaves : goal.returns-in-Err-clause-leaves
-returns-in-Err-clause-leaves g c = leaves_by_calls c.args.store.now c.save.new.self c.save.ensures.follows
+pub returns-in-Err-clause-takes : goal.returns-in-Err-clause-takes
+returns-in-Err-clause-takes g c = λ jobs.
+    let told : Told = answers.SaveFailed c.in-Err.fault in
+    let kept = c.keep-in-Err.ensures in
+    takes_deed c.args.config.now c.args.seat.now c.snapshot.new.seat jobs jobs steps.Save told c.args.replies.now c.keep-in-Err.new.self c.args.store.now c.save.new.self refl
+    (keeps c.args.replies.now c.keep-in-Err.new.self steps.Save (answers.SaveFailed c.in-Err.fault) kept.told kept.answers kept.room kept.responses kept.bytes refl)
+    (failed_made c.args.seat.now c.in-Err.fault c.in-Ok._taken c.snapshot.new.seat c.in-Ok.ensures.call) (none_queued jobs steps.Save told refl)
+    (λ earlier. record {
+      alive = λ alive. c.save.ensures.alive;
+      living = λ first start living. living_failed c.args.config.now c.args.seat.now c.snapshot.new.seat c.in-Ok._taken c.snapshot.new.out c.in-Ok.ensures.call c.in-Ok.ensures.state earlier c.args.store.now c.save.new.self
+          first start living c.in-Err.fault c.in-Err.ensures.failed;
+      caused = λ begun caused. caused_failed c.args.config.now begun (answers_of earlier) c.args.store.now c.save.new.self caused c.snapshot.new.out c.in-Err.fault c.save.ensures.follows
+          (c.in-Err.ensures.failed caused.held_now caused.spare_now caused.running)
+          (λ is. c.in-Err.ensures.flash caused.held_now caused.spare_now caused.running (ap Err is))
+          (λ is. c.in-Err.ensures.spent caused.held_now caused.spare_now caused.running (ap Err is))
+          (λ is. (let stuck = c.in-Err.ensures.sequence caused.held_now caused.spare_now caused.running (ap Err is) in g.met.B.Blocks.stuck_is_spent c.save.new.self.nvm.blocks stuck.0 stuck.1 stuck.3));
+      holds = λ alive first holds. holds_deed first jobs earlier (steps.Save, told) (driver_of c.args.store.now).value (driver_of c.save.new.self).value c.save.ensures.applications refl refl (λ past held. tt) holds;
+    })
+    (leaves_by_calls c.args.store.now c.save.new.self c.save.ensures.follows)

@@ -1,0 +1,46 @@
+-- What a step leaves of its lane: its answer is kept, its calls are made on the two seats, and the store goes on.
+use Rattle.std.specs.Prelude.{◌≡◌, ◌+◌, ◌≤◌, List, [], ◌∷◌, ◌++◌, vec_len}
+use Rattle.std.specs.Vec.{vec_capacity}
+use Rattle.flt_flash.specs.declared.blocks.Blocks.{Ghosts}
+use Rattle.flt_config.specs.declared.config.Config.{Config}
+use Rattle.flt_script.specs.declared.step.Step.{Step}
+use Rattle.flt_store.specs.declared.store.Store.{Store}
+use Rattle.flt_store.specs.Store.{driver_of}
+use Rattle.flt_life.specs.declared.action.Action.{Action}
+use Rattle.flt_life.specs.declared.replies.LaneReplies.{LaneReplies}
+use Rattle.flt_life.specs.Actions.{action_of, arm_count, arms_of, response_size}
+use Rattle.flt_life.specs.Answers.{Told}
+use Rattle.flt_life.specs.Going.{GoesOn, WereGiven}
+use Rattle.flt_life.specs.Ordered.{Deed, with_deed}
+use Rattle.flt_life.specs.Room.{HasRoomForSteps, told_in}
+use Rattle.flt_shared.specs.Call.{Seat}
+use Rattle.flt_lane.specs.Living.{Carries}
+use Rattle.flt_lane.specs.Runs.{Makes, Queues, QueueSeat}
+
+-- There is room for the answer to what a step does.
+pub record HasRoomFor (replies : LaneReplies) (action : Action) : Type 0 where
+  pub answers : vec_len replies.answers + 1 ≤ vec_capacity replies.answers
+  pub responses : vec_len replies.responses + response_size action ≤ vec_capacity replies.responses
+
+-- The answer was put behind those before it, and there is room for those to the later steps.
+pub record KeepsAnswer (before after : LaneReplies) (step : Step) (answer : Told) : Type 0 where
+  pub told : told_in after ≡ told_in before ++ answer ∷ []
+  pub len : vec_len after.answers ≡ vec_len before.answers + 1
+  pub room : (later : List Step) → HasRoomForSteps before (step ∷ later) → HasRoomForSteps after later
+
+-- The step made its calls on both seats, and its answer by them was kept.
+pub record MakesStep (seat after : Seat) (jobs jobs_after : QueueSeat) (step : Step) (replies kept : LaneReplies) : Type 0 where
+  pub answer : Told
+  pub keeps : KeepsAnswer replies kept step answer
+  pub dem : Makes seat step answer after
+  pub queue : Queues jobs step answer jobs_after
+
+module _ {B : Type 0} {b : Ghosts B} where
+  -- And its deed was done over the store, where it is one.
+  pub record TakesStep (c : Config) (seat after : Seat) (jobs jobs_after : QueueSeat) (step : Step) (replies kept : LaneReplies)
+      (store now : Store B b) : Type 0 where
+    pub made : MakesStep seat after jobs jobs_after step replies kept
+    pub carries : (earlier : List Deed) → Carries c seat after jobs jobs_after earlier (with_deed step made.answer earlier) store now
+    pub goes_on : GoesOn (driver_of store) (driver_of now)
+    pub given : WereGiven (arms_of (action_of step)) (driver_of store).device.bench.arms (driver_of now).device.bench.arms
+    pub armed : (driver_of now).device.bench.armed ≤ (driver_of store).device.bench.armed + arm_count (action_of step)
