@@ -1,5 +1,5 @@
 //! A whole life on two locks, from the state that a start-up restored to the unit for the next one, and such lives over a device.
-ghost use Rattle.std.specs.Prelude.{◌≡◌, ◌+◌, ◌≤◌, All, IfSome, length, sum_by};
+ghost use Rattle.std.specs.Prelude.{◌+◌, ◌≤◌, All, IfSome, length, sum_by};
 ghost use Rattle.std.specs.Thread.{IsSync};
 ghost use Rattle.flt_flash.specs.Blocks.{device_of};
 ghost use Rattle.flt_did.specs.Serves.{Serves};
@@ -14,7 +14,7 @@ use arrayvec::ArrayVec;
 use flt_config::ValidConfig;
 use flt_did::{DID_ROWS, DidTable};
 use flt_flash::Blocks;
-use flt_lane::{LifeAnswers, Locks, Seats, SharedGate, part_rooms, run_parts};
+use flt_lane::{Common, LifeAnswers, Locks, Seats, SharedGate, part_rooms, run_parts};
 use flt_life::{Boot, CallRoom, LifeRoom, life_of};
 use flt_lives::{Buffers, Driver, Engine, Lived, Run, run_on_device};
 use flt_queue::{QueueEnd, QueueLock};
@@ -79,16 +79,13 @@ impl<D: Blocks + Drop, R: Threads + Wait + Sync, G: SharedGate> Engine<D> for Lo
             told,
             response: ArrayVec::new(),
         };
-        run_parts(
+        let common = Common {
             rt,
-            &locks,
-            store,
+            locks: &locks,
             config,
-            &mut seats,
-            rooms,
-            &mut answers,
             gate,
-        );
+        };
+        run_parts(&common, store, &mut seats, rooms, &mut answers);
         let LifeAnswers { own, told, .. } = answers;
         let Locks { dem, queue } = locks;
         let Seats {

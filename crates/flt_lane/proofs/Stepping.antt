@@ -1,9 +1,6 @@
 -- What one step makes of its seats.
-use Rattle.std.proofs.Common.{◌≡◌, ℕ, ◌≤◌, ◌<◌, Bool, true, false, List, [], ◌∷◌, ◌++◌, Option, Some, None, length, arith, refl, sym, ap, subst, ◌∙◌}
-use Rattle.std.specs.Prelude.{IfSome}
-use Rattle.std.proofs.lemmas.Bool.{false≢true}
+use Rattle.std.proofs.Common.{◌≡◌, ℕ, ◌≤◌, ◌<◌, List, [], ◌∷◌, ◌++◌, length, arith, refl, sym, ap, subst, ◌∙◌}
 use Rattle.std.proofs.lemmas.List.{append-nil}
-use Rattle.flt_flash.specs.declared.arm.Arm.{Arm}
 use Rattle.flt_config.specs.declared.config.Config.{Config}
 use Rattle.flt_config.specs.declared.persist.Persist.{Persist}
 use Rattle.flt_config.specs.Durable.{Fits}
@@ -22,7 +19,6 @@ use Rattle.flt_queue.specs.Queue as queue
 use Rattle.flt_queue.specs.declared.job.QueueOp.{QueueOp}
 use Rattle.flt_queue.specs.declared.job.QueueReply.{QueueReply}
 use Rattle.flt_queue.specs.declared.job.QueueReply.TheVariants as replies
-use Rattle.flt_script.specs.Step.{is_lane_step, is_store_step}
 use Rattle.flt_script.specs.declared.step.Step.{Step}
 use Rattle.flt_script.specs.declared.step.Step.TheVariants as steps
 use Rattle.flt_store.specs.declared.fault.SaveFault.{SaveFault}
@@ -30,8 +26,7 @@ use Rattle.flt_store.specs.declared.store.Store.{Store}
 use Rattle.flt_flash.specs.declared.blocks.Blocks.{Ghosts}
 use Rattle.flt_turn.specs.declared.answer.Answer.{Answer}
 use Rattle.flt_shared.specs.Call.{Seat, IsCall, MayBeAsked, reply_after}
-use Rattle.flt_life.specs.Actions.{action_of, arms_of, call_count, queue_count, response_size}
-use Rattle.flt_life.specs.declared.action.Action.{Action}
+use Rattle.flt_life.specs.Actions.{action_of, call_count, queue_count, response_size}
 use Rattle.flt_life.specs.Answers.{Told, reply_size}
 use Rattle.flt_life.specs.Draining.{calls_for_all, take_at}
 use Rattle.flt_life.specs.Played.{ActionMakes, ActionQueues, StepMakes, StepQueues}

@@ -19,7 +19,7 @@ ghost use Rattle.flt_lane.specs.Work.{AreReady, AreSeatsOf, IsPrepared};
 
 use crate::gate::SharedGate;
 use crate::lane::LaneWork;
-use crate::locks::{Locks, Seats};
+use crate::locks::{Common, Locks, Seats};
 use crate::room::BlockRoom;
 use flt_config::ValidConfig;
 use flt_flash::Blocks;
@@ -137,18 +137,15 @@ fn run_works<R: Threads + Wait + Sync, G: SharedGate, B: Blocks + Drop>(
 /// Runs the lanes of a block, and puts their answers behind those that are there. No memory is taken: there is room for the seats
 /// in `room`, and in `told` for the answers.
 pub(crate) fn run_lanes<'a, R: Threads + Wait + Sync, G: SharedGate, B: Blocks + Drop>(
-    rt: &R,
-    locks: &Locks,
+    common: &Common<'_, R, G>,
     store: &mut Store<B>,
-    config: &ValidConfig,
     seats: &mut Seats,
     room: BlockRoom<'a>,
     told: &mut Vec<LaneReplies>,
-    gate: &G,
 )
-    requires ready { AreReady locks.now config.now seats.old.dem seats.old.queue }
+    requires ready { AreReady common.now.locks.now common.now.config.now seats.old.dem seats.old.queue }
     requires main { IsMain seats.old.dem × IsMain seats.old.queue }
-    requires alive { IsAlive config.now store.old }
+    requires alive { IsAlive common.now.config.now store.old }
     requires arms { (driver_of store.old).device.bench.armed ≤ 64 }
     requires room { IsBlockRoom room }
     requires steps { All (IsLaneFor seats.old.dem.start.config) (steps_of room.lanes.items) }
@@ -157,15 +154,21 @@ pub(crate) fn run_lanes<'a, R: Threads + Wait + Sync, G: SharedGate, B: Blocks +
     requires queued { all_queued (steps_of room.lanes.items) ≤ seats.old.queue.left }
     requires children { (seats.old.dem.children + length room.lanes.items < 2 ^ 32) × (seats.old.queue.children + length room.lanes.items < 2 ^ 32) }
     requires told { vec_len told.old + length room.lanes.items ≤ vec_capacity told.old }
-    ensures part { HasRunLanes config.now seats.old.dem seats.new.dem seats.old.queue seats.new.queue (steps_of room.entry.lanes.items)
+    ensures part { HasRunLanes common.now.config.now seats.old.dem seats.new.dem seats.old.queue seats.new.queue (steps_of room.entry.lanes.items)
         (map told_in told.old.items) (map told_in told.new.items) store.old store.new }
     ensures len { vec_len told.new ≡ vec_len told.old + length room.entry.lanes.items }
     ensures capacity { vec_capacity told.new ≡ vec_capacity told.old }
-    ensures lock { IsSeatOf locks.now.dem seats.new.dem }
-    ensures queue { turn.IsSeatOf locks.now.queue.turn seats.new.queue }
+    ensures lock { IsSeatOf common.now.locks.now.dem seats.new.dem }
+    ensures queue { turn.IsSeatOf common.now.locks.now.queue.turn seats.new.queue }
     ensures left { seats.old.dem.left ≤ seats.new.dem.left + all_calls (steps_of room.entry.lanes.items) }
     ensures queue_left { seats.old.queue.left ≤ seats.new.queue.left + all_queued (steps_of room.entry.lanes.items) }
 {
+    let Common {
+        rt,
+        locks,
+        config,
+        gate,
+    } = *common;
     let mut works = seat_lanes(locks, seats, room);
     run_works(rt, locks, store, config, &mut works, gate);
     join_lanes(locks, seats, works, told);

@@ -1,5 +1,5 @@
 //! One lane, and the lanes of a block at once.
-ghost use Rattle.std.specs.Prelude.{◌≡◌, ◌≤◌, All, IfNone, IfSome, false, length, map};
+ghost use Rattle.std.specs.Prelude.{◌≡◌, ◌≤◌, All, IfNone, IfSome, false, map};
 ghost use Rattle.flt_config.specs.Durable.{Fits};
 ghost use Rattle.flt_config.specs.Validity.{IsValid};
 ghost use Rattle.flt_script.specs.Step.{store_lanes};
@@ -9,7 +9,7 @@ ghost use Rattle.flt_lane.specs.Stored.{AreRun, CanStore, HasRunStore, HaveRun, 
 ghost use Rattle.flt_lane.specs.declared.lane.LaneWork.{LaneWork};
 
 use crate::gate::Gate;
-use crate::locks::{Locks, Seats};
+use crate::locks::{Common, Locks, Seats};
 use crate::step::{do_step, make_call};
 use arrayvec::ArrayVec;
 use flt_config::ValidConfig;
@@ -77,15 +77,19 @@ fn run_store_lane<R: Wait, G: Gate, B: Blocks + Drop>(
     ensures ran { HasRunStore config.now lane.old lane.new store.old store.new }
     ensures seats { AreSeatsOf locks.now lane.new }
 {
+    let common = Common {
+        rt,
+        locks,
+        config,
+        gate,
+    };
     let steps = lane.steps;
     let mut response = ArrayVec::new();
     for (index, step) in steps.iter().enumerate() {
         gate.before(rt, lane.number, index as u32);
         do_step(
-            rt,
-            locks,
+            &common,
             store,
-            config,
             &mut lane.seats,
             step,
             &mut lane.replies,

@@ -20,5 +20,5 @@ mod step;
 pub use gate::{Gate, OpenGate, SharedGate};
 pub use lane::{LaneWork, run_block};
 pub use living::{LifeAnswers, run_parts};
-pub use locks::{Locks, Seats};
+pub use locks::{Common, Locks, Seats};
 pub use room::{BlockRoom, PartRoom, next_lanes, part_rooms};

@@ -1,8 +1,6 @@
 //! The parts of a life, one after the other, on its locks.
 ghost use Rattle.std.specs.Prelude.{◌≡◌, ◌<◌, ◌≤◌, ◌+◌, ◌^◌, ◌∷◌, [], List, All, length, map, reverse, sum_by, vec_len};
 ghost use Rattle.std.specs.Vec.{vec_capacity};
-ghost use Rattle.flt_config.specs.Durable.{Fits};
-ghost use Rattle.flt_config.specs.Validity.{IsValid};
 ghost use Rattle.flt_script.specs.declared.step.Step.{Step};
 ghost use Rattle.flt_script.specs.Part.{PartOf};
 ghost use Rattle.flt_life.specs.Actions.{all_arms};
@@ -22,11 +20,10 @@ ghost use Rattle.flt_lane.specs.Work.{AreReady};
 
 use crate::block::run_lanes;
 use crate::gate::SharedGate;
-use crate::locks::{Locks, Seats};
+use crate::locks::{Common, Seats};
 use crate::room::PartRoom;
 use crate::step::do_step;
 use arrayvec::ArrayVec;
-use flt_config::ValidConfig;
 use flt_flash::Blocks;
 use flt_life::LaneReplies;
 use flt_model::RESPONSE;
@@ -49,20 +46,17 @@ pub struct LifeAnswers {
 /// Carries out a part of a life, and puts its answers behind those that are there. A step of lane 0 is made between the two calls of
 /// the gate.
 fn run_part<'a, R: Threads + Wait + Sync, G: SharedGate, B: Blocks + Drop>(
-    rt: &R,
-    locks: &Locks,
+    common: &Common<'_, R, G>,
     store: &mut Store<B>,
-    config: &ValidConfig,
     seats: &mut Seats,
     part: PartRoom<'a>,
     answers: &mut LifeAnswers,
-    gate: &G,
 )
-    requires ready { AreReady locks.now config.now seats.old.dem seats.old.queue }
+    requires ready { AreReady common.now.locks.now common.now.config.now seats.old.dem seats.old.queue }
     requires main { IsMain seats.old.dem × IsMain seats.old.queue }
-    requires alive { IsAlive config.now store.old }
+    requires alive { IsAlive common.now.config.now store.old }
     requires part { IsPartRoom part }
-    requires steps { IsPartFor config.now (part_in part) }
+    requires steps { IsPartFor common.now.config.now (part_in part) }
     requires arms { (driver_of store.old).device.bench.armed + arms_in (part_in part) ≤ 64 }
     requires calls { calls_in (part_in part) ≤ seats.old.dem.left }
     requires queued { queued_in (part_in part) ≤ seats.old.queue.left }
@@ -70,10 +64,10 @@ fn run_part<'a, R: Threads + Wait + Sync, G: SharedGate, B: Blocks + Drop>(
     requires index { vec_len answers.old.own.answers < 2 ^ 32 }
     requires own_room { HasRoomForSteps answers.old.own (own_steps (part_in part ∷ [])) }
     requires told_room { vec_len answers.old.told + width (part_in part) ≤ vec_capacity answers.old.told }
-    ensures gains { GainsPart config.now seats.old.dem seats.new.dem seats.old.queue seats.new.queue (part_in part.entry) (told_in answers.old.own) (told_in answers.new.own)
+    ensures gains { GainsPart common.now.config.now seats.old.dem seats.new.dem seats.old.queue seats.new.queue (part_in part.entry) (told_in answers.old.own) (told_in answers.new.own)
         (map told_in answers.old.told.items) (map told_in answers.new.told.items) store.old store.new }
-    ensures lock { IsSeatOf locks.now.dem seats.new.dem }
-    ensures queue { turn.IsSeatOf locks.now.queue.turn seats.new.queue }
+    ensures lock { IsSeatOf common.now.locks.now.dem seats.new.dem }
+    ensures queue { turn.IsSeatOf common.now.locks.now.queue.turn seats.new.queue }
     ensures left { seats.old.dem.left ≤ seats.new.dem.left + calls_in (part_in part.entry) }
     ensures queue_left { seats.old.queue.left ≤ seats.new.queue.left + queued_in (part_in part.entry) }
     ensures own_len { vec_len answers.new.own.answers ≤ vec_len answers.old.own.answers + 1 }
@@ -89,51 +83,37 @@ fn run_part<'a, R: Threads + Wait + Sync, G: SharedGate, B: Blocks + Drop>(
     match part {
         PartRoom::One(step) => {
             let index = answers.own.answers.len() as u32;
-            gate.before(rt, 0, index);
+            common.gate.before(common.rt, 0, index);
             do_step(
-                rt,
-                locks,
+                common,
                 store,
-                config,
                 seats,
                 step,
                 &mut answers.own,
                 &mut answers.response,
             );
-            gate.after(rt, 0, index);
+            common.gate.after(common.rt, 0, index);
         }
         PartRoom::Lanes(room) => {
             let room = Box::into_inner(room);
-            run_lanes(
-                rt,
-                locks,
-                store,
-                config,
-                seats,
-                room,
-                &mut answers.told,
-                gate,
-            );
+            run_lanes(common, store, seats, room, &mut answers.told);
         }
     }
 }
 
 /// Carries out the parts of a life, one after the other. No memory is taken.
 pub fn run_parts<'a, R: Threads + Wait + Sync, G: SharedGate, B: Blocks + Drop>(
-    rt: &R,
-    locks: &Locks,
+    common: &Common<'_, R, G>,
     store: &mut Store<B>,
-    config: &ValidConfig,
     seats: &mut Seats,
     parts: Vec<PartRoom<'a>>,
     answers: &mut LifeAnswers,
-    gate: &G,
 )
-    requires ready { AreReady locks.now config.now seats.old.dem seats.old.queue }
+    requires ready { AreReady common.now.locks.now common.now.config.now seats.old.dem seats.old.queue }
     requires main { IsMain seats.old.dem × IsMain seats.old.queue }
-    requires alive { IsAlive config.now store.old }
+    requires alive { IsAlive common.now.config.now store.old }
     requires part { All IsPartRoom parts.items }
-    requires steps { All (IsPartFor config.now) (map part_in parts.items) }
+    requires steps { All (IsPartFor common.now.config.now) (map part_in parts.items) }
     requires arms { (driver_of store.old).device.bench.armed + sum_by arms_in (map part_in parts.items) ≤ 64 }
     requires calls { sum_by calls_in (map part_in parts.items) ≤ seats.old.dem.left }
     requires queued { sum_by queued_in (map part_in parts.items) ≤ seats.old.queue.left }
@@ -144,10 +124,10 @@ pub fn run_parts<'a, R: Threads + Wait + Sync, G: SharedGate, B: Blocks + Drop>(
     requires none_told { (answers.old.told.items ≡ []) × (vec_len answers.old.told ≡ 0) }
     requires told_room { widths (map part_in parts.items) ≤ vec_capacity answers.old.told }
     ensures lived { HaveRunParts seats.old.dem seats.new.dem seats.old.queue seats.new.queue (map part_in parts.entry.items) (told_in answers.new.own) (map told_in answers.new.told.items) }
-    ensures lock { IsSeatOf locks.now.dem seats.new.dem }
-    ensures queue { turn.IsSeatOf locks.now.queue.turn seats.new.queue }
+    ensures lock { IsSeatOf common.now.locks.now.dem seats.new.dem }
+    ensures queue { turn.IsSeatOf common.now.locks.now.queue.turn seats.new.queue }
     ensures told_len { vec_len answers.new.told ≡ widths (map part_in parts.entry.items) }
-    ensures carries { Carries config.now seats.old.dem seats.new.dem seats.old.queue seats.new.queue []
+    ensures carries { Carries common.now.config.now seats.old.dem seats.new.dem seats.old.queue seats.new.queue []
         (reverse (deeds_in (map part_in parts.entry.items) (told_in answers.new.own) (map told_in answers.new.told.items))) store.old store.new }
     ensures goes_on { GoesOn (driver_of store.old) (driver_of store.new) }
     ensures given { WereGiven (all_arms (own_actions (map part_in parts.entry.items)))
@@ -155,6 +135,6 @@ pub fn run_parts<'a, R: Threads + Wait + Sync, G: SharedGate, B: Blocks + Drop>(
     ensures armed { (driver_of store.new).device.bench.armed ≤ (driver_of store.old).device.bench.armed + sum_by arms_in (map part_in parts.entry.items) }
 {
     for part in parts {
-        run_part(rt, locks, store, config, seats, part, answers, gate);
+        run_part(common, store, seats, part, answers);
     }
 }

@@ -1,4 +1,5 @@
-//! The two locks of a life, and the seats on them.
+//! What the lanes of a life share, and the seats of each.
+use flt_config::ValidConfig;
 use flt_queue::{QueueLock, QueueSeat};
 use flt_shared::{DemLock, DemSeat};
 
@@ -14,4 +15,14 @@ pub struct Locks {
 pub struct Seats {
     pub dem: DemSeat,
     pub queue: QueueSeat,
+}
+
+/// What all steps of a life have in common: the runtime on which they wait, the locks, the configuration, and the gate between whose
+/// two calls each step is made.
+#[derive(Drop)]
+pub struct Common<'a, R, G> {
+    pub rt: &'a R,
+    pub locks: &'a Locks,
+    pub config: &'a ValidConfig,
+    pub gate: &'a G,
 }

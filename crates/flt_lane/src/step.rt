@@ -21,7 +21,8 @@ ghost use Rattle.flt_lane.specs.Stepped.{HasRoomFor, MakesStep, TakesStep};
 ghost use Rattle.flt_lane.specs.Work.{AreReady};
 
 use crate::drain::drain;
-use crate::locks::{Locks, Seats};
+use crate::gate::Gate;
+use crate::locks::{Common, Locks, Seats};
 use arrayvec::ArrayVec;
 use flt_config::{ValidConfig, initial};
 use flt_flash::{Arm, Blocks};
@@ -177,27 +178,31 @@ fn make_arm<B: Blocks + Drop>(store: &mut Store<B>, arm: Arm, replies: &mut Lane
 
 /// Makes a step of a lane that has the store, on seats that have its calls left, and keeps its answer.
 #[inline(always)]
-pub(crate) fn do_step<R: Wait, B: Blocks + Drop>(
-    rt: &R,
-    locks: &Locks,
+pub(crate) fn do_step<R: Wait, G: Gate, B: Blocks + Drop>(
+    common: &Common<'_, R, G>,
     store: &mut Store<B>,
-    config: &ValidConfig,
     seats: &mut Seats,
     step: &Step,
     replies: &mut LaneReplies,
     response: &mut ArrayVec<u8, RESPONSE>,
 )
-    requires ready { AreReady locks.now config.now seats.old.dem seats.old.queue }
-    requires alive { IsAlive config.now store.old }
-    requires step { IsPossible config.now (action_of step.now) }
+    requires ready { AreReady common.now.locks.now common.now.config.now seats.old.dem seats.old.queue }
+    requires alive { IsAlive common.now.config.now store.old }
+    requires step { IsPossible common.now.config.now (action_of step.now) }
     requires arms { (driver_of store.old).device.bench.armed + arm_count (action_of step.now) ≤ 64 }
     requires left { calls_by step.now ≤ seats.old.dem.left }
     requires queued { queued_by step.now ≤ seats.old.queue.left }
     requires room { HasRoomFor replies.old (action_of step.now) }
-    ensures takes { TakesStep config.now seats.old.dem seats.new.dem seats.old.queue seats.new.queue step.now replies.old replies.new store.old store.new }
-    ensures lock { IsSeatOf locks.now.dem seats.new.dem }
-    ensures queue { turn.IsSeatOf locks.now.queue.turn seats.new.queue }
+    ensures takes { TakesStep common.now.config.now seats.old.dem seats.new.dem seats.old.queue seats.new.queue step.now replies.old replies.new store.old store.new }
+    ensures lock { IsSeatOf common.now.locks.now.dem seats.new.dem }
+    ensures queue { turn.IsSeatOf common.now.locks.now.queue.turn seats.new.queue }
 {
+    let Common {
+        rt,
+        locks,
+        config,
+        gate: _,
+    } = *common;
     match action_of(step) {
         Action::Call(op) => call_dem(rt, &locks.dem, &mut seats.dem, op, replies, response),
         Action::Queue(op) => call_queue(rt, &locks.queue, &mut seats.queue, op, replies),

@@ -1,5 +1,5 @@
 //! The queue under the ticket lock.
-ghost use Rattle.std.specs.Prelude.{◌≡◌, ◌<◌, ◌≤◌, ◌+◌, ◌^◌, ◌∷◌, [], IfOk, IfErr, IsErr, All, length, reverse};
+ghost use Rattle.std.specs.Prelude.{◌≡◌, ◌<◌, ◌≤◌, ◌+◌, ◌^◌, ◌∷◌, IfOk, IfErr, IsErr, All, length, reverse};
 ghost use mathlib.Core.Logic.{◌↔◌};
 ghost use mathlib.Core.List.{IsPrefix};
 ghost use Rattle.flt_queue.specs.declared.job.QueueOp.TheVariants as ops;

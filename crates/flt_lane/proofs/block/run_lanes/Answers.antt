@@ -26,12 +26,12 @@ run_works-requires-clause-one_stores g c κs within = subst (λ l. store_lanes l
 
 pub run_works-requires-clause-same : goal.run_works-requires-clause-same
 run_works-requires-clause-same g c κs within =
-    split_each (λ (w : LaneWork). w.seats.dem) (λ w. calls_of w.steps.now) c.args.seats.now.dem (λ w. w.seats.dem.start.config ≡ c.args.config.now) (λ number w is. ap (λ s. s.config) is.start_is ∙ c.requires.ready.same) _
+    split_each (λ (w : LaneWork). w.seats.dem) (λ w. calls_of w.steps.now) c.args.seats.now.dem (λ w. w.seats.dem.start.config ≡ c.args.common.now.config.now) (λ number w is. ap (λ s. s.config) is.start_is ∙ c.requires.ready.same) _
     c.seat_lanes-works.result.items c.seat_lanes-works.ensures.seated.dem
 
 pub run_works-requires-clause-fits : goal.run_works-requires-clause-fits
 run_works-requires-clause-fits g c κs within =
-    split_each (λ (w : LaneWork). w.seats.dem) (λ w. calls_of w.steps.now) c.args.seats.now.dem (λ w. Fits c.args.config.now w.seats.dem.start.base) (λ number w is. subst (λ s. Fits c.args.config.now s.base) (sym is.start_is) c.requires.ready.fits) _
+    split_each (λ (w : LaneWork). w.seats.dem) (λ w. calls_of w.steps.now) c.args.seats.now.dem (λ w. Fits c.args.common.now.config.now w.seats.dem.start.base) (λ number w is. subst (λ s. Fits c.args.common.now.config.now s.base) (sym is.start_is) c.requires.ready.fits) _
     c.seat_lanes-works.result.items c.seat_lanes-works.ensures.seated.dem
 
 pub join_lanes-requires-clause-can : goal.join_lanes-requires-clause-can
@@ -48,7 +48,7 @@ join_lanes-requires-clause-can g c =
 
 pub returns-clause-part : goal.returns-clause-part
 returns-clause-part g c =
-    has_run_lanes c.args.locks.now c.args.config.now c.args.seats.now c.seat_lanes-works.new.main c.join_lanes.new.main (steps_of c.args.room.lanes.items) c.seat_lanes-works.result.items c.run_works.new.works.items
+    has_run_lanes c.args.common.now.locks.now c.args.common.now.config.now c.args.seats.now c.seat_lanes-works.new.main c.join_lanes.new.main (steps_of c.args.room.lanes.items) c.seat_lanes-works.result.items c.run_works.new.works.items
     (map told_in c.args.told.now.items) (map told_in c.join_lanes.new.told.items) c.args.store.now c.run_works.new.store c.requires.main.0 c.requires.main.1 c.seat_lanes-works.ensures.seated c.run_works.ensures.ran c.join_lanes.ensures.joined
 
 pub returns-clause-lock : goal.returns-clause-lock

@@ -14,8 +14,8 @@ do_step-requires-clause-room g c = room_for c.args.answers.now.own c.in-One.step
 pub returns-in-One-clause-gains : goal.returns-in-One-clause-gains
 returns-in-One-clause-gains g c =
     let told = map told_in c.args.answers.now.told.items in
-    subst (λ p. GainsPart c.args.config.now c.args.seats.now.dem c.do_step.new.seats.dem c.args.seats.now.queue c.do_step.new.seats.queue (part_in p) (told_in c.args.answers.now.own) (told_in c.do_step.new.replies) told told c.args.store.now c.do_step.new.store) (sym c.in-One.is)
-    (gains_one c.args.config.now c.args.seats.now.dem c.do_step.new.seats.dem c.args.seats.now.queue c.do_step.new.seats.queue c.args.store.now c.do_step.new.store c.in-One.step.now c.args.answers.now.own c.do_step.new.replies told
+    subst (λ p. GainsPart c.args.common.now.config.now c.args.seats.now.dem c.do_step.new.seats.dem c.args.seats.now.queue c.do_step.new.seats.queue (part_in p) (told_in c.args.answers.now.own) (told_in c.do_step.new.replies) told told c.args.store.now c.do_step.new.store) (sym c.in-One.is)
+    (gains_one c.args.common.now.config.now c.args.seats.now.dem c.do_step.new.seats.dem c.args.seats.now.queue c.do_step.new.seats.queue c.args.store.now c.do_step.new.store c.in-One.step.now c.args.answers.now.own c.do_step.new.replies told
     c.requires.main.0 c.requires.main.1 c.do_step.ensures.takes)
 
 pub returns-in-Lanes-clause-gains : goal.returns-in-Lanes-clause-gains
@@ -23,7 +23,7 @@ returns-in-Lanes-clause-gains g c =
     let own = told_in c.args.answers.now.own in
     let told = map told_in c.args.answers.now.told.items in
     let told_after = map told_in c.run_lanes.new.told.items in
-    subst (λ p. GainsPart c.args.config.now c.args.seats.now.dem c.run_lanes.new.seats.dem c.args.seats.now.queue c.run_lanes.new.seats.queue (part_in p) own own told told_after c.args.store.now c.run_lanes.new.store) (sym c.in-Lanes.is)
-    (gains_block c.args.config.now c.args.seats.now.dem c.run_lanes.new.seats.dem c.args.seats.now.queue c.run_lanes.new.seats.queue c.args.store.now c.run_lanes.new.store (steps_of c.in-Lanes.room.value.lanes.items) own told told_after
-    (subst (λ (block : BlockRoom). HasRunLanes c.args.config.now c.args.seats.now.dem c.run_lanes.new.seats.dem c.args.seats.now.queue c.run_lanes.new.seats.queue (steps_of block.lanes.items) told told_after c.args.store.now c.run_lanes.new.store)
+    subst (λ p. GainsPart c.args.common.now.config.now c.args.seats.now.dem c.run_lanes.new.seats.dem c.args.seats.now.queue c.run_lanes.new.seats.queue (part_in p) own own told told_after c.args.store.now c.run_lanes.new.store) (sym c.in-Lanes.is)
+    (gains_block c.args.common.now.config.now c.args.seats.now.dem c.run_lanes.new.seats.dem c.args.seats.now.queue c.run_lanes.new.seats.queue c.args.store.now c.run_lanes.new.store (steps_of c.in-Lanes.room.value.lanes.items) own told told_after
+    (subst (λ (block : BlockRoom). HasRunLanes c.args.common.now.config.now c.args.seats.now.dem c.run_lanes.new.seats.dem c.args.seats.now.queue c.run_lanes.new.seats.queue (steps_of block.lanes.items) told told_after c.args.store.now c.run_lanes.new.store)
     c.into_inner-room.ensures c.run_lanes.ensures.part))

@@ -16,9 +16,9 @@ use Rattle.flt_lane.proofs.living.run_parts.Goals as goal
 
 pub loop-part-init : goal.loop-part-init
 loop-part-init g c = let r = c.requires in record {
-  living = living_begins c.args.locks.now c.args.seats.now.dem c.args.seats.now.queue c.args.parts.items _ c.args.answers.now.own c.args.answers.now.told (driver_of c.args.store.now).device.bench.armed c.into_iter-part-iterator.ensures.into_iter_gives.0
+  living = living_begins c.args.common.now.locks.now c.args.seats.now.dem c.args.seats.now.queue c.args.parts.items _ c.args.answers.now.own c.args.answers.now.told (driver_of c.args.store.now).device.bench.armed c.into_iter-part-iterator.ensures.into_iter_gives.0
       r.main.0 r.main.1 r.ready.lock r.ready.queue r.no_answers r.own_room r.none_told r.told_room;
-  carries = carries_beside c.args.config.now c.args.seats.now.dem c.args.seats.now.dem c.args.seats.now.queue c.args.seats.now.queue [] c.args.store.now (λ known is. is) (λ known is. is);
+  carries = carries_beside c.args.common.now.config.now c.args.seats.now.dem c.args.seats.now.dem c.args.seats.now.queue c.args.seats.now.queue [] c.args.store.now (λ known is. is) (λ known is. is);
   goes_on = goes_nowhere (driver_of c.args.store.now);
   given = none_given (driver_of c.args.store.now).device.bench.arms;
 }
@@ -34,7 +34,7 @@ run_part-requires-clause-ready g c κs within =
       blocks = living.queue.lived.start_is ∙ ready.blocks ∙ ap (λ (s : DemStart). s.config.blocks) (sym start);
       same = ap (λ (s : DemStart). s.config) start ∙ ready.same;
       valid = ready.valid;
-      fits = subst (λ (s : DemStart). Fits c.args.config.now s.base) (sym start) ready.fits;
+      fits = subst (λ (s : DemStart). Fits c.args.common.now.config.now s.base) (sym start) ready.fits;
     }
 
 pub run_part-requires-clause-main : goal.run_part-requires-clause-main
@@ -42,7 +42,7 @@ run_part-requires-clause-main g c κs within = (c.loop-part.invariant.living.dem
 
 pub run_part-requires-clause-steps : goal.run_part-requires-clause-steps
 run_part-requires-clause-steps g c κs within =
-    part_among (IsPartFor c.args.config.now) c.args.parts.items c.loop-part.yielded c.loop-part.part-iterator.rest.items c.next.new.self.rest.items c.in-Some.part
+    part_among (IsPartFor c.args.common.now.config.now) c.args.parts.items c.loop-part.yielded c.loop-part.part-iterator.rest.items c.next.new.self.rest.items c.in-Some.part
     c.loop-part.invariant.living.all c.in-Some.ensures.steps.0 c.requires.steps
 
 pub run_part-requires-clause-alive : goal.run_part-requires-clause-alive
@@ -50,36 +50,36 @@ run_part-requires-clause-alive g c κs within = c.loop-part.invariant.carries.al
 
 pub run_part-requires-clause-children : goal.run_part-requires-clause-children
 run_part-requires-clause-children g c κs within = (
-  numbers_left c.args.locks.now c.args.seats.now.dem c.loop-part.seats.dem c.args.seats.now.queue c.loop-part.seats.queue c.args.parts.items c.loop-part.answers.own c.loop-part.answers.told (driver_of c.args.store.now).device.bench.armed
+  numbers_left c.args.common.now.locks.now c.args.seats.now.dem c.loop-part.seats.dem c.args.seats.now.queue c.loop-part.seats.queue c.args.parts.items c.loop-part.answers.own c.loop-part.answers.told (driver_of c.args.store.now).device.bench.armed
       (driver_of c.loop-part.store).device.bench.armed c.loop-part.yielded c.loop-part.part-iterator.rest.items c.next.new.self.rest.items c.in-Some.part c.loop-part.invariant.living c.in-Some.ensures.steps.0 c.requires.children.0,
-  job_numbers_left c.args.locks.now c.args.seats.now.dem c.loop-part.seats.dem c.args.seats.now.queue c.loop-part.seats.queue c.args.parts.items c.loop-part.answers.own c.loop-part.answers.told (driver_of c.args.store.now).device.bench.armed
+  job_numbers_left c.args.common.now.locks.now c.args.seats.now.dem c.loop-part.seats.dem c.args.seats.now.queue c.loop-part.seats.queue c.args.parts.items c.loop-part.answers.own c.loop-part.answers.told (driver_of c.args.store.now).device.bench.armed
       (driver_of c.loop-part.store).device.bench.armed c.loop-part.yielded c.loop-part.part-iterator.rest.items c.next.new.self.rest.items c.in-Some.part c.loop-part.invariant.living c.in-Some.ensures.steps.0 c.requires.children.1,
 )
 
 pub run_part-requires-clause-own_room : goal.run_part-requires-clause-own_room
-run_part-requires-clause-own_room g c κs within = own_next c.args.locks.now c.args.seats.now.dem c.loop-part.seats.dem c.args.seats.now.queue c.loop-part.seats.queue c.args.parts.items c.loop-part.answers.own c.loop-part.answers.told (driver_of c.args.store.now).device.bench.armed
+run_part-requires-clause-own_room g c κs within = own_next c.args.common.now.locks.now c.args.seats.now.dem c.loop-part.seats.dem c.args.seats.now.queue c.loop-part.seats.queue c.args.parts.items c.loop-part.answers.own c.loop-part.answers.told (driver_of c.args.store.now).device.bench.armed
     (driver_of c.loop-part.store).device.bench.armed c.loop-part.yielded c.loop-part.part-iterator.rest.items c.next.new.self.rest.items c.in-Some.part c.loop-part.invariant.living c.in-Some.ensures.steps.0
 
 pub run_part-requires-clause-told_room : goal.run_part-requires-clause-told_room
-run_part-requires-clause-told_room g c κs within = told_left c.args.locks.now c.args.seats.now.dem c.loop-part.seats.dem c.args.seats.now.queue c.loop-part.seats.queue c.args.parts.items c.loop-part.answers.own c.loop-part.answers.told (driver_of c.args.store.now).device.bench.armed
+run_part-requires-clause-told_room g c κs within = told_left c.args.common.now.locks.now c.args.seats.now.dem c.loop-part.seats.dem c.args.seats.now.queue c.loop-part.seats.queue c.args.parts.items c.loop-part.answers.own c.loop-part.answers.told (driver_of c.args.store.now).device.bench.armed
     (driver_of c.loop-part.store).device.bench.armed c.loop-part.yielded c.loop-part.part-iterator.rest.items c.next.new.self.rest.items c.in-Some.part c.loop-part.invariant.living c.in-Some.ensures.steps.0
 
 pub loop-part-preserved : goal.loop-part-preserved
 loop-part-preserved g c =
     let told = c.run_part.ensures in
-    let left = own_left c.args.locks.now c.args.seats.now.dem c.loop-part.seats.dem c.args.seats.now.queue c.loop-part.seats.queue c.args.parts.items c.loop-part.answers.own c.loop-part.answers.told (driver_of c.args.store.now).device.bench.armed
+    let left = own_left c.args.common.now.locks.now c.args.seats.now.dem c.loop-part.seats.dem c.args.seats.now.queue c.loop-part.seats.queue c.args.parts.items c.loop-part.answers.own c.loop-part.answers.told (driver_of c.args.store.now).device.bench.armed
     (driver_of c.loop-part.store).device.bench.armed c.loop-part.yielded c.loop-part.part-iterator.rest.items c.next.new.self.rest.items c.in-Some.part c.loop-part.invariant.living c.in-Some.ensures.steps.0 in
     let before = reverse (deeds_in (parts_in c.loop-part.yielded) (told_in c.loop-part.answers.own) (map told_in c.loop-part.answers.told.items)) in
     let gained = reverse (deeds_in (parts_in (c.in-Some.part ∷ [])) told.gains.mine told.gains.others) in
-    let deeds = deeds_with c.args.locks.now c.args.seats.now.dem c.loop-part.seats.dem c.args.seats.now.queue c.loop-part.seats.queue c.args.parts.items c.loop-part.answers.own c.loop-part.answers.told (driver_of c.args.store.now).device.bench.armed
+    let deeds = deeds_with c.args.common.now.locks.now c.args.seats.now.dem c.loop-part.seats.dem c.args.seats.now.queue c.loop-part.seats.queue c.args.parts.items c.loop-part.answers.own c.loop-part.answers.told (driver_of c.args.store.now).device.bench.armed
     (driver_of c.loop-part.store).device.bench.armed c.loop-part.yielded c.loop-part.part-iterator.rest.items c.next.new.self.rest.items c.in-Some.part c.loop-part.invariant.living c.in-Some.ensures.steps.0 c.run_part.new.answers.own c.run_part.new.answers.told told.gains.mine told.gains.others told.gains.gains.own_are told.gains.gains.lanes_are in
     record {
-      living = living_more c.args.locks.now c.args.seats.now.dem c.loop-part.seats.dem c.args.seats.now.queue c.loop-part.seats.queue c.args.parts.items c.loop-part.answers.own c.loop-part.answers.told (driver_of c.args.store.now).device.bench.armed
+      living = living_more c.args.common.now.locks.now c.args.seats.now.dem c.loop-part.seats.dem c.args.seats.now.queue c.loop-part.seats.queue c.args.parts.items c.loop-part.answers.own c.loop-part.answers.told (driver_of c.args.store.now).device.bench.armed
           (driver_of c.loop-part.store).device.bench.armed c.loop-part.yielded c.loop-part.part-iterator.rest.items c.next.new.self.rest.items c.in-Some.part c.loop-part.invariant.living c.in-Some.ensures.steps.0
           c.run_part.new.seats.dem c.run_part.new.seats.queue c.run_part.new.answers.own c.run_part.new.answers.told (driver_of c.run_part.new.store).device.bench.armed told.gains.mine told.gains.others told.gains.gains told.lock told.queue told.left told.queue_left
           told.armed told.own_len (told.own_room (parts_in c.next.new.self.rest.items) left) told.told_len told.told_capacity;
-      carries = subst (λ (l : List Deed). Carries c.args.config.now c.args.seats.now.dem c.run_part.new.seats.dem c.args.seats.now.queue c.run_part.new.seats.queue [] l c.args.store.now c.run_part.new.store) (sym deeds)
-          (carries_further c.args.config.now c.args.seats.now.dem c.loop-part.seats.dem c.run_part.new.seats.dem c.args.seats.now.queue c.loop-part.seats.queue c.run_part.new.seats.queue [] before (gained ++ before) c.args.store.now c.loop-part.store c.run_part.new.store
+      carries = subst (λ (l : List Deed). Carries c.args.common.now.config.now c.args.seats.now.dem c.run_part.new.seats.dem c.args.seats.now.queue c.run_part.new.seats.queue [] l c.args.store.now c.run_part.new.store) (sym deeds)
+          (carries_further c.args.common.now.config.now c.args.seats.now.dem c.loop-part.seats.dem c.run_part.new.seats.dem c.args.seats.now.queue c.loop-part.seats.queue c.run_part.new.seats.queue [] before (gained ++ before) c.args.store.now c.loop-part.store c.run_part.new.store
           c.loop-part.invariant.living.dem.lived.start_is c.loop-part.invariant.carries (told.gains.carries before));
       goes_on = goes_further (driver_of c.args.store.now) (driver_of c.loop-part.store) (driver_of c.run_part.new.store) c.loop-part.invariant.goes_on told.goes_on;
       given = subst (λ (l : List Arm). WereGiven l (driver_of c.args.store.now).device.bench.arms (driver_of c.run_part.new.store).device.bench.arms) (sym (arms_more_parts c.loop-part.yielded c.in-Some.part))

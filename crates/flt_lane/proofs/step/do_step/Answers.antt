@@ -10,39 +10,39 @@ pub returns-in-Call-clause-takes : goal.returns-in-Call-clause-takes
 returns-in-Call-clause-takes g c =
     let seats = c.args.seats.now in
     let is = sym c.action_of.ensures ∙ c.in-Call.is in
-    takes_call c.args.config.now seats.dem c.call_dem.new.seat seats.queue seats.queue c.args.step.now c.args.replies.now c.call_dem.new.replies c.args.store.now (touches_by c.args.step.now ∙ ap touches_store is) (ap arms_of is)
+    takes_call c.args.common.now.config.now seats.dem c.call_dem.new.seat seats.queue seats.queue c.args.step.now c.args.replies.now c.call_dem.new.replies c.args.store.now (touches_by c.args.step.now ∙ ap touches_store is) (ap arms_of is)
     (c.call_dem.ensures.made c.args.step.now seats.queue is)
 
 pub returns-in-Queue-clause-takes : goal.returns-in-Queue-clause-takes
 returns-in-Queue-clause-takes g c =
     let seats = c.args.seats.now in
     let is = sym c.action_of.ensures ∙ c.in-Queue.is in
-    takes_call c.args.config.now seats.dem seats.dem seats.queue c.call_queue.new.seat c.args.step.now c.args.replies.now c.call_queue.new.replies c.args.store.now (touches_by c.args.step.now ∙ ap touches_store is) (ap arms_of is)
+    takes_call c.args.common.now.config.now seats.dem seats.dem seats.queue c.call_queue.new.seat c.args.step.now c.args.replies.now c.call_queue.new.replies c.args.store.now (touches_by c.args.step.now ∙ ap touches_store is) (ap arms_of is)
     (c.call_queue.ensures.made c.args.step.now seats.dem is)
 
 pub returns-in-Save-clause-takes : goal.returns-in-Save-clause-takes
 returns-in-Save-clause-takes g c =
     let seats = c.args.seats.now in
-    subst (λ (s : Step). TakesStep c.args.config.now seats.dem c.save.new.seat seats.queue seats.queue s c.args.replies.now c.save.new.replies c.args.store.now c.save.new.store)
+    subst (λ (s : Step). TakesStep c.args.common.now.config.now seats.dem c.save.new.seat seats.queue seats.queue s c.args.replies.now c.save.new.replies c.args.store.now c.save.new.store)
     (sym (is_save c.args.step.now (sym c.action_of.ensures ∙ c.in-Save.is))) (c.save.ensures.takes seats.queue)
 
 pub returns-in-Drain-clause-takes : goal.returns-in-Drain-clause-takes
 returns-in-Drain-clause-takes g c =
     let seats = c.args.seats.now in
-    subst (λ (s : Step). TakesStep c.args.config.now seats.dem seats.dem seats.queue c.drain.new.seat s c.args.replies.now c.drain.new.replies c.args.store.now c.drain.new.store)
+    subst (λ (s : Step). TakesStep c.args.common.now.config.now seats.dem seats.dem seats.queue c.drain.new.seat s c.args.replies.now c.drain.new.replies c.args.store.now c.drain.new.store)
     (sym (is_drain c.args.step.now (sym c.action_of.ensures ∙ c.in-Drain.is))) (c.drain.ensures.takes seats.dem)
 
 pub get-requires-clause-alive : goal.get-requires-clause-alive
-get-requires-clause-alive g c = (c.args.config.now, subst (IsPossible c.args.config.now) (sym c.action_of.ensures ∙ c.in-Get.is) c.requires.step, c.requires.alive)
+get-requires-clause-alive g c = (c.args.common.now.config.now, subst (IsPossible c.args.common.now.config.now) (sym c.action_of.ensures ∙ c.in-Get.is) c.requires.step, c.requires.alive)
 
 pub returns-in-Get-clause-takes : goal.returns-in-Get-clause-takes
 returns-in-Get-clause-takes g c =
     let seats = c.args.seats.now in
-    subst (λ (s : Step). TakesStep c.args.config.now seats.dem seats.dem seats.queue seats.queue s c.args.replies.now c.get.new.replies c.args.store.now c.get.new.store)
-    (sym (is_get c.args.step.now c.in-Get.block (sym c.action_of.ensures ∙ c.in-Get.is))) (c.get.ensures.takes c.args.config.now seats.dem seats.queue)
+    subst (λ (s : Step). TakesStep c.args.common.now.config.now seats.dem seats.dem seats.queue seats.queue s c.args.replies.now c.get.new.replies c.args.store.now c.get.new.store)
+    (sym (is_get c.args.step.now c.in-Get.block (sym c.action_of.ensures ∙ c.in-Get.is))) (c.get.ensures.takes c.args.common.now.config.now seats.dem seats.queue)
 
 pub returns-in-Arm-clause-takes : goal.returns-in-Arm-clause-takes
 returns-in-Arm-clause-takes g c =
     let seats = c.args.seats.now in
-    subst (λ (s : Step). TakesStep c.args.config.now seats.dem seats.dem seats.queue seats.queue s c.args.replies.now c.make_arm.new.replies c.args.store.now c.make_arm.new.store)
-    (sym (is_arming c.args.step.now c.in-Arm.arm (sym c.action_of.ensures ∙ c.in-Arm.is))) (c.make_arm.ensures.takes c.args.config.now seats.dem seats.queue)
+    subst (λ (s : Step). TakesStep c.args.common.now.config.now seats.dem seats.dem seats.queue seats.queue s c.args.replies.now c.make_arm.new.replies c.args.store.now c.make_arm.new.store)
+    (sym (is_arming c.args.step.now c.in-Arm.arm (sym c.action_of.ensures ∙ c.in-Arm.is))) (c.make_arm.ensures.takes c.args.common.now.config.now seats.dem seats.queue)

@@ -1,5 +1,4 @@
 use Rattle.std.proofs.Common.{refl, rules}
-use Rattle.flt_life.specs.Answers.{Told}
 use Rattle.flt_life.specs.declared.answer.StepAnswer.TheVariants.{Armed}
 use Rattle.flt_script.specs.declared.step.Step.TheVariants as steps
 use Rattle.flt_lane.proofs.Answering.{keeps}
