@@ -21,7 +21,7 @@ use Rattle.flt_lane.specs.Living.{AreHeld, HoldsOn, IsLivingOn, answers_of, drai
 use Rattle.flt_lane.specs.Runs.{QueueSeat}
 use Rattle.flt_lane.proofs.Applying.{drains-append, held_further, may_whole, newest_of, queue_calls}
 use Rattle.flt_fork.proofs.Closing.{known_whole}
-use Rattle.flt_lane.proofs.Keeping.{kept_first, kept_further}
+use Rattle.flt_life.proofs.Keeping.{kept_first, kept_further}
 use Rattle.flt_lane.proofs.Saves.{map_reverse, saves-append, step_calls}
 
 -- ---- the generations

@@ -31,7 +31,7 @@ use Rattle.flt_lane.specs.Draining.{DrainsOn}
 use Rattle.flt_fork.specs.Known.{IsKnownTo}
 use Rattle.flt_lane.specs.Living.{AreHeld, Carries, HoldsBy, HoldsOn, IsLivingOn, answers_of, drains_by, drains_of, saves_by}
 use Rattle.flt_lane.specs.Runs.{QueueSeat}
-use Rattle.flt_lane.proofs.Keeping.{IsNoSave, kept_other}
+use Rattle.flt_life.proofs.Keeping.{IsNoSave, kept_other}
 
 -- ---- seats that know as much
 

@@ -1,6 +1,6 @@
 -- What the calls of a drain leave of the application blocks, by what the seat of the queue knows of the journal.
 use Rattle.std.proofs.Common.{◌≡◌, ℕ, ◌≤◌, ◌+◌, ◌*◌, Bool, true, false, not, List, [], ◌∷◌, ◌++◌, Option, Some, None, reverse, refl, ap, subst, sym, arith, ◌∙◌}
-use Rattle.std.specs.Prelude.{IsTrue, IsFalse}
+use Rattle.std.specs.Prelude.{IsFalse}
 use Rattle.std.proofs.lemmas.List.{append-nil, append_assoc, length-append}
 use Rattle.std.proofs.lemmas.List.Sums.{sum_by_push}
 use Rattle.flt_flash.specs.Content.{Content}
@@ -30,6 +30,7 @@ use Rattle.flt_life.specs.Ordered.{Deed}
 use Rattle.flt_life.specs.declared.answer.StepAnswer.TheVariants as answers
 use Rattle.flt_life.specs.SoFar.{IsCaused}
 use Rattle.flt_fork.specs.Chain.{Chain}
+use Rattle.flt_life.proofs.Causing.{unspent_before}
 use Rattle.flt_lane.specs.Draining.{DrainsOn, HasDrained, MakesJobs, TakesJob}
 use Rattle.flt_lane.specs.Living.{AreHeld, HoldsBy, drain_call, drains_in}
 use Rattle.flt_lane.specs.Runs.{QueueSeat}
@@ -144,11 +145,6 @@ module _ (first : ℕ → Content) (before mid after : QueueSeat) (taken noted :
   }
 
 -- ---- why jobs could not be written
-
--- A driver that is not spent was not before, since one that is spent stays so.
-unspent_before : (before after : Bool) → (IsTrue before → IsTrue after) → IsFalse after → IsFalse before
-unspent_before true after stays unspent = let spent : IsTrue after = stays refl in absurd (cc)
-unspent_before false after stays unspent = refl
 
 module _ {B : Type 0} {b : Ghosts B} (c : Config) (store now : Store B b) where
   pub caused_job : (begun : ℕ) (told : List Told) (some more less failed : ℕ) → Follows (driver_of store) (driver_of now) → ((held spare : Generation) → IsRunning c held spare store → IsFalse (driver_of now).is_spent → HasRisenBy (3 * failed) (driver_of store).device.faults (driver_of now).device.faults)

@@ -13,12 +13,9 @@ use Rattle.flt_life.specs.Making.{PartMakes, PartsMake}
 use Rattle.flt_fork.specs.Mixing.{Block, Call}
 use Rattle.flt_life.specs.Ordered.{Deed, block_deeds, deed_if, deeds_in, lane_deeds, with_deed}
 use Rattle.flt_life.specs.Parts.{own_steps, width, widths}
+use Rattle.flt_life.proofs.DeedLists.{deed_if-append}
 
 -- ---- one step more
-
-if-append : (b : Bool) (step : Step) (told : Told) (deeds more : List Deed) → deed_if b step told (deeds ++ more) ≡ deed_if b step told deeds ++ more
-if-append true step told deeds more = refl
-if-append false step told deeds more = refl
 
 -- Its deed stands behind those of the steps before it.
 pub lane_deeds_more : (steps : List Step) (told : List Told) (step : Step) (one : Told) → length told ≡ length steps → lane_deeds (steps ++ step ∷ []) (told ++ one ∷ []) ≡ lane_deeds steps told ++ with_deed step one []
@@ -26,7 +23,7 @@ lane_deeds_more [] [] step one size = refl
 lane_deeds_more [] (answer ∷ told) step one size = absurd (omega (arith, size))
 lane_deeds_more (first ∷ steps) [] step one size = absurd (omega (arith, size))
 lane_deeds_more (first ∷ steps) (answer ∷ told) step one size =
-    ap (with_deed first answer) (lane_deeds_more steps told step one (omega (arith, size))) ∙ if-append (is_store_step first) first answer (lane_deeds steps told) (with_deed step one [])
+    ap (with_deed first answer) (lane_deeds_more steps told step one (omega (arith, size))) ∙ deed_if-append (is_store_step first) first answer (lane_deeds steps told) (with_deed step one [])
 
 -- And is the newest.
 newest_if : (b : Bool) (step : Step) (told : Told) (deeds earlier : List Deed) → reverse (deeds ++ deed_if b step told []) ++ earlier ≡ deed_if b step told (reverse deeds ++ earlier)
@@ -93,7 +90,7 @@ pub deeds_more : (parts : List (PartOf Step)) (own : List Told) (lanes : List (L
 deeds_more [] own lanes part mine others size wide = λ i. deeds_in (part ∷ []) (nothing own size i ++ mine) (nothing lanes wide i ++ others)
 deeds_more (inl step ∷ parts) [] lanes part mine others size wide = absurd (omega (arith, size))
 deeds_more (inl step ∷ parts) (answer ∷ own) lanes part mine others size wide =
-    ap (with_deed step answer) (deeds_more parts own lanes part mine others (omega (arith, size)) (omega (arith, wide))) ∙ if-append (is_store_step step) step answer (deeds_in parts own lanes) (deeds_in (part ∷ []) mine others)
+    ap (with_deed step answer) (deeds_more parts own lanes part mine others (omega (arith, size)) (omega (arith, wide))) ∙ deed_if-append (is_store_step step) step answer (deeds_in parts own lanes) (deeds_in (part ∷ []) mine others)
 deeds_more (inr block ∷ parts) own lanes part mine others size wide =
     let n = length block in
     let front = block_deeds block (take n lanes) in

@@ -5,7 +5,6 @@ pub mod WorkRuns
 pub mod Rooms
 pub mod Running
 pub mod Stepping
-pub mod Keeping
 pub mod Saves
 pub mod Leaving
 pub mod Applying

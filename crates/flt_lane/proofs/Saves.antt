@@ -26,7 +26,7 @@ use Rattle.flt_shared.specs.Call.{Seat, IsCall}
 use Rattle.flt_life.specs.SoFar.{IsKeptSince}
 use Rattle.flt_lane.specs.Living.{IsLivingOn, answers_of, save_call, saves_in, saves_of}
 use Rattle.flt_fork.proofs.Knowing.{Since, since, knows_all}
-use Rattle.flt_lane.proofs.Keeping.{kept_failed, kept_further, kept_saved, pushed, snapshot_further}
+use Rattle.flt_life.proofs.Keeping.{kept_failed, kept_further, kept_saved, pushed, snapshot_further}
 
 -- ---- how many calls of saves there are
 

@@ -34,7 +34,7 @@ IsRead answers.NoBlock = Unit {0}
 IsRead _ = ⊥
 
 -- A driver that is not spent was not before, since one that is spent stays so.
-unspent_before : (before after : Bool) → (IsTrue before → IsTrue after) → IsFalse after → IsFalse before
+pub unspent_before : (before after : Bool) → (IsTrue before → IsTrue after) → IsFalse after → IsFalse before
 unspent_before true after stays unspent = let spent : IsTrue after = stays refl in absurd (cc)
 unspent_before false after stays unspent = refl
 

@@ -14,3 +14,5 @@ pub mod Riding
 pub mod Causing
 pub mod ByAction
 pub mod Reading
+pub mod Keeping
+pub mod DeedLists

@@ -21,16 +21,13 @@ use Rattle.flt_life.specs.Chain.{KeepsApplications, LifeView, deeds_of, queue_of
 use Rattle.flt_life.specs.Moment.{Moment}
 use Rattle.flt_life.specs.Ordered.{Deed, block_deeds, deed_if, deeds_in, lane_deeds, with_deed}
 use Rattle.flt_life.specs.Parts.{IsPossibleInLane, IsPossiblePart, own_steps}
+use Rattle.flt_life.proofs.DeedLists.{deed_if-append}
 use Rattle.flt_life.proofs.ByAction.{touches_by, touches_store}
 use Rattle.flt_life.proofs.Reading.{gets_also}
 use Rattle.flt_lives.specs.Alone.{AreAlone, IsAlone, IsPlain}
 use Rattle.flt_lives.specs.Living.{deeds_told, with_answer}
 
 -- ---- one step more
-
-if-append : (b : Bool) (step : Step) (told : Told) (deeds more : List Deed) → deed_if b step told (deeds ++ more) ≡ deed_if b step told deeds ++ more
-if-append true step told deeds more = refl
-if-append false step told deeds more = refl
 
 -- Its deed stands behind those of the parts before it.
 pub deeds_more : (parts : List (PartOf Step)) (own : List Told) (lanes : List (List Told)) (step : Step) (told : Told) → length own ≡ length (own_steps parts)
@@ -39,7 +36,7 @@ deeds_more [] [] lanes step told size = refl
 deeds_more [] (answer ∷ own) lanes step told size = absurd (omega (arith, size))
 deeds_more (inl first ∷ parts) [] lanes step told size = absurd (omega (arith, size))
 deeds_more (inl first ∷ parts) (answer ∷ own) lanes step told size =
-    ap (with_deed first answer) (deeds_more parts own lanes step told (omega (arith, size))) ∙ if-append (is_store_step first) first answer (deeds_in parts own lanes) (with_deed step told [])
+    ap (with_deed first answer) (deeds_more parts own lanes step told (omega (arith, size))) ∙ deed_if-append (is_store_step first) first answer (deeds_in parts own lanes) (with_deed step told [])
 deeds_more (inr block ∷ parts) own lanes step told size =
     let front = block_deeds block (take (length block) lanes) in
     let back = drop (length block) lanes in

@@ -1,5 +1,4 @@
 pub mod Deeds
-pub mod Keeping
 pub mod Playing
 pub mod Starting
 pub mod Linking

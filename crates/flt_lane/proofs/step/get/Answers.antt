@@ -21,7 +21,7 @@ use Rattle.flt_lane.specs.Living.{AreHeld, Carries, answers_of, drains_by, saves
 use Rattle.flt_lane.specs.Runs.{QueueSeat}
 use Rattle.flt_lane.proofs.Answering.{keeps, takes_deed}
 use Rattle.flt_lane.proofs.Carrying.{gets_bytes, gets_none, holds_deed, living_deed}
-use Rattle.flt_lane.proofs.Keeping.{IsNoSave}
+use Rattle.flt_life.proofs.Keeping.{IsNoSave}
 use Rattle.flt_lane.proofs.Leaving.{leaves_by_calls}
 use Rattle.flt_lane.proofs.Stepping.{none_made, none_queued}
 use Rattle.flt_lane.proofs.step.get.Goals as goal

@@ -20,7 +20,7 @@ use Rattle.flt_life.specs.Chain.{start_from}
 use Rattle.flt_life.specs.Journal.{Journal, entry}
 use Rattle.flt_life.specs.SoFar.{IsCaused}
 use Rattle.flt_lives.specs.Living.{IsLiving, with_answer}
-use Rattle.flt_lives.proofs.Keeping.{kept_call}
+use Rattle.flt_life.proofs.Keeping.{kept_entry}
 use Rattle.flt_life.proofs.Riding.{goes_nowhere}
 use Rattle.flt_life.proofs.Causing.{caused_arm}
 use Rattle.flt_life.proofs.Giving.{none_given}
@@ -37,7 +37,7 @@ returns-in-Call-clause-living g c = λ first told living.
       held = living.held;
       spare = living.spare;
       running = living.running;
-      kept = kept_call c.args.config.now first journal told living.held living.spare living.kept c.in-Call.op possible.0;
+      kept = kept_entry c.args.config.now first journal told living.held living.spare living.kept 0 c.in-Call.op possible.0;
     } in
     subst (λ (step : Action). IsLiving c.args.config.now first (reverse c.write.new.journal.items) (with_answer step (answers.Dem last) told) (state_of c.call-reply.new.unit) c.args.store.now) (sym c.in-Call.is)
     (subst (λ (journal : Journal). IsLiving c.args.config.now first journal told (state_of c.call-reply.new.unit) c.args.store.now) (sym c.write.ensures.written) after)

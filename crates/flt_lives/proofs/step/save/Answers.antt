@@ -1,11 +1,11 @@
-use Rattle.std.proofs.Common.{◌≡◌, ◌∙◌, ◌∷◌, Err, ap, sym, subst, reverse}
+use Rattle.std.proofs.Common.{◌≡◌, ◌∙◌, ◌∷◌, Err, ap, refl, sym, subst, reverse}
 use Rattle.flt_model.specs.declared.call.Op.TheVariants as ops
 use Rattle.flt_dcm.specs.Whole.{state_of}
 use Rattle.flt_life.specs.declared.answer.StepAnswer.TheVariants as answers
 use Rattle.flt_life.specs.Journal.{Journal, entry, calls_of}
 use Rattle.flt_life.specs.Chain.{start_from}
 use Rattle.flt_lives.specs.Living.{IsLiving}
-use Rattle.flt_lives.proofs.Keeping.{kept_saved, kept_failed}
+use Rattle.flt_life.proofs.Keeping.{kept_saved, kept_failed}
 use Rattle.flt_life.proofs.Causing.{caused_saved, caused_failed}
 use Rattle.flt_life.proofs.Giving.{none_since}
 use Rattle.flt_life.proofs.Riding.{goes_by_calls}
@@ -24,7 +24,7 @@ returns-in-Ok-clause-living g c = λ first told living.
       held = _;
       spare = _;
       running = saved.running;
-      kept = rw taken (kept_saved c.args.config.now first journal told living.held living.spare living.kept saved.chosen saved.is c.in-Ok.generation saved.next);
+      kept = rw taken (kept_saved c.args.config.now first journal told living.held living.spare living.kept saved.chosen saved.is 0 c.in-Ok.generation (entry 0 ops.Snapshot ∷ journal) saved.next refl);
     } in
     subst (λ (journal : Journal). IsLiving c.args.config.now first journal (answers.Saved c.in-Ok.generation ∷ told) (state_of c.call.new.unit) c.save.new.self) (sym written) after
 
@@ -40,7 +40,7 @@ returns-in-Err-clause-living g c = λ first told living.
       held = left.now_held;
       spare = left.now_spare;
       running = left.running;
-      kept = kept_failed c.args.config.now first journal told living.held living.spare living.kept left.chosen left.is c.in-Err.fault left.now_held left.now_spare held_is spare_is;
+      kept = kept_failed c.args.config.now first journal told living.held living.spare living.kept left.chosen left.is 0 c.in-Err.fault left.now_held left.now_spare held_is spare_is;
     } in
     subst (λ (journal : Journal). IsLiving c.args.config.now first journal (answers.SaveFailed c.in-Err.fault ∷ told) (state_of c.take_snapshot.new.unit) c.save.new.self) (sym c.write.ensures.written) after
 

@@ -18,7 +18,7 @@ use Rattle.flt_life.specs.SoFar.{IsCaused}
 use Rattle.flt_lives.specs.Living.{IsLiving, deeds_told}
 use Rattle.flt_life.proofs.Causing.{are_caused}
 use Rattle.flt_lives.proofs.Deeds.{alone_got}
-use Rattle.flt_lives.proofs.Keeping.{kept_first}
+use Rattle.flt_life.proofs.Keeping.{kept_first}
 use Rattle.flt_lives.proofs.Playing.{alone_is, alone_view, played_by}
 use Rattle.flt_lives.proofs.Rooms.{alone_calls, arms_are, calls_most, possible_alone}
 use Rattle.flt_lives.proofs.plain.PlainEngine.live.Goals as goal
