@@ -253,18 +253,19 @@ module _ {device : FlashState} {numbers : List ℕ} {position block : ℕ} {foun
     stored_sound = sound_now stored.held stored.at
 
     module _ (was_stale has_mounted : Bool) where
-      pub failed_calls : HasRisenBy 1 device.faults after.faults → Calls {T = Unit {0}} (state_by numbers was_stale has_mounted device) (state_by numbers true has_mounted after) (Err Flash)
-      failed_calls cause = quiet_calls numbers device after put.writes.on.runs stands.sound stored_sound spent was_stale has_mounted true (Err Flash) (λ told. cause) (λ s p told. cc told)
+      pub failed_calls : HasRisenBy 1 device.faults after.faults → (answer : Result (Unit {0}) BlockFault) → answer ≡ Err Flash → Calls (state_by numbers was_stale has_mounted device) (state_by numbers true has_mounted after) answer
+      failed_calls cause answer told = quiet_calls numbers device after put.writes.on.runs stands.sound stored_sound spent was_stale has_mounted true answer (λ flash. cause) (λ s p damaged. cc (told, damaged))
 
-      pub failed_changes : Changes (state_by numbers was_stale has_mounted device) (state_by numbers true has_mounted after) block (asked_of new.valid written) (length written) (Err Flash)
-      failed_changes = record {
-        done = tt;
-        failed = λ told. stored.either;
-        others = others;
-        full = λ live needed told. absurd (cc told);
-        spent = λ told. absurd (cc told);
-        damaged = λ s p told. absurd (cc told);
-      }
+      pub failed_changes : (answer : Result (Unit {0}) BlockFault) → answer ≡ Err Flash → Changes (state_by numbers was_stale has_mounted device) (state_by numbers true has_mounted after) block (asked_of new.valid written) (length written) answer
+      failed_changes answer told = subst (λ (r : Result (Unit {0}) BlockFault). Changes (state_by numbers was_stale has_mounted device) (state_by numbers true has_mounted after) block (asked_of new.valid written) (length written) r) (sym told)
+          (record {
+            done = tt;
+            failed = λ fault. stored.either;
+            others = others;
+            full = λ live needed fault. absurd (cc fault);
+            spent = λ fault. absurd (cc fault);
+            damaged = λ s p fault. absurd (cc fault);
+          })
 
       -- It holds the record whole.
       module _ (whole : HoldsRecord now unit new written) where

@@ -15,7 +15,7 @@ use crate::place::{is_last, next_place, next_sequence, some_is_last};
 use crate::record::{read_bytes, write_record};
 use crate::scan::scan;
 use crate::{Eeprom, Gate, Held};
-use flt_flash::{Arm, BlockFault, Blocks, FlashFailed, Found, Refused};
+use flt_flash::{Arm, BlockFault, Blocks, Found, Refused};
 use flt_pages::Numbers;
 use std::alloc::{AllocError, Global};
 
@@ -165,14 +165,10 @@ impl<E: Eeprom> Ea<E> {
             sequence: next_sequence(held),
         };
         self.is_stale = true;
-        match write_record(&mut self.device, gate_unit(position, place), &gate, bytes) {
-            Err(FlashFailed) => Err(BlockFault::Flash),
-            Ok(()) => {
-                self.table[position] = Some(Held { place, gate });
-                self.is_stale = false;
-                Ok(())
-            }
-        }
+        write_record(&mut self.device, gate_unit(position, place), &gate, bytes)?;
+        self.table[position] = Some(Held { place, gate });
+        self.is_stale = false;
+        Ok(())
     }
 
     // Gives a block these bytes, or makes it invalid.
@@ -211,10 +207,8 @@ impl<E: Eeprom> Ea<E> {
             Some(held) if !held.gate.valid => Ok(Found::Invalid),
             Some(held) => {
                 let gate = gate_unit(position, held.place);
-                match read_bytes(&mut self.device, gate, held.gate.length, out) {
-                    Err(FlashFailed) => Err(BlockFault::Flash),
-                    Ok(()) => Ok(Found::Bytes(held.gate.length as usize)),
-                }
+                read_bytes(&mut self.device, gate, held.gate.length, out)?;
+                Ok(Found::Bytes(held.gate.length as usize))
             }
         }
     }

@@ -47,15 +47,14 @@ pub(crate) fn scan<E: Eeprom>(
     ensures never_full { NeverFull result }
 {
     for position in 0..numbers.len() {
-        match look(device, numbers.at(position), position as u16) {
-            Err(FlashFailed) => return Err(BlockFault::Flash),
-            Ok(Err(place)) => {
+        match look(device, numbers.at(position), position as u16)? {
+            Err(place) => {
                 return Err(BlockFault::Damaged {
                     sector: place,
                     page: position as u16,
                 });
             }
-            Ok(Ok(held)) => table[position] = held,
+            Ok(held) => table[position] = held,
         }
     }
     Ok(())

@@ -1,5 +1,5 @@
 -- What a driver means once a record was appended behind its log.
-use Rattle.std.proofs.Common.{◌≡◌, ◌≢◌, ◌⊎◌, ⊎_elim, inl, inr, ◌+◌, ◌<◌, ◌≤◌, ℕ, Bool, true, false, List, length, None, Result, Ok, Err, refl, sym, ◌∙◌, ap}
+use Rattle.std.proofs.Common.{◌≡◌, ◌≢◌, ◌⊎◌, ⊎_elim, inl, inr, ◌+◌, ◌<◌, ◌≤◌, ℕ, Bool, true, false, List, length, None, Result, Ok, Err, refl, sym, ◌∙◌, ap, subst}
 use Rattle.std.specs.Prelude.{◌==◌, if◌then◌else◌, OnOk, IsErrOf}
 use Rattle.std.specs.List.{list_any}
 use Rattle.std.proofs.lemmas.Bool.{eq-eqb, ne_eqb}
@@ -89,20 +89,21 @@ module _ (used : ℕ) (numbers : List ℕ) (before after : FlashState) (shape : 
   sound_before = stands_sound used numbers before.image sector sequence page value stands
 
   module _ (was_stale has_mounted : Bool) (is_mounted : has_mounted ≡ true) (failed : FlashFailed) (is : Records {T = Unit {0}} before after sector page block held valid (Err failed)) where
-    pub failed_changes : Changes (state_by used numbers was_stale has_mounted before) (state_by used numbers true has_mounted after) block asked (length held) (Err Flash)
-    failed_changes = record {
-      done = tt;
-      failed = λ told. (leaves is).either;
-      others = (leaves is).others;
-      full = λ live needed told. absurd (cc told);
-      spent = λ told. absurd (cc told);
-      damaged = λ s p told. absurd (cc told);
-    }
+    pub failed_changes : (result : Result (Unit {0}) BlockFault) → result ≡ Err Flash → Changes (state_by used numbers was_stale has_mounted before) (state_by used numbers true has_mounted after) block asked (length held) result
+    failed_changes result told = subst (λ (r : Result (Unit {0}) BlockFault). Changes (state_by used numbers was_stale has_mounted before) (state_by used numbers true has_mounted after) block asked (length held) r) (sym told)
+        (record {
+          done = tt;
+          failed = λ fault. (leaves is).either;
+          others = (leaves is).others;
+          full = λ live needed fault. absurd (cc fault);
+          spent = λ fault. absurd (cc fault);
+          damaged = λ s p fault. absurd (cc fault);
+        })
 
-    pub failed_calls : Calls {T = Unit {0}} (state_by used numbers was_stale has_mounted before) (state_by used numbers true has_mounted after) (Err Flash)
-    failed_calls =
+    pub failed_calls : (result : Result (Unit {0}) BlockFault) → result ≡ Err Flash → Calls (state_by used numbers was_stale has_mounted before) (state_by used numbers true has_mounted after) result
+    failed_calls result told =
         quiet_calls used numbers before after is.on.runs sound_before (leaves is).sound
-        (current_stays used numbers before after shape sector sequence page block held valid value within begins stands proper among room is) was_stale has_mounted true (Err Flash) (λ told. is.cause) (λ s p told. cc told)
+        (current_stays used numbers before after shape sector sequence page block held valid value within begins stands proper among room is) was_stale has_mounted true result (λ flash. is.cause) (λ s p damaged. cc (told, damaged))
 
   module _ (was_stale has_mounted : Bool) (is_mounted : has_mounted ≡ true) (is : Records {T = Unit {0}} before after sector page block held valid (Ok tt)) where
     pub now_stands : StandsAt used numbers after.image sector sequence (page + (2 + byte_pages (length held))) (given block asked value)

@@ -19,7 +19,7 @@ ghost use Rattle.flt_fee.specs.Mounted.{IsMounted};
 ghost use Rattle.flt_fee.specs.Refusal.{refusal, AnswersBy, KeepsStuck};
 ghost use Rattle.flt_fee.specs.Wear.{StaysEven, UnlessFlash};
 
-use flt_flash::{Arm, Bench, BlockFault, Blocks, Flash, FlashFailed, Found, Refused};
+use flt_flash::{Arm, Bench, BlockFault, Blocks, Flash, Found, Refused};
 use flt_pages::{
     CurrentSector, Numbers, PageFault, RecordPlace, append_record, byte_pages, current_sector,
     find_places, forget, live_pages, note, place_of, read_record, set_up_flash, switch_sectors,
@@ -98,21 +98,17 @@ impl<F: Flash> Fee<F> {
     {
         let page = self.end;
         self.is_stale = true;
-        match append_record(&mut self.flash, self.sector, page, block, bytes, valid) {
-            Err(FlashFailed) => Err(BlockFault::Flash),
-            Ok(()) => {
-                let length = bytes.len() as u16;
-                let place = RecordPlace {
-                    page,
-                    length,
-                    valid,
-                };
-                note(&self.numbers, &mut self.places, block, true, place);
-                self.end = page + 2 + byte_pages(length);
-                self.is_stale = false;
-                Ok(())
-            }
-        }
+        append_record(&mut self.flash, self.sector, page, block, bytes, valid)?;
+        let length = bytes.len() as u16;
+        let place = RecordPlace {
+            page,
+            length,
+            valid,
+        };
+        note(&self.numbers, &mut self.places, block, true, place);
+        self.end = page + 2 + byte_pages(length);
+        self.is_stale = false;
+        Ok(())
     }
 
     // Goes on with the current sector as it stands: the mount of a flash with a valid sector.
@@ -162,18 +158,14 @@ impl<F: Flash> Fee<F> {
         ensures even { UnlessFlash result (StaysEven self.old.used (F.state self.old.flash) (F.state self.new.flash)) }
     {
         self.is_stale = true;
-        match set_up_flash(&mut self.flash, self.used) {
-            Err(FlashFailed) => Err(BlockFault::Flash),
-            Ok(()) => {
-                forget(&mut self.places);
-                self.sector = 0;
-                self.sequence = 1;
-                self.end = 2;
-                self.has_mounted = true;
-                self.is_stale = false;
-                Ok(())
-            }
-        }
+        set_up_flash(&mut self.flash, self.used)?;
+        forget(&mut self.places);
+        self.sector = 0;
+        self.sequence = 1;
+        self.end = 2;
+        self.has_mounted = true;
+        self.is_stale = false;
+        Ok(())
     }
 
     // Looks at the flash as a power-up left it.
@@ -236,23 +228,19 @@ impl<F: Flash> Fee<F> {
         ensures even { UnlessFlash result (StaysEven self.old.used (F.state self.old.flash) (F.state self.new.flash)) }
     {
         self.is_stale = true;
-        match switch_sectors(
+        let end = switch_sectors(
             &mut self.flash,
             self.used,
             &self.numbers,
             &mut self.places,
             self.sector,
             self.sequence,
-        ) {
-            Err(FlashFailed) => Err(BlockFault::Flash),
-            Ok(end) => {
-                self.sector = 1 - self.sector;
-                self.sequence += 1;
-                self.end = end;
-                self.is_stale = false;
-                Ok(())
-            }
-        }
+        )?;
+        self.sector = 1 - self.sector;
+        self.sequence += 1;
+        self.end = end;
+        self.is_stale = false;
+        Ok(())
     }
 
     // Makes room behind the log for a record of this length, by a switch where it does not fit.
@@ -338,10 +326,8 @@ impl<F: Flash> Fee<F> {
         if !place.valid {
             return Ok(Found::Invalid);
         }
-        match read_record(&mut self.flash, self.sector, place, out) {
-            Err(FlashFailed) => Err(BlockFault::Flash),
-            Ok(()) => Ok(Found::Bytes(place.length as usize)),
-        }
+        read_record(&mut self.flash, self.sector, place, out)?;
+        Ok(Found::Bytes(place.length as usize))
     }
 
     /// A driver over this flash of `used` pages in each sector, for these block numbers. It is stale, and has not mounted.

@@ -3,9 +3,10 @@ ghost use Rattle.std.specs.Prelude.{◌≡◌, ◌<◌, ◌≤◌, length, Conta
 ghost use Rattle.flt_flash.specs.Content.{invalid, bytes as holding, IsShort};
 ghost use Rattle.flt_flash.specs.State.{CanArm};
 ghost use Rattle.flt_flash.specs.Blocks.{BlocksState};
+ghost use Rattle.flt_flash.specs.declared.blocks.BlockFault.TheVariants.{Flash};
 ghost use Rattle.flt_flash.specs.Calls.{Follows, Calls, CountsCall, NeverFull, Changes, Costs, ReadCosts, SameImage, SameSpent, SameValues, Settles, ReadsContent, found_of, ArmsDriver, PowersUpDriver};
 
-use crate::Arm;
+use crate::{Arm, FlashFailed};
 use thiserror::Error;
 
 /// A driver could not be made, for want of memory; the device comes back.
@@ -42,6 +43,14 @@ pub enum BlockFault {
     /// The first place of the device that holds what no driver writes: a sector and a page. The device stays as it is.
     #[error("sector {sector} is damaged at page {page}")]
     Damaged { sector: u8, page: u16 },
+}
+
+impl From<FlashFailed> for BlockFault {
+    ghost from_gives = { λ _ e. e ≡ Flash };
+
+    fn from(_: FlashFailed) -> Self {
+        BlockFault::Flash
+    }
 }
 
 /// Blocks of 1 to 128 bytes under the numbers with which the driver was made, over a device that loses power and fails.

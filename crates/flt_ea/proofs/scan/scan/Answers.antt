@@ -6,14 +6,14 @@ use Rattle.flt_ea.specs.Image.{damage_from, judged, gate_at}
 use Rattle.flt_ea.proofs.Scanned.{no_more, damaged_here, sound_on, table_on}
 use Rattle.flt_ea.proofs.scan.scan.Goals as goal
 
-pub returns-in-Ok-Err-clause-damaged : goal.returns-in-Ok-Err-clause-damaged
-returns-in-Ok-Err-clause-damaged g c = λ sector page is.
+pub returns-in-Err-clause-damaged : goal.returns-in-Err-clause-damaged
+returns-in-Err-clause-damaged g c = λ sector page is.
     let units = sector_at (g.E.Eeprom.state c.args.device.now).image 0 in
     let at = c.loop-position.position in
-    let found = subst (λ (image : List (List (List ℕ))). c.in-Ok-Err.field-0 ≡ judged (get_or c.args.numbers.now at 0) (gate_at (sector_at image 0) at 0) (gate_at (sector_at image 0) at 1)) c.loop-position.invariant.reads.image
-    (c.in-Ok-Err.ensures.judged ∙ ap (λ n. judged n (gate_at (sector_at (g.E.Eeprom.state c.loop-position.device).image 0) at 0) (gate_at (sector_at (g.E.Eeprom.state c.loop-position.device).image 0) at 1)) c.at.ensures) in
-    let told : Err c.in-Ok-Err.place ≡ judged (get_or c.args.numbers.now at 0) (gate_at units at 0) (gate_at units at 1) = cc in
-    let here = damaged_here c.args.numbers.now units at (omega arith) c.in-Ok-Err.place told c.loop-position.invariant.sound in
+    let found = subst (λ (image : List (List (List ℕ))). c.in_ok-place.field-0 ≡ judged (get_or c.args.numbers.now at 0) (gate_at (sector_at image 0) at 0) (gate_at (sector_at image 0) at 1)) c.loop-position.invariant.reads.image
+    (c.in_ok-place.ensures.judged ∙ ap (λ n. judged n (gate_at (sector_at (g.E.Eeprom.state c.loop-position.device).image 0) at 0) (gate_at (sector_at (g.E.Eeprom.state c.loop-position.device).image 0) at 1)) c.at.ensures) in
+    let told : Err c.in-Err.place ≡ judged (get_or c.args.numbers.now at 0) (gate_at units at 0) (gate_at units at 1) = cc in
+    let here = damaged_here c.args.numbers.now units at (omega arith) c.in-Err.place told c.loop-position.invariant.sound in
     cc
 
 pub loop-position-preserved : goal.loop-position-preserved
@@ -23,9 +23,9 @@ loop-position-preserved g c =
     let before = c.loop-position.invariant in
     let within : at < length c.args.numbers.now = omega arith in
     let inside : at < length c.loop-position.table = omega (arith, before.size, c.requires.table) in
-    let found = subst (λ (image : List (List (List ℕ))). c.in-Ok-Ok.field-0 ≡ judged (get_or c.args.numbers.now at 0) (gate_at (sector_at image 0) at 0) (gate_at (sector_at image 0) at 1)) before.reads.image
-    (c.in-Ok-Ok.ensures.judged ∙ ap (λ n. judged n (gate_at (sector_at (g.E.Eeprom.state c.loop-position.device).image 0) at 0) (gate_at (sector_at (g.E.Eeprom.state c.loop-position.device).image 0) at 1)) c.at.ensures) in
-    let told : Ok c.in-Ok-Ok.held ≡ judged (get_or c.args.numbers.now at 0) (gate_at units at 0) (gate_at units at 1) = cc in
+    let found = subst (λ (image : List (List (List ℕ))). c.in_ok-place.field-0 ≡ judged (get_or c.args.numbers.now at 0) (gate_at (sector_at image 0) at 0) (gate_at (sector_at image 0) at 1)) before.reads.image
+    (c.in_ok-place.ensures.judged ∙ ap (λ n. judged n (gate_at (sector_at (g.E.Eeprom.state c.loop-position.device).image 0) at 0) (gate_at (sector_at (g.E.Eeprom.state c.loop-position.device).image 0) at 1)) c.at.ensures) in
+    let told : Ok c.in-Ok.held ≡ judged (get_or c.args.numbers.now at 0) (gate_at units at 0) (gate_at units at 1) = cc in
     record {
       reads = record {
         runs = runs_on before.reads.runs c.look.ensures.reads.runs;
@@ -33,8 +33,8 @@ loop-position-preserved g c =
         wear = c.look.ensures.reads.wear ∙ before.reads.wear;
       };
       size = search rules;
-      sound = sound_on c.args.numbers.now units at within c.in-Ok-Ok.held told before.sound;
-      table = table_on c.args.numbers.now units at within c.loop-position.table c.in-Ok-Ok.held inside told before.table;
+      sound = sound_on c.args.numbers.now units at within c.in-Ok.held told before.sound;
+      table = table_on c.args.numbers.now units at within c.loop-position.table c.in-Ok.held inside told before.table;
     }
 
 pub returns-clause-sound : goal.returns-clause-sound

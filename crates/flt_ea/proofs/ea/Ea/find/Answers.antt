@@ -38,22 +38,22 @@ returns-in-Some-clause-found g c =
     let value = invalid_value (stands g (goal.at.returns-in-Some-clause-found g c).After-index) held c.in-Some.is (unless held.gate.valid (sym c.if-not-held.true)) in
     subst (λ (content : Content). ReadsContent content Invalid c.args.out.now c.args.out.now) (sym value) refl
 
-pub returns-in-Ok-clause-found : goal.returns-in-Ok-clause-found
-returns-in-Ok-clause-found g c =
+pub returns-in_ok-read_bytes-in-Some-2-clause-found : goal.returns-in_ok-read_bytes-in-Some-2-clause-found
+returns-in_ok-read_bytes-in-Some-2-clause-found g c =
     let units = sector_at (g.E.Eeprom.state c.args.self.now.device).image 0 in
     let held = c.in-Some-2.held in
-    let here = stands g (goal.at.returns-in-Ok-clause-found g c).After-index in
+    let here = stands g (goal.at.returns-in_ok-read_bytes-in-Some-2-clause-found g c).After-index in
     let same : held ≡ c.in-Some.held = cc in
     let valid : held.gate.valid ≡ true = ap (λ (h : Held). h.gate.valid) same ∙ lest c.in-Some.held.gate.valid (sym c.if-not-held.false) in
-    let read = subst (λ n. c.read_bytes.new.out ≡ bytes_behind units n held.gate.length ++ drop held.gate.length c.args.out.now) c.gate_unit-gate.ensures c.in-Ok.ensures.read in
+    let read = subst (λ n. c.read_bytes.new.out ≡ bytes_behind units n held.gate.length ++ drop held.gate.length c.args.out.now) c.gate_unit-gate.ensures c.in_ok-read_bytes-in-Some-2.ensures.read in
     subst (λ (content : Content). ReadsContent content (Bytes held.gate.length) c.args.out.now c.read_bytes.new.out) (sym (valid_value here held c.in-Some-2.is valid)) (sym (size_is here held c.in-Some-2.is), read)
 
-pub returns-in-Ok-clause-spends : goal.returns-in-Ok-clause-spends
-returns-in-Ok-clause-spends g c =
+pub returns-in_ok-read_bytes-in-Some-2-clause-spends : goal.returns-in_ok-read_bytes-in-Some-2-clause-spends
+returns-in_ok-read_bytes-in-Some-2-clause-spends g c =
     let device = g.E.Eeprom.state c.args.self.now.device in
     let held = c.in-Some-2.held in
-    let here = stands g (goal.at.returns-in-Ok-clause-spends g c).After-index in
+    let here = stands g (goal.at.returns-in_ok-read_bytes-in-Some-2-clause-spends g c).After-index in
     let same : held ≡ c.in-Some.held = cc in
     let valid : held.gate.valid ≡ true = ap (λ (h : Held). h.gate.valid) same ∙ lest c.in-Some.held.gate.valid (sym c.if-not-held.false) in
     let pages : byte_pages (size_of (value_in c.args.self.now.numbers device.image c.args.block)) ≡ byte_pages held.gate.length = ap (λ (content : Content). byte_pages (size_of content)) (valid_value here held c.in-Some-2.is valid) ∙ ap byte_pages (size_is here held c.in-Some-2.is) in
-    omega (arith, c.in-Ok.ensures.operations, pages)
+    omega (arith, c.in_ok-read_bytes-in-Some-2.ensures.operations, pages)

@@ -48,56 +48,62 @@ write_record-requires-clause-unspoiled g c =
     let device = g.E.Eeprom.state c.args.self.now.device in
     ap (λ n. is_spoiled (unit_at device.image n)) (c.gate_unit.ensures ∙ ap (gate_unit c.position-position.result) c.next_place-place.ensures) ∙ unspoiled (stands g (goal.at.write_record-requires-clause-unspoiled g c).After-index-held)
 
-pub invariant_of-self-clause-mounted : goal.invariant_of-self-clause-mounted
-invariant_of-self-clause-mounted g c =
-    let here = stands g (goal.at.invariant_of-self-clause-mounted g c).After-index-held in
-    let put = puts g (goal.at.invariant_of-self-clause-mounted g c).After-write_record (Err c.in-Err.field-0) c.in-Err.ensures.writes in
-    record { mounted = λ fresh. absurd (cc fresh); undamaged = λ yes. stored_sound here put; places = λ fresh. absurd (cc fresh) }
-
-pub returns-in-Err-clause-changes : goal.returns-in-Err-clause-changes
-returns-in-Err-clause-changes g c =
+pub invariant_of-self : goal.invariant_of-self
+invariant_of-self g c =
     let self = c.args.self.now in
-    let here = stands g (goal.at.returns-in-Err-clause-changes g c).After-index-held in
-    let put = puts g (goal.at.returns-in-Err-clause-changes g c).After-write_record (Err c.in-Err.field-0) c.in-Err.ensures.writes in
-    failed_changes here put self.is_stale self.has_mounted
+    let here = stands g (goal.at.invariant_of-self g c).After-index-held in
+    let put = puts g (goal.at.invariant_of-self g c).After-write_record c.write_record.result c.write_record.ensures.writes in
+    record {
+      within = omega (arith, self.within, c.write_record.ensures.writes.on.runs.pages);
+      size = self.size;
+      distinct = self.distinct;
+      mounted = record { mounted = λ fresh. absurd (cc fresh); undamaged = λ yes. stored_sound here put; places = λ fresh. absurd (cc fresh) };
+    }
 
-pub returns-in-Err-clause-calls : goal.returns-in-Err-clause-calls
-returns-in-Err-clause-calls g c =
+pub returns-in_err-write_record-clause-changes : goal.returns-in_err-write_record-clause-changes
+returns-in_err-write_record-clause-changes g c =
     let self = c.args.self.now in
-    let here = stands g (goal.at.returns-in-Err-clause-calls g c).After-index-held in
-    let put = puts g (goal.at.returns-in-Err-clause-calls g c).After-write_record (Err c.in-Err.field-0) c.in-Err.ensures.writes in
-    failed_calls here put self.is_stale self.has_mounted put.writes.cause
+    let here = stands g (goal.at.returns-in_err-write_record-clause-changes g c).After-index-held in
+    let put = puts g (goal.at.returns-in_err-write_record-clause-changes g c).After-write_record (Err c.in_err-write_record.field-0.0) c.in_err-write_record.ensures.writes in
+    failed_changes here put self.is_stale self.has_mounted c.from_residual.result (grind arith)
 
-pub invariant_of-self-in-Ok-clause-mounted : goal.invariant_of-self-in-Ok-clause-mounted
-invariant_of-self-in-Ok-clause-mounted g c =
+pub returns-in_err-write_record-clause-calls : goal.returns-in_err-write_record-clause-calls
+returns-in_err-write_record-clause-calls g c =
     let self = c.args.self.now in
-    let here = stands g (goal.at.invariant_of-self-in-Ok-clause-mounted g c).After-index-held in
-    let put = puts g (goal.at.invariant_of-self-in-Ok-clause-mounted g c).After-write_record (Ok tt) c.in-Ok.ensures.writes in
+    let here = stands g (goal.at.returns-in_err-write_record-clause-calls g c).After-index-held in
+    let put = puts g (goal.at.returns-in_err-write_record-clause-calls g c).After-write_record (Err c.in_err-write_record.field-0.0) c.in_err-write_record.ensures.writes in
+    failed_calls here put self.is_stale self.has_mounted put.writes.cause c.from_residual.result (grind arith)
+
+pub invariant_of-self-2-clause-mounted : goal.invariant_of-self-2-clause-mounted
+invariant_of-self-2-clause-mounted g c =
+    let self = c.args.self.now in
+    let here = stands g (goal.at.invariant_of-self-2-clause-mounted g c).After-index-held in
+    let put = puts g (goal.at.invariant_of-self-2-clause-mounted g c).After-write_record (Ok tt) c.in_ok-write_record.ensures.writes in
     record {
       mounted = λ fresh. self.mounted.mounted c.requires.not_stale;
       undamaged = λ yes. stored_sound here put;
-      places = λ fresh. subst (λ n. IsTable (length self.numbers) (sector_at (g.E.Eeprom.state c.write_record.new.device).image 0) (set self.table.items c.position-position.result (held_at n (new_gate g (goal.at.invariant_of-self-in-Ok-clause-mounted g c).After-write_record)))) (sym c.next_place-place.ensures)
+      places = λ fresh. subst (λ n. IsTable (length self.numbers) (sector_at (g.E.Eeprom.state c.write_record.new.device).image 0) (set self.table.items c.position-position.result (held_at n (new_gate g (goal.at.invariant_of-self-2-clause-mounted g c).After-write_record)))) (sym c.next_place-place.ensures)
           (table_now here put self.is_stale self.has_mounted (whole_now here put) self.table.items self.size (self.mounted.places c.requires.not_stale));
     }
 
-pub returns-in-Ok-clause-changes : goal.returns-in-Ok-clause-changes
-returns-in-Ok-clause-changes g c =
+pub returns-clause-changes : goal.returns-clause-changes
+returns-clause-changes g c =
     let self = c.args.self.now in
-    let here = stands g (goal.at.returns-in-Ok-clause-changes g c).After-index-held in
-    let put = puts g (goal.at.returns-in-Ok-clause-changes g c).After-write_record (Ok tt) c.in-Ok.ensures.writes in
+    let here = stands g (goal.at.returns-clause-changes g c).After-index-held in
+    let put = puts g (goal.at.returns-clause-changes g c).After-write_record (Ok tt) c.in_ok-write_record.ensures.writes in
     done_changes here put self.is_stale self.has_mounted (whole_now here put)
 
-pub returns-in-Ok-clause-calls : goal.returns-in-Ok-clause-calls
-returns-in-Ok-clause-calls g c =
+pub returns-clause-calls : goal.returns-clause-calls
+returns-clause-calls g c =
     let self = c.args.self.now in
-    let here = stands g (goal.at.returns-in-Ok-clause-calls g c).After-index-held in
-    let put = puts g (goal.at.returns-in-Ok-clause-calls g c).After-write_record (Ok tt) c.in-Ok.ensures.writes in
+    let here = stands g (goal.at.returns-clause-calls g c).After-index-held in
+    let put = puts g (goal.at.returns-clause-calls g c).After-write_record (Ok tt) c.in_ok-write_record.ensures.writes in
     done_calls here put self.is_stale self.has_mounted (whole_now here put)
 
-pub returns-in-Ok-clause-answers : goal.returns-in-Ok-clause-answers
-returns-in-Ok-clause-answers g c = stuck_is (stands g (goal.at.returns-in-Ok-clause-answers g c).After-index-held) ∙ sym c.is_last.ensures ∙ c.if-is_last.false
+pub returns-clause-answers : goal.returns-clause-answers
+returns-clause-answers g c = stuck_is (stands g (goal.at.returns-clause-answers g c).After-index-held) ∙ sym c.is_last.ensures ∙ c.if-is_last.false
 
-pub invariant_of-self-in-Ok-clause-size : goal.invariant_of-self-in-Ok-clause-size
-invariant_of-self-in-Ok-clause-size g c =
+pub invariant_of-self-2-clause-size : goal.invariant_of-self-2-clause-size
+invariant_of-self-2-clause-size g c =
     let self = c.args.self.now in
     length-set self.table.items c.position-position.result (held_at c.next_place-place.result (record { block = c.args.block; length = length c.args.bytes.now; valid = c.args.valid; sequence = c.next_sequence.result })) ∙ self.size

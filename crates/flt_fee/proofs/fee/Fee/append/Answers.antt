@@ -24,28 +24,28 @@ append_record-requires-clause-blank g c =
     let stands = mounted_stands self.is_stale self.has_mounted c.requires.not_stale self.used self.numbers image self.sector self.sequence self.end self.mounted in
     λ k low high. blank_at_end self.used self.numbers image self.sector self.sequence self.end _ (omega (arith, self.least)) stands k low (omega (arith, c.requires.room))
 
-pub returns-in-Err-clause-changes : goal.returns-in-Err-clause-changes
-returns-in-Err-clause-changes g c =
+pub returns-in_err-append_record-clause-changes : goal.returns-in_err-append_record-clause-changes
+returns-in_err-append_record-clause-changes g c =
     let self = c.args.self.now in
     let image = (g.F.Flash.state self.flash).image in
     let stands = mounted_stands self.is_stale self.has_mounted c.requires.not_stale self.used self.numbers image self.sector self.sequence self.end self.mounted in
     let proper : IsWord (Head c.args.block (length c.args.bytes.now) c.args.valid self.end) = (omega arith, omega arith, omega arith, c.requires.length) in
     failed_changes self.used self.numbers (g.F.Flash.state self.flash) (g.F.Flash.state c.append_record.new.flash) (g.met.F.Flash.shape self.flash) self.sector self.sequence self.end c.args.block c.args.bytes.now c.args.valid
     self.sectors (omega (arith, self.least)) stands proper (is_among self.numbers c.args.block c.requires.number) c.requires.room
-    self.is_stale self.has_mounted (self.mounted.mounted c.requires.not_stale) c.in-Err.field-0 c.in-Err.ensures.records
+    self.is_stale self.has_mounted (self.mounted.mounted c.requires.not_stale) c.in_err-append_record.field-0.0 c.in_err-append_record.ensures.records c.from_residual.result (grind arith)
 
-pub returns-in-Err-clause-calls : goal.returns-in-Err-clause-calls
-returns-in-Err-clause-calls g c =
+pub returns-in_err-append_record-clause-calls : goal.returns-in_err-append_record-clause-calls
+returns-in_err-append_record-clause-calls g c =
     let self = c.args.self.now in
     let image = (g.F.Flash.state self.flash).image in
     let stands = mounted_stands self.is_stale self.has_mounted c.requires.not_stale self.used self.numbers image self.sector self.sequence self.end self.mounted in
     let proper : IsWord (Head c.args.block (length c.args.bytes.now) c.args.valid self.end) = (omega arith, omega arith, omega arith, c.requires.length) in
     failed_calls self.used self.numbers (g.F.Flash.state self.flash) (g.F.Flash.state c.append_record.new.flash) (g.met.F.Flash.shape self.flash) self.sector self.sequence self.end c.args.block c.args.bytes.now c.args.valid
     self.sectors (omega (arith, self.least)) stands proper (is_among self.numbers c.args.block c.requires.number) c.requires.room
-    self.is_stale self.has_mounted (self.mounted.mounted c.requires.not_stale) c.in-Err.field-0 c.in-Err.ensures.records
+    self.is_stale self.has_mounted (self.mounted.mounted c.requires.not_stale) c.in_err-append_record.field-0.0 c.in_err-append_record.ensures.records c.from_residual.result (grind arith)
 
-pub invariant_of-self-in-Ok : goal.invariant_of-self-in-Ok
-invariant_of-self-in-Ok g c =
+pub invariant_of-self-2 : goal.invariant_of-self-2
+invariant_of-self-2 g c =
     let self = c.args.self.now in
     let image = (g.F.Flash.state self.flash).image in
     let after = (g.F.Flash.state c.append_record.new.flash).image in
@@ -54,33 +54,33 @@ invariant_of-self-in-Ok g c =
     let value : ℕ → Content = given c.args.block (asked_of c.args.valid c.args.bytes.now) (block_value self.used self.numbers image) in
     let now = now_stands self.used self.numbers (g.F.Flash.state self.flash) (g.F.Flash.state c.append_record.new.flash) (g.met.F.Flash.shape self.flash) self.sector self.sequence self.end c.args.block c.args.bytes.now c.args.valid
     self.sectors (omega (arith, self.least)) stands proper (is_among self.numbers c.args.block c.requires.number) c.requires.room
-    self.is_stale self.has_mounted (self.mounted.mounted c.requires.not_stale) c.in-Ok.ensures.records in
+    self.is_stale self.has_mounted (self.mounted.mounted c.requires.not_stale) c.in_ok-append_record.ensures.records in
     let last : self.end + (2 + byte_pages (length c.args.bytes.now)) ≡ self.end + 2 + c.byte_pages.result = omega (arith, c.byte_pages.ensures) in
     let same = with_items_is self.places c.note.new.places (omega (arith, c.note.ensures.size, ap length c.deref_mut.ensures.value, self.places.ok.0)) in
     let place : RecordPlace = record { page = self.end; length = length c.args.bytes.now; valid = c.args.valid } in
     let noted = subst (λ (places : List (Option RecordPlace)). (k : ℕ) → k < length self.numbers → get_or c.note.new.places k None ≡ (if true && (c.args.block == get_or self.numbers k 0) then Some place else get_or places k None)) c.deref_mut.ensures.value
     c.note.ensures.noted in
     record {
-      within = omega (arith, self.within, c.in-Ok.ensures.records.on.runs.pages);
+      within = omega (arith, self.within, c.in_ok-append_record.ensures.records.on.runs.pages);
       least = self.least;
       sectors = self.sectors;
       distinct = self.distinct;
       sized = ap length same ∙ c.note.ensures.size ∙ ap length c.deref_mut.ensures.value ∙ self.sized;
       table = λ fresh. subst (λ (places : List (Option RecordPlace)). TellsPlaces self.numbers places (sector_at after self.sector) (self.end + 2 + c.byte_pages.result) (block_value self.used self.numbers after)) (sym same) (tells_appended self.used self.numbers (g.F.Flash.state self.flash) (g.F.Flash.state c.append_record.new.flash) (g.met.F.Flash.shape self.flash) self.sector self.sequence self.end c.args.block c.args.bytes.now c.args.valid
-          self.sectors (omega (arith, self.least)) stands proper c.in-Ok.ensures.records now self.places.items c.note.new.places (self.table c.requires.not_stale) place refl noted (self.end + 2 + c.byte_pages.result) last);
+          self.sectors (omega (arith, self.least)) stands proper c.in_ok-append_record.ensures.records now self.places.items c.note.new.places (self.table c.requires.not_stale) place refl noted (self.end + 2 + c.byte_pages.result) last);
       mounted = stands_mounted self.has_mounted (self.mounted.mounted c.requires.not_stale) self.used self.numbers after self.sector self.sequence (self.end + 2 + c.byte_pages.result) value
           (subst (λ n. StandsAt self.used self.numbers after self.sector self.sequence n value) last now);
     }
 
-pub returns-in-Ok-clause-changes : goal.returns-in-Ok-clause-changes
-returns-in-Ok-clause-changes g c =
+pub returns-clause-changes : goal.returns-clause-changes
+returns-clause-changes g c =
     let self = c.args.self.now in
     let image = (g.F.Flash.state self.flash).image in
     let stands = mounted_stands self.is_stale self.has_mounted c.requires.not_stale self.used self.numbers image self.sector self.sequence self.end self.mounted in
     let proper : IsWord (Head c.args.block (length c.args.bytes.now) c.args.valid self.end) = (omega arith, omega arith, omega arith, c.requires.length) in
     done_changes self.used self.numbers (g.F.Flash.state self.flash) (g.F.Flash.state c.append_record.new.flash) (g.met.F.Flash.shape self.flash) self.sector self.sequence self.end c.args.block c.args.bytes.now c.args.valid
     self.sectors (omega (arith, self.least)) stands proper (is_among self.numbers c.args.block c.requires.number) c.requires.room
-    self.is_stale self.has_mounted (self.mounted.mounted c.requires.not_stale) c.in-Ok.ensures.records
+    self.is_stale self.has_mounted (self.mounted.mounted c.requires.not_stale) c.in_ok-append_record.ensures.records
 
 pub invariant_of-self : goal.invariant_of-self
 invariant_of-self g c =
@@ -100,34 +100,34 @@ invariant_of-self g c =
       mounted = stale_mounted self.has_mounted self.used self.numbers _ self.sector self.sequence self.end (λ yes. sound);
     }
 
-pub returns-in-Err-clause-even : goal.returns-in-Err-clause-even
-returns-in-Err-clause-even g c =
+pub returns-in_err-append_record-clause-even : goal.returns-in_err-append_record-clause-even
+returns-in_err-append_record-clause-even g c =
     let self = c.args.self.now in
     let image = (g.F.Flash.state self.flash).image in
     let stands = mounted_stands self.is_stale self.has_mounted c.requires.not_stale self.used self.numbers image self.sector self.sequence self.end self.mounted in
     let proper : IsWord (Head c.args.block (length c.args.bytes.now) c.args.valid self.end) = (omega arith, omega arith, omega arith, c.requires.length) in
     even_same self.used (g.F.Flash.state self.flash) (g.F.Flash.state c.append_record.new.flash)
     (current_stays self.used self.numbers (g.F.Flash.state self.flash) (g.F.Flash.state c.append_record.new.flash) (g.met.F.Flash.shape self.flash) self.sector self.sequence self.end c.args.block c.args.bytes.now c.args.valid
-    (block_value self.used self.numbers image) self.sectors (omega (arith, self.least)) stands proper (is_among self.numbers c.args.block c.requires.number) c.requires.room c.in-Err.ensures.records)
-    c.in-Err.ensures.records.on.wear
+    (block_value self.used self.numbers image) self.sectors (omega (arith, self.least)) stands proper (is_among self.numbers c.args.block c.requires.number) c.requires.room c.in_err-append_record.ensures.records)
+    c.in_err-append_record.ensures.records.on.wear
 
-pub returns-in-Ok-clause-even : goal.returns-in-Ok-clause-even
-returns-in-Ok-clause-even g c =
+pub returns-clause-even : goal.returns-clause-even
+returns-clause-even g c =
     let self = c.args.self.now in
     let image = (g.F.Flash.state self.flash).image in
     let stands = mounted_stands self.is_stale self.has_mounted c.requires.not_stale self.used self.numbers image self.sector self.sequence self.end self.mounted in
     let proper : IsWord (Head c.args.block (length c.args.bytes.now) c.args.valid self.end) = (omega arith, omega arith, omega arith, c.requires.length) in
     even_same self.used (g.F.Flash.state self.flash) (g.F.Flash.state c.append_record.new.flash)
     (current_stays self.used self.numbers (g.F.Flash.state self.flash) (g.F.Flash.state c.append_record.new.flash) (g.met.F.Flash.shape self.flash) self.sector self.sequence self.end c.args.block c.args.bytes.now c.args.valid
-    (block_value self.used self.numbers image) self.sectors (omega (arith, self.least)) stands proper (is_among self.numbers c.args.block c.requires.number) c.requires.room c.in-Ok.ensures.records)
-    c.in-Ok.ensures.records.on.wear
+    (block_value self.used self.numbers image) self.sectors (omega (arith, self.least)) stands proper (is_among self.numbers c.args.block c.requires.number) c.requires.room c.in_ok-append_record.ensures.records)
+    c.in_ok-append_record.ensures.records.on.wear
 
-pub returns-in-Ok-clause-calls : goal.returns-in-Ok-clause-calls
-returns-in-Ok-clause-calls g c =
+pub returns-clause-calls : goal.returns-clause-calls
+returns-clause-calls g c =
     let self = c.args.self.now in
     let image = (g.F.Flash.state self.flash).image in
     let stands = mounted_stands self.is_stale self.has_mounted c.requires.not_stale self.used self.numbers image self.sector self.sequence self.end self.mounted in
     let proper : IsWord (Head c.args.block (length c.args.bytes.now) c.args.valid self.end) = (omega arith, omega arith, omega arith, c.requires.length) in
     done_calls self.used self.numbers (g.F.Flash.state self.flash) (g.F.Flash.state c.append_record.new.flash) (g.met.F.Flash.shape self.flash) self.sector self.sequence self.end c.args.block c.args.bytes.now c.args.valid
     self.sectors (omega (arith, self.least)) stands proper (is_among self.numbers c.args.block c.requires.number) c.requires.room
-    self.is_stale self.has_mounted (self.mounted.mounted c.requires.not_stale) c.in-Ok.ensures.records
+    self.is_stale self.has_mounted (self.mounted.mounted c.requires.not_stale) c.in_ok-append_record.ensures.records

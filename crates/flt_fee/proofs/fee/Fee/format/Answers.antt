@@ -1,4 +1,4 @@
-use Rattle.std.proofs.Common.{true, false, List, Option, sym, subst, Err, arith, ◌∙◌, ap, length}
+use Rattle.std.proofs.Common.{◌≡◌, true, false, List, Option, sym, subst, Err, arith, ◌∙◌, ap, length}
 use Rattle.std.proofs.lemmas.List.{with_items_is}
 use Rattle.flt_flash.specs.declared.blocks.BlockFault.TheVariants.{Flash}
 use Rattle.flt_fee.proofs.Standing.{stale_mounted}
@@ -24,49 +24,50 @@ invariant_of-self g c =
           (λ yes. nothing_wrong self.used self.numbers (omega (arith, self.least)) (g.F.Flash.state c.set_up_flash.new.flash).image c.set_up_flash.ensures.left);
     }
 
-pub invariant_of-self-in-Ok : goal.invariant_of-self-in-Ok
-invariant_of-self-in-Ok g c =
+pub invariant_of-self-2 : goal.invariant_of-self-2
+invariant_of-self-2 g c =
     let self = c.args.self.now in
     let after = (g.F.Flash.state c.set_up_flash.new.flash).image in
     let same = with_items_is self.places c.forget.new.places (omega (arith, c.forget.ensures.size, ap length c.deref_mut.ensures.value, self.places.ok.0)) in
     record {
-      within = omega (arith, self.within, c.in-Ok.ensures.runs.pages);
+      within = omega (arith, self.within, c.in_ok-set_up_flash.ensures.runs.pages);
       least = self.least;
       sectors = omega arith;
       distinct = self.distinct;
       sized = ap length same ∙ c.forget.ensures.size ∙ ap length c.deref_mut.ensures.value ∙ self.sized;
       table = λ fresh. subst (λ (places : List (Option RecordPlace)). TellsPlaces self.numbers places (sector_at after 0) 2 (block_value self.used self.numbers after)) (sym same) (tells_nothing self.numbers c.forget.new.places (sector_at (g.F.Flash.state c.set_up_flash.new.flash).image 0) 2 (block_value self.used self.numbers (g.F.Flash.state c.set_up_flash.new.flash).image)
-          (nothing_held self.used self.numbers (omega (arith, self.least)) (g.F.Flash.state c.set_up_flash.new.flash).image c.in-Ok.ensures.left)
+          (nothing_held self.used self.numbers (omega (arith, self.least)) (g.F.Flash.state c.set_up_flash.new.flash).image c.in_ok-set_up_flash.ensures.left)
           (λ k within. c.forget.ensures.none k (omega (arith, within, ap length c.deref_mut.ensures.value, self.sized))));
-      mounted = fresh_mounted self.used self.numbers (omega (arith, self.least)) (g.F.Flash.state c.set_up_flash.new.flash).image c.in-Ok.ensures.fresh;
+      mounted = fresh_mounted self.used self.numbers (omega (arith, self.least)) (g.F.Flash.state c.set_up_flash.new.flash).image c.in_ok-set_up_flash.ensures.fresh;
     }
 
-pub returns-in-Err-clause-values : goal.returns-in-Err-clause-values
-returns-in-Err-clause-values g c =
+pub returns-in_err-set_up_flash-clause-values : goal.returns-in_err-set_up_flash-clause-values
+returns-in_err-set_up_flash-clause-values g c =
     let self = c.args.self.now in
-    nothing_changes self.used self.numbers (omega (arith, self.least)) (g.F.Flash.state self.flash) (g.F.Flash.state c.set_up_flash.new.flash) c.requires c.in-Err.ensures.left
+    nothing_changes self.used self.numbers (omega (arith, self.least)) (g.F.Flash.state self.flash) (g.F.Flash.state c.set_up_flash.new.flash) c.requires c.in_err-set_up_flash.ensures.left
     self.is_stale self.has_mounted true self.has_mounted
 
-pub returns-in-Err-clause-calls : goal.returns-in-Err-clause-calls
-returns-in-Err-clause-calls g c =
+pub returns-in_err-set_up_flash-clause-calls : goal.returns-in_err-set_up_flash-clause-calls
+returns-in_err-set_up_flash-clause-calls g c =
     let self = c.args.self.now in
-    formatting_calls self.used self.numbers (omega (arith, self.least)) (g.F.Flash.state self.flash) (g.F.Flash.state c.set_up_flash.new.flash) c.requires c.in-Err.ensures.left
-    {T = Unit {0}} c.in-Err.ensures.runs self.is_stale self.has_mounted true self.has_mounted (Err Flash) (λ yes. yes) (λ told. c.in-Err.ensures.cause) (λ s p told. cc told)
+    let told : c.from_residual.result ≡ Err Flash = grind arith in
+    formatting_calls self.used self.numbers (omega (arith, self.least)) (g.F.Flash.state self.flash) (g.F.Flash.state c.set_up_flash.new.flash) c.requires c.in_err-set_up_flash.ensures.left
+    {T = Unit {0}} c.in_err-set_up_flash.ensures.runs self.is_stale self.has_mounted true self.has_mounted c.from_residual.result (λ yes. yes) (λ flash. c.in_err-set_up_flash.ensures.cause) (λ s p damaged. cc (told, damaged))
 
-pub returns-in-Ok-clause-values : goal.returns-in-Ok-clause-values
-returns-in-Ok-clause-values g c =
+pub returns-clause-values : goal.returns-clause-values
+returns-clause-values g c =
     let self = c.args.self.now in
-    nothing_changes self.used self.numbers (omega (arith, self.least)) (g.F.Flash.state self.flash) (g.F.Flash.state c.set_up_flash.new.flash) c.requires c.in-Ok.ensures.left
+    nothing_changes self.used self.numbers (omega (arith, self.least)) (g.F.Flash.state self.flash) (g.F.Flash.state c.set_up_flash.new.flash) c.requires c.in_ok-set_up_flash.ensures.left
     self.is_stale self.has_mounted false true
 
-pub returns-in-Err-clause-spent : goal.returns-in-Err-clause-spent
-returns-in-Err-clause-spent g c =
+pub returns-in_err-set_up_flash-clause-spent : goal.returns-in_err-set_up_flash-clause-spent
+returns-in_err-set_up_flash-clause-spent g c =
     let self = c.args.self.now in
-    nothing_spent self.used self.numbers (omega (arith, self.least)) (g.F.Flash.state self.flash) (g.F.Flash.state c.set_up_flash.new.flash) c.requires c.in-Err.ensures.left
+    nothing_spent self.used self.numbers (omega (arith, self.least)) (g.F.Flash.state self.flash) (g.F.Flash.state c.set_up_flash.new.flash) c.requires c.in_err-set_up_flash.ensures.left
     self.is_stale self.has_mounted true self.has_mounted
 
-pub returns-in-Ok-clause-spent : goal.returns-in-Ok-clause-spent
-returns-in-Ok-clause-spent g c =
+pub returns-clause-spent : goal.returns-clause-spent
+returns-clause-spent g c =
     let self = c.args.self.now in
-    nothing_spent self.used self.numbers (omega (arith, self.least)) (g.F.Flash.state self.flash) (g.F.Flash.state c.set_up_flash.new.flash) c.requires c.in-Ok.ensures.left
+    nothing_spent self.used self.numbers (omega (arith, self.least)) (g.F.Flash.state self.flash) (g.F.Flash.state c.set_up_flash.new.flash) c.requires c.in_ok-set_up_flash.ensures.left
     self.is_stale self.has_mounted false true
