@@ -113,10 +113,9 @@ pub fn read<B: Blocks>(
     requires { Contains (B.state blocks.old).numbers block }
     ensures { ReadsNumber copy block (B.state blocks.old) (B.state blocks.new) out.old out.new result }
 {
-    match try_read(blocks, block, out, TRIES) {
-        Ok(Found::Bytes(length)) => Ok(Got::Bytes { length, copy }),
-        Ok(Found::Missing) => Ok(Got::Missing),
-        Ok(Found::Invalid) => Ok(Got::Invalid),
-        Err(fault) => Err(fault),
-    }
+    Ok(match try_read(blocks, block, out, TRIES)? {
+        Found::Bytes(length) => Got::Bytes { length, copy },
+        Found::Missing => Got::Missing,
+        Found::Invalid => Got::Invalid,
+    })
 }

@@ -92,10 +92,8 @@ impl<B: Blocks + Drop> Nvm<B> {
     {
         let first = self.number(id, 0);
         let second = self.number(id, 1);
-        match job::write(&mut self.blocks, first, bytes) {
-            Ok(()) => job::write(&mut self.blocks, second, bytes),
-            Err(unwritten) => Err(unwritten),
-        }
+        job::write(&mut self.blocks, first, bytes)?;
+        job::write(&mut self.blocks, second, bytes)
     }
 
     /// Gives a native block, an index of a dataset or both copies of a redundant block 1 to `length` bytes. Copy 2 is written
@@ -125,10 +123,8 @@ impl<B: Blocks + Drop> Nvm<B> {
     {
         let first = self.number(id, 0);
         let second = self.number(id, 1);
-        match job::invalidate(&mut self.blocks, first) {
-            Ok(()) => job::invalidate(&mut self.blocks, second),
-            Err(unmarked) => Err(unmarked),
-        }
+        job::invalidate(&mut self.blocks, first)?;
+        job::invalidate(&mut self.blocks, second)
     }
 
     /// Makes a native block, an index of a dataset or both copies of a redundant block invalid, in the order and with the faults

@@ -1,22 +1,25 @@
-use Rattle.std.proofs.Common.{refl, arith}
+use Rattle.std.proofs.Common.{Err, refl, arith}
 use Rattle.std.proofs.lemmas.Grind.{common_steps}
+use Rattle.std.proofs.lemmas.Result.{err_from_is_err_and}
 use Rattle.flt_nvm.proofs.Jobs.{first_job_alone, both_jobs, first_gives_alone}
 use Rattle.flt_nvm.proofs.nvm.Nvm.write_both.Goals as goal
 
-pub returns-in-Ok-clause-gives : goal.returns-in-Ok-clause-gives
-returns-in-Ok-clause-gives g c = record {
-  jobs = both_jobs _ _ _ _ c.number-first.ensures.number _ c.number-second.ensures.number _ _ _ _ _ refl c.in-Ok.ensures.job c.write-in-Ok.ensures.job;
+pub returns-clause-gives : goal.returns-clause-gives
+returns-clause-gives g c = record {
+  jobs = both_jobs _ _ _ _ c.number-first.ensures.number _ c.number-second.ensures.number _ _ _ _ _ refl c.in_ok-write.ensures.job c.write-2.ensures.job;
   gives = grind (arith, common_steps);
   calls = grind (arith, common_steps);
-  stale = c.write-in-Ok.ensures.stale;
+  stale = c.write-2.ensures.stale;
   three = grind (arith, common_steps);
 }
 
-pub returns-in-Err-clause-gives : goal.returns-in-Err-clause-gives
-returns-in-Err-clause-gives g c = record {
-  jobs = first_job_alone _ _ _ _ c.number-first.ensures.number _ _ _ refl c.in-Err.ensures.job;
-  gives = first_gives_alone _ _ _ _ c.number-first.ensures.number _ _ c.in-Err.unwritten c.in-Err.ensures.gives;
-  calls = c.in-Err.ensures.calls;
-  stale = c.in-Err.ensures.stale;
-  three = c.in-Err.ensures.three;
-}
+pub returns-in_err-write-clause-gives : goal.returns-in_err-write-clause-gives
+returns-in_err-write-clause-gives g c =
+    let p = err_from_is_err_and c.from_residual.result c.from_residual.ensures.1 in
+    rw (p.1, p.2) record {
+      jobs = first_job_alone _ _ _ _ c.number-first.ensures.number _ _ (Err c.in_err-write.field-0.0) refl c.in_err-write.ensures.job;
+      gives = first_gives_alone _ _ _ _ c.number-first.ensures.number _ _ c.in_err-write.field-0.0 c.in_err-write.ensures.gives;
+      calls = c.in_err-write.ensures.calls;
+      stale = c.in_err-write.ensures.stale;
+      three = c.in_err-write.ensures.three;
+    }
