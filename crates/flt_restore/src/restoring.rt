@@ -47,13 +47,11 @@ pub fn judge<B: Blocks + Drop>(
 {
     let mark = read_content(nvm, MARK_ID, 0)?;
     let source = read_commit(nvm)?;
-    match read_image(nvm, config, &mark, source, out) {
-        Ok(commit) => Ok(Restored {
-            commit,
-            is_mark_due: is_mark_due(config, &mark),
-        }),
-        Err(fault) => Err(fault),
-    }
+    let commit = read_image(nvm, config, &mark, source, out)?;
+    Ok(Restored {
+        commit,
+        is_mark_due: is_mark_due(config, &mark),
+    })
 }
 
 /// Finds out what the image of a driver that is not stale holds, as `judge` does, and that a sequence number is left for the
