@@ -1,5 +1,7 @@
 -- What was judged of an image, by a driver on which no operation failed.
-use Rattle.std.proofs.Common.{◌≡◌, ◌≢◌, ◌⊎◌, ⊎_elim, ℕ, List, Option, Some, None, Result, Ok, Err, refl, sym, ◌∙◌, ap}
+use Rattle.std.proofs.Common.{◌≡◌, ◌≢◌, ⊎_elim, ℕ, List, Option, Some, None, Result, Ok, Err, refl, sym, ◌∙◌, ap}
+use Rattle.std.specs.Prelude.{IfOk, IsErrOf}
+use Rattle.std.specs.Result.{MatchResult, IsOkAnd}
 use Rattle.flt_flash.specs.State.{HasRisenBy}
 use Rattle.flt_flash.specs.Blocks.{BlocksState}
 use Rattle.flt_config.specs.declared.config.Config.{Config}
@@ -8,6 +10,7 @@ use Rattle.flt_generation.specs.Holding.{Generation, Fault, damaged, other, held
 use Rattle.flt_generation.specs.declared.place.Place.TheVariants.{Page}
 use Rattle.flt_restore.specs.Restored.{IsJudged, IsRestored, Refuses, generation}
 use Rattle.flt_restore.specs.declared.commit.CommitCopy.{CommitCopy}
+use Rattle.flt_restore.specs.declared.commit.Restored.{Restored}
 use Rattle.flt_restore.specs.declared.fault.StartFault.{StartFault}
 use Rattle.flt_restore.specs.declared.fault.StartFault.TheVariants.{Flash, Damaged, OtherConfig, SequenceSpent}
 use Rattle.flt_whole.specs.Image.{image_blocks, image_damage, image_held}
@@ -33,15 +36,25 @@ module _ (c : Config) (image : List (List (List ℕ))) (before after : BlocksSta
   judged_is judged = ⊎_elim (λ by_first. held_is ∙ by_first) (λ by_second. absurd (few by_second.2))
 
   -- A generation is held.
-  pub told_found : (found : Option CommitCopy) (state : Persist) → IsRestored c before after found state → Ok (number_of found) ≡ number_told c (image_held c image)
+  told_found : (found : Option CommitCopy) (state : Persist) → IsRestored c before after found state → Ok (number_of found) ≡ number_told c (image_held c image)
   told_found found state = ⊎_elim
       (λ by_first. number_is c found state ∙ sym (ap (number_told c) (held_is ∙ by_first.0)))
       (λ by_second. absurd (few by_second.3))
 
   -- None is.
-  pub told_fault : (fault : StartFault) → Refuses c before after fault → fault ≢ SequenceSpent → Err fault ≡ number_told c (image_held c image)
+  told_fault : (fault : StartFault) → Refuses c before after fault → fault ≢ SequenceSpent → Err fault ≡ number_told c (image_held c image)
   told_fault Flash refuses other_fault = absurd (few refuses)
   told_fault (Damaged place) refuses other_fault = sym (ap (number_told c) (judged_is (Err (damaged place)) refuses))
   told_fault (OtherConfig found wanted) refuses other_fault =
       ap (λ mark. Err (OtherConfig found mark)) refuses.1 ∙ sym (ap (number_told c) (judged_is (Err (other found)) refuses.0))
   told_fault SequenceSpent refuses other_fault = absurd (other_fault refl)
+
+  -- What was judged is told, with the number of what was found.
+  pub told_judged : (judged : Result Restored StartFault) (told : Result ℕ StartFault) (state : Persist) (Counts : Restored → ℕ → Type 0)
+      → ((found : Restored) (number : ℕ) → Counts found number → number ≡ number_of found.commit)
+      → MatchResult judged (λ found. IsOkAnd told (Counts found)) (λ fault. told ≡ Err fault)
+      → IfOk judged (λ found. IsRestored c before after found.commit state)
+      → ((fault : StartFault) → judged ≡ Err fault → Refuses c before after fault) → ¬ IsErrOf judged SequenceSpent → told ≡ number_told c (image_held c image)
+  told_judged (Ok found) (Ok number) state Counts counts cases restored refused unspent = ap Ok (counts found number cases) ∙ told_found found.commit state restored
+  told_judged (Ok found) (Err fault) state Counts counts cases restored refused unspent = absurd cases
+  told_judged (Err fault) told state Counts counts cases restored refused unspent = cases ∙ told_fault fault (refused fault refl) (λ spent. unspent (ap Err spent))

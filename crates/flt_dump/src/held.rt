@@ -62,10 +62,7 @@ fn held_in(
     }
     let mut nvm = Nvm::make(driver, table);
     let mut state = initial(config);
-    Ok(match judge(&mut nvm, config, &mut state) {
-        Ok(found) => Ok(number_of(&found.commit)),
-        Err(fault) => Err(fault),
-    })
+    Ok(judge(&mut nvm, config, &mut state).map(|found| number_of(&found.commit)))
 }
 
 /// Looks into the image of a dump: what it holds, whatever its sequence number, and its lines. The error is want of memory.

@@ -1,12 +1,11 @@
-use Rattle.std.proofs.Common.{◌≡◌, ◌∙◌, ℕ, Some, None, Ok, Err, refl, sym, ap, arith}
+use Rattle.std.proofs.Common.{◌≡◌, ◌∙◌, ℕ, Some, None, Err, sym, ap, arith, rules}
 use Rattle.flt_flash.specs.Blocks.{BlocksState}
 use Rattle.flt_sector.specs.Blocks.{block_value, first_fault}
 use Rattle.flt_nvm.specs.Driver.{driver_of}
 use Rattle.flt_whole.specs.Image.{image_blocks, image_damage}
 use Rattle.flt_dump.specs.Copy.{state_of}
-use Rattle.flt_dump.proofs.Holding.{told_damage, told_found, told_fault}
+use Rattle.flt_dump.proofs.Holding.{told_damage, told_judged}
 use Rattle.flt_dump.proofs.held.held_in.Goals as goal
-use Rattle.flt_dump.proofs.held.held_in.Goals.{in-Ok-judge, in-Err-judge}
 
 pub returns-in-Err-Damaged : goal.returns-in-Err-Damaged
 returns-in-Err-Damaged c =
@@ -29,12 +28,5 @@ returns c =
     ap (λ (b : BlocksState). b.value number) c.make-nvm.ensures.driver ∙ c.in-Ok-mount.ensures.values number
     ∙ ap (λ (b : BlocksState). b.value number) c.in-Ok.ensures.made
     ∙ (λ i. block_value (c.config.ensures.value i).pages (c.in_ok-numbers.ensures i) image number) in
-    elim c.match-judge.branch [
-      | in-Ok-judge w ↦
-          w.result-is ∙ ap Ok w.number_of.ensures
-          ∙ told_found config image before after fine same (λ rose. omega (arith, rose)) w.in-Ok-judge.found.commit c.judge.new.out w.in-Ok-judge.ensures.restored
-      | in-Err-judge w ↦
-          w.result-is
-          ∙ told_fault config image before after fine same (λ rose. omega (arith, rose)) w.in-Err-judge.fault (w.in-Err-judge.ensures.refused w.in-Err-judge.fault refl)
-          (λ spent. w.in-Err-judge.ensures.unspent (ap Err spent))
-    ]
+    told_judged config image before after fine same (λ rose. omega (arith, rose)) c.judge.result c.map.result c.judge.new.out _ (λ found number counts. search rules)
+    c.map.ensures.cases c.judge.ensures.restored c.judge.ensures.refused c.judge.ensures.unspent
