@@ -1,6 +1,6 @@
 -- What failed behind a mount, told of the whole start-up.
 use Rattle.std.proofs.Common.{◌≡◌, ◌⊎◌, inl, inr, ℕ, ◌-◌, ◌≤◌, Bool, true, false, List, length, Err, ◌∙◌, refl, sym, subst, arith}
-use Rattle.std.specs.Prelude.{IsTrue, IsFalse, IsErrOf}
+use Rattle.std.specs.Prelude.{IsTrue, IsFalse}
 use Rattle.flt_flash.specs.Content.{bytes}
 use Rattle.flt_flash.specs.Blocks.{BlocksState}
 use Rattle.flt_flash.specs.Calls.{Follows, OthersKept, SameValues}
@@ -18,8 +18,8 @@ use Rattle.flt_restore.specs.declared.fault.StartFault.TheVariants.{Flash}
 use Rattle.flt_restore.specs.Unread.{IsImageUnread}
 use Rattle.flt_restore.proofs.Failing.{image_unread_from}
 use Rattle.flt_store.specs.Cause.{HasRoom, Writes}
-use Rattle.flt_store.specs.Start.{told_of_mount, told_of_write}
-use Rattle.flt_store.specs.Dark.{IsOfBlocks, FailsToWrite, IsMarkUnwritten, IsCommitUnmended, IsUnbegun, IsUnrestarted}
+use Rattle.flt_store.specs.Start.{told_of_write}
+use Rattle.flt_store.specs.Dark.{FailsToWrite, IsMarkUnwritten, IsCommitUnmended, IsUnbegun, IsUnrestarted}
 use Rattle.flt_store.proofs.Causes.{never_full}
 use Rattle.flt_restore.specs.Restored.{IsMarkDue}
 
@@ -81,10 +81,6 @@ pub was_flash_of_write : {T : Type 0} (c : Config) → IsGiven c → (before aft
     → IsTrue before.has_mounted → IsBorne c after.value → told_of_write fault ≡ Flash → fault ≡ FlashFault
 was_flash_of_write {T} c given before after fault writes all room has borne is = was_flash {T = T} c given before after fault writes all room has borne (not_stuck fault is)
 
--- A fault by which one answer fails is that of another.
-pub err_as : {T U E : Type 0} (fault told : E) → IsErrOf {T = T} (Err fault) told → IsErrOf {T = U} (Err fault) told
-err_as fault told is = cc
-
 -- A repair that failed at once.
 pub unmended_at : (before after : BlocksState) (raw : List ℕ) (copy : ℕ) → 1 ≤ copy → copy ≤ 2 → before.value (number_of commit_id (copy - 1)) ≡ bytes raw
     → IsUnmended before after (number_of commit_id (2 - copy)) (bytes raw) → IsCommitUnmended before after
@@ -103,16 +99,3 @@ unmended_at before after raw copy least most holds unmended = record {
 pub is_unsettled : (was_settled : Bool) → (IsTrue was_settled → ⊥) → IsFalse was_settled
 is_unsettled true never = absurd (never refl)
 is_unsettled false never = refl
-
--- No fault of a mount, nor of a write, is told as one of the blocks.
-pub not_by_mount : (fault : BlockFault) → IsOfBlocks (told_of_mount fault) → ⊥
-not_by_mount FlashFault is = is
-not_by_mount (Full live needed) is = is
-not_by_mount Stuck is = is
-not_by_mount (DamagedPage sector page) is = is
-
-pub not_by_write : (fault : BlockFault) → IsOfBlocks (told_of_write fault) → ⊥
-not_by_write FlashFault is = is
-not_by_write (Full live needed) is = is
-not_by_write Stuck is = is
-not_by_write (DamagedPage sector page) is = is

@@ -1,10 +1,8 @@
 -- Over an image that is damaged or another configuration's no store runs.
-use Rattle.std.proofs.Common.{◌≡◌, ⊎_elim, ℕ, Some, None, Result, Ok, Err, refl, sym}
-use Rattle.std.specs.Prelude.{IsTrue, IsErrOf}
+use Rattle.std.proofs.Common.{◌≡◌, ⊎_elim, ℕ, Some, None, Ok, Err, sym}
+use Rattle.std.specs.Prelude.{IsTrue}
 use Rattle.flt_flash.specs.Blocks.{BlocksState}
 use Rattle.flt_flash.specs.Calls.{Follows, SameValues}
-use Rattle.flt_flash.specs.declared.blocks.BlockFault.{BlockFault}
-use Rattle.flt_flash.specs.declared.blocks.BlockFault.TheVariants as blocks
 use Rattle.flt_flash.specs.declared.blocks.Blocks.{Ghosts}
 use Rattle.flt_config.specs.declared.config.Config.{Config}
 use Rattle.flt_generation.specs.declared.place.Place.TheVariants.{Page, Block}
@@ -14,13 +12,9 @@ use Rattle.flt_restore.specs.Restored.{IsJudged}
 use Rattle.flt_restore.specs.declared.fault.StartFault.{StartFault}
 use Rattle.flt_restore.specs.declared.fault.StartFault.TheVariants.{Flash, Damaged, OtherConfig, SequenceSpent}
 use Rattle.flt_store.specs.declared.store.Store.{Store}
-use Rattle.flt_store.specs.Start.{IsForeign, RefusedFor, told_of_mount}
+use Rattle.flt_store.specs.Start.{IsForeign, RefusedFor}
 use Rattle.flt_store.specs.Store.{IsAlive, IsServed, driver_of}
 use Rattle.flt_store.proofs.Repairing.{sound_kept}
-
--- A mount that answered a fault.
-abbrev failed : BlockFault → Result (Unit {0}) BlockFault
-failed fault = Err fault
 
 -- A fault of the pages stays, and a driver that was mounted has none.
 module _ (c : Config) (before after : BlocksState) (no_damage : IsTrue after.has_mounted → after.damage ≡ None) (follows : Follows before after) where
@@ -29,12 +23,6 @@ module _ (c : Config) (before after : BlocksState) (no_damage : IsTrue after.has
       let stays = (follows.damage_stays (sector, page) is).0 in
       let none = no_damage served.mounted in
       absurd (cc (stays, none))
-
-  pub unserved_by_mount : (fault : BlockFault) → ((sector page : ℕ) → IsErrOf (failed fault) (blocks.Damaged sector page) → before.damage ≡ Some (sector, page)) → IsForeign (told_of_mount fault) → IsServed c after → ⊥
-  unserved_by_mount (blocks.Damaged sector page) damaged foreign served = unserved sector page (damaged sector page refl) served
-  unserved_by_mount blocks.Flash damaged foreign served = foreign
-  unserved_by_mount (blocks.Full live needed) damaged foreign served = foreign
-  unserved_by_mount blocks.SequenceSpent damaged foreign served = foreign
 
 module _ {B : Type 0} {b : Ghosts B} (c : Config) (before after : Store B b) (no_damage : IsTrue (driver_of after).has_mounted → (driver_of after).damage ≡ None) (follows : Follows (driver_of before) (driver_of after)) where
   -- A running store's image is judged to hold a generation by either copy of its commit.

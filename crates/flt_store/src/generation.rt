@@ -133,8 +133,6 @@ pub(crate) fn write_generation<B: Blocks + Drop>(
     blocks.put_all(config, state);
     let commit = next_commit(config, current, saved, blocks);
     write_blocks(nvm, config, current, &commit, blocks)?;
-    match nvm.write(COMMIT_ID, 0, &put_commit(&commit)) {
-        Ok(()) => Ok(commit),
-        Err(fault) => Err(fault),
-    }
+    nvm.write(COMMIT_ID, 0, &put_commit(&commit))?;
+    Ok(commit)
 }

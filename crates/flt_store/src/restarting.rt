@@ -47,14 +47,10 @@ pub(crate) fn restart<B: Blocks + Drop>(
     ensures table { table_of nvm.new ≡ table_of nvm.old }
 {
     let mut out = [0; 128];
-    match nvm.read(COMMIT_ID, 0, &mut out) {
-        Ok(Got::Bytes { length, copy }) => match repair_by(nvm, config, copy, &out[..length]) {
-            Ok(commit) => Ok(Some(commit)),
-            Err(fault) => Err(fault),
-        },
-        Ok(Got::Missing) => Ok(None),
-        Ok(Got::Invalid) => Ok(None),
-        Err(fault) => Err(fault),
+    match nvm.read(COMMIT_ID, 0, &mut out)? {
+        Got::Bytes { length, copy } => Ok(Some(repair_by(nvm, config, copy, &out[..length])?)),
+        Got::Missing => Ok(None),
+        Got::Invalid => Ok(None),
     }
 }
 
@@ -86,10 +82,10 @@ fn repair_by<B: Blocks + Drop>(
     ensures table { table_of nvm.new ≡ table_of nvm.old }
 {
     match get_commit(config, bytes) {
-        Some(commit) => match nvm.repair(COMMIT_ID, copy, bytes) {
-            Ok(()) => Ok(commit),
-            Err(fault) => Err(fault),
-        },
+        Some(commit) => {
+            nvm.repair(COMMIT_ID, copy, bytes)?;
+            Ok(commit)
+        }
         None => Err(BlockFault::Flash),
     }
 }

@@ -197,10 +197,8 @@ impl<B: Blocks + Drop> Store<B> {
         ensures not_stale { OnOk result (IsFalse (driver_of self.new).is_stale) }
         ensures follows { Follows (driver_of self.old) (driver_of self.new) }
     {
-        match self.settle(config) {
-            Ok(()) => self.save_next(config, state),
-            Err(fault) => Err(fault),
-        }
+        self.settle(config)?;
+        self.save_next(config, state)
     }
 
     /// How often the power may still come back.

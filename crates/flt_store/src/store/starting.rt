@@ -136,16 +136,13 @@ impl<B: Blocks + Drop> Store<B> {
         ensures follows { Follows (driver_of self.old) (driver_of self.new) }
     {
         let found = restore(&mut self.nvm, config, out)?;
-        match begin_by(&mut self.nvm, config, found.is_mark_due, found.commit) {
-            Ok(commit) => {
-                let generation = number_in(&commit);
-                self.commit = commit;
-                self.saved.put_all(config, out);
-                self.is_settled = true;
-                Ok(generation)
-            }
-            Err(fault) => Err(write_fault(fault)),
-        }
+        let begun = begin_by(&mut self.nvm, config, found.is_mark_due, found.commit);
+        let commit = begun.map_err(write_fault)?;
+        let generation = number_in(&commit);
+        self.commit = commit;
+        self.saved.put_all(config, out);
+        self.is_settled = true;
+        Ok(generation)
     }
 
     /// Starts up after the power came: finds out which generation the image holds, and makes both copies of its commit equal. It
@@ -183,9 +180,7 @@ impl<B: Blocks + Drop> Store<B> {
         ensures follows { Follows (driver_of self.old) (driver_of self.new) }
     {
         self.is_settled = false;
-        match self.nvm.start() {
-            Ok(()) => self.start_mounted(config, out),
-            Err(fault) => Err(mount_fault(fault)),
-        }
+        self.nvm.start().map_err(mount_fault)?;
+        self.start_mounted(config, out)
     }
 }

@@ -6,7 +6,7 @@ use Rattle.flt_generation.proofs.Commits.{commit_size}
 use Rattle.flt_image.specs.Blocks.{bytes_at}
 use Rattle.flt_store.specs.Started.{next_generation}
 use Rattle.flt_store.proofs.TableUse.{commit_index, commit_fits, commit_both}
-use Rattle.flt_store.proofs.Causes.{both_written, writes_as, writes_on}
+use Rattle.flt_store.proofs.Causes.{both_written, writes_handed, writes_on}
 use Rattle.std.proofs.Math.Nat.{add-mul}
 use Rattle.flt_flash.specs.Blocks.{record_pages}
 use Rattle.flt_generation.specs.Layout.{used_ids}
@@ -75,39 +75,40 @@ spends g c most settled =
     (c.in_ok-write_blocks.ensures.not_stale settled) (c.write_blocks.ensures.spends most settled)
     (jobs_spend 2 _ _ most (omega (arith, size)) (driver_of c.write_blocks.new.nvm) (driver_of c.write.new.self) c.write.result jobs))
 
-pub returns-in-Ok-clause-done : goal.returns-in-Ok-clause-done
-returns-in-Ok-clause-done g c = λ h started known. taken c.write.result c.in-Ok.is (commit_written (tries g (goal.at.returns-in-Ok-clause-done g c).After-write) h started known)
+pub returns-clause-done : goal.returns-clause-done
+returns-clause-done g c = λ h started known. taken c.write.result c.in_ok-write.was (commit_written (tries g (goal.at.returns-clause-done g c).After-write) h started known)
 
-pub returns-in-Ok-clause-either : goal.returns-in-Ok-clause-either
-returns-in-Ok-clause-either g c = commit_tried (tries g (goal.at.returns-in-Ok-clause-either g c).After-write)
+pub returns-clause-either : goal.returns-clause-either
+returns-clause-either g c = commit_tried (tries g (goal.at.returns-clause-either g c).After-write)
 
-pub returns-in-Ok-clause-applications : goal.returns-in-Ok-clause-applications
-returns-in-Ok-clause-applications g c = same_applications (tries g (goal.at.returns-in-Ok-clause-applications g c).After-write)
+pub returns-clause-applications : goal.returns-clause-applications
+returns-clause-applications g c = same_applications (tries g (goal.at.returns-clause-applications g c).After-write)
 
-pub returns-in-Ok-clause-mark : goal.returns-in-Ok-clause-mark
-returns-in-Ok-clause-mark g c = same_mark (tries g (goal.at.returns-in-Ok-clause-mark g c).After-write)
+pub returns-clause-mark : goal.returns-clause-mark
+returns-clause-mark g c = same_mark (tries g (goal.at.returns-clause-mark g c).After-write)
 
-pub returns-in-Ok-clause-spends : goal.returns-in-Ok-clause-spends
-returns-in-Ok-clause-spends g c = spends g (goal.at.returns-in-Ok-clause-spends g c).After-write
+pub returns-clause-spends : goal.returns-clause-spends
+returns-clause-spends g c = spends g (goal.at.returns-clause-spends g c).After-write
 
-pub returns-in-Err-clause-either : goal.returns-in-Err-clause-either
-returns-in-Err-clause-either g c = commit_tried (tries g (goal.at.returns-in-Err-clause-either g c).After-write)
+pub returns-in_err-write-clause-either : goal.returns-in_err-write-clause-either
+returns-in_err-write-clause-either g c = commit_tried (tries g (goal.at.returns-in_err-write-clause-either g c).After-write)
 
-pub returns-in-Err-clause-applications : goal.returns-in-Err-clause-applications
-returns-in-Err-clause-applications g c = same_applications (tries g (goal.at.returns-in-Err-clause-applications g c).After-write)
+pub returns-in_err-write-clause-applications : goal.returns-in_err-write-clause-applications
+returns-in_err-write-clause-applications g c = same_applications (tries g (goal.at.returns-in_err-write-clause-applications g c).After-write)
 
-pub returns-in-Err-clause-mark : goal.returns-in-Err-clause-mark
-returns-in-Err-clause-mark g c = same_mark (tries g (goal.at.returns-in-Err-clause-mark g c).After-write)
+pub returns-in_err-write-clause-mark : goal.returns-in_err-write-clause-mark
+returns-in_err-write-clause-mark g c = same_mark (tries g (goal.at.returns-in_err-write-clause-mark g c).After-write)
 
-pub returns-in-Err-clause-spends : goal.returns-in-Err-clause-spends
-returns-in-Err-clause-spends g c = spends g (goal.at.returns-in-Err-clause-spends g c).After-write
+pub returns-in_err-write-clause-spends : goal.returns-in_err-write-clause-spends
+returns-in_err-write-clause-spends g c = spends g (goal.at.returns-in_err-write-clause-spends g c).After-write
 
-pub returns-in-Err-clause-writes : goal.returns-in-Err-clause-writes
-returns-in-Err-clause-writes g c =
-    let put = tries g (goal.at.returns-in-Err-clause-writes g c).After-write in
+pub returns-in_err-write-clause-writes : goal.returns-in_err-write-clause-writes
+returns-in_err-write-clause-writes g c =
+    let put = tries g (goal.at.returns-in_err-write-clause-writes g c).After-write in
     let size = size_tried put in
-    writes_on (driver_of c.args.nvm.now) (driver_of c.write_blocks.new.nvm) (driver_of c.write.new.self) _ c.write_blocks.ensures.writes.follows
-    (writes_as (driver_of c.write_blocks.new.nvm) (driver_of c.write.new.self) c.in-Err.fault (rw c.in-Err.is at (both_written (driver_of c.write_blocks.new.nvm) (driver_of c.write.new.self) c.write.result c.write.ensures.calls c.write.ensures.three _ _ _ (omega (arith, size)) put.gives)))
+    writes_handed (driver_of c.args.nvm.now) (driver_of c.write.new.self) c.write.result c.from_residual-in_err-write.result _ c.in_err-write.was c.from_residual-in_err-write.ensures.1
+    (writes_on (driver_of c.args.nvm.now) (driver_of c.write_blocks.new.nvm) (driver_of c.write.new.self) c.write.result c.write_blocks.ensures.writes.follows
+    (both_written (driver_of c.write_blocks.new.nvm) (driver_of c.write.new.self) c.write.result c.write.ensures.calls c.write.ensures.three _ _ _ (omega (arith, size)) put.gives))
 
 pub returns-in_err-write_blocks-clause-spends : goal.returns-in_err-write_blocks-clause-spends
 returns-in_err-write_blocks-clause-spends g c = λ most settled.
@@ -116,7 +117,7 @@ returns-in_err-write_blocks-clause-spends g c = λ most settled.
     let times = add-mul (length (used_ids c.args.config.now)) 2 most in
     spends_less most (driver_of c.args.nvm.now) (driver_of c.write_blocks.new.nvm) _ _ _ _ (omega (arith, written)) (omega (arith, limit, times)) (c.write_blocks.ensures.spends most settled)
 
-pub returns-in-Ok-clause-rewritten : goal.returns-in-Ok-clause-rewritten
-returns-in-Ok-clause-rewritten g c =
-    let gives = (tries g (goal.at.returns-in-Ok-clause-rewritten g c).After-write).gives in
-    (taken c.write.result c.in-Ok.is gives.first ∙ ap bytes c.put_commit.ensures, taken c.write.result c.in-Ok.is gives.second ∙ ap bytes c.put_commit.ensures)
+pub returns-clause-rewritten : goal.returns-clause-rewritten
+returns-clause-rewritten g c =
+    let gives = (tries g (goal.at.returns-clause-rewritten g c).After-write).gives in
+    (taken c.write.result c.in_ok-write.was gives.first ∙ ap bytes c.put_commit.ensures, taken c.write.result c.in_ok-write.was gives.second ∙ ap bytes c.put_commit.ensures)

@@ -1,8 +1,9 @@
-use Rattle.std.proofs.Common.{inl, inr, ℕ, Err, ◌≡◌, ◌+◌, ◌*◌, ◌∙◌, ⊎_elim, length, subst, ap, refl, arith}
+use Rattle.std.proofs.Common.{inl, inr, Err, ◌≡◌, ◌+◌, ◌*◌, ◌∙◌, ⊎_elim, length, subst, ap, refl, sym, arith}
 use Rattle.std.specs.Prelude.{IsTrue, IsFalse}
 use Rattle.flt_flash.specs.Calls.{CostsAtMost}
 use Rattle.flt_generation.specs.Form.{block_bytes}
 use Rattle.flt_generation.specs.Layout.{used_ids}
+use Rattle.flt_store.specs.declared.fault.SaveFault.TheVariants.{Flash}
 use Rattle.flt_store.specs.Cost.{Spends, pages_to_write}
 use Rattle.flt_store.specs.Known.{Knows}
 use Rattle.flt_store.proofs.Changed.{pages_of_later}
@@ -11,21 +12,21 @@ use Rattle.flt_store.proofs.Started.{numbered as number_of_started}
 use Rattle.flt_generation.specs.Holding.{Generation, last_number}
 use Rattle.flt_store.specs.Store.{driver_of, commit_of, kept_of, is_settled, numbered, IsReady, IsRunning}
 use Rattle.flt_store.proofs.Started.{sound_started}
-use Rattle.flt_store.proofs.Running.{alive_after, served_on, undisturbed_until, held_is_chosen, ok_map, on_ok, err_taken, err_both, chosen_on, one_of_chosen, rises_from, unsettled_runs}
-use Rattle.flt_store.proofs.Dark.{err_as, is_unsettled}
+use Rattle.flt_store.proofs.Running.{alive_after, served_on, undisturbed_until, held_is_chosen, ok_map, on_ok, err_taken, err_both, chosen_on, one_of_chosen, rises_from, unsettled_runs, told_by}
+use Rattle.flt_store.proofs.Dark.{is_unsettled}
 use Rattle.flt_store.proofs.Completing.{save_met_none, not_last}
 use Rattle.flt_store.proofs.store.Store.save.Goals.{After-save_next}
 use Rattle.flt_store.proofs.store.Store.save.Goals as goal
 
-pub returns-in-Ok-clause-saved : goal.returns-in-Ok-clause-saved
-returns-in-Ok-clause-saved g c = λ h s running.
-    let settled = c.in-Ok.ensures.settles h s running in
+pub returns-clause-saved : goal.returns-clause-saved
+returns-clause-saved g c = λ h s running.
+    let settled = c.in_ok-settle.ensures.settles h s running in
     let is = chosen_on (driver_of c.args.self.now) (driver_of c.settle.new.self) (driver_of c.save_next.new.self) c.save_next.ensures.follows settled.is in
     ok_map c.save_next.result (λ number both. record { chosen = settled.chosen; is = is; next = both.0; running = both.1 }) (c.save_next.ensures.saved settled.chosen settled.ready)
 
-pub returns-in-Ok-clause-failed : goal.returns-in-Ok-clause-failed
-returns-in-Ok-clause-failed g c = λ h s running.
-    let settled = c.in-Ok.ensures.settles h s running in
+pub returns-clause-failed : goal.returns-clause-failed
+returns-clause-failed g c = λ h s running.
+    let settled = c.in_ok-settle.ensures.settles h s running in
     let new = numbered (settled.chosen.number + 1) c.args.state.now in
     let is = chosen_on (driver_of c.args.self.now) (driver_of c.settle.new.self) (driver_of c.save_next.new.self) c.save_next.ensures.follows settled.is in
     err_both c.save_next.result (λ left no. record {
@@ -41,28 +42,28 @@ returns-in-Ok-clause-failed g c = λ h s running.
     })
     (c.save_next.ensures.failed settled.chosen settled.ready) c.save_next.ensures.unsettled
 
-pub returns-in-Ok-clause-alive : goal.returns-in-Ok-clause-alive
-returns-in-Ok-clause-alive g c =
+pub returns-clause-alive : goal.returns-clause-alive
+returns-clause-alive g c =
     let alive = c.requires.alive in
     alive_after c.args.config.now alive.held alive.spare c.args.state.now c.args.self.now c.save_next.new.self c.save_next.result
-    (returns-in-Ok-clause-saved g c alive.held alive.spare alive.running) (returns-in-Ok-clause-failed g c alive.held alive.spare alive.running)
+    (returns-clause-saved g c alive.held alive.spare alive.running) (returns-clause-failed g c alive.held alive.spare alive.running)
 
-pub returns-in-Err-clause-alive : goal.returns-in-Err-clause-alive
-returns-in-Err-clause-alive g c =
+pub returns-in_err-settle-clause-alive : goal.returns-in_err-settle-clause-alive
+returns-in_err-settle-clause-alive g c =
     let alive = c.requires.alive in
-    let left = c.in-Err.ensures.failed c.args.state.now alive.held alive.spare alive.running in
+    let left = c.in_err-settle.ensures.failed c.args.state.now alive.held alive.spare alive.running in
     record { held = left.now_held; spare = left.now_spare; running = left.running }
 
-pub returns-in-Ok-clause-flash : goal.returns-in-Ok-clause-flash
-returns-in-Ok-clause-flash g c = λ h s running told.
-    let settled = c.in-Ok.ensures.settles h s running in
+pub returns-clause-flash : goal.returns-clause-flash
+returns-clause-flash g c = λ h s running told.
+    let settled = c.in_ok-settle.ensures.settles h s running in
     let rose = c.save_next.ensures.flash settled.chosen settled.ready told in
     let counts = c.settle.ensures.follows.counts in
     omega (arith, rose, counts)
 
-pub returns-in-Ok-clause-spent : goal.returns-in-Ok-clause-spent
-returns-in-Ok-clause-spent g c = λ h s running told.
-    let settled = c.in-Ok.ensures.settles h s running in
+pub returns-clause-spent : goal.returns-clause-spent
+returns-clause-spent g c = λ h s running told.
+    let settled = c.in_ok-settle.ensures.settles h s running in
     let is = chosen_on (driver_of c.args.self.now) (driver_of c.settle.new.self) (driver_of c.save_next.new.self) c.save_next.ensures.follows settled.is in
     let last = c.save_next.ensures.spent settled.chosen settled.ready told in
     record {
@@ -74,20 +75,17 @@ returns-in-Ok-clause-spent g c = λ h s running told.
           (sound_started c.args.config.now (driver_of c.save_next.new.self).value (commit_of c.save_next.new.self) settled.chosen last.1);
     }
 
-pub returns-in-Ok-clause-last : goal.returns-in-Ok-clause-last
-returns-in-Ok-clause-last g c = λ h s running yes last.
-    let settled = c.in-Ok.ensures.settles h s running in
+pub returns-clause-last : goal.returns-clause-last
+returns-clause-last g c = λ h s running yes last.
+    let settled = c.in_ok-settle.ensures.settles h s running in
     let number : settled.chosen.number ≡ last_number = ⊎_elim (λ by_held. ap (λ (d : Generation). d.number) by_held ∙ last) (λ by_spare. (let no = by_spare.1 in absurd (cc (yes, no)))) settled.is in
     c.save_next.ensures.last settled.chosen settled.ready number
 
-pub returns-in-Err-clause-last : goal.returns-in-Err-clause-last
-returns-in-Err-clause-last g c = λ h s running yes last. absurd (c.in-Err.ensures.at_once yes refl)
-
-pub returns-in-Ok-clause-places : goal.returns-in-Ok-clause-places
-returns-in-Ok-clause-places g c = λ h s running undisturbed.
+pub returns-clause-places : goal.returns-clause-places
+returns-clause-places g c = λ h s running undisturbed.
     let before = driver_of c.args.self.now in
     let middle = driver_of c.settle.new.self in
-    let settled = c.in-Ok.ensures.settles h s running in
+    let settled = c.in_ok-settle.ensures.settles h s running in
     let then_ = undisturbed_until before middle (driver_of c.save_next.new.self) c.save_next.ensures.follows undisturbed in
     let learns = settled.learns then_ in
     let held = held_is_chosen before middle (is_settled c.args.self.now) h s settled.chosen then_ settled.is in
@@ -103,28 +101,22 @@ spends g c h s running is =
     (6 + pages_to_write c.args.config.now (commit_of before) (block_bytes h.state) (block_bytes c.args.state.now)) ((length (used_ids c.args.config.now) + 2) * most)) (c.settle.ensures.still is)
     (c.save_next.ensures.spends h most) (running.known is)
 
-pub returns-in-Ok-clause-by_changes : goal.returns-in-Ok-clause-by_changes
-returns-in-Ok-clause-by_changes g c = λ h s running yes some settled unfailed none.
+pub returns-clause-by_changes : goal.returns-clause-by_changes
+returns-clause-by_changes g c = λ h s running yes some settled unfailed none.
     let number = number_of_started c.args.config.now (driver_of c.args.self.now).value (commit_of c.args.self.now) h (running.settled yes).names in
     subst (λ pages. CostsAtMost (6 + pages) (driver_of c.args.self.now) (driver_of c.save_next.new.self))
     (pages_of_later c.args.config.now (commit_of c.args.self.now) (block_bytes h.state) (block_bytes c.args.state.now) (λ none. some (number ∙ none)))
-    ((spends g (goal.at.returns-in-Ok-clause-by_changes g c).After-save_next h s running yes settled).at_the_end settled unfailed none)
+    ((spends g (goal.at.returns-clause-by_changes g c).After-save_next h s running yes settled).at_the_end settled unfailed none)
 
-pub returns-in-Ok-clause-at_most : goal.returns-in-Ok-clause-at_most
-returns-in-Ok-clause-at_most g c = λ h s running yes settled unfailed.
-    (spends g (goal.at.returns-in-Ok-clause-at_most g c).After-save_next h s running yes settled).at_most
+pub returns-clause-at_most : goal.returns-clause-at_most
+returns-clause-at_most g c = λ h s running yes settled unfailed.
+    (spends g (goal.at.returns-clause-at_most g c).After-save_next h s running yes settled).at_most
     (switch_within c.args.config.now running.served.given (driver_of c.args.self.now).room running.served.room) settled unfailed
 
-pub returns-in-Err-clause-by_changes : goal.returns-in-Err-clause-by_changes
-returns-in-Err-clause-by_changes g c = λ h s running yes. absurd (c.in-Err.ensures.at_once yes refl)
-
-pub returns-in-Err-clause-at_most : goal.returns-in-Err-clause-at_most
-returns-in-Err-clause-at_most g c = λ h s running yes. absurd (c.in-Err.ensures.at_once yes refl)
-
-pub returns-in-Ok-clause-unsaved : goal.returns-in-Ok-clause-unsaved
-returns-in-Ok-clause-unsaved g c = λ h s running told.
+pub returns-clause-unsaved : goal.returns-clause-unsaved
+returns-clause-unsaved g c = λ h s running told.
     let middle = driver_of c.settle.new.self in
-    let settled = c.in-Ok.ensures.settles h s running in
+    let settled = c.in_ok-settle.ensures.settles h s running in
     inr (
       middle,
       c.settle.ensures.follows,
@@ -133,13 +125,13 @@ returns-in-Ok-clause-unsaved g c = λ h s running told.
       c.save_next.ensures.flash settled.chosen settled.ready told,
     )
 
-pub returns-in-Err-clause-unsaved : goal.returns-in-Err-clause-unsaved
-returns-in-Err-clause-unsaved g c = λ h s running told.
-    inl (is_unsettled (is_settled c.args.self.now) (λ yes. c.in-Err.ensures.at_once yes refl), c.in-Err.ensures.unrestarted h s running (err_as c.in-Err.fault _ told))
+pub returns-in_err-settle-clause-unsaved : goal.returns-in_err-settle-clause-unsaved
+returns-in_err-settle-clause-unsaved g c = λ h s running told.
+    inl (is_unsettled (is_settled c.args.self.now) (λ yes. c.in_err-settle.ensures.at_once yes refl), c.in_err-settle.ensures.unrestarted h s running (ap Err (sym (told_by _ c.from_residual.result Flash c.from_residual.ensures.1 told))))
 
-pub returns-in-Ok-clause-first : goal.returns-in-Ok-clause-first
-returns-in-Ok-clause-first g c = λ h s running zero.
-    let settled = c.in-Ok.ensures.settles h s running in
+pub returns-clause-first : goal.returns-clause-first
+returns-clause-first g c = λ h s running zero.
+    let settled = c.in_ok-settle.ensures.settles h s running in
     let order = running.sound.order in
     let number : settled.chosen.number ≡ 0 = ⊎_elim
     (λ by_held. ap (λ (d : Generation). d.number) by_held ∙ zero)
@@ -147,23 +139,15 @@ returns-in-Ok-clause-first g c = λ h s running zero.
     settled.is in
     c.save_next.ensures.first settled.chosen settled.ready number
 
-pub returns-in-Ok-clause-completed : goal.returns-in-Ok-clause-completed
-returns-in-Ok-clause-completed g c = λ h s running number unhindered. save_met_none c.save_next.result
-    (λ told. unhindered.tries (returns-in-Ok-clause-flash g c h s running told))
-    (λ told. (let last = returns-in-Ok-clause-spent g c h s running told in not_last h s last.last number unhindered.tries last.is last.number))
+pub returns-clause-completed : goal.returns-clause-completed
+returns-clause-completed g c = λ h s running number unhindered. save_met_none c.save_next.result
+    (λ told. unhindered.tries (returns-clause-flash g c h s running told))
+    (λ told. (let last = returns-clause-spent g c h s running told in not_last h s last.last number unhindered.tries last.is last.number))
     (λ told. (let stuck = c.save_next.ensures.sequence told in
     let spent = g.met.B.Blocks.stuck_is_spent c.save_next.new.self.nvm.blocks stuck.0 stuck.1 stuck.3 in
     let left = unhindered.numbers in absurd (cc (spent, left))))
 
-pub returns-in-Err-clause-completed : goal.returns-in-Err-clause-completed
-returns-in-Err-clause-completed g c = λ h s running number unhindered. save_met_none {T = ℕ} (Err c.in-Err.fault)
-    (λ told. unhindered.tries (c.in-Err.ensures.flash h s running (err_as c.in-Err.fault _ told)))
-    (λ told. c.in-Err.ensures.not_spent (err_as c.in-Err.fault _ told))
-    (λ told. (let stuck = c.in-Err.ensures.sequence h s running (err_as c.in-Err.fault _ told) in
-    let spent = g.met.B.Blocks.stuck_is_spent c.settle.new.self.nvm.blocks stuck.0 stuck.1 stuck.3 in
-    let left = unhindered.numbers in absurd (cc (spent, left))))
-
-pub returns-in-Ok-clause-rewritten : goal.returns-in-Ok-clause-rewritten
-returns-in-Ok-clause-rewritten g c = λ h s running.
-    let settled = c.in-Ok.ensures.settles h s running in
+pub returns-clause-rewritten : goal.returns-clause-rewritten
+returns-clause-rewritten g c = λ h s running.
+    let settled = c.in_ok-settle.ensures.settles h s running in
     c.save_next.ensures.rewritten settled.chosen settled.ready
