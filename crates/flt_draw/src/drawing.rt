@@ -14,7 +14,7 @@ use crate::command::Command;
 use flt_config::ValidConfig;
 use flt_did::{DID_ROWS, DidTable, Reader};
 use flt_flash::FlashMem;
-use flt_io::{Discard, MemSource, ReadFault, Sink, Source, read_front};
+use flt_io::{Discard, MemSource, Sink, Source, StreamFault, read_front};
 use flt_picture::{sectors, timeline};
 use flt_report::put_script_fault;
 use flt_run::{OpenGate, Outcome, run};
@@ -172,8 +172,8 @@ fn reckon<R: Threads + Wait + Sync, S: Source>(
 {
     match read_front(alloc, MOST, source) {
         Ok(bytes) => judge(rt, alloc, command, bytes, flash, tables).ok(),
-        Err(ReadFault::Memory) => None,
-        Err(ReadFault::Failed) => Verdict::line(alloc, READ_FAULT, b"read fault").ok(),
+        Err(StreamFault::Memory) => None,
+        Err(StreamFault::Failed) => Verdict::line(alloc, READ_FAULT, b"read fault").ok(),
     }
 }
 

@@ -17,11 +17,11 @@ mod stream;
 mod write_sink;
 
 pub use discard::Discard;
-pub use front::{ReadFault, read_front};
+pub use front::read_front;
 pub use mem_sink::MemSink;
 pub use mem_source::MemSource;
 pub use read_source::ReadSource;
-pub use stream::{Failed, Sink, Source};
+pub use stream::{Failed, Sink, Source, StreamFault};
 pub use write_sink::WriteSink;
 
 /// How often an interrupted read or write is made at most before it counts as a fault.

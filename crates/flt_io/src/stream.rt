@@ -1,12 +1,47 @@
-ghost use Rattle.std.specs.Prelude.{ℕ, ◌<◌, List, Option, length, OnOk, OnErr};
+ghost use Rattle.std.specs.Prelude.{◌≡◌, ℕ, ◌<◌, List, Option, length, OnOk, OnErr};
 ghost use Rattle.std.specs.Io.{ReadsAtMost};
 ghost use Rattle.std.specs.Io.KnownBytes.{Appends, ReadConsumes};
 ghost use Rattle.flt_io.specs.Fault.{HasCause};
 ghost use Rattle.flt_io.specs.Sink.{AppendsFront};
 
+use std::alloc::AllocError;
+use thiserror::Error;
+
 /// A source or a sink could not do what it was asked, and its count of faults rose.
-#[derive(Clone, Copy, Debug, PartialEq, Eq)]
+#[derive(Clone, Copy, Debug, PartialEq, Eq, Error)]
+#[error("the source or the sink failed")]
 pub struct Failed;
+
+/// Why the bytes of a source could not be read, or a text not be written to a sink.
+#[derive(Clone, Copy, Debug, PartialEq, Eq, Error)]
+pub enum StreamFault {
+    /// Memory ran out. This says nothing about the bytes.
+    #[error("memory ran out")]
+    Memory,
+    /// The source or the sink failed, and its count of faults rose.
+    #[error("the source or the sink failed")]
+    Failed,
+}
+
+impl From<AllocError> for StreamFault {
+    ghost use Rattle.flt_io.specs.declared.stream.StreamFault.TheVariants.{Memory};
+
+    ghost from_gives = { λ _ fault. fault ≡ Memory };
+
+    fn from(_: AllocError) -> StreamFault {
+        StreamFault::Memory
+    }
+}
+
+impl From<Failed> for StreamFault {
+    ghost use Rattle.flt_io.specs.declared.stream.StreamFault.TheVariants as faults;
+
+    ghost from_gives = { λ _ fault. fault ≡ faults.Failed };
+
+    fn from(_: Failed) -> StreamFault {
+        StreamFault::Failed
+    }
+}
 
 /// Where bytes come from.
 pub trait Source {

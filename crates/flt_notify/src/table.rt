@@ -9,13 +9,16 @@ use crate::change::Change;
 use crate::row::Subscriber;
 use crate::subscribers::Subscribers;
 use crate::values::Values;
+use thiserror::Error;
 
 /// Why a subscriber is not added. The table stays as it was.
-#[derive(Clone, Copy, PartialEq, Eq, Debug)]
+#[derive(Clone, Copy, PartialEq, Eq, Debug, Error)]
 pub enum SubFault {
-    /// The table has a subscriber of this kind already.
+    /// The table already has a subscriber of this kind.
+    #[error("the table already has a subscriber of this kind")]
     KindTwice,
-    /// The table has none, and each of its rows is taken.
+    /// The table does not have one, and all its rows are taken.
+    #[error("all rows of the table are taken")]
     TableFull,
 }
 

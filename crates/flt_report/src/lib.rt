@@ -25,4 +25,4 @@ pub use boot::{put_boot, put_refused};
 pub use fault::put_script_fault;
 pub use reading::{Fetched, fetch};
 pub use step::{put_step, put_words};
-pub use writing::{WriteFault, write_life, write_script_fault, write_text, write_unread};
+pub use writing::{write_life, write_script_fault, write_text, write_unread};

@@ -3,7 +3,7 @@ ghost use Rattle.flt_did.specs.Table.{dids_of};
 ghost use Rattle.flt_report.specs.Fetched.{IsFetched};
 
 use flt_did::{DID_ROWS, DidTable};
-use flt_io::{ReadFault, Source, read_front};
+use flt_io::{Source, StreamFault, read_front};
 use flt_script::{ParseFault, Script, ScriptFault, parse};
 use std::alloc::Global;
 
@@ -29,8 +29,8 @@ pub fn fetch<S: Source>(alloc: Global, source: &mut S, dids: &DidTable<DID_ROWS>
 {
     let bytes = match read_front(alloc, READ_LIMIT, source) {
         Ok(bytes) => bytes,
-        Err(ReadFault::Failed) => return Fetched::Failed,
-        Err(ReadFault::Memory) => return Fetched::Memory,
+        Err(StreamFault::Failed) => return Fetched::Failed,
+        Err(StreamFault::Memory) => return Fetched::Memory,
     };
     match parse(alloc, &bytes, dids) {
         Ok(script) => Fetched::Script(script),

@@ -19,7 +19,7 @@ use crate::block::{put_end, put_lane, put_par};
 use crate::boot::put_boot;
 use crate::fault::put_script_fault;
 use crate::step::put_step;
-use flt_io::{Failed, Sink};
+use flt_io::{Sink, StreamFault};
 use flt_life::{Boot, KeptReply, LaneReplies, StepAnswer};
 use flt_script::{Part, ScriptFault, Step};
 use std::alloc::{AllocError, Global};
@@ -29,41 +29,12 @@ const UNREAD: &[u8] = b"read fault\n";
 /// The lines of steps are pushed once they have come to so many bytes.
 const PIECE: usize = 2048;
 
-/// Why a report could not be written.
-#[derive(Clone, Copy)]
-pub enum WriteFault {
-    /// Memory was wanting.
-    Memory,
-    /// The sink failed, and its count of faults rose.
-    Failed,
-}
-
-impl From<AllocError> for WriteFault {
-    ghost use Rattle.flt_report.specs.declared.writing.WriteFault.TheVariants.{Memory};
-
-    ghost from_gives = { λ _ fault. fault ≡ Memory };
-
-    fn from(_: AllocError) -> WriteFault {
-        WriteFault::Memory
-    }
-}
-
-impl From<Failed> for WriteFault {
-    ghost use Rattle.flt_report.specs.declared.writing.WriteFault.TheVariants as faults;
-
-    ghost from_gives = { λ _ fault. fault ≡ faults.Failed };
-
-    fn from(_: Failed) -> WriteFault {
-        WriteFault::Failed
-    }
-}
-
 /// Writes a text.
-pub fn write_text<K: Sink>(text: &[u8], sink: &mut K) -> Result<(), WriteFault>
+pub fn write_text<K: Sink>(text: &[u8], sink: &mut K) -> Result<(), StreamFault>
     ensures ok { OnOk result (Appends (K.held sink.old) (K.held sink.new) text.now) }
     ensures err { OnErr result (AppendsFront (K.held sink.old) (K.held sink.new) text.now) }
     ensures later { K.faults sink.old ≤ K.faults sink.new }
-    ensures cause { IsErrOf result WriteFault.Failed → Rose (K.faults sink.old) (K.faults sink.new) }
+    ensures cause { IsErrOf result StreamFault.Failed → Rose (K.faults sink.old) (K.faults sink.new) }
 {
     sink.push(text)?;
     Ok(())
@@ -89,11 +60,11 @@ fn write_steps<K: Sink>(
     steps: &[Step],
     replies: &LaneReplies,
     sink: &mut K,
-) -> Result<(), WriteFault>
+) -> Result<(), StreamFault>
     ensures ok { OnOk result (Appends (K.held sink.old) (K.held sink.new) (lines_text steps.now (told_in replies.now))) }
     ensures err { OnErr result (AppendsFront (K.held sink.old) (K.held sink.new) (lines_text steps.now (told_in replies.now))) }
     ensures later { K.faults sink.old ≤ K.faults sink.new }
-    ensures cause { IsErrOf result WriteFault.Failed → Rose (K.faults sink.old) (K.faults sink.new) }
+    ensures cause { IsErrOf result StreamFault.Failed → Rose (K.faults sink.old) (K.faults sink.new) }
 {
     let count = steps.len().min(replies.answers.len());
     for index in 0..count {
@@ -115,11 +86,11 @@ fn write_lane<K: Sink>(
     steps: &[Step],
     replies: &LaneReplies,
     sink: &mut K,
-) -> Result<(), WriteFault>
+) -> Result<(), StreamFault>
     ensures ok { OnOk result (Appends (K.held sink.old) (K.held sink.new) (lane_text number steps.now (told_in replies.now))) }
     ensures err { OnErr result (AppendsFront (K.held sink.old) (K.held sink.new) (lane_text number steps.now (told_in replies.now))) }
     ensures later { K.faults sink.old ≤ K.faults sink.new }
-    ensures cause { IsErrOf result WriteFault.Failed → Rose (K.faults sink.old) (K.faults sink.new) }
+    ensures cause { IsErrOf result StreamFault.Failed → Rose (K.faults sink.old) (K.faults sink.new) }
 {
     line.clear();
     put_lane(number, line)?;
@@ -134,12 +105,12 @@ fn write_lanes<K: Sink>(
     lanes: &[Vec<Step>],
     told: &[LaneReplies],
     sink: &mut K,
-) -> Result<(), WriteFault>
+) -> Result<(), StreamFault>
     requires { number + length lanes.now < 2 ^ 32 }
     ensures ok { OnOk result (Appends (K.held sink.old) (K.held sink.new) (lanes_text number (lane_steps lanes.now) (map told_in told.now))) }
     ensures err { OnErr result (AppendsFront (K.held sink.old) (K.held sink.new) (lanes_text number (lane_steps lanes.now) (map told_in told.now))) }
     ensures later { K.faults sink.old ≤ K.faults sink.new }
-    ensures cause { IsErrOf result WriteFault.Failed → Rose (K.faults sink.old) (K.faults sink.new) }
+    ensures cause { IsErrOf result StreamFault.Failed → Rose (K.faults sink.old) (K.faults sink.new) }
 {
     let count = lanes.len().min(told.len());
     for index in 0..count {
@@ -161,12 +132,12 @@ fn write_block<K: Sink>(
     lanes: &[Vec<Step>],
     told: &[LaneReplies],
     sink: &mut K,
-) -> Result<(), WriteFault>
+) -> Result<(), StreamFault>
     requires { number + length lanes.now < 2 ^ 32 }
     ensures ok { OnOk result (Appends (K.held sink.old) (K.held sink.new) (block_text number (lane_steps lanes.now) (map told_in told.now))) }
     ensures err { OnErr result (AppendsFront (K.held sink.old) (K.held sink.new) (block_text number (lane_steps lanes.now) (map told_in told.now))) }
     ensures later { K.faults sink.old ≤ K.faults sink.new }
-    ensures cause { IsErrOf result WriteFault.Failed → Rose (K.faults sink.old) (K.faults sink.new) }
+    ensures cause { IsErrOf result StreamFault.Failed → Rose (K.faults sink.old) (K.faults sink.new) }
 {
     line.clear();
     put_par(line)?;
@@ -186,14 +157,14 @@ fn write_one<K: Sink>(
     own: &LaneReplies,
     index: usize,
     sink: &mut K,
-) -> Result<(), WriteFault>
+) -> Result<(), StreamFault>
     requires { index < vec_len own.now.answers }
     ensures ok { OnOk result (IsWritten (K.held sink.old) (K.held sink.new) piece.new.items
         (piece.old.items ++ step_line step.now (slice_index_or (told_in own.now) index answers.Dark))) }
     ensures err { OnErr result (AppendsFront (K.held sink.old) (K.held sink.new)
         (piece.old.items ++ step_line step.now (slice_index_or (told_in own.now) index answers.Dark))) }
     ensures later { K.faults sink.old ≤ K.faults sink.new }
-    ensures cause { IsErrOf result WriteFault.Failed → Rose (K.faults sink.old) (K.faults sink.new) }
+    ensures cause { IsErrOf result StreamFault.Failed → Rose (K.faults sink.old) (K.faults sink.new) }
 {
     put_step(step, &own.answers[index], &own.responses, piece)?;
     if piece.len() < PIECE {
@@ -211,14 +182,14 @@ fn write_next_block<K: Sink>(
     lanes: &[Vec<Step>],
     told: &[LaneReplies],
     sink: &mut K,
-) -> Result<(), WriteFault>
+) -> Result<(), StreamFault>
     requires { number + length lanes.now < 2 ^ 32 }
     ensures ok { OnOk result (Appends (K.held sink.old) (K.held sink.new) (piece.old.items ++ block_text number (lane_steps lanes.now) (map told_in told.now))) }
     ensures none { OnOk result (piece.new.items ≡ []) }
     ensures err { OnErr result (AppendsFront (K.held sink.old) (K.held sink.new)
         (piece.old.items ++ block_text number (lane_steps lanes.now) (map told_in told.now))) }
     ensures later { K.faults sink.old ≤ K.faults sink.new }
-    ensures cause { IsErrOf result WriteFault.Failed → Rose (K.faults sink.old) (K.faults sink.new) }
+    ensures cause { IsErrOf result StreamFault.Failed → Rose (K.faults sink.old) (K.faults sink.new) }
 {
     sink.push(piece)?;
     write_block(piece, number, lanes, told, sink)?;
@@ -245,14 +216,14 @@ fn put_parts<K: Sink>(
     own: &LaneReplies,
     told: &[LaneReplies],
     sink: &mut K,
-) -> Result<(), WriteFault>
+) -> Result<(), StreamFault>
     requires { widths (parts_of parts.now) + 1 < 2 ^ 32 }
     ensures ok { OnOk result (IsWritten (K.held sink.old) (K.held sink.new) piece.new.items
         (piece.old.items ++ parts_text 1 (parts_of parts.now) (told_in own.now) (map told_in told.now))) }
     ensures err { OnErr result (AppendsFront (K.held sink.old) (K.held sink.new)
         (piece.old.items ++ parts_text 1 (parts_of parts.now) (told_in own.now) (map told_in told.now))) }
     ensures later { K.faults sink.old ≤ K.faults sink.new }
-    ensures cause { IsErrOf result WriteFault.Failed → Rose (K.faults sink.old) (K.faults sink.new) }
+    ensures cause { IsErrOf result StreamFault.Failed → Rose (K.faults sink.old) (K.faults sink.new) }
 {
     let mut answered = 0;
     let mut lanes_told = 0;
@@ -282,12 +253,12 @@ fn write_parts<K: Sink>(
     own: &LaneReplies,
     told: &[LaneReplies],
     sink: &mut K,
-) -> Result<(), WriteFault>
+) -> Result<(), StreamFault>
     requires { widths (parts_of parts.now) + 1 < 2 ^ 32 }
     ensures ok { OnOk result (Appends (K.held sink.old) (K.held sink.new) (parts_text 1 (parts_of parts.now) (told_in own.now) (map told_in told.now))) }
     ensures err { OnErr result (AppendsFront (K.held sink.old) (K.held sink.new) (parts_text 1 (parts_of parts.now) (told_in own.now) (map told_in told.now))) }
     ensures later { K.faults sink.old ≤ K.faults sink.new }
-    ensures cause { IsErrOf result WriteFault.Failed → Rose (K.faults sink.old) (K.faults sink.new) }
+    ensures cause { IsErrOf result StreamFault.Failed → Rose (K.faults sink.old) (K.faults sink.new) }
 {
     piece.clear();
     put_parts(piece, parts, own, told, sink)?;
@@ -301,12 +272,12 @@ fn write_boot<K: Sink>(
     number: u32,
     boot: &Boot,
     sink: &mut K,
-) -> Result<(), WriteFault>
+) -> Result<(), StreamFault>
     requires { boot.now ≢ Refused Flash }
     ensures ok { OnOk result (Appends (K.held sink.old) (K.held sink.new) (boot_line number boot.now)) }
     ensures err { OnErr result (AppendsFront (K.held sink.old) (K.held sink.new) (boot_line number boot.now)) }
     ensures later { K.faults sink.old ≤ K.faults sink.new }
-    ensures cause { IsErrOf result WriteFault.Failed → Rose (K.faults sink.old) (K.faults sink.new) }
+    ensures cause { IsErrOf result StreamFault.Failed → Rose (K.faults sink.old) (K.faults sink.new) }
 {
     line.clear();
     put_boot(number, boot, line)?;
@@ -323,13 +294,13 @@ pub fn write_life<K: Sink>(
     boot: &Boot,
     replies: &[LaneReplies],
     sink: &mut K,
-) -> Result<(), WriteFault>
+) -> Result<(), StreamFault>
     requires flash { boot.now ≢ Refused Flash }
     requires lanes { widths (parts_of parts.now) + 1 < 2 ^ 32 }
     ensures ok { OnOk result (Appends (K.held sink.old) (K.held sink.new) (life_text number (parts_of parts.now) boot.now replies.now)) }
     ensures err { OnErr result (AppendsFront (K.held sink.old) (K.held sink.new) (life_text number (parts_of parts.now) boot.now replies.now)) }
     ensures later { K.faults sink.old ≤ K.faults sink.new }
-    ensures cause { IsErrOf result WriteFault.Failed → Rose (K.faults sink.old) (K.faults sink.new) }
+    ensures cause { IsErrOf result StreamFault.Failed → Rose (K.faults sink.old) (K.faults sink.new) }
 {
     write_boot(line, number, boot, sink)?;
     match boot {
@@ -342,11 +313,11 @@ pub fn write_life<K: Sink>(
 }
 
 /// Writes that the source of a script failed.
-pub fn write_unread<K: Sink>(sink: &mut K) -> Result<(), WriteFault>
+pub fn write_unread<K: Sink>(sink: &mut K) -> Result<(), StreamFault>
     ensures ok { OnOk result (Appends (K.held sink.old) (K.held sink.new) unread_line) }
     ensures err { OnErr result (AppendsFront (K.held sink.old) (K.held sink.new) unread_line) }
     ensures later { K.faults sink.old ≤ K.faults sink.new }
-    ensures cause { IsErrOf result WriteFault.Failed → Rose (K.faults sink.old) (K.faults sink.new) }
+    ensures cause { IsErrOf result StreamFault.Failed → Rose (K.faults sink.old) (K.faults sink.new) }
 {
     write_text(UNREAD, sink)
 }
@@ -356,11 +327,11 @@ pub fn write_script_fault<K: Sink>(
     alloc: Global,
     fault: &ScriptFault,
     sink: &mut K,
-) -> Result<(), WriteFault>
+) -> Result<(), StreamFault>
     ensures ok { OnOk result (Appends (K.held sink.old) (K.held sink.new) (script_fault_line fault.now)) }
     ensures err { OnErr result (AppendsFront (K.held sink.old) (K.held sink.new) (script_fault_line fault.now)) }
     ensures later { K.faults sink.old ≤ K.faults sink.new }
-    ensures cause { IsErrOf result WriteFault.Failed → Rose (K.faults sink.old) (K.faults sink.new) }
+    ensures cause { IsErrOf result StreamFault.Failed → Rose (K.faults sink.old) (K.faults sink.new) }
 {
     let mut line = Vec::new(alloc);
     put_script_fault(fault, &mut line)?;

@@ -3,8 +3,8 @@ use Rattle.std.specs.Prelude.{◌≡◌, ◌⊎◌, ℕ, ◌≤◌, ◌<◌, Lis
 use Rattle.std.specs.Io.KnownBytes.{Appends, Consumes, IsAtEnd, Keeps}
 use Rattle.flt_io.specs.Fault.{Rose}
 use Rattle.flt_io.specs.Sink.{AppendsFront}
-use Rattle.flt_io.specs.declared.front.ReadFault.{ReadFault}
-use Rattle.flt_io.specs.declared.front.ReadFault.TheVariants as reads
+use Rattle.flt_io.specs.declared.stream.StreamFault.{StreamFault}
+use Rattle.flt_io.specs.declared.stream.StreamFault.TheVariants as reads
 use Rattle.flt_verdict.specs.declared.reading.InputFault.{InputFault}
 use Rattle.flt_verdict.specs.declared.reading.InputFault.TheVariants.{Memory, Failed, TooMany}
 use Rattle.flt_verdict.specs.declared.verdict.Verdict.{Verdict}
@@ -90,7 +90,7 @@ abbrev pub Tells : (List ℕ → Due → Type 0) → Inside → Outside → ℕ 
 Tells IsJudged inside outside status = WantsMemory outside status ⊎ IsAnswered IsJudged inside outside status
 
 -- Why an input was not read to its end, where its bytes were not.
-abbrev pub input_fault : ReadFault → InputFault
+abbrev pub input_fault : StreamFault → InputFault
 input_fault reads.Memory = Memory
 input_fault reads.Failed = Failed
 

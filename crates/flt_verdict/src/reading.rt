@@ -3,8 +3,9 @@ ghost use Rattle.std.specs.Prelude.{◌≡◌, ◌≤◌, IfOk, IfSome, IsErrOf}
 ghost use Rattle.flt_verdict.specs.Verdict.{HasCome, IsFaultDue, due_of, failed, too_many, whole};
 
 use crate::verdict::Verdict;
-use flt_io::{ReadFault, Source, read_front};
+use flt_io::{Source, StreamFault, read_front};
 use std::alloc::Global;
+use thiserror::Error;
 
 /// The most bytes of an input.
 const MOST: usize = 16_777_216;
@@ -16,25 +17,28 @@ const READ_FAULT: u8 = 3;
 const INPUT_LARGE: u8 = 9;
 
 /// Why an input was not read to its end.
-#[derive(Clone, Copy, Debug, PartialEq, Eq)]
+#[derive(Clone, Copy, Debug, PartialEq, Eq, Error)]
 pub enum InputFault {
-    /// Memory was wanting.
+    /// Memory ran out.
+    #[error("memory ran out")]
     Memory,
     /// The source failed.
+    #[error("the source failed")]
     Failed,
     /// More than 16,777,216 bytes came.
+    #[error("the input has more than 16,777,216 bytes")]
     TooMany,
 }
 
-impl From<ReadFault> for InputFault {
+impl From<StreamFault> for InputFault {
     ghost use Rattle.flt_verdict.specs.Verdict.{input_fault};
 
     ghost from_gives = { λ fault made. made ≡ input_fault fault };
 
-    fn from(fault: ReadFault) -> InputFault {
+    fn from(fault: StreamFault) -> InputFault {
         match fault {
-            ReadFault::Memory => InputFault::Memory,
-            ReadFault::Failed => InputFault::Failed,
+            StreamFault::Memory => InputFault::Memory,
+            StreamFault::Failed => InputFault::Failed,
         }
     }
 }

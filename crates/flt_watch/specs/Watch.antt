@@ -14,8 +14,8 @@ use Rattle.flt_notify.specs.Table.{kinds_in, value_in, values_in}
 use Rattle.flt_verdict.specs.Verdict.{Due, Inside, IsTold, Outside}
 use Rattle.flt_report.specs.Boot.{script_fault_line, unread_line}
 use Rattle.flt_report.specs.Fetched.{AreNoScript, AreScript, HasLostRead}
-use Rattle.flt_report.specs.declared.writing.WriteFault.{WriteFault}
-use Rattle.flt_report.specs.declared.writing.WriteFault.TheVariants.{Memory, Failed}
+use Rattle.flt_io.specs.declared.stream.StreamFault.{StreamFault}
+use Rattle.flt_io.specs.declared.stream.StreamFault.TheVariants.{Memory, Failed}
 use Rattle.flt_watch.specs.Asked.{is_watchable}
 use Rattle.flt_watch.specs.Text.{other_line, watch_text}
 use Rattle.flt_watch.specs.Watched.{IsWatched}
@@ -40,7 +40,7 @@ pub record IsNoState (state : Persist) : Type 0 where
   pub recent_confirmed : state.recent_confirmed ≡ None
 
 -- The status, by whether the text was written with which this one is due.
-abbrev pub status_by : {T : Type 0} → ℕ → Result T WriteFault → ℕ
+abbrev pub status_by : {T : Type 0} → ℕ → Result T StreamFault → ℕ
 status_by status (Ok done) = status
 status_by status (Err Failed) = 4
 status_by status (Err Memory) = 7

@@ -12,20 +12,20 @@ ghost use Rattle.flt_notify.specs.Table.{value_in};
 ghost use Rattle.flt_watch.specs.Text.{other_line, value_line, value_text, values_text, watch_text};
 
 use crate::life::WatchedLife;
-use flt_io::Sink;
+use flt_io::{Sink, StreamFault};
 use flt_notify::{KINDS, SubTable};
-use flt_report::{WriteFault, write_life, write_text};
+use flt_report::{write_life, write_text};
 use flt_script::Part;
 use std::alloc::{AllocError, Global};
 
 const OTHER: &[u8] = b"script other\n";
 
 /// Writes that a watch does not make the script.
-pub(crate) fn write_other<K: Sink>(sink: &mut K) -> Result<(), WriteFault>
+pub(crate) fn write_other<K: Sink>(sink: &mut K) -> Result<(), StreamFault>
     ensures ok { OnOk result (Appends (K.held sink.old) (K.held sink.new) other_line) }
     ensures err { OnErr result (AppendsFront (K.held sink.old) (K.held sink.new) other_line) }
     ensures later { K.faults sink.old ≤ K.faults sink.new }
-    ensures cause { IsErrOf result WriteFault.Failed → Rose (K.faults sink.old) (K.faults sink.new) }
+    ensures cause { IsErrOf result StreamFault.Failed → Rose (K.faults sink.old) (K.faults sink.new) }
 {
     write_text(OTHER, sink)
 }
@@ -43,11 +43,11 @@ fn write_value<K: Sink>(
     subs: &SubTable<KINDS>,
     kind: u8,
     sink: &mut K,
-) -> Result<(), WriteFault>
+) -> Result<(), StreamFault>
     ensures ok { OnOk result (Appends (K.held sink.old) (K.held sink.new) (value_text kind (value_in subs.now kind))) }
     ensures err { OnErr result (AppendsFront (K.held sink.old) (K.held sink.new) (value_text kind (value_in subs.now kind))) }
     ensures later { K.faults sink.old ≤ K.faults sink.new }
-    ensures cause { IsErrOf result WriteFault.Failed → Rose (K.faults sink.old) (K.faults sink.new) }
+    ensures cause { IsErrOf result StreamFault.Failed → Rose (K.faults sink.old) (K.faults sink.new) }
 {
     match subs.value(kind) {
         Some(value) => {
@@ -63,11 +63,11 @@ fn write_values<K: Sink>(
     alloc: Global,
     subs: &SubTable<KINDS>,
     sink: &mut K,
-) -> Result<(), WriteFault>
+) -> Result<(), StreamFault>
     ensures ok { OnOk result (Appends (K.held sink.old) (K.held sink.new) (values_text (value_in subs.now))) }
     ensures err { OnErr result (AppendsFront (K.held sink.old) (K.held sink.new) (values_text (value_in subs.now))) }
     ensures later { K.faults sink.old ≤ K.faults sink.new }
-    ensures cause { IsErrOf result WriteFault.Failed → Rose (K.faults sink.old) (K.faults sink.new) }
+    ensures cause { IsErrOf result StreamFault.Failed → Rose (K.faults sink.old) (K.faults sink.new) }
 {
     write_value(alloc, subs, 0, sink)?;
     write_value(alloc, subs, 1, sink)?;
@@ -80,13 +80,13 @@ pub(crate) fn write_watched<K: Sink>(
     parts: &[Part],
     watched: &WatchedLife,
     sink: &mut K,
-) -> Result<(), WriteFault>
+) -> Result<(), StreamFault>
     requires flash { watched.now.life.boot ≢ Refused Flash }
     requires lanes { widths (parts_of parts.now) + 1 < 2 ^ 32 }
     ensures ok { OnOk result (Appends (K.held sink.old) (K.held sink.new) (watch_text (parts_of parts.now) watched.now.life.boot watched.now.life.replies.items (value_in watched.now.subs))) }
     ensures err { OnErr result (AppendsFront (K.held sink.old) (K.held sink.new) (watch_text (parts_of parts.now) watched.now.life.boot watched.now.life.replies.items (value_in watched.now.subs))) }
     ensures later { K.faults sink.old ≤ K.faults sink.new }
-    ensures cause { IsErrOf result WriteFault.Failed → Rose (K.faults sink.old) (K.faults sink.new) }
+    ensures cause { IsErrOf result StreamFault.Failed → Rose (K.faults sink.old) (K.faults sink.new) }
 {
     let WatchedLife { life, subs } = watched;
     let mut line = Vec::new(alloc);

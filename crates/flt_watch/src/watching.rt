@@ -15,11 +15,11 @@ use crate::telling::{write_other, write_watched};
 use arrayvec::ArrayVec;
 use flt_config::Persist;
 use flt_did::{DID_ROWS, DidTable};
-use flt_io::{Sink, Source};
+use flt_io::{Sink, Source, StreamFault};
 use flt_lane::Gate;
 use flt_life::{Boot, Entry, LaneReplies, Life};
 use flt_notify::{KINDS, SubTable};
-use flt_report::{WriteFault, write_script_fault, write_unread};
+use flt_report::{write_script_fault, write_unread};
 use flt_script::Script;
 use flt_shared::Op;
 use std::alloc::Global;
@@ -67,13 +67,13 @@ fn no_state() -> Persist
 }
 
 /// The status, by whether the text that is due was written.
-fn status_by(due: u8, written: Result<(), WriteFault>) -> u8
+fn status_by(due: u8, written: Result<(), StreamFault>) -> u8
     ensures { result ≡ status_by due written }
 {
     match written {
         Ok(()) => due,
-        Err(WriteFault::Failed) => UNWRITTEN,
-        Err(WriteFault::Memory) => OUT_OF_MEMORY,
+        Err(StreamFault::Failed) => UNWRITTEN,
+        Err(StreamFault::Memory) => OUT_OF_MEMORY,
     }
 }
 
@@ -141,8 +141,8 @@ fn watch_script<R: Threads + Wait + Sync, K: Sink, G: Gate + Sync>(
     };
     match write_watched(alloc, parts, &watched, sink) {
         Ok(()) => made(0, watched),
-        Err(WriteFault::Failed) => made(UNWRITTEN, watched),
-        Err(WriteFault::Memory) => unmade(alloc, OUT_OF_MEMORY, watched.subs),
+        Err(StreamFault::Failed) => made(UNWRITTEN, watched),
+        Err(StreamFault::Memory) => unmade(alloc, OUT_OF_MEMORY, watched.subs),
     }
 }
 
