@@ -1,19 +1,18 @@
 -- A lane after some of its steps.
 use Rattle.std.proofs.Common.{◌≡◌, ℕ, ◌<◌, ◌≤◌, ◌+◌, List, [], ◌∷◌, ◌++◌, length, take, drop, get_or, arith, refl, sym, ap, subst, ◌∙◌}
-use Rattle.std.specs.Prelude.{vec_len}
-use Rattle.std.specs.Vec.{vec_capacity}
 use Rattle.std.proofs.lemmas.List.{take_more, append-nil, append_assoc}
 use Rattle.flt_script.specs.declared.step.Step.{Step}
 use Rattle.flt_shared.specs.Call.{MayBeAsked, reply_after}
-use Rattle.flt_life.specs.Actions.{action_of, call_count, response_size}
-use Rattle.flt_life.specs.Answers.{Told, told_size}
+use Rattle.flt_life.specs.Actions.{action_of, call_count}
+use Rattle.flt_life.specs.Answers.{Told}
 use Rattle.flt_life.specs.declared.action.Action.{Action}
 use Rattle.flt_life.specs.declared.action.Action.TheVariants.{Call}
 use Rattle.flt_model.specs.declared.call.Op.{Op}
 use Rattle.flt_life.specs.Played.{StepMakes}
 use Rattle.flt_life.specs.Room.{HasRoomForSteps, told_in}
+use Rattle.flt_lane.specs.Stepped.{KeepsAnswer}
 use Rattle.flt_lane.specs.Runs.{Makes, calls_by}
-use Rattle.flt_lane.proofs.Running.{DemPart, next_step, room_after, sum_so_far, take_past}
+use Rattle.flt_lane.proofs.Running.{DemPart, next_step, sum_so_far, take_past}
 use Rattle.flt_fork.proofs.PartWays.{part_first, part_more, part_number, part_runs, part_start}
 use Rattle.flt_watch.specs.declared.lane.WatchLane.{WatchLane}
 use Rattle.flt_watch.specs.declared.lock.WatchLock.{WatchLock}
@@ -74,23 +73,21 @@ module _ {F : _} {g : _} {H : _} {h : _} (lock : WatchLock F g H h) (before now 
   pub possible_next : IsWatchable now.seat.start.config step
   possible_next = subst (λ s. IsWatchable s.config step) (sym start_now) possible
 
-  pub goes_on : (after : WatchLane) (told : Told) → Makes now.seat step told after.seat → told_size told ≤ response_size (action_of step)
-      → told_in after.replies ≡ told_in now.replies ++ told ∷ [] → vec_len after.replies.answers ≡ vec_len now.replies.answers + 1 → vec_capacity after.replies.answers ≡ vec_capacity now.replies.answers
-      → vec_len after.replies.responses ≡ vec_len now.replies.responses + told_size told → vec_capacity now.replies.responses ≤ vec_capacity after.replies.responses → after.number ≡ now.number → after.steps.now ≡ now.steps.now
-      → IsSeatOf lock after.seat → IsPartway lock before after (index + 1)
-  goes_on after told makes size answers len capacity responses bytes number steps seat =
+  pub goes_on : (after : WatchLane) (told : Told) → Makes now.seat step told after.seat → KeepsAnswer now.replies after.replies step told → after.number ≡ now.number → after.steps.now ≡ now.steps.now → IsSeatOf lock after.seat
+      → IsPartway lock before after (index + 1)
+  goes_on after told makes keeps number steps seat =
       let all = before.steps.now in
       let taken : take (index + 1) all ≡ take index all ++ step ∷ [] = take_more all index step within ∙ ap (λ s. take index all ++ s ∷ []) (sym is) in
       let dem = part_more MayBeAsked reply_after StepMakes calls_by before.seat now.seat after.seat (take index all) on.told step told on.dem makes in
       record {
         told = on.told ++ told ∷ [];
         dem = subst (λ l. DemPart before.seat after.seat l (on.told ++ told ∷ [])) (sym taken) dem;
-        answers = answers ∙ ap (λ l. l ++ told ∷ []) on.answers ∙ append_assoc (told_in before.replies) on.told (told ∷ []);
+        answers = keeps.told ∙ ap (λ l. l ++ told ∷ []) on.answers ∙ append_assoc (told_in before.replies) on.told (told ∷ []);
         number = number ∙ on.number;
         seat_number = number ∙ on.seat_number ∙ sym (part_number MayBeAsked reply_after StepMakes calls_by now.seat after.seat (step ∷ []) (told ∷ [])
             (part_more MayBeAsked reply_after StepMakes calls_by now.seat now.seat after.seat [] [] step told (part_first MayBeAsked reply_after StepMakes calls_by now.seat) makes));
         steps = steps ∙ on.steps;
-        room = room_after now.replies after.replies step (drop (index + 1) all) told (subst (HasRoomForSteps now.replies) (next_step all index step within is) on.room) size len capacity responses bytes;
+        room = keeps.room (drop (index + 1) all) (subst (HasRoomForSteps now.replies) (next_step all index step within is) on.room);
         seat = seat;
       }
 

@@ -1,6 +1,6 @@
 use Rattle.std.proofs.Common.{refl, rules}
 use Rattle.flt_life.specs.Answers.{told_with}
-use Rattle.flt_lane.proofs.Running.{whole_size, whole_told}
+use Rattle.flt_lane.proofs.Answering.{keeps_with}
 use Rattle.flt_watch.proofs.Running.{begins, call_left, goes_on, has_run, possible_next}
 use Rattle.flt_watch.proofs.lane.run_lane.Goals as goal
 
@@ -19,12 +19,11 @@ pub loop-index-preserved : goal.loop-index-preserved
 loop-index-preserved g c =
     let kept = c.keep.ensures in
     let made = c.make_call-answer.ensures in
-    let on = c.loop-index.invariant in
     let answer = c.make_call-answer.result in
     let response = c.make_call-answer.new.response.items in
-    let told = told_with response answer in
-    goes_on c.args.lock.now c.args.lane.now _ c.loop-index.index c.index-steps-index.result c.requires.ready on (search rules) c.index-steps-index.is _ told
-    made.made made.size (whole_told _ _ answer response _ c.as_slice.ensures.value kept.told) kept.answers kept.room (whole_size _ _ answer response _ c.as_slice.ensures.value kept.responses) kept.bytes refl refl made.lock
+    let step = c.index-steps-index.result in
+    goes_on c.args.lock.now c.args.lane.now _ c.loop-index.index step c.requires.ready c.loop-index.invariant (search rules) c.index-steps-index.is _ (told_with response answer)
+    made.made (keeps_with _ _ step answer response _ c.as_slice.ensures.value kept.told kept.answers kept.room kept.responses kept.bytes made.size) refl refl made.lock
 
 pub returns-clause-ran : goal.returns-clause-ran
 returns-clause-ran g c = has_run c.args.lock.now _ _ c.loop-index.index c.loop-index.invariant (search rules)
