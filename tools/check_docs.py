@@ -1,10 +1,10 @@
 #!/usr/bin/env python3
 """Checks the pages of the repository, and ends with 1 where one is wrong.
 
-It looks at README.md, docs/ and tools/. Each name that a page says to stand in a crate, or in a file of its definitions, stands there; each
-file that a page links or names by its path is there; each report that a page shows is what its script prints: of a script in
-crates/examples/data the report beside it has those lines, and a script in a page is run, where the program is built; and each picture that
-docs/PICTURES.md says to be made by a command is what the command prints, where flt_draw is built.
+It looks at README.md, docs/ and tools/. Each name that a page says to stand in a crate, or in a file of its definitions, or that links to a
+file of code, stands there; each file that a page links or names by its path is there; each report that a page shows is what its script prints:
+of a script in crates/examples/data the report beside it has those lines, and a script in a page is run, where the program is built; and each
+picture that docs/PICTURES.md says to be made by a command is what the command prints, where flt_draw is built.
 """
 import glob
 import os
@@ -19,6 +19,7 @@ NAMED = re.compile(
     r"`([A-Za-z_:]+)`(?:, `([A-Za-z_:]+)`)? of \[?`?(?:\.\./)?(?:crates/)?(flt_[a-z_]+)`?\]?(?:/specs/([A-Za-z]+)\.antt)?(?:, `specs/([A-Za-z]+)\.antt`)?"
 )
 LINK = re.compile(r"\]\(([^)#\s]+)(?:#[^)]*)?\)")
+LINKED = re.compile(r"\[`([A-Za-z_:.]+)`\]\(([^)#\s]+\.(?:rt|antt))\)")
 PATH = re.compile(r"`((?:crates|docs|bench|tools)/[A-Za-z0-9_./-]*[A-Za-z0-9_])`")
 PICTURE = re.compile(r"`(docs/pictures/[a-z_0-9]+\.svg)` \| `flt_draw (timeline|sectors) < (crates/[a-z_0-9/]+\.script)`")
 SCRIPT = re.compile(r"crates/examples/data/([a-z_0-9]+)\.script")
@@ -63,6 +64,16 @@ def wrong_rows(text):
             word = re.compile(rf"\b{re.escape(name.split('::')[-1])}\b")
             if not any(word.search(words_of(crate)) for crate in crates):
                 yield f"{name} does not stand in {begins.group(1)}"
+
+
+def wrong_links(page, text):
+    """Names that link to a file of code or of definitions that does not have them."""
+    for name, link in LINKED.findall(text):
+        path = os.path.join(os.path.dirname(page), link)
+        last = re.split(r"::|\.", name)[-1]
+        own = os.path.splitext(os.path.basename(path))[0]
+        if os.path.exists(path) and last != own and not re.search(rf"\b{re.escape(last)}\b", text_of(path)):
+            yield f"{name} does not stand in {link}"
 
 
 def missing_files(page, text):
@@ -131,7 +142,7 @@ def main():
     wrong = 0
     for page in sorted([f"{TOP}/README.md", *glob.glob(f"{TOP}/docs/*.md"), *glob.glob(f"{TOP}/tools/*.md")]):
         text = text_of(page)
-        for what in [*wrong_names(text), *wrong_rows(text), *missing_files(page, text), *wrong_reports(text), *wrong_pictures(text)]:
+        for what in [*wrong_names(text), *wrong_rows(text), *wrong_links(page, text), *missing_files(page, text), *wrong_reports(text), *wrong_pictures(text)]:
             print(f"{os.path.relpath(page, TOP)}: {what}")
             wrong += 1
     print(f"pages: {'each is right' if not wrong else f'{wrong} faults'}")
