@@ -2,7 +2,7 @@
 """Checks the pages of the repository, and ends with 1 where one is wrong.
 
 It looks at README.md, docs/ and tools/. Each name that a page says to stand in a crate, or in a file of its definitions, or that links to a
-file of code, stands there; each file that a page links or names by its path is there; each report that a page shows is what its script prints:
+file of code, stands there; each module of definitions is in the crate that is named beside it; each file that a page links or names by its path is there; each report that a page shows is what its script prints:
 of a script in crates/examples/data the report beside it has those lines, and a script in a page is run, where the program is built; and each
 picture that docs/PICTURES.md says to be made by a command is what the command prints, where flt_draw is built.
 """
@@ -16,10 +16,12 @@ TOP = os.path.dirname(os.path.dirname(os.path.abspath(__file__)))
 PROGRAM = f"{TOP}/crates/faultmem/out/faultmem"
 DRAW = f"{TOP}/crates/flt_draw/out/flt_draw"
 NAMED = re.compile(
-    r"`([A-Za-z_:]+)`(?:, `([A-Za-z_:]+)`)? of \[?`?(?:\.\./)?(?:crates/)?(flt_[a-z_]+)`?\]?(?:/specs/([A-Za-z]+)\.antt)?(?:, `specs/([A-Za-z]+)\.antt`)?"
+    r"`([A-Za-z0-9_:]+)`(?:, `([A-Za-z0-9_:]+)`)? of \[?`?(?:\.\./)?(?:crates/)?(flt_[a-z_]+)`?\]?(?:/specs/([A-Za-z]+)\.antt)?(?:, `specs/([A-Za-z]+)\.antt`)?"
 )
 LINK = re.compile(r"\]\(([^)#\s]+)(?:#[^)]*)?\)")
-LINKED = re.compile(r"\[`([A-Za-z_:.]+)`\]\(([^)#\s]+\.(?:rt|antt))\)")
+LINKED = re.compile(r"\[`([A-Za-z0-9_:.]+)`\]\(([^)#\s]+\.(?:rt|antt))\)")
+OF_LINK = re.compile(r"((?:`[A-Za-z0-9_:.]+`(?:, | and ))*`[A-Za-z0-9_:.]+`) of \[[^\]]*\]\(([^)#\s]+\.(?:rt|antt))\)")
+MODULE = re.compile(r"(?:`(flt_[a-z_]+)`, )?`specs/([A-Za-z]+)\.antt`(?: of `(flt_[a-z_]+)`)?(?: \(((?:`[A-Za-z0-9_:.]+`(?:, | and )?)+)\))?")
 PATH = re.compile(r"`((?:crates|docs|bench|tools)/[A-Za-z0-9_./-]*[A-Za-z0-9_])`")
 PICTURE = re.compile(r"`(docs/pictures/[a-z_0-9]+\.svg)` \| `flt_draw (timeline|sectors) < (crates/[a-z_0-9/]+\.script)`")
 SCRIPT = re.compile(r"crates/examples/data/([a-z_0-9]+)\.script")
@@ -60,20 +62,36 @@ def wrong_rows(text):
         if not begins or len(cells) < 3:
             continue
         crates = {begins.group(1), *re.findall(r"flt_[a-z_]+", cells[-1])}
-        for name in re.findall(r"`([A-Za-z_:]+)`", cells[-1]):
+        for name in re.findall(r"`([A-Za-z0-9_:]+)`", cells[-1]):
             word = re.compile(rf"\b{re.escape(name.split('::')[-1])}\b")
             if not any(word.search(words_of(crate)) for crate in crates):
                 yield f"{name} does not stand in {begins.group(1)}"
 
 
+def stands_in(name, path):
+    last = re.split(r"::|\.", name)[-1]
+    return last == os.path.splitext(os.path.basename(path))[0] or re.search(rf"\b{re.escape(last)}\b", text_of(path))
+
+
 def wrong_links(page, text):
-    """Names that link to a file of code or of definitions that does not have them."""
-    for name, link in LINKED.findall(text):
+    """Names that link to a file of code or of definitions, or are said to be of one that is linked, and that it does not have."""
+    of_links = [(name, link) for names, link in OF_LINK.findall(text) for name in re.findall(r"`([^`]+)`", names)]
+    for name, link in LINKED.findall(text) + of_links:
         path = os.path.join(os.path.dirname(page), link)
-        last = re.split(r"::|\.", name)[-1]
-        own = os.path.splitext(os.path.basename(path))[0]
-        if os.path.exists(path) and last != own and not re.search(rf"\b{re.escape(last)}\b", text_of(path)):
+        if os.path.exists(path) and not stands_in(name, path):
             yield f"{name} does not stand in {link}"
+
+
+def wrong_modules(text):
+    """Modules of definitions that are not in the crate that is named beside them, or in none, and names behind them that they do not have."""
+    for before, module, behind, names in MODULE.findall(text):
+        crate = before or behind
+        paths = glob.glob(f"{TOP}/crates/{crate or 'flt_*'}/specs/{module}.antt")
+        if not paths:
+            yield f"there is no specs/{module}.antt of {crate or 'any crate'}"
+        for name in re.findall(r"`([^`]+)`", names) if paths else []:
+            if not any(stands_in(name, path) for path in paths):
+                yield f"{name} does not stand in specs/{module}.antt"
 
 
 def missing_files(page, text):
@@ -142,7 +160,7 @@ def main():
     wrong = 0
     for page in sorted([f"{TOP}/README.md", *glob.glob(f"{TOP}/docs/*.md"), *glob.glob(f"{TOP}/tools/*.md")]):
         text = text_of(page)
-        for what in [*wrong_names(text), *wrong_rows(text), *wrong_links(page, text), *missing_files(page, text), *wrong_reports(text), *wrong_pictures(text)]:
+        for what in [*wrong_names(text), *wrong_rows(text), *wrong_links(page, text), *wrong_modules(text), *missing_files(page, text), *wrong_reports(text), *wrong_pictures(text)]:
             print(f"{os.path.relpath(page, TOP)}: {what}")
             wrong += 1
     print(f"pages: {'each is right' if not wrong else f'{wrong} faults'}")
