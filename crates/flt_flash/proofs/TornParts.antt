@@ -1,5 +1,5 @@
--- Tearing: what nothing touched stays, and one page or sector that is torn tears the image.
-use Rattle.std.proofs.Common.{◌≡◌, inl, inr, ⊎_elim, ℕ, ◌<◌, List, [], length, get_or, set, length-set, get_or-set_same, get_or-set_other, refl, sym, ◌∙◌, subst, arith}
+-- Tearing: what nothing touched stays, and a torn image is torn at one page or sector alone.
+use Rattle.std.proofs.Common.{◌≡◌, inl, inr, ⊎_elim, ℕ, ◌<◌, List, [], length, get_or, set, length-set, get_or-set_same, get_or-set_other, sym, ◌∙◌, subst, arith}
 use Rattle.std.proofs.lemmas.List.{ext_get_or}
 use Rattle.std.proofs.lemmas.Bool.{cases_eq}
 use Rattle.std.proofs.lemmas.Nat.Bits.{same_from_bits}
@@ -14,23 +14,8 @@ same_page before torn is = ext_get_or 0 torn before is.size (λ byte lt. same_by
 pub same_sector : (before torn : List (List ℕ)) → IsTornSector before before torn → torn ≡ before
 same_sector before torn is = ext_get_or [] torn before is.size (λ page lt. same_page _ _ (is.pages page (omega (arith, is.size))))
 
-pub untorn_page : (before after : List ℕ) → IsTornPage before after before
-untorn_page before after = record { size = refl; bytes = λ byte lt bit. inl refl }
-
-pub untorn_sector : (before after : List (List ℕ)) → IsTornSector before after before
-untorn_sector before after = record { size = refl; pages = λ page lt. untorn_page _ _ }
-
 -- One page of a sector.
 module _ (pages : List (List ℕ)) (page : ℕ) (within : page < length pages) (bytes : List ℕ) where
-  pub torn_sector : (torn : List ℕ) → IsTornPage (get_or pages page []) bytes torn → IsTornSector pages (set pages page bytes) (set pages page torn)
-  torn_sector torn is = record {
-    size = length-set pages page torn;
-    pages = λ k lt. elim (cases_eq k page) [
-      | inl same ↦ rw same (rw (get_or-set_same pages page bytes [] within, get_or-set_same pages page torn [] within) is)
-      | inr other ↦ rw (get_or-set_other pages page k bytes [] other, get_or-set_other pages page k torn [] other) (untorn_page _ _)
-    ];
-  }
-
   -- The torn page of a torn sector.
   pub torn_page_of : (new : List (List ℕ)) → IsTornSector pages (set pages page bytes) new → (torn : List ℕ) × IsTornPage (get_or pages page []) bytes torn × (new ≡ set pages page torn)
   torn_page_of new is =
@@ -48,15 +33,6 @@ module _ (pages : List (List ℕ)) (page : ℕ) (within : page < length pages) (
 
 -- One sector of an image.
 module _ (image : List (List (List ℕ))) (sector : ℕ) (within : sector < length image) (after : List (List ℕ)) where
-  pub torn_image : (torn : List (List ℕ)) → IsTornSector (get_or image sector []) after torn → IsTorn image (set image sector after) (set image sector torn)
-  torn_image torn is = record {
-    size = length-set image sector torn;
-    sectors = λ k lt. elim (cases_eq k sector) [
-      | inl same ↦ rw same (rw (get_or-set_same image sector after [] within, get_or-set_same image sector torn [] within) is)
-      | inr other ↦ rw (get_or-set_other image sector k after [] other, get_or-set_other image sector k torn [] other) (untorn_sector _ _)
-    ];
-  }
-
   pub torn_sector_of : (new : List (List (List ℕ))) → IsTorn image (set image sector after) new → (torn : List (List ℕ)) × IsTornSector (get_or image sector []) after torn × (new ≡ set image sector torn)
   torn_sector_of new is =
       let here = is.sectors sector within in (
