@@ -174,43 +174,34 @@ module _ (used : ℕ) (numbers : List ℕ) (image : List (List (List ℕ))) wher
     has_none : ((look : Look) → Wrong look → ⊥) → fault ≡ None → FirstIs fault
 
   module _ (least : 2 ≤ used) where
+    -- Where the gates are sound, nothing is wrong but pages of a log.
+    only_log : HasSoundGates used numbers image → (Looked : Look → Type 0) → ((sector page : ℕ) → Looked (log_page sector page) → Wrong (log_page sector page) → ⊥) → (look : Look) → Looked look → Wrong look → ⊥
+    only_log sound Looked pages (start_gate sector) looked wrong = sound (start_gate sector) (omega (arith, wrong.0)) wrong
+    only_log sound Looked pages (active_gate sector) looked wrong = sound (active_gate sector) (omega (arith, wrong.0)) wrong
+    only_log sound Looked pages both_numbers looked wrong = sound both_numbers (omega arith) wrong
+    only_log sound Looked pages (log_page sector page) looked wrong = pages sector page looked wrong
+
     -- The log of the current sector.
+    told_there : (at : Current) → IsCurrent used image at.sector at.sequence → (sector page : ℕ) → Wrong (log_page sector page) → (log used numbers (sector_at image at.sector)).fault ≡ Some page
+    told_there at is sector page wrong =
+        let here = one_current sector at.sector wrong.0.0 at.sequence wrong.0.1 is in
+        told_where_wrong used numbers (sector_at image at.sector) least page (subst (λ (s : ℕ). IsWrongAt used numbers (sector_at image s) page) here wrong.1)
+
     by_log : HasSoundGates used numbers image → (at : Current) → IsCurrent used image at.sector at.sequence → (fault : Option ℕ) → (log used numbers (sector_at image at.sector)).fault ≡ fault → FirstIs (place_in at.sector fault)
-    by_log sound at is None told = has_none no_fault refl
-      where
-        no_fault : (look : Look) → Wrong look → ⊥
-        no_fault (start_gate sector) wrong = sound (start_gate sector) (omega (arith, wrong.0)) wrong
-        no_fault (active_gate sector) wrong = sound (active_gate sector) (omega (arith, wrong.0)) wrong
-        no_fault both_numbers wrong = sound both_numbers (omega arith) wrong
-        no_fault (log_page sector page) wrong =
-            let here = one_current sector at.sector wrong.0.0 at.sequence wrong.0.1 is in
-            let there = told_where_wrong used numbers (sector_at image at.sector) least page (subst (λ (s : ℕ). IsWrongAt used numbers (sector_at image s) page) here wrong.1) in
-            cc
+    by_log sound at is None told = has_none (λ look. only_log sound (λ l. Unit {0}) (λ sector page _ wrong. (let there = told_there at is sector page wrong in cc)) look tt) refl
     by_log sound at is (Some page) told =
         has_fault (log_page at.sector page)
-        (record { is = ((at.sequence, is), wrong_where_told used numbers (sector_at image at.sector) least page told); first = earlier }) refl
+        (record { is = ((at.sequence, is), wrong_where_told used numbers (sector_at image at.sector) least page told); first = only_log sound (λ look. step_of look < 5 + page) earlier }) refl
       where
-        earlier : (look : Look) → step_of look < 5 + page → Wrong look → ⊥
-        earlier (start_gate sector) below wrong = sound (start_gate sector) (omega (arith, wrong.0)) wrong
-        earlier (active_gate sector) below wrong = sound (active_gate sector) (omega (arith, wrong.0)) wrong
-        earlier both_numbers below wrong = sound both_numbers (omega arith) wrong
-        earlier (log_page sector other) below wrong =
-            let here = one_current sector at.sector wrong.0.0 at.sequence wrong.0.1 is in
-            let there = told_where_wrong used numbers (sector_at image at.sector) least other (subst (λ (s : ℕ). IsWrongAt used numbers (sector_at image s) other) here wrong.1) in
-            let same : other ≡ page = cc in
-            omega (arith, below, same)
+        earlier : (sector other : ℕ) → 5 + other < 5 + page → Wrong (log_page sector other) → ⊥
+        earlier sector other below wrong = (let there = told_there at is sector other wrong in let same : other ≡ page = cc in omega (arith, below, same))
 
     by_current : (found : Result (Option Current) (ℕ × ℕ)) → CurrentIs found → FirstIs (fault_by used numbers image found)
     by_current found (gates_wrong look low is told) = has_fault look is (ap (fault_by used numbers image) told)
     by_current found (is_current sound at is told) =
         subst (λ (r : Result (Option Current) (ℕ × ℕ)). FirstIs (fault_by used numbers image r)) (sym told) (by_log sound at is (log used numbers (sector_at image at.sector)).fault refl)
-    by_current found (is_none sound none told) = has_none no_fault (ap (fault_by used numbers image) told)
-      where
-        no_fault : (look : Look) → Wrong look → ⊥
-        no_fault (start_gate sector) wrong = sound (start_gate sector) (omega (arith, wrong.0)) wrong
-        no_fault (active_gate sector) wrong = sound (active_gate sector) (omega (arith, wrong.0)) wrong
-        no_fault both_numbers wrong = sound both_numbers (omega arith) wrong
-        no_fault (log_page sector page) wrong = none sector wrong.0.0 wrong.0.1.within wrong.0.1.valid
+    by_current found (is_none sound none told) =
+        has_none (λ look. only_log sound (λ l. Unit {0}) (λ sector page _ wrong. none sector wrong.0.0 wrong.0.1.within wrong.0.1.valid) look tt) (ap (fault_by used numbers image) told)
 
     pub first_is : FirstIs (first_fault used numbers image)
     first_is = by_current (current used image) current_is

@@ -82,7 +82,7 @@ module _ (used : ℕ) (numbers : List ℕ) (pages : List (List ℕ)) where
         let next : page + 2 + byte_pages size ≡ page + record_pages size = omega arith in
         let rest : List Entry = (log_on used numbers pages (page + record_pages size)).entries in
         let here : (log_on used numbers pages page).entries ≡ entry ∷ rest =
-        ap (λ (l : LogFrom). l.entries) (log_step used numbers pages page was.below ∙ ap (log_after used pages page (log_on used numbers pages)) (at_record used numbers pages page block size valid true is.is.stands)
+        ap (λ (l : LogFrom). l.entries) (log_step used numbers pages page (Ok (Kept block size valid true)) was.below (at_record used numbers pages page block size valid true is.is.stands)
         ∙ ap (λ (n : ℕ). with_entry entry (log_on used numbers pages n)) next) in
         ap (last_complete block) (was.entries ∙ ap (λ (es : List Entry). was.before ++ es) here)
         ∙ last_behind block was.before (entry ∷ rest) entry (ap (λ (later : Option Entry). or_earlier later entry block) (none_later (last_complete block rest) refl) ∙ ap (λ (b : Bool). if b then Some entry else None) (eq-eqb block block refl))

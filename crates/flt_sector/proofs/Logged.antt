@@ -44,12 +44,13 @@ module _ (used : ℕ) (numbers : List ℕ) (pages : List (List ℕ)) where
       ∙ after_same page (λ next. log_from used numbers pages next (left + more)) (λ next. log_from used numbers pages next left) below (λ next past within. enough left more next within (omega (arith, past, fuel)))
 
   -- The log continues after each item.
-  pub log_step : (page : ℕ) → page ≤ used → log_on page ≡ log_after used pages page log_on (item_at used numbers pages page)
+  pub log_step : (page : ℕ) (item : Result Item ℕ) → page ≤ used → item_at used numbers pages page ≡ item → log_on page ≡ log_after used pages page log_on item
   unfolding log_from
-  log_step page below =
+  log_step page item below told =
       let count : used + 1 ≡ suc used = omega arith in
       ap (log_from used numbers pages page) count
       ∙ after_same page (λ next. log_from used numbers pages next used) log_on below (λ next past within. sym (enough used 1 next within (omega (arith, past))))
+      ∙ ap (log_after used pages page log_on) told
 
   pub whole : (left : ℕ) → 2 ≤ used → used < 2 + left → log_from used numbers pages 2 left ≡ log used numbers pages
   whole left least fuel =
@@ -140,7 +141,7 @@ module _ (used : ℕ) (numbers : List ℕ) (pages : List (List ℕ)) where
   goes_on _ least begins = record { least = omega arith; below = least; before = []; entries = refl; end = refl; fault = refl }
   goes_on _ least (behind_torn {page} reached is) =
       let was = goes_on page least reached in
-      let step : log_on page ≡ log_on (page + 1) = log_step page was.below ∙ ap (log_after used pages page log_on) (at_torn used numbers pages page is) in
+      let step : log_on page ≡ log_on (page + 1) = log_step page (Ok Torn) was.below (at_torn used numbers pages page is) in
       record {
         least = omega (arith, was.least);
         below = omega (arith, is.within);
@@ -154,7 +155,7 @@ module _ (used : ℕ) (numbers : List ℕ) (pages : List (List ℕ)) where
       let entry : Entry = record { page = page; block = block; length = size; valid = valid; complete = complete } in
       let next : page + 2 + byte_pages size ≡ page + record_pages size = omega arith in
       let step : log_on page ≡ with_entry entry (log_on (page + record_pages size)) =
-      log_step page was.below ∙ ap (log_after used pages page log_on) (at_record used numbers pages page block size valid complete is) ∙ ap (λ (n : ℕ). with_entry entry (log_on n)) next in
+      log_step page (Ok (Kept block size valid complete)) was.below (at_record used numbers pages page block size valid complete is) ∙ ap (λ (n : ℕ). with_entry entry (log_on n)) next in
       record {
         least = omega (arith, was.least);
         below = is.head.within;

@@ -46,7 +46,7 @@ module _ (used : ℕ) (numbers : List ℕ) (pages : List (List ℕ)) where
   -- What is wrong is reported.
   told_by : (page : ℕ) (item : Result Item ℕ) → page ≤ used → (log used numbers pages).fault ≡ (log_on used numbers pages page).fault → item_at used numbers pages page ≡ item
       → (log used numbers pages).fault ≡ (log_after used pages page (log_on used numbers pages) item).fault
-  told_by page item below is told = is ∙ ap (λ (l : LogFrom). l.fault) (log_step used numbers pages page below) ∙ ap (λ (i : Result Item ℕ). (log_after used pages page (log_on used numbers pages) i).fault) told
+  told_by page item below is told = is ∙ ap (λ (l : LogFrom). l.fault) (log_step used numbers pages page item below told)
 
   pub told_where_wrong : 2 ≤ used → (wrong : ℕ) → IsWrongAt used numbers pages wrong → (log used numbers pages).fault ≡ Some wrong
   told_where_wrong least wrong (begins_nothing reached is) =
