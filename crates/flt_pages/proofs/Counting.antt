@@ -1,10 +1,9 @@
 -- The pages of the records of a log, and of the current ones among them.
-use Rattle.std.proofs.Common.{◌≡◌, ◌≢◌, ◌+◌, ◌<◌, ◌≤◌, ℕ, zero, suc, Bool, true, false, List, [], ◌∷◌, get_or, take, length, length-take, Option, Some, None, Result, Ok, Err, refl, sym, ◌∙◌, ap, arith}
+use Rattle.std.proofs.Common.{◌≡◌, ◌≢◌, ◌+◌, ◌<◌, ◌≤◌, ℕ, zero, suc, Bool, true, false, List, [], ◌∷◌, get_or, length, length-take, Option, Some, None, Result, Ok, Err, refl, sym, ◌∙◌, ap, arith}
 use Rattle.std.specs.Prelude.{if◌then◌else◌, ◌==◌, ◌&&◌, sum_by, slice_range}
 use Rattle.std.specs.List.{list_any, AllPairs, flat_map}
 use Rattle.std.proofs.lemmas.Bool.{eqb-true}
-use Rattle.std.proofs.lemmas.List.Sums.{sum_by-cons, sum_by_push, sum_by-take-le}
-use Rattle.std.proofs.lemmas.List.{take_more}
+use Rattle.std.proofs.lemmas.List.Sums.{sum_by-cons}
 use Rattle.flt_flash.specs.Content.{invalid, bytes}
 use Rattle.flt_flash.specs.Blocks.{byte_pages, record_pages, pages_of}
 use Rattle.flt_sector.specs.Log.{Entry, LogFrom, item_at, log_after, log_from, log}
@@ -166,10 +165,3 @@ module _ (used : ℕ) (numbers : List ℕ) (pages : List (List ℕ)) (least : 2 
       let less = sum_less (λ number. pages_of (held_in used numbers pages number)) (λ number. cost (last_complete number (log used numbers pages).entries))
       (λ number. content_cost pages (last_complete number (log used numbers pages).entries)) numbers in
       omega (arith, records, less)
-
--- One number more.
-pub sum_on : (f : ℕ → ℕ) (numbers : List ℕ) (index : ℕ) → index < length numbers → sum_by f (take (index + 1) numbers) ≡ sum_by f (take index numbers) + f (get_or numbers index 0)
-sum_on f numbers index within = ap (sum_by f) (take_more numbers index 0 within) ∙ sum_by_push f (take index numbers) (get_or numbers index 0)
-
-pub sum_front : (f : ℕ → ℕ) (numbers : List ℕ) (index : ℕ) → sum_by f (take index numbers) ≤ sum_by f numbers
-sum_front f numbers index = sum_by-take-le f numbers index
