@@ -1,18 +1,18 @@
 -- The last complete record of a block, while a log without a fault is looked at.
-use Rattle.std.proofs.Common.{◌≡◌, ◌+◌, ◌<◌, ◌≤◌, ℕ, zero, suc, Bool, true, false, List, length, Option, Some, None, Result, Ok, refl, sym, ◌∙◌, ap, arith}
+use Rattle.std.proofs.Common.{◌≡◌, ◌+◌, ◌≤◌, ℕ, Bool, true, false, List, length, Option, Some, None, Ok, refl, sym, ◌∙◌, ap, arith}
 use Rattle.std.specs.Prelude.{if◌then◌else◌, ◌==◌, ◌&&◌, nat_le, IfSome}
 use Rattle.std.proofs.lemmas.Bool.{eqb-true, leb-true}
 use Rattle.flt_flash.specs.Image.{ArePages}
 use Rattle.flt_flash.specs.Blocks.{byte_pages, record_pages, pages_of}
 use Rattle.flt_code.specs.Word.{is_length}
-use Rattle.flt_sector.specs.Log.{Entry, LogFrom, item_at, log_after, log_from, log}
+use Rattle.flt_sector.specs.Log.{Entry, LogFrom, item_at, log}
 use Rattle.flt_sector.specs.Blocks.{content_of, or_earlier, last_complete}
-use Rattle.flt_sector.specs.declared.log.Item.{Item}
 use Rattle.flt_sector.specs.declared.log.Item.TheVariants.{End, Torn, Kept}
 use Rattle.flt_pages.specs.Told.{told}
 use Rattle.flt_pages.specs.declared.place.RecordPlace.{RecordPlace}
 use Rattle.flt_pages.specs.Live.{held_in}
 use Rattle.flt_pages.specs.RecordPlace.{record_at, record_found, IsPlaceWithin, IsInLog, IsAt, content_at, pages_found}
+use Rattle.flt_sector.proofs.Logged.{log_on, log_step}
 use Rattle.flt_pages.proofs.ItemPages.{item_within}
 use Rattle.flt_pages.proofs.Proper.{proper_item}
 use Rattle.flt_pages.proofs.PageBytes.{content_pages}
@@ -26,13 +26,16 @@ nothing_found : (later : Option Entry) → or_found later None ≡ later
 nothing_found (Some later) = refl
 nothing_found None = refl
 
+-- A log that goes on.
+pub inside_on : (end last : ℕ) → end ≤ last → (found : Option RecordPlace) → IfSome found (λ place. IsInLog end place) → IfSome found (λ place. IsInLog last place)
+inside_on end last on None inside = tt
+inside_on end last on (Some place) inside = record { begun = inside.begun; within = record { below = omega (arith, inside.within.below); kind = inside.within.kind } }
+
 -- The last record of the block in the log from a page on, or else the one found so far, is that of the whole log.
 pub record Seeks (used : ℕ) (numbers : List ℕ) (pages : List (List ℕ)) (block page : ℕ) (found : Option RecordPlace) : Type 0 where
-  pub left : ℕ
-  pub enough : used < page + left
   pub least : 2 ≤ page
   pub below : page ≤ used
-  pub last : last_complete block (log used numbers pages).entries ≡ or_found (last_complete block (log_from used numbers pages page left).entries) (record_found block found)
+  pub last : last_complete block (log used numbers pages).entries ≡ or_found (last_complete block (log_on used numbers pages page).entries) (record_found block found)
   pub inside : IfSome found (λ place. IsInLog page place)
 
 pub length_most : (valid : Bool) (size : ℕ) → is_length valid size ≡ true → size ≤ 128
@@ -47,8 +50,6 @@ length_most false size kind = omega (arith, eqb-true size 0 kind)
 module _ (used : ℕ) (numbers : List ℕ) (pages : List (List ℕ)) (block : ℕ) where
   pub seek : 2 ≤ used → Seeks used numbers pages block 2 None
   seek least = record {
-    left = used + 1;
-    enough = omega arith;
     least = omega arith;
     below = least;
     last = sym (nothing_found (last_complete block (log used numbers pages).entries));
@@ -56,18 +57,8 @@ module _ (used : ℕ) (numbers : List ℕ) (pages : List (List ℕ)) (block : �
   }
 
   module _ (page : ℕ) (found : Option RecordPlace) (is : Seeks used numbers pages block page found) where
-    -- One item of the log.
-    step : (left : ℕ) (at : Result Item ℕ) → item_at used numbers pages page ≡ at → log_from used numbers pages page (suc left) ≡ log_after used pages page (λ next. log_from used numbers pages next left) at
-    unfolding log_from
-    step left at here = ap (log_after used pages page (λ next. log_from used numbers pages next left)) here
-
     pub found_last : item_at used numbers pages page ≡ Ok End → last_complete block (log used numbers pages).entries ≡ record_found block found
-    found_last here = by_left is.left is.enough is.last
-      where
-        by_left : (left : ℕ) → used < page + left → last_complete block (log used numbers pages).entries ≡ or_found (last_complete block (log_from used numbers pages page left).entries) (record_found block found)
-            → last_complete block (log used numbers pages).entries ≡ record_found block found
-        by_left zero enough last = absurd (omega (arith, is.below))
-        by_left (suc left) enough last = last ∙ ap (λ (l : LogFrom). or_found (last_complete block l.entries) (record_found block found)) (step left (Ok End) here)
+    found_last here = is.last ∙ ap (λ (l : LogFrom). or_found (last_complete block l.entries) (record_found block found)) (log_step used numbers pages page (Ok End) is.below here)
 
     -- What the block holds, at the end of the log.
     pub found_at : item_at used numbers pages page ≡ Ok End → IsAt pages page (held_in used numbers pages block) found
@@ -77,31 +68,16 @@ module _ (used : ℕ) (numbers : List ℕ) (pages : List (List ℕ)) (block : �
         content_found None = refl
         content_found (Some place) = refl
 
-    farther : (next : ℕ) → page ≤ next → (found : Option RecordPlace) → IfSome found (λ place. IsInLog page place) → IfSome found (λ place. IsInLog next place)
-    farther next on None inside = tt
-    farther next on (Some place) inside = record { begun = inside.begun; within = record { below = omega (arith, inside.within.below); kind = inside.within.kind } }
-
     pub seek_on : item_at used numbers pages page ≡ Ok Torn → Seeks used numbers pages block (page + 1) found
-    seek_on here = by_left is.left is.enough is.last
-      where
-        by_left : (left : ℕ) → used < page + left
-            → last_complete block (log used numbers pages).entries ≡ or_found (last_complete block (log_from used numbers pages page left).entries) (record_found block found)
-            → Seeks used numbers pages block (page + 1) found
-        by_left zero enough last = absurd (omega (arith, is.below))
-        by_left (suc left) enough last = record {
-          left = left;
-          enough = omega arith;
-          least = omega (arith, is.least);
-          below = omega (arith, item_within used numbers pages page Torn (λ e. cc e) is.below here);
-          last = last ∙ ap (λ (l : LogFrom). or_found (last_complete block l.entries) (record_found block found)) (step left (Ok Torn) here);
-          inside = farther (page + 1) (omega arith) found is.inside;
-        }
+    seek_on here = record {
+      least = omega (arith, is.least);
+      below = item_within used numbers pages page Torn (λ e. cc e) is.below here;
+      last = is.last ∙ ap (λ (l : LogFrom). or_found (last_complete block l.entries) (record_found block found)) (log_step used numbers pages page (Ok Torn) is.below here);
+      inside = inside_on page (page + 1) (omega arith) found is.inside;
+    }
 
     -- A record that is here.
     module _ (of size : ℕ) (valid complete : Bool) (here : item_at used numbers pages page ≡ Ok (Kept of size valid complete)) where
-      pub record_most : size ≤ 128
-      record_most = length_most valid size (proper_item used numbers pages page of size valid complete here).kind
-
       pub record_room : page + record_pages size ≤ used
       record_room = item_within used numbers pages page (Kept of size valid complete) (λ e. cc e) is.below here
 
@@ -125,25 +101,17 @@ module _ (used : ℕ) (numbers : List ℕ) (pages : List (List ℕ)) (block : �
         where
           by_test : (test : Bool) → IfSome (if test then Some (record { page = page; length = size; valid = valid }) else found) (λ place. IsInLog (page + 2 + byte_pages size) place)
           by_test true = record { begun = is.least; within = record { below = omega arith; kind = (proper_item used numbers pages page of size valid complete here).kind } }
-          by_test false = farther (page + 2 + byte_pages size) (omega arith) found is.inside
+          by_test false = inside_on page (page + 2 + byte_pages size) (omega arith) found is.inside
 
       pub seek_behind : Seeks used numbers pages block (page + 2 + byte_pages size) (if complete && (of == block) then Some (record { page = page; length = size; valid = valid }) else found)
-      seek_behind = by_left is.left is.enough is.last
-        where
-          by_left : (left : ℕ) → used < page + left
-              → last_complete block (log used numbers pages).entries ≡ or_found (last_complete block (log_from used numbers pages page left).entries) (record_found block found)
-              → Seeks used numbers pages block (page + 2 + byte_pages size) (if complete && (of == block) then Some (record { page = page; length = size; valid = valid }) else found)
-          by_left zero enough last = absurd (omega (arith, is.below))
-          by_left (suc left) enough last = record {
-            left = left;
-            enough = omega arith;
-            least = omega (arith, is.least);
-            below = omega (arith, record_room);
-            last = last
-                ∙ ap (λ (l : LogFrom). or_found (last_complete block l.entries) (record_found block found)) (step left (Ok (Kept of size valid complete)) here)
-                ∙ joined (last_complete block (log_from used numbers pages (page + 2 + byte_pages size) left).entries);
-            inside = now_inside;
-          }
+      seek_behind = record {
+        least = omega (arith, is.least);
+        below = omega (arith, record_room);
+        last = is.last
+            ∙ ap (λ (l : LogFrom). or_found (last_complete block l.entries) (record_found block found)) (log_step used numbers pages page (Ok (Kept of size valid complete)) is.below here)
+            ∙ joined (last_complete block (log_on used numbers pages (page + 2 + byte_pages size)).entries);
+        inside = now_inside;
+      }
 
 -- The pages of the record that was found are those of what its block holds.
 pub found_pages : (used : ℕ) (pages : List (List ℕ)) (sizes : ArePages pages) → used ≤ length pages → (block : ℕ) (found : Option RecordPlace) → IfSome found (λ place. IsPlaceWithin used place)

@@ -1,9 +1,10 @@
 -- The log from a page on, while it is looked at.
-use Rattle.std.proofs.Common.{◌≡◌, ⊎_elim, inl, inr, ◌+◌, ◌-◌, ◌<◌, ◌≤◌, ℕ, zero, suc, Bool, List, Option, Some, None, Result, Ok, Err, refl, sym, ◌∙◌, ap, subst, arith}
+use Rattle.std.proofs.Common.{◌≡◌, ⊎_elim, inl, inr, ◌+◌, ◌-◌, ◌≤◌, ℕ, Bool, List, Option, Some, None, Result, Ok, Err, refl, sym, ◌∙◌, ap, subst, arith}
 use Rattle.flt_flash.specs.Blocks.{byte_pages}
-use Rattle.flt_sector.specs.Log.{LogFrom, item_at, first_written, log_after, log_from, log}
+use Rattle.flt_sector.specs.Log.{LogFrom, item_at, first_written, log}
 use Rattle.flt_sector.specs.declared.log.Item.{Item}
 use Rattle.flt_sector.specs.declared.log.Item.TheVariants.{End, Torn, Kept}
+use Rattle.flt_sector.proofs.Logged.{log_on, log_step}
 use Rattle.flt_pages.proofs.ItemPages.{item_within}
 use Rattle.flt_pages.specs.declared.fault.PageFault.{PageFault}
 use Rattle.flt_pages.specs.declared.fault.PageFault.TheVariants.{Flash, Damaged}
@@ -12,11 +13,9 @@ use Rattle.flt_pages.specs.Told.{told, told_fault, TellsOrFails, told_end}
 
 -- The log ends, and has its fault, as it does from this page on.
 pub record GoesOn (used : ℕ) (numbers : List ℕ) (pages : List (List ℕ)) (page : ℕ) : Type 0 where
-  pub left : ℕ
-  pub enough : used < page + left
   pub below : page ≤ used
-  pub end : (log used numbers pages).end ≡ (log_from used numbers pages page left).end
-  pub fault : (log used numbers pages).fault ≡ (log_from used numbers pages page left).fault
+  pub end : (log used numbers pages).end ≡ (log_on used numbers pages page).end
+  pub fault : (log used numbers pages).fault ≡ (log_on used numbers pages page).fault
 
 -- The item that was answered.
 pub item_told : (sector : ℕ) (found : Item) (at : Result Item ℕ) → TellsOrFails (Ok found) (told sector at) → at ≡ Ok found
@@ -25,54 +24,34 @@ item_told sector found (Err page) tells = ⊎_elim (λ no. absurd (cc no)) (λ n
 
 module _ (used : ℕ) (numbers : List ℕ) (pages : List (List ℕ)) where
   pub from_start : 2 ≤ used → GoesOn used numbers pages 2
-  from_start least = record { left = used + 1; enough = omega arith; below = least; end = refl; fault = refl }
+  from_start least = record { below = least; end = refl; fault = refl }
 
   module _ (page : ℕ) (is : GoesOn used numbers pages page) where
-    -- One item of the log.
-    step : (left : ℕ) (at : Result Item ℕ) → item_at used numbers pages page ≡ at → log_from used numbers pages page (suc left) ≡ log_after used pages page (λ next. log_from used numbers pages next left) at
-    unfolding log_from
-    step left at found = ap (log_after used pages page (λ next. log_from used numbers pages next left)) found
-
     pub torn_on : item_at used numbers pages page ≡ Ok Torn → GoesOn used numbers pages (page + 1)
-    torn_on found = by_left is.left is.enough is.end is.fault
-      where
-        by_left : (left : ℕ) → used < page + left → (log used numbers pages).end ≡ (log_from used numbers pages page left).end → (log used numbers pages).fault ≡ (log_from used numbers pages page left).fault → GoesOn used numbers pages (page + 1)
-        by_left zero enough end fault = absurd (omega (arith, is.below))
-        by_left (suc left) enough end fault = record {
-          left = left;
-          enough = omega arith;
-          below = omega (arith, item_within used numbers pages page Torn (λ e. cc e) is.below found);
-          end = end ∙ ap (λ (l : LogFrom). l.end) (step left (Ok Torn) found);
-          fault = fault ∙ ap (λ (l : LogFrom). l.fault) (step left (Ok Torn) found);
+    torn_on found =
+        let step = log_step used numbers pages page (Ok Torn) is.below found in
+        record {
+          below = item_within used numbers pages page Torn (λ e. cc e) is.below found;
+          end = is.end ∙ ap (λ (l : LogFrom). l.end) step;
+          fault = is.fault ∙ ap (λ (l : LogFrom). l.fault) step;
         }
 
     pub kept_on : (block length : ℕ) (valid complete : Bool) → item_at used numbers pages page ≡ Ok (Kept block length valid complete) → GoesOn used numbers pages (page + 2 + byte_pages length)
-    kept_on block length valid complete found = by_left is.left is.enough is.end is.fault
-      where
-        by_left : (left : ℕ) → used < page + left → (log used numbers pages).end ≡ (log_from used numbers pages page left).end → (log used numbers pages).fault ≡ (log_from used numbers pages page left).fault → GoesOn used numbers pages (page + 2 + byte_pages length)
-        by_left zero enough end fault = absurd (omega (arith, is.below))
-        by_left (suc left) enough end fault = record {
-          left = left;
-          enough = omega arith;
+    kept_on block length valid complete found =
+        let step = log_step used numbers pages page (Ok (Kept block length valid complete)) is.below found in
+        record {
           below = omega (arith, item_within used numbers pages page (Kept block length valid complete) (λ e. cc e) is.below found);
-          end = end ∙ ap (λ (l : LogFrom). l.end) (step left (Ok (Kept block length valid complete)) found);
-          fault = fault ∙ ap (λ (l : LogFrom). l.fault) (step left (Ok (Kept block length valid complete)) found);
+          end = is.end ∙ ap (λ (l : LogFrom). l.end) step;
+          fault = is.fault ∙ ap (λ (l : LogFrom). l.fault) step;
         }
 
     pub at_end : item_at used numbers pages page ≡ Ok End → ((log used numbers pages).end ≡ page) × ((log used numbers pages).fault ≡ first_written pages page (used - page))
-    at_end found = by_left is.left is.enough is.end is.fault
-      where
-        by_left : (left : ℕ) → used < page + left → (log used numbers pages).end ≡ (log_from used numbers pages page left).end → (log used numbers pages).fault ≡ (log_from used numbers pages page left).fault
-            → ((log used numbers pages).end ≡ page) × ((log used numbers pages).fault ≡ first_written pages page (used - page))
-        by_left zero enough end fault = absurd (omega (arith, is.below))
-        by_left (suc left) enough end fault = (end ∙ ap (λ (l : LogFrom). l.end) (step left (Ok End) found), fault ∙ ap (λ (l : LogFrom). l.fault) (step left (Ok End) found))
+    at_end found =
+        let step = log_step used numbers pages page (Ok End) is.below found in
+        (is.end ∙ ap (λ (l : LogFrom). l.end) step, is.fault ∙ ap (λ (l : LogFrom). l.fault) step)
 
     pub at_fault : (at : ℕ) → item_at used numbers pages page ≡ Err at → (log used numbers pages).fault ≡ Some at
-    at_fault at found = by_left is.left is.enough is.fault
-      where
-        by_left : (left : ℕ) → used < page + left → (log used numbers pages).fault ≡ (log_from used numbers pages page left).fault → (log used numbers pages).fault ≡ Some at
-        by_left zero enough fault = absurd (omega (arith, is.below))
-        by_left (suc left) enough fault = fault ∙ ap (λ (l : LogFrom). l.fault) (step left (Err at) found)
+    at_fault at found = is.fault ∙ ap (λ (l : LogFrom). l.fault) (log_step used numbers pages page (Err at) is.below found)
 
 -- An error that was handed on.
 pub handed_on : {T : Type 0} (P : Result T PageFault → Type 0) (result : Result T PageFault) (fault : PageFault) → IsErrAnd result (λ e. e ≡ fault) → P (Err fault) → P result

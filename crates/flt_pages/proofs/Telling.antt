@@ -1,31 +1,21 @@
 -- What a table of places gives, while the log grows and after it moved.
 use Rattle.std.proofs.Common.{◌≡◌, ◌+◌, ◌<◌, ◌≤◌, ℕ, suc, Bool, true, false, List, [], ◌∷◌, get_or, length, Option, Some, None, refl, sym, ◌∙◌, ap, subst, arith}
 use Rattle.std.specs.Prelude.{◌==◌, ◌&&◌, if◌then◌else◌, IfSome, sum_by}
-use Rattle.std.specs.List.{All}
-use Rattle.std.specs.Option.{ForSome}
 use Rattle.std.proofs.lemmas.List.Sums.{sum_by-cons}
-use Rattle.std.proofs.lemmas.List.Elements.{All-from_get_or}
 use Rattle.flt_flash.specs.Image.{ArePages}
 use Rattle.flt_flash.specs.Content.{Content, missing}
 use Rattle.flt_flash.specs.Blocks.{byte_pages, pages_of}
 use Rattle.flt_code.specs.Word.{is_length}
 use Rattle.flt_pages.specs.declared.place.RecordPlace.{RecordPlace}
 use Rattle.flt_pages.specs.LogHolds.{asked_of, given}
-use Rattle.flt_pages.specs.RecordPlace.{record_at, IsPlaceWithin, IsInLog, IsAt, IsPlaceOf, TellsPlaces, content_at, pages_found}
+use Rattle.flt_pages.specs.RecordPlace.{record_at, IsInLog, IsAt, IsPlaceOf, TellsPlaces, content_at, pages_found}
 use Rattle.flt_pages.specs.Record.{IsWhole}
-use Rattle.flt_pages.proofs.Finding.{found_pages, length_most}
+use Rattle.flt_pages.proofs.Finding.{found_pages, inside_on}
 use Rattle.flt_pages.proofs.Values.{same_bytes}
 
 -- A log that goes on.
-inside_on : (end last : ℕ) → end ≤ last → (found : Option RecordPlace) → IfSome found (λ place. IsInLog end place) → IfSome found (λ place. IsInLog last place)
-inside_on end last on None inside = tt
-inside_on end last on (Some place) inside = record { begun = inside.begun; within = record { below = omega (arith, inside.within.below); kind = inside.within.kind } }
-
 pub farther_at : (pages : List (List ℕ)) (end last : ℕ) → end ≤ last → (content : Content) (found : Option RecordPlace) → IsAt pages end content found → IsAt pages last content found
 farther_at pages end last on content found is = record { holds = is.holds; inside = inside_on end last on found is.inside }
-
-pub within_at : (pages : List (List ℕ)) (end : ℕ) (content : Content) (place : RecordPlace) → IsAt pages end content (Some place) → IsPlaceWithin end place
-within_at pages end content place is = is.inside.within
 
 -- Pages that agree below the end of the log.
 module _ (pages after : List (List ℕ)) (end : ℕ) (size : length after ≡ length pages) (agree : (k : ℕ) → 2 ≤ k → k < end → get_or after k [] ≡ get_or pages k []) where
@@ -75,10 +65,6 @@ told_place numbers places pages end value block found tells is =
 
 -- The pages of the places are those of what the blocks hold.
 module _ (pages : List (List ℕ)) (sizes : ArePages pages) (end : ℕ) (most : end ≤ length pages) (value : ℕ → Content) where
-  within_of : (found : Option RecordPlace) → IfSome found (λ place. IsInLog end place) → IfSome found (λ place. IsPlaceWithin end place)
-  within_of None inside = tt
-  within_of (Some place) inside = inside.within
-
   found_is : (content : Content) (found : Option RecordPlace) → IsAt pages end content found → pages_found found ≡ pages_of content
   found_is content None is = sym (ap pages_of is.holds)
   found_is content (Some place) is = sym (ap pages_of is.holds ∙ found_pages end pages sizes most 0 (Some place) is.inside.within)
@@ -91,10 +77,3 @@ module _ (pages : List (List ℕ)) (sizes : ArePages pages) (end : ℕ) (most : 
       let here : pages_found place ≡ pages_of (value number) = found_is (value number) place (tells 0 (omega arith)) in
       let rest : sum_by pages_found places ≡ sum_by (λ n. pages_of (value n)) numbers = live_told numbers places (omega (arith, size)) (λ k within. tells (suc k) (omega arith)) in
       omega (arith, sum_by-cons pages_found place places, sum_by-cons (λ n. pages_of (value n)) number numbers, here, rest)
-
-  -- No record is longer than a record may be.
-  pub lengths_told : (numbers : List ℕ) (places : List (Option RecordPlace)) → length places ≡ length numbers → TellsPlaces numbers places pages end value → All (λ (found : Option RecordPlace). ForSome found (λ place. place.length ≤ 128)) places
-  lengths_told numbers places size tells = All-from_get_or (λ (found : Option RecordPlace). ForSome found (λ place. place.length ≤ 128)) places None
-      (λ k within place same.
-      let is : IsAt pages end (value (get_or numbers k 0)) (Some place) = subst (λ (found : Option RecordPlace). IsAt pages end (value (get_or numbers k 0)) found) same (tells k (omega (arith, within, size))) in
-      length_most place.valid place.length is.inside.within.kind)
