@@ -4,7 +4,7 @@ use Rattle.std.specs.Prelude.{OnOk, OnErr, IsErr, slice_index}
 use Rattle.std.proofs.lemmas.List.{get_or-replicate}
 use Rattle.flt_flash.specs.Image.{page_at, sector_at, programmed, erased, blank_page}
 use Rattle.flt_flash.specs.Tearing.{IsTornPage, IsTorn}
-use Rattle.flt_flash.specs.State.{FlashState, HasShape, Operates, counted, HasRisenBy}
+use Rattle.flt_flash.specs.State.{FlashState, HasShape, Operates, counted}
 use Rattle.flt_flash.specs.declared.flash.FlashFailed.{FlashFailed}
 use Rattle.flt_flash.proofs.TornParts.{torn_sector_of, torn_page_of}
 use Rattle.flt_flash.proofs.Following.{one_run, runs_on}
@@ -12,19 +12,28 @@ use Rattle.flt_code.specs.Seal.{IsCodeWordOf}
 use Rattle.flt_code.proofs.Unspoiled.{programmed_or_none, programmed_unspoiled}
 use Rattle.flt_pages.specs.Append.{TornCode, Appends, TornPiece, AppendsPiece, TornErase, BeginsSector}
 
--- What a torn program of a code word leaves.
+-- What a torn program leaves, and that of a code word.
+pub torn_piece : (before after : List (List (List ℕ))) (sector page : ℕ) (asked : List ℕ) → sector < length before → page < length (sector_at before sector)
+    → page_at before sector page ≡ blank_page → IsTorn before (programmed before sector page asked) after → TornPiece before sector page asked after
+torn_piece before after sector page asked within_image within_sector blank tears =
+    let in_sector = torn_sector_of before sector within_image (set (sector_at before sector) page asked) after tears in
+    let in_page = torn_page_of (sector_at before sector) page within_sector asked in_sector.0 in_sector.1 in
+    record {
+      torn = in_page.0;
+      tears = subst (λ (p : List ℕ). IsTornPage p asked in_page.0) blank in_page.1;
+      only = in_sector.2 ∙ ap (λ (pages : List (List ℕ)). set before sector pages) in_page.2;
+    }
+
 pub torn_code : (before after : List (List (List ℕ))) (sector page : ℕ) (bytes asked : List ℕ) → sector < length before → page < length (sector_at before sector)
     → page_at before sector page ≡ blank_page → IsCodeWordOf bytes asked → IsTorn before (programmed before sector page asked) after → TornCode before sector page asked after
 torn_code before after sector page bytes asked within_image within_sector blank word tears =
-    let in_sector = torn_sector_of before sector within_image (set (sector_at before sector) page asked) after tears in
-    let in_page = torn_page_of (sector_at before sector) page within_sector asked in_sector.0 in_sector.1 in
-    let of_blank = subst (λ (p : List ℕ). IsTornPage p asked in_page.0) blank in_page.1 in
+    let piece = torn_piece before after sector page asked within_image within_sector blank tears in
     record {
-      torn = in_page.0;
-      tears = of_blank;
-      word = programmed_or_none bytes asked in_page.0 word of_blank;
-      unspoiled = programmed_unspoiled bytes asked in_page.0 word of_blank;
-      only = in_sector.2 ∙ ap (λ (pages : List (List ℕ)). set before sector pages) in_page.2;
+      torn = piece.torn;
+      tears = piece.tears;
+      word = programmed_or_none bytes asked piece.torn word piece.tears;
+      unspoiled = programmed_unspoiled bytes asked piece.torn word piece.tears;
+      only = piece.only;
     }
 
 pub appended : {T : Type 0} (before after : FlashState) (sector page : ℕ) (bytes asked : List ℕ) (result : Result T FlashFailed) → HasShape before → sector < 2 → page < before.pages
@@ -41,17 +50,6 @@ appended before after sector page bytes asked (Err e) shape in_image in_sector b
       torn = torn_code before.image after.image sector page bytes asked (omega (arith, shape.sectors)) (omega (arith, shape.pages sector in_image)) blank word torn;
       wear = wear;
       operation = does;
-    }
-
-pub torn_piece : (before after : List (List (List ℕ))) (sector page : ℕ) (asked : List ℕ) → sector < length before → page < length (sector_at before sector)
-    → page_at before sector page ≡ blank_page → IsTorn before (programmed before sector page asked) after → TornPiece before sector page asked after
-torn_piece before after sector page asked within_image within_sector blank tears =
-    let in_sector = torn_sector_of before sector within_image (set (sector_at before sector) page asked) after tears in
-    let in_page = torn_page_of (sector_at before sector) page within_sector asked in_sector.0 in_sector.1 in
-    record {
-      torn = in_page.0;
-      tears = subst (λ (p : List ℕ). IsTornPage p asked in_page.0) blank in_page.1;
-      only = in_sector.2 ∙ ap (λ (pages : List (List ℕ)). set before sector pages) in_page.2;
     }
 
 pub appended_piece : {T : Type 0} (before after : FlashState) (sector page : ℕ) (asked : List ℕ) (result : Result T FlashFailed) → HasShape before → sector < 2 → page < before.pages
@@ -111,8 +109,5 @@ begun_on before middle after sector asked (Err e) is wear does appends = record 
   wear = appends.wear ∙ wear;
   runs = runs_on (one_run does) (one_run appends.operation);
   operations = omega (arith, does.operations, appends.operation.operations);
-  cause = rises appends.operation.cause;
+  cause = omega (arith, appends.operation.cause, does.counts);
 }
-  where
-    rises : HasRisenBy 1 middle.faults after.faults → HasRisenBy 1 before.faults after.faults
-    rises rose = omega (arith, rose, does.counts)

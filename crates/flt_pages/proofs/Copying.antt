@@ -17,7 +17,7 @@ use Rattle.flt_pages.specs.RecordPlace.{record_at, IsPlaceWithin, bytes_at}
 use Rattle.flt_pages.specs.Record.{KeptApart}
 use Rattle.flt_pages.specs.Recorded.{OnSector, Fills, Records}
 use Rattle.flt_pages.proofs.Filling.{Filled}
-use Rattle.flt_pages.proofs.FillStep.{piece_failed, on_more, apart_more, more_filled}
+use Rattle.flt_pages.proofs.FillStep.{FillsUpTo, lays, piece_failed, piece_laid}
 use Rattle.flt_pages.proofs.PageBytes.{bytes_size, piece_behind}
 use Rattle.flt_pages.proofs.Recording.{pages_on, head_failed, fill_failed, gate_laid}
 
@@ -66,7 +66,7 @@ module _ (before middle now : FlashState) (shape : HasShape before) (shape_now :
   pub copy_torn : (after : FlashState) (asked : List ℕ) (failed : FlashFailed) (result : Result (Unit {0}) FlashFailed) → IsErr result
       → AppendsPiece {T = Unit {0}} now after other (first + index) asked (Err failed) → Fills before after other first bytes result
   copy_torn after asked failed result fails is =
-      piece_failed before now after shape shape_now other first bytes index (32 * index) in_other room_bytes more_bytes on_read kept_read asked failed result fails is
+      piece_failed bytes index (omega (arith, shape.sectors, in_other)) more_bytes on_read kept_read (lays is) is.operation.cause result fails
 
   ends : (32 * index + min 32 (place.length - 32 * index) ≡ 32 * index + 32)
       ⊎ ((32 * index + min 32 (place.length - 32 * index) ≡ length (bytes_at (sector_at before.image sector) place)) × (length (bytes_at (sector_at before.image sector) place) < 32 * index + 32))
@@ -76,24 +76,16 @@ module _ (before middle now : FlashState) (shape : HasShape before) (shape_now :
   piece : slice_range (bytes_at (sector_at before.image sector) place) (32 * index) (32 * index + min 32 (place.length - 32 * index)) ≡ take (min 32 (place.length - 32 * index)) (page_at before.image sector (place.page + 1 + index))
   piece = piece_behind (sector_at before.image sector) (shape.bytes sector in_sector) (record_at 0 place) (omega (arith, within.below, shape.pages sector in_sector)) index (min 32 (place.length - 32 * index)) (omega arith) more (omega arith)
 
-  pub record Copied (after : FlashState) : Type 0 where
-    pub now_on : OnSector before after other (sector_at after.image other)
-    pub now_apart : KeptApart (sector_at before.image other) (sector_at after.image other) first (first + (index + 1))
-    pub now_filled : Filled (sector_at after.image other) first (bytes_at (sector_at before.image sector) place) (index + 1)
-
   pub copied : (after : FlashState) (size : ℕ) (page : List ℕ) → Filled (sector_at middle.image other) first bytes index → size ≡ min 32 (place.length - 32 * index)
-      → page ≡ page_at middle.image sector (place.page + 1 + index) → AppendsPiece {T = Unit {0}} now after other (first + index) (filled (take size page)) (Ok tt) → Copied after
+      → page ≡ page_at middle.image sector (place.page + 1 + index) → AppendsPiece {T = Unit {0}} now after other (first + index) (filled (take size page)) (Ok tt)
+      → FillsUpTo before after other first (bytes_at (sector_at before.image sector) place) (index + 1)
   copied after size page fills sized found is =
       let source = other_stays before middle sector other (sector_at middle.image other) apart on in
       let from = found ∙ ap (λ (pages : List (List ℕ)). get_or pages (place.page + 1 + index) []) source in
       let asked : take size page ≡ slice_range bytes (32 * index) (32 * index + min 32 (place.length - 32 * index)) = (λ i. take (sized i) (from i)) ∙ sym piece in
-      let laid = subst (λ (p : List ℕ). AppendsPiece {T = Unit {0}} now after other (first + index) (filled p) (Ok tt)) asked is in
       let fills_read = subst (λ (image : List (List (List ℕ))). Filled (sector_at image other) first bytes index) (sym reads.image) fills in
-      record {
-        now_on = on_more before now after shape shape_now other first bytes index (32 * index + min 32 (place.length - 32 * index)) in_other room_bytes more_bytes on_read kept_read ends fills_read laid;
-        now_apart = apart_more before now after shape shape_now other first bytes index (32 * index + min 32 (place.length - 32 * index)) in_other room_bytes more_bytes on_read kept_read ends fills_read laid;
-        now_filled = more_filled before now after shape shape_now other first bytes index (32 * index + min 32 (place.length - 32 * index)) in_other room_bytes more_bytes on_read kept_read ends fills_read laid;
-      }
+      piece_laid bytes index (omega (arith, shape.sectors, in_other)) more_bytes on_read kept_read (lays is) (32 * index + min 32 (place.length - 32 * index)) ends
+      (omega (arith, room_bytes, shape.pages other in_other)) fills_read ((lays is).done ∙ ap filled asked)
 
 -- Head, bytes and gate.
 module _ (before : FlashState) (shape : HasShape before) (sector other page block : ℕ) (place : RecordPlace)

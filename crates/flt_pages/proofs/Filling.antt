@@ -16,15 +16,6 @@ pub record Filled (pages : List (List ℕ)) (first : ℕ) (bytes : List ℕ) (in
   pub is : flat_map (λ page. page) (slice_range pages first (first + index)) ≡ take (32 * index) bytes ++ rest
   pub ones : rest ≡ replicate (32 * index - length bytes) 255
 
-pub none_filled : (pages : List (List ℕ)) (first : ℕ) (bytes : List ℕ) → Filled pages first bytes 0
-none_filled pages first bytes = record { rest = []; is = ap (λ n. flat_map (λ (page : List ℕ). page) (take n (drop first pages))) nothing; ones = ap (λ n. replicate n 255) none }
-  where
-    nothing : first + 0 - first ≡ 0
-    nothing = omega arith
-
-    none : 0 ≡ 32 * 0 - length bytes
-    none = omega arith
-
 -- The bytes of one page.
 piece_is : (bytes : List ℕ) (start end : ℕ) → start ≤ length bytes → (end ≡ start + 32) ⊎ ((end ≡ length bytes) × (length bytes < start + 32)) → slice_range bytes start end ≡ take 32 (drop start bytes)
 piece_is bytes start end within (inl whole) = ap (λ n. take n (drop start bytes)) (let e : end - start ≡ 32 = omega arith in e)

@@ -24,8 +24,11 @@ on_sector before middle after sector first second one two = record {
 }
 
 -- The pages of the sector after it was given them.
+pub sector_given : (before after : FlashState) (sector : ℕ) (pages : List (List ℕ)) → sector < length before.image → OnSector before after sector pages → sector_at after.image sector ≡ pages
+sector_given before after sector pages within on = ap (λ (image : List (List (List ℕ))). sector_at image sector) on.image ∙ get_or-set_same before.image sector pages [] within
+
 pub pages_on : (before after : FlashState) (sector : ℕ) (pages : List (List ℕ)) → HasShape before → sector < 2 → OnSector before after sector pages → sector_at after.image sector ≡ pages
-pages_on before after sector pages shape within on = ap (λ (image : List (List (List ℕ))). sector_at image sector) on.image ∙ get_or-set_same before.image sector pages [] (omega (arith, shape.sectors))
+pages_on before after sector pages shape within = sector_given before after sector pages (omega (arith, shape.sectors))
 
 -- An appended page, as asked or torn.
 pub record Laid {T : Type 0} (before after : FlashState) (sector page : ℕ) (asked : List ℕ) (result : Result T FlashFailed) : Type 0 where
@@ -83,11 +86,8 @@ module _ (before : FlashState) (shape : HasShape before) (sector page block : �
       on = on_sector before middle after sector (set pages page head) is.pages on_head is.on;
       done = tt;
       left = inr (inl (filled is.pages is.apart));
-      cause = rises is.cause;
+      cause = omega (arith, is.cause, headed.operation.counts);
     }
-      where
-        rises : HasRisenBy 1 middle.faults after.faults → HasRisenBy 1 before.faults after.faults
-        rises rose = omega (arith, rose, headed.operation.counts)
 
     pub gate_laid : (full after : FlashState) (result : Result (Unit {0}) FlashFailed) → Fills {T = Unit {0}} middle full sector (page + 1) bytes (Ok tt)
         → Appends full after sector (page + 1 + byte_pages (length bytes)) gate result → Records before after sector page block bytes valid result

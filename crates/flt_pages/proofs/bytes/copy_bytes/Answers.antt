@@ -31,7 +31,7 @@ loop-index-preserved g c =
     c.args.sector c.args.other c.args.first c.args.place c.loop-index.index c.requires.sector c.requires.other c.requires.apart c.requires.within c.requires.room more
     (one_read c.in_ok-read_page.ensures.operation c.in_ok-read_page.ensures.image c.in_ok-read_page.ensures.wear) c.loop-index.invariant.on c.loop-index.invariant.apart
     (g.F.Flash.state c.append_piece.new.flash) c.piece_size-size.result c.read_page.new.out c.loop-index.invariant.filled c.piece_size-size.ensures c.in_ok-read_page.ensures.read c.in_ok-append_piece.ensures.appends in
-    record { on = done.now_on; apart = done.now_apart; filled = done.now_filled; operations = omega (arith, c.in_ok-read_page.ensures.operation.operations, c.in_ok-append_piece.ensures.appends.operation.operations, c.loop-index.invariant.operations) }
+    record { on = done.on; apart = done.apart; filled = done.filled; operations = omega (arith, c.in_ok-read_page.ensures.operation.operations, c.in_ok-append_piece.ensures.appends.operation.operations, c.loop-index.invariant.operations) }
 
 pub returns-clause-fills : goal.returns-clause-fills
 returns-clause-fills g c =
