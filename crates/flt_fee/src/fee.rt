@@ -21,8 +21,8 @@ ghost use Rattle.flt_fee.specs.Wear.{StaysEven, UnlessFlash};
 
 use flt_flash::{Arm, Bench, BlockFault, Blocks, Flash, Found, Refused};
 use flt_pages::{
-    CurrentSector, Numbers, PageFault, RecordPlace, append_record, byte_pages, current_sector,
-    find_places, forget, live_pages, note, place_of, read_record, set_up_flash, switch_sectors,
+    CurrentSector, Numbers, RecordPlace, append_record, byte_pages, current_sector, find_places,
+    forget, live_pages, note, place_of, read_record, set_up_flash, switch_sectors,
 };
 use std::alloc::{AllocError, Global};
 
@@ -125,24 +125,19 @@ impl<F: Flash> Fee<F> {
         ensures even { UnlessFlash result (StaysEven self.old.used (F.state self.old.flash) (F.state self.new.flash)) }
     {
         self.is_stale = true;
-        match find_places(
+        let end = find_places(
             &mut self.flash,
             at.sector,
             self.used,
             &self.numbers,
             &mut self.places,
-        ) {
-            Err(PageFault::Flash) => Err(BlockFault::Flash),
-            Err(PageFault::Damaged { sector, page }) => Err(BlockFault::Damaged { sector, page }),
-            Ok(end) => {
-                self.sector = at.sector;
-                self.sequence = at.sequence;
-                self.end = end;
-                self.has_mounted = true;
-                self.is_stale = false;
-                Ok(())
-            }
-        }
+        )?;
+        self.sector = at.sector;
+        self.sequence = at.sequence;
+        self.end = end;
+        self.has_mounted = true;
+        self.is_stale = false;
+        Ok(())
     }
 
     // Begins the first sector: the mount of a flash of which no sector is valid.
@@ -180,11 +175,9 @@ impl<F: Flash> Fee<F> {
         ensures even { UnlessFlash result (StaysEven self.old.used (F.state self.old.flash) (F.state self.new.flash)) }
     {
         self.is_stale = true;
-        match current_sector(&mut self.flash, self.used) {
-            Err(PageFault::Flash) => Err(BlockFault::Flash),
-            Err(PageFault::Damaged { sector, page }) => Err(BlockFault::Damaged { sector, page }),
-            Ok(None) => self.format(),
-            Ok(Some(at)) => self.resume(at),
+        match current_sector(&mut self.flash, self.used)? {
+            None => self.format(),
+            Some(at) => self.resume(at),
         }
     }
 

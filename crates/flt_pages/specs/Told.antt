@@ -1,5 +1,7 @@
 -- What a look at pages answers.
 use Rattle.std.specs.Prelude.{◌≡◌, ◌⊎◌, ℕ, Option, Some, None, Result, Ok, Err}
+use Rattle.flt_flash.specs.declared.blocks.BlockFault.{BlockFault}
+use Rattle.flt_flash.specs.declared.blocks.BlockFault.TheVariants as blocks
 use Rattle.flt_sector.specs.Blocks.{Current}
 use Rattle.flt_pages.specs.declared.fault.PageFault.{PageFault}
 use Rattle.flt_pages.specs.declared.fault.PageFault.TheVariants.{Flash, Damaged}
@@ -32,3 +34,8 @@ current_of at = record { sector = at.sector; sequence = at.sequence }
 -- This answer, or that of a failed read.
 abbrev pub TellsOrFails : {T : Type 0} → Result T PageFault → Result T PageFault → Type 0
 TellsOrFails result answer = (result ≡ Err Flash) ⊎ (result ≡ answer)
+
+-- A fault of pages, as a driver of blocks answers it.
+abbrev pub block_fault : PageFault → BlockFault
+block_fault Flash = blocks.Flash
+block_fault (Damaged sector page) = blocks.Damaged sector page

@@ -2,7 +2,7 @@
 ghost use Rattle.std.specs.Prelude.{◌≡◌};
 ghost use Rattle.flt_pages.specs.declared.fault.PageFault.TheVariants.{Flash};
 
-use flt_flash::FlashFailed;
+use flt_flash::{BlockFault, FlashFailed};
 use thiserror::Error;
 
 /// Why pages can't be judged. The image of the flash does not change.
@@ -21,5 +21,18 @@ impl From<FlashFailed> for PageFault {
 
     fn from(_: FlashFailed) -> Self {
         PageFault::Flash
+    }
+}
+
+impl From<PageFault> for BlockFault {
+    ghost use Rattle.flt_pages.specs.Told.{block_fault};
+
+    ghost from_gives = { λ fault made. made ≡ block_fault fault };
+
+    fn from(fault: PageFault) -> Self {
+        match fault {
+            PageFault::Flash => BlockFault::Flash,
+            PageFault::Damaged { sector, page } => BlockFault::Damaged { sector, page },
+        }
     }
 }

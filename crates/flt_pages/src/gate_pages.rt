@@ -81,8 +81,5 @@ pub fn gates<F: Flash>(flash: &mut F, sector: u8, used: u16) -> Result<Option<u3
 {
     let start = read(flash, sector, 0)?;
     let active = read(flash, sector, 1)?;
-    match by_pages(used, &start, &active) {
-        Ok(number) => Ok(number),
-        Err(page) => Err(PageFault::Damaged { sector, page }),
-    }
+    by_pages(used, &start, &active).map_err(|page| PageFault::Damaged { sector, page })
 }
