@@ -1,34 +1,24 @@
 -- What a driver means after a call that only read.
-use Rattle.std.proofs.Common.{◌≡◌, ⊎_elim, ℕ, Bool, true, false, List, Option, Some, None, Result, Ok, Err, refl, sym, ◌∙◌, ap, subst}
-use Rattle.std.specs.Prelude.{◌&&◌, OnOk, IsFalse, IsErrOf}
+use Rattle.std.proofs.Common.{◌≡◌, ⊎_elim, ℕ, Bool, true, false, List, Option, Some, None, Result, Ok, Err, refl, sym, ◌∙◌, ap}
+use Rattle.std.specs.Prelude.{◌&&◌}
 use Rattle.flt_flash.specs.Image.{sector_at}
-use Rattle.flt_flash.specs.State.{FlashState, OnlyReads, HasRisenBy}
+use Rattle.flt_flash.specs.State.{FlashState, OnlyReads}
 use Rattle.flt_flash.specs.Blocks.{BlocksState}
-use Rattle.flt_flash.specs.Calls.{Follows, Calls, SameValues}
+use Rattle.flt_flash.specs.Calls.{Follows}
 use Rattle.flt_flash.specs.declared.blocks.BlockFault.{BlockFault}
-use Rattle.flt_flash.specs.declared.blocks.BlockFault.TheVariants.{Flash, Damaged}
 use Rattle.flt_sector.specs.Log.{LogFrom, log}
-use Rattle.flt_sector.specs.Blocks.{Current, current, first_fault, fault_by, place_in, block_value}
-use Rattle.flt_pages.specs.declared.fault.PageFault.TheVariants.{Damaged as damaged_page}
+use Rattle.flt_sector.specs.Blocks.{Current, current, first_fault, fault_by, place_in}
 use Rattle.flt_pages.specs.Told.{TellsOrFails, told_end}
 use Rattle.flt_fee.specs.Fee.{is_last, is_past, state_by}
 use Rattle.flt_fee.specs.Refusal.{KeepsStuck}
 use Rattle.flt_fee.specs.Mounted.{IsMounted}
 use Rattle.flt_fee.proofs.Composed.{follows_by}
-use Rattle.flt_fee.proofs.Appended.{quiet_calls}
 
 pub end_told : (sector end found : ℕ) (fault : Option ℕ) → TellsOrFails {T = ℕ} (Ok found) (told_end sector end fault) → (fault ≡ None) × (end ≡ found)
 end_told sector end found None tells = (refl, ⊎_elim (λ no. absurd (cc no)) (λ same. sym (cc same)) tells)
 end_told sector end found (Some page) tells = ⊎_elim (λ no. absurd (cc no)) (λ no. absurd (cc no)) tells
 
-pub damage_told : (sector end at page : ℕ) (fault : Option ℕ) → TellsOrFails {T = ℕ} (Err (damaged_page at page)) (told_end sector end fault) → (fault ≡ Some page) × (sector ≡ at)
-damage_told sector end at page None tells = ⊎_elim (λ no. absurd (cc no)) (λ no. absurd (cc no)) tells
-damage_told sector end at page (Some p) tells = ⊎_elim (λ no. absurd (cc no)) (λ same. (let e : p ≡ page = sym (cc same) in ap Some e, sym (cc same))) tells
-
 module _ (used : ℕ) (numbers : List ℕ) (before after : FlashState) (reads : OnlyReads before after) where
-  pub same_values : (was_stale had_mounted is_stale has_mounted : Bool) → SameValues (state_by used numbers was_stale had_mounted before) (state_by used numbers is_stale has_mounted after)
-  same_values was_stale had_mounted is_stale has_mounted block = ap (λ (image : List (List (List ℕ))). block_value used numbers image block) reads.image
-
   -- Where the current sector is known, the first fault is that of its log.
   pub fault_there : (at : Current) → current used before.image ≡ Ok (Some at) → first_fault used numbers before.image ≡ place_in at.sector (log used numbers (sector_at before.image at.sector)).fault
   fault_there at is = ap (fault_by used numbers before.image) is
@@ -38,19 +28,6 @@ module _ (used : ℕ) (numbers : List ℕ) (before after : FlashState) (reads : 
   reading_follows was_stale had_mounted is_stale has_mounted once =
       follows_by used numbers before after reads.runs was_stale had_mounted is_stale has_mounted once (λ yes. ap (λ (image : List (List (List ℕ))). is_last (current used image)) reads.image ∙ yes)
       (λ none. ap (first_fault used numbers) reads.image ∙ none) (λ place is. reads.image)
-
-  pub reading_calls : {T : Type 0} (was_stale had_mounted is_stale has_mounted : Bool) (result : Result T BlockFault) → (had_mounted ≡ true → has_mounted ≡ true)
-      → (IsErrOf result Flash → HasRisenBy 1 before.faults after.faults)
-      → ((sector page : ℕ) → IsErrOf result (Damaged sector page) → (first_fault used numbers before.image ≡ Some (sector, page)) × IsFalse had_mounted)
-      → OnOk result (first_fault used numbers before.image ≡ None)
-      → Calls (state_by used numbers was_stale had_mounted before) (state_by used numbers is_stale has_mounted after) result
-  reading_calls was_stale had_mounted is_stale has_mounted result once cause damaged refuses = record {
-    follows = follows_by used numbers before after reads.runs was_stale had_mounted is_stale has_mounted once (λ yes. ap (λ (image : List (List (List ℕ))). is_last (current used image)) reads.image ∙ yes)
-        (λ none. ap (first_fault used numbers) reads.image ∙ none) (λ place is. reads.image);
-    flash = cause;
-    damaged = damaged;
-    refuses_damage = refuses;
-  }
 
   -- The log was found to end here.
   module _ (at : Current) (here : current used before.image ≡ Ok (Some at)) where
@@ -70,28 +47,6 @@ module _ (used : ℕ) (numbers : List ℕ) (before after : FlashState) (reads : 
           undamaged = λ yes. ap (first_fault used numbers) reads.image ∙ sound_there end tells;
           ends = λ fresh. ap (λ (image : List (List (List ℕ))). (log used numbers (sector_at image at.sector)).end) reads.image ∙ found.1;
         }
-
-    pub damage_there : (sector page : ℕ) → TellsOrFails {T = ℕ} (Err (damaged_page sector page)) (told_end at.sector whole.end whole.fault) → first_fault used numbers before.image ≡ Some (sector, page)
-    damage_there sector page tells =
-        let found = damage_told at.sector whole.end sector page whole.fault tells in
-        fault_there at here ∙ ap (place_in at.sector) found.0 ∙ (λ i. Some (found.1 i, page))
-
--- A driver whose image has a fault has not mounted.
-pub unmounted : (has_mounted : Bool) (damage : Option (ℕ × ℕ)) (place : ℕ × ℕ) → (has_mounted ≡ true → damage ≡ None) → damage ≡ Some place → IsFalse has_mounted
-unmounted true damage place sound is = absurd (cc (sound refl, is))
-unmounted false damage place sound is = refl
-
--- A look of a driver that is not stale, and of one that a look left stale.
-module _ (used : ℕ) (numbers : List ℕ) (before after : FlashState) (reads : OnlyReads before after) (sound : first_fault used numbers before.image ≡ None) where
-  pub looking_calls : {T : Type 0} (was_stale has_mounted is_stale : Bool) (result : Result T BlockFault) → (IsErrOf result Flash → HasRisenBy 1 before.faults after.faults)
-      → ((sector page : ℕ) → IsErrOf result (Damaged sector page) → ⊥) → Calls (state_by used numbers was_stale has_mounted before) (state_by used numbers is_stale has_mounted after) result
-  looking_calls was_stale has_mounted is_stale result cause undamaged =
-      quiet_calls used numbers before after reads.runs sound (ap (first_fault used numbers) reads.image ∙ sound) (ap (current used) reads.image) was_stale has_mounted is_stale result cause undamaged
-
-pub look_mounted : (is_stale has_mounted : Bool) (used : ℕ) (numbers : List ℕ) (before after : FlashState) (sector sequence end : ℕ) → OnlyReads before after
-    → IsMounted is_stale has_mounted used numbers before.image sector sequence end → IsMounted is_stale has_mounted used numbers after.image sector sequence end
-look_mounted is_stale has_mounted used numbers before after sector sequence end reads is =
-    subst (λ (image : List (List (List ℕ))). IsMounted is_stale has_mounted used numbers image sector sequence end) (sym reads.image) is
 
 -- The records that are stuck, after a look.
 pub stuck_on : (used : ℕ) (numbers : List ℕ) (before middle : FlashState) → middle.image ≡ before.image → (was_stale had_mounted is_stale has_mounted : Bool) (third : BlocksState) (result : Result (Unit {0}) BlockFault)

@@ -1,8 +1,8 @@
 -- The steps of giving a block a content: a mount where the driver is stale, room, and the record.
 use Rattle.std.proofs.Common.{◌≡◌, ⊎_elim, inl, inr, ℕ, Option, None, Result, Ok, Err, refl, ◌∙◌}
-use Rattle.std.specs.Prelude.{sum_by, IsTrue, IsErrOf}
+use Rattle.std.specs.Prelude.{sum_by}
 use Rattle.flt_flash.specs.Content.{Content}
-use Rattle.flt_flash.specs.Blocks.{BlocksState, IsFull, pages_of, record_pages}
+use Rattle.flt_flash.specs.Blocks.{BlocksState, pages_of, record_pages}
 use Rattle.flt_flash.specs.Calls.{SameValues, NeverFull, Changes}
 use Rattle.flt_flash.specs.declared.blocks.BlockFault.{BlockFault}
 use Rattle.flt_flash.specs.declared.blocks.BlockFault.TheVariants.{Flash, Full, SequenceSpent, Damaged}
@@ -10,19 +10,6 @@ use Rattle.flt_fee.specs.Refusal.{refusal, refusal_by, AnswersBy}
 
 pub values_on : (first second third : BlocksState) → SameValues first second → SameValues second third → SameValues first third
 values_on first second third one two block = two block ∙ one block
-
--- A call that left every block as it was, and answered a fault.
-pub kept_changes : (before after : BlocksState) (block : ℕ) (asked : Content) (size : ℕ) (fault : BlockFault) → SameValues before after
-    → ((live needed : ℕ) → IsErrOf {T = Unit {0}} (Err fault) (Full live needed) → IsFull after size live needed) → (IsErrOf {T = Unit {0}} (Err fault) SequenceSpent → IsTrue (after.is_stuck block size))
-    → Changes before after block asked size (Err fault)
-kept_changes before after block asked size fault same full spent = record {
-  done = tt;
-  failed = λ told. inl (same block);
-  others = λ other apart. same other;
-  full = λ live needed told. (full live needed told, same);
-  spent = λ told. (spent told, same);
-  damaged = λ sector page told. same;
-}
 
 -- A change after calls that left every block as it was.
 pub changes_on : (first second third : BlocksState) (block : ℕ) (asked : Content) (size : ℕ) (result : Result (Unit {0}) BlockFault) → SameValues first second → NeverFull result
@@ -49,9 +36,3 @@ not_refused refused (Err Flash) none never = tt
 not_refused refused (Err (Full live needed)) none never = absurd (never.full live needed refl)
 not_refused refused (Err SequenceSpent) none never = absurd (never.spent refl)
 not_refused refused (Err (Damaged sector page)) none never = tt
-
-pub fault_of_mount : (refused : Option BlockFault) (fault : BlockFault) → NeverFull {T = Unit {0}} (Err fault) → AnswersBy refused (Err fault)
-fault_of_mount refused Flash never = tt
-fault_of_mount refused (Full live needed) never = absurd (never.full live needed refl)
-fault_of_mount refused SequenceSpent never = absurd (never.spent refl)
-fault_of_mount refused (Damaged sector page) never = tt

@@ -1,6 +1,6 @@
 -- How the two sectors wear, call by call.
-use Rattle.std.proofs.Common.{◌≡◌, ◌-◌, ◌<◌, ◌≤◌, ◌^◌, ℕ, zero, suc, List, get_or, set, length, get_or-set_same, get_or-set_other, Option, Some, None, Result, Ok, Err, refl, sym, subst, arith}
-use Rattle.flt_flash.specs.State.{FlashState, HasShape, OnlyReads, counted}
+use Rattle.std.proofs.Common.{◌≡◌, ◌-◌, ◌<◌, ◌≤◌, ◌^◌, ℕ, zero, suc, List, get_or, set, length, get_or-set_same, get_or-set_other, Option, Some, Result, Ok, Err, refl, sym, subst, arith}
+use Rattle.flt_flash.specs.State.{FlashState, HasShape, counted}
 use Rattle.flt_flash.specs.Blocks.{BlocksState}
 use Rattle.flt_flash.specs.Calls.{Calls, NoFault}
 use Rattle.flt_flash.specs.declared.blocks.BlockFault.{BlockFault}
@@ -11,9 +11,6 @@ use Rattle.flt_fee.specs.Wear.{IsEven, StaysEven, UnlessFlash}
 -- The same current sector, and no erase.
 pub even_same : (used : ℕ) (before after : FlashState) → current used after.image ≡ current used before.image → after.wear ≡ before.wear → StaysEven used before after
 even_same used before after same wear even = subst (λ (w : List ℕ). IsEven (current used after.image) w) (sym wear) (subst (λ (at : Result (Option Current) (ℕ × ℕ)). IsEven at before.wear) (sym same) even)
-
-pub even_read : (used : ℕ) (before after : FlashState) → OnlyReads before after → StaysEven used before after
-even_read used before after reads = even_same used before after (λ i. current used (reads.image i)) reads.wear
 
 -- One call after another.
 pub even_on : (used : ℕ) (first second third : FlashState) → StaysEven used first second → StaysEven used second third → StaysEven used first third
@@ -38,20 +35,6 @@ even_switched used before after shape sector sequence next within was now wear e
     subst (λ (w : List ℕ). IsEven (current used after.image) w) (sym wear)
     (subst (λ (at : Result (Option Current) (ℕ × ℕ)). IsEven at (set before.wear (1 - sector) (counted (get_or before.wear (1 - sector) 0)))) (sym now)
     (switched_wear before.wear shape.wear shape.erases sector sequence next within (subst (λ (at : Result (Option Current) (ℕ × ℕ)). IsEven at before.wear) was even)))
-
--- The first sector was begun.
-begun_wear : (wear : List ℕ) → length wear ≡ 2 → ((k : ℕ) → k < 2 → get_or wear k 0 ≤ 2 ^ 64 - 1) → get_or wear 0 0 ≡ get_or wear 1 0 → IsEven (Ok (Some record { sector = 0; sequence = 1 })) (set wear 0 (counted (get_or wear 0 0)))
-begun_wear wear two most even =
-    let first : get_or (set wear 0 (counted (get_or wear 0 0))) 0 0 ≡ counted (get_or wear 0 0) = get_or-set_same wear 0 (counted (get_or wear 0 0)) 0 (omega (arith, two)) in
-    let second : get_or (set wear 0 (counted (get_or wear 0 0))) 1 0 ≡ get_or wear 1 0 = get_or-set_other wear 0 1 (counted (get_or wear 0 0)) 0 (omega arith) in
-    (omega (arith, first, second, even, most 0 (omega arith)), omega (arith, first, second, even))
-
-pub even_begun : (used : ℕ) (before after : FlashState) → HasShape before → current used before.image ≡ Ok None → current used after.image ≡ Ok (Some record { sector = 0; sequence = 1 })
-    → after.wear ≡ set before.wear 0 (counted (get_or before.wear 0 0)) → StaysEven used before after
-even_begun used before after shape was now wear even =
-    subst (λ (w : List ℕ). IsEven (current used after.image) w) (sym wear)
-    (subst (λ (at : Result (Option Current) (ℕ × ℕ)). IsEven at (set before.wear 0 (counted (get_or before.wear 0 0)))) (sym now)
-    (begun_wear before.wear shape.wear shape.erases (subst (λ (at : Result (Option Current) (ℕ × ℕ)). IsEven at before.wear) was even)))
 
 -- A fact of every answer, and of those that no fault of the flash gave.
 pub unless_any : {T : Type 0} (result : Result T BlockFault) (fact : Type 0) → fact → UnlessFlash result fact
