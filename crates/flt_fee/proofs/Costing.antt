@@ -1,6 +1,6 @@
 -- What a call on a driver that is not stale costs.
 use Rattle.std.proofs.Common.{◌≡◌, ⊎_elim, inl, inr, ◌+◌, ◌-◌, ◌^◌, ◌<◌, ◌≤◌, ℕ, zero, suc, Bool, true, false, List, get_or, set, length, get_or-set_same, get_or-set_other, Some, Result, Ok, Err, refl, sym, ◌∙◌, ap, subst, arith}
-use Rattle.std.specs.Prelude.{OnOk, OnErr, not, nat_le}
+use Rattle.std.specs.Prelude.{OnOk, not, nat_le}
 use Rattle.std.proofs.lemmas.Bool.{leb-true}
 use Rattle.flt_flash.specs.State.{FlashState, HasShape, as_counted, erases_of, counted}
 use Rattle.flt_flash.specs.Blocks.{BlocksState, record_pages, live_pages}
@@ -9,14 +9,6 @@ use Rattle.flt_flash.specs.declared.blocks.BlockFault.{BlockFault}
 use Rattle.flt_flash.specs.declared.blocks.BlockFault.TheVariants.{Flash, Full, SequenceSpent, Damaged}
 use Rattle.flt_fee.specs.Costs.{SpendsAtMost, MakesRoom, Stores, UnlessFailed, StoreCosts}
 use Rattle.flt_fee.specs.Fee.{state_by}
-
--- A record that was refused.
-pub stored_refused : (used end live size sector : ℕ) (before after : FlashState) (fault : BlockFault) → UnlessFailed {T = Unit {0}} (Err fault) (OnErr {T = Unit {0}} (Err fault) (after ≡ before))
-    → UnlessFailed {T = Unit {0}} (Err fault) (Stores used end live size sector before after)
-stored_refused used end live size sector before after Flash same = tt
-stored_refused used end live size sector before after (Full l n) same = inl same
-stored_refused used end live size sector before after SequenceSpent same = inl same
-stored_refused used end live size sector before after (Damaged s p) same = tt
 
 -- A record that was appended where there was room, or room was made.
 pub stored_behind : (used end live size sector : ℕ) (before middle after : FlashState) → MakesRoom used end live size sector before middle → (result : Result (Unit {0}) BlockFault) → NeverFull result
@@ -34,16 +26,27 @@ stored_behind used end live size sector before middle after room (Err SequenceSp
 stored_behind used end live size sector before middle after room (Err (Damaged s p)) never spends = tt
 
 -- An erase is one more.
-erase_counts : (wear : List ℕ) → length wear ≡ 2 → (sector : ℕ) → sector < 2 → erases_of wear + 2 ^ 32 ≤ 2 ^ 64 - 1 → erases_of (set wear (1 - sector) (counted (get_or wear (1 - sector) 0))) ≡ erases_of wear + 1
-erase_counts wear two zero within small =
+erased : (wear : List ℕ) → length wear ≡ 2 → (sector : ℕ) → sector < 2
+    → (erases_of (set wear (1 - sector) (counted (get_or wear (1 - sector) 0))) ≡ as_counted (get_or wear sector 0) + as_counted (counted (get_or wear (1 - sector) 0)))
+    × (erases_of wear ≡ as_counted (get_or wear sector 0) + as_counted (get_or wear (1 - sector) 0))
+erased wear two zero within =
     let first : get_or (set wear 1 (counted (get_or wear 1 0))) 0 0 ≡ get_or wear 0 0 = get_or-set_other wear 1 0 (counted (get_or wear 1 0)) 0 (omega arith) in
     let second : get_or (set wear 1 (counted (get_or wear 1 0))) 1 0 ≡ counted (get_or wear 1 0) = get_or-set_same wear 1 (counted (get_or wear 1 0)) 0 (omega (arith, two)) in
-    (λ i. as_counted (first i) + as_counted (second i)) ∙ omega (arith, small)
-erase_counts wear two (suc zero) within small =
+    (λ i. as_counted (first i) + as_counted (second i), refl)
+erased wear two (suc zero) within =
     let first : get_or (set wear 0 (counted (get_or wear 0 0))) 0 0 ≡ counted (get_or wear 0 0) = get_or-set_same wear 0 (counted (get_or wear 0 0)) 0 (omega (arith, two)) in
     let second : get_or (set wear 0 (counted (get_or wear 0 0))) 1 0 ≡ get_or wear 1 0 = get_or-set_other wear 0 1 (counted (get_or wear 0 0)) 0 (omega arith) in
-    (λ i. as_counted (first i) + as_counted (second i)) ∙ omega (arith, small)
-erase_counts wear two (suc (suc sector)) within small = absurd (omega arith)
+    ((λ i. as_counted (first i) + as_counted (second i)) ∙ turned (as_counted (counted (get_or wear 0 0))) (as_counted (get_or wear 1 0)), turned (as_counted (get_or wear 0 0)) (as_counted (get_or wear 1 0)))
+  where
+    turned : (m n : ℕ) → m + n ≡ n + m
+    turned m n = omega arith
+erased wear two (suc (suc sector)) within = absurd (omega arith)
+
+erase_counts : (wear : List ℕ) → length wear ≡ 2 → (sector : ℕ) → sector < 2 → erases_of wear + 2 ^ 32 ≤ 2 ^ 64 - 1 → erases_of (set wear (1 - sector) (counted (get_or wear (1 - sector) 0))) ≡ erases_of wear + 1
+erase_counts wear two sector within small = let sums = erased wear two sector within in omega (arith, sums.0, sums.1, small)
+
+erase_most : (wear : List ℕ) → length wear ≡ 2 → (sector : ℕ) → sector < 2 → erases_of (set wear (1 - sector) (counted (get_or wear (1 - sector) 0))) ≤ erases_of wear + 1
+erase_most wear two sector within = let sums = erased wear two sector within in omega (arith, sums.0, sums.1)
 
 -- A fact of each answer that no fault and no mount gave.
 module _ {T : Type 0} (before after : BlocksState) where
@@ -81,29 +84,6 @@ put_costs used still_used numbers still_numbers before after shape least end liv
   where
     stored : was_stale ≡ false → NoFault (state_by used numbers was_stale had_mounted before) (state_by still_used still_numbers is_stale has_mounted after) → Stores used end live size sector before after
     stored fresh none = unless (state_by used numbers was_stale had_mounted before) (state_by still_used still_numbers is_stale has_mounted after) result (Stores used end live size sector before after) calls (mounted fresh) none (stores fresh)
-
--- A read by what it spends.
-pub read_costs : {T : Type 0} (used still_used : ℕ) (numbers still_numbers : List ℕ) (before after : FlashState) (limit : ℕ) (was_stale had_mounted is_stale has_mounted : Bool) (result : Result T BlockFault)
-    → (was_stale ≡ false → had_mounted ≡ true) → NeverFull result → Calls (state_by used numbers was_stale had_mounted before) (state_by still_used still_numbers is_stale has_mounted after) result
-    → (was_stale ≡ false → OnOk result (SpendsAtMost limit before after)) → was_stale ≡ false
-    → NoFault (state_by used numbers was_stale had_mounted before) (state_by still_used still_numbers is_stale has_mounted after)
-    → CostsAtMost limit (state_by used numbers was_stale had_mounted before) (state_by still_used still_numbers is_stale has_mounted after)
-read_costs used still_used numbers still_numbers before after limit was_stale had_mounted is_stale has_mounted (Ok x) mounted never calls spends fresh none = omega (arith, (spends fresh).operations)
-read_costs used still_used numbers still_numbers before after limit was_stale had_mounted is_stale has_mounted (Err Flash) mounted never calls spends fresh none = absurd (none (calls.flash refl))
-read_costs used still_used numbers still_numbers before after limit was_stale had_mounted is_stale has_mounted (Err (Full l n)) mounted never calls spends fresh none = absurd (never.full l n refl)
-read_costs used still_used numbers still_numbers before after limit was_stale had_mounted is_stale has_mounted (Err SequenceSpent) mounted never calls spends fresh none = absurd (never.spent refl)
-read_costs used still_used numbers still_numbers before after limit was_stale had_mounted is_stale has_mounted (Err (Damaged s p)) mounted never calls spends fresh none = absurd (cc (mounted fresh, (calls.damaged s p refl).1))
-
-erase_most : (wear : List ℕ) → length wear ≡ 2 → (sector : ℕ) → sector < 2 → erases_of (set wear (1 - sector) (counted (get_or wear (1 - sector) 0))) ≤ erases_of wear + 1
-erase_most wear two zero within =
-    let first : get_or (set wear 1 (counted (get_or wear 1 0))) 0 0 ≡ get_or wear 0 0 = get_or-set_other wear 1 0 (counted (get_or wear 1 0)) 0 (omega arith) in
-    let second : get_or (set wear 1 (counted (get_or wear 1 0))) 1 0 ≡ counted (get_or wear 1 0) = get_or-set_same wear 1 (counted (get_or wear 1 0)) 0 (omega (arith, two)) in
-    omega (arith, first, second)
-erase_most wear two (suc zero) within =
-    let first : get_or (set wear 0 (counted (get_or wear 0 0))) 0 0 ≡ counted (get_or wear 0 0) = get_or-set_same wear 0 (counted (get_or wear 0 0)) 0 (omega (arith, two)) in
-    let second : get_or (set wear 0 (counted (get_or wear 0 0))) 1 0 ≡ get_or wear 1 0 = get_or-set_other wear 0 1 (counted (get_or wear 0 0)) 0 (omega arith) in
-    omega (arith, first, second)
-erase_most wear two (suc (suc sector)) within = absurd (omega arith)
 
 -- A store of a driver that is not stale.
 module _ (used still_used : ℕ) (numbers still_numbers : List ℕ) (before after : FlashState) (shape : HasShape before) (end size sector : ℕ) (in_sector : sector < 2)
