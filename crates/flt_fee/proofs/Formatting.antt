@@ -1,11 +1,12 @@
 -- What a driver means while its image holds nothing.
-use Rattle.std.proofs.Common.{◌≡◌, ⊎_elim, inl, ◌≤◌, ℕ, Bool, true, false, List, None, Result, Ok, Err, refl, sym, ◌∙◌, ap}
-use Rattle.std.specs.Prelude.{OnOk, IsErrOf}
+use Rattle.std.proofs.Common.{◌≡◌, ⊎_elim, inl, ◌≤◌, ℕ, Bool, true, false, List, None, Result, Ok, refl, sym, ◌∙◌, ap}
+use Rattle.std.specs.Prelude.{IsErrOf}
 use Rattle.flt_flash.specs.Image.{sector_at}
 use Rattle.flt_flash.specs.Content.{missing}
 use Rattle.flt_flash.specs.State.{FlashState, MakesOperations, HasRisenBy}
 use Rattle.flt_flash.specs.Calls.{Calls, SameSpent, SameValues}
 use Rattle.flt_flash.specs.declared.blocks.BlockFault.{BlockFault}
+use Rattle.flt_flash.proofs.Answering.{sound_calls}
 use Rattle.flt_flash.specs.declared.blocks.BlockFault.TheVariants.{Flash, Damaged}
 use Rattle.flt_sector.specs.Blocks.{current, first_fault, fault_by, value_by, block_value}
 use Rattle.flt_pages.proofs.Begun.{holds_nothing}
@@ -43,14 +44,6 @@ module _ (used : ℕ) (numbers : List ℕ) (least : 2 ≤ used) where
     pub formatting_calls : {T : Type 0} (runs : MakesOperations before after) (was_stale had_mounted is_stale has_mounted : Bool) (result : Result T BlockFault) → (had_mounted ≡ true → has_mounted ≡ true)
         → (IsErrOf result Flash → HasRisenBy 1 before.faults after.faults) → ((sector page : ℕ) → IsErrOf result (Damaged sector page) → ⊥)
         → Calls (state_by used numbers was_stale had_mounted before) (state_by used numbers is_stale has_mounted after) result
-    formatting_calls {T} runs was_stale had_mounted is_stale has_mounted result once cause undamaged = record {
-      follows = follows_by used numbers before after runs was_stale had_mounted is_stale has_mounted once (λ yes. absurd (cc (ap is_last none, yes)))
-          (λ sound. nothing_wrong after.image left) (λ place is. absurd (cc (nothing_wrong before.image (inl none), is)));
-      flash = cause;
-      damaged = λ sector page told. absurd (undamaged sector page told);
-      refuses_damage = no_damage result;
-    }
-      where
-        no_damage : (result : Result T BlockFault) → OnOk result (first_fault used numbers before.image ≡ None)
-        no_damage (Ok x) = nothing_wrong before.image (inl none)
-        no_damage (Err e) = tt
+    formatting_calls runs was_stale had_mounted is_stale has_mounted result once = sound_calls result
+        (follows_by used numbers before after runs was_stale had_mounted is_stale has_mounted once (λ yes. absurd (cc (ap is_last none, yes)))
+        (λ sound. nothing_wrong after.image left) (λ place is. absurd (cc (nothing_wrong before.image (inl none), is)))) (nothing_wrong before.image (inl none))

@@ -8,8 +8,6 @@ use Rattle.flt_flash.specs.declared.blocks.Found.TheVariants.{Bytes}
 use Rattle.flt_flash.specs.Content.{Content}
 use Rattle.flt_flash.specs.Blocks.{byte_pages, live_pages}
 use Rattle.flt_flash.specs.State.{FlashState, HasShape}
-use Rattle.flt_code.specs.Word.{IsWord}
-use Rattle.flt_code.specs.declared.words.Word.TheVariants.{Head}
 use Rattle.flt_sector.specs.Blocks.{current, block_value, value_by}
 use Rattle.flt_pages.specs.declared.place.RecordPlace.{RecordPlace}
 use Rattle.flt_pages.specs.LogHolds.{asked_of, given, StandsAt}
@@ -23,7 +21,7 @@ use Rattle.flt_pages.proofs.Telling.{farther_at, tells_more, told_place, live_to
 use Rattle.flt_fee.specs.Fee.{state_by}
 use Rattle.flt_fee.specs.Mounted.{IsMounted}
 use Rattle.flt_fee.proofs.Refusing.{end_within, live_end}
-use Rattle.flt_fee.proofs.Standing.{stands_value}
+use Rattle.flt_fee.proofs.Standing.{Appending, stands_value, done_standing}
 
 -- A table that tells what the current sector holds tells the blocks of the image.
 pub tells_image : (used : ℕ) (numbers : List ℕ) (image : List (List (List ℕ))) (sector sequence end : ℕ) (value : ℕ → Content) → StandsAt used numbers image sector sequence end value
@@ -65,23 +63,19 @@ module _ (is_stale has_mounted : Bool) (settled : is_stale ≡ false) (used : �
   tells_old = tells_sector used numbers flash.image sector sequence end used (is.current settled) within places tells
 
 -- A record was appended, and its place was noted.
-module _ (used : ℕ) (numbers : List ℕ) (before after : FlashState) (shape : HasShape before) (sector sequence end block : ℕ) (held : List ℕ) (valid : Bool) (in_sector : sector < 2) (begins : 2 ≤ used)
-    (stands : StandsAt used numbers before.image sector sequence end (block_value used numbers before.image)) (proper : IsWord (Head block (length held) valid end))
-    (is : Records {T = Unit {0}} before after sector end block held valid (Ok tt))
-    (now : StandsAt used numbers after.image sector sequence (end + (2 + byte_pages (length held))) (given block (asked_of valid held) (block_value used numbers before.image)))
+module _ {used : ℕ} {numbers : List ℕ} {before : FlashState} {sector sequence end block : ℕ} {held : List ℕ} {valid : Bool} (goes : Appending used numbers before sector sequence end block held valid)
+    {after : FlashState} (is : Records {T = Unit {0}} before after sector end block held valid (Ok tt))
     (places then_places : List (Option RecordPlace)) (tells : TellsPlaces numbers places (sector_at before.image sector) end (block_value used numbers before.image))
     (place : RecordPlace) (here : place ≡ record { page = end; length = length held; valid = valid })
     (noted : (k : ℕ) → k < length numbers → get_or then_places k None ≡ (if true && (block == get_or numbers k 0) then Some place else get_or places k None)) where
   pub tells_appended : (last : ℕ) → end + (2 + byte_pages (length held)) ≡ last → TellsPlaces numbers then_places (sector_at after.image sector) last (block_value used numbers after.image)
   tells_appended last ends =
+      let begun = end_least used numbers (sector_at before.image sector) (sector_at before.image sector) goes.stands.holds.entries end goes.begins goes.stands.holds.is (λ k low lt. refl) in
       subst (λ n. TellsPlaces numbers then_places (sector_at after.image sector) n (block_value used numbers after.image)) ends
-      (tells_image used numbers after.image sector sequence (end + (2 + byte_pages (length held))) (given block (asked_of valid held) (block_value used numbers before.image)) now then_places
+      (tells_image used numbers after.image sector sequence (end + (2 + byte_pages (length held))) (given block (asked_of valid held) (block_value used numbers before.image)) (done_standing goes is refl) then_places
       (subst (λ (p : List (List ℕ)). TellsPlaces numbers then_places p (end + (2 + byte_pages (length held))) (given block (asked_of valid held) (block_value used numbers before.image)))
-      (sym (pages_on before after sector is.pages shape in_sector is.on))
-      (tells_more (sector_at before.image sector) is.pages end block held valid begun proper.3 is.done numbers places then_places (block_value used numbers before.image) tells place here noted)))
-    where
-      begun : 2 ≤ end
-      begun = end_least used numbers (sector_at before.image sector) (sector_at before.image sector) stands.holds.entries end begins stands.holds.is (λ k low lt. refl)
+      (sym (pages_on before after sector is.pages goes.shape goes.within is.on))
+      (tells_more (sector_at before.image sector) is.pages end block held valid begun goes.proper.3 is.done numbers places then_places (block_value used numbers before.image) tells place here noted)))
 
 -- What is found of a valid record at its place is as many bytes as its head says.
 pub valid_found : (pages : List (List ℕ)) (end : ℕ) (content : Content) (place : RecordPlace) → ArePages pages → end ≤ length pages → place.valid ≡ true → IsAt pages end content (Some place) → Bytes place.length ≡ found_of content

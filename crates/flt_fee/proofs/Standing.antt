@@ -81,33 +81,43 @@ stale_mounted has_mounted used numbers image sector sequence end undamaged = rec
   ends = λ fresh. absurd (cc fresh);
 }
 
--- A record that was appended behind the log of an image that stands.
-module _ (used : ℕ) (numbers : List ℕ) (before after : FlashState) (shape : HasShape before) (sector sequence page block : ℕ) (held : List ℕ) (valid : Bool) (value : ℕ → Content)
-    (within : sector < 2) (begins : 2 ≤ used) (stands : StandsAt used numbers before.image sector sequence page value)
-    (proper : IsWord (Head block (length held) valid page)) (among : list_any (λ number. number == block) numbers ≡ true) (room : page + 2 + byte_pages (length held) ≤ used) where
-  module _ {result : Result (Unit {0}) FlashFailed} (is : Records before after sector page block held valid result) where
-    same_pages : sector_at after.image sector ≡ is.pages
-    same_pages = pages_on before after sector is.pages shape within is.on
+-- A record goes behind the log of an image that stands.
+pub record Appending (used : ℕ) (numbers : List ℕ) (before : FlashState) (sector sequence page block : ℕ) (held : List ℕ) (valid : Bool) : Type 0 where
+  pub shape : HasShape before
+  pub within : sector < 2
+  pub begins : 2 ≤ used
+  pub stands : StandsAt used numbers before.image sector sequence page (block_value used numbers before.image)
+  pub proper : IsWord (Head block (length held) valid page)
+  pub among : list_any (λ number. number == block) numbers ≡ true
+  pub room : page + 2 + byte_pages (length held) ≤ used
 
-    pub apart_by : RecordLeft (sector_at before.image sector) is.pages page block held valid → (to : ℕ) × KeptApart (sector_at before.image sector) is.pages page to
-    apart_by (inl torn) = (page + 1, torn.apart)
-    apart_by (inr (inl stood)) = (page + 2 + byte_pages (length held), stood.apart)
-    apart_by (inr (inr whole)) = (page + 2 + byte_pages (length held), whole.apart)
+module _ {used : ℕ} {numbers : List ℕ} {before : FlashState} {sector sequence page block : ℕ} {held : List ℕ} {valid : Bool} (goes : Appending used numbers before sector sequence page block held valid)
+    {after : FlashState} {result : Result (Unit {0}) FlashFailed} (is : Records before after sector page block held valid result) where
+  abbrev value : ℕ → Content
+  value = block_value used numbers before.image
 
-    pub current_stays : current used after.image ≡ current used before.image
-    current_stays =
-        let apart = apart_by is.left in
-        ap (current used) is.on.image ∙ same_current used before.image sector is.pages page apart.0 (omega (arith, shape.sectors))
-        (end_least used numbers (sector_at before.image sector) is.pages stands.holds.entries page begins stands.holds.is (λ k low lt. apart.1.before k lt)) apart.1
+  same_pages : sector_at after.image sector ≡ is.pages
+  same_pages = pages_on before after sector is.pages goes.shape goes.within is.on
 
-    stands_by : (last : ℕ) (values : ℕ → Content) → LogHolds used numbers is.pages last values → StandsAt used numbers after.image sector sequence last values
-    stands_by last values holds = record { current = current_stays ∙ stands.current; holds = subst (λ (p : List (List ℕ)). LogHolds used numbers p last values) (sym same_pages) holds }
+  apart_by : RecordLeft (sector_at before.image sector) is.pages page block held valid → (to : ℕ) × KeptApart (sector_at before.image sector) is.pages page to
+  apart_by (inl torn) = (page + 1, torn.apart)
+  apart_by (inr (inl stood)) = (page + 2 + byte_pages (length held), stood.apart)
+  apart_by (inr (inr whole)) = (page + 2 + byte_pages (length held), whole.apart)
 
-    pub left_standing : ((last : ℕ) × StandsAt used numbers after.image sector sequence last value) ⊎ ((last : ℕ) × StandsAt used numbers after.image sector sequence last (given block (asked_of valid held) value))
-    left_standing = ⊎_elim (λ old. inl (old.0, stands_by old.0 value old.1)) (λ new. inr (new.0, stands_by new.0 (given block (asked_of valid held) value) new.1))
-        (left_record used numbers (sector_at before.image sector) is.pages page value begins stands.holds block held valid proper (proper.0, proper.2) among room is.left)
+  pub current_stays : current used after.image ≡ current used before.image
+  current_stays =
+      let apart = apart_by is.left in
+      ap (current used) is.on.image ∙ same_current used before.image sector is.pages page apart.0 (omega (arith, goes.shape.sectors, goes.within))
+      (end_least used numbers (sector_at before.image sector) is.pages goes.stands.holds.entries page goes.begins goes.stands.holds.is (λ k low lt. apart.1.before k lt)) apart.1
 
-    pub done_standing : (result ≡ Ok tt) → StandsAt used numbers after.image sector sequence (page + (2 + byte_pages (length held))) (given block (asked_of valid held) value)
-    done_standing ok = stands_by (page + (2 + byte_pages (length held))) (given block (asked_of valid held) value)
-        (whole_record used numbers (sector_at before.image sector) is.pages page value begins stands.holds block held valid proper (proper.0, proper.2) among room
-        (subst (λ (r : Result (Unit {0}) FlashFailed). OnOk r (IsWhole (sector_at before.image sector) is.pages page block held valid)) ok is.done))
+  stands_by : (last : ℕ) (values : ℕ → Content) → LogHolds used numbers is.pages last values → StandsAt used numbers after.image sector sequence last values
+  stands_by last values holds = record { current = current_stays ∙ goes.stands.current; holds = subst (λ (p : List (List ℕ)). LogHolds used numbers p last values) (sym same_pages) holds }
+
+  pub left_standing : ((last : ℕ) × StandsAt used numbers after.image sector sequence last value) ⊎ ((last : ℕ) × StandsAt used numbers after.image sector sequence last (given block (asked_of valid held) value))
+  left_standing = ⊎_elim (λ old. inl (old.0, stands_by old.0 value old.1)) (λ new. inr (new.0, stands_by new.0 (given block (asked_of valid held) value) new.1))
+      (left_record used numbers (sector_at before.image sector) is.pages page value goes.begins goes.stands.holds block held valid goes.proper (goes.proper.0, goes.proper.2) goes.among goes.room is.left)
+
+  pub done_standing : (result ≡ Ok tt) → StandsAt used numbers after.image sector sequence (page + (2 + byte_pages (length held))) (given block (asked_of valid held) value)
+  done_standing ok = stands_by (page + (2 + byte_pages (length held))) (given block (asked_of valid held) value)
+      (whole_record used numbers (sector_at before.image sector) is.pages page value goes.begins goes.stands.holds block held valid goes.proper (goes.proper.0, goes.proper.2) goes.among goes.room
+      (subst (λ (r : Result (Unit {0}) FlashFailed). OnOk r (IsWhole (sector_at before.image sector) is.pages page block held valid)) ok is.done))

@@ -7,3 +7,4 @@ pub mod PageSizes
 pub mod CallsInARow
 pub mod Recounted
 pub mod TornTails
+pub mod Answering

@@ -2,19 +2,18 @@ use Rattle.std.proofs.Common.{◌≡◌, ◌+◌, ◌<◌, ℕ, true, List, leng
 use Rattle.std.specs.Prelude.{◌==◌, ◌&&◌, if◌then◌else◌}
 use Rattle.std.proofs.lemmas.List.{with_items_is}
 use Rattle.flt_flash.specs.Content.{Content}
-use Rattle.flt_code.specs.Word.{IsWord}
-use Rattle.flt_code.specs.declared.words.Word.TheVariants.{Head}
 use Rattle.flt_flash.specs.Blocks.{byte_pages}
 use Rattle.flt_sector.specs.Blocks.{block_value}
 use Rattle.flt_sector.proofs.Items.{is_among}
 use Rattle.flt_pages.specs.LogHolds.{asked_of, given, StandsAt}
-use Rattle.flt_fee.proofs.Standing.{mounted_stands, stale_mounted, stands_mounted, current_stays}
-use Rattle.flt_fee.proofs.Appended.{blank_at_end, left_sound, failed_changes, failed_calls, done_calls, done_changes, now_stands}
+use Rattle.flt_fee.proofs.Standing.{Appending, mounted_stands, stale_mounted, stands_mounted, current_stays, done_standing}
+use Rattle.flt_fee.proofs.Appended.{blank_at_end, left_sound, failed_changes, failed_calls, done_calls, done_changes}
 use Rattle.flt_pages.specs.declared.place.RecordPlace.{RecordPlace}
 use Rattle.flt_flash.specs.Image.{sector_at}
 use Rattle.flt_pages.specs.RecordPlace.{TellsPlaces}
 use Rattle.flt_fee.proofs.Placed.{tells_appended}
 use Rattle.flt_fee.proofs.Wearing.{even_same}
+use Rattle.flt_fee.proofs.fee.Fee.append.Goals.{After-append_record}
 use Rattle.flt_fee.proofs.fee.Fee.append.Goals as goal
 
 pub append_record-requires-clause-blank : goal.append_record-requires-clause-blank
@@ -24,72 +23,62 @@ append_record-requires-clause-blank g c =
     let stands = mounted_stands self.is_stale self.has_mounted c.requires.not_stale self.used self.numbers image self.sector self.sequence self.end self.mounted in
     λ k low high. blank_at_end self.used self.numbers image self.sector self.sequence self.end _ (omega (arith, self.least)) stands k low (omega (arith, c.requires.room))
 
+goes : (g : _) (c : After-append_record g)
+    → Appending c.args.self.now.used c.args.self.now.numbers (g.F.Flash.state c.args.self.now.flash) c.args.self.now.sector c.args.self.now.sequence c.args.self.now.end c.args.block c.args.bytes.now c.args.valid
+goes g c =
+    let self = c.args.self.now in
+    record {
+      shape = g.met.F.Flash.shape self.flash;
+      within = self.sectors;
+      begins = omega (arith, self.least);
+      stands = mounted_stands self.is_stale self.has_mounted c.requires.not_stale self.used self.numbers (g.F.Flash.state self.flash).image self.sector self.sequence self.end self.mounted;
+      proper = (omega arith, omega arith, omega arith, c.requires.length);
+      among = is_among self.numbers c.args.block c.requires.number;
+      room = c.requires.room;
+    }
+
 pub returns-in_err-append_record-clause-changes : goal.returns-in_err-append_record-clause-changes
 returns-in_err-append_record-clause-changes g c =
     let self = c.args.self.now in
-    let image = (g.F.Flash.state self.flash).image in
-    let stands = mounted_stands self.is_stale self.has_mounted c.requires.not_stale self.used self.numbers image self.sector self.sequence self.end self.mounted in
-    let proper : IsWord (Head c.args.block (length c.args.bytes.now) c.args.valid self.end) = (omega arith, omega arith, omega arith, c.requires.length) in
-    failed_changes self.used self.numbers (g.F.Flash.state self.flash) (g.F.Flash.state c.append_record.new.flash) (g.met.F.Flash.shape self.flash) self.sector self.sequence self.end c.args.block c.args.bytes.now c.args.valid
-    self.sectors (omega (arith, self.least)) stands proper (is_among self.numbers c.args.block c.requires.number) c.requires.room
-    self.is_stale self.has_mounted (self.mounted.mounted c.requires.not_stale) c.in_err-append_record.field-0.0 c.in_err-append_record.ensures.records c.from_residual.result (grind arith)
+    failed_changes (goes g (goal.at.returns-in_err-append_record-clause-changes g c).After-append_record) c.in_err-append_record.ensures.records self.is_stale self.has_mounted c.from_residual.result (grind arith)
 
 pub returns-in_err-append_record-clause-calls : goal.returns-in_err-append_record-clause-calls
 returns-in_err-append_record-clause-calls g c =
     let self = c.args.self.now in
-    let image = (g.F.Flash.state self.flash).image in
-    let stands = mounted_stands self.is_stale self.has_mounted c.requires.not_stale self.used self.numbers image self.sector self.sequence self.end self.mounted in
-    let proper : IsWord (Head c.args.block (length c.args.bytes.now) c.args.valid self.end) = (omega arith, omega arith, omega arith, c.requires.length) in
-    failed_calls self.used self.numbers (g.F.Flash.state self.flash) (g.F.Flash.state c.append_record.new.flash) (g.met.F.Flash.shape self.flash) self.sector self.sequence self.end c.args.block c.args.bytes.now c.args.valid
-    self.sectors (omega (arith, self.least)) stands proper (is_among self.numbers c.args.block c.requires.number) c.requires.room
-    self.is_stale self.has_mounted (self.mounted.mounted c.requires.not_stale) c.in_err-append_record.field-0.0 c.in_err-append_record.ensures.records c.from_residual.result (grind arith)
+    let records = c.in_err-append_record.ensures.records in
+    failed_calls (goes g (goal.at.returns-in_err-append_record-clause-calls g c).After-append_record) records self.is_stale self.has_mounted c.from_residual.result (grind arith) records.cause
 
 pub invariant_of-self-2 : goal.invariant_of-self-2
 invariant_of-self-2 g c =
     let self = c.args.self.now in
-    let image = (g.F.Flash.state self.flash).image in
+    let here = goes g (goal.at.invariant_of-self-2 g c).After-append_record in
+    let records = c.in_ok-append_record.ensures.records in
     let after = (g.F.Flash.state c.append_record.new.flash).image in
-    let stands = mounted_stands self.is_stale self.has_mounted c.requires.not_stale self.used self.numbers image self.sector self.sequence self.end self.mounted in
-    let proper : IsWord (Head c.args.block (length c.args.bytes.now) c.args.valid self.end) = (omega arith, omega arith, omega arith, c.requires.length) in
-    let value : ℕ → Content = given c.args.block (asked_of c.args.valid c.args.bytes.now) (block_value self.used self.numbers image) in
-    let now = now_stands self.used self.numbers (g.F.Flash.state self.flash) (g.F.Flash.state c.append_record.new.flash) (g.met.F.Flash.shape self.flash) self.sector self.sequence self.end c.args.block c.args.bytes.now c.args.valid
-    self.sectors (omega (arith, self.least)) stands proper (is_among self.numbers c.args.block c.requires.number) c.requires.room
-    self.is_stale self.has_mounted (self.mounted.mounted c.requires.not_stale) c.in_ok-append_record.ensures.records in
+    let value : ℕ → Content = given c.args.block (asked_of c.args.valid c.args.bytes.now) (block_value self.used self.numbers (g.F.Flash.state self.flash).image) in
     let last : self.end + (2 + byte_pages (length c.args.bytes.now)) ≡ self.end + 2 + c.byte_pages.result = omega (arith, c.byte_pages.ensures) in
     let same = with_items_is self.places c.note.new.places (omega (arith, c.note.ensures.size, ap length c.deref_mut.ensures.value, self.places.ok.0)) in
     let place : RecordPlace = record { page = self.end; length = length c.args.bytes.now; valid = c.args.valid } in
     let noted = subst (λ (places : List (Option RecordPlace)). (k : ℕ) → k < length self.numbers → get_or c.note.new.places k None ≡ (if true && (c.args.block == get_or self.numbers k 0) then Some place else get_or places k None)) c.deref_mut.ensures.value
     c.note.ensures.noted in
     record {
-      within = omega (arith, self.within, c.in_ok-append_record.ensures.records.on.runs.pages);
+      within = omega (arith, self.within, records.on.runs.pages);
       least = self.least;
       sectors = self.sectors;
       distinct = self.distinct;
       sized = ap length same ∙ c.note.ensures.size ∙ ap length c.deref_mut.ensures.value ∙ self.sized;
-      table = λ fresh. subst (λ (places : List (Option RecordPlace)). TellsPlaces self.numbers places (sector_at after self.sector) (self.end + 2 + c.byte_pages.result) (block_value self.used self.numbers after)) (sym same) (tells_appended self.used self.numbers (g.F.Flash.state self.flash) (g.F.Flash.state c.append_record.new.flash) (g.met.F.Flash.shape self.flash) self.sector self.sequence self.end c.args.block c.args.bytes.now c.args.valid
-          self.sectors (omega (arith, self.least)) stands proper c.in_ok-append_record.ensures.records now self.places.items c.note.new.places (self.table c.requires.not_stale) place refl noted (self.end + 2 + c.byte_pages.result) last);
+      table = λ fresh. subst (λ (places : List (Option RecordPlace)). TellsPlaces self.numbers places (sector_at after self.sector) (self.end + 2 + c.byte_pages.result) (block_value self.used self.numbers after)) (sym same)
+          (tells_appended here records self.places.items c.note.new.places (self.table c.requires.not_stale) place refl noted (self.end + 2 + c.byte_pages.result) last);
       mounted = stands_mounted self.has_mounted (self.mounted.mounted c.requires.not_stale) self.used self.numbers after self.sector self.sequence (self.end + 2 + c.byte_pages.result) value
-          (subst (λ n. StandsAt self.used self.numbers after self.sector self.sequence n value) last now);
+          (subst (λ n. StandsAt self.used self.numbers after self.sector self.sequence n value) last (done_standing here records refl));
     }
 
 pub returns-clause-changes : goal.returns-clause-changes
-returns-clause-changes g c =
-    let self = c.args.self.now in
-    let image = (g.F.Flash.state self.flash).image in
-    let stands = mounted_stands self.is_stale self.has_mounted c.requires.not_stale self.used self.numbers image self.sector self.sequence self.end self.mounted in
-    let proper : IsWord (Head c.args.block (length c.args.bytes.now) c.args.valid self.end) = (omega arith, omega arith, omega arith, c.requires.length) in
-    done_changes self.used self.numbers (g.F.Flash.state self.flash) (g.F.Flash.state c.append_record.new.flash) (g.met.F.Flash.shape self.flash) self.sector self.sequence self.end c.args.block c.args.bytes.now c.args.valid
-    self.sectors (omega (arith, self.least)) stands proper (is_among self.numbers c.args.block c.requires.number) c.requires.room
-    self.is_stale self.has_mounted (self.mounted.mounted c.requires.not_stale) c.in_ok-append_record.ensures.records
+returns-clause-changes g c = done_changes (goes g (goal.at.returns-clause-changes g c).After-append_record) c.in_ok-append_record.ensures.records c.args.self.now.is_stale c.args.self.now.has_mounted refl
 
 pub invariant_of-self : goal.invariant_of-self
 invariant_of-self g c =
     let self = c.args.self.now in
-    let image = (g.F.Flash.state self.flash).image in
-    let stands = mounted_stands self.is_stale self.has_mounted c.requires.not_stale self.used self.numbers image self.sector self.sequence self.end self.mounted in
-    let proper : IsWord (Head c.args.block (length c.args.bytes.now) c.args.valid self.end) = (omega arith, omega arith, omega arith, c.requires.length) in
-    let sound = left_sound self.used self.numbers (g.F.Flash.state self.flash) (g.F.Flash.state c.append_record.new.flash) (g.met.F.Flash.shape self.flash) self.sector self.sequence self.end c.args.block c.args.bytes.now c.args.valid
-    self.sectors (omega (arith, self.least)) stands proper (is_among self.numbers c.args.block c.requires.number) c.requires.room {result = c.append_record.result} c.append_record.ensures.records in
+    let sound = left_sound (goes g (goal.at.invariant_of-self g c).After-append_record) c.append_record.ensures.records in
     record {
       within = omega (arith, self.within, c.append_record.ensures.records.on.runs.pages);
       least = self.least;
@@ -102,32 +91,13 @@ invariant_of-self g c =
 
 pub returns-in_err-append_record-clause-even : goal.returns-in_err-append_record-clause-even
 returns-in_err-append_record-clause-even g c =
-    let self = c.args.self.now in
-    let image = (g.F.Flash.state self.flash).image in
-    let stands = mounted_stands self.is_stale self.has_mounted c.requires.not_stale self.used self.numbers image self.sector self.sequence self.end self.mounted in
-    let proper : IsWord (Head c.args.block (length c.args.bytes.now) c.args.valid self.end) = (omega arith, omega arith, omega arith, c.requires.length) in
-    even_same self.used (g.F.Flash.state self.flash) (g.F.Flash.state c.append_record.new.flash)
-    (current_stays self.used self.numbers (g.F.Flash.state self.flash) (g.F.Flash.state c.append_record.new.flash) (g.met.F.Flash.shape self.flash) self.sector self.sequence self.end c.args.block c.args.bytes.now c.args.valid
-    (block_value self.used self.numbers image) self.sectors (omega (arith, self.least)) stands proper (is_among self.numbers c.args.block c.requires.number) c.requires.room c.in_err-append_record.ensures.records)
-    c.in_err-append_record.ensures.records.on.wear
+    let records = c.in_err-append_record.ensures.records in
+    even_same c.args.self.now.used (g.F.Flash.state c.args.self.now.flash) (g.F.Flash.state c.append_record.new.flash) (current_stays (goes g (goal.at.returns-in_err-append_record-clause-even g c).After-append_record) records) records.on.wear
 
 pub returns-clause-even : goal.returns-clause-even
 returns-clause-even g c =
-    let self = c.args.self.now in
-    let image = (g.F.Flash.state self.flash).image in
-    let stands = mounted_stands self.is_stale self.has_mounted c.requires.not_stale self.used self.numbers image self.sector self.sequence self.end self.mounted in
-    let proper : IsWord (Head c.args.block (length c.args.bytes.now) c.args.valid self.end) = (omega arith, omega arith, omega arith, c.requires.length) in
-    even_same self.used (g.F.Flash.state self.flash) (g.F.Flash.state c.append_record.new.flash)
-    (current_stays self.used self.numbers (g.F.Flash.state self.flash) (g.F.Flash.state c.append_record.new.flash) (g.met.F.Flash.shape self.flash) self.sector self.sequence self.end c.args.block c.args.bytes.now c.args.valid
-    (block_value self.used self.numbers image) self.sectors (omega (arith, self.least)) stands proper (is_among self.numbers c.args.block c.requires.number) c.requires.room c.in_ok-append_record.ensures.records)
-    c.in_ok-append_record.ensures.records.on.wear
+    let records = c.in_ok-append_record.ensures.records in
+    even_same c.args.self.now.used (g.F.Flash.state c.args.self.now.flash) (g.F.Flash.state c.append_record.new.flash) (current_stays (goes g (goal.at.returns-clause-even g c).After-append_record) records) records.on.wear
 
 pub returns-clause-calls : goal.returns-clause-calls
-returns-clause-calls g c =
-    let self = c.args.self.now in
-    let image = (g.F.Flash.state self.flash).image in
-    let stands = mounted_stands self.is_stale self.has_mounted c.requires.not_stale self.used self.numbers image self.sector self.sequence self.end self.mounted in
-    let proper : IsWord (Head c.args.block (length c.args.bytes.now) c.args.valid self.end) = (omega arith, omega arith, omega arith, c.requires.length) in
-    done_calls self.used self.numbers (g.F.Flash.state self.flash) (g.F.Flash.state c.append_record.new.flash) (g.met.F.Flash.shape self.flash) self.sector self.sequence self.end c.args.block c.args.bytes.now c.args.valid
-    self.sectors (omega (arith, self.least)) stands proper (is_among self.numbers c.args.block c.requires.number) c.requires.room
-    self.is_stale self.has_mounted (self.mounted.mounted c.requires.not_stale) c.in_ok-append_record.ensures.records
+returns-clause-calls g c = done_calls (goes g (goal.at.returns-clause-calls g c).After-append_record) c.in_ok-append_record.ensures.records c.args.self.now.is_stale c.args.self.now.has_mounted refl
