@@ -1,5 +1,5 @@
 -- One operation of an EEPROM.
-use Rattle.std.proofs.Common.{◌≡◌, ◌<◌, ℕ, List, [], get_or, set, get_or-set_same, Result, Ok, Err, refl, sym, ◌∙◌, ap, arith}
+use Rattle.std.proofs.Common.{◌≡◌, ◌<◌, ℕ, List, [], get_or, set, Result, Ok, Err, refl, sym, ◌∙◌, ap, arith}
 use Rattle.std.specs.Prelude.{OnOk, OnErr}
 use Rattle.flt_flash.specs.Image.{sector_at, programmed}
 use Rattle.flt_flash.specs.State.{FlashState, Operates, OnlyReads, HasRisenBy}
@@ -8,6 +8,8 @@ use Rattle.flt_flash.specs.declared.flash.FlashFailed.{FlashFailed}
 use Rattle.flt_flash.proofs.Following.{one_run, one_read}
 use Rattle.flt_flash.proofs.TornParts.{torn_sector_of, torn_page_of}
 use Rattle.flt_pages.specs.Recorded.{OnSector}
+use Rattle.flt_pages.proofs.FillStep.{Lays}
+use Rattle.flt_pages.proofs.Recording.{sector_given}
 use Rattle.flt_ea.specs.State.{HasUnits}
 
 pub wear_stays : (before after : FlashState) → HasUnits before → HasUnits after → after.wear ≡ before.wear
@@ -19,7 +21,7 @@ one_reading before after result shape shape_after does image = one_read does ima
 
 -- The units of an image that was given them.
 pub units_on : (before after : FlashState) (units : List (List ℕ)) → HasUnits before → OnSector before after 0 units → sector_at after.image 0 ≡ units
-units_on before after units shape on = ap (λ (image : List (List (List ℕ))). sector_at image 0) on.image ∙ get_or-set_same before.image 0 units [] (omega (arith, shape.one))
+units_on before after units shape = sector_given before after 0 units (omega (arith, shape.one))
 
 -- A unit is written: as asked, or torn.
 pub record GivesUnit {T : Type 0} (before after : FlashState) (unit : ℕ) (asked : List ℕ) (result : Result T FlashFailed) : Type 0 where
@@ -28,6 +30,9 @@ pub record GivesUnit {T : Type 0} (before after : FlashState) (unit : ℕ) (aske
   pub done : OnOk result (laid ≡ asked)
   pub torn : OnErr result (IsTornPage (get_or (sector_at before.image 0) unit []) asked laid)
   pub cause : OnErr result (HasRisenBy 1 before.faults after.faults)
+
+pub unit_laid : {T : Type 0} {before after : FlashState} {unit : ℕ} {asked : List ℕ} {result : Result T FlashFailed} → GivesUnit before after unit asked result → Lays before after 0 unit asked result
+unit_laid is = record { laid = is.laid; on = is.on; done = is.done; cause = is.cause }
 
 pub gives_unit : {T : Type 0} (before after : FlashState) (unit : ℕ) (asked : List ℕ) (result : Result T FlashFailed) → HasUnits before → HasUnits after → unit < before.pages
     → OnOk result (after.image ≡ programmed before.image 0 unit asked) → OnErr result (IsTorn before.image (programmed before.image 0 unit asked) after.image) → Operates before after result

@@ -4,7 +4,6 @@ pub mod Judging
 pub mod Units
 pub mod Listed
 pub mod Device
-pub mod Filling
 pub mod Writing
 pub mod Standing
 pub mod Costing

@@ -44,28 +44,25 @@ module _ (units : List (List ℕ)) where
   tail_distinct : (number : ℕ) (numbers : List ℕ) → AllPairs (λ a b. a ≢ b) (number ∷ numbers) → AllPairs (λ a b. a ≢ b) numbers
   tail_distinct number numbers distinct i j d less within = distinct (suc i) (suc j) d (omega arith) (omega arith)
 
+  -- What is looked up by a block is that of its position.
+  first_at : {T : Type 0} (found : ℕ → List ℕ → ℕ → T) (at : ℕ → T) → ((from number : ℕ) (numbers : List ℕ) (block : ℕ) → found from (number ∷ numbers) block ≡ (if number == block then at from else found (from + 1) numbers block))
+      → (from : ℕ) (numbers : List ℕ) (block : ℕ) → AllPairs (λ a b. a ≢ b) numbers → (k : ℕ) → k < length numbers → get_or numbers k 0 ≡ block → found from numbers block ≡ at (from + k)
+  first_at found at first from [] block distinct k within is = absurd (omega arith)
+  first_at found at first from (number ∷ numbers) block distinct zero within is =
+      first from number numbers block ∙ ap (λ b. if b then at from else found (from + 1) numbers block) (eq-eqb number block is) ∙ here_is (λ n. at from ≡ at n) from refl
+  first_at found at first from (number ∷ numbers) block distinct (suc k) within is =
+      first from number numbers block
+      ∙ ap (λ b. if b then at from else found (from + 1) numbers block) (ne_eqb number block (λ same. distinct 0 (suc k) 0 (omega arith) (omega arith) (same ∙ sym is)))
+      ∙ behind_is (λ n. found (from + 1) numbers block ≡ at n) from k (first_at found at first (from + 1) numbers block (tail_distinct number numbers distinct) k (omega arith) is)
+
   -- A block holds what the current place at its position does.
   pub value_at : (from : ℕ) (numbers : List ℕ) (block : ℕ) → AllPairs (λ a b. a ≢ b) numbers → (k : ℕ) → k < length numbers → get_or numbers k 0 ≡ block
       → value_from from numbers units block ≡ content_of units (from + k) (current units (from + k))
-  value_at from [] block distinct k within is = absurd (omega arith)
-  value_at from (number ∷ numbers) block distinct zero within is =
-      value_first units from number numbers block ∙ ap (λ b. if b then content_of units from (current units from) else value_from (from + 1) numbers units block) (eq-eqb number block is)
-      ∙ here_is (λ n. content_of units from (current units from) ≡ content_of units n (current units n)) from refl
-  value_at from (number ∷ numbers) block distinct (suc k) within is =
-      value_first units from number numbers block
-      ∙ ap (λ b. if b then content_of units from (current units from) else value_from (from + 1) numbers units block) (ne_eqb number block (λ same. distinct 0 (suc k) 0 (omega arith) (omega arith) (same ∙ sym is)))
-      ∙ behind_is (λ n. value_from (from + 1) numbers units block ≡ content_of units n (current units n)) from k (value_at (from + 1) numbers block (tail_distinct number numbers distinct) k (omega arith) is)
+  value_at = first_at (λ from numbers block. value_from from numbers units block) (λ n. content_of units n (current units n)) (λ from number numbers block. value_first units from number numbers block)
 
   pub stuck_at : (from : ℕ) (numbers : List ℕ) (block : ℕ) → AllPairs (λ a b. a ≢ b) numbers → (k : ℕ) → k < length numbers → get_or numbers k 0 ≡ block
       → stuck_from from numbers units block ≡ is_last (current units (from + k))
-  stuck_at from [] block distinct k within is = absurd (omega arith)
-  stuck_at from (number ∷ numbers) block distinct zero within is =
-      stuck_first units from number numbers block ∙ ap (λ b. if b then is_last (current units from) else stuck_from (from + 1) numbers units block) (eq-eqb number block is)
-      ∙ here_is (λ n. is_last (current units from) ≡ is_last (current units n)) from refl
-  stuck_at from (number ∷ numbers) block distinct (suc k) within is =
-      stuck_first units from number numbers block
-      ∙ ap (λ b. if b then is_last (current units from) else stuck_from (from + 1) numbers units block) (ne_eqb number block (λ same. distinct 0 (suc k) 0 (omega arith) (omega arith) (same ∙ sym is)))
-      ∙ behind_is (λ n. stuck_from (from + 1) numbers units block ≡ is_last (current units n)) from k (stuck_at (from + 1) numbers block (tail_distinct number numbers distinct) k (omega arith) is)
+  stuck_at = first_at (λ from numbers block. stuck_from from numbers units block) (λ n. is_last (current units n)) (λ from number numbers block. stuck_first units from number numbers block)
 
   -- The table tells it too.
   pub spent_told : (from : ℕ) (numbers : List ℕ) (table : List (Option Held)) → length table ≡ length numbers → ((k : ℕ) → k < length numbers → get_or table k None ≡ current units (from + k))

@@ -12,6 +12,7 @@ use Rattle.flt_flash.specs.declared.blocks.BlockFault.{BlockFault}
 use Rattle.flt_flash.specs.declared.blocks.BlockFault.TheVariants.{Flash, Damaged, SequenceSpent}
 use Rattle.flt_flash.specs.declared.blocks.Found.TheVariants.{Bytes}
 use Rattle.flt_flash.specs.declared.flash.FlashFailed.{FlashFailed}
+use Rattle.flt_flash.proofs.Answering.{sound_calls, changes_done, changes_failed}
 use Rattle.flt_code.specs.Spoiled.{is_spoiled}
 use Rattle.flt_pages.specs.LogHolds.{asked_of}
 use Rattle.flt_pages.specs.Record.{KeptApart}
@@ -74,16 +75,7 @@ module _ (numbers : List ℕ) (before after : FlashState) (runs : MakesOperation
 
   pub quiet_calls : {T : Type 0} (result : Result T BlockFault) → (IsErrOf result Flash → HasRisenBy 1 before.faults after.faults)
       → ((sector page : ℕ) → IsErrOf result (Damaged sector page) → ⊥) → Calls (state_by numbers was_stale has_mounted before) (state_by numbers is_stale has_mounted after) result
-  quiet_calls {T} result cause undamaged = record {
-    follows = quiet_follows;
-    flash = cause;
-    damaged = λ sector page told. absurd (undamaged sector page told);
-    refuses_damage = no_damage result;
-  }
-    where
-      no_damage : (result : Result T BlockFault) → OnOk result (damage_in numbers before.image ≡ None)
-      no_damage (Ok x) = sound
-      no_damage (Err e) = tt
+  quiet_calls result = sound_calls result quiet_follows sound
 
 -- An image has no fault, and this is the current place of a block of it, which stands at this position.
 pub record StandsAt (device : FlashState) (numbers : List ℕ) (position block : ℕ) (found : Option Held) : Type 0 where
@@ -257,15 +249,7 @@ module _ {device : FlashState} {numbers : List ℕ} {position block : ℕ} {foun
       failed_calls cause answer told = quiet_calls numbers device after put.writes.on.runs stands.sound stored_sound spent was_stale has_mounted true answer (λ flash. cause) (λ s p damaged. cc (told, damaged))
 
       pub failed_changes : (answer : Result (Unit {0}) BlockFault) → answer ≡ Err Flash → Changes (state_by numbers was_stale has_mounted device) (state_by numbers true has_mounted after) block (asked_of new.valid written) (length written) answer
-      failed_changes answer told = subst (λ (r : Result (Unit {0}) BlockFault). Changes (state_by numbers was_stale has_mounted device) (state_by numbers true has_mounted after) block (asked_of new.valid written) (length written) r) (sym told)
-          (record {
-            done = tt;
-            failed = λ fault. stored.either;
-            others = others;
-            full = λ live needed fault. absurd (cc fault);
-            spent = λ fault. absurd (cc fault);
-            damaged = λ s p fault. absurd (cc fault);
-          })
+      failed_changes answer told = changes_failed (state_by numbers was_stale has_mounted device) (state_by numbers true has_mounted after) block (asked_of new.valid written) (length written) answer told stored.either others
 
       -- It holds the record whole.
       module _ (whole : HoldsRecord now unit new written) where
@@ -273,14 +257,7 @@ module _ {device : FlashState} {numbers : List ℕ} {position block : ℕ} {foun
         done_calls = quiet_calls numbers device after put.writes.on.runs stands.sound stored_sound spent was_stale has_mounted false {T = Unit {0}} (Ok tt) (λ told. absurd (cc told)) (λ s p told. cc told)
 
         pub done_changes : Changes (state_by numbers was_stale has_mounted device) (state_by numbers false has_mounted after) block (asked_of new.valid written) (length written) (Ok tt)
-        done_changes = record {
-          done = whole_value whole;
-          failed = λ told. absurd (cc told);
-          others = others;
-          full = λ live needed told. absurd (cc told);
-          spent = λ told. absurd (cc told);
-          damaged = λ s p told. absurd (cc told);
-        }
+        done_changes = changes_done (state_by numbers was_stale has_mounted device) (state_by numbers false has_mounted after) block (asked_of new.valid written) (length written) (whole_value whole) others
 
         -- The table has the new place.
         pub table_now : (table : List (Option Held)) → length table ≡ length numbers → IsTable (length numbers) units table → IsTable (length numbers) now (set table position (held_at (next_place found) new))

@@ -3,7 +3,7 @@ use Rattle.std.proofs.Common.{◌≡◌, inl, inr, ⊎_elim, ◌+◌, ◌≤◌,
 use Rattle.std.specs.Prelude.{IsErr, slice_range}
 use Rattle.std.specs.List.{flat_map}
 use Rattle.flt_flash.specs.Image.{sector_at, blank_page}
-use Rattle.flt_flash.specs.State.{FlashState, HasRisenBy}
+use Rattle.flt_flash.specs.State.{FlashState}
 use Rattle.flt_flash.specs.Tearing.{IsTornPage}
 use Rattle.flt_flash.specs.Blocks.{byte_pages}
 use Rattle.flt_flash.specs.declared.flash.FlashFailed.{FlashFailed}
@@ -115,11 +115,8 @@ module _ (before : FlashState) (shape : HasUnits before) (unit : ℕ) (gate : Ga
       apart = filled_apart is.pages is.apart;
       done = tt;
       left = inr (inl (filled_empty is.pages is.apart));
-      cause = rises is.cause;
+      cause = omega (arith, is.cause, on_clear.runs.counts);
     }
-      where
-        rises : HasRisenBy 1 middle.faults after.faults → HasRisenBy 1 before.faults after.faults
-        rises rose = omega (arith, rose, on_clear.runs.counts)
 
     -- The bytes stand.
     module _ (full : FlashState) (fills : Fills {T = Unit {0}} middle full 0 (unit + 1) held (Ok tt)) (after : FlashState) (asked : List ℕ) (word : IsCodeWordOf (gate_bytes gate) asked) where
@@ -147,8 +144,5 @@ module _ (before : FlashState) (shape : HasUnits before) (unit : ℕ) (gate : Ga
         apart = gated_apart fills.pages fills.apart is.laid;
         done = tt;
         left = torn_gate fills.pages fills.apart is.laid asked word fills.done (subst (λ (p : List (List ℕ)). IsTornPage (get_or p unit []) asked is.laid) full_units is.torn);
-        cause = rises is.cause;
+        cause = omega (arith, is.cause, on_full.runs.counts);
       }
-        where
-          rises : HasRisenBy 1 full.faults after.faults → HasRisenBy 1 before.faults after.faults
-          rises rose = omega (arith, rose, on_full.runs.counts)

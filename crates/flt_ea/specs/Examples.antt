@@ -5,7 +5,6 @@ use Rattle.flt_flash.specs.Content.{missing, invalid, bytes}
 use Rattle.flt_code.specs.Seal.{sealed}
 use Rattle.flt_ea.specs.Gate.{gate_bytes}
 use Rattle.flt_ea.specs.Image.{value_in, damage_in, is_spent_in, is_stuck_in}
-use Rattle.flt_ea.specs.declared.gate.Gate.{Gate}
 
 -- ---- how worked units are written
 

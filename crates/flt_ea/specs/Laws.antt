@@ -1,13 +1,12 @@
 -- The laws of a driver over an EEPROM.
-use Rattle.std.proofs.Common.{◌≡◌, ◌+◌, ◌-◌, ◌*◌, ◌<◌, ◌≤◌, ℕ, suc, Bool, true, false, List, [], ◌∷◌, drop, length, length-take, Option, Some, None, refl, sym, ◌∙◌, ap, subst, arith}
+use Rattle.std.proofs.Common.{◌≡◌, ◌+◌, ◌*◌, ◌<◌, ◌≤◌, ℕ, suc, Bool, true, false, List, [], ◌∷◌, length, length-take, Option, Some, None, refl, sym, ◌∙◌, subst, arith}
 use Rattle.std.specs.Prelude.{◌||◌, ◌==◌, if◌then◌else◌, slice_range, IsTrue}
-use Rattle.std.proofs.lemmas.List.{get_or-take, get_or-drop}
 use Rattle.flt_flash.specs.Content.{Content, missing, invalid, bytes, size_of, IsShort}
 use Rattle.flt_flash.specs.Blocks.{byte_pages}
-use Rattle.flt_flash.specs.Image.{sector_at, ArePages}
+use Rattle.flt_flash.specs.Image.{sector_at}
 use Rattle.flt_flash.specs.State.{FlashState}
 use Rattle.flt_pages.proofs.Finding.{length_most}
-use Rattle.flt_pages.proofs.PageBytes.{flat, flat_size, range_size}
+use Rattle.flt_pages.proofs.PageBytes.{flat, flat_size, range_pages, range_size}
 use Rattle.flt_ea.specs.State.{HasUnits}
 use Rattle.flt_ea.specs.Image.{gate_unit, bytes_behind, content_of, current, is_last, value_from, spent_from, stuck_from, value_in, is_spent_in, is_stuck_in}
 use Rattle.flt_ea.specs.declared.place.Held.{Held}
@@ -100,18 +99,13 @@ module _ (device : FlashState) (shape : HasUnits device) where
   abbrev units : List (List ℕ)
   units = sector_at device.image 0
 
-  range_pages : (from to : ℕ) → to ≤ length units → ArePages (slice_range units from to)
-  range_pages from to within k lt =
-      let inside : k < to - from = omega (arith, lt, length-take (to - from) (drop from units)) in
-      ap length (get_or-take (to - from) (drop from units) k [] inside ∙ get_or-drop from units k []) ∙ shape.bytes (from + k) (omega arith)
-
   -- So many bytes stand behind a gate, where so many units do.
   pub size_behind : (gate size : ℕ) → gate + 1 + byte_pages size ≤ length units → length (bytes_behind units gate size) ≡ size
   size_behind gate size room =
       let to = gate + 1 + byte_pages size in
       let range : List (List ℕ) = slice_range units (gate + 1) to in
       let many : length range ≡ byte_pages size = omega (arith, range_size units (gate + 1) to room) in
-      omega (arith, length-take size (flat range), flat_size range (range_pages (gate + 1) to room), many)
+      omega (arith, length-take size (flat range), flat_size range (range_pages units (gate + 1) to room shape.bytes), many)
 
   -- As many bytes stand behind a gate as it says.
   pub held_size : (position : ℕ) (held : Held) → 10 * position + 10 ≤ device.pages → IsHeld held → length (bytes_behind units (gate_unit position held.place) held.gate.length) ≡ held.gate.length

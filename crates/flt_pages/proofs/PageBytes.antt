@@ -40,7 +40,7 @@ flat_page (page ∷ pages) sizes (suc index) within m most =
 range_at : (pages : List (List ℕ)) (from to k : ℕ) → k < to - from → get_or (slice_range pages from to) k [] ≡ get_or pages (from + k) []
 range_at pages from to k within = get_or-take (to - from) (drop from pages) k [] within ∙ get_or-drop from pages k []
 
-range_pages : (pages : List (List ℕ)) (from to : ℕ) → to ≤ length pages → ArePages pages → ArePages (slice_range pages from to)
+pub range_pages : (pages : List (List ℕ)) (from to : ℕ) → to ≤ length pages → ArePages pages → ArePages (slice_range pages from to)
 range_pages pages from to within sizes k lt =
     let inside : k < to - from = omega (arith, lt, length-take (to - from) (drop from pages)) in
     ap length (range_at pages from to k inside) ∙ sizes (from + k) (omega arith)
