@@ -2,7 +2,7 @@
 use Rattle.std.proofs.Common.{◌≡◌, ◌⊎◌, ⊎_elim, inl, inr, ◌<◌, ◌≤◌, ◌^◌, ℕ, Bool, true, false, List, [], get_or, set, replicate, length, get_or-set_same, get_or-set_other, Option, Some, None, Result, Ok, Err, refl, ◌∙◌, ap, arith}
 use Rattle.std.specs.Prelude.{OnOk, ◌==◌, nat_lt}
 use Rattle.std.proofs.lemmas.List.{set-set}
-use Rattle.flt_flash.specs.Image.{sector_at, page_at, programmed, erased, blank_page}
+use Rattle.flt_flash.specs.Image.{sector_at, programmed, erased, blank_page}
 use Rattle.flt_flash.specs.State.{FlashState, HasShape}
 use Rattle.flt_flash.specs.declared.flash.FlashFailed.{FlashFailed}
 use Rattle.flt_code.specs.Seal.{sealed}
@@ -59,9 +59,6 @@ module _ (used : ℕ) (least : 4 ≤ used) (fits : used < 2 ^ 16) (before : Flas
 
     middle_pages : sector_at middle.image 0 ≡ set (replicate (length (sector_at before.image 0)) blank_page) 0 (sealed (word_bytes (Start 1 used)))
     middle_pages = ap (λ (image : List (List (List ℕ))). sector_at image 0) middle_image ∙ get_or-set_same before.image 0 pages [] (omega (arith, shape.sectors))
-
-    pub active_blank : page_at middle.image 0 1 ≡ blank_page
-    active_blank = ap (λ (p : List (List ℕ)). get_or p 1 []) middle_pages ∙ (is_begun used 1 (omega arith) fits (omega arith) before shape 0 (omega arith) most middle begun).blank 1 (omega arith) (omega arith)
 
     laid : (page : List ℕ) → programmed middle.image 0 1 page ≡ set before.image 0 (set (set (replicate (length (sector_at before.image 0)) blank_page) 0 (sealed (word_bytes (Start 1 used)))) 1 page)
     laid page = (λ i. set (middle_image i) 0 (set (middle_pages i) 1 page)) ∙ set-set before.image 0 pages (set pages 1 page)
