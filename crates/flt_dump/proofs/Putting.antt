@@ -1,10 +1,11 @@
 -- The lines of a log from a page on, while they are put.
-use Rattle.std.proofs.Common.{◌≡◌, ◌≢◌, ⊎_elim, ◌+◌, ◌-◌, ◌<◌, ◌≤◌, ℕ, zero, suc, Bool, true, false, List, [], ◌∷◌, ◌++◌, Option, Some, None, Result, Ok, Err, refl, sym, ◌∙◌, ap, subst, arith, append_assoc}
+use Rattle.std.proofs.Common.{◌≡◌, ◌≢◌, ⊎_elim, ◌+◌, ◌-◌, ◌≤◌, ℕ, zero, suc, Bool, true, false, List, [], ◌∷◌, ◌++◌, Option, Some, None, Result, Ok, Err, refl, sym, ◌∙◌, ap, subst, arith, append_assoc}
 use Rattle.std.proofs.lemmas.List.{append-nil}
 use Rattle.flt_flash.specs.Blocks.{byte_pages, record_pages}
 use Rattle.flt_sector.specs.Log.{Entry, LogFrom, item_at, first_written, log_after, log_from, log}
 use Rattle.flt_sector.specs.declared.log.Item.{Item}
 use Rattle.flt_sector.specs.declared.log.Item.TheVariants.{End, Torn, Kept}
+use Rattle.flt_sector.proofs.Logged.{log_on, log_step}
 use Rattle.flt_pages.proofs.ItemPages.{item_within}
 use Rattle.std.specs.Result.{is_ok}
 use Rattle.flt_pages.specs.declared.fault.PageFault.{PageFault}
@@ -73,74 +74,47 @@ module _ (used : ℕ) (numbers : List ℕ) (pages : List (List ℕ)) where
 
   -- What was put so far and what is to be put from this page on are the lines of the log behind what stood before.
   pub record Puts (old now : List ℕ) (page : ℕ) : Type 0 where
-    pub left : ℕ
-    pub enough : used < page + left
     pub below : page ≤ used
-    pub fault : (log used numbers pages).fault ≡ (log_from used numbers pages page left).fault
-    pub text : now ++ log_text page (log_from used numbers pages page left).entries (log_from used numbers pages page left).end
+    pub fault : (log used numbers pages).fault ≡ (log_on used numbers pages page).fault
+    pub text : now ++ log_text page (log_on used numbers pages page).entries (log_on used numbers pages page).end
         ≡ old ++ log_text 2 (log used numbers pages).entries (log used numbers pages).end
 
   pub puts_none : (old : List ℕ) → 2 ≤ used → Puts old old 2
-  puts_none old least = record { left = used + 1; enough = omega arith; below = least; fault = refl; text = refl }
+  puts_none old least = record { below = least; fault = refl; text = refl }
 
   module _ (old now : List ℕ) (page : ℕ) (puts : Puts old now page) where
-    step : (left : ℕ) (at : Result Item ℕ) → item_at used numbers pages page ≡ at → log_from used numbers pages page (suc left) ≡ log_after used pages page (λ next. log_from used numbers pages next left) at
-    unfolding log_from
-    step left at found = ap (log_after used pages page (λ next. log_from used numbers pages next left)) found
-
     abbrev TextOf : LogFrom → Type 0
     TextOf from = now ++ log_text page from.entries from.end ≡ old ++ log_text 2 (log used numbers pages).entries (log used numbers pages).end
 
-    abbrev FaultOf : LogFrom → Type 0
-    FaultOf from = (log used numbers pages).fault ≡ from.fault
-
     pub puts_torn : item_at used numbers pages page ≡ Ok Torn → Puts old (now ++ torn_line page) (page + 1)
-    puts_torn found = by_left puts.left puts.enough puts.fault puts.text
-      where
-        by_left : (left : ℕ) → used < page + left → FaultOf (log_from used numbers pages page left) → TextOf (log_from used numbers pages page left) → Puts old (now ++ torn_line page) (page + 1)
-        by_left zero enough fault text = absurd (omega (arith, puts.below))
-        by_left (suc left) enough fault text =
-            let here = step left (Ok Torn) found in
-            let next = log_from used numbers pages (page + 1) left in
-            record {
-              left = left;
-              enough = omega arith;
-              below = omega (arith, item_within used numbers pages page Torn (λ e. cc e) puts.below found);
-              fault = subst FaultOf here fault;
-              text = append_assoc now (torn_line page) _ ∙ ap (λ (l : List ℕ). now ++ l) (sym (torn_text page next.entries next.end (begins_there left (page + 1)))) ∙ subst TextOf here text;
-            }
+    puts_torn found =
+        let step = log_step used numbers pages page (Ok Torn) puts.below found in
+        let next = log_on used numbers pages (page + 1) in
+        record {
+          below = item_within used numbers pages page Torn (λ e. cc e) puts.below found;
+          fault = puts.fault ∙ ap (λ (l : LogFrom). l.fault) step;
+          text = append_assoc now (torn_line page) _ ∙ ap (λ (l : List ℕ). now ++ l) (sym (torn_text page next.entries next.end (begins_there (used + 1) (page + 1)))) ∙ subst TextOf step puts.text;
+        }
 
     pub puts_record : (block length : ℕ) (valid complete : Bool) → item_at used numbers pages page ≡ Ok (Kept block length valid complete)
         → Puts old (now ++ record_line (entry_at page block length valid complete)) (page + 2 + byte_pages length)
-    puts_record block length valid complete found = by_left puts.left puts.enough puts.fault puts.text
-      where
-        by_left : (left : ℕ) → used < page + left → FaultOf (log_from used numbers pages page left) → TextOf (log_from used numbers pages page left)
-            → Puts old (now ++ record_line (entry_at page block length valid complete)) (page + 2 + byte_pages length)
-        by_left zero enough fault text = absurd (omega (arith, puts.below))
-        by_left (suc left) enough fault text =
-            let here = step left (Ok (Kept block length valid complete)) found in
-            let next = log_from used numbers pages (page + 2 + byte_pages length) left in
-            let place : page + record_pages length ≡ page + 2 + byte_pages length = omega arith in
-            record {
-              left = left;
-              enough = omega arith;
-              below = omega (arith, item_within used numbers pages page (Kept block length valid complete) (λ e. cc e) puts.below found);
-              fault = subst FaultOf here fault;
-              text = append_assoc now (record_line (entry_at page block length valid complete)) _
-                  ∙ ap (λ (l : List ℕ). now ++ l) (ap (λ (n : ℕ). record_line (entry_at page block length valid complete) ++ log_text n next.entries next.end) (sym place) ∙ sym (record_text (entry_at page block length valid complete) next.entries next.end))
-                  ∙ subst TextOf here text;
-            }
+    puts_record block length valid complete found =
+        let step = log_step used numbers pages page (Ok (Kept block length valid complete)) puts.below found in
+        let next = log_on used numbers pages (page + 2 + byte_pages length) in
+        let place : page + record_pages length ≡ page + 2 + byte_pages length = omega arith in
+        record {
+          below = omega (arith, item_within used numbers pages page (Kept block length valid complete) (λ e. cc e) puts.below found);
+          fault = puts.fault ∙ ap (λ (l : LogFrom). l.fault) step;
+          text = append_assoc now (record_line (entry_at page block length valid complete)) _
+              ∙ ap (λ (l : List ℕ). now ++ l) (ap (λ (n : ℕ). record_line (entry_at page block length valid complete) ++ log_text n next.entries next.end) (sym place) ∙ sym (record_text (entry_at page block length valid complete) next.entries next.end))
+              ∙ subst TextOf step puts.text;
+        }
 
     at_end : item_at used numbers pages page ≡ Ok End
         → ((log used numbers pages).fault ≡ first_written pages page (used - page)) × (now ≡ old ++ log_text 2 (log used numbers pages).entries (log used numbers pages).end)
-    at_end found = by_left puts.left puts.enough puts.fault puts.text
-      where
-        by_left : (left : ℕ) → used < page + left → FaultOf (log_from used numbers pages page left) → TextOf (log_from used numbers pages page left)
-            → ((log used numbers pages).fault ≡ first_written pages page (used - page)) × (now ≡ old ++ log_text 2 (log used numbers pages).entries (log used numbers pages).end)
-        by_left zero enough fault text = absurd (omega (arith, puts.below))
-        by_left (suc left) enough fault text =
-            let here = step left (Ok End) found in
-            (subst FaultOf here fault, sym (append-nil now) ∙ ap (λ (l : List ℕ). now ++ l) (sym (end_text page)) ∙ subst TextOf here text)
+    at_end found =
+        let step = log_step used numbers pages page (Ok End) puts.below found in
+        (puts.fault ∙ ap (λ (l : LogFrom). l.fault) step, sym (append-nil now) ∙ ap (λ (l : List ℕ). now ++ l) (sym (end_text page)) ∙ subst TextOf step puts.text)
 
     -- All was put, or a page behind the end is written.
     pub puts_all : (whole : Bool) → item_at used numbers pages page ≡ Ok End → (whole ≡ true → first_written pages page (used - page) ≡ None)
@@ -150,13 +124,8 @@ module _ (used : ℕ) (numbers : List ℕ) (pages : List (List ℕ)) where
 
     -- An item at fault is one of the log.
     pub puts_fault : (at : ℕ) → item_at used numbers pages page ≡ Err at → IsListed false (log used numbers pages) old now
-    puts_fault at found = λ fine. by_left puts.left puts.enough (sym puts.fault ∙ fine)
-      where
-        by_left : (left : ℕ) → used < page + left → (log_from used numbers pages page left).fault ≡ None → ⊥
-        by_left zero enough fault = absurd (omega (arith, puts.below))
-        by_left (suc left) enough fault =
-            let here = ap (λ (l : LogFrom). l.fault) (step left (Err at) found) in
-            let no : Some at ≡ None = sym here ∙ fault in absurd (cc no)
+    puts_fault at found = λ fine.
+        let no : Some at ≡ None = sym (puts.fault ∙ ap (λ (l : LogFrom). l.fault) (log_step used numbers pages page (Err at) puts.below found)) ∙ fine in absurd (cc no)
 
 -- An item that was not told is at fault, where no read failed.
 pub fault_told : (sector : ℕ) (at : Result Item ℕ) (fault : PageFault) → TellsOrFails {T = Item} (Err fault) (told sector at) → fault ≢ Flash → (page : ℕ) × (at ≡ Err page)
