@@ -8,7 +8,8 @@ use Rattle.flt_flash.specs.Calls.{Follows}
 use Rattle.flt_flash.specs.declared.blocks.BlockFault.{BlockFault}
 use Rattle.flt_sector.specs.Log.{LogFrom, log}
 use Rattle.flt_sector.specs.Blocks.{Current, current, first_fault, fault_by, place_in}
-use Rattle.flt_pages.specs.Told.{TellsOrFails, told_end}
+use Rattle.flt_pages.specs.declared.sectors.CurrentSector.{CurrentSector}
+use Rattle.flt_pages.specs.Told.{TellsOrFails, current_of, told_current, told_end}
 use Rattle.flt_fee.specs.Fee.{is_last, is_past, state_by}
 use Rattle.flt_fee.specs.Refusal.{KeepsStuck}
 use Rattle.flt_fee.specs.Mounted.{IsMounted}
@@ -22,6 +23,16 @@ module _ (used : ℕ) (numbers : List ℕ) (before after : FlashState) (reads : 
   -- Where the current sector is known, the first fault is that of its log.
   pub fault_there : (at : Current) → current used before.image ≡ Ok (Some at) → first_fault used numbers before.image ≡ place_in at.sector (log used numbers (sector_at before.image at.sector)).fault
   fault_there at is = ap (fault_by used numbers before.image) is
+
+  -- The current sector, as it was told.
+  pub current_there : (at : CurrentSector) (answer : Option CurrentSector) → answer ≡ Some at → TellsOrFails {T = Option CurrentSector} (Ok answer) (told_current (current used before.image)) → current used after.image ≡ Ok (Some (current_of at))
+  current_there at answer is tells = ap (current used) reads.image ∙ by_found (current used before.image) tells
+    where
+      by_found : (found : Result (Option Current) (ℕ × ℕ)) → TellsOrFails {T = Option CurrentSector} (Ok answer) (told_current found) → found ≡ Ok (Some (current_of at))
+      by_found (Err place) told = ⊎_elim (λ no. absurd (cc no)) (λ no. absurd (cc no)) told
+      by_found (Ok None) told = ⊎_elim (λ no. absurd (cc no)) (λ none. absurd (cc (none, is))) told
+      by_found (Ok (Some found)) told =
+          ⊎_elim (λ no. absurd (cc no)) (λ same. let there : record { sector = found.sector; sequence = found.sequence } ≡ at = cc (same, is) in ap (λ (a : CurrentSector). Ok (Some (current_of a))) there) told
 
   pub reading_follows : (was_stale had_mounted is_stale has_mounted : Bool) → (had_mounted ≡ true → has_mounted ≡ true)
       → Follows (state_by used numbers was_stale had_mounted before) (state_by used numbers is_stale has_mounted after)

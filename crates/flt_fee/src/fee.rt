@@ -12,7 +12,6 @@ ghost use Rattle.flt_code.specs.Word.{is_length};
 ghost use Rattle.flt_sector.specs.Blocks.{current, block_value};
 ghost use Rattle.flt_pages.specs.LogHolds.{asked_of};
 ghost use Rattle.flt_pages.specs.Switch.{Erases};
-ghost use Rattle.flt_pages.specs.Told.{current_of};
 ghost use Rattle.flt_pages.specs.RecordPlace.{IsPlaceWithin, IsAt, TellsPlaces, bytes_at};
 ghost use Rattle.flt_fee.specs.Costs.{SpendsAtMost, MakesRoom, StoreCosts, Stores, UnlessFailed};
 ghost use Rattle.flt_fee.specs.Mounted.{IsMounted};
@@ -21,8 +20,8 @@ ghost use Rattle.flt_fee.specs.Wear.{StaysEven, UnlessFlash};
 
 use flt_flash::{Arm, Bench, BlockFault, Blocks, Flash, Found, Refused};
 use flt_pages::{
-    CurrentSector, Numbers, RecordPlace, append_record, byte_pages, current_sector, find_places,
-    forget, live_pages, note, place_of, read_record, set_up_flash, switch_sectors,
+    Numbers, RecordPlace, append_record, byte_pages, current_sector, find_places, forget,
+    live_pages, note, place_of, read_record, set_up_flash, switch_sectors,
 };
 use std::alloc::{AllocError, Global};
 
@@ -111,35 +110,6 @@ impl<F: Flash> Fee<F> {
         Ok(())
     }
 
-    // Goes on with the current sector as it stands: the mount of a flash with a valid sector.
-    fn resume(&mut self, at: CurrentSector) -> Result<(), BlockFault>
-        requires sector { at.sector < 2 }
-        requires found { current self.old.used (F.state self.old.flash).image ≡ Ok (Some (current_of at)) }
-        ensures values { SameValues (uncounted_of F.state self.old) (uncounted_of F.state self.new) }
-        ensures spent { SameSpent (uncounted_of F.state self.old) (uncounted_of F.state self.new) }
-        ensures calls { Calls (uncounted_of F.state self.old) (uncounted_of F.state self.new) result }
-        ensures count { self.new.calls ≡ self.old.calls }
-        ensures never_full { NeverFull result }
-        ensures stale { Settles result (uncounted_of F.state self.new) }
-        ensures stuck { KeepsStuck (uncounted_of F.state self.old) (uncounted_of F.state self.new) result }
-        ensures even { UnlessFlash result (StaysEven self.old.used (F.state self.old.flash) (F.state self.new.flash)) }
-    {
-        self.is_stale = true;
-        let end = find_places(
-            &mut self.flash,
-            at.sector,
-            self.used,
-            &self.numbers,
-            &mut self.places,
-        )?;
-        self.sector = at.sector;
-        self.sequence = at.sequence;
-        self.end = end;
-        self.has_mounted = true;
-        self.is_stale = false;
-        Ok(())
-    }
-
     // Begins the first sector: the mount of a flash of which no sector is valid.
     fn format(&mut self) -> Result<(), BlockFault>
         requires { current self.old.used (F.state self.old.flash).image ≡ Ok None }
@@ -177,7 +147,21 @@ impl<F: Flash> Fee<F> {
         self.is_stale = true;
         match current_sector(&mut self.flash, self.used)? {
             None => self.format(),
-            Some(at) => self.resume(at),
+            Some(at) => {
+                let end = find_places(
+                    &mut self.flash,
+                    at.sector,
+                    self.used,
+                    &self.numbers,
+                    &mut self.places,
+                )?;
+                self.sector = at.sector;
+                self.sequence = at.sequence;
+                self.end = end;
+                self.has_mounted = true;
+                self.is_stale = false;
+                Ok(())
+            }
         }
     }
 
