@@ -1,11 +1,11 @@
 -- The table of places of a driver.
-use Rattle.std.proofs.Common.{◌≡◌, ◌≢◌, ◌+◌, ◌<◌, ◌≤◌, ℕ, Bool, true, false, List, get_or, length, Option, Some, None, Ok, refl, sym, ap, ◌∙◌, subst, arith}
+use Rattle.std.proofs.Common.{◌≡◌, ◌≢◌, ◌+◌, ◌<◌, ◌≤◌, ℕ, Bool, true, false, List, ◌++◌, drop, get_or, length, Option, Some, None, Ok, refl, sym, ap, ◌∙◌, subst, arith}
 use Rattle.std.specs.Prelude.{◌==◌, ◌&&◌, if◌then◌else◌, sum_by}
 use Rattle.std.specs.List.{AllPairs}
 use Rattle.flt_flash.specs.Image.{sector_at, ArePages}
-use Rattle.flt_flash.specs.Calls.{found_of}
+use Rattle.flt_flash.specs.Calls.{found_of, ReadsContent}
 use Rattle.flt_flash.specs.declared.blocks.Found.TheVariants.{Bytes}
-use Rattle.flt_flash.specs.Content.{Content}
+use Rattle.flt_flash.specs.Content.{Content, bytes, size_of}
 use Rattle.flt_flash.specs.Blocks.{byte_pages, live_pages}
 use Rattle.flt_flash.specs.State.{FlashState, HasShape}
 use Rattle.flt_sector.specs.Blocks.{current, block_value, value_by}
@@ -77,8 +77,19 @@ module _ {used : ℕ} {numbers : List ℕ} {before : FlashState} {sector sequenc
       (sym (pages_on before after sector is.pages goes.shape goes.within is.on))
       (tells_more (sector_at before.image sector) is.pages end block held valid begun goes.proper.3 is.done numbers places then_places (block_value used numbers before.image) tells place here noted)))
 
--- What is found of a valid record at its place is as many bytes as its head says.
-pub valid_found : (pages : List (List ℕ)) (end : ℕ) (content : Content) (place : RecordPlace) → ArePages pages → end ≤ length pages → place.valid ≡ true → IsAt pages end content (Some place) → Bytes place.length ≡ found_of content
-valid_found pages end content place sizes most valid at =
-    let size : length (bytes_at pages place) ≡ place.length = bytes_size pages sizes (record_at 0 place) (omega (arith, at.inside.within.below)) in
-    ap Bytes (sym size) ∙ sym (ap found_of at.holds ∙ ap (λ v. found_of (asked_of v (bytes_at pages place))) valid)
+-- A valid record at its place has as many bytes as its head says.
+module _ (pages : List (List ℕ)) (end : ℕ) (content : Content) (place : RecordPlace) (sizes : ArePages pages) (most : end ≤ length pages) (valid : place.valid ≡ true) (at : IsAt pages end content (Some place)) where
+  valid_holds : content ≡ bytes (bytes_at pages place)
+  valid_holds = at.holds ∙ ap (λ v. asked_of v (bytes_at pages place)) valid
+
+  size : length (bytes_at pages place) ≡ place.length
+  size = bytes_size pages sizes (record_at 0 place) (omega (arith, at.inside.within.below))
+
+  pub valid_size : size_of content ≡ place.length
+  valid_size = ap size_of valid_holds ∙ size
+
+  pub valid_found : Bytes place.length ≡ found_of content
+  valid_found = ap Bytes (sym size) ∙ sym (ap found_of valid_holds)
+
+  pub valid_read : (before after : List ℕ) → after ≡ bytes_at pages place ++ drop place.length before → ReadsContent content (Bytes place.length) before after
+  valid_read before after read = subst (λ (c : Content). ReadsContent c (Bytes place.length) before after) (sym valid_holds) (sym size, read)

@@ -3,7 +3,7 @@ ghost use Rattle.std.specs.Prelude.{◌≡◌, ◌≢◌, ◌+◌, ◌-◌, ◌*
 ghost use Rattle.std.specs.Prelude.{IsFalse, IsTrue, IfOk, IfErr, IfSome, OnOk, OnErr, IsErrOf, Ok, Some, None};
 ghost use Rattle.std.specs.List.{AllPairs};
 ghost use Rattle.std.proofs.Props.{props};
-ghost use Rattle.flt_flash.specs.Content.{invalid, bytes as holding, size_of};
+ghost use Rattle.flt_flash.specs.Content.{invalid, bytes as holding};
 ghost use Rattle.flt_flash.specs.Image.{sector_at};
 ghost use Rattle.flt_flash.specs.Blocks.{byte_pages, device_of, live_pages, record_pages, IsFull};
 ghost use Rattle.flt_flash.specs.Calls.{Calls, CountsCall, Changes, Costs, ReadsContent, NoFault, NeverFull, ReadCosts, SameImage, SameSpent, SameValues, Settles};
@@ -12,7 +12,7 @@ ghost use Rattle.flt_code.specs.Word.{is_length};
 ghost use Rattle.flt_sector.specs.Blocks.{current, block_value};
 ghost use Rattle.flt_pages.specs.LogHolds.{asked_of};
 ghost use Rattle.flt_pages.specs.Switch.{Erases};
-ghost use Rattle.flt_pages.specs.RecordPlace.{IsPlaceWithin, IsAt, TellsPlaces, bytes_at};
+ghost use Rattle.flt_pages.specs.RecordPlace.{IsAt, TellsPlaces};
 ghost use Rattle.flt_fee.specs.Costs.{SpendsAtMost, MakesRoom, StoreCosts, Stores, UnlessFailed};
 ghost use Rattle.flt_fee.specs.Mounted.{IsMounted};
 ghost use Rattle.flt_fee.specs.Refusal.{refusal, AnswersBy, KeepsStuck};
@@ -282,31 +282,6 @@ impl<F: Flash> Fee<F> {
         place_of(&self.numbers, &self.places, block)
     }
 
-    // Reads the record at a place.
-    fn take(&mut self, place: RecordPlace, out: &mut [u8; 128]) -> Result<Found, BlockFault>
-        requires not_stale { IsFalse (uncounted_of F.state self.old).is_stale }
-        requires within { IsPlaceWithin self.old.used place }
-        ensures found { IfOk result (λ found. ReadsContent (asked_of place.valid
-            (bytes_at (sector_at (F.state self.old.flash).image self.old.sector) place)) found out.old out.new) }
-        ensures nothing { OnErr result (out.new ≡ out.old) }
-        ensures values { SameValues (uncounted_of F.state self.old) (uncounted_of F.state self.new) }
-        ensures spent { SameSpent (uncounted_of F.state self.old) (uncounted_of F.state self.new) }
-        ensures calls { Calls (uncounted_of F.state self.old) (uncounted_of F.state self.new) result }
-        ensures count { self.new.calls ≡ self.old.calls }
-        ensures never_full { NeverFull result }
-        ensures stale { IsFalse (uncounted_of F.state self.new).is_stale }
-        ensures image { SameImage (uncounted_of F.state self.old) (uncounted_of F.state self.new) }
-        ensures spends { OnOk result (SpendsAtMost (byte_pages (size_of (asked_of place.valid
-            (bytes_at (sector_at (F.state self.old.flash).image self.old.sector) place)))) (F.state self.old.flash) (F.state self.new.flash)) }
-        ensures even { StaysEven self.old.used (F.state self.old.flash) (F.state self.new.flash) }
-    {
-        if !place.valid {
-            return Ok(Found::Invalid);
-        }
-        read_record(&mut self.flash, self.sector, place, out)?;
-        Ok(Found::Bytes(place.length as usize))
-    }
-
     /// A driver over this flash of `used` pages in each sector, for these block numbers. It is stale, and has not mounted.
     /// It takes the memory of a place and of a row of the index for each number, and no other call takes any. The error, for want of memory, hands
     /// the flash back.
@@ -427,7 +402,11 @@ impl<F: Bench> Blocks for Fee<F> {
         self.settle()?;
         match self.place(block) {
             None => Ok(Found::Missing),
-            Some(place) => self.take(place, out),
+            Some(place) if place.valid => {
+                read_record(&mut self.flash, self.sector, place, out)?;
+                Ok(Found::Bytes(place.length as usize))
+            }
+            Some(_) => Ok(Found::Invalid),
         }
     }
 

@@ -1,12 +1,31 @@
-use Rattle.flt_fee.specs.Fee.{uncounted_of}
-use Rattle.flt_flash.proofs.CallsInARow.{calls_after}
-use Rattle.flt_flash.proofs.Recounted.{calls_recounted}
+use Rattle.std.proofs.Common.{◌≡◌, ap, sym, subst, ◌∙◌, arith}
+use Rattle.flt_flash.specs.Calls.{ReadsContent}
+use Rattle.flt_flash.specs.Content.{Content, size_of}
+use Rattle.flt_flash.specs.Image.{sector_at}
+use Rattle.flt_flash.specs.declared.blocks.Found.TheVariants.{Bytes}
+use Rattle.flt_sector.specs.Blocks.{block_value}
+use Rattle.flt_fee.proofs.Placed.{valid_read, valid_size}
 use Rattle.flt_fee.proofs.fee.FeeBlocks.read.Goals as goal
 
-pub returns-in-Some-clause-calls : goal.returns-in-Some-clause-calls
-returns-in-Some-clause-calls g c =
+pub returns-in_ok-read_record-in-Some-clause-found : goal.returns-in_ok-read_record-in-Some-clause-found
+returns-in_ok-read_record-in-Some-clause-found g c =
+    let self = c.settle.new.self in
+    let flash = g.F.Flash.state self.flash in
+    let shape = g.met.F.Flash.shape self.flash in
+    subst (λ (content : Content). ReadsContent content (Bytes c.in-Some.place.length) c.args.out.now c.read_record.new.out) (c.in_ok-settle.ensures.values c.args.block)
+    (valid_read (sector_at flash.image self.sector) self.used (block_value self.used self.numbers flash.image c.args.block) c.in-Some.place
+    (shape.bytes self.sector self.sectors) (omega (arith, self.within, shape.pages self.sector self.sectors)) c.if-place.true c.in-Some.ensures c.args.out.now c.read_record.new.out
+    c.in_ok-read_record-in-Some.ensures.read)
+
+pub returns-in_ok-read_record-in-Some-clause-costs : goal.returns-in_ok-read_record-in-Some-clause-costs
+returns-in_ok-read_record-in-Some-clause-costs g c =
+    λ fresh none.
     let old = c.args.self.now in
-    let middle = c.settle.new.self in
-    let new = c.take.new.self in
-    calls_recounted old.calls new.calls (uncounted_of g.F.Flash.state old) (uncounted_of g.F.Flash.state new)
-    (calls_after (uncounted_of g.F.Flash.state old) (uncounted_of g.F.Flash.state middle) (uncounted_of g.F.Flash.state new) c.take.result c.in_ok-settle.ensures.calls.follows c.take.ensures.calls)
+    let self = c.settle.new.self in
+    let flash = g.F.Flash.state self.flash in
+    let shape = g.met.F.Flash.shape self.flash in
+    let size = valid_size (sector_at flash.image self.sector) self.used (block_value self.used self.numbers flash.image c.args.block) c.in-Some.place
+    (shape.bytes self.sector self.sectors) (omega (arith, self.within, shape.pages self.sector self.sectors)) c.if-place.true c.in-Some.ensures in
+    let long : size_of (block_value old.used old.numbers (g.F.Flash.state old.flash).image c.args.block) ≡ c.in-Some.place.length = ap size_of (sym (c.in_ok-settle.ensures.values c.args.block)) ∙ size in
+    let stands : (g.F.Flash.state self.flash).operations ≡ (g.F.Flash.state old.flash).operations = λ i. (g.F.Flash.state ((c.in_ok-settle.ensures.nothing fresh).1 i).flash).operations in
+    omega (arith, c.in_ok-read_record-in-Some.ensures.operations, long, stands)
