@@ -42,9 +42,12 @@ fn activated(page: &[u8; 32]) -> Result<Option<u32>, u16>
     }
 }
 
-fn both(start: Option<u32>, active: Option<u32>) -> Result<Option<u32>, u16>
-    ensures { result ≡ both_gates (Ok start) (Ok active) }
+// The number of a valid sector by its two gate pages.
+fn by_pages(used: u16, start: &[u8; 32], active: &[u8; 32]) -> Result<Option<u32>, u16>
+    ensures { result ≡ both_gates (gate_by (started_by used) 0 start.now) (gate_by activated_by 1 active.now) }
 {
+    let start = started(used, start)?;
+    let active = activated(active)?;
     match (start, active) {
         (Some(start), Some(active)) => {
             if start == active {
@@ -55,15 +58,6 @@ fn both(start: Option<u32>, active: Option<u32>) -> Result<Option<u32>, u16>
         }
         _ => Ok(None),
     }
-}
-
-// The number of a valid sector by its two gate pages.
-fn by_pages(used: u16, start: &[u8; 32], active: &[u8; 32]) -> Result<Option<u32>, u16>
-    ensures { result ≡ both_gates (gate_by (started_by used) 0 start.now) (gate_by activated_by 1 active.now) }
-{
-    let start = started(used, start)?;
-    let active = activated(active)?;
-    both(start, active)
 }
 
 /// The sequence number of a valid sector with `used` pages; `None` if a gate is missing.

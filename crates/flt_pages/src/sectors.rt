@@ -5,7 +5,7 @@ ghost use Rattle.flt_flash.specs.Image.{sector_at};
 ghost use Rattle.flt_flash.specs.State.{OnlyReads, MakesOperations, HasRisenBy, counted};
 ghost use Rattle.flt_flash.specs.Blocks.{pages_of};
 ghost use Rattle.flt_sector.specs.Log.{log};
-ghost use Rattle.flt_sector.specs.Blocks.{current, greater_of};
+ghost use Rattle.flt_sector.specs.Blocks.{current};
 ghost use Rattle.flt_pages.specs.Told.{TellsOrFails, told_current};
 ghost use Rattle.flt_pages.specs.Blank.{AreBlank};
 ghost use Rattle.flt_pages.specs.Live.{held_in, current_pages};
@@ -30,10 +30,20 @@ pub struct CurrentSector {
     pub sequence: u32,
 }
 
-// The valid sector of the greater number.
-fn greater(first: Option<u32>, second: Option<u32>) -> Result<Option<CurrentSector>, PageFault>
-    ensures { result ≡ told_current (greater_of first second) }
+/// The valid sector of the greatest number; `None` where no sector is valid. It reads the four gates, and changes nothing. `Damaged` is
+/// the first fault of the gates.
+pub fn current_sector<F: Flash>(
+    flash: &mut F,
+    used: u16,
+) -> Result<Option<CurrentSector>, PageFault>
+    requires least { 2 ≤ used }
+    requires most { used ≤ (F.state flash.old).pages }
+    ensures current { TellsOrFails result (told_current (current used (F.state flash.old).image)) }
+    ensures reads { OnlyReads (F.state flash.old) (F.state flash.new) }
+    ensures cause { IsErrOf result PageFault.Flash → HasRisenBy 1 (F.state flash.old).faults (F.state flash.new).faults }
 {
+    let first = gates(flash, 0, used)?;
+    let second = gates(flash, 1, used)?;
     match (first, second) {
         (None, None) => Ok(None),
         (Some(sequence), None) => Ok(Some(CurrentSector {
@@ -60,23 +70,6 @@ fn greater(first: Option<u32>, second: Option<u32>) -> Result<Option<CurrentSect
             }
         }
     }
-}
-
-/// The valid sector of the greatest number; `None` where no sector is valid. It reads the four gates, and changes nothing. `Damaged` is
-/// the first fault of the gates.
-pub fn current_sector<F: Flash>(
-    flash: &mut F,
-    used: u16,
-) -> Result<Option<CurrentSector>, PageFault>
-    requires least { 2 ≤ used }
-    requires most { used ≤ (F.state flash.old).pages }
-    ensures current { TellsOrFails result (told_current (current used (F.state flash.old).image)) }
-    ensures reads { OnlyReads (F.state flash.old) (F.state flash.new) }
-    ensures cause { IsErrOf result PageFault.Flash → HasRisenBy 1 (F.state flash.old).faults (F.state flash.new).faults }
-{
-    let first = gates(flash, 0, used)?;
-    let second = gates(flash, 1, used)?;
-    greater(first, second)
 }
 
 /// Makes the first sector of a flash, of which no sector is valid, the current one, with the number 1 and an empty log.
