@@ -190,12 +190,13 @@ impl<B: Blocks + Drop> Nvm<B> {
         ensures reads { ReadsCopies id (driver_of self.old) (driver_of self.new) out.old out.new result }
         ensures table { table_of self.new ≡ table_of self.old }
     {
-        match self.read_copy(id, 1, out) {
-            Ok(Got::Bytes { length, copy }) => Ok(Got::Bytes { length, copy }),
-            Ok(Got::Missing) => self.read_second(id, out, Some(Got::Missing)),
-            Ok(Got::Invalid) => self.read_second(id, out, Some(Got::Invalid)),
-            Err(BlockFault::Flash) => self.read_second(id, out, None),
-            Err(fault) => Err(fault),
+        let first = match self.read_copy(id, 1, out) {
+            Err(BlockFault::Flash) => return self.read_second(id, out, None),
+            read => read?,
+        };
+        match first {
+            Got::Bytes { .. } => Ok(first),
+            Got::Missing | Got::Invalid => self.read_second(id, out, Some(first)),
         }
     }
 
@@ -228,13 +229,15 @@ impl<B: Blocks + Drop> Nvm<B> {
     {
         let mut out = [0; 128];
         match self.read_copy(id, 3 - copy, &mut out) {
-            Ok(got) if holds(got, &out, bytes) => Ok(()),
-            Ok(_) | Err(BlockFault::Flash) => {
-                let number = self.number(id, 2 - copy);
-                job::write(&mut self.blocks, number, bytes)
+            Err(BlockFault::Flash) => {}
+            read => {
+                if holds(read?, &out, bytes) {
+                    return Ok(());
+                }
             }
-            Err(fault) => Err(fault),
         }
+        let number = self.number(id, 2 - copy);
+        job::write(&mut self.blocks, number, bytes)
     }
 
     /// What a read of an index of a block, or of a copy counted from 0, would find, without its bytes. It makes no operation of the
