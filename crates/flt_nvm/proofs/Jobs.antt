@@ -8,7 +8,7 @@ use Rattle.std.proofs.lemmas.Grind.{common_steps}
 use Rattle.flt_flash.specs.Calls.{Calls, Changes, Settles}
 use Rattle.flt_nvm.specs.Table.{number_of}
 use Rattle.flt_nvm.specs.Tries.{Tries, Changing}
-use Rattle.flt_nvm.specs.Leaves.{FlashTakesThree, Gives, GivesBoth, GivesInAJob, GivesInTwoJobs, GivesNumber}
+use Rattle.flt_nvm.specs.Leaves.{FlashTakesThree, Gives, GivesBoth, GivesCopies, GivesInAJob, GivesInTwoJobs, GivesNumber}
 
 module _ (block : ℕ) (asked : Content) (size : ℕ) where
   -- One try.
@@ -66,20 +66,20 @@ module _ (block : ℕ) (asked : Content) (size : ℕ) (before after : BlocksStat
 
 module _ (id : ℕ) (asked : Content) (size first : ℕ) (first_is : first ≡ number_of id 0) where
   -- The job on the first copy failed.
-  pub first_job_alone : (before after : BlocksState) (result : Result (Unit {0}) BlockFault) → is_ok result ≡ false
+  first_job_alone : (before after : BlocksState) (result : Result (Unit {0}) BlockFault) → is_ok result ≡ false
       → GivesInAJob first asked size before after result → GivesInTwoJobs id asked size before after result
   first_job_alone before after (Ok value) failed job = absurd (cc failed)
   first_job_alone before after (Err fault) failed job = inl (subst (λ (n : ℕ). GivesInAJob n asked size before after (Err fault)) first_is job, refl)
 
   -- The job on the second copy followed.
-  pub both_jobs : (second : ℕ) → second ≡ number_of id 1 → (before between after : BlocksState) (answer result : Result (Unit {0}) BlockFault) → is_ok answer ≡ true
+  both_jobs : (second : ℕ) → second ≡ number_of id 1 → (before between after : BlocksState) (answer result : Result (Unit {0}) BlockFault) → is_ok answer ≡ true
       → GivesInAJob first asked size before between answer → GivesInAJob second asked size between after result → GivesInTwoJobs id asked size before after result
   both_jobs second second_is before between after (Err fault) result answered job next = absurd (cc answered)
   both_jobs second second_is before between after (Ok value) result answered job next =
       inr (between, subst (λ (n : ℕ). GivesInAJob n asked size before between (Ok tt)) first_is job, subst (λ (n : ℕ). GivesInAJob n asked size between after result) second_is next)
 
   -- What the job on the first copy leaves, where it failed.
-  pub first_gives_alone : (before after : BlocksState) (fault : BlockFault) → Gives before after first asked size (Err fault) → GivesBoth before after id asked size (Err fault)
+  first_gives_alone : (before after : BlocksState) (fault : BlockFault) → Gives before after first asked size (Err fault) → GivesBoth before after id asked size (Err fault)
   first_gives_alone before after fault gives =
       let one = subst (λ (n : ℕ). Gives before after n asked size (Err fault)) first_is gives in
       record {
@@ -90,3 +90,23 @@ module _ (id : ℕ) (asked : Content) (size first : ℕ) (first_is : first ≡ n
         full = one.full;
         spent = λ told. inl (one.spent told);
       }
+
+  -- All that is left where the job on the first copy failed, and where one on the second followed.
+  pub gives_first : (before after : BlocksState) (fault : BlockFault) → GivesNumber first asked size before after (Err fault) → GivesCopies id asked size before after (Err fault)
+  gives_first before after fault gives = record {
+    jobs = first_job_alone before after (Err fault) refl gives.job;
+    gives = first_gives_alone before after fault gives.gives;
+    calls = gives.calls;
+    stale = gives.stale;
+    three = gives.three;
+  }
+
+  pub gives_both : (second : ℕ) → second ≡ number_of id 1 → (before between after : BlocksState) (value : Unit {0}) (result : Result (Unit {0}) BlockFault)
+      → GivesNumber first asked size before between (Ok value) → GivesNumber second asked size between after result → GivesCopies id asked size before after result
+  gives_both second second_is before between after value result one two = record {
+    jobs = both_jobs second second_is before between after (Ok value) result refl one.job two.job;
+    gives = grind (arith, common_steps);
+    calls = grind (arith, common_steps);
+    stale = two.stale;
+    three = grind (arith, common_steps);
+  }

@@ -1,13 +1,15 @@
 -- A job that reads is one whatever the value of its answer is.
-use Rattle.std.proofs.Common.{◌≡◌, ℕ, zero, suc, Result, Ok, Err, inl, inr, ap, arith}
+use Rattle.std.proofs.Common.{◌≡◌, ℕ, zero, suc, List, Result, Ok, Err, inl, inr, ap, arith}
 use Rattle.std.proofs.lemmas.Grind.{common_steps}
-use Rattle.std.specs.Prelude.{IsErrOf}
+use Rattle.std.specs.Prelude.{IsErrOf, IfOk, OnErr}
 use Rattle.flt_flash.specs.Blocks.{BlocksState}
 use Rattle.flt_flash.specs.declared.blocks.BlockFault.{BlockFault}
 use Rattle.flt_flash.specs.declared.blocks.BlockFault.TheVariants.{Flash, Full, SequenceSpent, Damaged}
 use Rattle.flt_flash.specs.Calls.{ReadCosts}
 use Rattle.flt_nvm.specs.Tries.{Tries, Looks, ReadsAlone}
-use Rattle.flt_nvm.specs.Leaves.{FlashTakesThree}
+use Rattle.flt_nvm.specs.declared.got.Got.{Got}
+use Rattle.flt_nvm.specs.Leaves.{FlashTakesThree, GotOf}
+use Rattle.flt_nvm.specs.Reads.{LooksInAJob, ReadsNumber}
 
 no_fault : {T : Type 0} (value : T) (fault : BlockFault) → IsErrOf (Ok value) fault → ⊥
 no_fault value fault is = absurd (cc is)
@@ -71,14 +73,26 @@ looks_err S T block (suc (suc more)) before after fault (inr (between, failed, r
 
 module _ {T : Type 0} (block : ℕ) (before after : BlocksState) (result : Result T BlockFault) (tries : Tries 3 (Looks block) before after result) where
   -- What a job that reads leaves.
-  pub reads_in_a_job : ReadsAlone before after result
+  reads_in_a_job : ReadsAlone before after result
   unfolding Tries
   reads_in_a_job = grind (arith, common_steps)
 
-  pub costs_in_a_job : ReadCosts before after block
+  costs_in_a_job : ReadCosts before after block
   unfolding Tries
   costs_in_a_job = grind (arith, common_steps)
 
-  pub read_takes_three : FlashTakesThree before after result
+  read_takes_three : FlashTakesThree before after result
   unfolding Tries
   read_takes_three = grind (arith, common_steps)
+
+-- All that a job leaves that reads a number, as this copy.
+pub reads_number : (copy block : ℕ) (before after : BlocksState) (out_before out_after : List ℕ) (result : Result Got BlockFault) → LooksInAJob block before after result
+    → IfOk result (λ got. GotOf copy (before.value block) got out_before out_after) → OnErr result (out_after ≡ out_before) → ReadsNumber copy block before after out_before out_after result
+reads_number copy block before after out_before out_after result job got nothing = record {
+  job = job;
+  got = got;
+  nothing = nothing;
+  reads = reads_in_a_job block before after result job;
+  costs = costs_in_a_job block before after result job;
+  three = read_takes_three block before after result job;
+}
