@@ -14,13 +14,13 @@ use Rattle.flt_generation.specs.declared.commit.Commit.{Commit}
 use Rattle.flt_generation.specs.declared.part.Part.{Part}
 use Rattle.flt_generation.specs.declared.part.Part.TheVariants.{Summary, States, Entry}
 use Rattle.flt_generation.specs.Layout.{number_of, part_of, has_part, is_used, index_in, parts, end_part, later_states_id, first_later_event, states_per_block}
-use Rattle.flt_generation.specs.Form.{part_bytes, part_length, parts_1}
+use Rattle.flt_generation.specs.Form.{part_bytes, parts_1}
 use Rattle.flt_generation.specs.Fit.{states_fit, entry_fits_at, is_alone, place_fits, note_fits, summary_fits, part_fits}
 use Rattle.flt_generation.specs.Reading.{with_part, with_summary, entry_from, with_states, taken, untaken_entry}
 use Rattle.flt_generation.specs.Holding.{with_named, parts_read, BlocksHold}
 use Rattle.flt_generation.proofs.Fitting.{entry_by_test, noted_by_test}
 use Rattle.flt_generation.proofs.Parts.{set_states_fit}
-use Rattle.flt_generation.proofs.Sizes.{taken_holds, set_here, candidate_size}
+use Rattle.flt_generation.proofs.Sizes.{taken_holds, set_here}
 use Rattle.flt_generation.proofs.Steps.{gave, both_ok, is_summary, are_states, is_entry, are_later, kind_of, bytes_kept}
 
 -- A used block, by its part.
@@ -54,6 +54,10 @@ notes_of c p fits =
     let d = and_parts _ _ b.0 in
     ((and_parts _ _ d.0).1, d.1, b.1, a.1)
 
+-- No block of states reads an entry: none is read before the first of them, and each before the later ones.
+pub before_states : (count k size : ℕ) → (count < 5) ⊎ ((parts_1 ≤ count) × (size ≤ 16)) → k + 5 < count + 1 → k < size → k + 5 < count
+before_states count k size apart below within = ⊎_elim (λ first_ones. omega (arith, below, first_ones)) (λ later. omega (arith, later.0, later.1, within)) apart
+
 module _ (c : Config) (value : ℕ → Content) (commit : Commit) (count : ℕ) (p : Persist) (known : Sofar c value commit count p) where
   -- The blocks before stay, and the one that was taken is in the state.
   contents_more : (held : List ℕ) (q : Persist) → with_part (part_of (3 + count)) held p ≡ q → held ≡ part_bytes q (part_of (3 + count)) → value (number_of (3 + count) (index_in commit (3 + count))) ≡ bytes held
@@ -81,8 +85,8 @@ module _ (c : Config) (value : ℕ → Content) (commit : Commit) (count : ℕ) 
     untaken = λ k d some past within. get_or-replicate (min (slice_index held 2) 16) k untaken_entry d (omega (arith, within, length-replicate (min (slice_index held 2) 16) untaken_entry));
   }
 
-  -- States of sixteen events: no entry is read before the first ones, and each before the later ones.
-  by_states : (held : List ℕ) (first : ℕ) → 0 < count → (count < 5) ⊎ (parts_1 ≤ count) → states_fit c.events.items (with_states held first 16 p.events.items) first 16 ≡ true
+  -- States of sixteen events.
+  by_states : (held : List ℕ) (first : ℕ) → 0 < count → (count < 5) ⊎ ((parts_1 ≤ count) × (length p.entries.items ≤ 16)) → states_fit c.events.items (with_states held first 16 p.events.items) first 16 ≡ true
       → ((id : ℕ) → 3 ≤ id → id < 3 + (count + 1) → IsTrue (is_used c id) → value (number_of id (index_in commit id)) ≡ bytes (part_bytes (with_part (States first) held p) (part_of id)))
       → Sofar c value commit (count + 1) (with_part (States first) held p)
   unfolding with_part
@@ -91,13 +95,10 @@ module _ (c : Config) (value : ℕ → Content) (commit : Commit) (count : ℕ) 
     states_are = set_states_fit c.events.items held first p.events.items known.states_are fits;
     summary_is = λ _. known.summary_is some;
     few = known.few;
-    entries_are = λ k d below within. known.entries_are k d (earlier k below within) within;
-    distinct = λ i j d order below within. known.distinct i j d order (earlier j below within) within;
+    entries_are = λ k d below within. known.entries_are k d (before_states count k _ apart below within) within;
+    distinct = λ i j d order below within. known.distinct i j d order (before_states count j _ apart below within) within;
     untaken = λ k d _ past within. known.untaken k d some (omega (arith, past)) within;
   }
-    where
-      earlier : (k : ℕ) → k + 5 < count + 1 → k < length p.entries.items → k + 5 < count
-      earlier k below within = ⊎_elim (λ first_ones. omega (arith, below, first_ones)) (λ later. omega (arith, later, within, known.few)) apart
 
   -- An entry.
   by_entry : (held : List ℕ) (place : ℕ) → place + 5 ≡ count
@@ -183,7 +184,7 @@ module _ (c : Config) (value : ℕ → Content) (commit : Commit) (count : ℕ) 
         | are_states low high of ↦ finish (States (16 * (3 + count - 4))) of held t.0 t.1 t.2 content
             (λ fits contents. by_states c value commit count p known held (16 * (3 + count - 4)) (omega (arith, low)) (inl (omega (arith, high))) (states_test held (16 * (3 + count - 4)) fits) contents)
         | are_later low of ↦ finish (States (first_later_event + states_per_block * (3 + count - later_states_id))) of held t.0 t.1 t.2 content
-            (λ fits contents. by_states c value commit count p known held (first_later_event + states_per_block * (3 + count - later_states_id)) (omega (arith, low)) (inr (omega (arith, low))) (states_test held (first_later_event + states_per_block * (3 + count - later_states_id)) fits) contents)
+            (λ fits contents. by_states c value commit count p known held (first_later_event + states_per_block * (3 + count - later_states_id)) (omega (arith, low)) (inr (omega (arith, low), known.few)) (states_test held (first_later_event + states_per_block * (3 + count - later_states_id)) fits) contents)
         | is_entry low high of ↦ finish (Entry (3 + count - 8)) of held t.0 t.1 t.2 content
             (λ fits contents. by_entry c value commit count p known held (3 + count - 8) (omega (arith, low)) (entry_test held fits) contents)
       ]
@@ -282,28 +283,3 @@ pub read_blocks : (c : Config) (value : ℕ → Content) (commit : Commit) (p : 
 read_blocks c value commit p known = λ id used.
     let range = (and_parts _ _ used).0 in
     known.contents id (leb-true 3 id (and_parts _ _ range).0) (ltb-true id end_part (and_parts _ _ range).1) used
-
--- Each block that a commit names has the bytes of its part.
-pub record HasSize (value : ℕ → Content) (commit : Commit) (id : ℕ) : Type 0 where
-  pub raw : List ℕ
-  pub holds : value (number_of id (index_in commit id)) ≡ bytes raw
-  pub size : length raw ≡ part_length (part_of id)
-
-taken_size : (c : Config) (part : Part) (raw : List ℕ) (p q : Persist) → taken c part raw p ≡ Some q → length raw ≡ part_length part
-taken_size c part raw p q is =
-    let holds = taken_holds c part raw (with_part part raw p) q is in
-    ap length holds.1 ∙ ap (λ (r : Persist). length (part_bytes r part)) (sym holds.0) ∙ candidate_size part raw p
-
-pub named_sizes : (c : Config) (value : ℕ → Content) (commit : Commit) (count : ℕ) (p : Persist) → parts_read c value commit count ≡ Ok p → (id : ℕ) → 3 ≤ id → id < 3 + count → IsTrue (is_used c id)
-    → HasSize value commit id
-unfolding parts_read
-named_sizes c value commit zero p is id low high used = absurd (omega (arith, low, high))
-named_sizes c value commit (suc count) p is id low high used =
-    let both = both_ok (parts_read c value commit count) (with_named c value commit (3 + count)) p is in
-    elim (cases_eq id (3 + count)) [
-      | inl same ↦
-          let step = gave c value commit id both.0 p (subst (λ (n : ℕ). with_named c value commit n both.0 ≡ Ok p) (sym same) both.2) in
-          let given = step.used used in
-          record { raw = given.0; holds = given.1; size = taken_size c (part_of id) given.0 both.0 p given.2 }
-      | inr apart ↦ named_sizes c value commit count both.0 both.1 id low (omega (arith, high, apart)) used
-    ]

@@ -26,7 +26,7 @@ use Rattle.flt_generation.proofs.Sizes.{accepted, set_here, none_here}
 use Rattle.flt_generation.proofs.Parts.{part_of_fitting}
 use Rattle.flt_generation.proofs.Decoding.{summary_of, summary_read, state_read, entry_read}
 use Rattle.flt_generation.proofs.Steps.{is_summary, are_states, is_entry, are_later, kind_of}
-use Rattle.flt_generation.proofs.Sofar.{used_from, room_of, none_from}
+use Rattle.flt_generation.proofs.Sofar.{used_from, room_of, none_from, before_states}
 use Rattle.flt_config.proofs.DistinctLemmas.{position-None}
 use Rattle.flt_generation.specs.Faults.{HoldBelow}
 use Rattle.flt_generation.proofs.Short.{HasSizes, entry_sizes, short_summary, clean_short}
@@ -142,14 +142,10 @@ module _ (c : Config) (sizes : HasSizes c) (p : Persist) (one_each : length p.ev
             ∙ subst (λ (n : ℕ). slice_index_or after n start_state ≡ slice_index_or p.events.items n start_state) place (block_same (k - first) (omega (arith, low, more_states, at, from)))
             ∙ get_or_default p.events.items k start_state d within
       ];
-      entries_same = λ k d low within. agrees.entries_same k d (earlier k low within) within;
+      entries_same = λ k d low within. agrees.entries_same k d (before_states count k _ apart low within) within;
       untaken = λ k d _ from within. agrees.untaken k d some (omega (arith, from)) within;
     }
       where
-        -- No entry is read before the first states, and each before the later ones.
-        earlier : (k : ℕ) → k + 5 < count + 1 → k < length p.entries.items → k + 5 < count
-        earlier k low within = ⊎_elim (λ first_ones. omega (arith, low, first_ones)) (λ later. omega (arith, later.0, later.1, within)) apart
-
         more_states : states_before (count + 1) ≡ states_before count + 16
         more_states = ⊎_elim (λ first_ones. one_first count some first_ones) (λ later. one_later count later.0) apart
 
