@@ -3,3 +3,4 @@ pub mod Learning
 pub mod Judging
 pub mod Restored
 pub mod Unread
+pub mod Told

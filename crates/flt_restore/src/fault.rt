@@ -1,9 +1,9 @@
 //! Why a start-up does not succeed.
 
 ghost use Rattle.std.specs.Prelude.{◌≡◌};
-ghost use Rattle.flt_restore.specs.declared.fault.StartFault.TheVariants.{Flash};
+ghost use Rattle.flt_restore.specs.Told.{told_of};
 
-use flt_flash::FlashFailed;
+use flt_flash::BlockFault;
 use flt_generation::{Mark, Place};
 use thiserror::Error;
 
@@ -24,10 +24,17 @@ pub enum StartFault {
     SequenceSpent,
 }
 
-impl From<FlashFailed> for StartFault {
-    ghost from_gives = { λ _ e. e ≡ Flash };
+impl From<BlockFault> for StartFault {
+    ghost from_gives = { λ fault told. told ≡ told_of fault };
 
-    fn from(_: FlashFailed) -> Self {
-        StartFault::Flash
+    fn from(fault: BlockFault) -> Self {
+        match fault {
+            BlockFault::Damaged { sector, page } => StartFault::Damaged(Place::Page {
+                sector,
+                page,
+            }),
+            BlockFault::SequenceSpent => StartFault::SequenceSpent,
+            BlockFault::Flash | BlockFault::Full { .. } => StartFault::Flash,
+        }
     }
 }

@@ -1,7 +1,8 @@
 //! Reads of a mounted driver, which fail only if the flash failed in three tries, and what they find.
-ghost use Rattle.std.specs.Prelude.{◌≡◌, ◌-◌, ◌≤◌, ◌<◌, ℕ, List, length, take, IfOk, OnOk, OnErr, IsTrue, IsFalse};
+ghost use Rattle.std.specs.Prelude.{◌≡◌, ◌-◌, ◌≤◌, ◌<◌, ℕ, List, length, take, IfErr, IfOk, OnOk, OnErr, IsTrue, IsFalse};
 ghost use Rattle.flt_flash.specs.Content.{Content};
 ghost use Rattle.flt_flash.specs.State.{HasRisenBy};
+ghost use Rattle.flt_flash.specs.declared.blocks.BlockFault.TheVariants.{Flash};
 ghost use Rattle.flt_nvm.specs.Driver.{driver_of, table_of};
 ghost use Rattle.flt_nvm.specs.Leaves.{GotOf};
 ghost use Rattle.flt_image.specs.Table.{block_table};
@@ -11,7 +12,7 @@ ghost use Rattle.flt_restore.specs.Judging.{IsSource};
 ghost use Rattle.flt_restore.specs.Unread.{FailsToRead, IsCommitUnread};
 
 use arrayvec::ArrayVec;
-use flt_flash::{Blocks, FlashFailed, Found};
+use flt_flash::{BlockFault, Blocks, Found};
 use flt_generation::COMMIT_ID;
 use flt_image::BlockBytes;
 use flt_nvm::{Got, Nvm};
@@ -52,22 +53,21 @@ pub(crate) fn read_content<B: Blocks + Drop>(
     nvm: &mut Nvm<B>,
     id: u16,
     index: u8,
-) -> Result<Held, FlashFailed>
+) -> Result<Held, BlockFault>
     requires table { table_of nvm.old ≡ block_table }
     requires mounted { IsTrue (driver_of nvm.old).has_mounted }
     requires single { IsSingle id index }
     ensures content { IfOk result (λ held. content_of held ≡ (driver_of nvm.old).value (number_of id index)) }
     ensures unread { OnErr result (FailsToRead (number_of id index) (driver_of nvm.old) (driver_of nvm.new)) }
+    ensures fault { IfErr result (λ fault. fault ≡ Flash) }
     ensures flash { OnErr result (HasRisenBy 3 (driver_of nvm.old).device.faults (driver_of nvm.new).device.faults) }
     ensures not_stale { OnOk result (IsFalse (driver_of nvm.new).is_stale) }
     ensures reads { Reads (driver_of nvm.old) (driver_of nvm.new) }
     ensures table { table_of nvm.new ≡ table_of nvm.old }
 {
     let mut out = [0; 128];
-    match nvm.read(id, index, &mut out) {
-        Ok(got) => Ok(held_in(got, &out)),
-        Err(_) => Err(FlashFailed),
-    }
+    let got = nvm.read(id, index, &mut out)?;
+    Ok(held_in(got, &out))
 }
 
 /// What counts as the commit, and which copy it is.
@@ -78,7 +78,7 @@ pub(crate) struct CommitRead {
 }
 
 // Reads copy 1 or copy 2 of the commit.
-fn read_source<B: Blocks + Drop>(nvm: &mut Nvm<B>, copy: u8) -> Result<CommitRead, FlashFailed>
+fn read_source<B: Blocks + Drop>(nvm: &mut Nvm<B>, copy: u8) -> Result<CommitRead, BlockFault>
     requires table { table_of nvm.old ≡ block_table }
     requires mounted { IsTrue (driver_of nvm.old).has_mounted }
     requires least { 1 ≤ copy }
@@ -86,28 +86,28 @@ fn read_source<B: Blocks + Drop>(nvm: &mut Nvm<B>, copy: u8) -> Result<CommitRea
     ensures content { IfOk result (λ source. content_of source.held ≡ (driver_of nvm.old).value (number_of commit_id (copy - 1))) }
     ensures unread { OnErr result (FailsToRead (number_of commit_id (copy - 1)) (driver_of nvm.old) (driver_of nvm.new)) }
     ensures copy { IfOk result (λ source. source.copy ≡ copy) }
+    ensures fault { IfErr result (λ fault. fault ≡ Flash) }
     ensures flash { OnErr result (HasRisenBy 3 (driver_of nvm.old).device.faults (driver_of nvm.new).device.faults) }
     ensures reads { Reads (driver_of nvm.old) (driver_of nvm.new) }
     ensures table { table_of nvm.new ≡ table_of nvm.old }
 {
     let mut out = [0; 128];
-    match nvm.read_copy(COMMIT_ID, copy, &mut out) {
-        Ok(got) => Ok(CommitRead {
-            held: held_in(got, &out),
-            copy,
-        }),
-        Err(_) => Err(FlashFailed),
-    }
+    let got = nvm.read_copy(COMMIT_ID, copy, &mut out)?;
+    Ok(CommitRead {
+        held: held_in(got, &out),
+        copy,
+    })
 }
 
 /// Reads the copy of the commit that counts: copy 1 if it has bytes, else copy 2 if that has bytes, else copy 1. If copy 1
 /// can't be read in three tries and copy 2 has bytes, copy 2 is read.
-pub(crate) fn read_commit<B: Blocks + Drop>(nvm: &mut Nvm<B>) -> Result<CommitRead, FlashFailed>
+pub(crate) fn read_commit<B: Blocks + Drop>(nvm: &mut Nvm<B>) -> Result<CommitRead, BlockFault>
     requires table { table_of nvm.old ≡ block_table }
     requires mounted { IsTrue (driver_of nvm.old).has_mounted }
     requires not_stale { IsFalse (driver_of nvm.old).is_stale }
     ensures source { IfOk result (λ source. IsSource (driver_of nvm.old) (driver_of nvm.new) (content_of source.held) source.copy) }
     ensures unread { OnErr result (IsCommitUnread (driver_of nvm.old) (driver_of nvm.new)) }
+    ensures fault { IfErr result (λ fault. fault ≡ Flash) }
     ensures flash { OnErr result (HasRisenBy 3 (driver_of nvm.old).device.faults (driver_of nvm.new).device.faults) }
     ensures reads { Reads (driver_of nvm.old) (driver_of nvm.new) }
     ensures table { table_of nvm.new ≡ table_of nvm.old }
@@ -115,8 +115,8 @@ pub(crate) fn read_commit<B: Blocks + Drop>(nvm: &mut Nvm<B>) -> Result<CommitRe
     let second = nvm.look_up(COMMIT_ID, 1);
     match (nvm.look_up(COMMIT_ID, 0), second) {
         (Found::Bytes(_), Found::Bytes(_)) => match read_source(nvm, 1) {
-            Ok(source) => Ok(source),
-            Err(FlashFailed) => read_source(nvm, 2),
+            Err(BlockFault::Flash) => read_source(nvm, 2),
+            read => read,
         },
         (Found::Bytes(_), _) => read_source(nvm, 1),
         (_, Found::Bytes(_)) => read_source(nvm, 2),

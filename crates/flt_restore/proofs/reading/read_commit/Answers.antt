@@ -11,5 +11,5 @@ look_up-second-requires-clause-place g c = subst (λ (table : List BlockCfg). Ha
 pub look_up-requires-clause-place : goal.look_up-requires-clause-place
 look_up-requires-clause-place g c = subst (λ (table : List BlockCfg). HasPlace table 2 0) (sym c.requires.table) (commit_has_place 0 (omega arith))
 
-pub returns-in-Err-clause-unread : goal.returns-in-Err-clause-unread
-returns-in-Err-clause-unread g c = on_err c.read_source-in-Err.result (λ rose. inl (omega (arith, c.in-Err.ensures.flash, rose))) c.read_source-in-Err.ensures.flash
+pub returns-in-Err-Flash-clause-unread : goal.returns-in-Err-Flash-clause-unread
+returns-in-Err-Flash-clause-unread g c = on_err c.read_source-in-Err-Flash.result (λ rose. inl (omega (arith, c.in-Err-Flash.ensures.flash, rose))) c.read_source-in-Err-Flash.ensures.flash
