@@ -31,9 +31,6 @@ same_values before after reads = λ i block. reads.values block i
 pub rises : (before middle after : BlocksState) → Reads before middle → HasRisenBy 3 middle.device.faults after.device.faults → HasRisenBy 3 before.device.faults after.device.faults
 rises before middle after reads rose = omega (arith, reads.follows.counts, rose)
 
-pub stays_risen : (before middle after : BlocksState) → HasRisenBy 3 before.device.faults middle.device.faults → Reads middle after → HasRisenBy 3 before.device.faults after.device.faults
-stays_risen before middle after rose reads = omega (arith, reads.follows.counts, rose)
-
 -- What holds of a fault holds of the answer that passes it on.
 pub handed_on : {T : Type 0} (P : StartFault → Type 0) (result : Result T StartFault) (fault : StartFault) → IsErrAnd result (λ e. e ≡ fault) → P fault → IfErr result P
 handed_on P (Ok value) fault is holds = absurd is
@@ -61,7 +58,7 @@ tells_from c before middle after judged (OtherConfig found wanted) reads tells =
 tells_from c before middle after judged SequenceSpent reads tells = absurd tells
 
 -- What was judged without a read is answered as it is.
-pub tells_judged : {A : Type 0} (c : Config) (before after : BlocksState) (judged : Result A Fault) (fault : StartFault) → Err fault ≡ as_told c judged → Tells c before after judged fault
+tells_judged : {A : Type 0} (c : Config) (before after : BlocksState) (judged : Result A Fault) (fault : StartFault) → Err fault ≡ as_told c judged → Tells c before after judged fault
 tells_judged {A} c before after (Ok value) fault is = absurd (cc)
 tells_judged {A} c before after (Err (damaged place)) fault is =
     let same : Damaged place ≡ fault = cc in
@@ -75,6 +72,15 @@ tells_judged {A} c before after (Err (other mark)) fault is =
 pub judged_ok : {A : Type 0} (c : Config) (judged : Result A Fault) (value : A) → Ok value ≡ as_told c judged → judged ≡ Ok value
 judged_ok {A} c (Ok found) value is = cc
 judged_ok {A} c (Err fault) value is = absurd (cc)
+
+-- A step that judges what was read, told of what stands.
+pub step_ok : {A I : Type 0} (c : Config) (judge : I → Result A Fault) (read stands : I) (answer : Result A StartFault) (value : A)
+    → answer ≡ Ok value → answer ≡ as_told c (judge read) → read ≡ stands → judge stands ≡ Ok value
+step_ok c judge read stands answer value was told same = judged_ok c (judge stands) value (sym was ∙ told ∙ ap (λ i. as_told c (judge i)) same)
+
+pub step_told : {A I : Type 0} (c : Config) (before after : BlocksState) (judge : I → Result A Fault) (read stands : I) (answer : Result A StartFault) (fault : StartFault)
+    → answer ≡ Err fault → answer ≡ as_told c (judge read) → read ≡ stands → Tells c before after (judge stands) fault
+step_told c before after judge read stands answer fault was told same = tells_judged c before after (judge stands) fault (sym was ∙ told ∙ ap (λ i. as_told c (judge i)) same)
 
 -- An answer that hands on a fault is the one that has it.
 pub handed_as : {T : Type 0} (result answer : Result T StartFault) (fault : StartFault) → IsErrAnd result (λ e. e ≡ fault) → Err fault ≡ answer → result ≡ answer
