@@ -4,9 +4,7 @@ use Rattle.std.specs.Prelude.{◌++◌, not, find, flat_map, map, sum_by, Some, 
 use Rattle.std.specs.List.{range_with_len}
 use Rattle.std.proofs.lemmas.Bool.{cases_Bool}
 use Rattle.std.proofs.lemmas.List.Sums.{sum_by-append}
-use Rattle.flt_flash.specs.Content.{Content, missing, invalid, bytes, IsShort}
-use Rattle.flt_flash.specs.Calls.{found_of}
-use Rattle.flt_flash.specs.declared.blocks.Found.{Found}
+use Rattle.flt_flash.specs.Content.{Content}
 use Rattle.flt_config.specs.declared.config.Config.{Config}
 use Rattle.flt_generation.specs.Layout.{numbers, both_indices, first_part, parts, first_application, applications, application_number}
 use Rattle.flt_generation.specs.Excess.{excess}
@@ -15,7 +13,6 @@ use Rattle.flt_generation.proofs.Choices.{chosen, not_chosen, range_more}
 use Rattle.flt_generation.proofs.Bridge.{fine_applications}
 use Rattle.flt_generation.proofs.Pages.{both_sum, mapped_sum}
 use Rattle.flt_restore.specs.declared.fault.StartFault.{StartFault}
-use Rattle.flt_restore.specs.Found.{size_found}
 use Rattle.flt_restore.specs.Judging.{as_told, application_judged, beyond, beyond_of_part, beyond_of_parts, beyond_of_applications}
 
 -- The first number of a range that passes a test.
@@ -124,12 +121,3 @@ module _ (c : Config) (value : ℕ → Content) where
       let pair_sum = both_sum f first_part parts in
       let applications = mapped_sum f application_number 0 40 in
       omega (arith, whole, front, pair_sum, applications)
-
--- What a read would find of a short content has 128 bytes at most.
-pub short_found : (content : Content) (found : Found) → found ≡ found_of content → IsShort content → size_found found ≤ 128
-short_found content found is short = subst (λ (f : Found). size_found f ≤ 128) (sym is) (by_content content short)
-  where
-    by_content : (content : Content) → IsShort content → size_found (found_of content) ≤ 128
-    by_content missing short = omega arith
-    by_content invalid short = omega arith
-    by_content (bytes held) short = short

@@ -21,15 +21,6 @@ fails_from number before middle after so_far unread = record {
   later = unread.later;
 }
 
-pub fails_until : (number : ℕ) (before middle after : BlocksState) → FailsToRead number before middle → Follows middle after → FailsToRead number before after
-fails_until number before middle after unread goes_on = record {
-  first = unread.first;
-  last = unread.last;
-  earlier = unread.earlier;
-  fails = unread.fails;
-  later = more_calls unread.last middle after unread.later goes_on;
-}
-
 has_none : (before middle : BlocksState) → SameValues before middle → (number : ℕ) → HasNoBytes (middle.value number) → HasNoBytes (before.value number)
 has_none before middle same number none = subst HasNoBytes (same number) none
 
