@@ -126,17 +126,19 @@ never_full c given before after all room follows borne size live needed short fu
         let pages : (size + 31) / 32 ≤ 3 = omega (arith, short) in
         omega (arith, bound, total, live_is, full.needed_is, past, pages, fits)
 
+-- A write that failed, and not for want of a sequence number, was failed by the flash.
+pub was_flash : {T : Type 0} (c : Config) → IsGiven c → (before after : BlocksState) (fault : BlockFault) → Writes {T = T} before after (Err fault) → before.numbers ≡ numbers → HasRoom c before.room
+    → IsTrue before.has_mounted → IsBorne c after.value → (fault ≡ SequenceSpent → ⊥) → fault ≡ Flash
+was_flash {T} c given before after Flash writes all room has borne other = refl
+was_flash {T} c given before after (Full live needed) writes all room has borne other =
+    let full = writes.full live needed refl in absurd (never_full c given before after all room writes.follows borne full.0 live needed full.1 full.2)
+was_flash {T} c given before after SequenceSpent writes all room has borne other = absurd (other refl)
+was_flash {T} c given before after (Damaged sector page) writes all room has borne other = absurd (writes.mounted has sector page refl)
+
 -- So every fault of the writes is one of the flash, or of the last sequence number.
 pub resolved : {T : Type 0} (c : Config) → IsGiven c → (before after : BlocksState) (fault : BlockFault) → Writes {T = T} before after (Err fault) → before.numbers ≡ numbers → HasRoom c before.room
     → IsTrue before.has_mounted → IsBorne c after.value → (fault ≡ SequenceSpent → ⊥) → FailsThrice before after
-resolved {T} c given before after fault writes all room has borne other = by fault writes other
-  where
-    by : (fault : BlockFault) → Writes {T = T} before after (Err fault) → (fault ≡ SequenceSpent → ⊥) → FailsThrice before after
-    by Flash writes other = writes.flash refl
-    by (Full live needed) writes other =
-        let full = writes.full live needed refl in absurd (never_full c given before after all room writes.follows borne full.0 live needed full.1 full.2)
-    by SequenceSpent writes other = absurd (other refl)
-    by (Damaged sector page) writes other = absurd (writes.mounted has sector page refl)
+resolved {T} c given before after fault writes all room has borne other = writes.flash (ap Err (was_flash {T = T} c given before after fault writes all room has borne other))
 
 -- What is written as a commit is no longer than what the configuration may write.
 pub own_first : (c : Config) → own_pages c first_commit ≡ 3

@@ -5,7 +5,7 @@ use Rattle.flt_flash.specs.Content.{bytes}
 use Rattle.flt_flash.specs.Blocks.{BlocksState}
 use Rattle.flt_flash.specs.Calls.{Follows, OthersKept, SameValues}
 use Rattle.flt_flash.specs.declared.blocks.BlockFault.{BlockFault}
-use Rattle.flt_flash.specs.declared.blocks.BlockFault.TheVariants.{Flash as FlashFault, Full, SequenceSpent as Stuck, Damaged as DamagedPage}
+use Rattle.flt_flash.specs.declared.blocks.BlockFault.TheVariants.{Flash as FlashFault, SequenceSpent as Stuck}
 use Rattle.flt_flash.proofs.CallsInARow.{no_call, more_calls}
 use Rattle.flt_nvm.specs.Leaves.{GivesInAJob}
 use Rattle.flt_nvm.specs.Reads.{IsUnmended}
@@ -18,10 +18,10 @@ use Rattle.flt_restore.specs.declared.fault.StartFault.TheVariants.{Flash}
 use Rattle.flt_restore.specs.Unread.{IsImageUnread}
 use Rattle.flt_restore.proofs.Failing.{image_unread_from}
 use Rattle.flt_store.specs.Cause.{HasRoom, Writes}
-use Rattle.flt_store.specs.Start.{told_of_write}
 use Rattle.flt_store.specs.Dark.{FailsToWrite, IsMarkUnwritten, IsCommitUnmended, IsUnbegun, IsUnrestarted}
-use Rattle.flt_store.proofs.Causes.{never_full}
+use Rattle.flt_store.proofs.Causes.{was_flash}
 use Rattle.flt_restore.specs.Restored.{IsMarkDue}
+use Rattle.flt_restore.specs.Told.{told_of}
 
 pub write_at_once : (number : ℕ) (raw : List ℕ) (before after : BlocksState) → GivesInAJob number (bytes raw) (length raw) before after (Err FlashFault) → FailsToWrite number raw before after
 write_at_once number raw before after fails = record { first = before; last = after; earlier = no_call before; fails = fails; later = no_call after }
@@ -64,21 +64,12 @@ module _ (before middle after : BlocksState) (so_far : Follows before middle) (s
   unready_from c (inl unread) = inl (image_unread_from c before middle after so_far same unread)
   unready_from c (inr unbegun) = inr (unbegun_from c unbegun)
 
--- A write that failed, and not for want of a sequence number, was failed by the flash.
-pub was_flash : {T : Type 0} (c : Config) → IsGiven c → (before after : BlocksState) (fault : BlockFault) → Writes {T = T} before after (Err fault) → before.numbers ≡ numbers → HasRoom c before.room
-    → IsTrue before.has_mounted → IsBorne c after.value → (fault ≡ Stuck → ⊥) → fault ≡ FlashFault
-was_flash {T} c given before after FlashFault writes all room has borne other = refl
-was_flash {T} c given before after (Full live needed) writes all room has borne other =
-    let full = writes.full live needed refl in absurd (never_full c given before after all room writes.follows borne full.0 live needed full.1 full.2)
-was_flash {T} c given before after Stuck writes all room has borne other = absurd (other refl)
-was_flash {T} c given before after (DamagedPage sector page) writes all room has borne other = absurd (writes.mounted has sector page refl)
-
-not_stuck : (fault : BlockFault) → told_of_write fault ≡ Flash → fault ≡ Stuck → ⊥
-not_stuck fault is stuck = let told : told_of_write Stuck ≡ Flash = subst (λ (f : BlockFault). told_of_write f ≡ Flash) stuck is in absurd (cc told)
+not_stuck : (fault : BlockFault) → told_of fault ≡ Flash → fault ≡ Stuck → ⊥
+not_stuck fault is stuck = let told : told_of Stuck ≡ Flash = subst (λ (f : BlockFault). told_of f ≡ Flash) stuck is in absurd (cc told)
 
 -- A write that is told as a fault of the flash was failed by it.
 pub was_flash_of_write : {T : Type 0} (c : Config) → IsGiven c → (before after : BlocksState) (fault : BlockFault) → Writes {T = T} before after (Err fault) → before.numbers ≡ numbers → HasRoom c before.room
-    → IsTrue before.has_mounted → IsBorne c after.value → told_of_write fault ≡ Flash → fault ≡ FlashFault
+    → IsTrue before.has_mounted → IsBorne c after.value → told_of fault ≡ Flash → fault ≡ FlashFault
 was_flash_of_write {T} c given before after fault writes all room has borne is = was_flash {T = T} c given before after fault writes all room has borne (not_stuck fault is)
 
 -- A repair that failed at once.

@@ -21,11 +21,12 @@ use Rattle.flt_generation.specs.Holding.{Generation, Fault, damaged, other, dama
 use Rattle.flt_restore.specs.declared.fault.StartFault.{StartFault}
 use Rattle.flt_restore.specs.declared.fault.StartFault.TheVariants.{Flash, Damaged, OtherConfig, SequenceSpent}
 use Rattle.flt_restore.specs.Restored.{IsJudged, Refuses}
+use Rattle.flt_restore.specs.Told.{told_of}
 use Rattle.flt_store.specs.declared.store.Store.{Store}
 use Rattle.flt_store.specs.Cause.{FailsThrice}
 use Rattle.flt_store.specs.Store.{driver_of, numbered}
 use Rattle.flt_store.proofs.Beginning.{judged_in, not_spent}
-use Rattle.flt_store.specs.Start.{Judges, RefusedFor, Starts, told_of_write}
+use Rattle.flt_store.specs.Start.{Judges, RefusedFor, Starts}
 
 abbrev NeverPage : {A : Type 0} → Result A Fault → Type 0
 NeverPage (Ok value) = Unit {0}
@@ -119,11 +120,11 @@ module _ {B : Type 0} {b : Ghosts B} (c : Config) (before after : Store B b) whe
 
   -- A fault of the writing.
   pub refused_by_writing : (fault : BlockFault) (g : Generation) → Judges c before after (Ok g) → (fault ≡ Stuck → IsTrue (driver_of after).is_spent) → ((fault ≡ Stuck → ⊥) → FailsThrice (driver_of before) (driver_of after))
-      → RefusedFor c before after (told_of_write fault)
-  refused_by_writing FlashFault g judged spent thrice = thrice (λ is. absurd (cc is))
-  refused_by_writing (Full live needed) g judged spent thrice = thrice (λ is. absurd (cc is))
-  refused_by_writing Stuck g judged spent thrice = ((g, judged), spent refl)
-  refused_by_writing (DamagedPage sector page) g judged spent thrice = thrice (λ is. absurd (cc is))
+      → ((sector page : ℕ) → fault ≡ DamagedPage sector page → ⊥) → RefusedFor c before after (told_of fault)
+  refused_by_writing FlashFault g judged spent thrice mounted = thrice (λ is. absurd (cc is))
+  refused_by_writing (Full live needed) g judged spent thrice mounted = thrice (λ is. absurd (cc is))
+  refused_by_writing Stuck g judged spent thrice mounted = ((g, judged), spent refl)
+  refused_by_writing (DamagedPage sector page) g judged spent thrice mounted = absurd (mounted sector page refl)
 
 -- What was judged behind a mount was judged in the whole start-up.
 module _ {B : Type 0} {b : Ghosts B} (c : Config) (before middle after : Store B b) (follows : Follows (driver_of before) (driver_of middle)) (same : SameValues (driver_of before) (driver_of middle))

@@ -1,6 +1,6 @@
 -- What keeps a store running.
-use Rattle.std.proofs.Common.{◌≡◌, ◌⊎◌, inl, inr, ⊎_elim, ℕ, ◌≤◌, Bool, false, Result, Ok, Err, refl, sym, ◌∙◌, ap, subst, arith}
-use Rattle.std.specs.Prelude.{IsTrue, IsFalse, IfOk, OnOk, OnErr, IsErrOf, MatchResult}
+use Rattle.std.proofs.Common.{◌≡◌, ◌⊎◌, inl, inr, ⊎_elim, ℕ, ◌≤◌, Bool, false, Result, Ok, Err, sym, ◌∙◌, ap, subst, arith}
+use Rattle.std.specs.Prelude.{IsTrue, IsFalse, IfOk, OnOk, OnErr, IsErrOf}
 use Rattle.std.specs.Result.{IsErrAnd}
 use Rattle.flt_flash.specs.Blocks.{BlocksState}
 use Rattle.flt_flash.specs.Calls.{Follows}
@@ -94,16 +94,6 @@ told_by P answer told made is = subst (λ r. IsErrAnd r P) is made
 -- A fault that is handed on was the one of the step.
 pub handed : {T U E : Type 0} (result : Result T E) (answer : Result U E) (fault told : E) → result ≡ Err fault → IsErrAnd answer (λ e. e ≡ fault) → IsErrOf answer told → IsErrOf result told
 handed result answer fault told was made is = was ∙ ap Err (sym (told_by (λ e. e ≡ fault) answer told made is))
-
--- The step behind an answer that told its fault as another.
-pub done_by : {T E F : Type 0} (tell : E → F) (result : Result T E) (answer : Result T F) (value : T) → MatchResult result (λ x. answer ≡ Ok x) (λ e. IsErrAnd answer (λ told. told ≡ tell e)) → answer ≡ Ok value → result ≡ Ok value
-done_by tell (Ok x) answer value cases is = cc (cases, is)
-done_by tell (Err e) answer value cases is = absurd (subst (λ r. IsErrAnd r (λ told. told ≡ tell e)) is cases)
-
-pub failed_by : {T E F : Type 0} (tell : E → F) (result : Result T E) (answer : Result T F) (told : F) → MatchResult result (λ x. answer ≡ Ok x) (λ e. IsErrAnd answer (λ told. told ≡ tell e)) → answer ≡ Err told
-    → (fault : E) × (result ≡ Err fault) × (told ≡ tell fault)
-failed_by tell (Ok x) answer told cases is = absurd (cc (cases, is))
-failed_by tell (Err e) answer told cases is = (e, refl, subst (λ r. IsErrAnd r (λ told. told ≡ tell e)) is cases)
 
 -- A store that is not settled runs.
 pub unsettled_runs : {B : Type 0} {b : Ghosts B} (c : Config) (h s : Generation) (store : Store B b) → IsFalse (is_settled store) → IsServed c (driver_of store) → HasMark c (driver_of store).value → IsSound c (driver_of store).value h s

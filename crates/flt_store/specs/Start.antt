@@ -3,8 +3,6 @@ use Rattle.std.specs.Prelude.{◌≡◌, ℕ, Option, Some, None, Result, Ok, Er
 use Rattle.flt_flash.specs.Content.{Content, missing, bytes}
 use Rattle.flt_flash.specs.Calls.{SameValues}
 use Rattle.flt_flash.specs.declared.blocks.Blocks.{Ghosts}
-use Rattle.flt_flash.specs.declared.blocks.BlockFault.{BlockFault}
-use Rattle.flt_flash.specs.declared.blocks.BlockFault.TheVariants.{Flash as FlashFault, Full, SequenceSpent as Stuck, Damaged as DamagedPage}
 use Rattle.flt_config.specs.declared.config.Config.{Config}
 use Rattle.flt_config.specs.declared.persist.Persist.{Persist}
 use Rattle.flt_generation.specs.declared.place.Place.TheVariants.{Page, Block}
@@ -28,20 +26,6 @@ Begins c value (Some found) g = Holds c value (bytes found.bytes.items) g × IsC
 abbrev pub IsFoundIn : Config → (ℕ → Content) → Option CommitCopy → Type 0
 IsFoundIn c value None = Unit {0}
 IsFoundIn c value (Some found) = IsCopy c value found
-
--- What a start-up answers to a fault of its mount; want of room and of sequence numbers are none.
-abbrev pub told_of_mount : BlockFault → StartFault
-told_of_mount FlashFault = Flash
-told_of_mount (Full live needed) = Flash
-told_of_mount Stuck = Flash
-told_of_mount (DamagedPage sector page) = Damaged (Page sector page)
-
--- What it answers to a fault of its writes; want of room and damage are none.
-abbrev pub told_of_write : BlockFault → StartFault
-told_of_write FlashFault = Flash
-told_of_write (Full live needed) = Flash
-told_of_write Stuck = SequenceSpent
-told_of_write (DamagedPage sector page) = Flash
 
 -- The image is damaged, or another configuration's.
 abbrev pub IsForeign : StartFault → Type 0

@@ -15,37 +15,17 @@ ghost use Rattle.flt_restore.specs.Restored.{IsMarkDue};
 ghost use Rattle.flt_restore.specs.Unread.{IsImageUnread};
 ghost use Rattle.flt_store.specs.Cause.{HasRoom, Writes};
 ghost use Rattle.flt_store.specs.Started.{HasMark, IsMarkTried, IsStarted};
-ghost use Rattle.flt_store.specs.Start.{Begins, IsFoundIn, told_of_mount, told_of_write};
+ghost use Rattle.flt_store.specs.Start.{Begins, IsFoundIn};
 ghost use Rattle.flt_store.specs.Dark.{IsUnbegun, IsDark, IsMarkUnwritten, IsOfBlocks, IsMountedAlone};
 ghost use Rattle.flt_store.specs.Spent.{IsBegunStuck, IsMarkStuck, IsOutOfNumbers};
 
 use super::{Store, number_in};
 use flt_config::{Persist, ValidConfig};
 use flt_flash::{BlockFault, Blocks};
-use flt_generation::{COMMIT_ID, MARK_ID, Place};
+use flt_generation::{COMMIT_ID, MARK_ID};
 use flt_image::{Commit, Mark, mark_of, put_mark};
 use flt_nvm::Nvm;
 use flt_restore::{CommitCopy, StartFault, restore};
-
-// What a start-up answers to a fault of its mount.
-fn mount_fault(fault: BlockFault) -> StartFault
-    ensures { result ≡ told_of_mount fault }
-{
-    match fault {
-        BlockFault::Damaged { sector, page } => StartFault::Damaged(Place::Page { sector, page }),
-        _ => StartFault::Flash,
-    }
-}
-
-// What a start-up answers to a fault of its writes.
-fn write_fault(fault: BlockFault) -> StartFault
-    ensures { result ≡ told_of_write fault }
-{
-    match fault {
-        BlockFault::SequenceSpent => StartFault::SequenceSpent,
-        _ => StartFault::Flash,
-    }
-}
 
 // Writes the mark of a configuration where it is due: where it is missing or of version 1.
 fn write_mark<B: Blocks + Drop>(
@@ -136,8 +116,7 @@ impl<B: Blocks + Drop> Store<B> {
         ensures follows { Follows (driver_of self.old) (driver_of self.new) }
     {
         let found = restore(&mut self.nvm, config, out)?;
-        let begun = begin_by(&mut self.nvm, config, found.is_mark_due, found.commit);
-        let commit = begun.map_err(write_fault)?;
+        let commit = begin_by(&mut self.nvm, config, found.is_mark_due, found.commit)?;
         let generation = number_in(&commit);
         self.commit = commit;
         self.saved.put_all(config, out);
@@ -180,7 +159,7 @@ impl<B: Blocks + Drop> Store<B> {
         ensures follows { Follows (driver_of self.old) (driver_of self.new) }
     {
         self.is_settled = false;
-        self.nvm.start().map_err(mount_fault)?;
+        self.nvm.start()?;
         self.start_mounted(config, out)
     }
 }

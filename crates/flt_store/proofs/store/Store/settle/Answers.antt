@@ -9,10 +9,9 @@ use Rattle.flt_image.specs.Blocks.{bytes_at}
 use Rattle.flt_store.specs.Store.{driver_of, commit_of, kept_of, is_settled, numbered}
 use Rattle.flt_store.proofs.Changed.{same_commit}
 use Rattle.flt_store.proofs.Known.{knows_may, knows_named, learned_may, learned_all}
-use Rattle.flt_store.proofs.Causes.{resolved}
+use Rattle.flt_store.proofs.Causes.{resolved, was_flash}
 use Rattle.flt_store.proofs.Started.{mark_kept, started_kept}
 use Rattle.flt_store.proofs.Running.{served_on, failed_on, failed_later, unfailed, whenever, told_by, unsettled_runs}
-use Rattle.flt_store.proofs.Dark.{was_flash}
 use Rattle.flt_store.proofs.store.Store.settle.Goals as goal
 
 pub returns-then-self-clause-settles : goal.returns-then-self-clause-settles

@@ -2,7 +2,6 @@ use Rattle.std.proofs.Common.{◌≡◌, inl, inr, Ok, Err, refl, sym, ◌∙◌
 use Rattle.flt_flash.proofs.CallsInARow.{more_calls}
 use Rattle.std.specs.Prelude.{◌↔◌, IsTrue}
 use Rattle.flt_flash.specs.Content.{Content}
-use Rattle.flt_flash.specs.declared.blocks.BlockFault.{BlockFault}
 use Rattle.flt_generation.specs.Layout.{mark_number}
 use Rattle.flt_generation.specs.Form.{mark_of}
 use Rattle.flt_nvm.specs.Driver.{driver_of as driver_beneath}
@@ -10,58 +9,54 @@ use Rattle.flt_generation.specs.Holding.{Generation}
 use Rattle.flt_restore.specs.Restored.{generation, IsJudged, IsMarkDue}
 use Rattle.flt_restore.proofs.Judged.{judged_of}
 use Rattle.flt_restore.proofs.Telling.{handed_on}
-use Rattle.flt_store.specs.Start.{Begins, RefusedFor}
+use Rattle.flt_store.specs.Start.{Begins}
 use Rattle.flt_store.specs.Started.{IsStarted}
 use Rattle.flt_store.specs.Store.{driver_of, numbered}
 use Rattle.flt_store.proofs.Causes.{resolved, writes_on}
 use Rattle.flt_store.proofs.Started.{sound_started}
 use Rattle.flt_store.proofs.Started.{numbered as number_of_started}
 use Rattle.flt_store.proofs.Repairing.{sound_kept, both_old}
-use Rattle.flt_store.proofs.Running.{served_on, done_by, err_taken, failed_by, told_by, whenever}
+use Rattle.flt_store.proofs.Running.{served_on, told_by, whenever}
 use Rattle.flt_store.proofs.Beginning.{begins_of, begun_fits, judged_in, same_generation, not_spent}
 use Rattle.flt_store.proofs.Faults.{refused_by_reading, refused_by_writing}
 use Rattle.flt_restore.specs.declared.fault.StartFault.TheVariants.{Flash, SequenceSpent}
-use Rattle.flt_store.specs.Start.{told_of_write}
+use Rattle.flt_restore.specs.Told.{told_of}
 use Rattle.flt_store.proofs.Dark.{unbegun_from, was_flash_of_write}
-use Rattle.flt_store.proofs.store.Store.start_mounted.Goals.{After-begin_by-begun, In_err-commit}
+use Rattle.flt_store.proofs.store.Store.start_mounted.Goals.{After-begin_by}
 use Rattle.flt_store.proofs.store.Store.start_mounted.Goals as goal
 
-pub begin_by-begun-requires-clause-due : goal.begin_by-begun-requires-clause-due
-begin_by-begun-requires-clause-due g c =
+pub begin_by-requires-clause-due : goal.begin_by-requires-clause-due
+begin_by-requires-clause-due g c =
     subst (λ (content : Content). IsTrue c.in_ok-found.found.is_mark_due ↔ IsMarkDue (mark_of c.args.config.now) content) (sym (c.restore.ensures.values mark_number)) c.in_ok-found.ensures.mark
 
-begins : (g : _) (c : After-begin_by-begun g) → Begins c.args.config.now (driver_beneath c.restore.new.nvm).value c.in_ok-found.found.commit (generation c.in_ok-found.found.commit c.restore.new.out)
-begins g c = begins_of c.args.config.now c.begin_by-begun.ensures.given (driver_of c.args.self.now) (driver_beneath c.restore.new.nvm) c.in_ok-found.found.commit c.restore.new.out c.restore.ensures.values c.in_ok-found.ensures.restored.restored
+begins : (g : _) (c : After-begin_by g) → Begins c.args.config.now (driver_beneath c.restore.new.nvm).value c.in_ok-found.found.commit (generation c.in_ok-found.found.commit c.restore.new.out)
+begins g c = begins_of c.args.config.now c.begin_by.ensures.given (driver_of c.args.self.now) (driver_beneath c.restore.new.nvm) c.in_ok-found.found.commit c.restore.new.out c.restore.ensures.values c.in_ok-found.ensures.restored.restored
 
-judged : (g : _) (c : After-begin_by-begun g) → IsJudged c.args.config.now (driver_of c.args.self.now) (driver_beneath c.begin_by-begun.new.nvm) (Ok (generation c.in_ok-found.found.commit c.restore.new.out))
+judged : (g : _) (c : After-begin_by g) → IsJudged c.args.config.now (driver_of c.args.self.now) (driver_beneath c.begin_by.new.nvm) (Ok (generation c.in_ok-found.found.commit c.restore.new.out))
 judged g c =
     let first = driver_of c.args.self.now in
     let second = driver_beneath c.restore.new.nvm in
-    judged_in c.args.config.now first first second (driver_beneath c.begin_by-begun.new.nvm) _ (λ n. refl) (omega arith) c.begin_by-begun.ensures.follows.counts
+    judged_in c.args.config.now first first second (driver_beneath c.begin_by.new.nvm) _ (λ n. refl) (omega arith) c.begin_by.ensures.follows.counts
     (judged_of c.args.config.now first second c.in_ok-found.found.commit c.restore.new.out c.in_ok-found.ensures.restored.restored)
-
-fault : (g : _) (c : In_err-commit g) → (fault : BlockFault) × (c.begin_by-begun.result ≡ Err fault) × (c.in_err-commit.field-0.0 ≡ told_of_write fault)
-fault g c = failed_by told_of_write c.begin_by-begun.result c.map_err.result _ c.map_err.ensures.cases c.in_err-commit.was
 
 pub returns-clause-started : goal.returns-clause-started
 returns-clause-started g c =
     let first = driver_of c.args.self.now in
     let second = driver_beneath c.restore.new.nvm in
-    let third = driver_beneath c.begin_by-begun.new.nvm in
+    let third = driver_beneath c.begin_by.new.nvm in
     let d = generation c.in_ok-found.found.commit c.restore.new.out in
-    let done = done_by told_of_write c.begin_by-begun.result c.map_err.result _ c.map_err.ensures.cases c.in_ok-commit.was in
-    let started : IsStarted c.args.config.now third.value c.in_ok-commit.commit d = rw done at (c.begin_by-begun.ensures.started d (begins g (goal.at.returns-clause-started g c).After-begin_by-begun)) in
+    let started = c.in_ok-commit.ensures.started d (begins g (goal.at.returns-clause-started g c).After-begin_by) in
     let number = c.number_in-generation.result in
     let is = number_of_started c.args.config.now third.value c.in_ok-commit.commit d started.names ∙ sym c.number_in-generation.ensures in
     let same = same_generation c.in_ok-found.found.commit c.restore.new.out number is in
     let now = subst (λ (h : Generation). IsStarted c.args.config.now third.value c.in_ok-commit.commit h) same started in
-    let follows = more_calls first second third c.restore.ensures.follows c.begin_by-begun.ensures.follows in
+    let follows = more_calls first second third c.restore.ensures.follows c.begin_by.ensures.follows in
     record {
       undamaged = g.met.B.Blocks.mounted_is_sound c.args.self.now.nvm.blocks c.requires.mounted;
-      judged = subst (λ (h : Generation). IsJudged c.args.config.now first third (Ok h)) same (judged g (goal.at.returns-clause-started g c).After-begin_by-begun);
+      judged = subst (λ (h : Generation). IsJudged c.args.config.now first third (Ok h)) same (judged g (goal.at.returns-clause-started g c).After-begin_by);
       usable = not_spent first second c.restore.ensures.follows c.in_ok-found.ensures.restored.usable;
       running = record {
-        served = served_on c.args.config.now first third follows (record { given = c.begin_by-begun.ensures.given; room = c.requires.room; mounted = c.requires.mounted });
+        served = served_on c.args.config.now first third follows (record { given = c.begin_by.ensures.given; room = c.requires.room; mounted = c.requires.mounted });
         mark = now.mark;
         sound = sound_started c.args.config.now third.value c.in_ok-commit.commit (numbered number c.restore.new.out) now;
         settled = λ yes. now;
@@ -74,15 +69,14 @@ pub returns-in_err-commit-clause-refused : goal.returns-in_err-commit-clause-ref
 returns-in_err-commit-clause-refused g c =
     let at = goal.at.returns-in_err-commit-clause-refused g c in
     let first = driver_of c.args.self.now in
-    let third = driver_beneath c.begin_by-begun.new.nvm in
-    let begun = begins g at.After-begin_by-begun in
-    let told = fault g at.In_err-commit in
-    let writes = writes_on first (driver_beneath c.restore.new.nvm) third (Err told.0) c.restore.ensures.follows (rw told.1 at (c.begin_by-begun.ensures.writes _ begun)) in
+    let third = driver_beneath c.begin_by.new.nvm in
+    let begun = begins g at.After-begin_by in
+    let writes = writes_on first (driver_beneath c.restore.new.nvm) third (Err c.in_err-commit.field-0.0) c.restore.ensures.follows (c.in_err-commit.ensures.writes _ begun) in
     handed_on _ c.from_residual-in_err-commit.result _ c.from_residual-in_err-commit.ensures.1
-    (subst (RefusedFor c.args.config.now c.args.self.now _) (sym told.2)
-    (refused_by_writing c.args.config.now c.args.self.now _ told.0 _ (record { undamaged = g.met.B.Blocks.mounted_is_sound c.args.self.now.nvm.blocks c.requires.mounted; is = judged g at.After-begin_by-begun })
-    (λ is. (let stuck = writes.stuck (ap Err is) in g.met.B.Blocks.stuck_is_spent c.begin_by-begun.new.nvm.blocks stuck.0 stuck.1 stuck.3))
-    (resolved c.args.config.now c.begin_by-begun.ensures.given first third told.0 writes c.args.self.now.numbers c.requires.room c.requires.mounted (c.begin_by-begun.ensures.borne _ begun))))
+    (refused_by_writing c.args.config.now c.args.self.now _ c.in_err-commit.field-0.0 _ (record { undamaged = g.met.B.Blocks.mounted_is_sound c.args.self.now.nvm.blocks c.requires.mounted; is = judged g at.After-begin_by })
+    (λ is. (let stuck = writes.stuck (ap Err is) in g.met.B.Blocks.stuck_is_spent c.begin_by.new.nvm.blocks stuck.0 stuck.1 stuck.3))
+    (resolved c.args.config.now c.begin_by.ensures.given first third c.in_err-commit.field-0.0 writes c.args.self.now.numbers c.requires.room c.requires.mounted (c.begin_by.ensures.borne _ begun))
+    (λ sector page is. writes.mounted c.requires.mounted sector page (ap Err is)))
 
 pub returns-in_err-found-clause-refused : goal.returns-in_err-found-clause-refused
 returns-in_err-found-clause-refused g c =
@@ -92,8 +86,8 @@ returns-in_err-found-clause-refused g c =
 pub returns-in_err-commit-clause-left : goal.returns-in_err-commit-clause-left
 returns-in_err-commit-clause-left g c = λ h s sound.
     let at = goal.at.returns-in_err-commit-clause-left g c in
-    whenever c.from_residual-in_err-commit.result (err_taken c.begin_by-begun.result (fault g at.In_err-commit).1
-    (c.begin_by-begun.ensures.tried h s _ (sound_kept c.args.config.now (driver_of c.args.self.now).value (driver_beneath c.restore.new.nvm).value h s c.restore.ensures.values sound) (begins g at.After-begin_by-begun)))
+    whenever c.from_residual-in_err-commit.result
+    (c.in_err-commit.ensures.tried h s _ (sound_kept c.args.config.now (driver_of c.args.self.now).value (driver_beneath c.restore.new.nvm).value h s c.restore.ensures.values sound) (begins g at.After-begin_by))
 
 pub returns-in_err-found-clause-left : goal.returns-in_err-found-clause-left
 returns-in_err-found-clause-left g c = λ h s sound. whenever c.from_residual.result
@@ -101,24 +95,23 @@ returns-in_err-found-clause-left g c = λ h s sound. whenever c.from_residual.re
 
 pub put_all-requires : goal.put_all-requires
 put_all-requires g c =
-    begun_fits c.args.config.now (driver_beneath c.restore.new.nvm).value c.in_ok-found.found.commit c.restore.new.out (begins g (goal.at.put_all-requires g c).After-begin_by-begun)
+    begun_fits c.args.config.now (driver_beneath c.restore.new.nvm).value c.in_ok-found.found.commit c.restore.new.out (begins g (goal.at.put_all-requires g c).After-begin_by)
 
 pub returns-clause-fits : goal.returns-clause-fits
 returns-clause-fits g c =
-    begun_fits c.args.config.now (driver_beneath c.restore.new.nvm).value c.in_ok-found.found.commit c.restore.new.out (begins g (goal.at.returns-clause-fits g c).After-begin_by-begun)
+    begun_fits c.args.config.now (driver_beneath c.restore.new.nvm).value c.in_ok-found.found.commit c.restore.new.out (begins g (goal.at.returns-clause-fits g c).After-begin_by)
 
 pub returns-in_err-commit-clause-unready : goal.returns-in_err-commit-clause-unready
 returns-in_err-commit-clause-unready g c = λ flash.
     let at = goal.at.returns-in_err-commit-clause-unready g c in
     let first = driver_of c.args.self.now in
     let second = driver_beneath c.restore.new.nvm in
-    let third = driver_beneath c.begin_by-begun.new.nvm in
-    let begun = begins g at.After-begin_by-begun in
-    let told = fault g at.In_err-commit in
-    let writes = writes_on first second third (Err told.0) c.restore.ensures.follows (rw told.1 at (c.begin_by-begun.ensures.writes _ begun)) in
-    let is : told_of_write told.0 ≡ Flash = sym (told_by _ c.from_residual-in_err-commit.result Flash c.from_residual-in_err-commit.ensures.1 flash ∙ told.2) in
-    let fault_is = was_flash_of_write c.args.config.now c.begin_by-begun.ensures.given first third told.0 writes c.args.self.now.numbers c.requires.room c.requires.mounted (c.begin_by-begun.ensures.borne _ begun) is in
-    inr (unbegun_from first second third c.restore.ensures.follows c.restore.ensures.values c.args.config.now (c.begin_by-begun.ensures.unbegun _ begun (told.1 ∙ ap Err fault_is)))
+    let third = driver_beneath c.begin_by.new.nvm in
+    let begun = begins g at.After-begin_by in
+    let writes = writes_on first second third (Err c.in_err-commit.field-0.0) c.restore.ensures.follows (c.in_err-commit.ensures.writes _ begun) in
+    let is : told_of c.in_err-commit.field-0.0 ≡ Flash = sym (told_by _ c.from_residual-in_err-commit.result Flash c.from_residual-in_err-commit.ensures.1 flash) in
+    let fault_is = was_flash_of_write c.args.config.now c.begin_by.ensures.given first third c.in_err-commit.field-0.0 writes c.args.self.now.numbers c.requires.room c.requires.mounted (c.begin_by.ensures.borne _ begun) is in
+    inr (unbegun_from first second third c.restore.ensures.follows c.restore.ensures.values c.args.config.now (c.in_err-commit.ensures.unbegun _ begun (ap Err fault_is)))
 
 pub returns-in_err-found-clause-unready : goal.returns-in_err-found-clause-unready
 returns-in_err-found-clause-unready g c = λ flash. inl (c.in_err-found.ensures.unread (ap Err (sym (told_by _ c.from_residual.result Flash c.from_residual.ensures.1 flash))))
