@@ -116,12 +116,17 @@ impl<B: Blocks + Drop> Store<B> {
         out.clear();
         match read_application(&mut self.nvm, block, &mut bytes) {
             Ok(Got::Missing) => Ok(false),
-            Ok(Got::Bytes { length, .. }) if length <= APPLICATION_LENGTH => {
+            Ok(Got::Bytes { length, .. }) => {
                 push_all(&bytes[..length], out);
                 Ok(true)
             }
-            Ok(_) => Err(FlashFailed),
-            Err(_) => Err(FlashFailed),
+
+            // No application block of a store that runs is invalid.
+            Ok(Got::Invalid) => unreachable!(),
+            Err(BlockFault::Flash) => Err(FlashFailed),
+
+            // A mounted driver fails by its flash alone.
+            Err(_) => unreachable!(),
         }
     }
 }
