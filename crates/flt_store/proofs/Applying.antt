@@ -2,30 +2,28 @@
 use Rattle.std.proofs.Common.{◌≡◌, ◌⊎◌, inl, inr, ⊎_elim, ℕ, ◌+◌, ◌/◌, ◌<◌, ◌≤◌, true, false, List, [], length, take, drop, Option, refl, sym, ◌∙◌, ap, subst, arith}
 use Rattle.std.proofs.Math.Seq.{take-append_seam}
 use Rattle.std.specs.Prelude.{IsTrue, nat_lt}
-use Rattle.std.proofs.lemmas.Bool.{cases_eq, le-leb, leb-true, lt-ltb}
+use Rattle.std.proofs.lemmas.Bool.{cases_eq, le-leb, lt-ltb}
 use Rattle.flt_flash.specs.Content.{Content, missing, invalid, bytes}
 use Rattle.flt_flash.specs.Blocks.{BlocksState, pages_of, record_pages}
 use Rattle.flt_flash.specs.Calls.{Follows, OthersKept}
 use Rattle.flt_flash.specs.declared.blocks.Blocks.{Ghosts}
 use Rattle.flt_config.specs.declared.config.Config.{Config}
-use Rattle.flt_nvm.specs.declared.got.Got.TheVariants.{Bytes, Missing, Invalid}
+use Rattle.flt_nvm.specs.declared.got.Got.TheVariants.{Bytes, Missing}
 use Rattle.flt_nvm.specs.Leaves.{IsEither, GotOf}
 use Rattle.flt_generation.specs.declared.commit.Commit.{Commit}
-use Rattle.flt_generation.specs.Layout.{number_of, mark_number, first_commit, second_commit, application_number, applications, is_used}
+use Rattle.flt_generation.specs.Layout.{mark_number, application_number, applications}
 use Rattle.flt_generation.specs.Excess.{own_pages, IsBorne}
-use Rattle.flt_generation.specs.Holding.{Generation, Holds, IsSound, only_bytes, is_application}
-use Rattle.flt_generation.specs.Successor.{IsContentOf}
+use Rattle.flt_generation.specs.Holding.{Generation, MarkAllows, is_application}
 use Rattle.flt_generation.proofs.Pages.{applications_of}
 use Rattle.flt_generation.proofs.Choices.{chosen}
 use Rattle.flt_store.specs.Cause.{IsWithinOwn}
-use Rattle.flt_store.specs.Started.{HasMark, IsStarted}
+use Rattle.flt_store.specs.Started.{IsStarted}
 use Rattle.flt_store.specs.declared.store.Store.{Store}
 use Rattle.flt_store.specs.Known.{Knows}
 use Rattle.flt_store.specs.Store.{driver_of, commit_of, kept_of, is_settled, IsRunning, Gets}
-use Rattle.flt_generation.proofs.Pages.{used_range}
 use Rattle.flt_store.proofs.Causes.{borne_stays}
 use Rattle.flt_store.proofs.Running.{served_on}
-use Rattle.flt_store.proofs.Started.{AreApplications, names_on, mark_on, holds_on, sound_on}
+use Rattle.flt_store.proofs.Started.{AreApplications, KeepsGenerations, sound_still, started_still}
 
 -- Bytes were put into an application block of the configuration, and nothing else was written.
 pub record Puts (c : Config) (block : ℕ) (raw : List ℕ) (before after : BlocksState) : Type 0 where
@@ -41,15 +39,6 @@ module _ {c : Config} {block : ℕ} {raw : List ℕ} {before after : BlocksState
 
   mark_same : after.value mark_number ≡ before.value mark_number
   mark_same = low mark_number (omega arith)
-
-  above : (id index : ℕ) → IsTrue (is_used c id) → index ≤ 1 → after.value (number_of id index) ≡ before.value (number_of id index)
-  above id index used small = let range = used_range c id used in low (number_of id index) (omega (arith, range.1, small))
-
-  first_same : after.value first_commit ≡ before.value first_commit
-  first_same = low first_commit (omega arith)
-
-  second_same : after.value second_commit ≡ before.value second_commit
-  second_same = low second_commit (omega arith)
 
   own_three : own_pages c (application_number block) ≡ 3
   own_three =
@@ -82,24 +71,12 @@ module _ {c : Config} {block : ℕ} {raw : List ℕ} {before after : BlocksState
     | inr apart ↦ subst (λ (content : Content). IsTrue (is_application content)) (sym (puts.others (application_number other) (λ same. apart (omega (arith, same))))) (are other below)
   ]
 
-  mark_put : HasMark c before.value → HasMark c after.value
-  mark_put = mark_on c before.value after.value mark_same above
-
-  holds_put : (content : Content) (g : Generation) → Holds c before.value content g → Holds c after.value content g
-  holds_put content g is = holds_on c before.value after.value mark_same above content g (good is.applications) (borne_on is.excess) is
-
-  -- No generation changes.
-  sound_put : (h s : Generation) → IsSound c before.value h s → IsSound c after.value h s
-  sound_put = sound_on c before.value after.value first_same second_same holds_put
-
-  started_put : (commit : Option Commit) (g : Generation) → IsStarted c before.value commit g → IsStarted c after.value commit g
-  started_put commit g started = record {
-    mark = mark_put started.mark;
-    first = subst (IsContentOf commit) (sym first_same) started.first;
-    second = subst (λ (content : Content). IsContentOf commit (only_bytes content)) (sym second_same) started.second;
-    names = names_on c before.value after.value above commit g started.names;
-    applications = good started.applications;
-    excess = borne_on started.excess;
+  keeps_put : KeepsGenerations c before.value after.value
+  keeps_put = record {
+    low = λ number from below. low number below;
+    mark = λ commit. subst (λ (mark : Content). MarkAllows c mark commit) (sym mark_same);
+    applications = good;
+    excess = borne_on;
   }
 
 -- A store runs on behind a put.
@@ -107,9 +84,9 @@ pub put_runs : {B : Type 0} {b : Ghosts B} {c : Config} {block : ℕ} {raw : Lis
     → (is_settled after ≡ is_settled before) × (commit_of after ≡ commit_of before) × (kept_of after ≡ kept_of before) → (h s : Generation) → IsRunning c h s before → IsRunning c h s after
 put_runs {c = c} before after puts follows (settled, commit, kept) h s running = record {
   served = served_on c (driver_of before) (driver_of after) follows running.served;
-  mark = mark_put puts running.mark;
-  sound = sound_put puts h s running.sound;
-  settled = λ is. subst (λ (d : Option Commit). IsStarted c (driver_of after).value d h) (sym commit) (started_put puts (commit_of before) h (running.settled (sym settled ∙ is)));
+  mark = mark_same puts ∙ running.mark;
+  sound = sound_still (keeps_put puts) h s running.sound;
+  settled = λ is. subst (λ (d : Option Commit). IsStarted c (driver_of after).value d h) (sym commit) (started_still (keeps_put puts) (commit_of before) h (mark_same puts ∙ running.mark) (running.settled (sym settled ∙ is)));
   known = λ is. subst (λ (bytes_of : ℕ → List ℕ). Knows c bytes_of h.state) (sym kept) (running.known (sym settled ∙ is));
 }
 
@@ -124,14 +101,3 @@ gets_bytes invalid n copy before after out got is = absurd got.1
 gets_bytes (bytes held) n copy before after out got is =
     let found = got.1 in
     (refl, is ∙ ap (λ (m : ℕ). take m after) found.0 ∙ ap (take (length held)) found.1 ∙ take-append_seam held (drop n before))
-
--- What is read of an application block is none invalid, and has at most 32 bytes.
-pub not_invalid_application : (content : Content) (before after : List ℕ) → IsTrue (is_application content) → GotOf 1 content Invalid before after → ⊥
-not_invalid_application missing before after is got = got
-not_invalid_application invalid before after is got = cc is
-not_invalid_application (bytes held) before after is got = got
-
-pub short_application : (content : Content) (n copy : ℕ) (before after : List ℕ) → IsTrue (is_application content) → GotOf 1 content (Bytes n copy) before after → n ≤ 32
-short_application missing n copy before after is got = absurd got.1
-short_application invalid n copy before after is got = absurd got.1
-short_application (bytes held) n copy before after is got = let found = got.1 in let size = leb-true (length held) 32 is in omega (arith, size, found.0)

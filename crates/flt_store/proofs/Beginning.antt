@@ -29,7 +29,8 @@ use Rattle.flt_store.specs.Spent.{IsCommitStuck}
 use Rattle.flt_store.specs.Start.{Begins}
 use Rattle.flt_store.proofs.Causes.{borne_stays, writes_on}
 use Rattle.flt_store.proofs.Dark.{commit_from}
-use Rattle.flt_store.proofs.Marks.{TriesMark, holds_marked, sound_marked, borne_marked, applications_marked}
+use Rattle.flt_store.proofs.Marks.{TriesMark, keeps_marked, borne_marked, applications_marked}
+use Rattle.flt_store.proofs.Started.{holds_still, sound_still}
 use Rattle.flt_store.proofs.Mending.{Mends, mended_within, mended_writes, mended_started, mended_tried, mended_applications, commit_unmended, commit_stuck}
 use Rattle.flt_store.proofs.OutOfNumbers.{commit_stuck_from}
 
@@ -63,11 +64,11 @@ module _ {c : Config} {before after : BlocksState} (tries : TriesMark c before a
 
   begins_marked : (found : Option CommitCopy) (g : Generation) → Begins c before.value found g → Begins c after.value found g
   begins_marked None g begins = (
-    holds_marked tries missing g begins.0,
+    holds_still (keeps_marked tries) missing g begins.0,
     tries.others first_commit (λ same. omega (arith, same)) ∙ begins.1,
     ap only_bytes (tries.others second_commit (λ same. omega (arith, same))) ∙ begins.2,
   )
-  begins_marked (Some found) g begins = (holds_marked tries (bytes found.bytes.items) g begins.0, copy_marked found begins.1)
+  begins_marked (Some found) g begins = (holds_still (keeps_marked tries) (bytes found.bytes.items) g begins.0, copy_marked found begins.1)
 
   pub borne_with_mark : (found : Option CommitCopy) (g : Generation) → Begins c before.value found g → IsBorne c after.value
   borne_with_mark found g begins = borne_marked tries (borne_of c before.value found g begins)
@@ -96,10 +97,10 @@ module _ {B : Type 0} {b : Ghosts B} {c : Config} {before middle after : Nvm B b
 
   pub begun_started : result ≡ Ok tt → ((commit : Content) → MarkAllows c ((driver_of before).value mark_number) commit → HasMark c (driver_of middle).value)
       → (g : Generation) → Begins c (driver_of before).value (Some found) g → IsStarted c (driver_of after).value (Some found.commit) g
-  begun_started done marked g begins = mended_started mends done g (marked (bytes found.bytes.items) begins.0.mark) (holds_marked begun.tries (bytes found.bytes.items) g begins.0)
+  begun_started done marked g begins = mended_started mends done g (marked (bytes found.bytes.items) begins.0.mark) (holds_still (keeps_marked begun.tries) (bytes found.bytes.items) g begins.0)
 
   pub begun_tried : (h s new : Generation) → IsSound c (driver_of before).value h s → OldOrNew c (driver_of after).value h s new
-  begun_tried h s new sound = mended_tried mends h s new (sound_marked begun.tries h s sound)
+  begun_tried h s new sound = mended_tried mends h s new (sound_still (keeps_marked begun.tries) h s sound)
 
   pub begun_borne : (held : Option CommitCopy) (g : Generation) → Begins c (driver_of before).value held g → IsBorne c (driver_of after).value
   begun_borne held g begins = borne_stays c (driver_of middle).value (driver_of after).value (mended_within mends) (borne_with_mark begun.tries held g begins)

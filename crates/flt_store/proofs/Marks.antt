@@ -6,16 +6,15 @@ use Rattle.flt_flash.specs.Content.{Content, missing, invalid, bytes}
 use Rattle.flt_flash.specs.Blocks.{BlocksState, pages_of, record_pages}
 use Rattle.flt_flash.specs.Calls.{Follows, OthersKept}
 use Rattle.flt_config.specs.declared.config.Config.{Config}
-use Rattle.flt_generation.specs.Layout.{mark_number, number_of, first_commit, second_commit, application_number, is_used}
+use Rattle.flt_generation.specs.Layout.{mark_number, application_number}
 use Rattle.flt_generation.specs.Form.{mark_of, mark_bytes}
 use Rattle.flt_generation.specs.Excess.{IsBorne, own_pages}
-use Rattle.flt_generation.specs.Holding.{Generation, Holds, IsSound, MarkAllows, SameApplications, is_application}
+use Rattle.flt_generation.specs.Holding.{MarkAllows, SameApplications, is_application}
 use Rattle.flt_generation.proofs.Marks.{mark_size}
-use Rattle.flt_generation.proofs.Pages.{used_range}
 use Rattle.flt_store.specs.Cause.{IsWithinOwn}
 use Rattle.flt_store.specs.Started.{IsMarkTried}
 use Rattle.flt_store.proofs.Causes.{borne_stays}
-use Rattle.flt_store.proofs.Started.{AreApplications, content_names_on, sound_on}
+use Rattle.flt_store.proofs.Started.{AreApplications, KeepsGenerations}
 use Rattle.flt_restore.specs.Restored.{IsMarkDue}
 
 -- Nothing was written but the mark, and that only where it was due.
@@ -44,12 +43,6 @@ module _ {c : Config} {before after : BlocksState} (tries : TriesMark c before a
   pub borne_marked : IsBorne c before.value → IsBorne c after.value
   borne_marked = borne_stays c before.value after.value within_mark
 
-  first_same : after.value first_commit ≡ before.value first_commit
-  first_same = tries.others first_commit (λ same. omega (arith, same))
-
-  second_same : after.value second_commit ≡ before.value second_commit
-  second_same = tries.others second_commit (λ same. omega (arith, same))
-
   pub applications_marked : SameApplications before.value after.value
   applications_marked block below = tries.others (application_number block) (λ same. omega (arith, same))
 
@@ -63,20 +56,9 @@ module _ {c : Config} {before after : BlocksState} (tries : TriesMark c before a
       (λ wrote. subst (λ (mark : Content). MarkAllows c mark commit) (sym wrote.1) (inl refl))
       tries.tried
 
-  above : (id index : ℕ) → IsTrue (is_used c id) → index ≤ 1 → after.value (number_of id index) ≡ before.value (number_of id index)
-  above id index used small = let range = used_range c id used in tries.others (number_of id index) (λ same. omega (arith, range.0, same))
-
   -- What the image holds it holds with the mark written anew.
-  pub holds_marked : (content : Content) (g : Generation) → Holds c before.value content g → Holds c after.value content g
-  holds_marked content g is = record {
-    mark = mark_by content is.mark;
-    names = content_names_on c before.value after.value above content g is.names;
-    applications = good_marked is.applications;
-    excess = borne_marked is.excess;
-  }
-
-  pub sound_marked : (h s : Generation) → IsSound c before.value h s → IsSound c after.value h s
-  sound_marked = sound_on c before.value after.value first_same second_same holds_marked
+  pub keeps_marked : KeepsGenerations c before.value after.value
+  keeps_marked = record { low = λ number from below. tries.others number (λ same. omega (arith, same, from)); mark = mark_by; applications = good_marked; excess = borne_marked }
 
 -- A mark that is allowed and has not to be written stands in the version that is written.
 pub stands_anew : (c : Config) (content commit : Content) → MarkAllows c content commit → (IsMarkDue (mark_of c) content → ⊥) → content ≡ bytes (mark_bytes (mark_of c))

@@ -55,9 +55,9 @@ sound_started c value commit g started = record {
   same = λ equal. refl;
 }
 
--- What is named where the used blocks are as they were.
+-- What is named and held where the used blocks are as they were.
 module _ (c : Config) (before after : ℕ → Content) (above : (id index : ℕ) → IsTrue (is_used c id) → index ≤ 1 → after (number_of id index) ≡ before (number_of id index)) where
-  pub commit_names_on : (commit : Commit) (g : Generation) → CommitNames c before commit g → CommitNames c after commit g
+  commit_names_on : (commit : Commit) (g : Generation) → CommitNames c before commit g → CommitNames c after commit g
   commit_names_on commit g is = record {
     form = is.form;
     number = is.number;
@@ -65,40 +65,59 @@ module _ (c : Config) (before after : ℕ → Content) (above : (id index : ℕ)
     fits = is.fits;
   }
 
-  pub names_on : (commit : Option Commit) (g : Generation) → NamesOf c before commit g → NamesOf c after commit g
+  names_on : (commit : Option Commit) (g : Generation) → NamesOf c before commit g → NamesOf c after commit g
   names_on None g is = is
   names_on (Some commit) g is = commit_names_on commit g is
 
-  pub content_names_on : (content : Content) (g : Generation) → Names c before content g → Names c after content g
+  content_names_on : (content : Content) (g : Generation) → Names c before content g → Names c after content g
   content_names_on missing g is = is
   content_names_on invalid g is = is
   content_names_on (bytes held) g is = (is.0, is.1, commit_names_on is.0 g is.2)
 
--- What stands where the mark is as it was too.
-module _ (c : Config) (before after : ℕ → Content) (mark_same : after mark_number ≡ before mark_number)
-    (above : (id index : ℕ) → IsTrue (is_used c id) → index ≤ 1 → after (number_of id index) ≡ before (number_of id index)) where
-  pub mark_on : HasMark c before → HasMark c after
-  mark_on mark = mark_same ∙ mark
+  holds_on : (content : Content) (g : Generation) → (MarkAllows c (before mark_number) content → MarkAllows c (after mark_number) content) → AreApplications after → IsBorne c after → Holds c before content g
+      → Holds c after content g
+  holds_on content g allows applications excess is = record { mark = allows is.mark; names = content_names_on content g is.names; applications = applications; excess = excess }
 
-  pub holds_on : (content : Content) (g : Generation) → AreApplications after → IsBorne c after → Holds c before content g → Holds c after content g
-  holds_on content g applications excess is = record {
-    mark = subst (λ (mark : Content). MarkAllows c mark content) (sym mark_same) is.mark;
-    names = content_names_on c before after above content g is.names;
-    applications = applications;
-    excess = excess;
-  }
+-- What was written is no copy of the commit and no used block; the mark allows what it did, the application blocks stay good, and there is
+-- still room.
+pub record KeepsGenerations (c : Config) (before after : ℕ → Content) : Type 0 where
+  pub low : (number : ℕ) → first_commit ≤ number → number < 512 → after number ≡ before number
+  pub mark : (commit : Content) → MarkAllows c (before mark_number) commit → MarkAllows c (after mark_number) commit
+  pub applications : AreApplications before → AreApplications after
+  pub excess : IsBorne c before → IsBorne c after
 
--- Which generations are held, where the copies of the commit are as they were.
-module _ (c : Config) (before after : ℕ → Content) (first_same : after first_commit ≡ before first_commit) (second_same : after second_commit ≡ before second_commit)
-    (holds_on : (content : Content) (g : Generation) → Holds c before content g → Holds c after content g) where
-  pub sound_on : (h s : Generation) → IsSound c before h s → IsSound c after h s
-  sound_on h s sound = record {
+module _ {c : Config} {before after : ℕ → Content} (keeps : KeepsGenerations c before after) where
+  used_same : (id index : ℕ) → IsTrue (is_used c id) → index ≤ 1 → after (number_of id index) ≡ before (number_of id index)
+  used_same id index used small = let range = used_range c id used in keeps.low (number_of id index) (omega (arith, range.0)) (omega (arith, range.1, small))
+
+  first_same : after first_commit ≡ before first_commit
+  first_same = keeps.low first_commit (omega arith) (omega arith)
+
+  second_same : after second_commit ≡ before second_commit
+  second_same = keeps.low second_commit (omega arith) (omega arith)
+
+  pub holds_still : (content : Content) (g : Generation) → Holds c before content g → Holds c after content g
+  holds_still content g is = holds_on c before after used_same content g (keeps.mark content) (keeps.applications is.applications) (keeps.excess is.excess) is
+
+  -- No generation changes.
+  pub sound_still : (h s : Generation) → IsSound c before h s → IsSound c after h s
+  sound_still h s sound = record {
     holds = subst (λ (content : Content). Holds c after content h) (ap (λ (d : Content). either_copy d (before second_commit)) (sym first_same) ∙ ap (either_copy (after first_commit)) (sym second_same))
-        (holds_on (either_copy (before first_commit) (before second_commit)) h sound.holds);
-    spares = subst (λ (content : Content). Holds c after content s) (ap only_bytes (sym second_same)) (holds_on (only_bytes (before second_commit)) s sound.spares);
+        (holds_still (either_copy (before first_commit) (before second_commit)) h sound.holds);
+    spares = subst (λ (content : Content). Holds c after content s) (ap only_bytes (sym second_same)) (holds_still (only_bytes (before second_commit)) s sound.spares);
     order = sound.order;
     step = sound.step;
     same = sound.same;
+  }
+
+  pub started_still : (commit : Option Commit) (g : Generation) → HasMark c after → IsStarted c before commit g → IsStarted c after commit g
+  started_still commit g mark started = record {
+    mark = mark;
+    first = subst (IsContentOf commit) (sym first_same) started.first;
+    second = subst (λ (content : Content). IsContentOf commit (only_bytes content)) (sym second_same) started.second;
+    names = names_on c before after used_same commit g started.names;
+    applications = keeps.applications started.applications;
+    excess = keeps.excess started.excess;
   }
 
 -- What stands where the two images agree but for the copies of the commit.
@@ -116,14 +135,15 @@ module _ (c : Config) (before after : ℕ → Content) (agree : AgreeButForCommi
   names_kept = names_on c before after above_commit
 
   pub mark_kept : HasMark c before → HasMark c after
-  mark_kept = mark_on c before after below_commit above_commit
+  mark_kept mark = below_commit ∙ mark
 
   pub applications_kept : AreApplications before → AreApplications after
   applications_kept are block within =
       subst (λ (content : Content). IsTrue (is_application content)) (sym (agree (application_number block) (λ same. omega (arith, same)) (λ same. omega (arith, same)))) (are block within)
 
   pub holds_kept : (content : Content) (g : Generation) → IsBorne c after → Holds c before content g → Holds c after content g
-  holds_kept content g excess is = holds_on c before after below_commit above_commit content g (applications_kept is.applications) excess is
+  holds_kept content g excess is =
+      holds_on c before after above_commit content g (subst (λ (mark : Content). MarkAllows c mark content) (sym below_commit)) (applications_kept is.applications) excess is
 
 -- Reads leave a started image as it is.
 pub started_kept : (c : Config) (before after : ℕ → Content) → ((number : ℕ) → after number ≡ before number) → (commit : Option Commit) (g : Generation) → IsStarted c before commit g → IsStarted c after commit g

@@ -4,7 +4,8 @@ use Rattle.flt_flash.specs.declared.blocks.BlockFault.TheVariants.{Flash, Sequen
 use Rattle.flt_nvm.specs.Driver.{driver_of}
 use Rattle.flt_generation.specs.Reading.{commit_in}
 use Rattle.flt_store.proofs.Causes.{writes_handed, writes_done}
-use Rattle.flt_store.proofs.Marks.{TriesMark, sound_marked, applications_marked}
+use Rattle.flt_store.proofs.Marks.{TriesMark, keeps_marked, applications_marked}
+use Rattle.flt_store.proofs.Started.{sound_still}
 use Rattle.flt_store.proofs.Beginning.{Begun, copy_marked, borne_with_mark, none_started, begun_started, begun_tried, begun_borne, begun_applications, begun_writes, begun_unmended, begun_stuck}
 use Rattle.flt_store.proofs.Repairing.{both_old, bytes_of_commit}
 use Rattle.flt_store.proofs.Running.{handed, whenever}
@@ -48,7 +49,7 @@ returns-in-None-clause-started g c = λ h begins.
 
 pub returns-in_err-write_mark-clause-tried : goal.returns-in_err-write_mark-clause-tried
 returns-in_err-write_mark-clause-tried g c = λ h s d sound begins. whenever c.from_residual.result
-    (both_old c.args.config.now (driver_of c.write_mark.new.nvm).value h s h (sound_marked (tries g (goal.at.returns-in_err-write_mark-clause-tried g c).After-write_mark) h s sound))
+    (both_old c.args.config.now (driver_of c.write_mark.new.nvm).value h s h (sound_still (keeps_marked (tries g (goal.at.returns-in_err-write_mark-clause-tried g c).After-write_mark)) h s sound))
 
 pub returns-in_err-repair-in-Some-clause-tried : goal.returns-in_err-repair-in-Some-clause-tried
 returns-in_err-repair-in-Some-clause-tried g c = λ h s d sound begins. whenever c.from_residual-in_err-repair-in-Some.result
