@@ -1,6 +1,6 @@
 -- A call that met none of the causes of its errors answers Ok.
 use Rattle.std.proofs.Common.{◌≡◌, Result, Ok, Err, ⊎_elim, ap, refl}
-use Rattle.std.specs.Prelude.{◌⊎◌, ◌≢◌, IsOk, IsErrOf, OnErr}
+use Rattle.std.specs.Prelude.{◌⊎◌, ◌≢◌, IsOk, IsErrOf}
 use Rattle.flt_generation.specs.Holding.{Generation, last_number}
 use Rattle.flt_store.specs.declared.fault.SaveFault.{SaveFault}
 use Rattle.flt_store.specs.declared.fault.SaveFault.TheVariants as saving
@@ -17,10 +17,6 @@ pub put_met_none : {T : Type 0} (result : Result T PutFault) → (IsErrOf result
 put_met_none (Ok number) flash sequence = refl
 put_met_none (Err putting.Flash) flash sequence = absurd (flash refl)
 put_met_none (Err putting.SequenceSpent) flash sequence = absurd (sequence refl)
-
-pub met_no_error : {T E : Type 0} {P : Type 0} (result : Result T E) → OnErr result P → (P → ⊥) → IsOk result
-met_no_error (Ok x) p never = refl
-met_no_error (Err e) p never = absurd (never p)
 
 -- The generation from which a save goes on has not the last number, where the held one has not and the flash did not fail three times.
 pub not_last : {Q F : Type 0} (held spare last : Generation) → held.number ≢ last_number → (F → ⊥) → (last ≡ held) ⊎ ((last ≡ spare) × Q × F) → last.number ≡ last_number → ⊥

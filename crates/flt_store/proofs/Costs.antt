@@ -151,10 +151,6 @@ module _ (c : Config) (current : Option Commit) (next : Commit) (weight : ℕ �
   abbrev Weighs : ℕ → ℕ
   Weighs id = if is_written c current next id then weight id else 0
 
-  pub no_sum : written_sum c current next weight 0 ≡ 0
-  unfolding written_sum
-  no_sum = refl
-
   pub one_more : (count : ℕ) → written_sum c current next weight (count + 1) ≡ written_sum c current next weight count + Weighs (first_part + count)
   unfolding written_sum
   one_more count =
