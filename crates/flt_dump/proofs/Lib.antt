@@ -2,6 +2,5 @@ pub mod Holding
 pub mod Paging
 pub mod Passed
 pub mod Putting
-pub mod Quiet
 pub mod Listings
 pub mod Steps

@@ -1,11 +1,9 @@
 -- The lines of an image, by what its gates told.
-use Rattle.std.proofs.Common.{◌≡◌, ◌≢◌, ◌⊎◌, ⊎_elim, ℕ, Bool, true, false, List, [], ◌∷◌, ◌++◌, Option, Some, None, Result, Ok, Err, refl, sym, ◌∙◌, ap, subst}
+use Rattle.std.proofs.Common.{◌≡◌, ◌≢◌, ⊎_elim, ℕ, Bool, true, false, List, [], ◌∷◌, ◌++◌, Option, Some, None, Result, Ok, Err, refl, sym, ◌∙◌, ap, subst}
 use Rattle.std.specs.Prelude.{codes}
 use Rattle.flt_flash.specs.Image.{sector_at}
 use Rattle.flt_sector.specs.Log.{LogFrom, log}
 use Rattle.flt_sector.specs.Blocks.{Current, current}
-use Rattle.flt_pages.specs.declared.fault.PageFault.{PageFault}
-use Rattle.flt_pages.specs.declared.fault.PageFault.TheVariants.{Flash}
 use Rattle.flt_pages.specs.Told.{TellsOrFails, current_of, told_current}
 use Rattle.flt_pages.specs.declared.sectors.CurrentSector.{CurrentSector}
 use Rattle.flt_dump.specs.Listed.{IsListed}
@@ -14,11 +12,6 @@ use Rattle.flt_dump.specs.Listing.{listing_by, listing_in, listing_text, sector_
 module _ (used : ℕ) (numbers : List ℕ) (image : List (List (List ℕ))) where
   abbrev At : Type 0
   At = Result (Option Current) (ℕ × ℕ)
-
-  by_err : (at : At) (fault : PageFault) → TellsOrFails {T = Option CurrentSector} (Err fault) (told_current at) → fault ≢ Flash → listing_by used numbers image at ≡ []
-  by_err (Err place) fault tells other = refl
-  by_err (Ok None) fault tells other = ⊎_elim (λ same. absurd (other (cc same))) (λ no. absurd (cc no)) tells
-  by_err (Ok (Some at)) fault tells other = ⊎_elim (λ same. absurd (other (cc same))) (λ no. absurd (cc no)) tells
 
   by_none : (at : At) → TellsOrFails {T = Option CurrentSector} (Ok None) (told_current at) → listing_by used numbers image at ≡ codes "no sector" ++ 10 ∷ []
   by_none (Err place) tells = ⊎_elim (λ no. absurd (cc no)) (λ no. absurd (cc no)) tells
@@ -38,9 +31,6 @@ module _ (used : ℕ) (numbers : List ℕ) (image : List (List (List ℕ))) wher
       let is : told ≡ record { sector = at.sector; sequence = at.sequence } = cc same in
       sym (ap (λ (t : CurrentSector). listing_in (current_of t) (LogAt t.sector) (LogAt t.sector).fault) is))
       tells
-
-  pub lists_none_at_fault : (fault : PageFault) → TellsOrFails {T = Option CurrentSector} (Err fault) (told_current (current used image)) → fault ≢ Flash → [] ≡ listing_text used numbers image
-  lists_none_at_fault fault tells other = sym (by_err (current used image) fault tells other)
 
   pub lists_no_sector : TellsOrFails {T = Option CurrentSector} (Ok None) (told_current (current used image)) → codes "no sector" ++ 10 ∷ [] ≡ listing_text used numbers image
   lists_no_sector tells = sym (by_none (current used image) tells)

@@ -8,10 +8,6 @@ abbrev pub before_pages : List (List ℕ) → Result (List (List ℕ)) ℕ → R
 before_pages pages (Ok rest) = Ok (pages ++ rest)
 before_pages pages (Err number) = Err number
 
-pub before_none : (r : Result (List (List ℕ)) ℕ) → r ≡ before_pages [] r
-before_none (Ok pages) = refl
-before_none (Err number) = refl
-
 before_more : (pages : List (List ℕ)) (number : ℕ) (page : List ℕ) (r : Result (List (List ℕ)) ℕ) → before_pages pages (with_page number (Some page) r) ≡ before_pages (pages ++ page ∷ []) r
 before_more pages number page (Ok rest) = ap Ok (sym (append_assoc pages (page ∷ []) rest))
 before_more pages number page (Err wrong) = refl

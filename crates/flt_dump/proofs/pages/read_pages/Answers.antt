@@ -1,4 +1,4 @@
-use Rattle.std.proofs.Common.{◌≡◌, ◌∙◌, ℕ, suc, ◌+◌, ◌-◌, Some, None, Err, sym, ap, arith}
+use Rattle.std.proofs.Common.{◌≡◌, ◌∙◌, ℕ, suc, ◌+◌, ◌-◌, Err, sym, ap, arith}
 use Rattle.flt_script.specs.Text.{lines_of}
 use Rattle.flt_dump.specs.Dump.{pages_in}
 use Rattle.flt_dump.proofs.Paging.{before_pages, one_page, no_line, wrong_page, all_pages, line_more}
