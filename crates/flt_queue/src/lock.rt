@@ -50,10 +50,8 @@ impl QueueLock {
         ensures lock { IfOk result (λ made. IsSeatOf made.0.turn made.1) }
     {
         let queue = Box::new(alloc, JobQueue::new(alloc, blocks)?)?;
-        match Turn::make(alloc, BoxedQueue { queue }, room) {
-            Ok((turn, seat)) => Ok((QueueLock { turn }, seat)),
-            Err(_) => Err(AllocError),
-        }
+        let (turn, seat) = Turn::make(alloc, BoxedQueue { queue }, room)?;
+        Ok((QueueLock { turn }, seat))
     }
 
     /// Makes a call when its turn comes.

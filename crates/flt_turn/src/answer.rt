@@ -1,4 +1,5 @@
 //! What the lock's calls answer.
+use std::alloc::AllocError;
 
 /// The answer to a call.
 #[derive(Drop)]
@@ -19,4 +20,11 @@ pub struct HistoryFull<O> {
 #[derive(Drop)]
 pub struct MachineBack<M> {
     pub machine: M,
+}
+
+/// Drops the machine.
+impl<M: Drop> From<MachineBack<M>> for AllocError {
+    fn from(_back: MachineBack<M>) -> AllocError {
+        AllocError
+    }
 }

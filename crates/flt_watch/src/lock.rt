@@ -66,10 +66,8 @@ impl WatchLock {
     {
         let config = Snapshot::of(unit.state.config().config());
         let (watched, lent) = Watched::make(unit, subs);
-        match Turn::make(alloc, watched, room) {
-            Ok((turn, seat)) => Ok((WatchLock { turn, lent, config }, seat)),
-            Err(_) => Err(AllocError),
-        }
+        let (turn, seat) = Turn::make(alloc, watched, room)?;
+        Ok((WatchLock { turn, lent, config }, seat))
     }
 
     /// Makes a call when its turn comes, and tells each subscriber the changes that it makes. The answer has the kind of the reply, and
