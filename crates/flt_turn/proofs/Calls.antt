@@ -1,7 +1,8 @@
 -- A call, put together from its steps.
-use Rattle.std.proofs.Common.{◌≡◌, ℕ, suc, zero, ◌<◌, [], ◌∷◌, ◌++◌, All, Option, length, take, refl, sym, ap, ◌∙◌, subst, arith}
-use Rattle.std.proofs.lemmas.List.Elements.{All-append}
+use Rattle.std.proofs.Common.{◌≡◌, ℕ, ◌<◌, [], ◌∷◌, ◌++◌, All, Option, length, take, refl, sym, ap, ◌∙◌, subst, arith}
+use Rattle.std.proofs.lemmas.List.Elements.{All-push}
 use mathlib.Core.List.{IsPrefix}
+use lib.Seq.{take_at}
 use Rattle.atomic_table.specs.Seated.{TableId}
 use Rattle.atomic_table.specs.Table.{Me}
 use Rattle.flt_turn.specs.declared.machine.Machine.{Ghosts}
@@ -11,7 +12,7 @@ use Rattle.flt_turn.specs.Plays.{IsTakenOut, IsTurn}
 use Rattle.flt_turn.specs.Seats.{Seated, seated, Extends, ops_before}
 use Rattle.flt_turn.specs.Vaults.{VaultOf, journal_of, start_of, room_of}
 use Rattle.flt_turn.specs.Views.{drawn, turned, done}
-use Rattle.flt_turn.proofs.Journals.{calls_of-append, nothing_more, take_front}
+use Rattle.flt_turn.proofs.Journals.{calls_of-append, nothing_more}
 
 module _ {M S O R B : Type 0} {m : Ghosts M S O R B} where
   -- The view of a seat that has the turn.
@@ -48,8 +49,8 @@ module _ {M S O R B : Type 0} {m : Ghosts M S O R B} where
         empty = ap (λ me. me.1) last;
         extends = subst (λ x. Extends (seated lock v) (seated lock x) op ticket) (sym view) extends;
         start_is = f.start_is;
-        before = ap ops_of (sym (take_front (journal_of found) _ ticket f.place) ∙ ap (take ticket) seen_is);
-        admitted = subst (All (λ e. m.admits v.start e.op)) seen_is (All-append (λ e. m.admits v.start e.op) (journal_of found) (entry v.number op ∷ []) f.admitted alone);
+        before = ap ops_of (sym (take_at (journal_of found) _ ticket f.place) ∙ ap (take ticket) seen_is);
+        admitted = subst (All (λ e. m.admits v.start e.op)) seen_is (All-push (λ e. m.admits v.start e.op) (journal_of found) (entry v.number op) f.admitted allowed');
       })
     where
       longer' : journal_of given ≡ journal_of found ++ entry v.number op ∷ []
@@ -66,10 +67,6 @@ module _ {M S O R B : Type 0} {m : Ghosts M S O R B} where
 
       allowed' : m.admits v.start op
       allowed' = subst (λ (x : Seated S O). m.admits x.start op) (sym shows) allowed
-
-      alone : All (λ e. m.admits v.start e.op) (entry v.number op ∷ [])
-      alone zero d below = allowed'
-      alone (suc k) d below = absurd (omega arith)
 
       extends : Extends (seated lock v) (seated lock (done (journal_of given) op (at_turn ticket found v))) op ticket
       extends = let all = f.seen.1 in record {

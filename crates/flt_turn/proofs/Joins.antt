@@ -1,6 +1,6 @@
 -- A seat that is joined into the main seat keeps the rule.
-use Rattle.std.proofs.Common.{◌≡◌, ◌≢◌, ℕ, zero, suc, ◌+◌, List, [], ◌∷◌, ◌++◌, All, length, set, length-append, Option, true, false, true≢false, cond, not, ◌&&◌, eqb, refl, sym, ap, ◌∙◌, subst, ⊎_elim, arith}
-use Rattle.std.proofs.lemmas.List.Elements.{All-append}
+use Rattle.std.proofs.Common.{◌≡◌, ◌≢◌, ℕ, ◌+◌, List, [], ◌∷◌, ◌++◌, length, set, length-append, Option, true, false, true≢false, cond, not, ◌&&◌, eqb, refl, sym, ap, ◌∙◌, subst, ⊎_elim, arith}
+use Rattle.std.proofs.lemmas.List.Elements.{All-push}
 use mathlib.Core.List.{IsPrefix}
 use mathlib.Core.Option.{some}
 use lib.ListN.{get_elem?}
@@ -18,10 +18,6 @@ use Rattle.flt_turn.specs.Vaults.{VaultOf}
 use Rattle.flt_turn.specs.Views.{waits_at, serves_at, is_spent, waits, serves, sits, left_of, present, calls_made, joined_with, spent}
 use Rattle.flt_turn.proofs.Apart.{others_number}
 use Rattle.flt_turn.proofs.Totals.{total-append, total-set, total-same, one_le}
-
-abbrev single : {X : Type 0} (P : X → Type 0) (x : X) → P x → All P (x ∷ [])
-single P x holds zero d below = holds
-single P x holds (suc k) d below = absurd (omega arith)
 
 module _ {M S O R B : Type 0} {m : Ghosts M S O R B} (start : S) (room : ℕ) where
   module _ (s : State (Option (VaultOf m)) (View S O)) (h : Orderly start room s) (some_start : S) (id other : ℕ) (v w : View S O) (at : get_elem? s.views id ≡ some v) (apart : other ≢ id) (there : get_elem? (set s.views id (joined_with v w)) other ≡ some w)
@@ -79,7 +75,7 @@ module _ {M S O R B : Type 0} {m : Ghosts M S O R B} (start : S) (room : ℕ) wh
       start_is = k.start_is;
       room_is = k.room_is;
       seen = k.seen;
-      olds = All-append (λ old. IsPrefix old h.tally.history) v.olds (w.seen ∷ []) k.olds (single (λ old. IsPrefix old h.tally.history) w.seen known'.seen);
+      olds = All-push (λ old. IsPrefix old h.tally.history) v.olds w.seen k.olds known'.seen;
       mine = k.mine;
       own = k.own;
       main = λ _. (of_main.0, ap (λ l. l ++ (w.number, w.mine) ∷ []) of_main.1);
@@ -129,7 +125,7 @@ module _ {M S O R B : Type 0} {m : Ghosts M S O R B} (start : S) (room : ℕ) wh
       named = record {
         one_each = λ n within. bearers_same n ∙ h.named.one_each n within;
         no_other = λ n beyond. (bearers_same n ∙ (h.named.no_other n beyond).0, (h.named.no_other n beyond).1);
-        ended = All-append (λ seat. calls_of seat.0 h.tally.history ≡ seat.1) h.tally.joined ((w.number, w.mine) ∷ []) h.named.ended (single (λ seat. calls_of seat.0 h.tally.history ≡ seat.1) (w.number, w.mine) known'.mine);
+        ended = All-push (λ seat. calls_of seat.0 h.tally.history ≡ seat.1) h.tally.joined (w.number, w.mine) h.named.ended known'.mine;
       };
       sums = record {
         seats =

@@ -1,7 +1,7 @@
 -- The end of a turn keeps the rule. The vault comes home with one entry more, which is the seat's.
-use Rattle.std.proofs.Common.{◌≡◌, ◌≢◌, ℕ, zero, suc, ◌+◌, ◌%◌, ◌^◌, ◌<◌, ◌≤◌, List, [], ◌∷◌, ◌++◌, All, length, set, get_or, length-set, Option, Some, false, cond, eqb, eq-eqb, ne_eqb, refl, sym, ap, ◌∙◌, subst, ⊎_elim, arith, lt_of_not-le, length-append}
+use Rattle.std.proofs.Common.{◌≡◌, ◌≢◌, ℕ, ◌+◌, ◌%◌, ◌^◌, ◌<◌, ◌≤◌, List, [], ◌∷◌, ◌++◌, All, length, set, get_or, length-set, Option, Some, false, cond, eqb, eq-eqb, ne_eqb, refl, sym, ap, ◌∙◌, subst, ⊎_elim, arith, lt_of_not-le, length-append}
 use Rattle.std.proofs.Math.Nat.{mod-eq_of_lt}
-use Rattle.std.proofs.lemmas.List.Elements.{All-append}
+use Rattle.std.proofs.lemmas.List.Elements.{All-push}
 use mathlib.Core.List.{IsPrefix, append_cancel_left}
 use mathlib.Core.Logic.{dite}
 use mathlib.Core.Option.{some}
@@ -148,7 +148,7 @@ module _ {M S O R B : Type 0} {m : Ghosts M S O R B} (start : S) (room : ℕ) wh
           };
           known = record {
             length_is = ap length grown ∙ (long ∙ ap (λ n. n + 1) h.known.length_is);
-            admitted = subst (All (λ e. m.admits start e.op)) (sym grown) (All-append (λ e. m.admits start e.op) h.tally.history (entry v.number op ∷ []) h.known.admitted (subst (λ x. All (λ e. m.admits x e.op) (entry v.number op ∷ [])) known.start_is alone));
+            admitted = subst (All (λ e. m.admits start e.op)) (sym grown) (All-push (λ e. m.admits start e.op) h.tally.history (entry v.number op) h.known.admitted (subst (λ x. m.admits x op) known.start_is allowed));
             each = λ j u there seated. ⊎_elim
                 (λ (t : (j ≡ id) × (w ≡ u)). subst (KnowsHistory start room (journal_of vault) h.tally.children h.tally.joined) t.1 now_known)
                 (λ (t : (j ≢ id) × (get_elem? s.views j ≡ some u)). others_know j u t.0 t.1 seated)
@@ -173,10 +173,6 @@ module _ {M S O R B : Type 0} {m : Ghosts M S O R B} (start : S) (room : ℕ) wh
             places = let change = total-same left_of s.views id v w at refl in let p = h.sums.places in omega arith;
           };
         }
-      where
-        alone : All (λ e. m.admits v.start e.op) (entry v.number op ∷ [])
-        alone zero d below = allowed
-        alone (suc k) d below = absurd (omega arith)
 
   pub serves_turn : (slots id : ℕ) (v : View S O) (st : Step (Option (VaultOf m))) (ticket : ℕ) (vault : VaultOf m) (op : O) → v.stage ≡ Serving ticket → journal_of vault ≡ v.seen ++ entry v.number op ∷ []
       → start_of vault ≡ v.start → v.room ≤ room_of vault → m.admits v.start op

@@ -1,5 +1,6 @@
 -- A seat that is split from the main seat keeps the rule.
 use Rattle.std.proofs.Common.{◌≡◌, ◌≢◌, ℕ, ◌+◌, ◌≤◌, List, [], ◌∷◌, ◌++◌, set, false, eqb, eq-eqb, ne_eqb, refl, sym, ap, ◌∙◌, subst, ⊎_elim, arith}
+use mathlib.Core.List.{append-eq-nil_iff}
 use mathlib.Core.Logic.{dite}
 use mathlib.Core.Option.{some}
 use native.Mathlib.Decide.{ℕ_discrete}
@@ -14,7 +15,7 @@ use Rattle.flt_turn.specs.Order.{holders, bearers, KnowsHistory, Orderly}
 use Rattle.flt_turn.specs.Sums.{total, one_if}
 use Rattle.flt_turn.specs.Views.{is_spent, waits, serves, sits, left_of, present, calls_made, parent, child}
 use Rattle.flt_turn.proofs.Apart.{others_number}
-use Rattle.flt_turn.proofs.Journals.{nothing_in_front, calls_of-append}
+use Rattle.flt_turn.proofs.Journals.{calls_of-append}
 use Rattle.flt_turn.proofs.Totals.{total-append, total-set, total-same}
 
 module _ {M S O R B : Type 0} {m : Ghosts M S O R B} (start : S) (room : ℕ) where
@@ -59,8 +60,7 @@ module _ {M S O R B : Type 0} {m : Ghosts M S O R B} (start : S) (room : ℕ) wh
         seen = known.seen;
         olds = known.olds;
         mine = no_calls;
-        own = nothing_in_front (calls_of (v.children + 1) v.seen) (calls_of (v.children + 1) known.seen.0)
-            (sym (calls_of-append (v.children + 1) v.seen known.seen.0) ∙ (ap (calls_of (v.children + 1)) known.seen.1 ∙ no_calls));
+        own = (append-eq-nil_iff.0 (sym (calls_of-append (v.children + 1) v.seen known.seen.0) ∙ (ap (calls_of (v.children + 1)) known.seen.1 ∙ no_calls))).0;
         main = λ zero_is. absurd (omega arith);
         turn = λ t other. absurd (cc);
       } in
