@@ -50,10 +50,7 @@ fn result_of(written: bool) -> LastResult
 fn copy_of(job: &Job) -> Job
     ensures { result ≡ job.now }
 {
-    Job {
-        block: job.block,
-        bytes: job.bytes.clone().unwrap(),
-    }
+    job.clone().unwrap()
 }
 
 /// Puts a job behind those that wait.
