@@ -1,9 +1,10 @@
 -- What is told of a block, and how a post of it is answered.
 use Rattle.std.proofs.Common.{rules, ◌≡◌, ◌≢◌, ◌∙◌, ℕ, ◌+◌, ◌<◌, ◌≤◌, if◌then◌else◌, nat_lt, nat_eq, Bool, true, false, refl, ap, sym, subst, length, arith, eqb-true, [], ◌∷◌}
+use Rattle.std.proofs.lemmas.Bool.{cond_both}
 use Rattle.std.proofs.lemmas.List.{length-append}
 use Rattle.flt_queue.specs.declared.job.Job.{Job}
 use Rattle.flt_queue.specs.declared.job.LastResult.{LastResult}
-use Rattle.flt_queue.specs.declared.job.LastResult.TheVariants.{Never, Pending}
+use Rattle.flt_queue.specs.declared.job.LastResult.TheVariants.{Pending}
 use Rattle.flt_queue.specs.declared.job.QueueOp.TheVariants as ops
 use Rattle.flt_queue.specs.declared.job.QueueReply.TheVariants as replies
 use Rattle.flt_queue.specs.Queue.{History, waiting, pending, taken, last_of, result_of, answer_q}
@@ -17,10 +18,6 @@ use Rattle.flt_queue.proofs.Refusals.{few_wait}
 abbrev tells : ℕ → History → LastResult
 tells block past = if pending block past then Pending else last_of block past
 
-start_at : (block : ℕ) → tells block [] ≡ Never
-unfolding pending
-start_at block = refl
-
 post_at : (block : ℕ) (urgent : Bool) (job : Job) (past : History) (before : LastResult) (same busy room : Bool) → nat_eq job.block block ≡ same → pending job.block past ≡ busy → nat_lt (length (waiting past)) 32 ≡ room
     → tells block past ≡ before → tells block (ops.Post urgent job ∷ past) ≡ told_by block (ops.Post urgent job) (answer_q past (ops.Post urgent job)) before
 unfolding pending
@@ -30,14 +27,6 @@ post_at block urgent job past before false false true is is_busy is_room was = r
 post_at block urgent job past before true true room is is_busy is_room was = rw (is, is_busy) was
 post_at block urgent job past before true false false is is_busy is_room was = rw (is, is_busy, is_room) was
 post_at block urgent job past before true false true is is_busy is_room was = rw (is, is_busy, is_room, is) refl
-
-take_at : (block : ℕ) (past : History) (before : LastResult) → tells block past ≡ before → tells block (ops.Take ∷ past) ≡ before
-unfolding pending
-take_at block past before was = was
-
-ask_at : (block asked : ℕ) (past : History) (before : LastResult) → tells block past ≡ before → tells block (ops.Ask asked ∷ past) ≡ before
-unfolding pending
-ask_at block asked past before was = was
 
 done_here : (block : ℕ) (written : Bool) (past : History) (before : LastResult) (was_taken : Bool) → nat_eq block block ≡ true → taken block past ≡ was_taken → tells block past ≡ before
     → tells block (ops.Done block written ∷ past) ≡ told_by block (ops.Done block written) (answer_q past (ops.Done block written)) before
@@ -64,11 +53,12 @@ done_at block done written past before true is was =
     (done_here block written past before (taken block past) (subst (λ d. nat_eq d block ≡ true) one is) refl was)
 
 told : (block : ℕ) (past : History) → tells block past ≡ told_of block past
-told block [] = start_at block
+unfolding pending
+told block [] = refl
 told block (ops.Post urgent job ∷ past) = post_at block urgent job past (told_of block past) (nat_eq job.block block) (pending job.block past) (nat_lt (length (waiting past)) 32) refl refl refl (told block past)
-told block (ops.Take ∷ past) = take_at block past (told_of block past) (told block past)
+told block (ops.Take ∷ past) = told block past
 told block (ops.Done done written ∷ past) = done_at block done written past (told_of block past) (nat_eq done block) refl (told block past)
-told block (ops.Ask asked ∷ past) = ask_at block asked past (told_of block past) (told block past)
+told block (ops.Ask asked ∷ past) = told block past
 
 pub ask_tells_last : AskTellsLast
 ask_tells_last block past = ap replies.Last (told block past)
@@ -88,17 +78,15 @@ result_ends : (written : Bool) → result_of written ≢ Pending
 result_ends true = λ is. cc is
 result_ends false = λ is. cc is
 
-either_ends : (e : Bool) (one other : LastResult) → one ≢ Pending → other ≢ Pending → (if e then one else other) ≢ Pending
-either_ends true one other first second = first
-either_ends false one other first second = second
-
 last_ends : (block : ℕ) (past : History) → last_of block past ≢ Pending
 last_ends block [] = λ is. cc is
 last_ends block (ops.Post urgent job ∷ past) = last_ends block past
 last_ends block (ops.Take ∷ past) = last_ends block past
 last_ends block (ops.Done done written ∷ past) =
-    either_ends (nat_eq done block) (if taken block past then result_of written else last_of block past) (last_of block past)
-    (either_ends (taken block past) (result_of written) (last_of block past) (result_ends written) (last_ends block past)) (last_ends block past)
+    let before = last_ends block past in
+    let ends = λ (result : LastResult). result ≢ Pending in
+    let counted = cond_both (taken block past) (result_of written) (last_of block past) ends (λ _. result_ends written) (λ _. before) in
+    cond_both (nat_eq done block) (if taken block past then result_of written else last_of block past) (last_of block past) ends (λ _. counted) (λ _. before)
 last_ends block (ops.Ask asked ∷ past) = last_ends block past
 
 answered : (past : History) (urgent : Bool) (job : Job) (busy room : Bool) → pending job.block past ≡ busy → nat_lt (length (waiting past)) 32 ≡ room → PostIsAnswered past urgent job

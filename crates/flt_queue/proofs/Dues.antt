@@ -27,10 +27,6 @@ many_without block true [] = refl
 many_without block false [] = refl
 many_without block kind (post ∷ posts) = without_at block kind post posts post.urgent refl (many_without block kind posts)
 
-start_sound : (block : ℕ) → Sound block []
-unfolding waiting pending taken
-start_sound block = record { one = refl; meets = λ never. absurd (search rules) }
-
 refuses : (block : ℕ) (urgent : Bool) (job : Job) (past : History) (same : Bool) → nat_eq job.block block ≡ same → (if pending job.block past then false else nat_lt (length (waiting past)) 32) ≡ false
     → Sound block past → Sound block (ops.Post urgent job ∷ past)
 unfolding waiting pending taken
@@ -80,21 +76,18 @@ dones_at block done written past true true is is_taken before = record { one = r
 dones_at block done written past true false is is_taken before = record { one = rw (is, is_taken) (rw is_taken at before.one); meets = λ never. absurd (search rules) }
 dones_at block done written past false was_taken is is_taken before = record { one = rw is before.one; meets = rw is before.meets }
 
-asks : (block asked : ℕ) (past : History) → Sound block past → Sound block (ops.Ask asked ∷ past)
-unfolding waiting pending taken
-asks block asked past before = record { one = before.one; meets = before.meets }
-
 posts : (block : ℕ) (urgent : Bool) (job : Job) (past : History) (busy room : Bool) → pending job.block past ≡ busy → nat_lt (length (waiting past)) 32 ≡ room → Sound block past → Sound block (ops.Post urgent job ∷ past)
 posts block urgent job past true room is_busy is_room before = refuses block urgent job past (nat_eq job.block block) refl (rw is_busy refl) before
 posts block urgent job past false false is_busy is_room before = refuses block urgent job past (nat_eq job.block block) refl (rw (is_busy, is_room) refl) before
 posts block urgent job past false true is_busy is_room before = accepts block urgent job past (nat_eq job.block block) (taken block past) refl refl is_busy is_room before
 
 pub sound : (block : ℕ) (past : History) → Sound block past
-sound block [] = start_sound block
+unfolding waiting pending taken
+sound block [] = record { one = refl; meets = λ never. absurd (search rules) }
 sound block (ops.Post urgent job ∷ past) = posts block urgent job past (pending job.block past) (nat_lt (length (waiting past)) 32) refl refl (sound block past)
 sound block (ops.Take ∷ past) = takes_at block past (is_of block (next_of (waiting past))) (taken block past) (pending block past) refl refl refl (sound block past)
 sound block (ops.Done done written ∷ past) = dones_at block done written past (nat_eq done block) (taken block past) refl refl (sound block past)
-sound block (ops.Ask asked ∷ past) = asks block asked past (sound block past)
+sound block (ops.Ask asked ∷ past) = let before = sound block past in record { one = before.one; meets = before.meets }
 
 pub one_of_a_block : OneOfABlock
 one_of_a_block block past = (sound block past).one

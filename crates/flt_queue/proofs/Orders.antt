@@ -1,11 +1,12 @@
 -- In what order jobs are handed out.
-use Rattle.std.proofs.Common.{◌≡◌, ℕ, nat_lt, Bool, true, false, refl, length, append_assoc, arith, [], ◌∷◌, ◌++◌, List}
+use Rattle.std.proofs.Common.{◌≡◌, nat_lt, Bool, true, false, refl, length, append_assoc, arith, [], ◌∷◌, ◌++◌, List}
+use Rattle.std.proofs.lemmas.List.{nil_from_length}
 use Rattle.flt_queue.specs.declared.job.Job.{Job}
 use Rattle.flt_queue.specs.declared.job.QueueOp.TheVariants as ops
 use Rattle.flt_queue.specs.Queue.{History, Posted, posted, waiting, pending, some_urgent, without_earliest, next_of, handed_out}
 use Rattle.flt_queue.specs.Stands.{jobs}
 use Rattle.flt_queue.specs.Laws.{with_job, with_handed, accepted, handed, FirstInFirstOut}
-use Rattle.flt_queue.proofs.Steps.{jobs_posted, HandsOut, hands_out, some_waits, none_waits, as_many, no_items}
+use Rattle.flt_queue.proofs.Steps.{jobs_posted, HandsOut, hands_out, some_waits, none_waits, as_many}
 
 -- A job moves from those that wait to those that were handed out.
 moves_at : (kind : Bool) (posts : List Posted) (before us ss : List Job) → jobs true posts ≡ us → jobs false posts ≡ ss
@@ -25,7 +26,7 @@ moves_at false posts before [] (job ∷ ss) none are =
 moves_at kind posts before [] [] none nothing =
     let count = as_many posts in
     let many : length posts ≡ 0 = grind (arith, count, none, nothing) in
-    rw (no_items posts many) refl
+    rw (nil_from_length posts many) refl
 
 joins : (kind urgent : Bool) (job : Job) (posts : List Posted) (before all : List Job) → all ≡ before ++ jobs kind posts
     → with_job kind urgent job all ≡ before ++ jobs kind (posts ++ posted urgent job ∷ [])
@@ -42,29 +43,11 @@ posts_at kind urgent job past true room is_busy is_room before = rw is_busy befo
 posts_at kind urgent job past false false is_busy is_room before = rw (is_busy, is_room) before
 posts_at kind urgent job past false true is_busy is_room before = rw (is_busy, is_room) (joins kind urgent job (waiting past) (handed kind past) (accepted kind past) before)
 
-start_at : (kind : Bool) → [] ≡ jobs kind (waiting [])
-unfolding waiting
-start_at true = refl
-start_at false = refl
-
-takes_at : (kind : Bool) (past : History) → accepted kind past ≡ handed kind past ++ jobs kind (waiting past)
-    → accepted kind (ops.Take ∷ past) ≡ handed kind (ops.Take ∷ past) ++ jobs kind (waiting (ops.Take ∷ past))
-unfolding waiting
-takes_at kind past before = rw (moves_at kind (waiting past) (handed kind past) (jobs true (waiting past)) (jobs false (waiting past)) refl refl) before
-
-dones_at : (kind : Bool) (block : ℕ) (written : Bool) (past : History) → accepted kind past ≡ handed kind past ++ jobs kind (waiting past)
-    → accepted kind (ops.Done block written ∷ past) ≡ handed kind (ops.Done block written ∷ past) ++ jobs kind (waiting (ops.Done block written ∷ past))
-unfolding waiting
-dones_at kind block written past before = before
-
-asks_at : (kind : Bool) (block : ℕ) (past : History) → accepted kind past ≡ handed kind past ++ jobs kind (waiting past)
-    → accepted kind (ops.Ask block ∷ past) ≡ handed kind (ops.Ask block ∷ past) ++ jobs kind (waiting (ops.Ask block ∷ past))
-unfolding waiting
-asks_at kind block past before = before
-
 pub first_in_first_out : FirstInFirstOut
-first_in_first_out kind [] = start_at kind
+unfolding waiting
+first_in_first_out true [] = refl
+first_in_first_out false [] = refl
 first_in_first_out kind (ops.Post urgent job ∷ past) = posts_at kind urgent job past (pending job.block past) (nat_lt (length (waiting past)) 32) refl refl (first_in_first_out kind past)
-first_in_first_out kind (ops.Take ∷ past) = takes_at kind past (first_in_first_out kind past)
-first_in_first_out kind (ops.Done block written ∷ past) = dones_at kind block written past (first_in_first_out kind past)
-first_in_first_out kind (ops.Ask block ∷ past) = asks_at kind block past (first_in_first_out kind past)
+first_in_first_out kind (ops.Take ∷ past) = rw (moves_at kind (waiting past) (handed kind past) (jobs true (waiting past)) (jobs false (waiting past)) refl refl) (first_in_first_out kind past)
+first_in_first_out kind (ops.Done block written ∷ past) = first_in_first_out kind past
+first_in_first_out kind (ops.Ask block ∷ past) = first_in_first_out kind past

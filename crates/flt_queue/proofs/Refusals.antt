@@ -1,12 +1,13 @@
 -- What a refused call changes.
-use Rattle.std.proofs.Common.{rules, ◌≡◌, ℕ, ◌<◌, ◌≤◌, if◌then◌else◌, nat_lt, nat_eq, Bool, true, false, refl, sym, length, arith, [], ◌∷◌, List}
-use Rattle.std.proofs.lemmas.List.{length-append}
+use Rattle.std.proofs.Common.{rules, ◌≡◌, ℕ, ◌≤◌, nat_lt, nat_eq, Bool, true, false, refl, sym, length, arith, [], ◌∷◌, List}
+use Rattle.std.proofs.lemmas.Bool.{cond_both}
+use Rattle.std.proofs.lemmas.List.{length-append, nil_from_length}
 use Rattle.flt_queue.specs.declared.job.Job.{Job}
 use Rattle.flt_queue.specs.declared.job.QueueOp.TheVariants as ops
 use Rattle.flt_queue.specs.Queue.{History, Posted, posted, waiting, pending, taken, some_urgent, without_earliest, next_of, answer_q, handed_out}
 use Rattle.flt_queue.specs.Stands.{jobs}
 use Rattle.flt_queue.specs.Laws.{is_refused, IsSame, RefusedChangesNothing, FewWait}
-use Rattle.flt_queue.proofs.Steps.{HandsOut, hands_out, some_waits, none_waits, as_many, no_items, is_accepted, idle_at, refused_at, idle_take_at}
+use Rattle.flt_queue.proofs.Steps.{HandsOut, hands_out, some_waits, none_waits, as_many, with_post, is_accepted, idle_at, refused_at, idle_take_at}
 
 post_same : (urgent : Bool) (job : Job) (past : History) → is_accepted past job.block ≡ false → IsSame past (ops.Post urgent job ∷ past)
 unfolding waiting
@@ -32,7 +33,7 @@ none_at posts [] (job ∷ ss) none are told =
 none_at posts [] [] none nothing told =
     let count = as_many posts in
     let many : length posts ≡ 0 = grind (arith, count, none, nothing) in
-    no_items posts many
+    nil_from_length posts many
 
 takes : (past : History) → waiting past ≡ [] → IsSame past (ops.Take ∷ past)
 unfolding waiting
@@ -51,44 +52,18 @@ refused_changes_nothing past ops.Take told = takes past (none_at (waiting past) 
 refused_changes_nothing past (ops.Done block written) told = dones block written past (taken block past) refl told
 refused_changes_nothing past (ops.Ask block) told = absurd (search rules)
 
-either_few : (e : Bool) (ones others : List Posted) (n : ℕ) → length ones ≤ n → length others ≤ n → length (if e then ones else others) ≤ n
-either_few true ones others n some rest = some
-either_few false ones others n some rest = rest
-
 few_left : (kind : Bool) (posts : List Posted) → length (without_earliest kind posts) ≤ length posts
 few_left true [] = omega arith
 few_left false [] = omega arith
-few_left true (post ∷ posts) = either_few post.urgent posts (post ∷ without_earliest true posts) _ (omega arith) (omega (arith, few_left true posts))
-few_left false (post ∷ posts) = either_few post.urgent (post ∷ without_earliest false posts) posts _ (omega (arith, few_left false posts)) (omega arith)
-
-few_post : (urgent : Bool) (job : Job) (past : History) (busy room : Bool) → pending job.block past ≡ busy → nat_lt (length (waiting past)) 32 ≡ room
-    → length (waiting past) ≤ 32 → length (waiting (ops.Post urgent job ∷ past)) ≤ 32
-unfolding waiting
-few_post urgent job past true room is_busy is_room before = rw is_busy before
-few_post urgent job past false false is_busy is_room before = rw (is_busy, is_room) before
-few_post urgent job past false true is_busy is_room before =
-    let less : length (waiting past) < 32 = search rules in
-    rw (is_busy, is_room, length-append (waiting past) (posted urgent job ∷ [])) (omega (arith, less))
-
-few_start : length (waiting []) ≤ 32
-unfolding waiting
-few_start = omega arith
-
-few_take : (past : History) → length (waiting past) ≤ 32 → length (waiting (ops.Take ∷ past)) ≤ 32
-unfolding waiting
-few_take past before = omega (arith, before, few_left (some_urgent (waiting past)) (waiting past))
-
-few_done : (done : ℕ) (written : Bool) (past : History) → length (waiting past) ≤ 32 → length (waiting (ops.Done done written ∷ past)) ≤ 32
-unfolding waiting
-few_done done written past before = before
-
-few_ask : (block : ℕ) (past : History) → length (waiting past) ≤ 32 → length (waiting (ops.Ask block ∷ past)) ≤ 32
-unfolding waiting
-few_ask block past before = before
+few_left true (post ∷ posts) = cond_both post.urgent posts (post ∷ without_earliest true posts) (λ l. length l ≤ length (post ∷ posts)) (λ _. omega arith) (λ _. omega (arith, few_left true posts))
+few_left false (post ∷ posts) = cond_both post.urgent (post ∷ without_earliest false posts) posts (λ l. length l ≤ length (post ∷ posts)) (λ _. omega (arith, few_left false posts)) (λ _. omega arith)
 
 pub few_wait : FewWait
-few_wait [] = few_start
-few_wait (ops.Post urgent job ∷ past) = few_post urgent job past (pending job.block past) (nat_lt (length (waiting past)) 32) refl refl (few_wait past)
-few_wait (ops.Take ∷ past) = few_take past (few_wait past)
-few_wait (ops.Done block written ∷ past) = few_done block written past (few_wait past)
-few_wait (ops.Ask block ∷ past) = few_ask block past (few_wait past)
+unfolding waiting
+few_wait [] = omega arith
+few_wait (ops.Post urgent job ∷ past) =
+    with_post (λ l. length l ≤ 32) urgent job past (pending job.block past) (nat_lt (length (waiting past)) 32) refl refl (few_wait past)
+    (λ less. omega (arith, less, length-append (waiting past) (posted urgent job ∷ [])))
+few_wait (ops.Take ∷ past) = omega (arith, few_wait past, few_left (some_urgent (waiting past)) (waiting past))
+few_wait (ops.Done done written ∷ past) = few_wait past
+few_wait (ops.Ask block ∷ past) = few_wait past

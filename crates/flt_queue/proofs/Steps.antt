@@ -1,6 +1,7 @@
 -- A queue that stands for some calls, one call later.
-use Rattle.std.proofs.Common.{rules, ◌≡◌, ℕ, ◌<◌, ◌+◌, if◌then◌else◌, nat_lt, Bool, true, false, not, refl, ap, nat_eq, slice_index_or, slice_set, length, replicate, remove, append-nil, All, suc, Some, [], ◌∷◌, ◌++◌, List, arith}
-use Rattle.std.proofs.lemmas.List.{length-set, get_or-set_same, get_or-set_other, get_or-replicate}
+use Rattle.std.proofs.Common.{rules, ◌≡◌, ℕ, ◌<◌, ◌+◌, if◌then◌else◌, nat_lt, Bool, true, false, not, refl, ap, nat_eq, slice_index_or, slice_set, length, replicate, append-nil, subst, All, Some, [], ◌∷◌, ◌++◌, List, arith}
+use Rattle.std.proofs.lemmas.List.{length-set, get_or-set_same, get_or-set_other, get_or-replicate, nil_from_length}
+use Rattle.std.proofs.lemmas.List.Elements.{All-head}
 use Rattle.flt_queue.specs.declared.job.Job.{Job}
 use Rattle.flt_queue.specs.declared.job.LastResult.TheVariants.{Never}
 use Rattle.flt_queue.specs.declared.job.QueueOp.TheVariants as ops
@@ -84,6 +85,14 @@ as_many_at post posts false is rest = rw is (omega (arith, rest))
 pub as_many : (posts : List Posted) → length (jobs true posts) + length (jobs false posts) ≡ length posts
 as_many [] = refl
 as_many (post ∷ posts) = as_many_at post posts post.urgent refl (as_many posts)
+
+-- What holds of the posts that wait, and of them with one behind them where there is room, holds when it was asked for.
+pub with_post : (P : List Posted → Type 0) (urgent : Bool) (job : Job) (past : History) (busy room : Bool) → pending job.block past ≡ busy → nat_lt (length (waiting past)) 32 ≡ room
+    → P (waiting past) → (length (waiting past) < 32 → P (waiting past ++ posted urgent job ∷ [])) → P (waiting (ops.Post urgent job ∷ past))
+unfolding waiting
+with_post P urgent job past true room is_busy is_room before more = rw is_busy before
+with_post P urgent job past false false is_busy is_room before more = rw (is_busy, is_room) before
+with_post P urgent job past false true is_busy is_room before more = let less : length (waiting past) < 32 = search rules in rw (is_busy, is_room) (more less)
 
 -- ---- a post that is accepted
 
@@ -181,11 +190,6 @@ pub none_waits : (posts : List Posted) → jobs true posts ≡ [] → some_urgen
 none_waits [] are = refl
 none_waits (post ∷ posts) are = none_at post posts post.urgent refl are (none_waits posts)
 
--- A list that is not empty begins with its first item.
-pub first_of : {X : Type 0} (xs : List X) (x : X) → 0 < length xs → x ≡ slice_index_or xs 0 x → xs ≡ x ∷ remove xs 0
-first_of [] x some is = absurd (search rules)
-first_of (y ∷ ys) x some is = grind (arith)
-
 taken_at : (table : List BlockState) (job : Job) (block : ℕ) (past : History) (x d : BlockState) (e : Bool) → nat_eq job.block block ≡ e → job.block < length table → next_of (waiting past) ≡ Some job
     → x ≡ state_of job.block past → slice_index_or table block d ≡ state_of block past
     → slice_index_or (slice_set table job.block (record { pending = x.pending; taken = true; last = x.last })) block d ≡ state_of block (ops.Take ∷ past)
@@ -244,15 +248,11 @@ next_standard blocks job rest past old s none are =
     rw kind (hands_out false (waiting past) job rest jobs_are).first
 
 -- Nothing waits.
-pub no_items : {X : Type 0} (xs : List X) → length xs ≡ 0 → xs ≡ []
-no_items [] is = refl
-no_items (x ∷ xs) is = absurd (search rules)
-
 pub nothing_left : (blocks : ℕ) (past : History) (queue : JobQueue) → Stands blocks past queue → length queue.urgent.items ≡ 0 → length queue.standard.items ≡ 0 → waiting past ≡ []
 nothing_left blocks past queue s urgents standards =
     let many : length queue.urgent.items + length queue.standard.items ≡ length (waiting past) = rw (s.urgent, s.standard) (as_many (waiting past)) in
     let none : length (waiting past) ≡ 0 = omega (arith, many, urgents, standards) in
-    no_items (waiting past) none
+    nil_from_length (waiting past) none
 
 pub idle_take_at : (block : ℕ) (past : History) → waiting past ≡ [] → state_of block past ≡ state_of block (ops.Take ∷ past)
 unfolding pending taken
@@ -266,12 +266,5 @@ take_idles blocks past old new s none urgent standard table = record {
   table = λ block d less. rw (table, ← idle_take_at block past none) (s.table block d less);
 }
 
-pub rest_all : {X : Type 0} (P : X → Type 0) (xs : List X) (x : X) (rest : List X) → xs ≡ x ∷ rest → All P xs → All P rest
-rest_all P xs x rest is all =
-    let both : All P (x ∷ rest) = rw is at all in
-    λ k d lt. both (suc k) d (omega arith)
-
 pub head_all : {X : Type 0} (P : X → Type 0) (xs : List X) (x : X) (rest : List X) → xs ≡ x ∷ rest → All P xs → P x
-head_all P xs x rest is all =
-    let both : All P (x ∷ rest) = rw is at all in
-    both 0 x (omega arith)
+head_all P xs x rest is all = All-head P x rest (subst (All P) is all)

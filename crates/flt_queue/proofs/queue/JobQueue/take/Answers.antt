@@ -1,7 +1,9 @@
 use Rattle.std.proofs.Common.{rules, refl, ◌≡◌, ◌<◌, ◌∷◌, [], length, slice_index_or}
+use Rattle.std.proofs.lemmas.List.{nil_from_length}
+use Rattle.std.proofs.lemmas.List.Elements.{All-rest}
 use Rattle.flt_queue.specs.Queue.{IsJob}
 use Rattle.flt_queue.specs.Stands.{state_of}
-use Rattle.flt_queue.proofs.Steps.{resting, whole_after, no_items, take_urgent, take_standard, next_urgent, next_standard, nothing_left, take_idles, rest_all, head_all}
+use Rattle.flt_queue.proofs.Steps.{resting, whole_after, take_urgent, take_standard, next_urgent, next_standard, nothing_left, take_idles, head_all}
 use Rattle.flt_queue.proofs.queue.JobQueue.take.Goals as goal
 use Rattle.flt_queue.proofs.queue.JobQueue.take.Goals.{then-not-is_empty, else-not-is_empty+then-not-is_empty-2}
 
@@ -25,7 +27,7 @@ invariant_of-self-2-clause-urgent_jobs c =
     elim c.if-not-is_empty.branch [
       | then-not-is_empty w ↦
           let are : c.args.self.now.urgent.items ≡ c.if-not-is_empty.job ∷ w.take_first-job.new.jobs.items = rw w.job-is w.take_first-job.ensures.jobs in
-          rw w.self-is (rest_all (IsJob c.args.self.now.blocks) _ _ _ are c.args.self.now.urgent_jobs)
+          rw w.self-is (All-rest (IsJob c.args.self.now.blocks) _ _ _ are c.args.self.now.urgent_jobs)
       | else-not-is_empty+then-not-is_empty-2 w ↦ rw w.self-is c.args.self.now.urgent_jobs
     ]
 
@@ -35,7 +37,7 @@ invariant_of-self-2-clause-standard_jobs c =
       | then-not-is_empty w ↦ rw w.self-is c.args.self.now.standard_jobs
       | else-not-is_empty+then-not-is_empty-2 w ↦
           let are : c.args.self.now.standard.items ≡ c.if-not-is_empty.job ∷ w.take_first.new.jobs.items = rw w.job-is w.take_first.ensures.jobs in
-          rw w.self-is (rest_all (IsJob c.args.self.now.blocks) _ _ _ are c.args.self.now.standard_jobs)
+          rw w.self-is (All-rest (IsJob c.args.self.now.blocks) _ _ _ are c.args.self.now.standard_jobs)
     ]
 
 pub returns-clause-stands : goal.returns-clause-stands
@@ -49,7 +51,7 @@ returns-clause-stands c = λ past s.
           let here : slice_index_or c.args.self.now.table c.if-not-is_empty.job.block resting ≡ state_of c.if-not-is_empty.job.block past = s.table c.if-not-is_empty.job.block resting less in
           take_urgent _ c.if-not-is_empty.job w.take_first-job.new.jobs.items past c.args.self.now _ (slice_index_or c.args.self.now.table c.if-not-is_empty.job.block resting) s within here are (rw w.self-is refl) (rw w.self-is refl) refl
       | else-not-is_empty+then-not-is_empty-2 w ↦
-          let none : c.args.self.now.urgent.items ≡ [] = no_items c.args.self.now.urgent.items (search rules) in
+          let none : c.args.self.now.urgent.items ≡ [] = nil_from_length c.args.self.now.urgent.items (search rules) in
           let are : c.args.self.now.standard.items ≡ c.if-not-is_empty.job ∷ w.take_first.new.jobs.items = rw w.job-is w.take_first.ensures.jobs in
           let is_job : IsJob c.args.self.now.blocks c.if-not-is_empty.job = head_all (IsJob c.args.self.now.blocks) _ _ _ are c.args.self.now.standard_jobs in
           let less : c.if-not-is_empty.job.block < 40 = search rules in
@@ -65,7 +67,7 @@ returns-clause-answer c = λ past s.
           let are : c.args.self.now.urgent.items ≡ c.if-not-is_empty.job ∷ w.take_first-job.new.jobs.items = rw w.job-is w.take_first-job.ensures.jobs in
           rw (next_urgent _ _ _ past c.args.self.now s are) refl
       | else-not-is_empty+then-not-is_empty-2 w ↦
-          let none : c.args.self.now.urgent.items ≡ [] = no_items c.args.self.now.urgent.items (search rules) in
+          let none : c.args.self.now.urgent.items ≡ [] = nil_from_length c.args.self.now.urgent.items (search rules) in
           let are : c.args.self.now.standard.items ≡ c.if-not-is_empty.job ∷ w.take_first.new.jobs.items = rw w.job-is w.take_first.ensures.jobs in
           rw (next_standard _ _ _ past c.args.self.now s none are) refl
     ]
