@@ -1,12 +1,12 @@
 -- A lock from its main seat that took no call to the journal that it leaves.
-use Rattle.std.proofs.Common.{◌≡◌, ⊎_elim, ℕ, List, [], ◌∷◌, All, arith, refl, sym, subst}
+use Rattle.std.proofs.Common.{◌≡◌, ⊎_elim, ℕ, List, [], ◌∷◌, All, refl, sym, subst}
 use Rattle.std.proofs.lemmas.List.Elements.{All-contains, All-nil, All-cons, All-head}
 use mathlib.Core.List.{IsPrefix}
 use Rattle.flt_turn.specs.declared.vault.Entry.{Entry}
 use Rattle.flt_turn.specs.Journal.{calls_of, Interleaves}
 use Rattle.flt_turn.specs.Seats.{Seated, main_seat}
 use Rattle.flt_fork.specs.Known.{IsKnownTo}
-use Rattle.flt_fork.specs.Lived.{IsEnded, IsMain, CouldClose}
+use Rattle.flt_fork.specs.Lived.{CouldClose}
 use Rattle.flt_fork.specs.Mixing.{Mixes}
 use Rattle.flt_fork.proofs.Journals.{no_calls, none_of, prefix_trans}
 
@@ -17,12 +17,6 @@ nothing_yet {O} journal mixes = no_calls journal (λ n. none_of journal journal 
     (All-nil (λ (lane : ℕ × List O). lane.0 ≡ n → calls_of n journal ≡ []))))
 
 module _ {S O : Type 0} where
-  new_is_main : (main : Seated S O) → IsMain (main_seat {S = S} {O = O} main.lock main.start main.left)
-  new_is_main main = record { number_is = refl; own = omega arith; ended = All-nil (IsEnded (main_seat {S = S} {O = O} main.lock main.start main.left)); joined = refl }
-
-  pub fresh_is_main : (main : Seated S O) → main ≡ main_seat main.lock main.start main.left → IsMain main
-  fresh_is_main main fresh = subst IsMain (sym fresh) (new_is_main main)
-
   -- The lock was closed, and left this journal.
   pub closed : (after : Seated S O) (journal : List (Entry O)) → IsPrefix after.seen journal → All (λ old. IsPrefix old journal) after.olds → Interleaves journal ((after.number, after.mine) ∷ after.ended) → CouldClose after journal
   closed after journal seen olds mixes = record { seen = seen; olds = olds; mixes = record { each = mixes.each; others = mixes.others } }

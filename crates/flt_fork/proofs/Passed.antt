@@ -1,5 +1,5 @@
 -- Lanes that passed the main seats one after the other.
-use Rattle.std.proofs.Common.{◌≡◌, ℕ, ◌<◌, ◌≤◌, ◌+◌, List, [], ◌∷◌, ◌++◌, All, length, map, arith, refl, sym, ap, subst, ◌∙◌}
+use Rattle.std.proofs.Common.{◌≡◌, ℕ, ◌≤◌, ◌+◌, List, [], ◌∷◌, ◌++◌, All, length, map, arith, refl, sym, ap, subst, ◌∙◌}
 use Rattle.std.specs.Prelude.{Vec, sum_by, vec_len}
 use Rattle.std.specs.Vec.{vec_capacity}
 use Rattle.std.proofs.lemmas.List.{append-nil, append_assoc, length-append, map-append}
@@ -135,13 +135,6 @@ module _ {M X Y A : Type 0} (passes : M → X → M → Y → Type 0) (can_pass 
   module _ (now : M) (before out : Vec Y A) (done rest later : List X) (lane : X) (on : IsPassing passes can_pass main now lanes before out done rest) (next : rest ≡ lane ∷ later) where
     pub next_can : can_pass now (lane ∷ later)
     next_can = subst (can_pass now) next on.can
-
-    -- There is room for what comes out of the next lane.
-    pub room_to_pass : vec_len before + length lanes ≤ vec_capacity before → vec_len out < vec_capacity out
-    room_to_pass enough =
-        let count = ap length (sym on.all) ∙ length-append done rest in
-        let some = ap length next in
-        omega (arith, count, some, enough, on.len, on.room)
 
     pub passing_more : (after : M) (y : Y) (put : Vec Y A) → passes now lane after y → ((l : List X) → can_pass now (lane ∷ l) → can_pass after l) → put.items ≡ out.items ++ y ∷ [] → vec_len put ≡ vec_len out + 1
         → vec_capacity put ≡ vec_capacity out → IsPassing passes can_pass main after lanes before put (done ++ lane ∷ []) later
