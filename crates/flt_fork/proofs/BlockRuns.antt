@@ -10,7 +10,7 @@ use Rattle.flt_fork.specs.Lived.{IsMain}
 use Rattle.flt_fork.specs.Runs.{RunsBy, HasRunBlock}
 use Rattle.flt_fork.specs.Seats.{IsSplitSeat, IsSplitOff, AreJoined}
 use Rattle.flt_fork.specs.Passed.{AreSplit}
-use Rattle.flt_fork.proofs.Blocks.{IsLane, AreLanes, IsNumberOf, lane_fact, block_part}
+use Rattle.flt_fork.proofs.Blocks.{IsLane, AreLanes, IsGivenFor, lane_fact, block_part}
 
 -- A lane on one lock: its seat before and after, and its answers.
 pub record Lane (T A S O : Type 0) : Type 0 where
@@ -54,7 +54,7 @@ module _ {T A S O R : Type 0} (admits : S → O → Type 0) (answer : S → List
     pub made : Block O R
     pub makes : LanesMake MadeBy number (steps_all lanes) (tolds lanes) made
     pub are : AreLanes admits answer main made (afters lanes)
-    pub numbers : All (IsNumberOf main width) made
+    pub numbers : All (IsGivenFor main width) made
     pub past : All (λ lane. number ≤ lane.0) made
     pub rising : (n : ℕ) → Rise (length main.seen) (calls_in_block n made)
 
@@ -64,7 +64,7 @@ module _ {T A S O R : Type 0} (admits : S → O → Type 0) (answer : S → List
     made = [];
     makes = refl;
     are = tt;
-    numbers = All-nil (IsNumberOf main width);
+    numbers = All-nil (IsGivenFor main width);
     past = All-nil (λ (lane : ℕ × List (Call O R)). number ≤ lane.0);
     rising = λ n. rise_none (length main.seen) [] refl;
   }
@@ -75,7 +75,7 @@ module _ {T A S O R : Type 0} (admits : S → O → Type 0) (answer : S → List
         made = (number, first.runs.calls) ∷ more.made;
         makes = (first.runs.calls, more.made, refl, first.runs.made, more.makes);
         are = (one_ran main number lane first, more.are);
-        numbers = All-cons (IsNumberOf main width) (number, first.runs.calls) more.made (past, omega arith) more.numbers;
+        numbers = All-cons (IsGivenFor main width) (number, first.runs.calls) more.made (past, omega arith) more.numbers;
         past = All-cons (λ (lane : ℕ × List (Call O R)). number ≤ lane.0) (number, first.runs.calls) more.made (omega arith) (λ k d within. let next = more.past k d within in omega (arith, next));
         rising = rise_block (length main.seen) number first.runs.calls more.made (λ k d within. let next = more.past k d within in omega (arith, next))
             (subst (λ l. Rise (length l) first.runs.calls) first.split.seen_is first.runs.rising) more.rising;
@@ -91,7 +91,7 @@ module _ {T A S O R : Type 0} (admits : S → O → Type 0) (answer : S → List
       record {
         made = all.made;
         makes = all.makes;
-        lived = block_part admits answer main after (length (steps_all lanes)) all.made seats is all.are (subst (λ n. All (IsNumberOf main n) all.made) (sym width) all.numbers) all.rising record {
+        lived = block_part admits answer main after (length (steps_all lanes)) all.made seats is all.are (subst (λ n. All (IsGivenFor main n) all.made) (sym width) all.numbers) all.rising record {
           number_is = joined.number_is ∙ is_off.number_is;
           start_is = joined.start_is ∙ is_off.start_is;
           lock_is = joined.lock_is ∙ is_off.lock_is;

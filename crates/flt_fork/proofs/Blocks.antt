@@ -44,13 +44,9 @@ pub record HasJoined {S O : Type 0} (main after : Seated S O) (width : ℕ) (aft
   pub olds_are : after.olds ≡ main.olds ++ map (λ (s : Seated S O). s.seen) afters
   pub ended_are : after.ended ≡ main.ended ++ map (λ (s : Seated S O). (s.number, s.mine)) afters
 
--- A number that was given out for a block.
-abbrev pub IsGivenFor : {S O : Type 0} → Seated S O → ℕ → (ℕ × List O) → Type 0
+-- The number of the lane was given out for a block.
+abbrev pub IsGivenFor : {S O X : Type 0} → Seated S O → ℕ → (ℕ × X) → Type 0
 IsGivenFor main width lane = (main.children < lane.0) × (lane.0 ≤ main.children + width)
-
--- The numbers of the lanes are those that were given out for them.
-abbrev pub IsNumberOf : {S O R : Type 0} → Seated S O → ℕ → (ℕ × List (Call O R)) → Type 0
-IsNumberOf main width lane = (main.children < lane.0) × (lane.0 ≤ main.children + width)
 
 -- Each lane makes its first call behind what was known before the block.
 abbrev pub IsFresh : {S O R : Type 0} → Seated S O → (ℕ × List (Call O R)) → Type 0
@@ -131,7 +127,7 @@ module _ {S O R : Type 0} (admits : S → O → Type 0) (answer : S → List O �
   -- ---- the block
 
   pub block_part : (main after : Seated S O) (width : ℕ) (lanes : Block O R) (afters : List (Seated S O)) → IsMain main → AreLanes main lanes afters
-      → All (IsNumberOf main width) lanes → ((number : ℕ) → Rise (length main.seen) (calls_in_block number lanes)) → HasJoined main after width afters → HasLived answer main after width (lanes ∷ [])
+      → All (IsGivenFor main width) lanes → ((number : ℕ) → Rise (length main.seen) (calls_in_block number lanes)) → HasJoined main after width afters → HasLived answer main after width (lanes ∷ [])
   block_part main after width lanes afters is are numbers rising joined = record {
     main_after = main_after;
     start_is = joined.start_is;

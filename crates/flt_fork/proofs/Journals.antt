@@ -1,27 +1,19 @@
 -- Journals in two pieces: which calls stand in which piece.
-use Rattle.std.proofs.Common.{◌≡◌, ◌≢◌, ℕ, zero, suc, ◌<◌, ◌≤◌, ◌+◌, List, [], ◌∷◌, ◌++◌, All, length, map, get_or, eq-eqb, arith, refl, sym, ap, subst, ◌∙◌, cond, leb, Bool, true, false, Some}
+use Rattle.std.proofs.Common.{◌≡◌, ℕ, zero, suc, ◌<◌, ◌≤◌, ◌+◌, List, [], ◌∷◌, ◌++◌, All, length, map, get_or, eq-eqb, arith, refl, sym, ap, subst, ◌∙◌, cond, leb, Bool, true, false, Some}
 use Rattle.std.specs.Prelude.{slice_get}
-use Rattle.std.proofs.lemmas.List.{length-append, append-nil}
+use Rattle.std.proofs.lemmas.List.{length-append, append-nil, nil_from_length}
 use Rattle.std.proofs.lemmas.List.Elements.{All-map, All-contains}
 use Rattle.std.proofs.lemmas.Bool.{leb-true, leb-false}
-use mathlib.Core.List.{IsPrefix}
+use mathlib.Core.List.{IsPrefix, append-eq-nil_iff}
 use Rattle.flt_turn.specs.declared.vault.Entry.{Entry}
 use Rattle.flt_turn.specs.Journal.{entry, calls_of}
-use Rattle.flt_turn.proofs.Journals.{calls_of-append, calls_of_own, calls_of_other, nothing_in_front, prefix_longer}
+use Rattle.flt_turn.proofs.Journals.{calls_of-append, other_call, prefix_longer}
 use Rattle.flt_fork.specs.Mixing.{Mixes}
 
 module _ {X : Type 0} where
   pub empty_unless : (xs : List X) → ((x : X) (rest : List X) → xs ≡ x ∷ rest → ⊥) → xs ≡ []
   empty_unless [] not_more = refl
   empty_unless (x ∷ xs) not_more = absurd (not_more x xs refl)
-
-  pub nothing_behind : (xs ys : List X) → xs ++ ys ≡ [] → ys ≡ []
-  nothing_behind [] ys none = none
-  nothing_behind (x ∷ xs) ys none = absurd (cc)
-
-  pub none_of_length : (xs : List X) → length xs ≤ 0 → xs ≡ []
-  none_of_length [] short = refl
-  none_of_length (x ∷ xs) short = absurd (omega arith)
 
   pub prefix_trans : (xs ys zs : List X) → IsPrefix xs ys → IsPrefix ys zs → IsPrefix xs zs
   prefix_trans xs ys zs first second = subst (IsPrefix xs) second.1 (prefix_longer xs ys second.0 first)
@@ -32,10 +24,10 @@ module _ {O : Type 0} where
   head_call e es = rw (eq-eqb e.lane e.lane refl) refl
 
   pub no_call_behind : (n : ℕ) (xs ys : List (Entry O)) → calls_of n (xs ++ ys) ≡ [] → calls_of n ys ≡ []
-  no_call_behind n xs ys none = nothing_behind (calls_of n xs) (calls_of n ys) (sym (calls_of-append n xs ys) ∙ none)
+  no_call_behind n xs ys none = (append-eq-nil_iff.0 (sym (calls_of-append n xs ys) ∙ none)).1
 
   pub no_call_before : (n : ℕ) (xs ys : List (Entry O)) → calls_of n (xs ++ ys) ≡ [] → calls_of n xs ≡ []
-  no_call_before n xs ys none = nothing_in_front (calls_of n xs) (calls_of n ys) (sym (calls_of-append n xs ys) ∙ none)
+  no_call_before n xs ys none = (append-eq-nil_iff.0 (sym (calls_of-append n xs ys) ∙ none)).0
 
   -- Where no lane has a call, there is none.
   pub no_calls : (xs : List (Entry O)) → ((n : ℕ) → calls_of n xs ≡ []) → xs ≡ []
@@ -60,7 +52,7 @@ module _ {O : Type 0} where
   full_front n ops front rest is enough =
       let parts : calls_of n front ++ calls_of n rest ≡ ops = sym (calls_of-append n front rest) ∙ is in
       let lengths : length (calls_of n front) + length (calls_of n rest) ≡ length ops = sym (length-append (calls_of n front) (calls_of n rest)) ∙ ap length parts in
-      let none : calls_of n rest ≡ [] = none_of_length (calls_of n rest) (omega (arith, lengths, enough)) in
+      let none : calls_of n rest ≡ [] = nil_from_length (calls_of n rest) (omega (arith, lengths, enough)) in
       record { none = none; all = sym (append-nil (calls_of n front)) ∙ ap (λ l. calls_of n front ++ l) (sym none) ∙ parts }
 
   -- Nothing stands behind a front that has as many calls of each lane as the whole.
@@ -85,12 +77,6 @@ module _ {O : Type 0} where
       absurd (cc)
   behind_front n op (e ∷ front) rest (suc place) none stands =
       let more = behind_front n op front rest place (no_call_behind n (e ∷ []) front none) stands in omega (arith, more)
-
-  pub one_call : (n : ℕ) (op : O) → calls_of n (entry n op ∷ []) ≡ op ∷ []
-  one_call n op = calls_of_own n op []
-
-  pub no_call_of_others : (n m : ℕ) (op : O) → m ≢ n → calls_of n (entry m op ∷ []) ≡ []
-  no_call_of_others n m op apart = calls_of_other n m op [] apart
 
   -- ---- a journal cut where lanes past a number begin
 
@@ -126,7 +112,7 @@ module _ {O : Type 0} where
 
   low_calls_more : (most n : ℕ) (e : Entry O) (es : List (Entry O)) → most < n → calls_of n (low_front most es) ≡ [] → (b : Bool) → leb e.lane most ≡ b → calls_of n (low_front most (e ∷ es)) ≡ []
   low_calls_more most n e es past rest true low = rw low (calls_of-append n (e ∷ []) (low_front most es) ∙ ap (λ l. calls_of n (e ∷ []) ++ l) rest ∙ append-nil _
-      ∙ no_call_of_others n e.lane e.op (λ same. absurd (omega (arith, same, leb-true e.lane most low))))
+      ∙ other_call n e.lane e.op (λ same. absurd (omega (arith, same, leb-true e.lane most low))))
   low_calls_more most n e es past rest false high = rw high refl
 
   -- No lane past the number calls in that front.

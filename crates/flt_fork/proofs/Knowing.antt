@@ -4,10 +4,10 @@ use Rattle.std.specs.Prelude.{Contains}
 use Rattle.std.proofs.lemmas.List.{append-nil}
 use Rattle.std.proofs.lemmas.List.Elements.{All-contains}
 use mathlib.Core.List.{IsPrefix}
+use lib.Seq.{take_at}
 use Rattle.flt_turn.specs.declared.vault.Entry.{Entry}
 use Rattle.flt_turn.specs.Journal.{entry, ops_of}
 use Rattle.flt_turn.specs.Seats.{Seated, Extends, ops_before}
-use Rattle.flt_turn.proofs.Journals.{take_front}
 use Rattle.flt_fork.specs.Mixing.{Call}
 use Rattle.flt_fork.specs.Chain.{Chain}
 use Rattle.flt_fork.specs.Known.{IsKnownTo}
@@ -38,7 +38,7 @@ module _ {S O : Type 0} where
   since known before after op place is ext =
       let front = before.seen ++ ext.between in
       let pre : IsPrefix known front = known_before before after op place known ext is in
-      let taken : take place after.seen ≡ front = ap (take place) ext.seen ∙ take_front front (entry before.number op ∷ []) place ext.place_is in
+      let taken : take place after.seen ≡ front = ap (take place) ext.seen ∙ take_at front (entry before.number op ∷ []) place ext.place_is in
       record {
         more = pre.0;
         seen = ext.seen ∙ ap (λ l. l ++ entry before.number op ∷ []) (sym pre.1);

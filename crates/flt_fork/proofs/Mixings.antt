@@ -1,8 +1,10 @@
 -- What is in a journal is in a longer one, and the calls of blocks after those of others.
-use Rattle.std.proofs.Common.{◌≡◌, ℕ, zero, suc, List, [], ◌∷◌, ◌++◌, All, length, take, get_or, Some, arith, refl, sym, ap, subst, ◌∙◌}
+use Rattle.std.proofs.Common.{◌≡◌, ℕ, zero, suc, List, [], ◌∷◌, ◌++◌, All, length, get_or, Some, arith, refl, sym, ap, subst, ◌∙◌}
 use Rattle.std.specs.Prelude.{slice_get}
 use Rattle.std.proofs.lemmas.List.{append-nil, append_assoc}
+use Rattle.std.proofs.lemmas.Option.{slice_get_within}
 use mathlib.Core.List.{IsPrefix}
+use lib.Seq.{take-append-le}
 use Rattle.flt_turn.specs.declared.vault.Entry.{Entry}
 use Rattle.flt_turn.specs.Journal.{ops_of}
 use Rattle.flt_fork.specs.Mixing.{Call, Mixes, Block, HasInOrder, asked_of, IsToldInPlace, BlockTold}
@@ -12,11 +14,6 @@ module _ {X : Type 0} where
   get_longer [] ys k x is = absurd (cc)
   get_longer (y ∷ xs) ys zero x is = is
   get_longer (y ∷ xs) ys (suc k) x is = get_longer xs ys k x is
-
-  pub take_longer : (xs ys : List X) (k : ℕ) (x : X) → slice_get xs k ≡ Some x → take k (xs ++ ys) ≡ take k xs
-  take_longer [] ys k x is = absurd (cc)
-  take_longer (y ∷ xs) ys zero x is = refl
-  take_longer (y ∷ xs) ys (suc k) x is = ap (λ l. y ∷ l) (take_longer xs ys k x is)
 
   pub at_end : (front : List X) (e : X) (place : ℕ) → length front ≡ place → slice_get (front ++ e ∷ []) place ≡ Some e
   at_end [] e zero is = refl
@@ -29,7 +26,9 @@ module _ {S O R : Type 0} (answer : S → List O → O → R) (start : S) where
   pub told_longer : (journal longer : List (Entry O)) (lane : ℕ) (call : Call O R) → IsPrefix journal longer → IsToldInPlace answer start journal lane call → IsToldInPlace answer start longer lane call
   told_longer journal longer lane call pre is = subst (λ j. IsToldInPlace answer start j lane call) pre.1 record {
     stands = get_longer journal pre.0 call.told.place _ is.stands;
-    reply = is.reply ∙ ap (λ l. answer start (ops_of l) call.op) (sym (take_longer journal pre.0 call.told.place _ is.stands));
+    reply =
+        let within = slice_get_within journal call.told.place _ is.stands in
+        is.reply ∙ ap (λ l. answer start (ops_of l) call.op) (sym (take-append-le call.told.place journal pre.0 (omega (arith, within))));
   }
 
   pub calls_longer : (journal longer : List (Entry O)) (lane : ℕ) (calls : List (Call O R)) → IsPrefix journal longer → All (IsToldInPlace answer start journal lane) calls → All (IsToldInPlace answer start longer lane) calls

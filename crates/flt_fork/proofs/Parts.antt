@@ -8,11 +8,11 @@ use Rattle.flt_turn.specs.declared.vault.Entry.{Entry}
 use Rattle.flt_turn.specs.Call.{IsCall}
 use Rattle.flt_turn.specs.Journal.{entry, calls_of}
 use Rattle.flt_turn.specs.Seats.{Seated, Extends}
-use Rattle.flt_turn.proofs.Journals.{calls_of-append, calls_of_other, prefix_longer}
+use Rattle.flt_turn.proofs.Journals.{calls_of-append, own_call, other_call, calls_of_other, prefix_longer}
 use Rattle.flt_fork.specs.Mixing.{Call, ops_asked, Mixes, Block, HasInOrder, asked_of, IsToldInPlace, BlockTold}
 use Rattle.flt_fork.specs.Chain.{Chain}
 use Rattle.flt_fork.specs.Lived.{IsEnded, IsMain, CouldClose, Trails, HasLived}
-use Rattle.flt_fork.proofs.Journals.{more_calls, none_left, no_call_before, one_call, no_call_of_others}
+use Rattle.flt_fork.proofs.Journals.{more_calls, none_left, no_call_before}
 use Rattle.flt_fork.proofs.Chains.{call_own, call_told}
 use Rattle.flt_fork.proofs.Mixings.{calls_longer, blocks_longer, follow_more, follows_one, one_follows}
 use Rattle.flt_fork.proofs.Rising.{alone_rise, places_within, rise_alone, rise_append, rise_more, rise_none, rise_one}
@@ -209,8 +209,8 @@ module _ {S O R : Type 0} (admits : S → O → Type 0) (answer : S → List O �
 
       block_mixes : Mixes (first ∷ []) ((0, op ∷ []) ∷ [])
       block_mixes = record {
-        each = All-cons (λ lane. calls_of lane.0 (first ∷ []) ≡ lane.1) (0, op ∷ []) [] (one_call 0 op) (All-nil (λ lane. calls_of lane.0 (first ∷ []) ≡ lane.1));
-        others = λ n apart. no_call_of_others n 0 op (λ same. apart (zero, omega arith, same));
+        each = All-cons (λ lane. calls_of lane.0 (first ∷ []) ≡ lane.1) (0, op ∷ []) [] (own_call 0 op) (All-nil (λ lane. calls_of lane.0 (first ∷ []) ≡ lane.1));
+        others = λ n apart. other_call n 0 op (λ same. apart (zero, omega arith, same));
       }
 
       trails : (journal : List (Entry O)) → CouldClose after journal → Trails answer main (((0, call ∷ []) ∷ []) ∷ []) journal

@@ -1,7 +1,7 @@
 -- The places of the calls of a lane rise: of calls after others, and of blocks after others.
-use Rattle.std.proofs.Common.{◌≡◌, ℕ, zero, suc, ◌<◌, ◌≤◌, ◌+◌, Bool, true, false, cond, eqb, eqb-true, ne_eqb, List, [], ◌∷◌, ◌++◌, All, length, get_or, Some, arith, refl, sym, ap, subst, ◌∙◌}
-use Rattle.std.specs.Prelude.{slice_get}
+use Rattle.std.proofs.Common.{◌≡◌, ℕ, ◌<◌, ◌≤◌, ◌+◌, Bool, true, false, cond, eqb, eqb-true, ne_eqb, List, [], ◌∷◌, ◌++◌, All, length, get_or, arith, refl, sym, ap, subst, ◌∙◌}
 use Rattle.std.proofs.lemmas.List.{append-nil, append_assoc}
+use Rattle.std.proofs.lemmas.Option.{slice_get_within}
 use Rattle.std.proofs.lemmas.List.Elements.{All-nil, All-append, All-head, All-tail}
 use Rattle.flt_turn.specs.declared.vault.Entry.{Entry}
 use Rattle.flt_fork.specs.Mixing.{Call, Block, IsToldInPlace, BlockTold, Rise, calls_in_block, calls_in_lane}
@@ -77,11 +77,6 @@ module _ {O R : Type 0} where
 
 -- ---- the calls of blocks that are answered in a journal
 
-get_within : {X : Type 0} (xs : List X) (k : ℕ) (x : X) → slice_get xs k ≡ Some x → k < length xs
-get_within [] k x is = absurd (cc)
-get_within (y ∷ xs) zero x is = omega arith
-get_within (y ∷ xs) (suc k) x is = let more = get_within xs k x is in omega (arith, more)
-
 module _ {S O R : Type 0} (answer : S → List O → O → R) (start : S) (journal : List (Entry O)) where
   one_told : (number : ℕ) (lane : ℕ × List (Call O R)) (b : Bool) → eqb lane.0 number ≡ b → All (IsToldInPlace answer start journal lane.0) lane.1 → All (IsToldInPlace answer start journal number) (cond b lane.1 [])
   one_told number lane true same told = subst (λ n. All (IsToldInPlace answer start journal n) lane.1) (eqb-true lane.0 number same) told
@@ -101,7 +96,7 @@ module _ {S O R : Type 0} (answer : S → List O → O → R) (start : S) (journ
 
   -- They are in it.
   pub places_within : (number : ℕ) (calls : List (Call O R)) → All (IsToldInPlace answer start journal number) calls → All (λ call. call.told.place < length journal) calls
-  places_within number calls told k d within = get_within journal (get_or calls k d).told.place _ (told k d within).stands
+  places_within number calls told k d within = slice_get_within journal (get_or calls k d).told.place _ (told k d within).stands
 
   -- Blocks whose calls come after it.
   pub rise_more : (low : ℕ) (blocks more : List (Block O R)) → low ≤ length journal → All (BlockTold answer start journal) blocks → (number : ℕ) → Rise low (calls_in_lane number blocks)
