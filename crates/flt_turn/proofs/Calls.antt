@@ -1,5 +1,5 @@
 -- A call, put together from its steps.
-use Rattle.std.proofs.Common.{◌≡◌, ℕ, ◌<◌, [], ◌∷◌, ◌++◌, All, Option, length, take, refl, sym, ap, ◌∙◌, subst, arith}
+use Rattle.std.proofs.Common.{◌≡◌, ℕ, ◌+◌, ◌-◌, ◌<◌, List, [], ◌∷◌, ◌++◌, All, Option, length, take, refl, sym, ap, ◌∙◌, subst, arith}
 use Rattle.std.proofs.lemmas.List.Elements.{All-push}
 use mathlib.Core.List.{IsPrefix}
 use lib.Seq.{take_at}
@@ -9,7 +9,7 @@ use Rattle.flt_turn.specs.declared.machine.Machine.{Ghosts}
 use Rattle.flt_turn.specs.declared.view.View.{View}
 use Rattle.flt_turn.specs.Journal.{entry, ops_of, calls_of}
 use Rattle.flt_turn.specs.Plays.{IsTakenOut, IsTurn}
-use Rattle.flt_turn.specs.Seats.{Seated, seated, Extends, ops_before}
+use Rattle.flt_turn.specs.Seats.{Seated, seated, Extends, FitsView, ops_before}
 use Rattle.flt_turn.specs.Vaults.{VaultOf, journal_of, start_of, room_of}
 use Rattle.flt_turn.specs.Views.{drawn, turned, done}
 use Rattle.flt_turn.proofs.Journals.{calls_of-append, nothing_more}
@@ -39,6 +39,18 @@ module _ {M S O R B : Type 0} {m : Ghosts M S O R B} where
     pub start_is : start_of found ≡ shown.start
     pub before : ops_of (journal_of found) ≡ ops_before ticket after.0.seen
     pub admitted : All (λ e. m.admits shown.start e.op) after.0.seen
+
+  -- What is counted beside the seat fits its view, with one call less left.
+  pub fits_after : {shown : Seated S O} {lock : TableId} {v : View S O} {after : Me (Option (VaultOf m)) (View S O)} {found given : VaultOf m} {op : O} {ticket number left children waiting : ℕ} {held : List (ℕ × Option (VaultOf m))}
+      → Called shown lock v after found given op ticket → FitsView v held number left children waiting → FitsView after.0 after.1 number (left - 1) children waiting
+  fits_after {waiting = waiting} told known = record {
+    idle = ap (λ x. x.stage) told.view;
+    empty = told.empty;
+    number_is = ap (λ x. x.number) told.view ∙ known.number_is;
+    left_is = ap (λ x. x.left) told.view ∙ ap (λ n. n - 1) known.left_is;
+    children_is = ap (λ x. x.children) told.view ∙ known.children_is;
+    waiting_is = ap (λ x. waiting + length x.ended) told.view ∙ known.waiting_is;
+  }
 
   pub called : (shown : Seated S O) (lock lock' : TableId) (v u : View S O) (after : Me (Option (VaultOf m)) (View S O)) (found given : VaultOf m) (op : O) (ticket number : ℕ) → seated lock v ≡ shown → v.number ≡ number → 0 < v.left
       → u ≡ at_turn ticket found v → IsTakenOut ticket (drawn ticket v) found → journal_of given ≡ journal_of found ++ entry number op ∷ [] → m.admits shown.start op

@@ -156,7 +156,7 @@ impl<M: Machine> Turn<M> {
         ensures kept { OnErr result (payload.new ≡ payload.old) }
         ensures call { IfOk result (λ told. IsCall M.admits M.answer seat.old seat.new op (whole M.StepInto.reply_with told payload.new)) }
     {
-        if seat.left() == 0 {
+        if seat.left == 0 {
             return Err(HistoryFull { op });
         }
         let (place, mut vault) = self.take_turn(rt, &mut seat.token);

@@ -1,7 +1,7 @@
-use Rattle.std.proofs.Common.{sym, ap, ◌∙◌, subst, arith, length, ◌++◌, ◌∷◌, [], ◌-◌, ◌+◌}
+use Rattle.std.proofs.Common.{sym, ap, ◌∙◌, subst, arith, ◌++◌, ◌∷◌, []}
 use Rattle.flt_turn.specs.Journal.{entry}
 use Rattle.flt_turn.specs.Seats.{Seated}
-use Rattle.flt_turn.proofs.Calls.{has_turn, called}
+use Rattle.flt_turn.proofs.Calls.{has_turn, fits_after, called}
 use Rattle.flt_turn.proofs.turn.Turn.call.Goals as goal
 
 pub end_turn-requires-clause-turn : goal.end_turn-requires-clause-turn
@@ -19,14 +19,7 @@ invariant_of-seat g c =
     let left = c.seat.invariant.left_is in
     let told = called _ _ _ c.seat.inside.token.me.0 took.new.token.me.0 c.end_turn.new.token.me took.result.1 c.apply-reply.new.self c.args.op took.result.0 _ c.seat.view_is c.seat.invariant.number_is (omega arith)
     (ap (λ me. me.0) took.ensures.turn) took.ensures.found c.apply-reply.ensures.journal c.requires.admitted (c.end_turn.ensures.done c.args.op) (c.end_turn.ensures.lock.0 ∙ took.ensures.lock.0) in
-    let known = c.seat.invariant in record {
-      idle = ap (λ x. x.stage) told.view;
-      empty = told.empty;
-      number_is = ap (λ x. x.number) told.view ∙ known.number_is;
-      left_is = ap (λ x. x.left) told.view ∙ ap (λ n. n - 1) known.left_is;
-      children_is = ap (λ x. x.children) told.view ∙ known.children_is;
-      waiting_is = ap (λ x. c.seat.inside.waiting + length x.ended) told.view ∙ known.waiting_is;
-    }
+    fits_after told c.seat.invariant
 
 pub returns-clause-call : goal.returns-clause-call
 returns-clause-call g c =

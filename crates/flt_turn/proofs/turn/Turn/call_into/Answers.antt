@@ -1,7 +1,7 @@
-use Rattle.std.proofs.Common.{sym, ap, ◌∙◌, subst, arith, length, ◌++◌, ◌∷◌, [], ◌-◌, ◌+◌}
+use Rattle.std.proofs.Common.{sym, ap, ◌∙◌, subst, arith, ◌++◌, ◌∷◌, []}
 use Rattle.flt_turn.specs.Journal.{entry}
 use Rattle.flt_turn.specs.Seats.{Seated}
-use Rattle.flt_turn.proofs.Calls.{has_turn, called}
+use Rattle.flt_turn.proofs.Calls.{has_turn, fits_after, called}
 use Rattle.flt_turn.proofs.turn.Turn.call_into.Goals as goal
 
 pub end_turn-requires-clause-turn : goal.end_turn-requires-clause-turn
@@ -15,25 +15,16 @@ end_turn-requires-clause-turn g c =
 pub invariant_of-seat : goal.invariant_of-seat
 invariant_of-seat g c =
     let took = c.take_turn-place in
-    let nonzero = c.if-left-eq0.false in
-    let shown = ap (λ (s : Seated g.row.M-Start.Denot g.row.M-Op.Denot). s.left) c.seat.view_is in
+    let nonzero = c.if-seat-eq0.false in
     let left = c.seat.invariant.left_is in
     let told = called _ _ _ c.seat.inside.token.me.0 took.new.token.me.0 c.end_turn.new.token.me took.result.1 c.apply_into-reply.new.self c.args.op took.result.0 _ c.seat.view_is c.seat.invariant.number_is (omega arith)
     (ap (λ me. me.0) took.ensures.turn) took.ensures.found c.apply_into-reply.ensures.journal c.requires.admitted (c.end_turn.ensures.done c.args.op) (c.end_turn.ensures.lock.0 ∙ took.ensures.lock.0) in
-    let known = c.seat.invariant in record {
-      idle = ap (λ x. x.stage) told.view;
-      empty = told.empty;
-      number_is = ap (λ x. x.number) told.view ∙ known.number_is;
-      left_is = ap (λ x. x.left) told.view ∙ ap (λ n. n - 1) known.left_is;
-      children_is = ap (λ x. x.children) told.view ∙ known.children_is;
-      waiting_is = ap (λ x. c.seat.inside.waiting + length x.ended) told.view ∙ known.waiting_is;
-    }
+    fits_after told c.seat.invariant
 
 pub returns-clause-call : goal.returns-clause-call
 returns-clause-call g c =
     let took = c.take_turn-place in
-    let nonzero = c.if-left-eq0.false in
-    let shown = ap (λ (s : Seated g.row.M-Start.Denot g.row.M-Op.Denot). s.left) c.seat.view_is in
+    let nonzero = c.if-seat-eq0.false in
     let left = c.seat.invariant.left_is in
     let told = called _ _ _ c.seat.inside.token.me.0 took.new.token.me.0 c.end_turn.new.token.me took.result.1 c.apply_into-reply.new.self c.args.op took.result.0 _ c.seat.view_is c.seat.invariant.number_is (omega arith)
     (ap (λ me. me.0) took.ensures.turn) took.ensures.found c.apply_into-reply.ensures.journal c.requires.admitted (c.end_turn.ensures.done c.args.op) (c.end_turn.ensures.lock.0 ∙ took.ensures.lock.0) in
