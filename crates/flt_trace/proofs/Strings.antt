@@ -59,9 +59,6 @@ is_string (string s) text is = ap string (cc is)
 is_string (array ds) text is = absurd cc
 is_string (object ms) text is = absurd cc
 
-pub not_array : (d : Data) (items : Items) → as_array d ≡ None → d ≢ array items
-not_array d items none is = let no : Some items ≡ None = ap as_array (sym is) ∙ none in absurd (cc no)
-
 -- The items from an index on: the one there, and the others.
 pub items_from : (values : List Value) (index : ℕ) (d : Value) → index < length values
     → items_view (drop index values) ≡ item (view (get_or values index d)) (items_view (drop (index + 1) values))
