@@ -4,6 +4,7 @@ use Rattle.std.specs.Prelude.{slice_get, ◌==◌}
 use Rattle.flt_turn.specs.declared.vault.Entry.{Entry}
 use Rattle.flt_turn.specs.Journal.{entry, calls_of}
 use Rattle.flt_fork.specs.Mixing.{Call, Rise}
+use Rattle.flt_fork.proofs.Rising.{rise_lower}
 
 module _ {O : Type 0} (n : ℕ) where
   -- How many calls of the lane a piece has, with one entry more.
@@ -42,11 +43,6 @@ module _ {O R : Type 0} (n : ℕ) where
   StandIn low piece [] = Unit {0}
   StandIn low piece (call ∷ calls) = StandsIn low piece call × StandIn low piece calls
 
-  weaker : (low high : ℕ) (calls : List (Call O R)) → low ≤ high → Rise high calls → Rise low calls
-  unfolding Rise
-  weaker low high [] less rise = tt
-  weaker low high (call ∷ calls) less rise = (let first = rise.0 in omega (arith, first, less), rise.1)
-
   one_behind : (low : ℕ) (e : Entry O) (piece : List (Entry O)) (call : Call O R) → low + 1 ≤ call.told.place → (behind : ℕ) → call.told.place ≡ low + behind
       → slice_get (e ∷ piece) behind ≡ Some (entry n call.op) → StandsIn (low + 1) piece call
   one_behind low e piece call later zero place there = absurd (omega (arith, later, place))
@@ -58,7 +54,7 @@ module _ {O R : Type 0} (n : ℕ) where
   all_behind low e piece [] rise stand = tt
   all_behind low e piece (call ∷ calls) rise stand = (
     one_behind low e piece call rise.0 stand.0.behind stand.0.place stand.0.there,
-    all_behind low e piece calls (weaker (low + 1) (call.told.place + 1) calls (let first = rise.0 in omega (arith, first)) rise.1) stand.1,
+    all_behind low e piece calls (rise_lower (call.told.place + 1) (low + 1) calls (let first = rise.0 in omega (arith, first)) rise.1) stand.1,
   )
 
   first_later : (low : ℕ) (e : Entry O) (piece : List (Entry O)) (call : Call O R) (calls : List (Call O R)) → (behind : ℕ) → call.told.place ≡ low + suc behind → Rise low (call ∷ calls)
@@ -69,7 +65,7 @@ module _ {O R : Type 0} (n : ℕ) where
 
   rest_of : (low : ℕ) (call : Call O R) (calls : List (Call O R)) → call.told.place ≡ low + 0 → Rise low (call ∷ calls) → Rise (low + 1) calls
   unfolding Rise
-  rest_of low call calls place rise = weaker (low + 1) (call.told.place + 1) calls (omega (arith, place)) rise.1
+  rest_of low call calls place rise = rise_lower (call.told.place + 1) (low + 1) calls (omega (arith, place)) rise.1
 
   -- There are no more calls than the piece has.
   few_at : (low : ℕ) (e : Entry O) (piece : List (Entry O)) (call : Call O R) (calls : List (Call O R)) (behind : ℕ) → call.told.place ≡ low + behind
