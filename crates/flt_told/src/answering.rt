@@ -18,10 +18,7 @@ fn text_of(alloc: Global, reply: &KeptReply, responses: &[u8]) -> Result<String,
 {
     let mut text = Vec::new(alloc);
     put_kept_reply(reply, responses, &mut text)?;
-    match String::from_utf8(text) {
-        Ok(text) => Ok(text),
-        Err(_) => Err(AllocError),
-    }
+    String::from_utf8(text).ok().ok_or(AllocError)
 }
 
 /// Puts a text at a place, if there is such a place.
