@@ -1,11 +1,10 @@
 -- Which texts tell no life, and what is due of them.
-use Rattle.std.proofs.Common.{◌≡◌, ◌≢◌, ℕ, suc, List, [], ◌∷◌, length, refl, Option, Some, None, Result, Ok, Err, sym, ap, subst, ◌∙◌, inl, inr}
+use Rattle.std.proofs.Common.{◌≡◌, ℕ, suc, List, [], ◌∷◌, length, refl, Option, Some, None, Result, Ok, Err, sym, ap, subst, ◌∙◌, inl, inr}
 use Rattle.std.specs.Prelude.{IfOk, IfSome, IsUtf8, codes}
 use Rattle.serde_json.specs.Read.{read}
 use Rattle.serde_json.specs.Data.{Data}
 use Rattle.flt_config.specs.declared.config.Config.{Config}
 use Rattle.flt_config.specs.declared.config.DidUse.{DidUse}
-use Rattle.flt_config.specs.declared.persist.Persist.{Persist}
 use Rattle.flt_model.specs.declared.call.Op.{Op}
 use Rattle.flt_turn.specs.declared.vault.Entry.{Entry}
 use Rattle.flt_script.specs.declared.fault.ScriptFault.{ScriptFault}
@@ -14,7 +13,6 @@ use Rattle.flt_verdict.specs.Verdict.{due_of, line_due}
 use Rattle.flt_verdict.specs.declared.verdict.Verdict.{Verdict}
 use Rattle.flt_trace.specs.Trace.{IsTrace, Texts, trace_data}
 use Rattle.flt_trace.proofs.Line.{is_trace}
-use Rattle.flt_base.specs.Base.{IsBaseOf}
 use Rattle.flt_call.specs.Call.{AreCallTexts}
 use Rattle.flt_audit.specs.Shape.{Told, Tells}
 use Rattle.flt_audit.specs.Audit.{IsAudited, IsDueOf, IsDueOfTexts, TellsNone, due_texts, judged, no_json, no_trace, unlike_from, verdict_by}
@@ -24,10 +22,6 @@ module _ (dids : List DidUse) (texts : Texts) where
   pub no_script : (fault : ScriptFault) → script_of dids texts.script ≡ Err fault → TellsNone dids texts
   no_script fault is told tells = let wrong : Err fault ≡ Ok tells.script = sym is ∙ tells.reads in absurd (cc wrong)
 
-  -- There is not an answer for each call.
-  pub not_as_many : length texts.answers ≢ length texts.journal → TellsNone dids texts
-  not_as_many other told tells = other tells.answers
-
   module _ (script : ScriptContent) (reads : script_of dids texts.script ≡ Ok script) where
     -- The configuration of the life is that of the script.
     pub one_config : (told : Told) → Tells dids texts told → told.config ≡ script.config
@@ -35,10 +29,6 @@ module _ (dids : List DidUse) (texts : Texts) where
         let same : Ok tells.script ≡ Ok script = sym tells.reads ∙ reads in
         let one : tells.script ≡ script = cc same in
         sym tells.config ∙ ap (λ (s : ScriptContent). s.config) one
-
-    -- The base is that of no state.
-    pub no_base : ((state : Persist) → IsBaseOf script.config texts.base state → ⊥) → TellsNone dids texts
-    no_base none told tells = none told.base (subst (λ (c : Config). IsBaseOf c texts.base told.base) (one_config told tells) tells.base)
 
     -- The journal is that of no calls.
     pub no_calls : ((calls : List (Entry Op)) → AreCallTexts script.config calls texts.journal → ⊥) → TellsNone dids texts
