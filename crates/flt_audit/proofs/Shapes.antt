@@ -7,8 +7,6 @@ use Rattle.flt_config.specs.declared.config.Config.{Config}
 use Rattle.flt_config.specs.declared.config.DidUse.{DidUse}
 use Rattle.flt_model.specs.declared.call.Op.{Op}
 use Rattle.flt_turn.specs.declared.vault.Entry.{Entry}
-use Rattle.flt_script.specs.declared.fault.ScriptFault.{ScriptFault}
-use Rattle.flt_script.specs.Script.{ScriptContent, script_of}
 use Rattle.flt_verdict.specs.Verdict.{due_of, line_due}
 use Rattle.flt_verdict.specs.declared.verdict.Verdict.{Verdict}
 use Rattle.flt_trace.specs.Trace.{IsTrace, Texts, trace_data}
@@ -16,23 +14,6 @@ use Rattle.flt_trace.proofs.Line.{is_trace}
 use Rattle.flt_call.specs.Call.{AreCallTexts}
 use Rattle.flt_audit.specs.Shape.{Told, Tells}
 use Rattle.flt_audit.specs.Audit.{IsAudited, IsDueOf, IsDueOfTexts, TellsNone, due_texts, judged, no_json, no_trace, unlike_from, verdict_by}
-
-module _ (dids : List DidUse) (texts : Texts) where
-  -- The script is none.
-  pub no_script : (fault : ScriptFault) → script_of dids texts.script ≡ Err fault → TellsNone dids texts
-  no_script fault is told tells = let wrong : Err fault ≡ Ok tells.script = sym is ∙ tells.reads in absurd (cc wrong)
-
-  module _ (script : ScriptContent) (reads : script_of dids texts.script ≡ Ok script) where
-    -- The configuration of the life is that of the script.
-    pub one_config : (told : Told) → Tells dids texts told → told.config ≡ script.config
-    one_config told tells =
-        let same : Ok tells.script ≡ Ok script = sym tells.reads ∙ reads in
-        let one : tells.script ≡ script = cc same in
-        sym tells.config ∙ ap (λ (s : ScriptContent). s.config) one
-
-    -- The journal is that of no calls.
-    pub no_calls : ((calls : List (Entry Op)) → AreCallTexts script.config calls texts.journal → ⊥) → TellsNone dids texts
-    no_calls none told tells = none told.journal (subst (λ (c : Config). AreCallTexts c told.journal texts.journal) (one_config told tells) tells.journal)
 
 -- What is said of a value that is there.
 pub of_found : {A : Type 0} (Q : A → Type 0) (found : Option A) (x : A) → found ≡ Some x → IfSome found Q → Q x
