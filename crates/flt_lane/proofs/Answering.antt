@@ -6,7 +6,7 @@ use Rattle.flt_flash.specs.declared.arm.Arm.{Arm}
 use Rattle.flt_flash.specs.declared.blocks.Blocks.{Ghosts}
 use Rattle.flt_config.specs.declared.config.Config.{Config}
 use Rattle.flt_dcm.specs.ReplyKind.{ReplyKind}
-use Rattle.flt_script.specs.Step.{is_lane_step, is_store_step}
+use Rattle.flt_script.specs.Step.{is_lane_step}
 use Rattle.flt_script.specs.declared.step.Step.{Step}
 use Rattle.flt_shared.specs.Call.{Seat}
 use Rattle.flt_store.specs.declared.store.Store.{Store}
@@ -24,9 +24,9 @@ use Rattle.flt_life.proofs.Riding.{goes_nowhere}
 use Rattle.flt_life.proofs.Sizes.{sizes-cons}
 use Rattle.flt_lane.specs.Living.{Carries}
 use Rattle.flt_lane.specs.Runs.{Makes, Queues, QueueSeat}
-use Rattle.flt_lane.specs.Stepped.{KeepsAnswer, MakesStep, TakesStep}
+use Rattle.flt_lane.specs.Stepped.{IsLockCall, KeepsAnswer, MakesStep, TakesStep}
 use Rattle.flt_lane.specs.Stored.{LeavesStore}
-use Rattle.flt_lane.proofs.OffStore.{carries_call}
+use Rattle.flt_lane.proofs.OffStore.{carries_call, leaves_store, makes_no_arm}
 
 -- The response is in a buffer that is read as these bytes.
 pub keeps_with : (before after : LaneReplies) (step : Step) (answer : StepAnswer ReplyKind) (response bytes : List ℕ) → bytes ≡ response → told_in after ≡ told_in before ++ told_with bytes answer ∷ [] → vec_len after.answers ≡ vec_len before.answers + 1
@@ -52,15 +52,15 @@ keeps before after step answer told len capacity responses bytes none = keeps_wi
 
 module _ {B : Type 0} {b : Ghosts B} (c : Config) where
   -- A step that calls, and leaves the store alone.
-  pub takes_call : (seat after : Seat) (jobs jobs_after : QueueSeat) (step : Step) (replies kept : LaneReplies) (store : Store B b) → is_store_step step ≡ false → arms_of (action_of step) ≡ []
-      → MakesStep seat after jobs jobs_after step replies kept → TakesStep c seat after jobs jobs_after step replies kept store store
-  takes_call seat after jobs jobs_after step replies kept store no_store no_arms made =
+  pub takes_call : (seat after : Seat) (jobs jobs_after : QueueSeat) (step : Step) (replies kept : LaneReplies) (store : Store B b) → IsLockCall (action_of step) → MakesStep seat after jobs jobs_after step replies kept
+      → TakesStep c seat after jobs jobs_after step replies kept store store
+  takes_call seat after jobs jobs_after step replies kept store call made =
       let arms = (driver_of store).device.bench.arms in
       record {
         made = made;
-        carries = carries_call c seat after jobs jobs_after step made.answer store no_store made.dem made.queue;
+        carries = carries_call c seat after jobs jobs_after step made.answer store (leaves_store step call) made.dem made.queue;
         goes_on = goes_nowhere (driver_of store);
-        given = subst (λ (l : List Arm). WereGiven l arms arms) (sym no_arms) (none_given arms);
+        given = subst (λ (l : List Arm). WereGiven l arms arms) (sym (makes_no_arm step call)) (none_given arms);
         armed = omega arith;
       }
 

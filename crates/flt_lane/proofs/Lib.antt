@@ -1,3 +1,4 @@
+pub mod Starts
 pub mod Swapping
 pub mod Sharing
 pub mod Seating

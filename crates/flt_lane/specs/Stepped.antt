@@ -7,6 +7,7 @@ use Rattle.flt_script.specs.declared.step.Step.{Step}
 use Rattle.flt_store.specs.declared.store.Store.{Store}
 use Rattle.flt_store.specs.Store.{driver_of}
 use Rattle.flt_life.specs.declared.action.Action.{Action}
+use Rattle.flt_life.specs.declared.action.Action.TheVariants.{Call, Queue}
 use Rattle.flt_life.specs.declared.replies.LaneReplies.{LaneReplies}
 use Rattle.flt_life.specs.Actions.{action_of, arm_count, arms_of, response_size}
 use Rattle.flt_life.specs.Answers.{Told}
@@ -16,6 +17,12 @@ use Rattle.flt_life.specs.Room.{HasRoomForSteps, told_in}
 use Rattle.flt_shared.specs.Call.{Seat}
 use Rattle.flt_lane.specs.Living.{Carries}
 use Rattle.flt_lane.specs.Runs.{Makes, Queues, QueueSeat}
+
+-- It is a call of what stands under a lock: it needs nothing of the store or of the bench.
+abbrev pub IsLockCall : Action → Type 0
+IsLockCall (Call op) = Unit {0}
+IsLockCall (Queue op) = Unit {0}
+IsLockCall _ = ⊥
 
 -- There is room for the answer to what a step does.
 pub record HasRoomFor (replies : LaneReplies) (action : Action) : Type 0 where

@@ -2,8 +2,6 @@
 use Rattle.std.specs.Prelude.{◌≡◌, ◌≢◌, ◌⊎◌, ◌<◌, ◌≤◌, ℕ, Bool, true, false, List, [], ◌++◌, All, length, reverse, slice_index_or}
 use Rattle.flt_flash.specs.declared.blocks.Blocks.{Ghosts}
 use Rattle.flt_config.specs.declared.config.Config.{Config}
-use Rattle.flt_config.specs.Durable.{Fits}
-use Rattle.flt_config.specs.Validity.{IsValid}
 use Rattle.flt_script.specs.Step.{has_store_step}
 use Rattle.flt_store.specs.declared.store.Store.{Store}
 use Rattle.flt_store.specs.Store.{IsAlive, driver_of}
@@ -11,7 +9,7 @@ use Rattle.flt_life.specs.Ordered.{Deed, lane_deeds}
 use Rattle.flt_life.specs.Going.{GoesOn, WereGiven}
 use Rattle.flt_lane.specs.declared.lane.LaneWork.{LaneWork}
 use Rattle.flt_lane.specs.Living.{Carries}
-use Rattle.flt_lane.specs.Work.{HasRun}
+use Rattle.flt_lane.specs.Work.{HasConfig, HasRun}
 
 -- A lane has a step that touches the store.
 abbrev pub is_store_lane : LaneWork → Bool
@@ -31,9 +29,7 @@ pub record HaveRun (lanes afters : List LaneWork) : Type 0 where
 module _ {B : Type 0} {b : Ghosts B} where
   -- What a lane needs to make its steps over the store.
   pub record CanStore (c : Config) (lane : LaneWork) (store : Store B b) : Type 0 where
-    pub same : lane.seats.dem.start.config ≡ c
-    pub valid : IsValid c
-    pub fits : Fits c lane.seats.dem.start.base
+    pub config : HasConfig c lane.seats.dem
     pub alive : IsAlive c store
     pub arms : (driver_of store).device.bench.armed ≤ 64
 

@@ -8,7 +8,9 @@ use Rattle.flt_life.specs.Parts.{IsPossibleInLane, calls_of, queued_of}
 use Rattle.flt_life.specs.Room.{HasRoomForSteps, told_in}
 use Rattle.flt_turn.specs.Seats as turn
 use Rattle.flt_shared.specs.Call.{Seat}
+use Rattle.flt_queue.specs.declared.lock.QueueLock.{QueueLock}
 use Rattle.flt_shared.specs.Lock.{IsSeatOf}
+use Rattle.flt_shared.specs.declared.lock.DemLock.{DemLock}
 use Rattle.flt_lane.specs.declared.lane.LaneWork.{LaneWork}
 use Rattle.flt_lane.specs.declared.locks.Locks.{Locks}
 use Rattle.flt_lane.specs.Runs.{QueueSeat, RunsQueue, RunsSteps}
@@ -19,15 +21,27 @@ pub record AreSeatsOf {F : _} {g : _} (locks : Locks F g) (work : LaneWork) : Ty
   pub queue : turn.IsSeatOf locks.queue.turn work.seats.queue
   pub blocks : work.seats.queue.start ≡ work.seats.dem.start.config.blocks
 
--- What is needed to make steps: the seats are of these locks, the queue has the blocks of the configuration, which is the machine's and
--- is valid, and the state from which the machine started fits it.
-pub record AreReady {F : _} {g : _} (locks : Locks F g) (config : Config) (seat : Seat) (jobs : QueueSeat) : Type 0 where
-  pub lock : IsSeatOf locks.dem seat
-  pub queue : turn.IsSeatOf locks.queue.turn jobs
-  pub blocks : jobs.start ≡ seat.start.config.blocks
+-- The status machine behind a seat started from a state that fits this configuration, which is its own and is valid.
+pub record HasConfig (config : Config) (seat : Seat) : Type 0 where
   pub same : seat.start.config ≡ config
   pub valid : IsValid config
   pub fits : Fits config seat.start.base
+
+-- What is needed for a save: the seat is of the lock of the status machine, which has this configuration.
+pub record CanSave {F : _} {g : _} (dem : DemLock F g) (config : Config) (seat : Seat) : Type 0 where
+  pub lock : IsSeatOf dem seat
+  pub has : HasConfig config seat
+
+-- What is needed for a drain: the seat is of the lock of the queue, which has the blocks of this configuration, and that is valid.
+pub record CanDrain (queue : QueueLock) (config : Config) (jobs : QueueSeat) : Type 0 where
+  pub lock : turn.IsSeatOf queue.turn jobs
+  pub blocks : jobs.start ≡ config.blocks
+  pub valid : IsValid config
+
+-- What is needed to make any step.
+pub record AreReady {F : _} {g : _} (locks : Locks F g) (config : Config) (seat : Seat) (jobs : QueueSeat) : Type 0 where
+  pub dem : CanSave locks.dem config seat
+  pub queue : CanDrain locks.queue config jobs
 
 -- It has its seat's number, and its seats have the calls of its steps, which a lane can make; and there is room for their answers.
 pub record IsPrepared {F : _} {g : _} (locks : Locks F g) (work : LaneWork) : Type 0 where

@@ -1,8 +1,6 @@
 //! A block: its lanes get their seats, run, and are joined.
 ghost use Rattle.std.specs.Prelude.{◌≡◌, ◌<◌, ◌≤◌, ◌+◌, ◌^◌, ◌∷◌, All, List, length, map, vec_len};
 ghost use Rattle.std.specs.Vec.{vec_capacity};
-ghost use Rattle.flt_config.specs.Durable.{Fits};
-ghost use Rattle.flt_config.specs.Validity.{IsValid};
 ghost use Rattle.flt_script.specs.Step.{store_lanes};
 ghost use Rattle.flt_store.specs.Store.{IsAlive, driver_of};
 ghost use Rattle.flt_turn.specs.Seats as turn;
@@ -15,7 +13,7 @@ ghost use Rattle.flt_fork.specs.Lived.{IsMain};
 ghost use Rattle.flt_lane.specs.Room.{IsBlockRoom, IsLaneFor, all_calls, all_queued};
 ghost use Rattle.flt_lane.specs.Seating.{AreSeated, CanJoin, CanSeat, HaveJoined, IsJoined, IsSeated};
 ghost use Rattle.flt_lane.specs.Stored.{AreRun};
-ghost use Rattle.flt_lane.specs.Work.{AreReady, AreSeatsOf, IsPrepared};
+ghost use Rattle.flt_lane.specs.Work.{AreReady, AreSeatsOf, HasConfig, IsPrepared};
 
 use crate::gate::SharedGate;
 use crate::lane::LaneWork;
@@ -123,9 +121,7 @@ fn run_works<R: Threads + Wait + Sync, G: SharedGate, B: Blocks + Drop>(
 )
     requires ready { All (IsPrepared locks.now) works.old.items }
     requires one_stores { store_lanes (map (λ (lane : LaneWork). lane.steps.now) works.old.items) ≤ 1 }
-    requires same { All (λ lane. lane.seats.dem.start.config ≡ config.now) works.old.items }
-    requires valid { IsValid config.now }
-    requires fits { All (λ lane. Fits config.now lane.seats.dem.start.base) works.old.items }
+    requires config { All (λ lane. HasConfig config.now lane.seats.dem) works.old.items }
     requires alive { IsAlive config.now store.old }
     requires arms { (driver_of store.old).device.bench.armed ≤ 64 }
     ensures ran { AreRun config.now works.old.items works.new.items store.old store.new }

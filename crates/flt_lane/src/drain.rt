@@ -1,7 +1,6 @@
 //! A drain: jobs are taken from the queue, written, and noted as done.
 ghost use Rattle.std.specs.Prelude.{◌≡◌, ◌≤◌};
 ghost use Rattle.flt_config.specs.declared.config.Config.{Config};
-ghost use Rattle.flt_config.specs.Validity.{IsValid};
 ghost use Rattle.flt_life.specs.declared.action.Action.TheVariants as action;
 ghost use Rattle.flt_queue.specs.Call as queued;
 ghost use Rattle.flt_queue.specs.Queue.{IsJob};
@@ -14,6 +13,7 @@ ghost use Rattle.flt_shared.specs.Call.{Seat};
 ghost use Rattle.flt_turn.specs.Seats as turn;
 ghost use Rattle.flt_lane.specs.Draining.{LooksForJob, WritesJob};
 ghost use Rattle.flt_lane.specs.Stepped.{HasRoomFor, TakesStep};
+ghost use Rattle.flt_lane.specs.Work.{CanDrain};
 
 use flt_config::ValidConfig;
 use flt_flash::Blocks;
@@ -54,9 +54,7 @@ fn take_job<R: Wait, B: Blocks + Drop>(
     config: &ValidConfig,
     seat: &mut QueueSeat,
 ) -> Option<bool>
-    requires lock { turn.IsSeatOf queue.now.turn seat.old }
-    requires blocks { seat.old.start ≡ config.now.blocks }
-    requires valid { IsValid config.now }
+    requires ready { CanDrain queue.now config.now seat.old }
     requires alive { IsAlive config.now store.old }
     requires left { 2 ≤ seat.old.left }
     ensures looks { LooksForJob config.now seat.old seat.new result store.old store.new }
@@ -80,9 +78,7 @@ pub(crate) fn drain<R: Wait, B: Blocks + Drop>(
     seat: &mut QueueSeat,
     replies: &mut LaneReplies,
 )
-    requires lock { turn.IsSeatOf queue.now.turn seat.old }
-    requires blocks { seat.old.start ≡ config.now.blocks }
-    requires valid { IsValid config.now }
+    requires ready { CanDrain queue.now config.now seat.old }
     requires alive { IsAlive config.now store.old }
     requires left { 64 ≤ seat.old.left }
     requires room { HasRoomFor replies.old action.Drain }

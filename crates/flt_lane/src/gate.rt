@@ -1,12 +1,10 @@
 //! Where a lane may be held.
 ghost use Rattle.std.specs.Prelude.{◌≡◌, ◌≤◌, All, map};
 ghost use Rattle.std.specs.Thread.{IsSync};
-ghost use Rattle.flt_config.specs.Durable.{Fits};
-ghost use Rattle.flt_config.specs.Validity.{IsValid};
 ghost use Rattle.flt_script.specs.Step.{store_lanes};
 ghost use Rattle.flt_store.specs.Store.{IsAlive, driver_of};
 ghost use Rattle.flt_lane.specs.Stored.{AreRun};
-ghost use Rattle.flt_lane.specs.Work.{AreSeatsOf, IsPrepared};
+ghost use Rattle.flt_lane.specs.Work.{AreSeatsOf, HasConfig, IsPrepared};
 ghost use Rattle.flt_lane.specs.declared.lane.LaneWork.{LaneWork};
 
 use crate::lane::{LaneWork, run_block};
@@ -42,9 +40,7 @@ pub trait SharedGate: Gate {
         requires sync { IsSync R.row }
         requires ready { All (IsPrepared locks.now) lanes.old }
         requires one_stores { store_lanes (map (λ (lane : LaneWork). lane.steps.now) lanes.old) ≤ 1 }
-        requires same { All (λ lane. lane.seats.dem.start.config ≡ config.now) lanes.old }
-        requires valid { IsValid config.now }
-        requires fits { All (λ lane. Fits config.now lane.seats.dem.start.base) lanes.old }
+        requires config { All (λ lane. HasConfig config.now lane.seats.dem) lanes.old }
         requires alive { IsAlive config.now store.old }
         requires arms { (driver_of store.old).device.bench.armed ≤ 64 }
         ensures ran { AreRun config.now lanes.old lanes.new store.old store.new }

@@ -1,10 +1,8 @@
 //! One lane, and the lanes of a block at once.
 ghost use Rattle.std.specs.Prelude.{◌≡◌, ◌≤◌, All, IfNone, IfSome, false, map};
-ghost use Rattle.flt_config.specs.Durable.{Fits};
-ghost use Rattle.flt_config.specs.Validity.{IsValid};
 ghost use Rattle.flt_script.specs.Step.{store_lanes};
 ghost use Rattle.flt_store.specs.Store.{IsAlive, driver_of};
-ghost use Rattle.flt_lane.specs.Work.{AreSeatsOf, IsPrepared, HasRun};
+ghost use Rattle.flt_lane.specs.Work.{AreSeatsOf, HasConfig, IsPrepared, HasRun};
 ghost use Rattle.flt_lane.specs.Stored.{AreRun, CanStore, HasRunStore, HaveRun, RunsStore, StoresAt, is_store_lane};
 ghost use Rattle.flt_lane.specs.declared.lane.LaneWork.{LaneWork};
 
@@ -15,7 +13,7 @@ use arrayvec::ArrayVec;
 use flt_config::ValidConfig;
 use flt_flash::Blocks;
 use flt_fork::{Owned, Work, work_beside, work_first};
-use flt_life::LaneReplies;
+use flt_life::{LaneReplies, action_of};
 use flt_script::Step;
 use flt_store::Store;
 use std::marker::Sync;
@@ -50,7 +48,7 @@ impl<G: Gate> Work<Locks, G> for LaneWork<'_> {
                 rt,
                 locks,
                 &mut self.seats,
-                step,
+                action_of(step),
                 &mut self.replies,
                 &mut response,
             );
@@ -69,11 +67,7 @@ fn run_store_lane<R: Wait, G: Gate, B: Blocks + Drop>(
     lane: &mut LaneWork<'_>,
 )
     requires ready { IsPrepared locks.now lane.old }
-    requires same { lane.old.seats.dem.start.config ≡ config.now }
-    requires valid { IsValid config.now }
-    requires fits { Fits config.now lane.old.seats.dem.start.base }
-    requires alive { IsAlive config.now store.old }
-    requires arms { (driver_of store.old).device.bench.armed ≤ 64 }
+    requires store { CanStore config.now lane.old store.old }
     ensures ran { HasRunStore config.now lane.old lane.new store.old store.new }
     ensures seats { AreSeatsOf locks.now lane.new }
 {
@@ -163,9 +157,7 @@ fn run_first<R: Threads + Wait + Sync, G: Gate + Sync, B: Blocks + Drop>(
 )
     requires first { StoresAt 0 lanes.old }
     requires ready { All (IsPrepared locks.now) lanes.old }
-    requires same { All (λ lane. lane.seats.dem.start.config ≡ config.now) lanes.old }
-    requires valid { IsValid config.now }
-    requires fits { All (λ lane. Fits config.now lane.seats.dem.start.base) lanes.old }
+    requires config { All (λ lane. HasConfig config.now lane.seats.dem) lanes.old }
     requires alive { IsAlive config.now store.old }
     requires arms { (driver_of store.old).device.bench.armed ≤ 64 }
     ensures ran { RunsStore config.now 0 lanes.old lanes.new store.old store.new }
@@ -186,9 +178,7 @@ pub fn run_block<R: Threads + Wait + Sync, G: Gate + Sync, B: Blocks + Drop>(
 )
     requires ready { All (IsPrepared locks.now) lanes.old }
     requires one_stores { store_lanes (map (λ (lane : LaneWork). lane.steps.now) lanes.old) ≤ 1 }
-    requires same { All (λ lane. lane.seats.dem.start.config ≡ config.now) lanes.old }
-    requires valid { IsValid config.now }
-    requires fits { All (λ lane. Fits config.now lane.seats.dem.start.base) lanes.old }
+    requires config { All (λ lane. HasConfig config.now lane.seats.dem) lanes.old }
     requires alive { IsAlive config.now store.old }
     requires arms { (driver_of store.old).device.bench.armed ≤ 64 }
     ensures ran { AreRun config.now lanes.old lanes.new store.old store.new }

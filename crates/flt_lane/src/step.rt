@@ -1,15 +1,11 @@
 //! One step of a lane: what it does, and the answer that is kept.
 ghost use Rattle.std.specs.Prelude.{◌≡◌, ◌+◌, ◌<◌, ◌≤◌, false};
 ghost use Rattle.flt_config.specs.declared.config.Config.{Config};
-ghost use Rattle.flt_config.specs.Durable.{Fits};
-ghost use Rattle.flt_config.specs.Validity.{IsValid};
 ghost use Rattle.flt_dcm.specs.Unit.{IsAdmitted};
 ghost use Rattle.flt_flash.specs.State.{CanArm};
-ghost use Rattle.flt_life.specs.Actions.{IsPossible, action_of, arm_count};
+ghost use Rattle.flt_life.specs.Actions.{IsPossible, action_of, arm_count, call_count, queue_count};
 ghost use Rattle.flt_life.specs.declared.action.Action.TheVariants as action;
-ghost use Rattle.flt_life.specs.Parts.{IsPossibleInLane};
 ghost use Rattle.flt_queue.specs.Queue as queues;
-ghost use Rattle.flt_script.specs.Step.{is_store_step};
 ghost use Rattle.flt_script.specs.declared.step.Step.{Step as StepView};
 ghost use Rattle.flt_script.specs.declared.step.Step.TheVariants as steps;
 ghost use Rattle.flt_shared.specs.Call.{Seat as DemView};
@@ -17,8 +13,8 @@ ghost use Rattle.flt_shared.specs.Lock.{IsSeatOf};
 ghost use Rattle.flt_store.specs.Store.{IsAlive, driver_of};
 ghost use Rattle.flt_turn.specs.Seats as turn;
 ghost use Rattle.flt_lane.specs.Runs.{QueueSeat as Jobs, calls_by, queued_by};
-ghost use Rattle.flt_lane.specs.Stepped.{HasRoomFor, MakesStep, TakesStep};
-ghost use Rattle.flt_lane.specs.Work.{AreReady};
+ghost use Rattle.flt_lane.specs.Stepped.{HasRoomFor, IsLockCall, MakesStep, TakesStep};
+ghost use Rattle.flt_lane.specs.Work.{AreReady, CanSave};
 
 use crate::drain::drain;
 use crate::gate::Gate;
@@ -84,29 +80,30 @@ fn call_queue<R: Wait>(
     replies.keep(StepAnswer::Queue(told), &[]);
 }
 
-/// Makes a step of a lane that has no store, on seats that have its calls left, and keeps its answer.
+/// Makes a call on seats that have it left, and keeps its answer. It is all that a lane without the store does.
 #[inline(always)]
 pub(crate) fn make_call<R: Wait>(
     rt: &R,
     locks: &Locks,
     seats: &mut Seats,
-    step: &Step,
+    call: Action,
     replies: &mut LaneReplies,
     response: &mut ArrayVec<u8, RESPONSE>,
 )
     requires lock { IsSeatOf locks.now.dem seats.old.dem }
     requires queue { turn.IsSeatOf locks.now.queue.turn seats.old.queue }
     requires blocks { seats.old.queue.start ≡ seats.old.dem.start.config.blocks }
-    requires step { IsPossibleInLane seats.old.dem.start.config step.now }
-    requires no_store { is_store_step step.now ≡ false }
-    requires left { calls_by step.now ≤ seats.old.dem.left }
-    requires queued { queued_by step.now ≤ seats.old.queue.left }
-    requires room { HasRoomFor replies.old (action_of step.now) }
-    ensures made { MakesStep seats.old.dem seats.new.dem seats.old.queue seats.new.queue step.now replies.old replies.new }
+    requires call { IsLockCall call }
+    requires possible { IsPossible seats.old.dem.start.config call }
+    requires left { call_count call ≤ seats.old.dem.left }
+    requires queued { queue_count call ≤ seats.old.queue.left }
+    requires room { HasRoomFor replies.old call }
+    ensures made { (step : StepView) → action_of step ≡ call
+        → MakesStep seats.old.dem seats.new.dem seats.old.queue seats.new.queue step replies.old replies.new }
     ensures lock { IsSeatOf locks.now.dem seats.new.dem }
     ensures queue { turn.IsSeatOf locks.now.queue.turn seats.new.queue }
 {
-    match action_of(step) {
+    match call {
         Action::Call(op) => call_dem(rt, &locks.dem, &mut seats.dem, op, replies, response),
         Action::Queue(op) => call_queue(rt, &locks.queue, &mut seats.queue, op, replies),
         Action::Save | Action::Drain | Action::Get(_) | Action::Arm(_) => unreachable!(),
@@ -123,10 +120,7 @@ fn save<R: Wait, B: Blocks + Drop>(
     seat: &mut DemSeat,
     replies: &mut LaneReplies,
 )
-    requires lock { IsSeatOf dem.now seat.old }
-    requires same { seat.old.start.config ≡ config.now }
-    requires valid { IsValid config.now }
-    requires fits { Fits config.now seat.old.start.base }
+    requires ready { CanSave dem.now config.now seat.old }
     requires alive { IsAlive config.now store.old }
     requires left { 2 ≤ seat.old.left }
     requires room { HasRoomFor replies.old action.Save }
@@ -204,11 +198,10 @@ pub(crate) fn do_step<R: Wait, G: Gate, B: Blocks + Drop>(
         gate: _,
     } = *common;
     match action_of(step) {
-        Action::Call(op) => call_dem(rt, &locks.dem, &mut seats.dem, op, replies, response),
-        Action::Queue(op) => call_queue(rt, &locks.queue, &mut seats.queue, op, replies),
         Action::Save => save(rt, &locks.dem, store, config, &mut seats.dem, replies),
         Action::Drain => drain(rt, &locks.queue, store, config, &mut seats.queue, replies),
         Action::Get(block) => get(store, block, replies),
         Action::Arm(arm) => make_arm(store, arm, replies),
+        call => make_call(rt, locks, seats, call, replies, response),
     }
 }

@@ -1,19 +1,21 @@
 use Rattle.std.proofs.Common.{◌≡◌, ◌≤◌, map, arith, ap, subst, sym, ◌∙◌}
-use Rattle.flt_config.specs.Durable.{Fits}
+use Rattle.flt_config.specs.declared.config.Config.{Config}
 use Rattle.flt_life.specs.Parts.{calls_of}
 use Rattle.flt_life.specs.Room.{steps_of, told_in}
 use Rattle.flt_script.specs.Step.{store_lanes}
 use Rattle.flt_fork.proofs.Passed.{split_each}
+use Rattle.flt_lane.specs.Work.{HasConfig}
 use Rattle.flt_lane.specs.declared.lane.LaneWork.{LaneWork}
+use Rattle.flt_lane.proofs.Starts.{config_stays}
 use Rattle.flt_lane.proofs.StoreLanes.{has_run_lanes}
 use Rattle.flt_lane.proofs.block.run_lanes.Goals as goal
 
 pub seat_lanes-works-requires-clause-can : goal.seat_lanes-works-requires-clause-can
 seat_lanes-works-requires-clause-can g c = let r = c.requires in record {
-  dem = record { main_is = record { lock_is = r.ready.lock.0; number_is = r.main.0.number_is }; numbers = r.children.0; enough = r.calls };
-  queue = record { main_is = record { lock_is = r.ready.queue; number_is = r.main.1.number_is }; numbers = r.children.1; enough = r.queued };
-  config = r.ready.lock.1;
-  blocks = r.ready.blocks;
+  dem = record { main_is = record { lock_is = r.ready.dem.lock.0; number_is = r.main.0.number_is }; numbers = r.children.0; enough = r.calls };
+  queue = record { main_is = record { lock_is = r.ready.queue.lock; number_is = r.main.1.number_is }; numbers = r.children.1; enough = r.queued };
+  config = r.ready.dem.lock.1;
+  blocks = r.ready.queue.blocks ∙ ap (λ (config : Config). config.blocks) (sym r.ready.dem.has.same);
   ready = r.room.ready;
   steps = r.steps;
 }
@@ -24,14 +26,10 @@ run_works-requires-clause-ready g c κs within = c.seat_lanes-works.ensures.seat
 pub run_works-requires-clause-one_stores : goal.run_works-requires-clause-one_stores
 run_works-requires-clause-one_stores g c κs within = subst (λ l. store_lanes l ≤ 1) (sym c.seat_lanes-works.ensures.seated.steps_are) c.requires.one_stores
 
-pub run_works-requires-clause-same : goal.run_works-requires-clause-same
-run_works-requires-clause-same g c κs within =
-    split_each (λ (w : LaneWork). w.seats.dem) (λ w. calls_of w.steps.now) c.args.seats.now.dem (λ w. w.seats.dem.start.config ≡ c.args.common.now.config.now) (λ number w is. ap (λ s. s.config) is.start_is ∙ c.requires.ready.same) _
-    c.seat_lanes-works.result.items c.seat_lanes-works.ensures.seated.dem
-
-pub run_works-requires-clause-fits : goal.run_works-requires-clause-fits
-run_works-requires-clause-fits g c κs within =
-    split_each (λ (w : LaneWork). w.seats.dem) (λ w. calls_of w.steps.now) c.args.seats.now.dem (λ w. Fits c.args.common.now.config.now w.seats.dem.start.base) (λ number w is. subst (λ s. Fits c.args.common.now.config.now s.base) (sym is.start_is) c.requires.ready.fits) _
+pub run_works-requires-clause-config : goal.run_works-requires-clause-config
+run_works-requires-clause-config g c κs within =
+    let config = c.args.common.now.config.now in
+    split_each (λ (w : LaneWork). w.seats.dem) (λ w. calls_of w.steps.now) c.args.seats.now.dem (λ w. HasConfig config w.seats.dem) (λ number w is. config_stays config c.args.seats.now.dem w.seats.dem is.start_is c.requires.ready.dem.has) _
     c.seat_lanes-works.result.items c.seat_lanes-works.ensures.seated.dem
 
 pub join_lanes-requires-clause-can : goal.join_lanes-requires-clause-can
@@ -40,9 +38,9 @@ join_lanes-requires-clause-can g c =
     let dem = c.seat_lanes-works.ensures.seated.dem_off in
     let queue = c.seat_lanes-works.ensures.seated.queue_off in
     record {
-      dem = record { lock_is = dem.lock_is ∙ r.ready.lock.0; number_is = dem.number_is ∙ r.main.0.number_is };
-      queue = record { lock_is = queue.lock_is ∙ r.ready.queue; number_is = queue.number_is ∙ r.main.1.number_is };
-      config = ap (λ s. s.config) dem.start_is ∙ r.ready.lock.1;
+      dem = record { lock_is = dem.lock_is ∙ r.ready.dem.lock.0; number_is = dem.number_is ∙ r.main.0.number_is };
+      queue = record { lock_is = queue.lock_is ∙ r.ready.queue.lock; number_is = queue.number_is ∙ r.main.1.number_is };
+      config = ap (λ s. s.config) dem.start_is ∙ r.ready.dem.lock.1;
       seats = c.run_works.ensures.seats;
     }
 
@@ -53,12 +51,12 @@ returns-clause-part g c =
 
 pub returns-clause-lock : goal.returns-clause-lock
 returns-clause-lock g c = (
-  c.join_lanes.ensures.joined.dem.lock_is ∙ c.seat_lanes-works.ensures.seated.dem_off.lock_is ∙ c.requires.ready.lock.0,
-  ap (λ s. s.config) (c.join_lanes.ensures.joined.dem.start_is ∙ c.seat_lanes-works.ensures.seated.dem_off.start_is) ∙ c.requires.ready.lock.1,
+  c.join_lanes.ensures.joined.dem.lock_is ∙ c.seat_lanes-works.ensures.seated.dem_off.lock_is ∙ c.requires.ready.dem.lock.0,
+  ap (λ s. s.config) (c.join_lanes.ensures.joined.dem.start_is ∙ c.seat_lanes-works.ensures.seated.dem_off.start_is) ∙ c.requires.ready.dem.lock.1,
 )
 
 pub returns-clause-queue : goal.returns-clause-queue
-returns-clause-queue g c = c.join_lanes.ensures.joined.queue.lock_is ∙ c.seat_lanes-works.ensures.seated.queue_off.lock_is ∙ c.requires.ready.queue
+returns-clause-queue g c = c.join_lanes.ensures.joined.queue.lock_is ∙ c.seat_lanes-works.ensures.seated.queue_off.lock_is ∙ c.requires.ready.queue.lock
 
 pub returns-clause-left : goal.returns-clause-left
 returns-clause-left g c = omega (arith, c.join_lanes.ensures.joined.dem.left_is, c.seat_lanes-works.ensures.seated.dem_off.left_is)

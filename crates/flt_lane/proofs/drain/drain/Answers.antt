@@ -21,7 +21,7 @@ as_number true = refl
 as_number false = refl
 
 pub loop-job-init : goal.loop-job-init
-loop-job-init g c = record { drained = drained_first c.args.config.now c.args.seat.now c.args.store.now; lock = c.requires.lock; none_kept = refl }
+loop-job-init g c = record { drained = drained_first c.args.config.now c.args.seat.now c.args.store.now; lock = c.requires.ready.lock; none_kept = refl }
 
 pub take_job-requires-clause-alive : goal.take_job-requires-clause-alive
 take_job-requires-clause-alive g c =

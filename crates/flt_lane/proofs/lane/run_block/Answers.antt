@@ -1,7 +1,6 @@
 use Rattle.std.proofs.Common.{◌<◌, length, arith}
-use Rattle.flt_config.specs.Durable.{Fits}
 use Rattle.flt_lane.specs.declared.lane.LaneWork.{LaneWork}
-use Rattle.flt_lane.specs.Work.{IsPrepared}
+use Rattle.flt_lane.specs.Work.{HasConfig, IsPrepared}
 use Rattle.flt_lane.proofs.Swapping.{all_exchanged, are_run, exchanged, stores_exchanged}
 use Rattle.flt_lane.proofs.lane.run_block.Goals as goal
 
@@ -16,11 +15,11 @@ run_first-requires-clause-ready g c κs within =
     all_exchanged (IsPrepared c.args.locks.now) c.in-Some.place c.args.lanes.now c.swap.new.self
     (exchanged c.in-Some.place c.args.lanes.now c.swap.new.self stores.within c.swap.ensures.len c.swap.ensures.by_index) c.requires.ready
 
-pub run_first-requires-clause-fits : goal.run_first-requires-clause-fits
-run_first-requires-clause-fits g c κs within =
+pub run_first-requires-clause-config : goal.run_first-requires-clause-config
+run_first-requires-clause-config g c κs within =
     let stores = c.in-Some.ensures.some in
-    all_exchanged (λ (lane : LaneWork). Fits c.args.config.now lane.seats.dem.start.base) c.in-Some.place c.args.lanes.now c.swap.new.self
-    (exchanged c.in-Some.place c.args.lanes.now c.swap.new.self stores.within c.swap.ensures.len c.swap.ensures.by_index) c.requires.fits
+    all_exchanged (λ (lane : LaneWork). HasConfig c.args.config.now lane.seats.dem) c.in-Some.place c.args.lanes.now c.swap.new.self
+    (exchanged c.in-Some.place c.args.lanes.now c.swap.new.self stores.within c.swap.ensures.len c.swap.ensures.by_index) c.requires.config
 
 pub returns-clause-ran : goal.returns-clause-ran
 returns-clause-ran g c =

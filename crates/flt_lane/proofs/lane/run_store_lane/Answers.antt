@@ -1,8 +1,8 @@
 use Rattle.std.proofs.Common.{[], ap, refl, rules, sym, subst, ◌∙◌}
-use Rattle.flt_config.specs.Durable.{Fits}
-use Rattle.flt_model.specs.declared.life.DemStart.{DemStart}
+use Rattle.flt_config.specs.declared.config.Config.{Config}
 use Rattle.flt_lane.proofs.Running.{begins, calls_left, goes_on, has_run, possible_next, queued_left, room_next, start_now, take_past}
 use Rattle.flt_lane.proofs.Storing.{has_stored, leaves_step, storing_begins, storing_more}
+use Rattle.flt_lane.proofs.Starts.{config_stays}
 use Rattle.flt_lane.proofs.lane.run_store_lane.Goals as goal
 
 pub loop-index-init : goal.loop-index-init
@@ -12,17 +12,14 @@ pub do_step-requires-clause-ready : goal.do_step-requires-clause-ready
 do_step-requires-clause-ready g c =
     let seats = c.loop-index.invariant.part.seats in
     let start = start_now c.args.locks.now c.args.lane.now c.loop-index.lane c.loop-index.index c.index-steps-index.result c.requires.ready c.loop-index.invariant.part (search rules) c.index-steps-index.is in
+    let config = config_stays c.args.config.now c.args.lane.now.seats.dem c.loop-index.lane.seats.dem start c.requires.store.config in
     record {
-      lock = seats.dem;
-      queue = seats.queue;
-      blocks = seats.blocks;
-      same = ap (λ (s : DemStart). s.config) start ∙ c.requires.same;
-      valid = c.requires.valid;
-      fits = subst (λ (s : DemStart). Fits c.args.config.now s.base) (sym start) c.requires.fits;
+      dem = record { lock = seats.dem; has = config };
+      queue = record { lock = seats.queue; blocks = seats.blocks ∙ ap (λ (config : Config). config.blocks) config.same; valid = config.valid };
     }
 
 pub do_step-requires-clause-alive : goal.do_step-requires-clause-alive
-do_step-requires-clause-alive g c = (c.loop-index.invariant.carries []).alive c.requires.alive
+do_step-requires-clause-alive g c = (c.loop-index.invariant.carries []).alive c.requires.store.alive
 
 pub do_step-requires-clause-left : goal.do_step-requires-clause-left
 do_step-requires-clause-left g c =

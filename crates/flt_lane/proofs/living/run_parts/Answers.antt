@@ -1,6 +1,4 @@
 use Rattle.std.proofs.Common.{List, [], ◌∷◌, ◌++◌, ap, map, reverse, subst, sym, ◌∙◌}
-use Rattle.flt_config.specs.Durable.{Fits}
-use Rattle.flt_model.specs.declared.life.DemStart.{DemStart}
 use Rattle.flt_flash.specs.declared.arm.Arm.{Arm}
 use Rattle.flt_store.specs.Store.{driver_of}
 use Rattle.flt_life.specs.Ordered.{Deed, deeds_in}
@@ -12,12 +10,13 @@ use Rattle.flt_lane.specs.Living.{Carries}
 use Rattle.flt_lane.specs.Room.{IsPartFor}
 use Rattle.flt_lane.proofs.Carrying.{carries_beside, carries_further}
 use Rattle.flt_lane.proofs.Lives.{living_begins, living_more, deeds_with, numbers_left, job_numbers_left, told_left, own_left, own_next, part_among, parts_in, arms_more_parts}
+use Rattle.flt_lane.proofs.Starts.{config_stays}
 use Rattle.flt_lane.proofs.living.run_parts.Goals as goal
 
 pub loop-part-init : goal.loop-part-init
 loop-part-init g c = let r = c.requires in record {
   living = living_begins c.args.common.now.locks.now c.args.seats.now.dem c.args.seats.now.queue c.args.parts.items _ c.args.answers.now.own c.args.answers.now.told (driver_of c.args.store.now).device.bench.armed c.into_iter-part-iterator.ensures.into_iter_gives.0
-      r.main.0 r.main.1 r.ready.lock r.ready.queue r.no_answers r.own_room r.none_told r.told_room;
+      r.main.0 r.main.1 r.ready.dem.lock r.ready.queue.lock r.no_answers r.own_room r.none_told r.told_room;
   carries = carries_beside c.args.common.now.config.now c.args.seats.now.dem c.args.seats.now.dem c.args.seats.now.queue c.args.seats.now.queue [] c.args.store.now (λ known is. is) (λ known is. is);
   goes_on = goes_nowhere (driver_of c.args.store.now);
   given = none_given (driver_of c.args.store.now).device.bench.arms;
@@ -27,14 +26,9 @@ pub run_part-requires-clause-ready : goal.run_part-requires-clause-ready
 run_part-requires-clause-ready g c κs within =
     let ready = c.requires.ready in
     let living = c.loop-part.invariant.living in
-    let start = living.dem.lived.start_is in
     record {
-      lock = living.seat;
-      queue = living.queue_seat;
-      blocks = living.queue.lived.start_is ∙ ready.blocks ∙ ap (λ (s : DemStart). s.config.blocks) (sym start);
-      same = ap (λ (s : DemStart). s.config) start ∙ ready.same;
-      valid = ready.valid;
-      fits = subst (λ (s : DemStart). Fits c.args.common.now.config.now s.base) (sym start) ready.fits;
+      dem = record { lock = living.seat; has = config_stays c.args.common.now.config.now c.args.seats.now.dem c.loop-part.seats.dem living.dem.lived.start_is ready.dem.has };
+      queue = record { lock = living.queue_seat; blocks = living.queue.lived.start_is ∙ ready.queue.blocks; valid = ready.queue.valid };
     }
 
 pub run_part-requires-clause-main : goal.run_part-requires-clause-main

@@ -1,24 +1,11 @@
-use Rattle.std.proofs.Common.{◌∙◌, ap, subst, sym}
-use Rattle.flt_life.specs.Actions.{IsPossible, arms_of}
+use Rattle.std.proofs.Common.{◌∙◌, subst, sym}
+use Rattle.flt_life.specs.Actions.{IsPossible}
 use Rattle.flt_script.specs.declared.step.Step.{Step}
-use Rattle.flt_lane.specs.Stepped.{TakesStep}
+use Rattle.flt_lane.specs.Stepped.{IsLockCall, TakesStep}
+use Rattle.flt_lane.proofs.OffStore.{else_calls}
 use Rattle.flt_lane.proofs.Answering.{takes_call}
-use Rattle.flt_life.proofs.ByAction.{is_arming, is_drain, is_get, is_save, touches_by, touches_store}
+use Rattle.flt_life.proofs.ByAction.{is_arming, is_drain, is_get, is_save}
 use Rattle.flt_lane.proofs.step.do_step.Goals as goal
-
-pub returns-in-Call-clause-takes : goal.returns-in-Call-clause-takes
-returns-in-Call-clause-takes g c =
-    let seats = c.args.seats.now in
-    let is = sym c.action_of.ensures ∙ c.in-Call.is in
-    takes_call c.args.common.now.config.now seats.dem c.call_dem.new.seat seats.queue seats.queue c.args.step.now c.args.replies.now c.call_dem.new.replies c.args.store.now (touches_by c.args.step.now ∙ ap touches_store is) (ap arms_of is)
-    (c.call_dem.ensures.made c.args.step.now seats.queue is)
-
-pub returns-in-Queue-clause-takes : goal.returns-in-Queue-clause-takes
-returns-in-Queue-clause-takes g c =
-    let seats = c.args.seats.now in
-    let is = sym c.action_of.ensures ∙ c.in-Queue.is in
-    takes_call c.args.common.now.config.now seats.dem seats.dem seats.queue c.call_queue.new.seat c.args.step.now c.args.replies.now c.call_queue.new.replies c.args.store.now (touches_by c.args.step.now ∙ ap touches_store is) (ap arms_of is)
-    (c.call_queue.ensures.made c.args.step.now seats.dem is)
 
 pub returns-in-Save-clause-takes : goal.returns-in-Save-clause-takes
 returns-in-Save-clause-takes g c =
@@ -46,3 +33,13 @@ returns-in-Arm-clause-takes g c =
     let seats = c.args.seats.now in
     subst (λ (s : Step). TakesStep c.args.common.now.config.now seats.dem seats.dem seats.queue seats.queue s c.args.replies.now c.make_arm.new.replies c.args.store.now c.make_arm.new.store)
     (sym (is_arming c.args.step.now c.in-Arm.arm (sym c.action_of.ensures ∙ c.in-Arm.is))) (c.make_arm.ensures.takes c.args.common.now.config.now seats.dem seats.queue)
+
+pub make_call-requires-clause-call : goal.make_call-requires-clause-call
+make_call-requires-clause-call g c = else_calls c.action_of.result c.in_default.not-Save c.in_default.not-Drain c.in_default.not-Get c.in_default.not-Arm
+
+pub returns-in_default-clause-takes : goal.returns-in_default-clause-takes
+returns-in_default-clause-takes g c =
+    let seats = c.args.seats.now in
+    let after = c.make_call.new.seats in
+    takes_call c.args.common.now.config.now seats.dem after.dem seats.queue after.queue c.args.step.now c.args.replies.now c.make_call.new.replies c.args.store.now
+    (subst IsLockCall c.action_of.ensures (else_calls c.action_of.result c.in_default.not-Save c.in_default.not-Drain c.in_default.not-Get c.in_default.not-Arm)) (c.make_call.ensures.made c.args.step.now (sym c.action_of.ensures))

@@ -15,7 +15,7 @@ use Rattle.flt_lane.proofs.step.save.Goals as goal
 
 pub save-requires-clause-fits : goal.save-requires-clause-fits
 save-requires-clause-fits g c =
-    taken_fits c.args.config.now c.args.seat.now.start (past c.in-Ok._taken.place c.snapshot.new.seat.seen) c.snapshot.new.out c.requires.same c.requires.valid c.requires.fits c.in-Ok.ensures.state
+    taken_fits c.args.config.now c.args.seat.now.start (past c.in-Ok._taken.place c.snapshot.new.seat.seen) c.snapshot.new.out c.requires.ready.has.same c.requires.ready.has.valid c.requires.ready.has.fits c.in-Ok.ensures.state
 
 pub returns-in-Ok-saved-clause-takes : goal.returns-in-Ok-saved-clause-takes
 returns-in-Ok-saved-clause-takes g c = λ jobs.
