@@ -50,8 +50,3 @@ module _ {X : Type 0} (key : X → ℕ) (xs : List X) (second : ℕ) (x : X) (h 
       let known = position-None (λ y. key y == key x) (take second xs) k d none within in
       let equal = eq-eqb _ _ (same ∙ key_at x) in
       cc))
-
--- Two places of one key.
-pub not_distinct : {X : Type 0} (key : X → ℕ) (xs : List X) (first second : ℕ) (d : X) → first < second → second < length xs
-    → key (get_or xs first d) ≡ key (get_or xs second d) → AllPairs (λ a b. key a ≢ key b) xs → ⊥
-not_distinct key xs first second d order within same distinct = distinct first second d order within same
