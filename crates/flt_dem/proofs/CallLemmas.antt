@@ -71,14 +71,6 @@ module _ (life : Start) (past : History) (op : Op) where
         durable_stands = taken.durable_stands;
       })
 
-  -- Once each has, the call is taken.
-  pub partly_last : (events : EventsView) → ((marks : Trace) → with_clear (cleared_dtc op) marks ≡ marks) → StandsPartly life past op (count life) events → StandsAfter life (op ∷ past) events
-  partly_last events clears s = record {
-    debounces_stand = debounces_same life (items_partly life past op (count life)) (λ event. happenings life event (op ∷ past)) events.debounces
-        (λ event h. ap (λ b. cond b (happenings life event (op ∷ past)) (happenings life event past)) (lt-ltb event (count life) h)) s.debounces_stand;
-    durable_stands = subst (λ m. DurablePartStands life m events.durable) (sym (clears (marks_partly life past op (count life)))) s.durable_stands;
-  }
-
   no_part : (event : ℕ) (marks : Trace) → happening_of life event past op ≡ None → event_part life past op event marks ≡ marks
   no_part event marks none = ap (λ h. with_marks life event past h marks) none
 

@@ -1,8 +1,7 @@
 -- What a call does to the started cycles, to the signals and to events at rest.
-use Rattle.std.proofs.Common.{◌≡◌, ◌∙◌, ℕ, zero, suc, ◌<◌, Bool, true, false, not, cond, List, [], ◌∷◌, map, length, get_or, Option, Some, None, unwrap_or, arith, refl, sym, ap, subst, eq-eqb, ⊎_elim}
-use Rattle.std.proofs.lemmas.Bool.{cases_eq, ne_eqb}
+use Rattle.std.proofs.Common.{◌≡◌, ◌∙◌, ℕ, zero, suc, ◌<◌, Bool, true, false, not, List, [], ◌∷◌, map, length, get_or, Option, Some, unwrap_or, arith, refl, sym, ap, subst}
 use Rattle.std.proofs.lemmas.List.{length-map}
-use Rattle.std.proofs.lemmas.Option.{get_or_from_slice_get, slice_get_read, slice_get-get_or, slice_get-map, slice_get_within, unwrap_or-slice_get}
+use Rattle.std.proofs.lemmas.Option.{get_or_from_slice_get, slice_get-get_or, slice_get-map, slice_get_within, unwrap_or-slice_get}
 use Rattle.std.specs.Prelude.{slice_get, slice_set, option_map, is_none}
 use Rattle.flt_config.specs.declared.config.Config.{Config}
 use Rattle.flt_config.specs.declared.config.EventCfg.{EventCfg}
@@ -16,7 +15,6 @@ use Rattle.flt_model.specs.declared.call.Cause.{Cause}
 use Rattle.flt_model.specs.declared.call.DebState.{DebState}
 use Rattle.flt_model.specs.declared.call.Op.TheVariants as ops
 use Rattle.flt_model.specs.declared.call.Report.{Report}
-use Rattle.flt_model.proofs.Common.{slice_get-set_same, slice_get-set_other}
 use Rattle.flt_model.proofs.EnableLaws.{seen}
 use Rattle.flt_model.proofs.RangeLaws.{debouncing_stays_in_range}
 use Rattle.flt_dem.specs.Debounces.{DebouncesStand, AreOfKind}
@@ -24,19 +22,6 @@ use Rattle.flt_dem.specs.Events.{IsOfConfig}
 use Rattle.flt_dem.specs.Manager.{Manager, StandsFor, events_of, is_cycle_started, is_event_enabled, readiness_at}
 use Rattle.flt_dem.proofs.CallLemmas.{stands_none}
 use Rattle.flt_dem.proofs.PartLemmas.{ignored_report}
-
--- ---- started cycles
-
-pub started_more : (started : List Bool) (past : History) (cycle other : ℕ) → cycle < length started → slice_get started other ≡ Some (is_started other past) →
-    slice_get (slice_set started cycle true) other ≡ Some (is_started other (ops.Cycle cycle ∷ past))
-started_more started past cycle other h e =
-    ⊎_elim
-    (λ same. subst (λ x. slice_get (slice_set started cycle true) x ≡ Some (is_started x (ops.Cycle cycle ∷ past))) same
-    (slice_get-set_same started cycle true h
-    ∙ ap (λ b. Some (unwrap_or (cond b (Some true) None) (is_started cycle past))) (sym (eq-eqb cycle cycle refl))))
-    (λ ne. slice_get-set_other started cycle other true ne ∙ e
-    ∙ ap (λ b. Some (unwrap_or (cond b (Some true) None) (is_started other past))) (sym (ne_eqb cycle other ne)))
-    (cases_eq cycle other)
 
 -- ---- signals
 
@@ -122,12 +107,9 @@ cycle_stands life past manager event valid within s =
     ∙ ap (λ k. is_started (unwrap_or (slice_get k.events.items event) no_event).cycle past) (sym s.events.durable_stands.config)
 
 -- Why a report is ignored is read where the event's cycle and what it needs stand.
-pub cause_read : (manager : Manager) (event : ℕ) (rules : EventCfg) (setting met : Bool) → event < length manager.durable.config.events.items →
-    rules ≡ get_or manager.durable.config.events.items event rules → met ≡ are_met rules.needs manager.conditions →
+pub cause_read : (manager : Manager) (event : ℕ) (rules : EventCfg) (setting met : Bool) → slice_get manager.durable.config.events.items event ≡ Some rules → met ≡ are_met rules.needs manager.conditions →
     cause_of (readiness_at setting manager event) ≡ cause_of (seen setting (get_or manager.started rules.cycle false) met)
-cause_read manager event rules setting met within is met_is =
-    let events = manager.durable.config.events.items in
-    let found = slice_get_read events (length events) event rules refl within is in
+cause_read manager event rules setting met found met_is =
     ap (λ started. cause_of (seen setting started (is_event_enabled manager event))) (cycle_read manager event rules found)
     ∙ ap (λ enabled. cause_of (seen setting (get_or manager.started rules.cycle false) enabled))
     (ap (λ e. are_met (unwrap_or e no_event).needs manager.conditions) found ∙ sym met_is)

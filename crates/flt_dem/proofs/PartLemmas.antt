@@ -1,9 +1,7 @@
 -- The part that one event takes of a report, of ticks and of the end of a cycle.
-use Rattle.std.proofs.Common.{◌≡◌, ◌≢◌, ◌∙◌, ℕ, ◌<◌, length, get_or, Bool, true, false, not, ◌&&◌, cond, List, ◌∷◌, Option, Some, None, refl, sym, ap, subst, eq-eqb, ⊎_elim}
+use Rattle.std.proofs.Common.{◌≡◌, ◌≢◌, ◌∙◌, ℕ, Bool, true, false, not, ◌&&◌, cond, List, ◌∷◌, Option, Some, None, refl, sym, ap, subst, eq-eqb, ⊎_elim}
 use Rattle.std.proofs.lemmas.Bool.{cases_eq, ne_eqb}
-use Rattle.std.proofs.lemmas.Option.{slice_get_read}
 use Rattle.arrayvec.specs.ArrayVec.{ArrayVec}
-use Rattle.flt_config.specs.declared.config.Config.{Config}
 use Rattle.flt_config.specs.declared.config.EventCfg.{EventCfg}
 use Rattle.flt_model.specs.Start.{Start, History, event_of}
 use Rattle.flt_model.specs.Mark.{Trace, Of}
@@ -20,7 +18,6 @@ use Rattle.flt_dem.specs.Events.{EventsView}
 use Rattle.flt_dem.specs.Standing.{DurablePartStands}
 use Rattle.flt_dem.specs.Debounces.{DebouncesStand, and_then}
 use Rattle.flt_dem.specs.Calls.{StandsWith}
-use Rattle.flt_dem.specs.Manager.{IsOfOtherCycle}
 use Rattle.flt_dem.proofs.CallLemmas.{debounces_same, and_then-own, and_then-other}
 
 -- Whether ticks count for an event, with the setting on, is whether the conditions are met that it needs.
@@ -107,14 +104,6 @@ ignored_report life past event other report ignored =
     ∙ ap (λ b. reported_where (Some b) (Reported report)) ignored))
     (λ ne. other_report life past event other report (λ d. ne (sym d)))
     (cases_eq event other)
-
--- An event of another cycle is another event.
-pub other_of_cycle : (config : Config) (cycle event other : ℕ) (rules : EventCfg) → event < length config.events.items → rules ≡ get_or config.events.items event rules →
-    rules.cycle ≡ cycle → IsOfOtherCycle config cycle other → other ≢ event
-other_of_cycle config cycle event other rules within read own apart same =
-    let found = slice_get_read config.events.items (length config.events.items) event rules refl within read in
-    let here = subst (λ x. IsOfOtherCycle config cycle x) same apart in
-    (rw found at here) own
 
 -- A clear of a DTC that reaches the event.
 pub part_of_clear : (life : Start) (past : History) (event tester dtc : ℕ) (bytes : ArrayVec ℕ) (items : ℕ → Happenings) (marks : Trace) (events : EventsView) →

@@ -1,9 +1,9 @@
 //! The durable part of the event manager: states, entries and notes, one mark at a time.
 
 ghost use Rattle.std.specs.Prelude.{◌≡◌, ◌≢◌, ◌<◌, ◌≤◌, [], ◌∷◌, ℕ, List, length, slice_get, find, position, All, Some, false, option_copied, is_some, slice_index_or};
-ghost use Rattle.flt_config.specs.Validity.{IsValid, has_dtc};
+ghost use Rattle.flt_config.specs.Validity.{IsValid, IsEventInRange, has_dtc};
 ghost use Rattle.flt_config.specs.Durable.{Fits, is_of_event};
-ghost use Rattle.flt_model.specs.Start.{Start, fresh};
+ghost use Rattle.flt_model.specs.Start.{Start, event_of, fresh};
 ghost use Rattle.flt_model.specs.Mark.{Trace, Of, AllCleared};
 ghost use Rattle.flt_model.specs.Mark.Mark.{Passed};
 ghost use Rattle.flt_model.specs.Trace.{with_failed, with_result, with_cycle};
@@ -13,10 +13,11 @@ ghost use Rattle.flt_did.specs.Serves.{Serves};
 ghost use Rattle.flt_dem.specs.DurablePart.{with_memory, without_entry, KeepsOthers, KeepsOthersWithoutEntry};
 ghost use Rattle.flt_dem.specs.Standing.{DurablePartStands, Bears, BearsClear, StatesFollow, IsDisplacedBelow, IsNotDisplaced, occurrence_of};
 
-use crate::copies;
 use crate::notes::{Notes, Which};
 use arrayvec::ArrayVec;
-use flt_config::{Config, EVENTS, EntryState, EventCfg, EventState, Persist, ValidConfig, initial};
+use flt_config::{
+    Config, ENTRIES, EVENTS, EntryState, EventCfg, EventState, Persist, ValidConfig, initial,
+};
 use flt_did::{DID_ROWS, DidTable, Signals};
 use flt_memory::{EventMemory, Stored};
 use flt_model::Qualified;
@@ -48,6 +49,22 @@ fn place_of(events: &[EventCfg], dtc: u32) -> Option<usize>
     events.iter().position(|event| event.dtc == dtc)
 }
 
+/// A copy of the states of the events, all at once, which takes no memory.
+fn copied_states(states: &ArrayVec<EventState, EVENTS>) -> ArrayVec<EventState, EVENTS>
+    ensures { result.items ≡ states.now.items }
+{
+    let mut copy = ArrayVec::new();
+    copy.try_extend_from_slice(states).unwrap();
+    copy
+}
+
+/// A copy of the entries, which takes no memory.
+fn copied_entries(entries: &ArrayVec<EntryState, ENTRIES>) -> ArrayVec<EntryState, ENTRIES>
+    ensures { result.items ≡ entries.now.items }
+{
+    entries.clone().unwrap()
+}
+
 impl DurablePart {
     ghost use Rattle.flt_dem.specs.Notes.{noted_by};
 
@@ -71,7 +88,7 @@ impl DurablePart {
         ensures config { self.new.config ≡ self.old.config }
         ensures stands { DurablePartStands (record { config = self.old.config; base = base.now }) [] self.new }
     {
-        self.states = copies::states(&base.events);
+        self.states = copied_states(&base.events);
         self.memory.load(&base.entries, base.overflow);
         self.notes = Notes::of(base);
     }
@@ -80,8 +97,8 @@ impl DurablePart {
     pub fn persist(&self, out: &mut Persist)
         ensures { (life : Start) (marks : Trace) → DurablePartStands life marks self.now → out.new ≡ saved life marks }
     {
-        out.events = copies::states(&self.states);
-        out.entries = copies::entries(self.memory.entries());
+        out.events = copied_states(&self.states);
+        out.entries = copied_entries(self.memory.entries());
         out.overflow = self.memory.overflow();
         out.first_failed = self.notes.first_failed;
         out.first_confirmed = self.notes.first_confirmed;
@@ -95,6 +112,18 @@ impl DurablePart {
         ensures valid { IsValid self.now.config }
     {
         self.config.config()
+    }
+
+    /// The rules of an event.
+    #[inline(always)]
+    pub fn rules(&self, event: u16) -> &EventCfg
+        requires { event < length self.now.config.events.items }
+        ensures found { slice_get self.now.config.events.items event ≡ Some result.now }
+        ensures in_range { IsEventInRange result.now }
+        ensures valid { IsValid self.now.config }
+        ensures of_life { (life : Start) → life.config ≡ self.now.config → result.now ≡ event_of life event }
+    {
+        &self.config.config().events[event as usize]
     }
 
     /// The configuration, with what is known of it.

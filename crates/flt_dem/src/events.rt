@@ -86,7 +86,7 @@ impl Events {
         requires { event < length self.now.durable.config.events.items }
         ensures { result ≡ counter_at self.now event }
     {
-        let rules = &self.durable.config().events[event as usize];
+        let rules = self.durable.rules(event);
         flt_debounce::fdc(&rules.debounce, &self.debounces[event as usize])
     }
 
@@ -105,7 +105,7 @@ impl Events {
         ensures debouncing { KeepsOthers event self.old.debounces self.new.debounces }
         ensures states { KeepsOthersWithoutEntry event self.old.durable self.new.durable }
     {
-        let rules = &self.durable.config().events[event as usize];
+        let rules = self.durable.rules(event);
         let qualified = flt_debounce::report(
             &rules.debounce,
             &mut self.debounces[event as usize],
@@ -128,7 +128,7 @@ impl Events {
         ensures config { self.new.durable.config ≡ self.old.durable.config }
         ensures part { TakesPartOfTicks ticks signals.now.values conditions.now event self.old self.new }
     {
-        let rules = &self.durable.config().events[event as usize];
+        let rules = self.durable.rules(event);
         if conditions.meet(rules.needs) {
             let qualified = flt_debounce::tick(
                 &rules.debounce,
@@ -164,7 +164,7 @@ impl Events {
         ensures debouncing { KeepsOtherCycles self.old.durable.config cycle self.old.debounces self.new.debounces }
         ensures states { KeepsOtherCycles self.old.durable.config cycle self.old.durable.states self.new.durable.states }
     {
-        let rules = &self.durable.config().events[event as usize];
+        let rules = self.durable.rules(event);
         if rules.cycle == cycle {
             self.debounces[event as usize] = flt_debounce::rest(&rules.debounce);
             self.durable.end_cycle(event);
@@ -193,7 +193,7 @@ impl Events {
         ensures debouncing { KeepsOthers event self.old.debounces self.new.debounces }
         ensures states { KeepsOthers event self.old.durable.states self.new.durable.states }
     {
-        let rules = &self.durable.config().events[event as usize];
+        let rules = self.durable.rules(event);
         self.debounces[event as usize] = flt_debounce::rest(&rules.debounce);
         self.durable.forget(event);
     }

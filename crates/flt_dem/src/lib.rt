@@ -6,7 +6,6 @@
 #![tactic(auto)]
 
 mod conditions;
-mod copies;
 mod dem;
 mod durable;
 mod events;

@@ -115,7 +115,7 @@ impl DemState {
         ensures valid { IsValid self.now.durable.config }
         ensures cause { result ≡ cause_of (readiness_at setting self.now event) }
     {
-        let rules = &self.events.durable().config().events[event as usize];
+        let rules = self.events.durable().rules(event);
         if !setting {
             Some(Cause::SettingOff)
         } else if !self.started[rules.cycle as usize] {

@@ -5,8 +5,8 @@ use Rattle.flt_dem.proofs.durable.DurablePart.persist.Goals as goal
 pub returns : goal.returns
 returns c = λ life marks s.
     let inside = rw (← c.self.view_is) at s in
-    let states = c.states-out.ensures ∙ states_saved life marks c.self.inside.states.items inside.states_stand in
-    let entries = c.entries-out.ensures ∙ c.entries.ensures.value ∙ inside.memory_stands.entries in
+    let states = c.copied_states-out.ensures ∙ states_saved life marks c.self.inside.states.items inside.states_stand in
+    let entries = c.copied_entries-out.ensures ∙ c.entries.ensures.value ∙ inside.memory_stands.entries in
     let overflow = c.overflow-out.ensures ∙ inside.memory_stands.overflow in
     let notes = inside.notes in
     λ i. record {

@@ -11,7 +11,7 @@ returns-clause-stands c =
     let fits : Fits c.args.self.now.config c.args.base.now = c.requires in
     record {
       config = ap (λ v. v.config) (sym c.self.view_is);
-      states_stand = subst (λ xs. StatesStand life [] xs) (sym c.states-self-inside.ensures) (base_states life fits);
+      states_stand = subst (λ xs. StatesStand life [] xs) (sym c.copied_states-self-inside.ensures) (base_states life fits);
       memory_stands = subst (λ m. MemoryStands life [] m) (sym c.load.ensures) (base_memory life fits);
       notes = c.of-self-inside.ensures;
     }

@@ -5,7 +5,7 @@ use Rattle.flt_model.specs.Debounce.{Cleared, debounced}
 use Rattle.flt_model.specs.Happening.{signals}
 use Rattle.flt_dem.specs.DurablePart.{with_memory, without_entry}
 use Rattle.flt_dem.specs.Events.{EventsView}
-use Rattle.flt_dem.proofs.ReadLemmas.{refill-set, refill-other, rules_found, rules_read}
+use Rattle.flt_dem.proofs.ReadLemmas.{refill-set, refill-other}
 use Rattle.flt_dem.proofs.DebounceLemmas.{debounced_more, kept_of_config}
 use Rattle.flt_dem.proofs.PartLemmas.{part_of_clear}
 use Rattle.flt_dem.proofs.events.Events.forget.Goals as goal
@@ -17,8 +17,8 @@ invariant_of-self c =
     let debounces = c.self.inside.debounces.items in
     let lent = c.deref_mut.result.now in
     let configured = rw (← c.self.view_is) at c.requires.configured in
-    let rules = c.index-deref-event.result in
-    let found = rules_found config c.deref.result.now event rules c.index-deref-event.is (c.deref.ensures.0 ∙ ap (λ k. k.events.items) c.config.ensures.value) configured in
+    let rules = c.rules-rules.result.now in
+    let found = c.rules-rules.ensures.found in
     kept_of_config config debounces lent event rules found c.deref_mut.ensures.value configured c.self.invariant c.forget.new.self.config c.rest.result c.forget.ensures.config
     c.rest.ensures.kind
 
@@ -31,11 +31,9 @@ returns-clause-part c = λ held life past tester dtc bytes clears reached items 
     let lent = c.deref_mut.result.now in
     let new = c.rest.result in
     let configured = rw (← c.self.view_is) at c.requires.configured in
-    let rules = c.index-deref-event.result in
-    let items_is = c.deref.ensures.0 ∙ ap (λ k. k.events.items) c.config.ensures.value in
     let known = inside.durable_stands.config in
     let within : event < count life = omega (arith, configured, ap (λ k. length k.events.items) known) in
-    let found = rules_read config c.deref.result.now event rules c.index-deref-event.is items_is configured life known in
+    let found = c.rules-rules.ensures.of_life life known in
     let now : EventsView = record { durable = with_memory (without_entry event held) c.forget.new.self; debounces = slice_set debounces event new } in
     rw (refill-set debounces lent event new c.deref_mut.ensures.value)
     (part_of_clear life past event tester dtc bytes items marks now clears reached

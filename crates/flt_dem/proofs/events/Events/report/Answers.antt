@@ -4,7 +4,7 @@ use Rattle.flt_model.specs.Start.{count}
 use Rattle.flt_model.specs.Debounce.{Reported, debounced, qualified}
 use Rattle.flt_model.specs.declared.call.Op.TheVariants as ops
 use Rattle.flt_dem.specs.Events.{EventsView}
-use Rattle.flt_dem.proofs.ReadLemmas.{refill-set, refill-other, rules_found, rules_read}
+use Rattle.flt_dem.proofs.ReadLemmas.{refill-set, refill-other}
 use Rattle.flt_dem.proofs.DebounceLemmas.{was_debounced, debounced_more, kind_read, kept_of_config}
 use Rattle.flt_dem.proofs.CallLemmas.{stands_one}
 use Rattle.flt_dem.proofs.PartLemmas.{part_of_report, other_report}
@@ -17,8 +17,8 @@ invariant_of-self g c =
     let debounces = c.self.inside.debounces.items in
     let lent = c.deref_mut.result.now in
     let configured = rw (← c.self.view_is) at c.requires.configured in
-    let rules = c.index-deref-event.result in
-    let found = rules_found config c.deref.result.now event rules c.index-deref-event.is (c.deref.ensures.0 ∙ ap (λ k. k.events.items) c.config.ensures.value) configured in
+    let rules = c.rules-rules.result.now in
+    let found = c.rules-rules.ensures.found in
     kept_of_config config debounces lent event rules found c.deref_mut.ensures.value configured c.self.invariant c.take.new.self.config c.report-qualified.new.state c.take.ensures.config
     (c.report-qualified.ensures.kind (kind_read config debounces lent event rules found c.deref_mut.ensures.value configured c.self.invariant))
 
@@ -32,11 +32,10 @@ returns-clause-stands g c = λ life past counts signals_are s.
     let lent = c.deref_mut.result.now in
     let new = c.report-qualified.new.state in
     let configured = rw (← c.self.view_is) at c.requires.configured in
-    let rules = c.index-deref-event.result in
-    let items_is = c.deref.ensures.0 ∙ ap (λ k. k.events.items) c.config.ensures.value in
+    let rules = c.rules-rules.result.now in
     let known = inside.durable_stands.config in
     let within : event < count life = omega (arith, configured, ap (λ k. length k.events.items) known) in
-    let found = rules_read config c.deref.result.now event rules c.index-deref-event.is items_is configured life known in
+    let found = c.rules-rules.ensures.of_life life known in
     let before : EventsView = record { durable = c.self.inside.durable; debounces = debounces } in
     let now : EventsView = record { durable = c.take.new.self; debounces = slice_set debounces event new } in
     rw (refill-set debounces lent event new c.deref_mut.ensures.value)

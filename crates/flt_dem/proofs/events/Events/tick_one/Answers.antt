@@ -3,7 +3,7 @@ use Rattle.std.specs.Prelude.{slice_set}
 use Rattle.flt_model.specs.Start.{count}
 use Rattle.flt_model.specs.Debounce.{Ticked, debounced, qualified}
 use Rattle.flt_dem.specs.Events.{EventsView}
-use Rattle.flt_dem.proofs.ReadLemmas.{refill-set, rules_found, rules_read}
+use Rattle.flt_dem.proofs.ReadLemmas.{refill-set}
 use Rattle.flt_dem.proofs.DebounceLemmas.{was_debounced, debounced_more, kind_read, kept_of_config}
 use Rattle.flt_dem.proofs.PartLemmas.{ticks_count, part_of_ticks, part_of_no_ticks}
 use Rattle.flt_dem.proofs.events.Events.tick_one.Goals as goal
@@ -15,8 +15,8 @@ invariant_of-self g c =
     let debounces = c.self.inside.debounces.items in
     let lent = c.deref_mut.result.now in
     let configured = rw (← c.self.view_is) at c.requires.configured in
-    let rules = c.index-deref-event.result in
-    let found = rules_found config c.deref.result.now event rules c.index-deref-event.is (c.deref.ensures.0 ∙ ap (λ k. k.events.items) c.config.ensures.value) configured in
+    let rules = c.rules-rules.result.now in
+    let found = c.rules-rules.ensures.found in
     kept_of_config config debounces lent event rules found c.deref_mut.ensures.value configured c.self.invariant c.take.new.self.config c.tick-qualified.new.state c.take.ensures.config
     (c.tick-qualified.ensures.kind (kind_read config debounces lent event rules found c.deref_mut.ensures.value configured c.self.invariant))
 
@@ -30,11 +30,10 @@ returns-then-meet-clause-part g c = λ life past on signals_are conditions_are i
     let lent = c.deref_mut.result.now in
     let new = c.tick-qualified.new.state in
     let configured = rw (← c.self.view_is) at c.requires.configured in
-    let rules = c.index-deref-event.result in
-    let items_is = c.deref.ensures.0 ∙ ap (λ k. k.events.items) c.config.ensures.value in
+    let rules = c.rules-rules.result.now in
     let known = inside.durable_stands.config in
     let within : event < count life = omega (arith, configured, ap (λ k. length k.events.items) known) in
-    let found = rules_read config c.deref.result.now event rules c.index-deref-event.is items_is configured life known in
+    let found = c.rules-rules.ensures.of_life life known in
     let counts = ticks_count life past event rules c.args.conditions.now c.meet.result on found conditions_are c.meet.ensures ∙ c.if-meet.true in
     let now : EventsView = record { durable = c.take.new.self; debounces = slice_set debounces event new } in
     let was = was_debounced life items event rules debounces lent c.deref_mut.ensures.value found within inside.debounces_stand in
@@ -49,9 +48,7 @@ pub returns-else-meet-clause-part : goal.returns-else-meet-clause-part
 returns-else-meet-clause-part g c = λ life past on signals_are conditions_are items marks own s.
     let inside = rw (← c.self.view_is) at s in
     let event = c.args.event in
-    let configured = rw (← c.self.view_is) at c.requires.configured in
-    let rules = c.index-deref-event.result in
-    let items_is = c.deref.ensures.0 ∙ ap (λ k. k.events.items) c.config.ensures.value in
-    let found = rules_read c.self.inside.durable.config c.deref.result.now event rules c.index-deref-event.is items_is configured life inside.durable_stands.config in
+    let rules = c.rules-rules.result.now in
+    let found = c.rules-rules.ensures.of_life life inside.durable_stands.config in
     let counts = ticks_count life past event rules c.args.conditions.now c.meet.result on found conditions_are c.meet.ensures ∙ c.if-meet.false in
     part_of_no_ticks life past event items marks c.args.self.now own c.args.ticks counts s

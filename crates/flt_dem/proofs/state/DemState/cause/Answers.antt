@@ -1,4 +1,5 @@
-use Rattle.std.proofs.Common.{◌≡◌, ◌∙◌, true, false, get_or, sym, ap}
+use Rattle.std.proofs.Common.{◌∙◌, true, false, get_or, sym, ap}
+use Rattle.std.specs.Prelude.{slice_get}
 use Rattle.flt_model.specs.Happening.{cause_of}
 use Rattle.flt_dem.specs.contracts.state.DemState.{the_view}
 use Rattle.flt_dem.specs.Manager.{readiness_at}
@@ -9,13 +10,11 @@ use Rattle.flt_dem.proofs.state.DemState.cause.Goals as goal
 pub returns-then-not-meet-clause-cause : goal.returns-then-not-meet-clause-cause
 returns-then-not-meet-clause-cause c =
     let event = c.args.event in
-    let configured = rw (← c.self.view_is) at c.requires in
-    let rules = c.index-deref-event.result in
-    let events = c.self.inside.events.durable.config.events.items in
-    let read : rules ≡ get_or events event rules = c.index-deref-event.is ∙ ap (λ xs. get_or xs event rules) (c.deref.ensures.0 ∙ ap (λ k. k.events.items) (c.config.ensures.value ∙ ap (λ f. f.config) c.durable.ensures)) in
+    let rules = c.rules-rules.result.now in
+    let found = ap (λ f. slice_get f.config.events.items event) (sym c.durable.ensures) ∙ c.rules-rules.ensures.found in
     sym
     (ap (λ m. cause_of (readiness_at c.args.setting m event)) (sym c.self.view_is)
-    ∙ cause_read (the_view c.self.inside) event rules c.args.setting c.meet.result configured read c.meet.ensures
+    ∙ cause_read (the_view c.self.inside) event rules c.args.setting c.meet.result found c.meet.ensures
     ∙ ap (λ on. cause_of (seen on (get_or c.self.inside.started rules.cycle false) c.meet.result)) c.if-not-setting.false
     ∙ ap (λ started. cause_of (seen true started c.meet.result)) c.if-not-self-rules.false
     ∙ ap (λ enabled. cause_of (seen true true enabled)) c.if-not-meet.true)
@@ -23,13 +22,11 @@ returns-then-not-meet-clause-cause c =
 pub returns-else-not-meet-clause-cause : goal.returns-else-not-meet-clause-cause
 returns-else-not-meet-clause-cause c =
     let event = c.args.event in
-    let configured = rw (← c.self.view_is) at c.requires in
-    let rules = c.index-deref-event.result in
-    let events = c.self.inside.events.durable.config.events.items in
-    let read : rules ≡ get_or events event rules = c.index-deref-event.is ∙ ap (λ xs. get_or xs event rules) (c.deref.ensures.0 ∙ ap (λ k. k.events.items) (c.config.ensures.value ∙ ap (λ f. f.config) c.durable.ensures)) in
+    let rules = c.rules-rules.result.now in
+    let found = ap (λ f. slice_get f.config.events.items event) (sym c.durable.ensures) ∙ c.rules-rules.ensures.found in
     sym
     (ap (λ m. cause_of (readiness_at c.args.setting m event)) (sym c.self.view_is)
-    ∙ cause_read (the_view c.self.inside) event rules c.args.setting c.meet.result configured read c.meet.ensures
+    ∙ cause_read (the_view c.self.inside) event rules c.args.setting c.meet.result found c.meet.ensures
     ∙ ap (λ on. cause_of (seen on (get_or c.self.inside.started rules.cycle false) c.meet.result)) c.if-not-setting.false
     ∙ ap (λ started. cause_of (seen true started c.meet.result)) c.if-not-self-rules.false
     ∙ ap (λ enabled. cause_of (seen true true enabled)) c.if-not-meet.false)
