@@ -1,16 +1,14 @@
--- What bytes ask for, as far as sessions and clears go, is the same in both sessions; and a positive response begins as such.
-use Rattle.std.proofs.Common.{◌≡◌, ◌∙◌, ℕ, Bool, true, false, not, ◌&&◌, nat_eq, nat_le, cond, List, [], ◌∷◌, Option, Some, None, Result, Ok, Err, arith, refl, sym, ap, eqb-true}
-use Rattle.std.specs.Prelude.{option_map, unwrap_or, slice_get, ◌%◌}
+-- What bytes ask for, as far as sessions and clears go, is the same in both sessions.
+use Rattle.std.proofs.Common.{◌≡◌, ◌∙◌, ℕ, Bool, true, false, not, ◌&&◌, nat_eq, nat_le, cond, List, [], ◌∷◌, Option, Some, None, Result, Ok, Err, refl, sym, ap, eqb-true}
+use Rattle.std.specs.Prelude.{option_map, ◌%◌}
 use Rattle.flt_model.specs.Happening.{clear_asked, dtc_of_clear}
 use Rattle.flt_model.specs.Session.{session_asked}
 use Rattle.flt_model.specs.Request.{Optioned, SubFunction, row, has_sub_functions, contents, refused, accepted, asked_in, asked_with_sub, asked_clear, asked}
 use Rattle.flt_model.specs.NegativeCode.{service_not_supported, service_not_supported_in_session}
-use Rattle.flt_model.specs.Response.{EventView, View, positive, unless_silent}
 use Rattle.flt_model.specs.declared.request.Asked.{Asked}
 use Rattle.flt_model.specs.declared.request.Negative.{Negative}
 use Rattle.flt_model.specs.declared.request.Request.{Request}
 use Rattle.flt_model.specs.declared.request.Request.TheVariants as requests
-use Rattle.flt_dcm.specs.Unit.{IsNegative}
 
 -- ---- the DTC setting is no session and no clear
 
@@ -73,36 +71,3 @@ no_clear (requests.Extended dtc number) other = refl
 no_clear requests.Supported other = refl
 no_clear (requests.Noted sub) other = refl
 no_clear requests.Counters other = refl
-
--- ---- a positive response is no negative one
-
--- How bytes begin, where there are any.
-abbrev begins : Option (List ℕ) → ℕ
-begins None = 0
-begins (Some bytes) = unwrap_or (slice_get bytes 0) 0
-
-of_clear : (test : Bool) → begins (cond test (Some (0x54 ∷ [])) None) ≡ 0x7F → ⊥
-of_clear true is = absurd (omega (arith, is))
-of_clear false is = absurd (omega (arith, is))
-
-of_event : (sub : ℕ) (found : Option EventView) (rest : EventView → List ℕ) → begins (option_map (λ event. 0x59 ∷ sub ∷ rest event) found) ≡ 0x7F → ⊥
-of_event sub (Some event) rest is = absurd (omega (arith, is))
-of_event sub None rest is = absurd (omega (arith, is))
-
-no_negative : (view : View) (request : Request) → begins (positive view request) ≡ 0x7F → ⊥
-no_negative view (requests.Session extended) is = absurd (omega (arith, is))
-no_negative view requests.Present is = absurd (omega (arith, is))
-no_negative view (requests.Clear dtc) is = of_clear _ is
-no_negative view (requests.Setting on) is = absurd (omega (arith, is))
-no_negative view (requests.Count mask) is = absurd (omega (arith, is))
-no_negative view (requests.ByMask mask) is = absurd (omega (arith, is))
-no_negative view requests.Snapshots is = absurd (omega (arith, is))
-no_negative view (requests.Snapshot dtc number) is = of_event 4 _ _ is
-no_negative view (requests.Extended dtc number) is = of_event 6 _ _ is
-no_negative view requests.Supported is = absurd (omega (arith, is))
-no_negative view (requests.Noted sub) is = absurd (omega (arith, is))
-no_negative view requests.Counters is = absurd (omega (arith, is))
-
-pub positive_is_not_negative : (view : View) (request : Request) (silent : Bool) (bytes : List ℕ) → positive view request ≡ Some bytes → IsNegative (unless_silent silent bytes) → ⊥
-positive_is_not_negative view request true bytes is negative = negative
-positive_is_not_negative view request false bytes is negative = no_negative view request (ap begins is ∙ ap (λ o. unwrap_or o 0) negative)

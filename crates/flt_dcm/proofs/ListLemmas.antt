@@ -173,38 +173,6 @@ list_fits listing manager k n out is h few =
     let length_is = ap length is ∙ length-append (head_of listing) (flat_map (listed listing) (seen_to manager k)) in
     omega (arith, all, part, length_is)
 
--- ---- how many there are
-
-pub filtered_more : (p : EventView → Bool) (manager : Manager) (n : ℕ) →
-    length (filter p (seen_to manager (suc n))) ≡ cond (p (event_seen manager n)) (length (filter p (seen_to manager n)) + 1) (length (filter p (seen_to manager n)))
-filtered_more p manager n = ap (λ xs. length (filter p xs)) (seen_more manager n) ∙ push (seen_to manager n)
-  where
-    one : (test : Bool) (x : EventView) → length (cond test (x ∷ []) []) ≡ cond test 1 0
-    one true x = refl
-    one false x = refl
-
-    kept : (test : Bool) (x : EventView) (xs : List EventView) (more : ℕ) → length (filter p (xs ++ event_seen manager n ∷ [])) ≡ more →
-        length (cond test (x ∷ filter p (xs ++ event_seen manager n ∷ [])) (filter p (xs ++ event_seen manager n ∷ []))) ≡ cond test (suc more) more
-    kept true x xs more is = ap suc is
-    kept false x xs more is = is
-
-    shifted : (test own : Bool) (before : ℕ) → cond test (suc (cond own (before + 1) before)) (cond own (before + 1) before) ≡ cond own (cond test (suc before) before + 1) (cond test (suc before) before)
-    shifted true true before = omega arith
-    shifted true false before = refl
-    shifted false true before = refl
-    shifted false false before = refl
-
-    sized : (test : Bool) (x : EventView) (xs : List EventView) → length (cond test (x ∷ filter p xs) (filter p xs)) ≡ cond test (suc (length (filter p xs))) (length (filter p xs))
-    sized true x xs = refl
-    sized false x xs = refl
-
-    push : (xs : List EventView) → length (filter p (xs ++ event_seen manager n ∷ [])) ≡ cond (p (event_seen manager n)) (length (filter p xs) + 1) (length (filter p xs))
-    push [] = one (p (event_seen manager n)) (event_seen manager n)
-    push (x ∷ xs) =
-        kept (p x) x xs (cond (p (event_seen manager n)) (length (filter p xs) + 1) (length (filter p xs))) (push xs)
-        ∙ shifted (p x) (p (event_seen manager n)) (length (filter p xs))
-        ∙ ap (λ k. cond (p (event_seen manager n)) (k + 1) k) (sym (sized (p x) x xs))
-
 -- ---- one of them
 
 length_seen : (manager : Manager) (n : ℕ) → length (seen_to manager n) ≡ n
@@ -242,15 +210,12 @@ module _ (p : EventView → Bool) where
       ]
 
   module _ (manager : Manager) where
-    none_found : (n : ℕ) → ((k : ℕ) → k < n → p (event_seen manager k) ≡ false) → find p (seen_to manager n) ≡ None
-    none_found zero none = refl
-    none_found (suc n) none =
-        ap (find p) (seen_more manager n) ∙ found_push (seen_to manager n) (event_seen manager n)
-        ∙ ap (λ o. or_push o (event_seen manager n)) (none_found n (λ k h. none k (omega (arith, h))))
-        ∙ ap (λ b. cond b (Some (event_seen manager n)) None) (none n (omega arith))
-
     pub unknown_dtc : (n : ℕ) → ((k : ℕ) → k < n → p (event_seen manager k) ≡ false) → find p (seen_to manager n) ≡ None
-    unknown_dtc = none_found
+    unknown_dtc zero none = refl
+    unknown_dtc (suc n) none =
+        ap (find p) (seen_more manager n) ∙ found_push (seen_to manager n) (event_seen manager n)
+        ∙ ap (λ o. or_push o (event_seen manager n)) (unknown_dtc n (λ k h. none k (omega (arith, h))))
+        ∙ ap (λ b. cond b (Some (event_seen manager n)) None) (none n (omega arith))
 
     pub first_found : (n event : ℕ) → event < n → p (event_seen manager event) ≡ true → ((k : ℕ) → k < event → p (event_seen manager k) ≡ false) →
         find p (seen_to manager n) ≡ Some (event_seen manager event)
@@ -258,7 +223,7 @@ module _ (p : EventView → Bool) where
     first_found (suc n) event h own before =
         ap (find p) (seen_more manager n) ∙ found_push (seen_to manager n) (event_seen manager n)
         ∙ ⊎_elim
-        (λ same. ap (λ o. or_push o (event_seen manager n)) (none_found n (λ k below_n. before k (omega (arith, same, below_n))))
+        (λ same. ap (λ o. or_push o (event_seen manager n)) (unknown_dtc n (λ k below_n. before k (omega (arith, same, below_n))))
         ∙ ap (λ k. cond (p (event_seen manager k)) (Some (event_seen manager k)) None) (sym same)
         ∙ ap (λ b. cond b (Some (event_seen manager event)) None) own)
         (λ ne. ap (λ o. or_push o (event_seen manager n)) (first_found n event (omega (arith, h, ne)) own before))

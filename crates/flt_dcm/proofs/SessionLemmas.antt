@@ -1,5 +1,5 @@
 -- What calls make of the testers' sessions.
-use Rattle.std.proofs.Common.{◌≡◌, ◌≢◌, ◌∙◌, ℕ, zero, suc, ◌+◌, ◌<◌, Bool, true, false, not, ◌||◌, nat_le, nat_lt, cond, List, [], ◌∷◌, length, map, Some, None, Result, Ok, Err, arith, refl, sym, ap, subst, ⊎_elim, eq-eqb}
+use Rattle.std.proofs.Common.{◌≡◌, ◌≢◌, ◌∙◌, ℕ, zero, suc, ◌+◌, ◌<◌, Bool, true, false, not, ◌||◌, nat_le, nat_lt, cond, List, [], ◌∷◌, length, map, Option, Some, None, Result, Ok, Err, arith, refl, sym, ap, subst, ⊎_elim, eq-eqb}
 use Rattle.std.proofs.lemmas.Bool.{cases_eq, ne_eqb}
 use Rattle.std.proofs.lemmas.Bool.Decides.{leb_tells}
 use Rattle.std.specs.Prelude.{slice_set, unwrap_or}
@@ -21,96 +21,43 @@ use Rattle.flt_dcm.specs.declared.session.Session.{Session}
 use Rattle.flt_dcm.specs.declared.session.Session.TheVariants.{Default, Extended}
 use Rattle.flt_dcm.proofs.AskedLemmas.{session_same}
 
--- ---- at power-up
-
-pub sessions_begin : SessionsStand [] (Default ∷ Default ∷ Default ∷ Default ∷ [])
-sessions_begin zero h = record { extended = refl; hold = refl; silent = tt }
-sessions_begin (suc zero) h = record { extended = refl; hold = refl; silent = tt }
-sessions_begin (suc (suc zero)) h = record { extended = refl; hold = refl; silent = tt }
-sessions_begin (suc (suc (suc zero))) h = record { extended = refl; hold = refl; silent = tt }
-sessions_begin (suc (suc (suc (suc tester)))) h = absurd (omega (arith, h))
-
 -- ---- a tester's own request
 
 pub heard_extended : (session : Session) → is_extended_one (heard session) ≡ is_extended_one session
 heard_extended Default = refl
 heard_extended (Extended holds silent) = refl
 
-extended_after : (session : Session) (request : Request) → unwrap_or (session_of request) (is_extended_one session) ≡ is_extended_one (after (heard session) request)
-extended_after Default (requests.Session true) = refl
-extended_after Default (requests.Session false) = refl
-extended_after (Extended holds silent) (requests.Session true) = refl
-extended_after (Extended holds silent) (requests.Session false) = refl
-extended_after Default (requests.Setting on) = refl
-extended_after (Extended holds silent) (requests.Setting on) = refl
-extended_after session requests.Present = sym (heard_extended session)
-extended_after session (requests.Clear dtc) = sym (heard_extended session)
-extended_after session (requests.Count mask) = sym (heard_extended session)
-extended_after session (requests.ByMask mask) = sym (heard_extended session)
-extended_after session requests.Snapshots = sym (heard_extended session)
-extended_after session (requests.Snapshot dtc number) = sym (heard_extended session)
-extended_after session (requests.Extended dtc number) = sym (heard_extended session)
-extended_after session requests.Supported = sym (heard_extended session)
-extended_after session (requests.Noted sub) = sym (heard_extended session)
-extended_after session requests.Counters = sym (heard_extended session)
+-- What a session comes to where its tester asks for this one and holds the setting off in this way, each of them maybe not.
+record Follows (before : Session) (asked_for off : Option Bool) (now : Session) : Type 0 where
+  extended : unwrap_or asked_for (is_extended_one before) ≡ is_extended_one now
+  hold : unwrap_or (cond (is_extended_one now) off (Some false)) (has_hold before) ≡ has_hold now
+  silent : IsSilentFor now 0
 
-extended_asked : (session : Session) (request : Result Asked Negative) → unwrap_or (session_asked request) (is_extended_one session) ≡ is_extended_one (after_asked (heard session) request)
-extended_asked session (Ok request) = extended_after session request.request
-extended_asked session (Err refused) = sym (heard_extended session)
+follows_heard : (session : Session) → Follows session None None (heard session)
+follows_heard Default = record { extended = refl; hold = refl; silent = tt }
+follows_heard (Extended holds silent) = record { extended = refl; hold = refl; silent = refl }
 
-hold_heard : (session : Session) → unwrap_or (cond (is_extended_one (heard session)) None (Some false)) (has_hold session) ≡ has_hold (heard session)
-hold_heard Default = refl
-hold_heard (Extended holds silent) = refl
+follows_after : (session : Session) (request : Request) → Follows session (session_of request) (off_of request) (after (heard session) request)
+follows_after Default (requests.Session true) = record { extended = refl; hold = refl; silent = refl }
+follows_after Default (requests.Session false) = record { extended = refl; hold = refl; silent = tt }
+follows_after (Extended holds silent) (requests.Session true) = record { extended = refl; hold = refl; silent = refl }
+follows_after (Extended holds silent) (requests.Session false) = record { extended = refl; hold = refl; silent = tt }
+follows_after Default (requests.Setting on) = record { extended = refl; hold = refl; silent = tt }
+follows_after (Extended holds silent) (requests.Setting on) = record { extended = refl; hold = refl; silent = refl }
+follows_after session requests.Present = follows_heard session
+follows_after session (requests.Clear dtc) = follows_heard session
+follows_after session (requests.Count mask) = follows_heard session
+follows_after session (requests.ByMask mask) = follows_heard session
+follows_after session requests.Snapshots = follows_heard session
+follows_after session (requests.Snapshot dtc number) = follows_heard session
+follows_after session (requests.Extended dtc number) = follows_heard session
+follows_after session requests.Supported = follows_heard session
+follows_after session (requests.Noted sub) = follows_heard session
+follows_after session requests.Counters = follows_heard session
 
-hold_after : (session : Session) (request : Request) →
-    unwrap_or (cond (is_extended_one (after (heard session) request)) (off_of request) (Some false)) (has_hold session) ≡ has_hold (after (heard session) request)
-hold_after Default (requests.Session true) = refl
-hold_after Default (requests.Session false) = refl
-hold_after (Extended holds silent) (requests.Session true) = refl
-hold_after (Extended holds silent) (requests.Session false) = refl
-hold_after Default (requests.Setting on) = refl
-hold_after (Extended holds silent) (requests.Setting on) = refl
-hold_after session requests.Present = hold_heard session
-hold_after session (requests.Clear dtc) = hold_heard session
-hold_after session (requests.Count mask) = hold_heard session
-hold_after session (requests.ByMask mask) = hold_heard session
-hold_after session requests.Snapshots = hold_heard session
-hold_after session (requests.Snapshot dtc number) = hold_heard session
-hold_after session (requests.Extended dtc number) = hold_heard session
-hold_after session requests.Supported = hold_heard session
-hold_after session (requests.Noted sub) = hold_heard session
-hold_after session requests.Counters = hold_heard session
-
-hold_asked : (session : Session) (request : Result Asked Negative) →
-    unwrap_or (cond (is_extended_one (after_asked (heard session) request)) (off_asked request) (Some false)) (has_hold session) ≡ has_hold (after_asked (heard session) request)
-hold_asked session (Ok request) = hold_after session request.request
-hold_asked session (Err refused) = hold_heard session
-
-silent_heard : (session : Session) → IsSilentFor (heard session) 0
-silent_heard Default = tt
-silent_heard (Extended holds silent) = refl
-
-silent_after : (session : Session) (request : Request) → IsSilentFor (after (heard session) request) 0
-silent_after Default (requests.Session true) = refl
-silent_after Default (requests.Session false) = tt
-silent_after (Extended holds silent) (requests.Session true) = refl
-silent_after (Extended holds silent) (requests.Session false) = tt
-silent_after Default (requests.Setting on) = tt
-silent_after (Extended holds silent) (requests.Setting on) = refl
-silent_after session requests.Present = silent_heard session
-silent_after session (requests.Clear dtc) = silent_heard session
-silent_after session (requests.Count mask) = silent_heard session
-silent_after session (requests.ByMask mask) = silent_heard session
-silent_after session requests.Snapshots = silent_heard session
-silent_after session (requests.Snapshot dtc number) = silent_heard session
-silent_after session (requests.Extended dtc number) = silent_heard session
-silent_after session requests.Supported = silent_heard session
-silent_after session (requests.Noted sub) = silent_heard session
-silent_after session requests.Counters = silent_heard session
-
-silent_asked : (session : Session) (request : Result Asked Negative) → IsSilentFor (after_asked (heard session) request) 0
-silent_asked session (Ok request) = silent_after session request.request
-silent_asked session (Err refused) = silent_heard session
+follows_asked : (session : Session) (request : Result Asked Negative) → Follows session (session_asked request) (off_asked request) (after_asked (heard session) request)
+follows_asked session (Ok request) = follows_after session request.request
+follows_asked session (Err refused) = follows_heard session
 
 module _ (past : History) (tester : ℕ) (bytes : RequestBytes) where
   own_request : (session : Session) → SessionStands tester past session →
@@ -118,17 +65,18 @@ module _ (past : History) (tester : ℕ) (bytes : RequestBytes) where
   own_request session s =
       let request = asked (is_extended_one session) bytes.items in
       let own = eq-eqb tester tester refl in
+      let follows = follows_asked session request in
       let extended : is_extended tester (ops.Request tester bytes ∷ past) ≡ is_extended_one (after_asked (heard session) request) =
       ap (λ b. unwrap_or (cond b (session_asked (asked false bytes.items)) None) (is_extended tester past)) own
       ∙ (λ i. unwrap_or (session_same (is_extended_one session) bytes.items i) (s.extended i))
-      ∙ extended_asked session request in
+      ∙ follows.extended in
       record {
         extended = extended;
         hold =
             ap (λ b. unwrap_or (cond b (cond (is_extended tester (ops.Request tester bytes ∷ past)) (off_asked (asked (is_extended tester past) bytes.items)) (Some false)) None) (holds_off tester past)) own
             ∙ (λ i. unwrap_or (cond (extended i) (off_asked (asked (s.extended i) bytes.items)) (Some false)) (s.hold i))
-            ∙ hold_asked session request;
-        silent = subst (λ ticks. IsSilentFor (after_asked (heard session) request) ticks) (sym (ap (λ b. cond b 0 (silence tester past)) own)) (silent_asked session request);
+            ∙ follows.hold;
+        silent = subst (λ ticks. IsSilentFor (after_asked (heard session) request) ticks) (sym (ap (λ b. cond b 0 (silence tester past)) own)) follows.silent;
       }
 
   other_request : (other : ℕ) (session : Session) → tester ≢ other → SessionStands other past session → SessionStands other (ops.Request tester bytes ∷ past) session

@@ -9,7 +9,6 @@ ghost use Rattle.flt_model.specs.Happening.{dtc_of_clear};
 ghost use Rattle.flt_model.specs.Request.{asked};
 ghost use Rattle.flt_model.specs.Response.{negative, positive, reply_of, responded, response};
 ghost use Rattle.flt_model.specs.declared.call.Op.TheVariants as ops;
-ghost use Rattle.flt_model.specs.declared.call.ReplyOf.TheVariants as replies;
 ghost use Rattle.flt_did.specs.Table.{dids_of};
 ghost use Rattle.flt_did.specs.Serves.{Serves};
 ghost use Rattle.flt_dem.specs.View.{view_of};
@@ -25,7 +24,7 @@ use arrayvec::ArrayVec;
 use flt_config::{EVENTS, EventState, Persist, ValidConfig, initial};
 use flt_dem::DemState;
 use flt_did::{DID_ROWS, DidTable};
-use flt_model::{Op, REQUEST, Reply, ReplyOf, Report, Shown};
+use flt_model::{Op, REQUEST, Reply, ReplyOf, Report};
 use flt_uds::{Asked, Negative, REQUEST_OUT_OF_RANGE, RESPONSE, Request, put_negative, read};
 use std::marker::Model;
 
@@ -209,26 +208,6 @@ impl UnitState {
         self.dem.states()
     }
 
-    /// Sets a signal, of the number 0 to 7.
-    fn signal(&mut self, index: u8, value: u16)
-        requires { index < 8 }
-        ensures config { self.new.dem.durable.config ≡ self.old.dem.durable.config }
-        ensures base { self.new.base ≡ self.old.base }
-        ensures stands { Takes (ops.Signal index value) self.old self.new }
-    {
-        self.dem.signal(index, value);
-    }
-
-    /// Notes whether an enable condition, of the number 0 to 7, is fulfilled.
-    fn enable(&mut self, condition: u8, fulfilled: bool)
-        requires { condition < 8 }
-        ensures config { self.new.dem.durable.config ≡ self.old.dem.durable.config }
-        ensures base { self.new.base ≡ self.old.base }
-        ensures stands { Takes (ops.Enable condition fulfilled) self.old self.new }
-    {
-        self.dem.enable(condition, fulfilled);
-    }
-
     /// Takes a monitor's report of an event. If it is ignored, the answer says why: a tester holds the DTC setting off,
     /// else the event's operation cycle was not started since power-up, or else an enable condition that it needs is not fulfilled.
     fn report(&mut self, dids: &DidTable<DID_ROWS>, event: u16, report: Report) -> ReplyKind
@@ -259,16 +238,6 @@ impl UnitState {
         self.sessions = ticked_sessions(self.sessions, ticks);
     }
 
-    /// Ends an operation cycle, of the number 0 to 3, and starts the next.
-    fn cycle(&mut self, cycle: u8)
-        requires { cycle < 4 }
-        ensures config { self.new.dem.durable.config ≡ self.old.dem.durable.config }
-        ensures base { self.new.base ≡ self.old.base }
-        ensures stands { Takes (ops.Cycle cycle) self.old self.new }
-    {
-        self.dem.cycle(cycle);
-    }
-
     /// Takes the request of a tester, of the number 0 to 3, and writes the response, replacing what `out` holds.
     fn request(
         &mut self,
@@ -293,15 +262,6 @@ impl UnitState {
         )
     }
 
-    /// What is shown of an event. Showing it changes nothing.
-    fn show(&self, event: u16) -> Shown
-        requires { event < length self.now.dem.durable.config.events.items }
-        ensures answer { Answers (ops.Show event) self.now (replies.Shown result) }
-        ensures stands { Takes (ops.Show event) self.now self.now }
-    {
-        self.dem.show(event)
-    }
-
     /// Carries out a call, and answers it, as `apply_into` does, for callers that need no durable state: a snapshot writes none.
     pub fn apply_alone_into(
         &mut self,
@@ -322,14 +282,14 @@ impl UnitState {
     {
         match op {
             Op::Signal { index, value } => {
-                self.signal(*index, *value);
+                self.dem.signal(*index, *value);
                 ReplyKind::Taken
             }
             Op::Enable {
                 condition,
                 fulfilled,
             } => {
-                self.enable(*condition, *fulfilled);
+                self.dem.enable(*condition, *fulfilled);
                 ReplyKind::Taken
             }
             Op::Report { event, report } => self.report(dids, *event, *report),
@@ -338,11 +298,11 @@ impl UnitState {
                 ReplyKind::Taken
             }
             Op::Cycle { cycle } => {
-                self.cycle(*cycle);
+                self.dem.cycle(*cycle);
                 ReplyKind::Taken
             }
             Op::Request { tester, bytes } => self.request(*tester, bytes, response),
-            Op::Show { event } => ReplyKind::Shown(self.show(*event)),
+            Op::Show { event } => ReplyKind::Shown(self.dem.show(*event)),
             Op::Snapshot => ReplyKind::Taken,
             Op::Saved { .. } => ReplyKind::Taken,
         }
