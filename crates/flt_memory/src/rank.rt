@@ -1,17 +1,9 @@
 //! How bad an entry is when the memory is full.
-ghost use Rattle.std.specs.Prelude.{◌≡◌, ◌<◌, ◌≤◌, ◌↔◌, IsTrue, IfSome, IfNone, length, All};
-ghost use Rattle.flt_model.specs.Entry.{IsWorse};
+ghost use Rattle.std.specs.Prelude.{◌≡◌, ◌<◌, ◌≤◌, IfSome, IfNone, length, All};
 ghost use Rattle.flt_memory.specs.Displacement.{rank_in as event_rank, ranks_of, priority_of, IsWorst, GivesWay, IsDisplaced, StaysFull};
 
 use flt_config::{Config, EntryState, EventState};
 use flt_model::Rank;
-
-/// Whether the first rank is the worse one.
-fn is_worse(a: Rank, b: Rank) -> bool
-    ensures { IsTrue result ↔ IsWorse a b }
-{
-    a.is_worse(b)
-}
 
 /// The rank of the event's entry.
 pub fn rank_of(config: &Config, states: &[EventState], event: u16) -> Rank
@@ -37,7 +29,7 @@ pub fn worst_of(config: &Config, states: &[EventState], entries: &[EntryState]) 
     let mut worst_rank = rank_of(config, states, entries[0].event);
     for place in 1..entries.len() {
         let rank = rank_of(config, states, entries[place].event);
-        if is_worse(rank, worst_rank) {
+        if rank.is_worse(worst_rank) {
             worst = place;
             worst_rank = rank;
         }
