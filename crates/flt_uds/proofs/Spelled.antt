@@ -201,10 +201,7 @@ module _ (service sub : ℕ) where
 
   optioned : (request : Request) → IsSpelledBy service sub request [] → ((silent : Bool) → is_known silent request ≡ true) → IsOpen service request
       → IsEnd request (0xFF ∷ 0xFF ∷ 0xFF ∷ []) → IsSpelled service sub (Optioned request)
-  optioned request same known opened end extended silent [] other small on e =
-      let is : request ≡ other = cc in
-      subst (λ r. IsRequest extended (service ∷ with_bit_7 silent sub ∷ []) (record { request = r; silent = silent })) is
-      record { end = []; spells = rw (same silent) refl; ends = tt; known = known silent; opened = opened extended on }
+  optioned request same known opened end extended silent [] other small on e = plain request same known opened extended silent [] other small on e
   optioned request same known opened end extended silent (a ∷ []) other small on e = absurd cc
   optioned request same known opened end extended silent (a ∷ b ∷ []) other small on e = absurd cc
   optioned request same known opened end extended silent (a ∷ b ∷ c ∷ []) other small on e =
