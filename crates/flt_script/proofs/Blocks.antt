@@ -87,36 +87,29 @@ module _ (config : Config) (s : Step) (within : is_step_in config s ≡ true) wh
   parts_with None parts all = rw (list_all-append (is_part_in config) parts (inl s ∷ []), all, within) refl
   parts_with (Some lanes) parts all = all
 
-steps_in_last : (s : Step) (lane : List Step) (lanes : List (List Step)) → sum_by length (in_last_lane (Some s) (lane ∷ lanes)) ≡ sum_by length (lane ∷ lanes) + 1
-steps_in_last s lane [] =
-    omega (arith, length-append lane (s ∷ []), sum_by-cons length (lane ++ s ∷ []) [], sum_by-cons length lane [])
-steps_in_last s lane (next ∷ lanes) =
-    let more = steps_in_last s next lanes in
-    omega (arith, more, sum_by-cons length lane (in_last_lane (Some s) (next ∷ lanes)), sum_by-cons length lane (next ∷ lanes))
+-- A count of lanes, where a step more at the end of a lane counts for so much.
+in_last : (size : List Step → ℕ) (own : Step → ℕ) → ((lane : List Step) (s : Step) → size (lane ++ s ∷ []) ≡ size lane + own s) → (s : Step) (lane : List Step) (lanes : List (List Step))
+    → sum_by size (in_last_lane (Some s) (lane ∷ lanes)) ≡ sum_by size (lane ∷ lanes) + own s
+in_last size own pushed s lane [] = omega (arith, pushed lane s, sum_by-cons size (lane ++ s ∷ []) [], sum_by-cons size lane [])
+in_last size own pushed s lane (next ∷ lanes) =
+    let more = in_last size own pushed s next lanes in
+    omega (arith, more, sum_by-cons size lane (in_last_lane (Some s) (next ∷ lanes)), sum_by-cons size lane (next ∷ lanes))
 
 pub steps_with : (block : Option (List (List Step))) (s : Step) (parts : List (PartOf Step)) → is_step_misplaced block s ≡ false
     → steps_of (with_step block (Some s) parts) + block_steps (option_map (in_last_lane (Some s)) block) ≡ steps_of parts + block_steps block + 1
 steps_with None s parts place = omega (arith, sum_by_push steps_of_part parts (inl s))
 steps_with (Some []) s parts place = absurd cc
-steps_with (Some (lane ∷ lanes)) s parts place = omega (arith, steps_in_last s lane lanes)
+steps_with (Some (lane ∷ lanes)) s parts place = omega (arith, in_last length (λ step. 1) (λ one step. length-append one (step ∷ [])) s lane lanes)
 
 pub arms_with_step : (block : Option (List (List Step))) (s : Step) (parts : List (PartOf Step)) → arms_of (with_step block (Some s) parts) ≤ arms_of parts + arm_count s
 arms_with_step None s parts = omega (arith, sum_by_push arms_of_part parts (inl s))
 arms_with_step (Some lanes) s parts = omega arith
 
-drains_in_last : (s : Step) (lane : List Step) (lanes : List (List Step))
-    → sum_by drains_of_lane (in_last_lane (Some s) (lane ∷ lanes)) ≡ sum_by drains_of_lane (lane ∷ lanes) + drain_count s
-drains_in_last s lane [] =
-    omega (arith, sum_by_push drain_count lane s, sum_by-cons drains_of_lane (lane ++ s ∷ []) [], sum_by-cons drains_of_lane lane [])
-drains_in_last s lane (next ∷ lanes) =
-    let rest = drains_in_last s next lanes in
-    omega (arith, rest, sum_by-cons drains_of_lane lane (in_last_lane (Some s) (next ∷ lanes)), sum_by-cons drains_of_lane lane (next ∷ lanes))
-
 pub drains_with_step : (block : Option (List (List Step))) (s : Step) (parts : List (PartOf Step)) → is_step_misplaced block s ≡ false
     → drains_of (with_step block (Some s) parts) + block_drains (option_map (in_last_lane (Some s)) block) ≡ drains_of parts + block_drains block + drain_count s
 drains_with_step None s parts place = omega (arith, sum_by_push drains_of_part parts (inl s))
 drains_with_step (Some []) s parts place = absurd cc
-drains_with_step (Some (lane ∷ lanes)) s parts place = omega (arith, drains_in_last s lane lanes)
+drains_with_step (Some (lane ∷ lanes)) s parts place = omega (arith, in_last drains_of_lane drain_count (sum_by_push drain_count) s lane lanes)
 
 pub marks_with : (block : Option (List (List Step))) (s : Step) (parts : List (PartOf Step))
     → marks_of (with_step block (Some s) parts) + block_marks (option_map (in_last_lane (Some s)) block) ≤ marks_of parts + block_marks block + 1
