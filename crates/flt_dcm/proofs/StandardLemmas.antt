@@ -1,5 +1,5 @@
 -- Six status bits say what the standard says of the marks since the last clear.
-use Rattle.std.proofs.Common.{◌≡◌, ◌∙◌, Bool, true, false, not, ◌&&◌, ◌||◌, [], ◌∷◌, Some, None, cond, refl, sym, ap, subst}
+use Rattle.std.proofs.Common.{◌≡◌, ◌∙◌, Bool, true, false, not, ◌&&◌, [], ◌∷◌, Some, None, cond, refl, sym, ap, subst}
 use Rattle.std.specs.Prelude.{unwrap_or}
 use Rattle.flt_config.specs.declared.config.EventCfg.{EventCfg}
 use Rattle.flt_config.specs.declared.persist.EventState.{EventState}
@@ -9,8 +9,8 @@ use Rattle.flt_model.specs.Byte.{is_bit_set}
 use Rattle.flt_model.specs.Mark.{Past, Row, decided}
 use Rattle.flt_model.specs.Mark.Mark.{Failed, Passed, Cycle, Clear, Aged, Displaced, Added, Refused}
 use Rattle.flt_model.specs.Status.{status, durable, test_failed, failed_this_cycle, pending, not_completed_since_clear, failed_since_clear, not_completed_this_cycle, ends_clean, test_failed_row, failed_this_cycle_row, not_completed_since_clear_row, failed_since_clear_row, not_completed_this_cycle_row}
-use Rattle.flt_model.specs.StatusLaws.{since_clear, this_cycle, has_failed}
-use Rattle.flt_model.proofs.StatusLaws.{byte_tells_bits, failed_now, test_failed_is_last_result, pending_is_unrefuted_failure}
+use Rattle.flt_model.specs.StatusLaws.{since_clear, has_failed}
+use Rattle.flt_model.proofs.StatusLaws.{byte_tells_bits, tested, failed_now, untested_now, test_failed_is_last_result, pending_is_unrefuted_failure}
 use Rattle.flt_dcm.specs.Standard.{StandardBits, has_test, has_cleared}
 
 -- ---- what does not depend on a base, after a clear
@@ -47,10 +47,6 @@ module _ (base : EventState) where
 
 -- ---- the bits from the start state
 
-tested : (failed : Bool) → false ≡ not (failed || true)
-tested true = refl
-tested false = refl
-
 untested_since_clear : (past : Past) → not_completed_since_clear start_state past ≡ not (has_test (since_clear past))
 untested_since_clear [] = refl
 untested_since_clear (Failed ∷ past) = refl
@@ -72,17 +68,6 @@ failed_since (Aged ∷ past) = failed_since past
 failed_since (Displaced ∷ past) = failed_since past
 failed_since (Added ∷ past) = failed_since past
 failed_since (Refused ∷ past) = failed_since past
-
-untested_now : (past : Past) → not_completed_this_cycle start_state past ≡ not (has_test (this_cycle (since_clear past)))
-untested_now [] = refl
-untested_now (Failed ∷ past) = refl
-untested_now (Passed ∷ past) = tested (has_failed (this_cycle (since_clear past)))
-untested_now (Clear ∷ past) = refl
-untested_now (Cycle ∷ past) = refl
-untested_now (Aged ∷ past) = untested_now past
-untested_now (Displaced ∷ past) = untested_now past
-untested_now (Added ∷ past) = untested_now past
-untested_now (Refused ∷ past) = untested_now past
 
 -- ---- the six together
 

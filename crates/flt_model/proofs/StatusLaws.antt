@@ -89,33 +89,33 @@ failed_now (Displaced ∷ past) = failed_now past
 failed_now (Added ∷ past) = failed_now past
 failed_now (Refused ∷ past) = failed_now past
 
-or_true : (b : Bool) → true ≡ (b || true)
-or_true true = refl
-or_true false = refl
+pub tested : (failed : Bool) → false ≡ not (failed || true)
+tested true = refl
+tested false = refl
 
--- A test was completed in this cycle.
-completed_now : (past : Past) → not (not_completed_this_cycle start_state past) ≡ (has_failed (this_cycle (since_clear past)) || has_passed (this_cycle (since_clear past)))
-completed_now [] = refl
-completed_now (Failed ∷ past) = refl
-completed_now (Passed ∷ past) = or_true (has_failed (this_cycle (since_clear past)))
-completed_now (Clear ∷ past) = refl
-completed_now (Cycle ∷ past) = refl
-completed_now (Aged ∷ past) = completed_now past
-completed_now (Displaced ∷ past) = completed_now past
-completed_now (Added ∷ past) = completed_now past
-completed_now (Refused ∷ past) = completed_now past
+-- A test was completed in this cycle, or none was.
+pub untested_now : (past : Past) → not_completed_this_cycle start_state past ≡ not (has_failed (this_cycle (since_clear past)) || has_passed (this_cycle (since_clear past)))
+untested_now [] = refl
+untested_now (Failed ∷ past) = refl
+untested_now (Passed ∷ past) = tested (has_failed (this_cycle (since_clear past)))
+untested_now (Clear ∷ past) = refl
+untested_now (Cycle ∷ past) = refl
+untested_now (Aged ∷ past) = untested_now past
+untested_now (Displaced ∷ past) = untested_now past
+untested_now (Added ∷ past) = untested_now past
+untested_now (Refused ∷ past) = untested_now past
 
-clean_test : (failed passed completed : Bool) → completed ≡ (failed || passed) → (not failed && completed) ≡ (passed && not failed)
-clean_test true true completed e = refl
-clean_test true false completed e = refl
-clean_test false true completed e = rw e refl
-clean_test false false completed e = rw e refl
+clean_test : (failed passed : Bool) → (not failed && not (not (failed || passed))) ≡ (passed && not failed)
+clean_test true true = refl
+clean_test true false = refl
+clean_test false true = refl
+clean_test false false = refl
 
 -- A cycle that ends here had passed tests alone.
 clean_now : (past : Past) → ends_clean start_state past ≡ (has_passed (this_cycle (since_clear past)) && not (has_failed (this_cycle (since_clear past))))
 clean_now past =
-    ap (λ b. not b && not (not_completed_this_cycle start_state past)) (failed_now past)
-    ∙ clean_test (has_failed (this_cycle (since_clear past))) (has_passed (this_cycle (since_clear past))) (not (not_completed_this_cycle start_state past)) (completed_now past)
+    (λ i. not (failed_now past i) && not (untested_now past i))
+    ∙ clean_test (has_failed (this_cycle (since_clear past))) (has_passed (this_cycle (since_clear past)))
 
 pub cleared_where : (test before : Bool) → unwrap_or (cond test (Some false) None) before ≡ (before && not test)
 cleared_where true true = refl
