@@ -11,7 +11,7 @@ ghost use Rattle.flt_life.specs.Answers.{IsAnswerWithin, reply_in, with_reply};
 ghost use Rattle.flt_life.specs.Parts.{widths};
 ghost use Rattle.flt_life.specs.Room.{told_in};
 ghost use Rattle.flt_report.specs.Answer.{step_line};
-ghost use Rattle.flt_report.specs.Boot.{boot_line, script_fault_line, unread_line};
+ghost use Rattle.flt_report.specs.Boot.{script_fault_line, unread_line};
 ghost use Rattle.flt_report.specs.Left.{IsWritten};
 ghost use Rattle.flt_report.specs.Life.{block_text, lane_steps, lane_text, lanes_text, life_text, lines_text, parts_text};
 
@@ -246,45 +246,6 @@ fn put_parts<K: Sink>(
     Ok(())
 }
 
-/// Writes the lines of parts that were made, with the answers of lane 0 and those of the other lanes.
-fn write_parts<K: Sink>(
-    piece: &mut Vec<u8>,
-    parts: &[Part],
-    own: &LaneReplies,
-    told: &[LaneReplies],
-    sink: &mut K,
-) -> Result<(), StreamFault>
-    requires { widths (parts_of parts.now) + 1 < 2 ^ 32 }
-    ensures ok { OnOk result (Appends (K.held sink.old) (K.held sink.new) (parts_text 1 (parts_of parts.now) (told_in own.now) (map told_in told.now))) }
-    ensures err { OnErr result (AppendsFront (K.held sink.old) (K.held sink.new) (parts_text 1 (parts_of parts.now) (told_in own.now) (map told_in told.now))) }
-    ensures later { K.faults sink.old ≤ K.faults sink.new }
-    ensures cause { IsErrOf result StreamFault.Failed → Rose (K.faults sink.old) (K.faults sink.new) }
-{
-    piece.clear();
-    put_parts(piece, parts, own, told, sink)?;
-    sink.push(piece)?;
-    Ok(())
-}
-
-/// Writes the line that begins a life of this number.
-fn write_boot<K: Sink>(
-    line: &mut Vec<u8>,
-    number: u32,
-    boot: &Boot,
-    sink: &mut K,
-) -> Result<(), StreamFault>
-    requires { boot.now ≢ Refused Flash }
-    ensures ok { OnOk result (Appends (K.held sink.old) (K.held sink.new) (boot_line number boot.now)) }
-    ensures err { OnErr result (AppendsFront (K.held sink.old) (K.held sink.new) (boot_line number boot.now)) }
-    ensures later { K.faults sink.old ≤ K.faults sink.new }
-    ensures cause { IsErrOf result StreamFault.Failed → Rose (K.faults sink.old) (K.faults sink.new) }
-{
-    line.clear();
-    put_boot(number, boot, line)?;
-    sink.push(line)?;
-    Ok(())
-}
-
 /// Writes the lines of a life of this number: how it began, and the steps of its parts that were answered. `line` is used again for
 /// them.
 pub fn write_life<K: Sink>(
@@ -302,10 +263,17 @@ pub fn write_life<K: Sink>(
     ensures later { K.faults sink.old ≤ K.faults sink.new }
     ensures cause { IsErrOf result StreamFault.Failed → Rose (K.faults sink.old) (K.faults sink.new) }
 {
-    write_boot(line, number, boot, sink)?;
+    line.clear();
+    put_boot(number, boot, line)?;
+    sink.push(line)?;
     match boot {
         Boot::Started { .. } | Boot::Dark => match replies {
-            [own, told @ ..] => write_parts(line, parts, own, told, sink),
+            [own, told @ ..] => {
+                line.clear();
+                put_parts(line, parts, own, told, sink)?;
+                sink.push(line)?;
+                Ok(())
+            }
             [] => Ok(()),
         },
         Boot::Refused(_) => Ok(()),

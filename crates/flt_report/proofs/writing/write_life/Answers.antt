@@ -1,39 +1,66 @@
-use Rattle.std.proofs.Common.{◌≡◌, ◌-◌, ◌≤◌, ◌++◌, ℕ, List, [], ◌∷◌, take, drop, length, map, get_or, inl, inr, ap, sym, subst, arith, ◌∙◌}
-use Rattle.std.proofs.lemmas.Result.{on_err_weaker}
-use Rattle.std.specs.Prelude.{OnErr}
+use Rattle.std.proofs.Common.{◌≡◌, ◌-◌, ◌≤◌, ◌++◌, List, [], ◌∷◌, take, drop, length, map, get_or, inl, inr, ap, sym, subst, arith, ◌∙◌}
+use Rattle.std.specs.Io.KnownBytes.{Appends}
 use Rattle.flt_io.specs.Sink.{AppendsFront}
-use Rattle.flt_script.specs.Part.{parts_of}
+use Rattle.flt_script.specs.Part.{PartOf, parts_of}
+use Rattle.flt_script.specs.declared.step.Step.{Step}
 use Rattle.flt_life.specs.declared.life.Boot.{Boot}
 use Rattle.flt_life.specs.declared.replies.LaneReplies.{LaneReplies}
 use Rattle.flt_life.specs.Room.{told_in}
 use Rattle.flt_report.specs.Boot.{boot_line}
+use Rattle.flt_report.specs.Left.{IsWritten}
 use Rattle.flt_report.specs.Life.{made_text, parts_text, told_text}
 use Rattle.flt_report.proofs.PartsLeft.{range_is}
-use Rattle.flt_report.proofs.Written.{always_on_err, front_first, front_next}
+use Rattle.flt_report.proofs.Written.{always_on_err, front_first, front_next, stops, kept_last}
 use Rattle.flt_report.proofs.writing.write_life.Goals as goal
 
-pub returns-in_err-write_boot-clause-err : goal.returns-in_err-write_boot-clause-err
-returns-in_err-write_boot-clause-err g c =
-    always_on_err c.from_residual.result
-    (front_first _ _ (boot_line c.args.number c.args.boot.now) (made_text (parts_of c.args.parts.now) c.args.boot.now c.args.replies.now) c.in_err-write_boot.ensures.err)
+pub returns-in_err-push-clause-err : goal.returns-in_err-push-clause-err
+returns-in_err-push-clause-err g c =
+    let boot = c.args.boot.now in
+    let first = boot_line c.args.number boot in
+    let line : c.deref.result.now ≡ first = c.deref.ensures.value ∙ c.in_ok-put_boot.ensures.ok ∙ (λ i. c.clear.ensures.items i ++ first) in
+    always_on_err c.from_residual-in_err-push.result
+    (front_first _ _ first (made_text (parts_of c.args.parts.now) boot c.args.replies.now) (subst (AppendsFront (g.K.Sink.held c.args.sink.now) (g.K.Sink.held c.push.new.self)) line c.in_err-push.ensures.err))
 
-first_is : (replies : List LaneReplies) (own : LaneReplies) → 1 ≤ length replies → own ≡ get_or replies 0 own → replies ≡ own ∷ drop 1 replies
-first_is [] own some is = absurd (omega (arith, some))
-first_is (first ∷ rest) own some is = ap (λ one. one ∷ rest) (sym is)
+told_is : (parts : List (PartOf Step)) (replies : List LaneReplies) (own : LaneReplies) → 1 ≤ length replies → own ≡ get_or replies 0 own
+    → parts_text 1 parts (told_in own) (map told_in (take (length replies - 1) (drop 1 replies))) ≡ told_text parts replies
+told_is parts [] own some is = absurd (omega (arith, some))
+told_is parts (first ∷ rest) own some is = λ i. parts_text 1 parts (told_in (is i)) (map told_in (range_is 1 (first ∷ rest) i))
 
-pub returns-in-len1-up-clause-err : goal.returns-in-len1-up-clause-err
-returns-in-len1-up-clause-err g c =
+pub returns-in_err-put_parts-in-len1-up-clause-err : goal.returns-in_err-put_parts-in-len1-up-clause-err
+returns-in_err-put_parts-in-len1-up-clause-err g c =
     let parts = parts_of c.args.parts.now in
+    let boot = c.args.boot.now in
     let replies = c.args.replies.now in
-    let first = boot_line c.args.number c.args.boot.now in
+    let first = boot_line c.args.number boot in
     let text = parts_text 1 parts (told_in c.own-item.result) (map told_in (take (length replies - 1) (drop 1 replies))) in
-    let made : made_text parts c.args.boot.now replies ≡ told_text parts replies = elim c.in-Started.is [
+    let line : c.deref.result.now ≡ first = c.deref.ensures.value ∙ c.in_ok-put_boot.ensures.ok ∙ (λ i. c.clear.ensures.items i ++ first) in
+    let begun = subst (Appends (g.K.Sink.held c.args.sink.now) (g.K.Sink.held c.push.new.self)) line c.in_ok-push.ensures.ok in
+    let made : made_text parts boot replies ≡ told_text parts replies = elim c.in-Started.is [
       | inl is ↦ ap (λ (boot : Boot). made_text parts boot replies) is.2
       | inr is ↦ ap (λ (boot : Boot). made_text parts boot replies) is
     ] in
-    let whole = first_is replies c.own-item.result c.in-len1-up.len_at_least c.own-item.is in
-    let rest = range_is 1 replies in
-    let told : told_text parts replies ≡ text =
-    ap (told_text parts) whole ∙ ap (λ (rest : List LaneReplies). parts_text 1 parts (told_in c.own-item.result) (map told_in rest)) (sym rest) in
-    subst (λ (made : List ℕ). OnErr c.write_parts.result (AppendsFront (g.K.Sink.held c.args.sink.now) (g.K.Sink.held c.write_parts.new.sink) (first ++ made))) (sym (made ∙ told))
-    (on_err_weaker c.write_parts.result (λ front. front_next _ _ _ first text c.in_ok-write_boot.ensures.ok front) c.write_parts.ensures.err)
+    let told : text ≡ made_text parts boot replies = told_is parts replies c.own-item.result c.in-len1-up.len_at_least c.own-item.is ∙ sym made in
+    let front = subst (λ kept. AppendsFront (g.K.Sink.held c.push.new.self) (g.K.Sink.held c.put_parts.new.sink) (kept ++ text)) c.clear-in-len1-up.ensures.items c.in_err-put_parts-in-len1-up.ensures.err in
+    always_on_err c.from_residual-in_err-put_parts-in-len1-up.result
+    (front_next _ _ _ first (made_text parts boot replies) begun (subst (AppendsFront (g.K.Sink.held c.push.new.self) (g.K.Sink.held c.put_parts.new.sink)) told front))
+
+pub returns-in_err-push-in-len1-up-clause-err : goal.returns-in_err-push-in-len1-up-clause-err
+returns-in_err-push-in-len1-up-clause-err g c =
+    let parts = parts_of c.args.parts.now in
+    let boot = c.args.boot.now in
+    let replies = c.args.replies.now in
+    let first = boot_line c.args.number boot in
+    let text = parts_text 1 parts (told_in c.own-item.result) (map told_in (take (length replies - 1) (drop 1 replies))) in
+    let line : c.deref.result.now ≡ first = c.deref.ensures.value ∙ c.in_ok-put_boot.ensures.ok ∙ (λ i. c.clear.ensures.items i ++ first) in
+    let begun = subst (Appends (g.K.Sink.held c.args.sink.now) (g.K.Sink.held c.push.new.self)) line c.in_ok-push.ensures.ok in
+    let made : made_text parts boot replies ≡ told_text parts replies = elim c.in-Started.is [
+      | inl is ↦ ap (λ (boot : Boot). made_text parts boot replies) is.2
+      | inr is ↦ ap (λ (boot : Boot). made_text parts boot replies) is
+    ] in
+    let told : text ≡ made_text parts boot replies = told_is parts replies c.own-item.result c.in-len1-up.len_at_least c.own-item.is ∙ sym made in
+    let kept = c.put_parts.new.piece.items in
+    let on = subst (λ before. IsWritten (g.K.Sink.held c.push.new.self) (g.K.Sink.held c.put_parts.new.sink) kept (before ++ text)) c.clear-in-len1-up.ensures.items c.in_ok-put_parts-in-len1-up.ensures.ok in
+    let front = subst (AppendsFront (g.K.Sink.held c.put_parts.new.sink) (g.K.Sink.held c.push-in-len1-up.new.self)) c.deref-in-len1-up.ensures.value c.in_err-push-in-len1-up.ensures.err in
+    let whole = stops _ _ kept [] text (kept_last _ _ kept text on) _ front in
+    always_on_err c.from_residual-in_err-push-in-len1-up.result
+    (front_next _ _ _ first (made_text parts boot replies) begun (subst (AppendsFront (g.K.Sink.held c.push.new.self) (g.K.Sink.held c.push-in-len1-up.new.self)) told whole))
