@@ -1,13 +1,10 @@
 //! A whole life on two locks, from the state that a start-up restored to the unit for the next one, and such lives over a device.
-ghost use Rattle.std.specs.Prelude.{◌+◌, ◌≤◌, All, IfSome, length, sum_by};
 ghost use Rattle.std.specs.Thread.{IsSync};
 ghost use Rattle.flt_flash.specs.Blocks.{device_of};
 ghost use Rattle.flt_did.specs.Serves.{Serves};
 ghost use Rattle.flt_did.specs.Table.{dids_of};
-ghost use Rattle.flt_script.specs.Part.{parts_of};
-ghost use Rattle.flt_life.specs.Lives.{ArePlayed, AreEnded, AreGiven, arms_given, lists, lives_seen};
-ghost use Rattle.flt_life.specs.Parts.{IsPossiblePart, arms_in, steps_in, widths};
-ghost use Rattle.flt_lives.specs.Devices.{IsRunOn, BeginsLives, DeviceStaysSound};
+ghost use Rattle.flt_life.specs.Lives.{lists};
+ghost use Rattle.flt_lives.specs.Devices.{CanLiveOn, LivesOn};
 ghost use Rattle.flt_shared.specs.Boxed.{config_in};
 
 use arrayvec::ArrayVec;
@@ -119,20 +116,9 @@ pub fn run_in_lanes<R: Threads + Wait + Sync, G: SharedGate, D: Driver>(
 ) -> Run<D::Device>
     requires served { Serves (dids_of dids) config.now.events.items }
     requires serves { D.serves config.now (D.device_state device) }
-    requires boots { length lives.now ≤ (D.device_state device).bench.boots_left }
-    requires few { sum_by (λ life. sum_by steps_in (parts_of life.items)) lives.now ≤ 65536 }
-    requires small { sum_by (λ life. length life.items + widths (parts_of life.items)) lives.now ≤ 1048577 }
-    requires possible { All (λ life. All (IsPossiblePart config.now) (parts_of life.items)) lives.now }
-    requires arms { (D.device_state device).bench.armed + sum_by (λ life. sum_by arms_in (parts_of life.items)) lives.now ≤ 64 }
-    ensures linked { IfSome result.lives (λ lived.
-        IsRunOn (D.medium config.now) config.now (D.device_state device) (D.device_state result.device) (lives_seen (lists lives.now) lived.items)) }
-    ensures played { IfSome result.lives (λ lived. ArePlayed config.now (lives_seen (lists lives.now) lived.items)) }
-    ensures ended { IfSome result.lives (λ lived. AreEnded (length lives.now) (lives_seen (lists lives.now) lived.items)) }
-    ensures given { IfSome result.lives (λ lived. AreGiven
-        (arms_given (length (D.device_state device).bench.boots) (lives_seen (lists lives.now) lived.items))
-        (D.device_state device).bench.arms (D.device_state result.device).bench.arms) }
-    ensures begun { BeginsLives (length lives.now) (device_of (D.device_state device)) (device_of (D.device_state result.device)) }
-    ensures sound { DeviceStaysSound (D.medium config.now) config.now (D.device_state device) (D.device_state result.device) }
+    requires ready { CanLiveOn config.now (device_of (D.device_state device)) lives.now }
+    ensures { LivesOn (D.medium config.now) config.now (device_of (D.device_state device)) (device_of (D.device_state result.device))
+        (lists lives.now) result.lives }
 {
     match BoxedUnit::make(alloc, config.twin(), dids) {
         Ok(unit) => run_on_device::<D, LockEngine<'_, R, G>>(

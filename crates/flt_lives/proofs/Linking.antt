@@ -2,6 +2,7 @@
 use Rattle.std.proofs.Common.{◌≡◌, inl, inr, ⊎_elim, ℕ, ◌+◌, ◌<◌, ◌≤◌, Bool, true, false, cond, List, [], ◌∷◌, ◌++◌, length, drop, reverse, Option, Some, None, refl, sym, ap, subst, arith, ◌∙◌, append_assoc, rules}
 use Rattle.std.specs.Prelude.{◌==◌, All, IfSome, IsSomeAnd, find}
 use Rattle.std.proofs.lemmas.List.{append-nil, length-append}
+use Rattle.std.proofs.lemmas.Option.{IfSome_then}
 use Rattle.std.proofs.Math.Seq.{drop-append_seam}
 use Rattle.std.proofs.lemmas.Grind.{reverse_onto}
 use Rattle.std.proofs.lemmas.List.Elements.{All-append, All-weaker, All-head, All-tail, All-nil}
@@ -162,20 +163,10 @@ all_linked c medium earlier arms next (boot ∷ boots) (life ∷ lives) (count �
     let as_many = linked.2 in
     let same : earlier + length counts + 1 ≡ earlier + length boots + 1 = omega (arith, as_many) in
     let ended = start_count arms (earlier + length boots + 1) next.faults in
-    let rose : HasRisenBy 0 count ended = start_past (earlier + length boots + 1) count next.faults arms (subst (λ n. IfSome arms (λ made. All (IsPast n count) made)) same (first_past earlier count counts arms past)) linked.1 in (
+    let rose : HasRisenBy 0 count ended = start_past (earlier + length boots + 1) count next.faults arms (subst (λ n. IfSome arms (λ made. All (IsPast n count) made)) same (IfSome_then arms past (λ made each. each.0))) linked.1 in (
       holds_by_later c (moment_at medium boot) (moment_at medium next) count ended rose life life.boot linked.0,
-      all_linked c medium earlier arms boot boots lives counts (rest_past earlier count counts arms past) linked.3,
+      all_linked c medium earlier arms boot boots lives counts (IfSome_then arms past (λ made each. each.1)) linked.3,
     )
-  where
-    first_past : (earlier count : ℕ) (counts : List ℕ) (arms : Option (List ArmMade)) → IfSome arms (λ made. ArePast earlier (count ∷ counts) made)
-        → IfSome arms (λ made. All (IsPast (earlier + length counts + 1) count) made)
-    first_past earlier count counts None past = tt
-    first_past earlier count counts (Some made) past = past.0
-
-    rest_past : (earlier count : ℕ) (counts : List ℕ) (arms : Option (List ArmMade)) → IfSome arms (λ made. ArePast earlier (count ∷ counts) made)
-        → IfSome arms (λ made. ArePast earlier counts made)
-    rest_past earlier count counts None past = tt
-    rest_past earlier count counts (Some made) past = past.1
 
 between_past : (earlier : ℕ) (counts : List ℕ) (before now : Option (List ArmMade)) → IfSome now (λ made. IsSomeAnd before (λ first. MadeInRun earlier counts first made))
     → IfSome (arms_between before now) (λ made. ArePast earlier counts made)

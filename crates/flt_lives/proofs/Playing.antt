@@ -203,11 +203,12 @@ life_more start parts own lanes journal after step told life carried =
 abbrev pub alone_view : List (PartOf Step) → Boot → Journal → List Told → LifeView
 alone_view parts boot journal own = record { parts = parts; boot = boot; journal = journal; queue = []; own = own; lanes = [] }
 
-pub alone_is : (life : LifeView) (parts : List (PartOf Step)) (boot : Boot) (journal : Journal) (queue : List (Entry QueueOp)) (own : List Told) (told : List LaneReplies) → queue ≡ [] → told ≡ []
+-- What holds of it.
+pub alone : (P : LifeView → Type 0) {life : LifeView} {parts : List (PartOf Step)} {boot : Boot} (journal : Journal) {queue : List (Entry QueueOp)} {own : List Told} {told : List LaneReplies} → queue ≡ [] → told ≡ []
     → life ≡ record { parts = parts; boot = boot; journal = reverse journal; queue = reverse queue; own = own; lanes = map told_in told }
-    → life ≡ alone_view parts boot (reverse journal) own
-alone_is life parts boot journal queue own told none no_lanes is =
-    is ∙ (λ i. record { parts = parts; boot = boot; journal = reverse journal; queue = reverse (none i); own = own; lanes = map told_in (no_lanes i) })
+    → P (alone_view parts boot (reverse journal) own) → P life
+alone P {parts = parts} {boot = boot} journal {own = own} none no_lanes is =
+    subst P (sym (is ∙ (λ i. record { parts = parts; boot = boot; journal = reverse journal; queue = reverse (none i); own = own; lanes = map told_in (no_lanes i) })))
 
 pub played_by : (c : Config) (parts : List (PartOf Step)) (generation : ℕ) (state start : Persist) (journal : Journal) (own : List Told) → start ≡ state
     → IsLife (start_from c state) parts own [] journal []

@@ -97,12 +97,6 @@ response_fits account action room =
     let fits = room.responses in
     omega (arith, sum, fits)
 
-pub calls_fit : (account : Account) (action : Action) → HasRoomFor account (action ∷ []) → vec_len account.journal + call_count action ≤ vec_capacity account.journal
-calls_fit account action room =
-    let sum = sum_by-cons call_count action [] in
-    let fits = room.calls in
-    omega (arith, sum, fits)
-
 -- The room that a step leaves for the others.
 pub room_after : (before after : Account) (action : Action) (rest : List Action) → HasRoomFor before (action ∷ rest) → vec_len after.journal ≤ vec_len before.journal + call_count action
     → vec_capacity after.journal ≡ vec_capacity before.journal → vec_len after.replies.answers ≡ vec_len before.replies.answers + 1

@@ -26,7 +26,7 @@ use Rattle.flt_life.specs.declared.life.Boot.{Boot}
 use Rattle.flt_flash.specs.State.{HasRisenBy}
 use Rattle.flt_life.specs.Answers.{Told}
 use Rattle.flt_life.specs.Causes.{AreCaused}
-use Rattle.flt_life.specs.Going.{ArmsSince, GoesOn, AddsLife}
+use Rattle.flt_life.specs.Going.{ArmsSince, GoesOn}
 use Rattle.flt_life.proofs.Riding.{goes_nowhere}
 
 -- A fault that does not make the life dark.
@@ -79,18 +79,6 @@ pub same_moment : (before after : BlocksState) → PowersUpDriver before after �
 same_moment before after powers = ap moment_of powers.rest
 
 module _ (first second : BlocksState) (powers : PowersUpDriver first second) where
-  pub adds_life : (third : BlocksState) → GoesOn second third → AddsLife first third
-  adds_life third goes =
-      let same : second.device.faults ≡ first.device.faults = ap (λ (d : BlocksState). d.device.faults) powers.rest in
-      let rises = goes.counts in
-      record {
-        numbers = goes.numbers ∙ ap (λ (d : BlocksState). d.numbers) powers.rest;
-        room = goes.room ∙ ap (λ (d : BlocksState). d.room) powers.rest;
-        counts = omega (arith, same, rises);
-        boots = goes.boots ∙ powers.bench.boots;
-        boots_left = goes.boots_left ∙ powers.bench.boots_left;
-      }
-
   pub life_arms : (third fourth : BlocksState) → Follows second third → GoesOn third fourth
       → ArmsSince (length first.device.bench.boots + 1) third.device.faults first.device.bench.arms fourth.device.bench.arms
   life_arms third fourth follows goes =

@@ -1,20 +1,39 @@
--- Lives over a device, of whatever kind.
-use Rattle.std.specs.Prelude.{◌≡◌, ℕ, ◌≤◌, List, [], ◌∷◌, ◌++◌, length}
+-- Lives over a device, of whatever kind: what must hold for them to be made, and what they leave.
+use Rattle.std.specs.Prelude.{◌≡◌, ℕ, ◌+◌, ◌≤◌, List, [], ◌∷◌, ◌++◌, length, sum_by, All, Option, IfSome, Vec}
 use Rattle.flt_flash.specs.State.{FlashState, PowerUp}
+use Rattle.flt_flash.specs.Blocks.{DeviceState}
 use Rattle.flt_config.specs.declared.config.Config.{Config}
 use Rattle.flt_config.specs.Validity.{IsValid}
-use Rattle.flt_flash.specs.Blocks.{DeviceState, device_of}
+use Rattle.flt_script.specs.declared.step.Part.{Part}
+use Rattle.flt_script.specs.declared.step.Step.{Step}
+use Rattle.flt_script.specs.Part.{PartOf, parts_of}
+use Rattle.flt_life.specs.declared.life.Life.{Life}
+use Rattle.flt_life.specs.Lives.{ArePlayed, AreEnded, AreGiven, IsLinked, StaysSound, arms_given, lives_seen}
 use Rattle.flt_life.specs.Moment.{Medium, moment_at, boot_in}
-use Rattle.flt_life.specs.Chain.{LifeView}
-use Rattle.flt_life.specs.Lives.{StaysSound, IsLinked}
+use Rattle.flt_life.specs.Parts.{IsPossiblePart, arms_in, steps_in, widths}
 
--- The lives of a run over a device that keeps blocks so, between its boots.
-abbrev pub IsRunOn : Medium → Config → FlashState → FlashState → List LifeView → Type 0
-IsRunOn medium c before after lives = IsLinked c medium (device_of before) (device_of after) lives
+-- Lives can be made on a device: it has a boot for each, their parts are possible, and their steps, their parts with the lanes of these,
+-- and the arms are few.
+pub record CanLiveOn {A : Type 0} (c : Config) (device : DeviceState) (lives : List (Vec Part A)) : Type 0 where
+  pub boots : length lives ≤ device.bench.boots_left
+  pub few : sum_by (λ life. sum_by steps_in (parts_of life.items)) lives ≤ 65536
+  pub small : sum_by (λ life. length life.items + widths (parts_of life.items)) lives ≤ 1048577
+  pub possible : All (λ life. All (IsPossiblePart c) (parts_of life.items)) lives
+  pub arms : device.bench.armed + sum_by (λ life. sum_by arms_in (parts_of life.items)) lives ≤ 64
+
+-- The lives of a script over a device that keeps blocks so, between its boots: the journals of the status machine and of the queue of write
+-- jobs have the calls of its steps, in the order of its parts, and each answer is that of its machine at its place, or the store's; none
+-- but the last is refused, and else there are as many as asked; they are linked by the boots of the device; and the arms that were given
+-- are those of their steps, each in its life.
+pub record AreLivedOn (medium : Medium) (c : Config) (before after : DeviceState) (script : List (List (PartOf Step))) (lives : List Life) : Type 0 where
+  pub played : ArePlayed c (lives_seen script lives)
+  pub ended : AreEnded (length script) (lives_seen script lives)
+  pub linked : IsLinked c medium before after (lives_seen script lives)
+  pub given : AreGiven (arms_given (length before.bench.boots) (lives_seen script lives)) before.bench.arms after.bench.arms
 
 -- A sound image of a device stays sound.
-abbrev pub DeviceStaysSound : Medium → Config → FlashState → FlashState → Type 0
-DeviceStaysSound medium c before after = StaysSound c (moment_at medium (boot_in (device_of before))) (moment_at medium (boot_in (device_of after)))
+abbrev pub DeviceStaysSound : Medium → Config → DeviceState → DeviceState → Type 0
+DeviceStaysSound medium c before after = StaysSound c (moment_at medium (boot_in before)) (moment_at medium (boot_in after))
 
 -- The first of these power-ups found a device as it was before them; without one it is still so.
 abbrev pub BeginsFrom : DeviceState → DeviceState → List PowerUp → Type 0
@@ -28,6 +47,14 @@ pub record BeginsLives (most : ℕ) (before after : DeviceState) : Type 0 where
   pub boots : after.bench.boots ≡ before.bench.boots ++ begun
   pub few : length begun ≤ most
   pub from : BeginsFrom before after begun
+
+-- What the lives of a script leave: the lives, if memory was not wanting; and whether it was or not, a boot for each life that was begun,
+-- and a sound image where there was one.
+pub record LivesOn {A : Type 0} (medium : Medium) (c : Config) (before after : DeviceState) (script : List (List (PartOf Step)))
+    (lives : Option (Vec Life A)) : Type 0 where
+  pub lived : IfSome lives (λ lives. AreLivedOn medium c before after script lives.items)
+  pub begun : BeginsLives (length script) before after
+  pub sound : DeviceStaysSound medium c before after
 
 -- A device that serves so has room for the blocks of an image under each valid configuration.
 abbrev pub ServesAll : (Config → FlashState → Type 0) → FlashState → Type 0

@@ -10,7 +10,7 @@ ghost use Rattle.flt_life.specs.Lives.{AreEnded, AreGiven, ArePlayed, IsLinked, 
 ghost use Rattle.flt_life.specs.Moment.{Medium, moment_of};
 ghost use Rattle.flt_life.specs.Parts.{IsPossiblePart, arms_in, steps_in, widths};
 ghost use Rattle.flt_life.specs.Played.{IsPlayed};
-ghost use Rattle.flt_lives.specs.Devices.{BeginsLives};
+ghost use Rattle.flt_lives.specs.Devices.{BeginsLives, CanLiveOn};
 ghost use Rattle.flt_lives.specs.Living.{IsLived};
 ghost use Rattle.flt_lives.specs.Linked.{KeepsOn};
 
@@ -117,11 +117,7 @@ pub fn run_lives<D: Blocks + Drop, E: Engine<D> + Drop>(
     requires same { E.machine_config engine ≡ config.now }
     requires can { All (λ life. E.can_make (parts_of life.items)) lives.now }
     requires room { HasRoom config.now (driver_of store.old).room }
-    requires boots { length lives.now ≤ (driver_of store.old).device.bench.boots_left }
-    requires few { sum_by (λ life. sum_by steps_in (parts_of life.items)) lives.now ≤ 65536 }
-    requires small { sum_by (λ life. length life.items + widths (parts_of life.items)) lives.now ≤ 1048577 }
-    requires possible { All (λ life. All (IsPossiblePart config.now) (parts_of life.items)) lives.now }
-    requires arms { (driver_of store.old).device.bench.armed + sum_by (λ life. sum_by arms_in (parts_of life.items)) lives.now ≤ 64 }
+    requires ready { CanLiveOn config.now (driver_of store.old).device lives.now }
     ensures linked { (medium : Medium) → KeepsOn D.Blocks config.now medium → IfOk result (λ lived.
         IsLinked config.now medium (driver_of store.old).device (driver_of store.new).device (lives_seen (lists lives.now) lived.items)) }
     ensures played { IfOk result (λ lived. ArePlayed config.now (lives_seen (lists lives.now) lived.items)) }

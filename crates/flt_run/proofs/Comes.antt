@@ -1,25 +1,37 @@
 -- What a run came to, by whether lives of a script were made.
-use Rattle.std.proofs.Common.{List, Option, None, Some}
-use Rattle.std.specs.Prelude.{IfSome, option_map}
+use Rattle.std.proofs.Common.{◌≡◌, Global, List, Option, None, Some, subst}
+use Rattle.std.specs.Prelude.{IfSome, Vec, option_map}
+use Rattle.flt_flash.specs.Blocks.{device_of}
 use Rattle.flt_config.specs.declared.config.DidUse.{DidUse}
+use Rattle.flt_generation.specs.Laws.{IsGiven}
 use Rattle.flt_script.specs.Script.{ScriptContent}
+use Rattle.flt_life.specs.declared.life.Life.{Life}
+use Rattle.flt_life.specs.Lives.{lists}
+use Rattle.flt_lives.specs.Devices.{LivesOn}
 use Rattle.flt_run.specs.declared.command.Command.{Command}
 use Rattle.flt_run.specs.declared.ending.Ending.{Ending}
 use Rattle.flt_run.specs.declared.made.Made.{Made}
-use Rattle.flt_run.specs.Ending.{ComesTo, EndingHasCause, Inside, IsLivedBy, IsScriptOf, IsUntouched, MakesLives}
+use Rattle.flt_run.specs.Ending.{AreLived, ComesTo, EndingHasCause, Inside, IsLivedBy, IsScriptOf, IsUntouched}
 
 module _ (dids : List DidUse) (inside : Inside) (command : Option Command) where
   -- No life was made.
   pub untouched : (ending : Option Ending) → IfSome ending (EndingHasCause dids inside command None) → IsUntouched inside → ComesTo dids inside command ending
   untouched ending ends same = record { script = None; works = tt; ends = ends; begun = tt; sound = same }
 
-  mapped : (end : Made → Ending) (made : Option Made) (script : ScriptContent) → IfSome made (IsLivedBy inside.media script inside.device inside.device_after)
-      → ((one : Made) → IsLivedBy inside.media script inside.device inside.device_after one → EndingHasCause dids inside command (Some script) (end one))
-      → IfSome (option_map end made) (EndingHasCause dids inside command (Some script))
-  mapped end None script lived cause = tt
-  mapped end (Some one) script lived cause = cause one lived
-
   -- Lives of a script were made, if memory was not wanting.
-  pub lived : (end : Made → Ending) (made : Option Made) (script : ScriptContent) → IsScriptOf dids inside command script → MakesLives inside.media script inside.device inside.device_after made
-      → ((one : Made) → IsLivedBy inside.media script inside.device inside.device_after one → EndingHasCause dids inside command (Some script) (end one)) → ComesTo dids inside command (option_map end made)
-  lived end made script of makes cause = record { script = Some script; works = (makes.valid, of); ends = mapped end made script makes.lived cause; begun = makes.begun; sound = makes.sound }
+  module _ (end : Made → Ending) (script : ScriptContent) (valid : IsGiven script.config) (lives : Option (Vec Life Global))
+           (left : LivesOn (inside.media script.config) script.config (device_of inside.device) (device_of inside.device_after) script.lives lives)
+           (cause : (one : Made) → IsLivedBy inside.media script inside.device inside.device_after one → EndingHasCause dids inside command (Some script) (end one)) where
+    ends : (made : Option Made) → IfSome made (λ one. (lists one.script.items ≡ script.lives) × (lives ≡ Some one.lives))
+        → IfSome (option_map end made) (EndingHasCause dids inside command (Some script))
+    ends None is = tt
+    ends (Some one) is =
+        cause one record {
+          script_is = is.0;
+          valid = valid;
+          lived = subst (λ lives. IfSome lives (λ lives. AreLived inside.media script inside.device inside.device_after lives.items)) is.1 left.lived;
+        }
+
+    pub lived : (made : Option Made) → IsScriptOf dids inside command script → IfSome made (λ one. (lists one.script.items ≡ script.lives) × (lives ≡ Some one.lives))
+        → ComesTo dids inside command (option_map end made)
+    lived made of is = record { script = Some script; works = (valid, of); ends = ends made is; begun = left.begun; sound = left.sound }

@@ -1,28 +1,26 @@
 -- The lives of a script, as they were made; no life is refused for the flash: it is dark instead.
-use Rattle.std.proofs.Common.{◌≡◌, ◌≢◌, ◌∙◌, ℕ, ◌<◌, arith, List, [], ◌∷◌, length, reverse, Option, None, Some, ap, sym, subst, Global}
+use Rattle.std.proofs.Common.{◌≡◌, ◌≢◌, ℕ, ◌<◌, ◌≤◌, arith, List, [], ◌∷◌, length, reverse, Option, sym, subst}
 use Rattle.std.specs.Prelude.{All, IfSome, Vec}
 use Rattle.std.proofs.lemmas.List.{length-map, reverse-append, reverse-reverse}
+use Rattle.std.proofs.lemmas.Option.{IfSome_then}
 use Rattle.std.proofs.lemmas.List.Elements.{All-nil, All-cons, All-head, All-tail, All-append}
 use Rattle.flt_flash.specs.declared.arm.ArmMade.{ArmMade}
-use Rattle.flt_flash.specs.State.{FlashState, PowerUp}
+use Rattle.flt_flash.specs.Blocks.{DeviceState}
+use Rattle.flt_flash.specs.State.{PowerUp}
 use Rattle.flt_config.specs.declared.config.Config.{Config}
-use Rattle.flt_generation.specs.Laws.{IsGiven}
 use Rattle.flt_restore.specs.declared.fault.StartFault.TheVariants.{Flash}
+use Rattle.flt_script.specs.declared.script.Script.{Script}
+use Rattle.flt_script.specs.declared.step.Step.{Step}
+use Rattle.flt_script.specs.Part.{PartOf, parts_of}
 use Rattle.flt_life.specs.declared.life.Boot.{Boot}
 use Rattle.flt_life.specs.declared.life.Boot.TheVariants.{Refused}
 use Rattle.flt_life.specs.declared.life.Life.{Life}
 use Rattle.flt_life.specs.Chain.{LifeView, IsLifeBegunBy, AreLinked}
-use Rattle.flt_life.specs.Lives.{AreEnded, AreGiven, ArePlayed, arms_given, lists, lives_seen, view_of, views_of}
+use Rattle.flt_life.specs.Lives.{lists, lives_seen, view_of, views_of}
 use Rattle.flt_life.specs.Moment.{Moment, Medium, moment_at}
-use Rattle.flt_flash.specs.Blocks.{DeviceState}
-use Rattle.flt_lives.specs.Devices.{IsRunOn, BeginsLives}
-use Rattle.flt_script.specs.declared.script.Script.{Script}
-use Rattle.flt_script.specs.declared.step.Part.{Part}
-use Rattle.flt_script.specs.declared.step.Step.{Step}
-use Rattle.flt_script.specs.Part.{PartOf, parts_of}
-use Rattle.flt_script.specs.Script.{content}
+use Rattle.flt_lives.specs.Devices.{CanLiveOn, LivesOn}
+use Rattle.flt_report.proofs.Possible.{all_arms_same, all_widths_same, possible_lives}
 use Rattle.flt_run.specs.declared.made.Made.{Made}
-use Rattle.flt_run.specs.Ending.{IsLivedBy}
 
 not_flash : (c : Config) (boot next : Moment) (ended : ℕ) (life : LifeView) → IsLifeBegunBy c boot next ended life life.boot → life.boot ≢ Refused Flash
 not_flash c boot next ended life holds = λ is. (subst (IsLifeBegunBy c boot next ended life) is holds).0
@@ -55,9 +53,9 @@ pub all_of_seen : (P : Boot → Type 0) (script : List (List (PartOf Step))) (li
 all_of_seen P script lives all =
     all_of_views P script lives (subst (All (λ (life : LifeView). P life.boot)) (reverse-reverse (views_of script lives)) (turned (λ (life : LifeView). P life.boot) (lives_seen script lives) all))
 
-pub none_by_flash : (c : Config) (medium : Medium) (arms : Option (List ArmMade)) (earlier : ℕ) (next : PowerUp) (boots : List PowerUp) (script : List (List (PartOf Step))) (lives : List Life)
+none_refused_by_flash : (c : Config) (medium : Medium) (arms : Option (List ArmMade)) (earlier : ℕ) (next : PowerUp) (boots : List PowerUp) (script : List (List (PartOf Step))) (lives : List Life)
     → AreLinked c medium arms earlier next boots (lives_seen script lives) → All (λ (life : Life). life.boot ≢ Refused Flash) lives
-none_by_flash c medium arms earlier next boots script lives linked = all_of_seen (λ b. b ≢ Refused Flash) script lives (views_not_flash c medium arms earlier next boots (lives_seen script lives) linked)
+none_refused_by_flash c medium arms earlier next boots script lives linked = all_of_seen (λ b. b ≢ Refused Flash) script lives (views_not_flash c medium arms earlier next boots (lives_seen script lives) linked)
 
 -- ---- the lives of a script
 
@@ -70,35 +68,24 @@ some_lives script made is =
     let same : length (lists made.script.items) ≡ length script = λ i. length (is i) in
     omega (arith, size, some, many, same)
 
-pub if_some : {A : Type 0} {P Q : A → Type 0} (o : Option A) → ((x : A) → P x → Q x) → IfSome o P → IfSome o Q
-if_some None weaker holds = tt
-if_some (Some x) weaker holds = weaker x holds
-
--- As many lives were begun as the script may have.
-pub begun_by : (script : Script) (lives : List (Vec Part Global)) → lives ≡ script.lives.items → (before after : DeviceState) → BeginsLives (length lives) before after
-    → BeginsLives (length (content script).lives) before after
-begun_by script lives is before after =
-    subst (λ many. BeginsLives many before after) (ap length is ∙ sym (length-map script.lives.items (λ (life : Vec Part Global). parts_of life.items)))
-
-pub lived_by : (media : Config → Medium) (script : Script) (lives : List (Vec Part Global)) (is : lives ≡ script.lives.items) (before after : FlashState) (run : Option (Vec Life Global)) (made : Made)
-    → IsGiven script.config
-    → lists made.script.items ≡ lists script.lives.items → run ≡ Some made.lives
-    → IfSome run (λ lived. IsRunOn (media script.config) script.config before after (lives_seen (lists lives) lived.items))
-    → IfSome run (λ lived. ArePlayed script.config (lives_seen (lists lives) lived.items))
-    → IfSome run (λ lived. AreEnded (length lives) (lives_seen (lists lives) lived.items))
-    → IfSome run (λ lived. AreGiven (arms_given (length before.bench.boots) (lives_seen (lists lives) lived.items)) before.bench.arms after.bench.arms)
-    → IsLivedBy media (content script) before after made
-lived_by media script lives is before after run made valid script_is ran linked played ended given =
-    let seen : lives_seen (lists lives) made.lives.items ≡ lives_seen (lists script.lives.items) made.lives.items = λ i. lives_seen (lists (is i)) made.lives.items in
+-- A device can bear the lives of a script: with a boot for each of as many as it may have, and with no arm yet.
+pub can_live : (script : Script) (device : DeviceState) → 256 ≤ device.bench.boots_left → device.bench.armed ≡ 0 → CanLiveOn script.config device script.lives.items
+can_live script device boots unarmed =
+    let lives = script.few_lives in
+    let steps = script.few in
+    let widths = all_widths_same script.lives.items in
+    let parts = script.few_parts in
+    let arms = all_arms_same script.lives.items in
+    let armed = script.few_arms in
     record {
-      script_is = script_is;
-      lived = record {
-        valid = valid;
-        played = subst (ArePlayed script.config) seen (subst (λ run. IfSome run (λ lived. ArePlayed script.config (lives_seen (lists lives) lived.items))) ran played);
-        ended = subst (λ many. AreEnded many (lives_seen (lists script.lives.items) made.lives.items)) (ap length is ∙ sym (length-map script.lives.items (λ (life : Vec Part Global). parts_of life.items)))
-            (subst (AreEnded (length lives)) seen (subst (λ run. IfSome run (λ lived. AreEnded (length lives) (lives_seen (lists lives) lived.items))) ran ended));
-        linked = subst (IsRunOn (media script.config) script.config before after) seen (subst (λ run. IfSome run (λ lived. IsRunOn (media script.config) script.config before after (lives_seen (lists lives) lived.items))) ran linked);
-        given = subst (λ lives. AreGiven (arms_given (length before.bench.boots) lives) before.bench.arms after.bench.arms) seen
-            (subst (λ run. IfSome run (λ lived. AreGiven (arms_given (length before.bench.boots) (lives_seen (lists lives) lived.items)) before.bench.arms after.bench.arms)) ran given);
-      };
+      boots = omega (arith, lives, boots);
+      few = steps;
+      small = omega (arith, widths, parts);
+      possible = possible_lives script.config script.lives.items script.in_range;
+      arms = omega (arith, arms, armed, unarmed);
     }
+
+pub none_by_flash : {A : Type 0} (c : Config) (medium : Medium) (before after : DeviceState) (script : List (List (PartOf Step))) (lives : Option (Vec Life A)) → LivesOn medium c before after script lives
+    → IfSome lives (λ lives. All (λ (life : Life). life.boot ≢ Refused Flash) lives.items)
+none_by_flash c medium before after script lives left =
+    IfSome_then lives left.lived (λ one lived. none_refused_by_flash c medium _ _ _ lived.linked.boots script one.items lived.linked.linked)

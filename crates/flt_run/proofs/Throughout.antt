@@ -1,6 +1,6 @@
 -- Where the first image of a run is sound, each is.
 use Rattle.std.proofs.Common.{◌≡◌, ◌≢◌, ◌⊎◌, ◌∙◌, ℕ, ◌<◌, List, [], ◌∷◌, ◌++◌, length, reverse, Option, None, Some, refl, sym, subst, ap, inl, inr, arith}
-use Rattle.std.specs.Prelude.{All, IfSome, IsSomeAnd}
+use Rattle.std.specs.Prelude.{All, IsSomeAnd}
 use Rattle.std.proofs.lemmas.List.{reverse-append}
 use Rattle.std.proofs.lemmas.List.Elements.{All-head, All-tail}
 use Rattle.flt_flash.specs.declared.arm.ArmMade.{ArmMade}
@@ -28,7 +28,7 @@ use Rattle.flt_run.specs.declared.command.Command.{Command}
 use Rattle.flt_run.specs.declared.ending.Ending.{Ending}
 use Rattle.flt_run.specs.declared.ending.Ending.TheVariants.{Usage, Unreadable, Refused, Accepted, Ran, Loaded}
 use Rattle.flt_run.specs.declared.made.Made.{Made}
-use Rattle.flt_run.specs.Ending.{Inside, Outside, IsLeftSound, IsLivedBy, IsSoundFor, IsSoundThroughout, IsTold, IsToldOf, EndingHasCause, KeepsAcknowledged, LosesNothing, StaysSoundThroughout, WantsMemory, WorksOnNone, lives_of, status_of}
+use Rattle.flt_run.specs.Ending.{Inside, Outside, IsLeftSound, IsLivedBy, IsSoundFor, IsSoundThroughout, IsTold, EndingHasCause, KeepsAcknowledged, LosesNothing, StaysSoundThroughout, WantsMemory, WorksOnNone, lives_of, status_of}
 use Rattle.flt_run.proofs.Lived.{all_of_seen, some_lives, turned}
 
 -- The first boot of a run stands first of its boots.
@@ -93,7 +93,7 @@ made_throughout : (media : Config → Medium) (script : ScriptContent) (before a
     → IsSoundThroughout (media script.config) script.config before after status made.lives.items
 made_throughout media script before after made status lived came =
     let linked = lived.lived.linked in
-    by_boots (media script.config) script.config lived.lived.valid before after script.lives made.lives.items status linked.boots linked.is linked.linked
+    by_boots (media script.config) script.config lived.valid before after script.lives made.lives.items status linked.boots linked.is linked.linked
     (some_boots (media script.config) script.config _ _ _ linked.boots (lives_seen script.lives made.lives.items) (length script.lives) (some_lives script.lives made lived.script_is) lived.lived.ended linked.linked)
     (subst (λ lives. CameTo (status_of_lives (lives_seen lives made.lives.items)) status) lived.script_is came)
 
@@ -102,7 +102,7 @@ kept_lives : (inside : Inside) (script : ScriptContent) (made : Made) → IsLive
     → KeepsAcknowledged (inside.media script.config) script.config inside.device inside.device_after (lives_seen script.lives made.lives.items)
 kept_lives inside script made lived =
     let linked = lived.lived.linked in
-    let law = never_lost held_stands spare_stands script.config lived.lived.valid (inside.media script.config) (arms_between inside.device.bench.arms inside.device_after.bench.arms)
+    let law = never_lost held_stands spare_stands script.config lived.valid (inside.media script.config) (arms_between inside.device.bench.arms inside.device_after.bench.arms)
     (length inside.device.bench.boots) (boot_in (device_of inside.device_after)) linked.boots (lives_seen script.lives made.lives.items) linked.linked in
     record { boots = linked.boots; are = linked.is; end = λ sound. (law sound).0; found = λ sound. (law sound).1; begun = λ sound. (law sound).2 }
 
@@ -115,11 +115,11 @@ kept_by inside made status lives (Some script) lived is =
 kept_none : (inside : Inside) (status : ℕ) (lives : List Life) (script : Option ScriptContent) → WorksOnNone inside script → LosesNothing inside script status lives
 kept_none inside status lives script works = subst (λ s. LosesNothing inside s status lives) (sym works.0) tt
 
-kept_memory : (inside : Inside) (status : ℕ) (lives : List Life) (script : Option ScriptContent) → WantsMemory status lives → LosesNothing inside script status lives
+pub kept_memory : (inside : Inside) (status : ℕ) (lives : List Life) (script : Option ScriptContent) → WantsMemory status lives → LosesNothing inside script status lives
 kept_memory inside status lives None wants = tt
 kept_memory inside status lives (Some script) wants = inl wants
 
-kept_ending : (dids : List DidUse) (inside : Inside) (command : Option Command) (script : Option ScriptContent) (status : ℕ) (lives : List Life) (ending : Ending) → EndingHasCause dids inside command script ending
+pub kept_ending : (dids : List DidUse) (inside : Inside) (command : Option Command) (script : Option ScriptContent) (status : ℕ) (lives : List Life) (ending : Ending) → EndingHasCause dids inside command script ending
     → lives ≡ lives_of ending → LosesNothing inside script status lives
 kept_ending dids inside command script status lives Usage cause is = kept_none inside status lives script cause.2
 kept_ending dids inside command script status lives Unreadable cause is = kept_none inside status lives script cause.2
@@ -127,12 +127,6 @@ kept_ending dids inside command script status lives (Refused fault) cause is = k
 kept_ending dids inside command script status lives (Accepted accepted) cause is = kept_none inside status lives script cause.3
 kept_ending dids inside command script status lives (Ran made) cause is = kept_by inside made status lives script cause.2 is
 kept_ending dids inside command script status lives (Loaded made) cause is = kept_by inside made status lives script cause.4 is
-
-pub loses_nothing : (dids : List DidUse) (inside : Inside) (outside : Outside) (command : Option Command) (script : Option ScriptContent) (status : ℕ) (lives : List Life) (ending : Option Ending)
-    → IfSome ending (EndingHasCause dids inside command script) → IsToldOf outside status lives ending → LosesNothing inside script status lives
-loses_nothing dids inside outside command script status lives None ends told = kept_memory inside status lives script told.0
-loses_nothing dids inside outside command script status lives (Some ending) ends (inl wants) = kept_memory inside status lives script wants.0
-loses_nothing dids inside outside command script status lives (Some ending) ends (inr told) = kept_ending dids inside command script status lives ending ends told.1
 
 -- Lives of a script were made.
 lived_throughout : (inside : Inside) (made : Made) (status : ℕ) (lives : List Life) (script : Option ScriptContent) → IsSomeAnd script (λ script. IsLivedBy inside.media script inside.device inside.device_after made)

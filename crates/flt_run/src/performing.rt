@@ -1,6 +1,7 @@
 // What a run comes to by its command, before it is told: the lives of its script over a device, or an answer without lives.
-ghost use Rattle.std.specs.Prelude.{◌≡◌, ◌≢◌, ◌≤◌, ℕ, List, Option, None, Some, All, IfSome, option_map, false, true};
+ghost use Rattle.std.specs.Prelude.{◌≡◌, ◌≢◌, ◌≤◌, ℕ, List, Option, None, Some, All, IfSome, false, true};
 ghost use Rattle.flt_flash.specs.State.{FlashState};
+ghost use Rattle.flt_flash.specs.Blocks.{device_of};
 ghost use Rattle.flt_config.specs.declared.config.Config.{Config};
 ghost use Rattle.flt_config.specs.declared.config.DidUse.{DidUse};
 ghost use Rattle.flt_did.specs.Serves.{Serves};
@@ -13,11 +14,11 @@ ghost use Rattle.flt_life.specs.declared.life.Boot.TheVariants.{Refused};
 ghost use Rattle.flt_life.specs.Lives.{lists};
 ghost use Rattle.flt_life.specs.Moment.{Medium};
 ghost use Rattle.flt_lives.specs.Alone.{AreAlone};
-ghost use Rattle.flt_lives.specs.Devices.{ServesAll};
+ghost use Rattle.flt_lives.specs.Devices.{LivesOn, ServesAll};
 ghost use Rattle.flt_run.specs.declared.command.Command.TheVariants as commands;
-ghost use Rattle.flt_run.specs.declared.ending.Ending.TheVariants.{Loaded, Usage};
+ghost use Rattle.flt_run.specs.declared.ending.Ending.TheVariants.{Usage};
 ghost use Rattle.flt_run.specs.Command.{IsInRange, plain_of};
-ghost use Rattle.flt_run.specs.Ending.{ComesTo, EndingHasCause, MakesLives};
+ghost use Rattle.flt_run.specs.Ending.{ComesTo, EndingHasCause};
 ghost use Rattle.flt_run.specs.Seen.{inside_of, unread_inside};
 
 use crate::command::Command;
@@ -30,6 +31,7 @@ use flt_did::{DID_ROWS, DidTable};
 use flt_engine::run_in_lanes;
 use flt_io::Source;
 use flt_lane::SharedGate;
+use flt_life::Life;
 use flt_lives::{Driver, Run, run_alone};
 use flt_report::{Fetched, fetch};
 use flt_script::{Script, load};
@@ -45,13 +47,6 @@ pub(crate) struct Performed<D> {
     pub(crate) device: D,
 }
 
-/// The lives that were made, or none for want of memory, and the device as they left it.
-#[derive(Drop)]
-struct MadeOn<D> {
-    made: Option<Made>,
-    device: D,
-}
-
 /// Looks at a configuration, which is valid, and whose numbers are those of their types.
 fn look_at_config(config: &ValidConfig)
     ensures { IsGiven config.now }
@@ -61,21 +56,16 @@ fn look_at_config(config: &ValidConfig)
     let _events = config.events.len();
 }
 
-/// The lives of a script, as they were made.
-fn made_of<D: Drop>(script: Script, run: Run<D>) -> MadeOn<D>
-    requires { IfSome run.lives (λ lives. All (λ life. life.boot ≢ Refused Flash) lives.items) }
-    ensures device { result.device ≡ run.device }
-    ensures made { IfSome result.made (λ made. (lists made.script.items ≡ lists script.lives.items) × (run.lives ≡ Some made.lives)) }
+/// The lives that were made of a script, with its parts; none for want of memory.
+fn made_of(script: Script, lives: Option<Vec<Life>>) -> Option<Made>
+    requires { IfSome lives (λ lives. All (λ life. life.boot ≢ Refused Flash) lives.items) }
+    ensures { IfSome result (λ made. (lists made.script.items ≡ lists script.lives.items) × (lives ≡ Some made.lives)) }
 {
-    let Script { lives: script, .. } = script;
-    let Run { lives, device } = run;
-    match lives {
-        Some(lives) => MadeOn {
-            made: Some(Made { script, lives }),
-            device,
-        },
-        None => MadeOn { made: None, device },
-    }
+    let lives = lives?;
+    Some(Made {
+        script: script.lives,
+        lives,
+    })
 }
 
 /// Makes the lives of a script without blocks of lanes, one after the other, up to the first that is refused, on a machine without a
@@ -83,20 +73,21 @@ fn made_of<D: Drop>(script: Script, run: Run<D>) -> MadeOn<D>
 fn live_alone<D: Driver>(
     alloc: Global,
     device: D::Device,
-    script: Script,
+    script: &Script,
     dids: DidTable<DID_ROWS>,
-) -> MadeOn<D::Device>
-    requires served { Serves (dids_of dids) script.config.events.items }
-    requires alone { All (λ life. AreAlone (parts_of life.items)) script.lives.items }
+) -> Run<D::Device>
+    requires served { Serves (dids_of dids) script.now.config.events.items }
+    requires alone { All (λ life. AreAlone (parts_of life.items)) script.now.lives.items }
     requires serves { ServesAll D.serves (D.device_state device) }
     requires boots { 256 ≤ (D.device_state device).bench.boots_left }
     requires unarmed { (D.device_state device).bench.armed ≡ 0 }
-    ensures { MakesLives D.medium (content script) (D.device_state device) (D.device_state result.device) result.made }
+    ensures valid { IsGiven script.now.config }
+    ensures lives { LivesOn (D.medium script.now.config) script.now.config (device_of (D.device_state device)) (device_of (D.device_state result.device))
+        (content script.now).lives result.lives }
 {
     look_at_config(&script.config);
     let unit = Unit::make(Dem::make(script.config.twin(), dids));
-    let run = run_alone::<D>(alloc, unit, device, &script.config, &script.lives);
-    made_of(script, run)
+    run_alone::<D>(alloc, unit, device, &script.config, &script.lives)
 }
 
 /// Makes the lives of a script one after the other, up to the first that is refused, all calls of a life under two locks, of the status
@@ -106,18 +97,19 @@ fn live_in_lanes<R: Threads + Wait + Sync, G: SharedGate, D: Driver>(
     gate: &G,
     alloc: Global,
     device: D::Device,
-    script: Script,
+    script: &Script,
     dids: DidTable<DID_ROWS>,
-) -> MadeOn<D::Device>
-    requires served { Serves (dids_of dids) script.config.events.items }
+) -> Run<D::Device>
+    requires served { Serves (dids_of dids) script.now.config.events.items }
     requires serves { ServesAll D.serves (D.device_state device) }
     requires boots { 256 ≤ (D.device_state device).bench.boots_left }
     requires unarmed { (D.device_state device).bench.armed ≡ 0 }
-    ensures { MakesLives D.medium (content script) (D.device_state device) (D.device_state result.device) result.made }
+    ensures valid { IsGiven script.now.config }
+    ensures lives { LivesOn (D.medium script.now.config) script.now.config (device_of (D.device_state device)) (device_of (D.device_state result.device))
+        (content script.now).lives result.lives }
 {
     look_at_config(&script.config);
-    let run = run_in_lanes::<R, G, D>(rt, gate, alloc, device, &script.config, dids, &script.lives);
-    made_of(script, run)
+    run_in_lanes::<R, G, D>(rt, gate, alloc, device, &script.config, dids, &script.lives)
 }
 
 /// The words are not those of a command.
@@ -143,17 +135,6 @@ fn check<S: Source>(alloc: Global, source: &mut S, dids: &DidTable<DID_ROWS>) ->
     }
 }
 
-/// The lives of a load were made, or memory was wanting.
-fn loaded<D: Drop>(made_on: MadeOn<D>) -> Performed<D>
-    ensures { result ≡ record { ending = option_map Loaded made_on.made; device = made_on.device } }
-{
-    let MadeOn { made, device } = made_on;
-    Performed {
-        ending: made.map(|made| Ending::Loaded(made)),
-        device,
-    }
-}
-
 /// Makes the lives of a load without lanes.
 fn load_plain<D: Driver>(
     alloc: Global,
@@ -170,7 +151,13 @@ fn load_plain<D: Driver>(
         (unread_inside left faults D.medium (D.device_state device) (D.device_state result.device)) (Some (commands.Load count false)) result.ending }
 {
     match load(alloc, count, false) {
-        Ok(script) => loaded(live_alone::<D>(alloc, device, script, dids)),
+        Ok(script) => {
+            let Run { lives, device } = live_alone::<D>(alloc, device, &script, dids);
+            Performed {
+                ending: made_of(script, lives).map(|made| Ending::Loaded(made)),
+                device,
+            }
+        }
         Err(_) => Performed {
             ending: None,
             device,
@@ -229,7 +216,15 @@ fn load_in_lanes<R: Threads + Wait + Sync, G: SharedGate, D: Driver>(
         (unread_inside left faults D.medium (D.device_state device) (D.device_state result.device)) (Some (commands.Load count true)) result.ending }
 {
     match load(alloc, count, true) {
-        Ok(script) => loaded(live_in_lanes::<R, G, D>(rt, gate, alloc, device, script, dids)),
+        Ok(script) => {
+            let Run { lives, device } = live_in_lanes::<R, G, D>(
+                rt, gate, alloc, device, &script, dids,
+            );
+            Performed {
+                ending: made_of(script, lives).map(|made| Ending::Loaded(made)),
+                device,
+            }
+        }
         Err(_) => Performed {
             ending: None,
             device,
@@ -254,11 +249,11 @@ fn run_script<R: Threads + Wait + Sync, G: SharedGate, S: Source, D: Driver>(
 {
     match fetch(alloc, source, &dids) {
         Fetched::Script(script) => {
-            let MadeOn { made, device } = live_in_lanes::<R, G, D>(
-                rt, gate, alloc, device, script, dids,
+            let Run { lives, device } = live_in_lanes::<R, G, D>(
+                rt, gate, alloc, device, &script, dids,
             );
             Performed {
-                ending: made.map(|made| Ending::Ran(made)),
+                ending: made_of(script, lives).map(|made| Ending::Ran(made)),
                 device,
             }
         }

@@ -1,7 +1,6 @@
-use Rattle.std.proofs.Common.{◌≡◌, ◌∙◌, ◌++◌, ◌∷◌, [], take, length, refl, ap, sym, subst, arith}
+use Rattle.std.proofs.Common.{◌∙◌, ◌++◌, ◌∷◌, [], take, length, refl, ap, sym, subst, arith}
 use Rattle.std.specs.Prelude.{IsTrue}
-use Rattle.std.proofs.lemmas.List.{map_more}
-use Rattle.std.proofs.Math.Seq.{take-length}
+use Rattle.std.proofs.lemmas.List.{map_more, take_all}
 use Rattle.flt_script.specs.declared.step.Step.{Step}
 use Rattle.flt_script.specs.Step.{is_lane_step}
 use Rattle.flt_life.specs.Actions.{action_of}
@@ -58,8 +57,4 @@ loop-step-preserved c =
 
 pub returns : goal.returns
 returns c =
-    let past = c.loop-step-test.false in
-    let within = c.loop-step.auto._step-index-end in
-    let steps = c.args.lane.steps.now in
-    let same : c.loop-step._step-index ≡ length steps = omega (arith, past, within) in
-    c.loop-step.invariant.answers ∙ ap dark_answers (ap (λ n. take n steps) same ∙ take-length steps)
+    c.loop-step.invariant.answers ∙ ap dark_answers (take_all c.loop-step._step-index c.args.lane.steps.now c.loop-step-test.false)

@@ -1,19 +1,30 @@
-use Rattle.std.proofs.Common.{length, refl, subst, sym}
-use Rattle.flt_flash.specs.Blocks.{DeviceState, device_of}
-use Rattle.flt_life.specs.Moment.{moment_at, boot_in}
-use Rattle.flt_life.specs.Lives.{StaysSound}
-use Rattle.flt_lives.proofs.Beginning.{begun_over}
+use Rattle.std.proofs.Common.{◌≡◌, ◌∙◌, sym, ap, subst}
+use Rattle.flt_flash.specs.Blocks.{BlocksState, device_of}
+use Rattle.flt_store.specs.Cause.{HasRoom}
+use Rattle.flt_store.specs.Store.{driver_of}
+use Rattle.flt_lives.specs.Devices.{CanLiveOn}
+use Rattle.flt_lives.proofs.Bridge.{left_on_device}
 use Rattle.flt_lives.proofs.device.run_on_device.Goals as goal
 
-pub returns-in-Ok-open-clause-sound : goal.returns-in-Ok-open-clause-sound
-returns-in-Ok-open-clause-sound g c =
-    let medium = g.D.Driver.medium c.args.config.now in
-    subst (λ (d : DeviceState). StaysSound c.args.config.now (moment_at medium (boot_in d)) (moment_at medium (boot_in (device_of (g.D.Driver.device_state c.live_on.result.device)))))
-    c.in-Ok-open.ensures.device
-    c.live_on.ensures.sound
+pub run_lives-requires-clause-room : goal.run_lives-requires-clause-room
+run_lives-requires-clause-room g c =
+    let made : driver_of c.make-store.result ≡ g.D.Blocks.state c.in-Ok-open.driver = c.make-store.ensures ∙ c.make.ensures.driver in
+    subst (λ (driver : BlocksState). HasRoom c.args.config.now driver.room) (sym made) c.in-Ok-open.ensures.room
 
-pub returns-in-Ok-open-clause-begun : goal.returns-in-Ok-open-clause-begun
-returns-in-Ok-open-clause-begun g c =
-    let first = device_of (g.D.Driver.device_state c.args.device) in
-    let last = device_of (g.D.Driver.device_state c.live_on.result.device) in
-    begun_over (length c.args.lives.now) first (g.D.Blocks.state c.in-Ok-open.driver).device last last (sym c.in-Ok-open.ensures.device) refl c.live_on.ensures.begun
+pub run_lives-requires-clause-ready : goal.run_lives-requires-clause-ready
+run_lives-requires-clause-ready g c =
+    let made : driver_of c.make-store.result ≡ g.D.Blocks.state c.in-Ok-open.driver = c.make-store.ensures ∙ c.make.ensures.driver in
+    subst (λ device. CanLiveOn c.args.config.now device c.args.lives.now) (sym (ap (λ (driver : BlocksState). driver.device) made ∙ c.in-Ok-open.ensures.device)) c.requires.ready
+
+pub returns-in-Ok-open : goal.returns-in-Ok-open
+returns-in-Ok-open g c =
+    let made : driver_of c.make-store.result ≡ g.D.Blocks.state c.in-Ok-open.driver = c.make-store.ensures ∙ c.make.ensures.driver in
+    let left = c.run_lives.ensures in
+    let medium = g.D.Driver.medium c.args.config.now in
+    let keeps = g.met.D.Driver.keeps c.args.config.now in
+    rw c.ok-lives.ensures.value
+    (left_on_device c.args.config.now medium c.args.lives.now c.run_lives.result g.D.Blocks c.make-store.result c.run_lives.new.store keeps
+    (subst (λ (driver : BlocksState). HasRoom c.args.config.now driver.room) (sym made) c.in-Ok-open.ensures.room) left.room (left.linked medium keeps) left.played left.ended left.given left.begun left.sound
+    (device_of (g.D.Driver.device_state c.args.device)) (device_of (g.D.Driver.device_state c.close.result))
+    (ap (λ (driver : BlocksState). driver.device) made ∙ c.in-Ok-open.ensures.device)
+    (sym (c.close.ensures ∙ ap (λ (driver : BlocksState). driver.device) c.retire.ensures)))

@@ -1,9 +1,8 @@
 use Rattle.std.proofs.Common.{◌≡◌, ◌∙◌, inl, ◌+◌, ◌∷◌, ◌++◌, [], refl, reverse, ap, sym, subst, take, drop, length, arith, List}
 use Rattle.std.specs.Prelude.{sum_by, All}
-use Rattle.std.proofs.lemmas.List.{length-append}
+use Rattle.std.proofs.lemmas.List.{length-append, take_all}
 use Rattle.std.proofs.lemmas.List.Sums.{sum_by-cons}
 use Rattle.std.proofs.lemmas.List.Elements.{All-head, All-tail}
-use Rattle.std.proofs.Math.Seq.{take-length}
 use Rattle.flt_script.specs.declared.step.Part.{Part}
 use Rattle.flt_script.specs.declared.step.Step.{Step}
 use Rattle.flt_script.specs.Part.{PartOf, part_of, parts_of}
@@ -105,39 +104,19 @@ loop-part-preserved g c =
 
 pub returns-clause-living : goal.returns-clause-living
 returns-clause-living g c = λ first living.
-    let past = c.loop-part-test.false in
-    let within = c.loop-part.auto.part-index-end in
-    let parts = c.args.parts.now in
-    let same : c.loop-part.part-index ≡ length parts = omega (arith, past, within) in
-    let all = ap (λ n. take n parts) same ∙ take-length parts in
-    rw all at (c.loop-part.invariant.living first living)
+    rw (take_all c.loop-part.part-index c.args.parts.now c.loop-part-test.false) at (c.loop-part.invariant.living first living)
 
 pub returns-clause-played : goal.returns-clause-played
 returns-clause-played g c = λ first living.
-    let past = c.loop-part-test.false in
-    let within = c.loop-part.auto.part-index-end in
-    let parts = c.args.parts.now in
-    let same : c.loop-part.part-index ≡ length parts = omega (arith, past, within) in
-    let all = ap (λ n. take n parts) same ∙ take-length parts in
-    rw all at (c.loop-part.invariant.played first living)
+    rw (take_all c.loop-part.part-index c.args.parts.now c.loop-part-test.false) at (c.loop-part.invariant.played first living)
 
 pub returns-clause-caused : goal.returns-clause-caused
 returns-clause-caused g c = λ begun caused.
-    let past = c.loop-part-test.false in
-    let within = c.loop-part.auto.part-index-end in
-    let parts = c.args.parts.now in
-    let same : c.loop-part.part-index ≡ length parts = omega (arith, past, within) in
-    let all = ap (λ n. take n parts) same ∙ take-length parts in
-    rw all at (c.loop-part.invariant.caused begun caused)
+    rw (take_all c.loop-part.part-index c.args.parts.now c.loop-part-test.false) at (c.loop-part.invariant.caused begun caused)
 
 pub returns-clause-given : goal.returns-clause-given
 returns-clause-given g c =
-    let past = c.loop-part-test.false in
-    let within = c.loop-part.auto.part-index-end in
-    let parts = c.args.parts.now in
-    let same : c.loop-part.part-index ≡ length parts = omega (arith, past, within) in
-    let all = ap (λ n. take n parts) same ∙ take-length parts in
-    rw all at c.loop-part.invariant.given
+    rw (take_all c.loop-part.part-index c.args.parts.now c.loop-part-test.false) at c.loop-part.invariant.given
 
 pub loop-part-init : goal.loop-part-init
 loop-part-init g c = record {
