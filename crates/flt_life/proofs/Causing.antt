@@ -163,12 +163,6 @@ module _ {B : Type 0} {b : Ghosts B} (c : Config) (begun : ℕ) (told : List Tol
         sequence = λ was. follows.stays_spent (caused.sequence was);
       }
 
-  -- A drain: where the last sequence number is not in use behind it, each job that could not be written met three faults.
-  pub caused_drained : (written failed : ℕ) → Follows (driver_of before) (driver_of after) → (IsFalse (driver_of after).is_spent → HasRisenBy (3 * failed) (driver_of before).device.faults (driver_of after).device.faults)
-      → IsRunning c caused.held_now caused.spare_now after → IsCaused c begun (answers.Drained written failed ∷ told) after
-  caused_drained written failed follows rose running =
-      caused_still (answers.Drained written failed ∷ told) follows running refl (λ unspent. (let jobs = jobs_before follows unspent in let rises = rose unspent in omega (arith, jobs, rises))) (λ was. was) (λ was. was)
-
 pub are_caused : {B : Type 0} {b : Ghosts B} (c : Config) (begun : ℕ) (told : List Told) (store : Store B b) (boot : Moment) → HasRisenBy 0 boot.faults begun
     → IsCaused c begun told store → AreCaused c boot (moment_of (driver_of store)) told
 are_caused c begun told store boot rose caused =

@@ -2,14 +2,14 @@
 use Rattle.std.proofs.Common.{◌≡◌, ℕ, ◌+◌, ◌≤◌, List, [], ◌∷◌, ◌++◌, take, drop, length, refl, ap, arith, ◌∙◌}
 use Rattle.std.specs.Prelude.{All}
 use Rattle.std.proofs.lemmas.List.{take-append-le, drop-append-le, length-drop, map-append}
-use Rattle.std.proofs.lemmas.List.Elements.{All-head, All-tail, All-cons, All-nil, All-append, All-weaker}
+use Rattle.std.proofs.lemmas.List.Elements.{All-head, All-tail}
 use Rattle.flt_model.specs.Response.{reply_of}
 use Rattle.flt_model.specs.declared.call.ReplyOf.TheVariants as kept
 use Rattle.flt_life.specs.declared.answer.StepAnswer.{StepAnswer}
 use Rattle.flt_life.specs.declared.answer.StepAnswer.TheVariants as answers
 use Rattle.flt_life.specs.Answers.{KeptReply, IsReplyWithin, IsAnswerWithin, reply_in, with_reply, told_by}
 
--- ---- more bytes after those of the responses change no reply that is kept
+-- More bytes after those of the responses change no reply that is kept.
 
 piece_stays : (bytes more : List ℕ) (from size : ℕ) → from + size ≤ length bytes → take size (drop from (bytes ++ more)) ≡ take size (drop from bytes)
 piece_stays bytes more from size within =
@@ -49,13 +49,3 @@ pub told_more : (bytes more : List ℕ) (before : List (StepAnswer KeptReply)) (
     → told_by (bytes ++ more) (before ++ answer ∷ []) ≡ told_by bytes before ++ with_reply (reply_in (bytes ++ more)) answer ∷ []
 told_more bytes more before answer within =
     map-append (with_reply (reply_in (bytes ++ more))) before (answer ∷ []) ∙ ap (λ front. front ++ with_reply (reply_in (bytes ++ more)) answer ∷ []) (all_stay bytes more before within)
-
--- ---- and each lies within as many or more
-
-within_more : (few many : ℕ) → few ≤ many → (answer : StepAnswer KeptReply) → IsAnswerWithin few answer → IsAnswerWithin many answer
-within_more few many less answer within = omega (arith, less, within)
-
-pub all_within_more : (few many : ℕ) → few ≤ many → (before : List (StepAnswer KeptReply)) (answer : StepAnswer KeptReply) → All (IsAnswerWithin few) before → IsAnswerWithin many answer
-    → All (IsAnswerWithin many) (before ++ answer ∷ [])
-all_within_more few many less before answer within last =
-    All-append (IsAnswerWithin many) before (answer ∷ []) (All-weaker (IsAnswerWithin few) (IsAnswerWithin many) (within_more few many less) before within) (All-cons (IsAnswerWithin many) answer [] last (All-nil _))

@@ -158,9 +158,6 @@ module _ (parts : List Part) (index : ℕ) (part : Part) (within : index < lengt
     pub lanes_within : sum_by length lanes ≤ sum_by steps_in (parts_of parts)
     lanes_within = let within_sum = steps_within in let this = ap steps_in block in omega (arith, within_sum, this)
 
-    pub numbers_within : widths (parts_of (take index parts)) + length lanes ≤ widths (parts_of parts)
-    numbers_within = let within_sum = widths_within in let this = ap width block in omega (arith, within_sum, this)
-
 -- As many lanes as the blocks have.
 pub lanes_count : (parts : List (PartOf Step)) → length (lanes_in parts) ≡ widths parts
 lanes_count [] = refl
