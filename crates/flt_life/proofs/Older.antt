@@ -122,7 +122,7 @@ module _ (c : Config) (given : IsGiven c) (held_stands : HeldStands) (spare_stan
   refused_no_older next faults.SequenceSpent refused = kept_no_older next refused.1
 
   -- A life leaves nothing older than what was acknowledged in it and before.
-  leaves_no_older : (next : Moment) (life : LifeView) (b : Boot) → IsLifeBegunBy c boot next ended life b → IsNoOlder c (number_in life.journal number) next
+  pub leaves_no_older : (next : Moment) (life : LifeView) (b : Boot) → IsLifeBegunBy c boot next ended life b → IsNoOlder c (number_in life.journal number) next
   leaves_no_older next life (Started begun state) begun_by =
       let leaves = begun_by.2 in
       let least = number_in_less life.journal number begun (found_no_older _ begun_by.0) in
