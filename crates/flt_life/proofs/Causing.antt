@@ -1,6 +1,7 @@
 -- What each step leaves of the causes of the steps that failed.
-use Rattle.std.proofs.Common.{◌≡◌, ⊎_elim, ℕ, ◌+◌, ◌*◌, ◌-◌, ◌^◌, ◌≤◌, Bool, true, false, List, ◌∷◌, refl, ap, subst, sym, arith}
+use Rattle.std.proofs.Common.{◌≡◌, ⊎_elim, ℕ, ◌+◌, ◌*◌, ◌-◌, ◌^◌, ◌≤◌, Bool, List, ◌∷◌, refl, ap, subst, sym, arith}
 use Rattle.std.specs.Prelude.{IsTrue, IsFalse}
+use Rattle.std.proofs.lemmas.Bool.{both_ways, false_from_ne_true}
 use Rattle.flt_flash.specs.Content.{Content, missing, invalid, bytes}
 use Rattle.flt_flash.specs.State.{HasRisenBy}
 use Rattle.flt_flash.specs.Blocks.{BlocksState}
@@ -35,8 +36,7 @@ IsRead _ = ⊥
 
 -- A driver that is not spent was not before, since one that is spent stays so.
 pub unspent_before : (before after : Bool) → (IsTrue before → IsTrue after) → IsFalse after → IsFalse before
-unspent_before true after stays unspent = let spent : IsTrue after = stays refl in absurd (cc)
-unspent_before false after stays unspent = refl
+unspent_before before after stays unspent = false_from_ne_true before (λ spent. both_ways after unspent (stays spent))
 
 module _ {B : Type 0} {b : Ghosts B} (c : Config) (begun : ℕ) (told : List Told) (before after : Store B b) (caused : IsCaused c begun told before) where
   -- The faults of the saves, the reads and the jobs so far, as long as the last sequence number is not in use.
