@@ -1,11 +1,9 @@
 //! One step of a lane: what it does, and the answer that is kept.
-ghost use Rattle.std.specs.Prelude.{◌≡◌, ◌+◌, ◌<◌, ◌≤◌, false};
+ghost use Rattle.std.specs.Prelude.{◌≡◌, ◌+◌, ◌<◌, ◌≤◌};
 ghost use Rattle.flt_config.specs.declared.config.Config.{Config};
-ghost use Rattle.flt_dcm.specs.Unit.{IsAdmitted};
 ghost use Rattle.flt_flash.specs.State.{CanArm};
 ghost use Rattle.flt_life.specs.Actions.{IsPossible, action_of, arm_count, call_count, queue_count};
 ghost use Rattle.flt_life.specs.declared.action.Action.TheVariants as action;
-ghost use Rattle.flt_queue.specs.Queue as queues;
 ghost use Rattle.flt_script.specs.declared.step.Step.{Step as StepView};
 ghost use Rattle.flt_script.specs.declared.step.Step.TheVariants as steps;
 ghost use Rattle.flt_shared.specs.Call.{Seat as DemView};
@@ -23,64 +21,14 @@ use arrayvec::ArrayVec;
 use flt_config::{ValidConfig, initial};
 use flt_flash::{Arm, Blocks};
 use flt_life::{Action, LaneReplies, StepAnswer, action_of};
-use flt_model::{Op, RESPONSE};
-use flt_queue::{QueueLock, QueueOp, QueueSeat};
+use flt_model::RESPONSE;
 use flt_script::Step;
 use flt_shared::{DemLock, DemSeat};
 use flt_store::Store;
 use std::sync::Wait;
 
-/// Makes a call of the status machine on a seat that has one left, and keeps its answer. The bytes of a response are written in place
-/// of what `response` holds.
-#[inline(always)]
-fn call_dem<R: Wait>(
-    rt: &R,
-    dem: &DemLock,
-    seat: &mut DemSeat,
-    op: Op,
-    replies: &mut LaneReplies,
-    response: &mut ArrayVec<u8, RESPONSE>,
-)
-    requires lock { IsSeatOf dem.now seat.old }
-    requires admitted { IsAdmitted seat.old.start.config op }
-    requires left { 1 ≤ seat.old.left }
-    requires room { HasRoomFor replies.old (action.Call op) }
-    ensures made { (step : StepView) (jobs : Jobs) → action_of step ≡ action.Call op
-        → MakesStep seat.old seat.new jobs jobs step replies.old replies.new }
-    ensures lock { IsSeatOf dem.now seat.new }
-{
-    let Ok(told) = dem.call_into(rt, seat, op, response) else {
-        unreachable!()
-    };
-    let length = response.len();
-    prove!(length <= RESPONSE);
-    replies.keep(StepAnswer::Dem(told), response.as_slice());
-}
-
-/// Makes a call of the queue on a seat that has one left, and keeps its answer.
-#[inline(always)]
-fn call_queue<R: Wait>(
-    rt: &R,
-    queue: &QueueLock,
-    seat: &mut QueueSeat,
-    op: QueueOp,
-    replies: &mut LaneReplies,
-)
-    requires lock { turn.IsSeatOf queue.now.turn seat.old }
-    requires admitted { queues.IsAdmitted seat.old.start op }
-    requires left { 1 ≤ seat.old.left }
-    requires room { HasRoomFor replies.old (action.Queue op) }
-    ensures made { (step : StepView) (dem : DemView) → action_of step ≡ action.Queue op
-        → MakesStep dem dem seat.old seat.new step replies.old replies.new }
-    ensures lock { turn.IsSeatOf queue.now.turn seat.new }
-{
-    let Ok(told) = queue.call(rt, seat, op) else {
-        unreachable!()
-    };
-    replies.keep(StepAnswer::Queue(told), &[]);
-}
-
-/// Makes a call on seats that have it left, and keeps its answer. It is all that a lane without the store does.
+/// Makes a call on seats that have it left, and keeps its answer. The bytes of a response are written in place of what `response` holds.
+/// It is all that a lane without the store does.
 #[inline(always)]
 pub(crate) fn make_call<R: Wait>(
     rt: &R,
@@ -104,8 +52,20 @@ pub(crate) fn make_call<R: Wait>(
     ensures queue { turn.IsSeatOf locks.now.queue.turn seats.new.queue }
 {
     match call {
-        Action::Call(op) => call_dem(rt, &locks.dem, &mut seats.dem, op, replies, response),
-        Action::Queue(op) => call_queue(rt, &locks.queue, &mut seats.queue, op, replies),
+        Action::Call(op) => {
+            let Ok(told) = locks.dem.call_into(rt, &mut seats.dem, op, response) else {
+                unreachable!()
+            };
+            let length = response.len();
+            prove!(length <= RESPONSE);
+            replies.keep(StepAnswer::Dem(told), response.as_slice());
+        }
+        Action::Queue(op) => {
+            let Ok(told) = locks.queue.call(rt, &mut seats.queue, op) else {
+                unreachable!()
+            };
+            replies.keep(StepAnswer::Queue(told), &[]);
+        }
         Action::Save | Action::Drain | Action::Get(_) | Action::Arm(_) => unreachable!(),
     }
 }

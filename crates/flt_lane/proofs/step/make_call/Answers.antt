@@ -1,8 +1,43 @@
-use Rattle.std.proofs.Common.{◌∙◌}
+use Rattle.std.proofs.Common.{◌≤◌, [], ap, refl, rules, subst, sym, ◌∙◌}
+use Rattle.std.specs.Prelude.{reverse}
+use Rattle.flt_turn.specs.Seats.{ops_before}
+use Rattle.flt_shared.specs.Call.{whole}
+use Rattle.flt_life.specs.Actions.{response_size}
+use Rattle.flt_life.specs.Answers.{Told, reply_size}
+use Rattle.flt_life.specs.Played.{ActionMakes, ActionQueues}
+use Rattle.flt_life.specs.declared.action.Action.TheVariants as action
+use Rattle.flt_life.specs.declared.answer.StepAnswer.TheVariants as answers
+use Rattle.flt_lane.proofs.Answering.{keeps, keeps_with}
+use Rattle.flt_lane.proofs.Stepping.{none_made, none_queued, one_made, one_queued, size_of_told}
 use Rattle.flt_lane.proofs.step.make_call.Goals as goal
 
-pub returns-in-Call-clause-made : goal.returns-in-Call-clause-made
-returns-in-Call-clause-made g c = λ step is. c.call_dem.ensures.made step c.args.seats.now.queue (is ∙ c.in-Call.is)
+pub returns-in-Ok-clause-made : goal.returns-in-Ok-clause-made
+returns-in-Ok-clause-made g c = λ step is.
+    let seat = c.args.seats.now.dem in
+    let jobs = c.args.seats.now.queue in
+    let op = c.in-Call.op in
+    let makes = is ∙ c.in-Call.is in
+    let told = whole c.in-Ok.told c.call_into.new.response in
+    let kept = c.keep.ensures in
+    let size : reply_size told.reply ≤ response_size (action.Call op) =
+    size_of_told seat.start (reverse (ops_before c.in-Ok.told.place c.call_into.new.seat.seen)) op c.in-Ok.told.reply c.call_into.new.response.items c.in-Ok.ensures.call.reply (search rules) in
+    record {
+      answer = answers.Dem told;
+      keeps = keeps_with c.args.replies.now c.keep.new.self step (answers.Dem c.in-Ok.told) c.call_into.new.response.items _ c.as_slice.ensures.value kept.told kept.answers kept.room kept.responses kept.bytes
+          (subst (λ a. reply_size told.reply ≤ response_size a) (sym makes) size);
+      dem = one_made seat step op told c.call_into.new.seat makes c.in-Ok.ensures.call;
+      queue = none_queued jobs step (answers.Dem told) (subst (λ a. ActionQueues a (answers.Dem told) []) (sym makes) refl);
+    }
 
-pub returns-in-Queue-clause-made : goal.returns-in-Queue-clause-made
-returns-in-Queue-clause-made g c = λ step is. c.call_queue.ensures.made step c.args.seats.now.dem (is ∙ c.in-Queue.is)
+pub returns-in-Ok-call-clause-made : goal.returns-in-Ok-call-clause-made
+returns-in-Ok-call-clause-made g c = λ step is.
+    let seat = c.args.seats.now.dem in
+    let makes = is ∙ c.in-Queue.is in
+    let told : Told = answers.Queue c.in-Ok-call.told in
+    let kept = c.keep-in-Queue.ensures in
+    record {
+      answer = told;
+      keeps = keeps c.args.replies.now c.keep-in-Queue.new.self step (answers.Queue c.in-Ok-call.told) kept.told kept.answers kept.room kept.responses kept.bytes refl;
+      dem = none_made seat step told (subst (λ a. ActionMakes a told []) (sym makes) refl);
+      queue = one_queued c.args.seats.now.queue step c.in-Queue.op c.in-Ok-call.told c.call.new.seat makes c.in-Ok-call.ensures.call;
+    }
