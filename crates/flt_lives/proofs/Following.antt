@@ -65,7 +65,7 @@ none_made {A = A} c script store made none =
 
 -- And one more, of the parts at this index.
 module _ {A : Type 0} (script : List (Vec Part A)) (index : ℕ) (item : Vec Part A) (within : index < length script) (is : item ≡ get_or script index item) (parts : List Part) (parts_are : parts ≡ item.items)
-         (made next : List Life) (life : Life) (more : next ≡ made ++ life ∷ []) where
+    (made next : List Life) (life : Life) (more : next ≡ made ++ life ∷ []) where
   seen_more : length made ≡ index → lives_seen (lists script) next ≡ view_of (parts_of parts) life ∷ lives_seen (lists script) made
   seen_more many =
       let at : item ≡ get_or script (length made) item = is ∙ ap (λ n. get_or script n item) (sym many) in

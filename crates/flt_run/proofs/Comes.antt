@@ -20,8 +20,8 @@ module _ (dids : List DidUse) (inside : Inside) (command : Option Command) where
 
   -- Lives of a script were made, if memory was not wanting.
   module _ (end : Made → Ending) (script : ScriptContent) (valid : IsGiven script.config) (lives : Option (Vec Life Global))
-           (left : LivesOn (inside.media script.config) script.config (device_of inside.device) (device_of inside.device_after) script.lives lives)
-           (cause : (one : Made) → IsLivedBy inside.media script inside.device inside.device_after one → EndingHasCause dids inside command (Some script) (end one)) where
+      (left : LivesOn (inside.media script.config) script.config (device_of inside.device) (device_of inside.device_after) script.lives lives)
+      (cause : (one : Made) → IsLivedBy inside.media script inside.device inside.device_after one → EndingHasCause dids inside command (Some script) (end one)) where
     ends : (made : Option Made) → IfSome made (λ one. (lists one.script.items ≡ script.lives) × (lives ≡ Some one.lives))
         → IfSome (option_map end made) (EndingHasCause dids inside command (Some script))
     ends None is = tt
