@@ -48,8 +48,8 @@ pub record BeginsLives (most : ℕ) (before after : DeviceState) : Type 0 where
   pub few : length begun ≤ most
   pub from : BeginsFrom before after begun
 
--- What the lives of a script leave: the lives, if memory was not wanting; and whether it was or not, a boot for each life that was begun,
--- and a sound image where there was one.
+-- What the lives of a script leave: the lives, unless memory ran out; and in both cases a boot for each life that was begun, and a sound
+-- image where there was one.
 pub record LivesOn {A : Type 0} (medium : Medium) (c : Config) (before after : DeviceState) (script : List (List (PartOf Step)))
     (lives : Option (Vec Life A)) : Type 0 where
   pub lived : IfSome lives (λ lives. AreLivedOn medium c before after script lives.items)

@@ -1,4 +1,4 @@
--- How a start-up tells a fault of a block; want of room is none that it meets.
+-- The fault of a start-up for a fault of a block. A start-up writes no more than there is room for, so `Full` does not occur in one.
 use Rattle.flt_flash.specs.declared.blocks.BlockFault.{BlockFault}
 use Rattle.flt_flash.specs.declared.blocks.BlockFault.TheVariants.{Flash as FlashFault, Full, SequenceSpent as Stuck, Damaged as DamagedPage}
 use Rattle.flt_generation.specs.declared.place.Place.TheVariants.{Page}
