@@ -1,5 +1,5 @@
 -- What is reported about a script: a picture of what its run made, or why there is none. What a picture shows is not said here.
-use Rattle.std.specs.Prelude.{◌≡◌, ◌⊎◌, ℕ, List, [], ◌∷◌, Option, Some, IfSome, IsTrue, Result, Ok, Err}
+use Rattle.std.specs.Prelude.{◌≡◌, ◌⊎◌, ℕ, List, Some, IfSome, Result, Ok, Err}
 use Rattle.std.specs.Io.KnownBytes.{Consumes}
 use Rattle.flt_io.specs.Fault.{Rose}
 use Rattle.flt_flash.specs.State.{FlashState}

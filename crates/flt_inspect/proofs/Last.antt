@@ -1,9 +1,9 @@
 -- Which of some lives is the last, and whether it was started.
-use Rattle.std.proofs.Common.{◌≡◌, ◌∙◌, ℕ, suc, ◌-◌, List, [], ◌∷◌, ◌++◌, Some, None, Result, Ok, Err, arith, drop, drop-cons, length, reverse, take, ap, inl, sym}
+use Rattle.std.proofs.Common.{◌≡◌, ◌∙◌, ℕ, suc, ◌-◌, List, [], ◌∷◌, ◌++◌, Some, Result, Ok, Err, arith, drop, drop-cons, length, take, ap, inl, sym}
 use Rattle.std.specs.Prelude.{IfOk}
 use Rattle.std.specs.List.{slice_get}
-use Rattle.std.proofs.lemmas.List.{reverse-append, take-append-drop}
-use Rattle.std.proofs.lemmas.Option.{get_or_from_slice_get, slice_get-get_or, slice_get_within}
+use Rattle.std.proofs.lemmas.List.{take-append-drop}
+use Rattle.std.proofs.lemmas.Option.{get_or_from_slice_get, slice_get_within}
 use Rattle.std.proofs.Math.ListN.{drop_of_length-le}
 use Rattle.flt_config.specs.declared.config.Config.{Config}
 use Rattle.flt_config.specs.declared.persist.Persist.{Persist}
@@ -23,31 +23,6 @@ split_last lives life last =
     let rest : drop end lives ≡ life ∷ [] =
     drop-cons lives end life within ∙ (λ i. get_or_from_slice_get lives end life life last i ∷ none i) in
     sym (take-append-drop end lives) ∙ ap (λ more. take end lives ++ more) rest
-
--- There is one last life.
-same_last : (first second : List Life) (one other : Life) → first ++ one ∷ [] ≡ second ++ other ∷ [] → one ≡ other
-same_last first second one other same =
-    let turned : one ∷ reverse first ≡ other ∷ reverse second = sym (reverse-append first (one ∷ [])) ∙ ap reverse same ∙ reverse-append second (other ∷ []) in
-    cc
-
--- No life, or a last one that was not started: none starts as the last.
-pub none_starts : (lives : List Life) → slice_get lives (length lives - 1) ≡ None → (life : Life) (start : Persist) → LastStarts lives life start → ⊥
-none_starts lives none life start starts =
-    let turned : reverse lives ≡ life ∷ reverse starts.earlier = ap reverse starts.last ∙ reverse-append starts.earlier (life ∷ []) in
-    by_last lives none (reverse starts.earlier) turned
-  where
-    by_last : (lives : List Life) → slice_get lives (length lives - 1) ≡ None → (rest : List Life) → reverse lives ≡ life ∷ rest → ⊥
-    by_last [] none rest turned = absurd cc
-    by_last (first ∷ more) none rest turned =
-        let some = slice_get-get_or (first ∷ more) (length (first ∷ more) - 1) first (omega arith) in
-        let wrong = sym none ∙ some in
-        absurd (cc wrong)
-
-pub not_started : (lives : List Life) (last : Life) → slice_get lives (length lives - 1) ≡ Some last
-    → ((number : ℕ) (start : Persist) → last.boot ≡ Started number start → ⊥) → (life : Life) (start : Persist) → LastStarts lives life start → ⊥
-not_started lives last is none life start starts =
-    let same = same_last (before_last lives) starts.earlier last life (sym (split_last lives last is) ∙ starts.last) in
-    none starts.number start (ap (λ (l : Life). l.boot) same ∙ starts.begun)
 
 -- The last life was started.
 pub starts : (lives : List Life) (life : Life) (number : ℕ) (start : Persist) → slice_get lives (length lives - 1) ≡ Some life → life.boot ≡ Started number start → LastStarts lives life start

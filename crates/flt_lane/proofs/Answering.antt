@@ -1,5 +1,5 @@
 -- The answer to a step is kept, and what follows for the step.
-use Rattle.std.proofs.Common.{◌≡◌, ℕ, ◌≤◌, ◌+◌, true, false, List, [], ◌∷◌, ◌++◌, ap, arith, refl, subst, sym, ◌∙◌}
+use Rattle.std.proofs.Common.{◌≡◌, ℕ, ◌≤◌, ◌+◌, true, List, [], ◌∷◌, ◌++◌, ap, arith, refl, subst, sym, ◌∙◌}
 use Rattle.std.specs.Prelude.{vec_len}
 use Rattle.std.specs.Vec.{vec_capacity}
 use Rattle.flt_flash.specs.declared.arm.Arm.{Arm}
@@ -11,7 +11,7 @@ use Rattle.flt_script.specs.declared.step.Step.{Step}
 use Rattle.flt_shared.specs.Call.{Seat}
 use Rattle.flt_store.specs.declared.store.Store.{Store}
 use Rattle.flt_store.specs.Store.{driver_of}
-use Rattle.flt_life.specs.Actions.{action_of, arms_of, response_size}
+use Rattle.flt_life.specs.Actions.{action_of, response_size}
 use Rattle.flt_life.specs.Answers.{Told, response_length, told_size, told_with}
 use Rattle.flt_life.specs.declared.answer.StepAnswer.{StepAnswer}
 use Rattle.flt_life.specs.declared.replies.LaneReplies.{LaneReplies}

@@ -205,9 +205,6 @@ module _ {F : _} {g : _} {A : Type 0} (locks : Locks F g) (main now : Seat) (job
   pub queued_left : sum_by queued_in (parts_in parts) ≤ jobs.left → queued_in (part_in part) ≤ jobs_now.left
   queued_left enough = let sum = sum_split queued_in parts done rest later part is.all next in omega (arith, sum, is.queue_left, enough)
 
-  pub arms_left : armed + sum_by arms_in (parts_in parts) ≤ 64 → armed_now + arms_in (part_in part) ≤ 64
-  arms_left enough = let sum = sum_split arms_in parts done rest later part is.all next in omega (arith, sum, is.arms, enough)
-
   all_widths : widths (parts_in parts) ≡ widths (parts_in done) + (width (part_in part) + widths (parts_in later))
   all_widths = ap widths (parts_split parts done rest later part is.all next) ∙ widths-append (parts_in done) (part_in part ∷ parts_in later)
 
@@ -225,12 +222,6 @@ module _ {F : _} {g : _} {A : Type 0} (locks : Locks F g) (main now : Seat) (job
 
   pub own_next : HasRoomForSteps own (own_steps (part_in part ∷ []))
   own_next = room_of_part own (part_in part) (parts_in later) own_left
-
-  pub index_left : vec_len own.answers < length parts
-  index_left =
-      let count = ap length (sym is.all) ∙ length-append done rest in
-      let some = ap length next in
-      omega (arith, count, some, is.own_len)
 
   pub living_more : (after : Seat) (jobs_after : QueueSeat) (own_after : LaneReplies) (told_after : Vec LaneReplies A) (armed_after : ℕ) (mine : List Told) (others : List (List Told))
       → Gains now after jobs_now jobs_after (part_in part) mine others (told_in own) (told_in own_after) (map told_in told.items) (map told_in told_after.items) → IsSeatOf locks.dem after → turn.IsSeatOf locks.queue.turn jobs_after

@@ -1,6 +1,6 @@
 -- The lanes of a life, handed out to its blocks.
-use Rattle.std.proofs.Common.{◌≡◌, inl, inr, ℕ, suc, ◌<◌, ◌≤◌, ◌+◌, List, [], ◌∷◌, ◌++◌, length, map, take, drop, get_or, drop-cons, add-one, arith, refl, sym, ap, ◌∙◌}
-use Rattle.std.proofs.lemmas.List.{append-nil, length-append, length-map, map-append, map_more}
+use Rattle.std.proofs.Common.{◌≡◌, inl, inr, ℕ, suc, ◌<◌, ◌+◌, List, [], ◌∷◌, ◌++◌, length, map, take, drop, get_or, drop-cons, add-one, arith, refl, sym, ap, ◌∙◌}
+use Rattle.std.proofs.lemmas.List.{append-nil, length-map, map-append, map_more}
 use Rattle.flt_script.specs.declared.step.Step.{Step}
 use Rattle.flt_script.specs.declared.step.Part.{Part}
 use Rattle.flt_script.specs.Part.{PartOf, part_of, parts_of}
@@ -37,13 +37,6 @@ taken_rooms block later all rooms left are count is =
     let long : length (steps_of rooms) ≡ length block = length-map rooms (λ (r : LaneRoom). r.steps.now) ∙ count in
     let same = same_pieces (steps_of rooms) (steps_of left) block later pieces long in
     record { taken = same.front; rest = same.back }
-
--- There are as many as the block has lanes.
-pub enough_rooms : (block later : List (List Step)) (all : List LaneRoom) → steps_of all ≡ lanes_in (inr block ∷ []) ++ later → length block ≤ length all
-enough_rooms block later all is =
-    let long = ap length (is ∙ ap (λ l. l ++ later) (append-nil block)) ∙ length-append block later in
-    let mapped = length-map all (λ (r : LaneRoom). r.steps.now) in
-    omega (arith, long, mapped)
 
 lanes-append : (part : PartOf Step) (later : List (PartOf Step)) → lanes_in (part ∷ later) ≡ lanes_in (part ∷ []) ++ lanes_in later
 lanes-append (inl step) later = refl

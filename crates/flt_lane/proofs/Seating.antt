@@ -1,7 +1,6 @@
 -- The lanes of a block at the main seats.
 use Rattle.std.proofs.Common.{◌≡◌, ℕ, ◌≤◌, ◌+◌, List, ◌∷◌, ◌++◌, [], All, length, map, arith, refl, sym, ap, subst, ◌∙◌}
 use Rattle.std.specs.Prelude.{sum_by}
-use Rattle.std.proofs.lemmas.List.{length-map}
 use Rattle.std.proofs.lemmas.List.Sums.{sum_by-cons}
 use Rattle.std.proofs.lemmas.List.Elements.{All-head, All-tail}
 use Rattle.flt_script.specs.declared.step.Step.{Step}
@@ -22,9 +21,6 @@ use Rattle.flt_lane.specs.Room.{IsLaneFor, all_calls, all_queued}
 use Rattle.flt_lane.specs.Runs.{QueueSeat}
 use Rattle.flt_lane.specs.Seating.{AreSeated, CanJoin, CanSeat, HaveJoined, IsJoined, IsSeated}
 use Rattle.flt_lane.specs.Work.{AreSeatsOf, IsPrepared}
-
-pub steps_of_length : (rooms : List LaneRoom) → length (steps_of rooms) ≡ length rooms
-steps_of_length rooms = length-map rooms (λ (room : LaneRoom). room.steps.now)
 
 -- What holds of each lane, holds of the next.
 pub next_of : {X : Type 0} (P : X → Type 0) (all done rest later : List X) (x : X) → done ++ rest ≡ all → rest ≡ x ∷ later → All P all → P x

@@ -1,20 +1,14 @@
 -- Lives that were begun over a device, one after the other.
-use Rattle.std.proofs.Common.{◌≡◌, ℕ, ◌<◌, ◌≤◌, List, [], ◌∷◌, ◌++◌, length, None, refl, ap, sym, subst, arith, append_assoc, ◌∙◌}
+use Rattle.std.proofs.Common.{◌≡◌, ℕ, ◌<◌, ◌≤◌, List, [], ◌∷◌, ◌++◌, refl, ap, sym, subst, arith, append_assoc, ◌∙◌}
 use Rattle.std.proofs.lemmas.List.{append-nil, length-append}
 use Rattle.flt_flash.specs.State.{PowerUp}
 use Rattle.flt_flash.specs.Blocks.{DeviceState}
-use Rattle.flt_config.specs.declared.config.Config.{Config}
-use Rattle.flt_script.specs.declared.step.Step.{Step}
-use Rattle.flt_script.specs.Part.{PartOf}
-use Rattle.flt_life.specs.Moment.{Medium, boot_in}
-use Rattle.flt_lives.specs.Devices.{BeginsFrom, BeginsLives, LivesOn}
+use Rattle.flt_life.specs.Moment.{boot_in}
+use Rattle.flt_lives.specs.Devices.{BeginsFrom, BeginsLives}
 
 -- None.
 pub none_begun : (most : ℕ) (device : DeviceState) → BeginsLives most device device
 none_begun most device = record { begun = []; boots = sym (append-nil device.bench.boots); few = omega arith; from = refl }
-
-pub none_lived : {A : Type 0} (medium : Medium) (c : Config) (device : DeviceState) (script : List (List (PartOf Step))) → LivesOn {A = A} medium c device device script None
-none_lived medium c device script = record { lived = tt; begun = none_begun (length script) device; sound = λ held spare sound. (held, spare, sound) }
 
 -- One.
 pub one_begun : (before after : DeviceState) → after.bench.boots ≡ before.bench.boots ++ boot_in before ∷ [] → BeginsLives 1 before after

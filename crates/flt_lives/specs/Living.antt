@@ -1,5 +1,5 @@
 -- A life on its way: what holds of its unit, its store, its journal and its answers after each step.
-use Rattle.std.specs.Prelude.{◌≡◌, ℕ, ◌+◌, ◌-◌, ◌≤◌, List, [], ◌∷◌, ◌++◌, length, map, reverse, sum_by, vec_len}
+use Rattle.std.specs.Prelude.{◌≡◌, ℕ, ◌+◌, ◌≤◌, List, [], ◌∷◌, ◌++◌, length, map, reverse, sum_by, vec_len}
 use Rattle.std.specs.Vec.{vec_capacity}
 use Rattle.flt_flash.specs.State.{HasRisenBy}
 use Rattle.flt_flash.specs.Blocks.{BlocksState}

@@ -1,6 +1,6 @@
 -- What is told of a script that was made.
-use Rattle.std.proofs.Common.{◌≡◌, ℕ, true, List, [], ◌∷◌, length, get_or, Option, Some, None, sym, ap, subst, arith, ◌∙◌}
-use Rattle.std.specs.Prelude.{Vec, if◌then◌else◌, reverse, slice_index_or}
+use Rattle.std.proofs.Common.{◌≡◌, ℕ, true, List, [], Option, Some, None, sym, ap, subst, ◌∙◌}
+use Rattle.std.specs.Prelude.{if◌then◌else◌, reverse, slice_index_or}
 use Rattle.std.specs.Io.KnownBytes.{Appends}
 use Rattle.std.proofs.KnownBytes.{Appends-nil}
 use Rattle.flt_config.specs.declared.config.Config.{Config}
@@ -9,23 +9,15 @@ use Rattle.flt_model.specs.Start.{Start as Start, History, fresh}
 use Rattle.flt_model.specs.declared.call.Op.{Op}
 use Rattle.flt_turn.specs.declared.vault.Entry.{Entry}
 use Rattle.flt_turn.specs.Journal.{ops_of}
-use Rattle.flt_script.specs.declared.step.Part.{Part}
 use Rattle.flt_script.specs.declared.step.Step.{Step}
-use Rattle.flt_script.specs.Part.{PartOf, parts_of}
+use Rattle.flt_script.specs.Part.{PartOf}
 use Rattle.flt_life.specs.declared.life.Boot.{Boot}
 use Rattle.flt_life.specs.declared.life.Boot.TheVariants.{Started}
 use Rattle.flt_life.specs.declared.replies.LaneReplies.{LaneReplies}
-use Rattle.flt_life.specs.Lives.{lists}
 use Rattle.flt_notify.specs.declared.table.SubTable.{SubTable}
 use Rattle.flt_notify.specs.Rows.{has_kind}
 use Rattle.flt_notify.specs.Table.{HasValuesOf, kinds_in, value_in, values_in}
 use Rattle.flt_watch.specs.Watched.{IsWatched}
-
--- The one life of a script.
-pub one_life : {A : Type 0} (lives : List (Vec Part A)) (life : Vec Part A) → length lives ≡ 1 → life ≡ get_or lives 0 life → lists lives ≡ parts_of life.items ∷ []
-one_life [] life one is = absurd (omega (arith, one))
-one_life {A} (first ∷ []) life one is = ap (λ (l : Vec Part A). parts_of l.items ∷ []) (sym is)
-one_life (first ∷ second ∷ rest) life one is = absurd (omega (arith, one))
 
 -- Nothing was written.
 pub nothing_written : (held : Option (List ℕ)) → (bytes : List ℕ) × Appends held held bytes

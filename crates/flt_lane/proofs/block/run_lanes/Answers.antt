@@ -1,4 +1,4 @@
-use Rattle.std.proofs.Common.{◌≡◌, ◌≤◌, map, arith, ap, subst, sym, ◌∙◌}
+use Rattle.std.proofs.Common.{◌≤◌, map, arith, ap, subst, sym, ◌∙◌}
 use Rattle.flt_config.specs.declared.config.Config.{Config}
 use Rattle.flt_life.specs.Parts.{calls_of}
 use Rattle.flt_life.specs.Room.{steps_of, told_in}

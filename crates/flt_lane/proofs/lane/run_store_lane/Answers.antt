@@ -1,4 +1,4 @@
-use Rattle.std.proofs.Common.{[], ap, refl, rules, sym, subst, ◌∙◌}
+use Rattle.std.proofs.Common.{[], ap, refl, rules, ◌∙◌}
 use Rattle.flt_config.specs.declared.config.Config.{Config}
 use Rattle.flt_lane.proofs.Running.{begins, calls_left, goes_on, has_run, possible_next, queued_left, room_next, start_now, take_past}
 use Rattle.flt_lane.proofs.Storing.{has_stored, leaves_step, storing_begins, storing_more}

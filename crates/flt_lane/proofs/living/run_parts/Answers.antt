@@ -1,4 +1,4 @@
-use Rattle.std.proofs.Common.{List, [], ◌∷◌, ◌++◌, ap, map, reverse, subst, sym, ◌∙◌}
+use Rattle.std.proofs.Common.{List, [], ◌∷◌, ◌++◌, map, reverse, subst, sym, ◌∙◌}
 use Rattle.flt_flash.specs.declared.arm.Arm.{Arm}
 use Rattle.flt_store.specs.Store.{driver_of}
 use Rattle.flt_life.specs.Ordered.{Deed, deeds_in}

@@ -1,4 +1,4 @@
-use Rattle.std.proofs.Common.{◌≤◌, [], ap, refl, rules, subst, sym, ◌∙◌}
+use Rattle.std.proofs.Common.{◌≤◌, [], refl, rules, subst, sym, ◌∙◌}
 use Rattle.std.specs.Prelude.{reverse}
 use Rattle.flt_turn.specs.Seats.{ops_before}
 use Rattle.flt_shared.specs.Call.{whole}

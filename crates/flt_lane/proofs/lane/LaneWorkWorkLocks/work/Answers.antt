@@ -1,4 +1,4 @@
-use Rattle.std.proofs.Common.{refl, rules, subst, sym, ◌∙◌}
+use Rattle.std.proofs.Common.{refl, rules, subst, sym}
 use Rattle.flt_lane.specs.Stepped.{HasRoomFor, IsLockCall}
 use Rattle.flt_lane.proofs.OffStore.{lane_calls, stays_off}
 use Rattle.flt_lane.proofs.Running.{begins, goes_on, has_run, possible_next, room_next}
