@@ -1,0 +1,58 @@
+// A whole input that is judged, and what is told of it.
+ghost use Rattle.std.specs.Prelude.{ℕ, List, IfOk, option_map};
+ghost use Rattle.flt_verdict.specs.Verdict.{Due, IsMade, Tells, due_of};
+
+use crate::reading::read_input;
+use crate::telling::tell;
+use crate::verdict::Verdict;
+use flt_io::{Sink, Source};
+use std::alloc::{AllocError, Global};
+
+/// What judges the bytes of a whole input.
+pub trait Judge: Drop + Sized {
+    /// What is due of bytes.
+    ghost is_judged: { Self → List ℕ → Due → Type 0 };
+
+    /// What is told of these bytes. The error is want of memory.
+    fn judge(self, alloc: Global, bytes: &[u8]) -> Result<Verdict, AllocError>
+        ensures { IfOk result (λ verdict. is_judged self bytes.now (due_of verdict)) };
+}
+
+/// What is told of what a source has left; nothing where memory is wanting.
+fn reckon<J: Judge, S: Source>(judge: J, alloc: Global, source: &mut S) -> Option<Verdict>
+    ensures { IsMade (J.is_judged judge) (record {
+      left = S.left source.old;
+      left_after = S.left source.new;
+      faults = S.faults source.old;
+      faults_after = S.faults source.new;
+    }) (option_map due_of result) }
+{
+    match read_input(alloc, source) {
+        Ok(bytes) => judge.judge(alloc, &bytes).ok(),
+        Err(fault) => fault.verdict(alloc),
+    }
+}
+
+/// Reads a source to its end, tells what is judged of its bytes, and answers the exit status: that of the verdict; 3 where the source
+/// failed; 4 in place of another where the sink did; 7 where memory was wanting; 9 where more than 16,777,216 bytes came.
+pub fn answer<J: Judge, S: Source, K: Sink>(
+    judge: J,
+    alloc: Global,
+    source: &mut S,
+    sink: &mut K,
+) -> u8
+    ensures { Tells (J.is_judged judge) (record {
+      left = S.left source.old;
+      left_after = S.left source.new;
+      faults = S.faults source.old;
+      faults_after = S.faults source.new;
+    }) (record {
+      held = K.held sink.old;
+      held_after = K.held sink.new;
+      faults = K.faults sink.old;
+      faults_after = K.faults sink.new;
+    }) result }
+{
+    let verdict = reckon(judge, alloc, source);
+    tell(verdict, sink)
+}
