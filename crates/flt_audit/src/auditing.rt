@@ -1,7 +1,7 @@
 // What is told of a trace.
-ghost use Rattle.std.specs.Prelude.{◌≡◌, IfOk, MatchOption, Some, option_map};
+ghost use Rattle.std.specs.Prelude.{◌≡◌, IfOk, MatchOption, Some};
 ghost use Rattle.flt_did.specs.Table.{dids_of};
-ghost use Rattle.flt_verdict.specs.Verdict.{IsMade, Tells, due_of};
+ghost use Rattle.flt_verdict.specs.Verdict.{Tells, due_of};
 ghost use Rattle.serde_json.specs.View.{view};
 ghost use Rattle.flt_trace.specs.Trace.{texts_of};
 ghost use Rattle.flt_audit.specs.Shape.{Told, Tells as TellsLife};
@@ -16,7 +16,7 @@ use flt_did::{DID_ROWS, DidTable};
 use flt_io::{Sink, Source};
 use flt_script::{ParseFault, Script, parse};
 use flt_trace::{Trace, read_line, read_trace};
-use flt_verdict::{Verdict, read_input, tell};
+use flt_verdict::{Judge, Verdict, answer};
 use json::Scratch;
 use serde_json::Value;
 use std::alloc::{AllocError, Global};
@@ -118,29 +118,22 @@ fn judge_any(alloc: Global, bytes: &[u8], dids: DidTable<DID_ROWS>) -> Result<Ve
     }
 }
 
-/// What is told of bytes. A trace that stands as it is printed is read without a value, in a third of the time.
-fn judge(alloc: Global, bytes: &[u8], dids: DidTable<DID_ROWS>) -> Result<Verdict, AllocError>
-    ensures { IfOk result (λ verdict. IsAudited (dids_of dids) bytes.now (due_of verdict)) }
-{
-    let mut scratch = Scratch::new(alloc);
-    match read_line(alloc, bytes, &mut scratch)? {
-        Some(trace) => judge_texts(alloc, &trace, dids),
-        None => judge_any(alloc, bytes, dids),
-    }
+/// The audit of a trace, by a table of data identifiers.
+#[derive(Drop)]
+struct Auditor {
+    dids: DidTable<DID_ROWS>,
 }
 
-/// What is told of what a source has left; nothing where memory is wanting.
-fn reckon<S: Source>(alloc: Global, source: &mut S, dids: DidTable<DID_ROWS>) -> Option<Verdict>
-    ensures { IsMade (IsAudited (dids_of dids)) (record {
-      left = S.left source.old;
-      left_after = S.left source.new;
-      faults = S.faults source.old;
-      faults_after = S.faults source.new;
-    }) (option_map due_of result) }
-{
-    match read_input(alloc, source) {
-        Ok(bytes) => judge(alloc, &bytes, dids).ok(),
-        Err(fault) => fault.verdict(alloc),
+impl Judge for Auditor {
+    ghost is_judged = { λ auditor. IsAudited (dids_of auditor.dids) };
+
+    /// What is told of bytes. A trace that stands as it is printed is read without a value, in a third of the time.
+    fn judge(self, alloc: Global, bytes: &[u8]) -> Result<Verdict, AllocError> {
+        let mut scratch = Scratch::new(alloc);
+        match read_line(alloc, bytes, &mut scratch)? {
+            Some(trace) => judge_texts(alloc, &trace, self.dids),
+            None => judge_any(alloc, bytes, self.dids),
+        }
     }
 }
 
@@ -166,6 +159,5 @@ pub fn audit<S: Source, K: Sink>(
       faults_after = K.faults sink.new;
     }) result }
 {
-    let verdict = reckon(alloc, source, dids);
-    tell(verdict, sink)
+    answer(Auditor { dids }, alloc, source, sink)
 }
