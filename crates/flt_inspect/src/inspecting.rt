@@ -1,15 +1,15 @@
 // What is reported about a dump.
-ghost use Rattle.std.specs.Prelude.{◌≡◌, ◌≢◌, ◌++◌, ◌∷◌, [], IfOk, OnOk, Result, Err, codes, option_map};
+ghost use Rattle.std.specs.Prelude.{◌≡◌, ◌≢◌, ◌++◌, ◌∷◌, [], IfOk, OnOk, Result, Err, codes};
 ghost use Rattle.std.specs.Fmt.{decimal};
 ghost use Rattle.flt_config.specs.declared.config.Config.{Config};
 ghost use Rattle.flt_did.specs.Table.{dids_of};
 ghost use Rattle.flt_generation.specs.Holding.{Generation, Fault};
 ghost use Rattle.flt_restore.specs.declared.fault.StartFault.TheVariants as faults;
 ghost use Rattle.flt_report.specs.Boot.{boot_text};
-ghost use Rattle.flt_verdict.specs.Verdict.{IsMade, Tells, due_of, line_due};
+ghost use Rattle.flt_verdict.specs.Verdict.{Tells, due_of, line_due};
 ghost use Rattle.flt_dump.specs.Held.{number_told};
 ghost use Rattle.flt_dump.specs.Reads.{content_of};
-ghost use Rattle.flt_inspect.specs.Inspection.{IsInspected, boot_of, generation_line, image_due, inspected, script_due, status_of};
+ghost use Rattle.flt_inspect.specs.Inspection.{IsInspected, boot_of, generation_line, image_due, script_due, status_of};
 
 use flt_did::{DID_ROWS, DidTable};
 use flt_dump::{Dump, DumpFault, Insight, look_into, read_dump};
@@ -17,7 +17,7 @@ use flt_io::{Sink, Source};
 use flt_report::{put_refused, put_script_fault};
 use flt_restore::StartFault;
 use flt_script::ScriptFault;
-use flt_verdict::{Verdict, read_input, tell};
+use flt_verdict::{Judge, Verdict, answer};
 use std::alloc::{AllocError, Global};
 
 /// The statuses: the image holds a generation; the lines before the image are no configuration; the image holds none; the lines behind
@@ -88,31 +88,24 @@ fn image_verdict(alloc: Global, dump: Dump) -> Result<Verdict, AllocError>
     Ok(Verdict { status, text })
 }
 
-/// What is reported about bytes.
-fn judge(alloc: Global, bytes: &[u8], dids: &DidTable<DID_ROWS>) -> Result<Verdict, AllocError>
-    ensures { IfOk result (λ verdict. due_of verdict ≡ inspected (dids_of dids.now) bytes.now) }
-{
-    match read_dump(alloc, bytes, dids) {
-        Ok(dump) => image_verdict(alloc, dump),
-        Err(DumpFault::Memory) => Err(AllocError),
-        Err(DumpFault::Script(fault)) => script_verdict(alloc, &fault),
-        Err(DumpFault::Other) => Verdict::line(alloc, NO_SCRIPT, b"script other"),
-        Err(DumpFault::PageLine(number)) => line_verdict(alloc, number),
-    }
+/// The inspection of a dump, by a table of data identifiers.
+#[derive(Drop)]
+struct Inspector<'a> {
+    dids: &'a DidTable<DID_ROWS>,
 }
 
-/// What is reported about the rest of a source; nothing if memory runs out.
-fn reckon<S: Source>(alloc: Global, source: &mut S, dids: &DidTable<DID_ROWS>) -> Option<Verdict>
-    ensures { IsMade (IsInspected (dids_of dids.now)) (record {
-      left = S.left source.old;
-      left_after = S.left source.new;
-      faults = S.faults source.old;
-      faults_after = S.faults source.new;
-    }) (option_map due_of result) }
-{
-    match read_input(alloc, source) {
-        Ok(bytes) => judge(alloc, &bytes, dids).ok(),
-        Err(fault) => fault.verdict(alloc),
+impl Judge for Inspector<'_> {
+    ghost is_judged = { λ inspector. IsInspected (dids_of inspector.dids.now) };
+
+    /// What is reported about bytes.
+    fn judge(self, alloc: Global, bytes: &[u8]) -> Result<Verdict, AllocError> {
+        match read_dump(alloc, bytes, self.dids) {
+            Ok(dump) => image_verdict(alloc, dump),
+            Err(DumpFault::Memory) => Err(AllocError),
+            Err(DumpFault::Script(fault)) => script_verdict(alloc, &fault),
+            Err(DumpFault::Other) => Verdict::line(alloc, NO_SCRIPT, b"script other"),
+            Err(DumpFault::PageLine(number)) => line_verdict(alloc, number),
+        }
     }
 }
 
@@ -138,6 +131,5 @@ pub fn inspect<S: Source, K: Sink>(
       faults_after = K.faults sink.new;
     }) result }
 {
-    let verdict = reckon(alloc, source, dids);
-    tell(verdict, sink)
+    answer(Inspector { dids }, alloc, source, sink)
 }
