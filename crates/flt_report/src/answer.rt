@@ -3,6 +3,7 @@ ghost use Rattle.std.specs.Prelude.{◌≡◌, ◌≤◌, ◌+◌, ◌++◌, ◌
 ghost use Rattle.std.specs.Vec.{vec_capacity};
 ghost use Rattle.flt_dcm.specs.ReplyKind.{reply_with};
 ghost use Rattle.flt_life.specs.Answers.{IsReplyWithin, IsAnswerWithin, reply_in, with_reply};
+ghost use Rattle.flt_report.specs.Line.{Puts};
 ghost use Rattle.flt_report.specs.Room.{reply_room, kept_room, answer_room};
 ghost use Rattle.flt_report.specs.Answer.{flag_text, shown_text, ignored_text, reply_text, save_fault_text};
 ghost use Rattle.flt_report.specs.Answer.{last_text, queue_text, drained_text, answer_text, answer_part};
@@ -23,9 +24,7 @@ const ABOUT_ANSWER: usize = 5;
 /// Puts 0 or 1.
 fn put_flag(flag: bool, out: &mut Vec<u8>)
     requires { vec_len out.old + 1 ≤ vec_capacity out.old }
-    ensures items { out.new.items ≡ out.old.items ++ flag_text flag }
-    ensures len { vec_len out.new ≤ vec_len out.old + 1 }
-    ensures room { vec_capacity out.old ≤ vec_capacity out.new }
+    ensures { Puts out.old out.new (flag_text flag) 1 }
 {
     match flag {
         false => put_text(b"0", out),
@@ -37,9 +36,7 @@ fn put_flag(flag: bool, out: &mut Vec<u8>)
 #[tactic(auto, unfolding(crate::specs::Answer::shown_text))]
 fn put_shown(shown: &Shown, out: &mut Vec<u8>)
     requires { vec_len out.old + 93 ≤ vec_capacity out.old }
-    ensures items { out.new.items ≡ out.old.items ++ shown_text shown.now }
-    ensures len { vec_len out.new ≤ vec_len out.old + 93 }
-    ensures room { vec_capacity out.old ≤ vec_capacity out.new }
+    ensures { Puts out.old out.new (shown_text shown.now) 93 }
 {
     let Shown {
         status,
@@ -66,9 +63,7 @@ fn put_shown(shown: &Shown, out: &mut Vec<u8>)
 /// Puts why a report was ignored.
 fn put_ignored(cause: Cause, out: &mut Vec<u8>)
     requires { vec_len out.old + 15 ≤ vec_capacity out.old }
-    ensures items { out.new.items ≡ out.old.items ++ ignored_text cause }
-    ensures len { vec_len out.new ≤ vec_len out.old + 15 }
-    ensures room { vec_capacity out.old ≤ vec_capacity out.new }
+    ensures { Puts out.old out.new (ignored_text cause) 15 }
 {
     match cause {
         Cause::SettingOff => put_text(b"ignored setting", out),
@@ -80,9 +75,7 @@ fn put_ignored(cause: Cause, out: &mut Vec<u8>)
 /// Puts why a state was not saved.
 fn put_save_fault(fault: SaveFault, out: &mut Vec<u8>)
     requires { vec_len out.old + 8 ≤ vec_capacity out.old }
-    ensures items { out.new.items ≡ out.old.items ++ save_fault_text fault }
-    ensures len { vec_len out.new ≤ vec_len out.old + 8 }
-    ensures room { vec_capacity out.old ≤ vec_capacity out.new }
+    ensures { Puts out.old out.new (save_fault_text fault) 8 }
 {
     match fault {
         SaveFault::Flash => put_text(b"flash", out),
@@ -94,9 +87,7 @@ fn put_save_fault(fault: SaveFault, out: &mut Vec<u8>)
 /// Puts what became of the last job of a block.
 fn put_last(last: LastResult, out: &mut Vec<u8>)
     requires { vec_len out.old + 7 ≤ vec_capacity out.old }
-    ensures items { out.new.items ≡ out.old.items ++ last_text last }
-    ensures len { vec_len out.new ≤ vec_len out.old + 7 }
-    ensures room { vec_capacity out.old ≤ vec_capacity out.new }
+    ensures { Puts out.old out.new (last_text last) 7 }
 {
     match last {
         LastResult::Never => put_text(b"none", out),
@@ -109,9 +100,7 @@ fn put_last(last: LastResult, out: &mut Vec<u8>)
 /// Puts the queue's reply to a post or a question.
 fn put_queue_reply(reply: &QueueReply, out: &mut Vec<u8>)
     requires { vec_len out.old + 8 ≤ vec_capacity out.old }
-    ensures items { out.new.items ≡ out.old.items ++ queue_text reply.now }
-    ensures len { vec_len out.new ≤ vec_len out.old + 8 }
-    ensures room { vec_capacity out.old ≤ vec_capacity out.new }
+    ensures { Puts out.old out.new (queue_text reply.now) 8 }
 {
     match reply {
         QueueReply::Accepted => put_text(b"accepted", out),
@@ -126,9 +115,7 @@ fn put_queue_reply(reply: &QueueReply, out: &mut Vec<u8>)
 #[tactic(auto, unfolding(crate::specs::Answer::drained_text))]
 fn put_drained(written: u16, failed: u16, out: &mut Vec<u8>)
     requires { vec_len out.old + 36 ≤ vec_capacity out.old }
-    ensures items { out.new.items ≡ out.old.items ++ drained_text written failed }
-    ensures len { vec_len out.new ≤ vec_len out.old + 36 }
-    ensures room { vec_capacity out.old ≤ vec_capacity out.new }
+    ensures { Puts out.old out.new (drained_text written failed) 36 }
 {
     put_text(b"written ", out);
     put_number(u32::from(written), out);
@@ -139,9 +126,7 @@ fn put_drained(written: u16, failed: u16, out: &mut Vec<u8>)
 /// Puts a reply, with these bytes if it is a response.
 fn put_beside<B>(reply: &ReplyOf<B>, response: &[u8], out: &mut Vec<u8>)
     requires { vec_len out.old + reply_room reply.now response.now ≤ vec_capacity out.old }
-    ensures items { out.new.items ≡ out.old.items ++ reply_text (reply_with reply.now response.now) }
-    ensures len { vec_len out.new ≤ vec_len out.old + reply_room reply.now response.now }
-    ensures room { vec_capacity out.old ≤ vec_capacity out.new }
+    ensures { Puts out.old out.new (reply_text (reply_with reply.now response.now)) (reply_room reply.now response.now) }
 {
     match reply {
         ReplyOf::Taken => put_text(b"taken", out),
@@ -199,9 +184,7 @@ pub fn put_kept_reply(
 fn put_told(answer: &StepAnswer<KeptReply>, responses: &[u8], out: &mut Vec<u8>)
     requires within { IsAnswerWithin (length responses.now) answer.now }
     requires room { vec_len out.old + answer_room answer.now ≤ vec_capacity out.old }
-    ensures items { out.new.items ≡ out.old.items ++ answer_text (with_reply (reply_in responses.now) answer.now) }
-    ensures len { vec_len out.new ≤ vec_len out.old + answer_room answer.now }
-    ensures room { vec_capacity out.old ≤ vec_capacity out.new }
+    ensures { Puts out.old out.new (answer_text (with_reply (reply_in responses.now) answer.now)) (answer_room answer.now) }
 {
     match answer {
         StepAnswer::Dem(told) => {

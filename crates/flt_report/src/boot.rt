@@ -3,6 +3,7 @@ ghost use Rattle.std.specs.Prelude.{◌≡◌, ◌≢◌, ◌≤◌, ◌<◌, �
 ghost use Rattle.std.specs.Vec.{vec_capacity};
 ghost use Rattle.flt_restore.specs.declared.fault.StartFault.TheVariants as faults;
 ghost use Rattle.flt_report.specs.Boot.{place_text, mark_text, refusal_text, boot_text, boot_line};
+ghost use Rattle.flt_report.specs.Line.{Puts};
 
 use crate::digits::{put_number, put_text};
 use flt_generation::{Mark, Place};
@@ -17,9 +18,7 @@ const BOOT_ROOM: usize = 160;
 #[tactic(auto, unfolding(crate::specs::Boot::mark_text))]
 fn put_mark(mark: &Mark, out: &mut Vec<u8>)
     requires { vec_len out.old + 54 ≤ vec_capacity out.old }
-    ensures items { out.new.items ≡ out.old.items ++ mark_text mark.now }
-    ensures len { vec_len out.new ≤ vec_len out.old + 54 }
-    ensures room { vec_capacity out.old ≤ vec_capacity out.new }
+    ensures { Puts out.old out.new (mark_text mark.now) 54 }
 {
     put_text(b"config ", out);
     put_number(u32::from(mark.id), out);
@@ -32,9 +31,7 @@ fn put_mark(mark: &Mark, out: &mut Vec<u8>)
 /// Puts where an image is damaged, in at most 33 bytes.
 fn put_place(place: Place, out: &mut Vec<u8>)
     requires { vec_len out.old + 33 ≤ vec_capacity out.old }
-    ensures items { out.new.items ≡ out.old.items ++ place_text place }
-    ensures len { vec_len out.new ≤ vec_len out.old + 33 }
-    ensures room { vec_capacity out.old ≤ vec_capacity out.new }
+    ensures { Puts out.old out.new (place_text place) 33 }
 {
     match place {
         Place::Page { sector, page } => {
@@ -54,9 +51,7 @@ fn put_place(place: Place, out: &mut Vec<u8>)
 fn put_refusal(fault: &StartFault, out: &mut Vec<u8>)
     requires refused { fault.now ≢ faults.Flash }
     requires room { vec_len out.old + 116 ≤ vec_capacity out.old }
-    ensures items { out.new.items ≡ out.old.items ++ refusal_text fault.now }
-    ensures len { vec_len out.new ≤ vec_len out.old + 116 }
-    ensures room { vec_capacity out.old ≤ vec_capacity out.new }
+    ensures { Puts out.old out.new (refusal_text fault.now) 116 }
 {
     match fault {
         StartFault::Flash => unreachable!(),

@@ -3,6 +3,7 @@ ghost use Rattle.std.specs.Prelude.{◌≡◌, ◌≤◌, ◌<◌, ◌+◌, ◌*
 ghost use Rattle.std.specs.Fmt.{decimal, signed_decimal, digit_glyph};
 ghost use Rattle.std.specs.Vec.{vec_capacity};
 ghost use Rattle.flt_script.specs.Bytes.{two_digits, spaced, bytes_text};
+ghost use Rattle.flt_report.specs.Line.{Puts};
 
 /// Puts a text.
 #[inline]
@@ -53,9 +54,7 @@ fn put_digits(number: u32, out: &mut Vec<u8>)
 #[tactic(auto, using(crate::proofs::Decimals::at_most_ten))]
 pub(crate) fn put_number(number: u32, out: &mut Vec<u8>)
     requires { vec_len out.old + 10 ≤ vec_capacity out.old }
-    ensures items { out.new.items ≡ out.old.items ++ decimal number }
-    ensures len { vec_len out.new ≤ vec_len out.old + 10 }
-    ensures room { vec_capacity out.old ≤ vec_capacity out.new }
+    ensures { Puts out.old out.new (decimal number) 10 }
 {
     put_digits(number, out);
 }
@@ -63,9 +62,7 @@ pub(crate) fn put_number(number: u32, out: &mut Vec<u8>)
 /// Puts a number with its sign, in at most eleven bytes.
 pub(crate) fn put_signed(number: i8, out: &mut Vec<u8>)
     requires { vec_len out.old + 11 ≤ vec_capacity out.old }
-    ensures items { out.new.items ≡ out.old.items ++ signed_decimal number }
-    ensures len { vec_len out.new ≤ vec_len out.old + 11 }
-    ensures room { vec_capacity out.old ≤ vec_capacity out.new }
+    ensures { Puts out.old out.new (signed_decimal number) 11 }
 {
     if number < 0 {
         out.push_reserved(b'-');
@@ -126,9 +123,7 @@ fn put_spaced(bytes: &[u8], out: &mut Vec<u8>)
 /// Puts bytes with single spaces between them.
 pub(crate) fn put_bytes(bytes: &[u8], out: &mut Vec<u8>)
     requires { vec_len out.old + 3 * length bytes.now ≤ vec_capacity out.old }
-    ensures items { out.new.items ≡ out.old.items ++ bytes_text bytes.now }
-    ensures len { vec_len out.new ≤ vec_len out.old + 3 * length bytes.now }
-    ensures room { vec_capacity out.old ≤ vec_capacity out.new }
+    ensures { Puts out.old out.new (bytes_text bytes.now) (3 * length bytes.now) }
 {
     let [first, others @ ..] = bytes else {
         return;

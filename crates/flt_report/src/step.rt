@@ -6,7 +6,7 @@ ghost use Rattle.flt_script.specs.Bytes.{letter_of};
 ghost use Rattle.flt_script.specs.Step.{step_text};
 ghost use Rattle.flt_life.specs.Answers.{IsAnswerWithin, reply_in, with_reply};
 ghost use Rattle.flt_report.specs.Answer.{step_line};
-ghost use Rattle.flt_report.specs.Line.{GrowsByFront};
+ghost use Rattle.flt_report.specs.Line.{GrowsByFront, Puts};
 
 use crate::answer::put_answer;
 use crate::digits::{put_bytes, put_number, put_text};
@@ -23,9 +23,7 @@ const WORDS_ROOM: usize = 112;
 /// Puts the words of a report of this kind, in at most 18 bytes.
 fn put_report(event: u16, report: Report, out: &mut Vec<u8>)
     requires { vec_len out.old + 18 ≤ vec_capacity out.old }
-    ensures items { out.new.items ≡ out.old.items ++ step_text (Step.Report event report) }
-    ensures len { vec_len out.new ≤ vec_len out.old + 18 }
-    ensures room { vec_capacity out.old ≤ vec_capacity out.new }
+    ensures { Puts out.old out.new (step_text (Step.Report event report)) 18 }
 {
     match report {
         Report::Passed => put_text(b"pass ", out),
@@ -39,9 +37,7 @@ fn put_report(event: u16, report: Report, out: &mut Vec<u8>)
 /// Puts the words of a signal, in at most 25 bytes.
 fn put_signal(index: u8, value: u16, out: &mut Vec<u8>)
     requires { vec_len out.old + 25 ≤ vec_capacity out.old }
-    ensures items { out.new.items ≡ out.old.items ++ step_text (Step.Signal index value) }
-    ensures len { vec_len out.new ≤ vec_len out.old + 25 }
-    ensures room { vec_capacity out.old ≤ vec_capacity out.new }
+    ensures { Puts out.old out.new (step_text (Step.Signal index value)) 25 }
 {
     put_text(b"sig ", out);
     put_number(u32::from(index), out);
@@ -52,9 +48,7 @@ fn put_signal(index: u8, value: u16, out: &mut Vec<u8>)
 /// Puts the words of an enable condition, in at most 28 bytes.
 fn put_enable(condition: u8, fulfilled: bool, out: &mut Vec<u8>)
     requires { vec_len out.old + 28 ≤ vec_capacity out.old }
-    ensures items { out.new.items ≡ out.old.items ++ step_text (Step.Enable condition fulfilled) }
-    ensures len { vec_len out.new ≤ vec_len out.old + 28 }
-    ensures room { vec_capacity out.old ≤ vec_capacity out.new }
+    ensures { Puts out.old out.new (step_text (Step.Enable condition fulfilled)) 28 }
 {
     put_text(b"enable ", out);
     put_number(u32::from(condition), out);
@@ -65,9 +59,7 @@ fn put_enable(condition: u8, fulfilled: bool, out: &mut Vec<u8>)
 /// Puts the words of a request, in at most 52 bytes.
 fn put_request(tester: u8, bytes: &ArrayVec<u8, REQUEST>, out: &mut Vec<u8>)
     requires { vec_len out.old + 52 ≤ vec_capacity out.old }
-    ensures items { out.new.items ≡ out.old.items ++ step_text (Step.Request tester bytes.now) }
-    ensures len { vec_len out.new ≤ vec_len out.old + 52 }
-    ensures room { vec_capacity out.old ≤ vec_capacity out.new }
+    ensures { Puts out.old out.new (step_text (Step.Request tester bytes.now)) 52 }
 {
     put_text(b"t ", out);
     out.push_reserved(b'A' + tester.min(3));
@@ -79,9 +71,7 @@ fn put_request(tester: u8, bytes: &ArrayVec<u8, REQUEST>, out: &mut Vec<u8>)
 fn put_block(word: &[u8], block: u8, out: &mut Vec<u8>)
     requires word { length word.now ≤ 5 }
     requires room { vec_len out.old + 15 ≤ vec_capacity out.old }
-    ensures items { out.new.items ≡ out.old.items ++ word.now ++ decimal block }
-    ensures len { vec_len out.new ≤ vec_len out.old + 15 }
-    ensures room { vec_capacity out.old ≤ vec_capacity out.new }
+    ensures { Puts out.old out.new (word.now ++ decimal block) 15 }
 {
     put_text(word, out);
     put_number(u32::from(block), out);
@@ -90,9 +80,7 @@ fn put_block(word: &[u8], block: u8, out: &mut Vec<u8>)
 /// Puts the words of a post, in at most 112 bytes.
 fn put_post(urgent: bool, block: u8, bytes: &ArrayVec<u8, BLOCK_BYTES>, out: &mut Vec<u8>)
     requires { vec_len out.old + 112 ≤ vec_capacity out.old }
-    ensures items { out.new.items ≡ out.old.items ++ step_text (Step.Post urgent block bytes.now) }
-    ensures len { vec_len out.new ≤ vec_len out.old + 112 }
-    ensures room { vec_capacity out.old ≤ vec_capacity out.new }
+    ensures { Puts out.old out.new (step_text (Step.Post urgent block bytes.now)) 112 }
 {
     if urgent {
         put_block(b"urge ", block, out);
