@@ -1,5 +1,5 @@
 -- The lives of a script, as they were made; no life is refused for the flash: it is dark instead.
-use Rattle.std.proofs.Common.{◌≡◌, ◌≢◌, ℕ, ◌<◌, ◌≤◌, arith, List, [], ◌∷◌, length, reverse, Option, sym, subst}
+use Rattle.std.proofs.Common.{Global, ◌≡◌, ◌≢◌, ℕ, ◌<◌, ◌≤◌, arith, List, [], ◌∷◌, length, reverse, Option, sym, subst}
 use Rattle.std.specs.Prelude.{All, IfSome, Vec}
 use Rattle.std.proofs.lemmas.List.{length-map, reverse-append, reverse-reverse}
 use Rattle.std.proofs.lemmas.Option.{IfSome_then}
@@ -10,6 +10,7 @@ use Rattle.flt_flash.specs.State.{PowerUp}
 use Rattle.flt_config.specs.declared.config.Config.{Config}
 use Rattle.flt_restore.specs.declared.fault.StartFault.TheVariants.{Flash}
 use Rattle.flt_script.specs.declared.script.Script.{Script}
+use Rattle.flt_script.specs.declared.step.Part.{Part}
 use Rattle.flt_script.specs.declared.step.Step.{Step}
 use Rattle.flt_script.specs.Part.{PartOf, parts_of}
 use Rattle.flt_life.specs.declared.life.Boot.{Boot}
@@ -69,7 +70,7 @@ some_lives script made is =
     omega (arith, size, some, many, same)
 
 -- A device can bear the lives of a script: with a boot for each of as many as it may have, and with no arm yet.
-pub can_live : (script : Script) (device : DeviceState) → 256 ≤ device.bench.boots_left → device.bench.armed ≡ 0 → CanLiveOn script.config device script.lives.items
+can_live : (script : Script) (device : DeviceState) → 256 ≤ device.bench.boots_left → device.bench.armed ≡ 0 → CanLiveOn script.config device script.lives.items
 can_live script device boots unarmed =
     let lives = script.few_lives in
     let steps = script.few in
@@ -84,6 +85,15 @@ can_live script device boots unarmed =
       possible = possible_lives script.config script.lives.items script.in_range;
       arms = omega (arith, arms, armed, unarmed);
     }
+
+-- The same of the lives as a call is handed them, and of what the call makes of them.
+module _ (script : Script) (handed : List (Vec Part Global)) (same : handed ≡ script.lives.items) where
+  pub can_live_handed : (device : DeviceState) → 256 ≤ device.bench.boots_left → device.bench.armed ≡ 0 → CanLiveOn script.config device handed
+  can_live_handed device boots unarmed = subst (CanLiveOn script.config device) (sym same) (can_live script device boots unarmed)
+
+  pub lived_handed : {A : Type 0} (medium : Medium) (before after : DeviceState) (made : Option (Vec Life A)) → LivesOn medium script.config before after (lists handed) made
+      → LivesOn medium script.config before after (lists script.lives.items) made
+  lived_handed medium before after made = subst (λ (lives : List (Vec Part Global)). LivesOn medium script.config before after (lists lives) made) same
 
 pub none_by_flash : {A : Type 0} (c : Config) (medium : Medium) (before after : DeviceState) (script : List (List (PartOf Step))) (lives : Option (Vec Life A)) → LivesOn medium c before after script lives
     → IfSome lives (λ lives. All (λ (life : Life). life.boot ≢ Refused Flash) lives.items)
