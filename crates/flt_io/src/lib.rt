@@ -4,7 +4,8 @@
 //! `push` takes a whole piece or fails after a prefix of it; either fails only if the object's count of faults rose.
 //! `read_front` reads a source to its end, or up to a number of bytes.
 //! `MemSource` and `MemSink` are in memory and fail when they are told to; `ReadSource` and `WriteSink` are over std's
-//! readers and writers; `Discard` is a sink that keeps nothing. Read `specs/Fault.antt` first, then `specs/Sink.antt`.
+//! readers and writers; `Discard` is a sink that keeps nothing. Read `specs/Fault.antt` first, then `specs/Sink.antt`; `Writes` of
+//! `specs/Written.antt` is what the writers above promise of a text.
 #![tactic(auto)]
 
 mod discard;

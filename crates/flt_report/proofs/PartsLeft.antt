@@ -1,5 +1,5 @@
 -- The lines of the parts of a life that are left.
-use Rattle.std.proofs.Common.{◌≡◌, ℕ, ◌+◌, ◌-◌, ◌<◌, ◌≤◌, List, [], ◌∷◌, ◌++◌, length, take, drop, get_or, refl, sym, ◌∙◌, inl, inr, drop-cons, add-one, arith}
+use Rattle.std.proofs.Common.{◌≡◌, ℕ, ◌+◌, ◌-◌, ◌<◌, ◌≤◌, List, [], ◌∷◌, ◌++◌, length, take, drop, get_or, refl, sym, inl, inr, drop-cons, add-one, arith}
 use Rattle.std.specs.Prelude.{slice_index_or}
 use Rattle.std.proofs.lemmas.List.{drop-drop, length-drop, take_all}
 use Rattle.std.proofs.Math.ListN.{drop_of_length-le}
@@ -18,9 +18,6 @@ parts_left parts own told index answered lanes = parts_text (lanes + 1) (parts_o
 -- The elements from an index on, as a range of them.
 pub range_is : {A : Type 0} (n : ℕ) (xs : List A) → take (length xs - n) (drop n xs) ≡ drop n xs
 range_is n xs = let size = length-drop n xs in take_all (length xs - n) (drop n xs) (omega (arith, size))
-
-pub none_from : {A : Type 0} (n : ℕ) (xs : List A) → length xs ≤ n → take (length xs - length xs) (drop (length xs) xs) ≡ drop n xs
-none_from n xs past = range_is (length xs) xs ∙ drop_of_length-le xs (omega arith) ∙ sym (drop_of_length-le xs past)
 
 next_told : (own : List Told) (answered : ℕ) → answered < length own → drop answered own ≡ slice_index_or own answered answers.Dark ∷ drop (answered + 1) own
 next_told own answered within = rw (drop-cons own answered answers.Dark within, add-one) refl

@@ -1,13 +1,16 @@
 -- Lines that are written one after the other.
 use Rattle.std.proofs.Common.{◌≡◌, ℕ, ◌+◌, ◌<◌, ◌≤◌, min, map, List, [], ◌∷◌, ◌++◌, length, take, drop, get_or, Option, refl, sym, subst, ap, ◌∙◌, append_assoc, inl, inr, drop-cons, add-one, arith}
-use Rattle.std.specs.Prelude.{Vec, Result, OnErr, Ok, Err}
+use Rattle.std.specs.Prelude.{Vec, Result}
 use Rattle.std.proofs.lemmas.List.{append-nil, take_at, take_all, take-append-le}
 use Rattle.std.proofs.lemmas.Bool.{cases_lt}
+use Rattle.std.proofs.lemmas.Result.{on_ok_weaker, on_err_weaker}
 use Rattle.std.proofs.Math.Seq.{take-append-add}
 use Rattle.std.proofs.Math.ListN.{drop_of_length-le}
 use Rattle.std.proofs.KnownBytes.{Appends-trans, Appends-nil}
 use Rattle.std.specs.Io.KnownBytes.{Appends}
 use Rattle.flt_io.specs.Sink.{AppendsFront}
+use Rattle.flt_io.specs.Written.{Writes}
+use Rattle.flt_io.specs.declared.stream.StreamFault.{StreamFault}
 use Rattle.flt_script.specs.declared.step.Step.{Step}
 use Rattle.flt_life.specs.declared.replies.LaneReplies.{LaneReplies}
 use Rattle.flt_life.specs.Room.{told_in}
@@ -16,10 +19,6 @@ use Rattle.flt_life.specs.declared.answer.StepAnswer.{StepAnswer}
 use Rattle.flt_life.specs.Answers.{KeptReply, Told, with_reply, reply_in, told_by}
 use Rattle.flt_report.specs.Answer.{step_line}
 use Rattle.flt_report.specs.Life.{lane_steps, lines_text, lane_text, lanes_text}
-
-pub always_on_err : {T E P : Type 0} (r : Result T E) → P → OnErr r P
-always_on_err (Ok x) p = tt
-always_on_err (Err e) p = p
 
 pub starts : (held : Option (List ℕ)) (whole : List ℕ) → IsWritten held held whole whole
 starts held whole = record { text = []; appended = Appends-nil held; both = refl }
@@ -45,6 +44,16 @@ front_first a c piece more first = (min first.0 (length piece), rw (take_within 
 
 pub front_next : (a b c : Option (List ℕ)) (text piece : List ℕ) → Appends a b text → AppendsFront b c piece → AppendsFront a c (text ++ piece)
 front_next a b c text piece first second = (length text + second.0, rw take-append-add (Appends-trans a b c text (take second.0 piece) first second.1))
+
+-- A text is written behind one that was.
+pub writes_next : {K T : Type 0} {held : K → Option (List ℕ)} {faults : K → ℕ} {before after last : K} {more : List ℕ} {result : Result T StreamFault} (text : List ℕ)
+    → Appends (held before) (held after) text → faults before ≤ faults after → Writes held faults after last more result → Writes held faults before last (text ++ more) result
+writes_next {held = held} {before = before} {after = after} {last = last} {more = more} {result = result} text first later next = record {
+  ok = on_ok_weaker result (Appends-trans (held before) (held after) (held last) text more first) next.ok;
+  err = on_err_weaker result (front_next (held before) (held after) (held last) text more first) next.err;
+  later = let l = next.later in omega (arith, later, l);
+  cause = λ is. let rose = next.cause is in omega (arith, later, rose);
+}
 
 -- The same, of a text that is all.
 pub front_of : (a b : Option (List ℕ)) (text more : List ℕ) → Appends a b text → AppendsFront a b (text ++ more)

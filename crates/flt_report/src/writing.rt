@@ -1,8 +1,6 @@
 //! The lines of a life, written to a sink in pieces, and what is written where a script has none.
-ghost use Rattle.std.specs.Prelude.{◌≡◌, ◌≢◌, ◌+◌, ◌++◌, ◌≤◌, ◌<◌, ◌^◌, [], OnOk, OnErr, IsErrOf, drop, length, map, slice_index_or, vec_len};
-ghost use Rattle.std.specs.Io.KnownBytes.{Appends};
-ghost use Rattle.flt_io.specs.Fault.{Rose};
-ghost use Rattle.flt_io.specs.Sink.{AppendsFront};
+ghost use Rattle.std.specs.Prelude.{◌≡◌, ◌≢◌, ◌+◌, ◌++◌, ◌<◌, ◌^◌, [], OnOk, drop, length, map, slice_index_or, vec_len};
+ghost use Rattle.flt_io.specs.Written.{Writes};
 ghost use Rattle.flt_restore.specs.declared.fault.StartFault.TheVariants.{Flash};
 ghost use Rattle.flt_script.specs.Part.{parts_of};
 ghost use Rattle.flt_life.specs.declared.answer.StepAnswer.TheVariants as answers;
@@ -12,7 +10,7 @@ ghost use Rattle.flt_life.specs.Parts.{widths};
 ghost use Rattle.flt_life.specs.Room.{told_in};
 ghost use Rattle.flt_report.specs.Answer.{step_line};
 ghost use Rattle.flt_report.specs.Boot.{script_fault_line, unread_line};
-ghost use Rattle.flt_report.specs.Left.{IsWritten};
+ghost use Rattle.flt_report.specs.Left.{WritesBut};
 ghost use Rattle.flt_report.specs.Life.{block_text, lane_steps, lane_text, lanes_text, life_text, lines_text, parts_text};
 
 use crate::block::{put_end, put_lane, put_par};
@@ -31,10 +29,7 @@ const PIECE: usize = 2048;
 
 /// Writes a text.
 pub fn write_text<K: Sink>(text: &[u8], sink: &mut K) -> Result<(), StreamFault>
-    ensures ok { OnOk result (Appends (K.held sink.old) (K.held sink.new) text.now) }
-    ensures err { OnErr result (AppendsFront (K.held sink.old) (K.held sink.new) text.now) }
-    ensures later { K.faults sink.old ≤ K.faults sink.new }
-    ensures cause { IsErrOf result StreamFault.Failed → Rose (K.faults sink.old) (K.faults sink.new) }
+    ensures { Writes K.held K.faults sink.old sink.new text.now result }
 {
     sink.push(text)?;
     Ok(())
@@ -61,10 +56,7 @@ fn write_steps<K: Sink>(
     replies: &LaneReplies,
     sink: &mut K,
 ) -> Result<(), StreamFault>
-    ensures ok { OnOk result (Appends (K.held sink.old) (K.held sink.new) (lines_text steps.now (told_in replies.now))) }
-    ensures err { OnErr result (AppendsFront (K.held sink.old) (K.held sink.new) (lines_text steps.now (told_in replies.now))) }
-    ensures later { K.faults sink.old ≤ K.faults sink.new }
-    ensures cause { IsErrOf result StreamFault.Failed → Rose (K.faults sink.old) (K.faults sink.new) }
+    ensures { Writes K.held K.faults sink.old sink.new (lines_text steps.now (told_in replies.now)) result }
 {
     let count = steps.len().min(replies.answers.len());
     for index in 0..count {
@@ -87,10 +79,7 @@ fn write_lane<K: Sink>(
     replies: &LaneReplies,
     sink: &mut K,
 ) -> Result<(), StreamFault>
-    ensures ok { OnOk result (Appends (K.held sink.old) (K.held sink.new) (lane_text number steps.now (told_in replies.now))) }
-    ensures err { OnErr result (AppendsFront (K.held sink.old) (K.held sink.new) (lane_text number steps.now (told_in replies.now))) }
-    ensures later { K.faults sink.old ≤ K.faults sink.new }
-    ensures cause { IsErrOf result StreamFault.Failed → Rose (K.faults sink.old) (K.faults sink.new) }
+    ensures { Writes K.held K.faults sink.old sink.new (lane_text number steps.now (told_in replies.now)) result }
 {
     line.clear();
     put_lane(number, line)?;
@@ -107,10 +96,7 @@ fn write_lanes<K: Sink>(
     sink: &mut K,
 ) -> Result<(), StreamFault>
     requires { number + length lanes.now < 2 ^ 32 }
-    ensures ok { OnOk result (Appends (K.held sink.old) (K.held sink.new) (lanes_text number (lane_steps lanes.now) (map told_in told.now))) }
-    ensures err { OnErr result (AppendsFront (K.held sink.old) (K.held sink.new) (lanes_text number (lane_steps lanes.now) (map told_in told.now))) }
-    ensures later { K.faults sink.old ≤ K.faults sink.new }
-    ensures cause { IsErrOf result StreamFault.Failed → Rose (K.faults sink.old) (K.faults sink.new) }
+    ensures { Writes K.held K.faults sink.old sink.new (lanes_text number (lane_steps lanes.now) (map told_in told.now)) result }
 {
     let count = lanes.len().min(told.len());
     for index in 0..count {
@@ -134,10 +120,7 @@ fn write_block<K: Sink>(
     sink: &mut K,
 ) -> Result<(), StreamFault>
     requires { number + length lanes.now < 2 ^ 32 }
-    ensures ok { OnOk result (Appends (K.held sink.old) (K.held sink.new) (block_text number (lane_steps lanes.now) (map told_in told.now))) }
-    ensures err { OnErr result (AppendsFront (K.held sink.old) (K.held sink.new) (block_text number (lane_steps lanes.now) (map told_in told.now))) }
-    ensures later { K.faults sink.old ≤ K.faults sink.new }
-    ensures cause { IsErrOf result StreamFault.Failed → Rose (K.faults sink.old) (K.faults sink.new) }
+    ensures { Writes K.held K.faults sink.old sink.new (block_text number (lane_steps lanes.now) (map told_in told.now)) result }
 {
     line.clear();
     put_par(line)?;
@@ -159,12 +142,8 @@ fn write_one<K: Sink>(
     sink: &mut K,
 ) -> Result<(), StreamFault>
     requires { index < vec_len own.now.answers }
-    ensures ok { OnOk result (IsWritten (K.held sink.old) (K.held sink.new) piece.new.items
-        (piece.old.items ++ step_line step.now (slice_index_or (told_in own.now) index answers.Dark))) }
-    ensures err { OnErr result (AppendsFront (K.held sink.old) (K.held sink.new)
-        (piece.old.items ++ step_line step.now (slice_index_or (told_in own.now) index answers.Dark))) }
-    ensures later { K.faults sink.old ≤ K.faults sink.new }
-    ensures cause { IsErrOf result StreamFault.Failed → Rose (K.faults sink.old) (K.faults sink.new) }
+    ensures { WritesBut K.held K.faults sink.old sink.new piece.new.items
+        (piece.old.items ++ step_line step.now (slice_index_or (told_in own.now) index answers.Dark)) result }
 {
     put_step(step, &own.answers[index], &own.responses, piece)?;
     if piece.len() < PIECE {
@@ -184,12 +163,8 @@ fn write_next_block<K: Sink>(
     sink: &mut K,
 ) -> Result<(), StreamFault>
     requires { number + length lanes.now < 2 ^ 32 }
-    ensures ok { OnOk result (Appends (K.held sink.old) (K.held sink.new) (piece.old.items ++ block_text number (lane_steps lanes.now) (map told_in told.now))) }
+    ensures written { Writes K.held K.faults sink.old sink.new (piece.old.items ++ block_text number (lane_steps lanes.now) (map told_in told.now)) result }
     ensures none { OnOk result (piece.new.items ≡ []) }
-    ensures err { OnErr result (AppendsFront (K.held sink.old) (K.held sink.new)
-        (piece.old.items ++ block_text number (lane_steps lanes.now) (map told_in told.now))) }
-    ensures later { K.faults sink.old ≤ K.faults sink.new }
-    ensures cause { IsErrOf result StreamFault.Failed → Rose (K.faults sink.old) (K.faults sink.new) }
 {
     sink.push(piece)?;
     write_block(piece, number, lanes, told, sink)?;
@@ -218,12 +193,8 @@ fn put_parts<K: Sink>(
     sink: &mut K,
 ) -> Result<(), StreamFault>
     requires { widths (parts_of parts.now) + 1 < 2 ^ 32 }
-    ensures ok { OnOk result (IsWritten (K.held sink.old) (K.held sink.new) piece.new.items
-        (piece.old.items ++ parts_text 1 (parts_of parts.now) (told_in own.now) (map told_in told.now))) }
-    ensures err { OnErr result (AppendsFront (K.held sink.old) (K.held sink.new)
-        (piece.old.items ++ parts_text 1 (parts_of parts.now) (told_in own.now) (map told_in told.now))) }
-    ensures later { K.faults sink.old ≤ K.faults sink.new }
-    ensures cause { IsErrOf result StreamFault.Failed → Rose (K.faults sink.old) (K.faults sink.new) }
+    ensures { WritesBut K.held K.faults sink.old sink.new piece.new.items
+        (piece.old.items ++ parts_text 1 (parts_of parts.now) (told_in own.now) (map told_in told.now)) result }
 {
     let mut answered = 0;
     let mut lanes_told = 0;
@@ -258,10 +229,7 @@ pub fn write_life<K: Sink>(
 ) -> Result<(), StreamFault>
     requires flash { boot.now ≢ Refused Flash }
     requires lanes { widths (parts_of parts.now) + 1 < 2 ^ 32 }
-    ensures ok { OnOk result (Appends (K.held sink.old) (K.held sink.new) (life_text number (parts_of parts.now) boot.now replies.now)) }
-    ensures err { OnErr result (AppendsFront (K.held sink.old) (K.held sink.new) (life_text number (parts_of parts.now) boot.now replies.now)) }
-    ensures later { K.faults sink.old ≤ K.faults sink.new }
-    ensures cause { IsErrOf result StreamFault.Failed → Rose (K.faults sink.old) (K.faults sink.new) }
+    ensures { Writes K.held K.faults sink.old sink.new (life_text number (parts_of parts.now) boot.now replies.now) result }
 {
     line.clear();
     put_boot(number, boot, line)?;
@@ -282,10 +250,7 @@ pub fn write_life<K: Sink>(
 
 /// Writes that the source of a script failed.
 pub fn write_unread<K: Sink>(sink: &mut K) -> Result<(), StreamFault>
-    ensures ok { OnOk result (Appends (K.held sink.old) (K.held sink.new) unread_line) }
-    ensures err { OnErr result (AppendsFront (K.held sink.old) (K.held sink.new) unread_line) }
-    ensures later { K.faults sink.old ≤ K.faults sink.new }
-    ensures cause { IsErrOf result StreamFault.Failed → Rose (K.faults sink.old) (K.faults sink.new) }
+    ensures { Writes K.held K.faults sink.old sink.new unread_line result }
 {
     write_text(UNREAD, sink)
 }
@@ -296,10 +261,7 @@ pub fn write_script_fault<K: Sink>(
     fault: &ScriptFault,
     sink: &mut K,
 ) -> Result<(), StreamFault>
-    ensures ok { OnOk result (Appends (K.held sink.old) (K.held sink.new) (script_fault_line fault.now)) }
-    ensures err { OnErr result (AppendsFront (K.held sink.old) (K.held sink.new) (script_fault_line fault.now)) }
-    ensures later { K.faults sink.old ≤ K.faults sink.new }
-    ensures cause { IsErrOf result StreamFault.Failed → Rose (K.faults sink.old) (K.faults sink.new) }
+    ensures { Writes K.held K.faults sink.old sink.new (script_fault_line fault.now) result }
 {
     let mut line = Vec::new(alloc);
     put_script_fault(fault, &mut line)?;

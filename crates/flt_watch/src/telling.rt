@@ -1,9 +1,7 @@
 //! What is told of a watch.
-ghost use Rattle.std.specs.Prelude.{◌≡◌, ◌≢◌, ◌<◌, ◌≤◌, ◌+◌, ◌^◌, IfOk, OnOk, OnErr, IsErrOf};
-ghost use Rattle.std.specs.Io.KnownBytes.{Appends};
+ghost use Rattle.std.specs.Prelude.{◌≡◌, ◌≢◌, ◌<◌, ◌+◌, ◌^◌, IfOk};
 ghost use Rattle.std.specs.String.{string_bytes};
-ghost use Rattle.flt_io.specs.Fault.{Rose};
-ghost use Rattle.flt_io.specs.Sink.{AppendsFront};
+ghost use Rattle.flt_io.specs.Written.{Writes};
 ghost use Rattle.flt_restore.specs.declared.fault.StartFault.TheVariants.{Flash};
 ghost use Rattle.flt_script.specs.Part.{parts_of};
 ghost use Rattle.flt_life.specs.declared.life.Boot.TheVariants.{Refused};
@@ -22,10 +20,7 @@ const OTHER: &[u8] = b"script other\n";
 
 /// Writes that a watch does not make the script.
 pub(crate) fn write_other<K: Sink>(sink: &mut K) -> Result<(), StreamFault>
-    ensures ok { OnOk result (Appends (K.held sink.old) (K.held sink.new) other_line) }
-    ensures err { OnErr result (AppendsFront (K.held sink.old) (K.held sink.new) other_line) }
-    ensures later { K.faults sink.old ≤ K.faults sink.new }
-    ensures cause { IsErrOf result StreamFault.Failed → Rose (K.faults sink.old) (K.faults sink.new) }
+    ensures { Writes K.held K.faults sink.old sink.new other_line result }
 {
     write_text(OTHER, sink)
 }
@@ -44,10 +39,7 @@ fn write_value<K: Sink>(
     kind: u8,
     sink: &mut K,
 ) -> Result<(), StreamFault>
-    ensures ok { OnOk result (Appends (K.held sink.old) (K.held sink.new) (value_text kind (value_in subs.now kind))) }
-    ensures err { OnErr result (AppendsFront (K.held sink.old) (K.held sink.new) (value_text kind (value_in subs.now kind))) }
-    ensures later { K.faults sink.old ≤ K.faults sink.new }
-    ensures cause { IsErrOf result StreamFault.Failed → Rose (K.faults sink.old) (K.faults sink.new) }
+    ensures { Writes K.held K.faults sink.old sink.new (value_text kind (value_in subs.now kind)) result }
 {
     match subs.value(kind) {
         Some(value) => {
@@ -64,10 +56,7 @@ fn write_values<K: Sink>(
     subs: &SubTable<KINDS>,
     sink: &mut K,
 ) -> Result<(), StreamFault>
-    ensures ok { OnOk result (Appends (K.held sink.old) (K.held sink.new) (values_text (value_in subs.now))) }
-    ensures err { OnErr result (AppendsFront (K.held sink.old) (K.held sink.new) (values_text (value_in subs.now))) }
-    ensures later { K.faults sink.old ≤ K.faults sink.new }
-    ensures cause { IsErrOf result StreamFault.Failed → Rose (K.faults sink.old) (K.faults sink.new) }
+    ensures { Writes K.held K.faults sink.old sink.new (values_text (value_in subs.now)) result }
 {
     write_value(alloc, subs, 0, sink)?;
     write_value(alloc, subs, 1, sink)?;
@@ -83,10 +72,8 @@ pub(crate) fn write_watched<K: Sink>(
 ) -> Result<(), StreamFault>
     requires flash { watched.now.life.boot ≢ Refused Flash }
     requires lanes { widths (parts_of parts.now) + 1 < 2 ^ 32 }
-    ensures ok { OnOk result (Appends (K.held sink.old) (K.held sink.new) (watch_text (parts_of parts.now) watched.now.life.boot watched.now.life.replies.items (value_in watched.now.subs))) }
-    ensures err { OnErr result (AppendsFront (K.held sink.old) (K.held sink.new) (watch_text (parts_of parts.now) watched.now.life.boot watched.now.life.replies.items (value_in watched.now.subs))) }
-    ensures later { K.faults sink.old ≤ K.faults sink.new }
-    ensures cause { IsErrOf result StreamFault.Failed → Rose (K.faults sink.old) (K.faults sink.new) }
+    ensures { Writes K.held K.faults sink.old sink.new
+        (watch_text (parts_of parts.now) watched.now.life.boot watched.now.life.replies.items (value_in watched.now.subs)) result }
 {
     let WatchedLife { life, subs } = watched;
     let mut line = Vec::new(alloc);

@@ -1,4 +1,4 @@
-use Rattle.std.proofs.Common.{◌≡◌, ℕ, List, Option, ◌≤◌, ◌<◌, ◌+◌, ◌++◌, [], length, map, drop, ap, sym, subst, arith, inl, inr, ◌∙◌}
+use Rattle.std.proofs.Common.{◌≡◌, ℕ, List, Option, ◌≤◌, ◌<◌, ◌+◌, ◌++◌, [], length, map, drop, ap, sym, subst, arith, rules, inl, inr, ◌∙◌}
 use Rattle.std.specs.Prelude.{Vec, slice_index_or}
 use Rattle.std.specs.Io.KnownBytes.{Appends}
 use Rattle.std.proofs.lemmas.List.{append-nil, drop-map, length-map}
@@ -13,7 +13,6 @@ use Rattle.flt_life.proofs.Sizes.{no_widths_more, widths_with, widths_within}
 use Rattle.flt_report.specs.Answer.{step_line}
 use Rattle.flt_report.specs.Left.{IsWritten}
 use Rattle.flt_report.specs.Life.{lane_steps, block_text, parts_text}
-use Rattle.flt_report.proofs.Written.{always_on_err}
 use Rattle.flt_report.proofs.PartsLeft.{parts_left, none_left, unanswered, one_more, block_more}
 use Rattle.flt_report.proofs.Written.{goes_on, stops, passes, joined}
 use Rattle.flt_report.proofs.writing.put_parts.Goals as goal
@@ -66,7 +65,7 @@ loop-part-preserved g c =
           let from : map told_in w.rest_of.result.now ≡ drop lanes told = ap (map told_in) w.rest_of.ensures ∙ sym (drop-map told_in lanes c.args.told.now) in
           let same : block_text (lanes + 1) (lane_steps w.deref.result.now) (map told_in w.rest_of.result.now) ≡ block_text (lanes + 1) block (drop lanes told) =
           λ i. block_text (lanes + 1) (lane_steps (w.deref.ensures.value i)) (from i) in
-          let later = w.in_ok-write_next_block-in-Lanes.ensures.later in
+          let later = w.in_ok-write_next_block-in-Lanes.ensures.written.later in
           let more = widths_with parts index part there is block one in
           let mapped = length-map w.in-Lanes.lanes.items (λ (lane : Vec Step _). lane.items) in
           let many = w.len-lanes_told.ensures in
@@ -76,7 +75,7 @@ loop-part-preserved g c =
           rw (w.sink-is, none, w.answered-is, count) (record {
             later = omega (arith, was, later);
             written = goes_on _ _ (kept ++ text) rest whole (joined _ _ kept text rest whole on) _
-                (subst (λ text. Appends (g.K.Sink.held c.loop-part.sink) (g.K.Sink.held w.write_next_block.new.sink) (kept ++ text)) same w.in_ok-write_next_block-in-Lanes.ensures.ok);
+                (subst (λ text. Appends (g.K.Sink.held c.loop-part.sink) (g.K.Sink.held w.write_next_block.new.sink) (kept ++ text)) same w.in_ok-write_next_block-in-Lanes.ensures.written.ok);
             answered = c.loop-part.invariant.answered;
             lanes = omega (arith, c.loop-part.invariant.lanes, more);
           })
@@ -86,17 +85,18 @@ loop-part-preserved g c =
 kept_alone : (old new : Option (List ℕ)) (kept left whole : List ℕ) → left ≡ [] → IsWritten old new (kept ++ left) whole → IsWritten old new kept whole
 kept_alone old new kept left whole none = subst (λ text. IsWritten old new text whole) (ap (λ rest. kept ++ rest) none ∙ append-nil kept)
 
-pub returns-then-len-answered-clause-ok : goal.returns-then-len-answered-clause-ok
-returns-then-len-answered-clause-ok g c =
+pub returns-then-len-answered : goal.returns-then-len-answered
+returns-then-len-answered g c =
     let parts = c.args.parts.now in
     let own = told_in c.args.own.now in
     let mapped = length-map c.args.own.now.answers.items (with_reply (reply_in c.args.own.now.responses.items)) in
     let past : length own ≤ c.loop-part.answered = omega (arith, c.if-len-answered.true, c.len.ensures, mapped, c.args.own.now.answers.ok.0) in
-    kept_alone _ _ c.loop-part.piece.items _ _ (unanswered parts own (map told_in c.args.told.now) c.loop-part.part-index c.loop-part.answered c.loop-part.lanes_told c.part-item.result c.loop-part-test.true c.part-item.is
-    c.in-One.step (ap part_of c.in-One.is) past) c.loop-part.invariant.written
+    let kept = kept_alone _ _ c.loop-part.piece.items _ _ (unanswered parts own (map told_in c.args.told.now) c.loop-part.part-index c.loop-part.answered c.loop-part.lanes_told c.part-item.result c.loop-part-test.true c.part-item.is
+    c.in-One.step (ap part_of c.in-One.is) past) c.loop-part.invariant.written in
+    search (rules, kept)
 
-pub returns-in_err-write_one-in-One-clause-err : goal.returns-in_err-write_one-in-One-clause-err
-returns-in_err-write_one-in-One-clause-err g c =
+pub returns-in_err-write_one-in-One : goal.returns-in_err-write_one-in-One
+returns-in_err-write_one-in-One g c =
     let parts = c.args.parts.now in
     let own = told_in c.args.own.now in
     let told = map told_in c.args.told.now in
@@ -112,7 +112,8 @@ returns-in_err-write_one-in-One-clause-err g c =
     let line = step_line step (slice_index_or own answered answers.Dark) in
     let rest = parts_left parts own told (index + 1) (answered + 1) lanes in
     let on = subst (λ left. IsWritten (g.K.Sink.held c.args.sink.now) (g.K.Sink.held c.loop-part.sink) (kept ++ left) whole) left c.loop-part.invariant.written in
-    always_on_err c.from_residual.result (stops _ _ (kept ++ line) rest whole (joined _ _ kept line rest whole on) _ c.in_err-write_one-in-One.ensures.err)
+    let front = stops _ _ (kept ++ line) rest whole (joined _ _ kept line rest whole on) _ c.in_err-write_one-in-One.ensures.err in
+    search (rules, front)
 
 pub overflow_cast-number : goal.overflow_cast-number
 overflow_cast-number g c =
@@ -133,8 +134,8 @@ write_next_block-requires g c =
     let size = ap length c.deref.ensures.value in
     omega (arith, within, width_is, mapped, size, c.loop-part.invariant.lanes, c.requires)
 
-pub returns-in_err-write_next_block-in-Lanes-clause-err : goal.returns-in_err-write_next_block-in-Lanes-clause-err
-returns-in_err-write_next_block-in-Lanes-clause-err g c =
+pub returns-in_err-write_next_block-in-Lanes : goal.returns-in_err-write_next_block-in-Lanes
+returns-in_err-write_next_block-in-Lanes g c =
     let parts = c.args.parts.now in
     let own = told_in c.args.own.now in
     let told = map told_in c.args.told.now in
@@ -151,9 +152,9 @@ returns-in_err-write_next_block-in-Lanes-clause-err g c =
     let from : map told_in c.rest_of.result.now ≡ drop lanes told = ap (map told_in) c.rest_of.ensures ∙ sym (drop-map told_in lanes c.args.told.now) in
     let same : block_text (lanes + 1) (lane_steps c.deref.result.now) (map told_in c.rest_of.result.now) ≡ block_text (lanes + 1) block (drop lanes told) =
     λ i. block_text (lanes + 1) (lane_steps (c.deref.ensures.value i)) (from i) in
-    always_on_err c.from_residual-in_err-write_next_block-in-Lanes.result
-    (stops _ _ (kept ++ text) rest whole (joined _ _ kept text rest whole on) _
-    (subst (λ text. AppendsFront (g.K.Sink.held c.loop-part.sink) (g.K.Sink.held c.write_next_block.new.sink) (kept ++ text)) same c.in_err-write_next_block-in-Lanes.ensures.err))
+    let front = stops _ _ (kept ++ text) rest whole (joined _ _ kept text rest whole on) _
+    (subst (λ text. AppendsFront (g.K.Sink.held c.loop-part.sink) (g.K.Sink.held c.write_next_block.new.sink) (kept ++ text)) same c.in_err-write_next_block-in-Lanes.ensures.written.err) in
+    search (rules, front)
 
 pub overflow_add-lanes_told : goal.overflow_add-lanes_told
 overflow_add-lanes_told g c =
@@ -163,7 +164,8 @@ overflow_add-lanes_told g c =
     let mapped = length-map c.in-Lanes.lanes.items (λ (lane : Vec Step _). lane.items) in
     omega (arith, within, width_is, mapped, c.in-Lanes.lanes.ok.0, c.len-lanes_told.ensures, c.loop-part.invariant.lanes, c.requires)
 
-pub returns-clause-ok : goal.returns-clause-ok
-returns-clause-ok g c =
-    kept_alone _ _ c.loop-part.piece.items _ _ (none_left c.args.parts.now (told_in c.args.own.now) (map told_in c.args.told.now) c.loop-part.part-index c.loop-part.answered c.loop-part.lanes_told c.loop-part-test.false)
-    c.loop-part.invariant.written
+pub returns : goal.returns
+returns g c =
+    let kept = kept_alone _ _ c.loop-part.piece.items _ _ (none_left c.args.parts.now (told_in c.args.own.now) (map told_in c.args.told.now) c.loop-part.part-index c.loop-part.answered c.loop-part.lanes_told c.loop-part-test.false)
+    c.loop-part.invariant.written in
+    search (rules, kept)

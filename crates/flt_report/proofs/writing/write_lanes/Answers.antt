@@ -1,11 +1,11 @@
-use Rattle.std.proofs.Common.{◌≡◌, ℕ, Option, List, ◌<◌, ◌+◌, ◌++◌, length, get_or, sym, ap, subst, arith, ◌∙◌}
+use Rattle.std.proofs.Common.{◌≡◌, ℕ, Option, List, ◌<◌, ◌+◌, ◌++◌, length, get_or, sym, ap, subst, arith, rules, ◌∙◌}
 use Rattle.std.specs.Prelude.{Vec}
 use Rattle.flt_script.specs.declared.step.Step.{Step}
 use Rattle.flt_life.specs.declared.replies.LaneReplies.{LaneReplies}
 use Rattle.flt_life.specs.Room.{told_in}
 use Rattle.flt_report.specs.Left.{IsWritten}
 use Rattle.flt_report.specs.Life.{lane_text}
-use Rattle.flt_report.proofs.Written.{always_on_err, goes_on, stops, ends, lanes_left, lanes_more, lanes_end}
+use Rattle.flt_report.proofs.Written.{goes_on, stops, ends, lanes_left, lanes_more, lanes_end}
 use Rattle.flt_report.proofs.writing.write_lanes.Goals as goal
 
 -- The text of the next lane stands before those that are left.
@@ -25,17 +25,19 @@ loop-index-preserved g c =
     (λ i. lane_text (c.args.number + c.loop-index.index) ((c.deref.ensures.value ∙ ap (λ (v : Vec Step _). v.items) c.index-lanes-index.is) i) (told_in (c.index-told-index.is i))) c.loop-index.invariant.written in
     record { later = omega (arith, was, later); written = goes_on _ _ _ _ _ next _ c.in_ok-write_lane.ensures.ok }
 
-pub returns-in_err-write_lane-clause-err : goal.returns-in_err-write_lane-clause-err
-returns-in_err-write_lane-clause-err g c =
+pub returns-in_err-write_lane : goal.returns-in_err-write_lane
+returns-in_err-write_lane g c =
     let there = c.loop-index-test.true in
     let next = lane_next _ _ c.args.number c.args.lanes.now c.args.told.now c.loop-index.index c.index-lanes-index.result c.index-told-index.result _ _ (omega (arith, there, c.min-count.ensures)) (omega (arith, there, c.min-count.ensures))
     (λ i. lane_text (c.args.number + c.loop-index.index) ((c.deref.ensures.value ∙ ap (λ (v : Vec Step _). v.items) c.index-lanes-index.is) i) (told_in (c.index-told-index.is i))) c.loop-index.invariant.written in
-    always_on_err c.from_residual.result (stops _ _ _ _ _ next _ c.in_err-write_lane.ensures.err)
+    let front = stops _ _ _ _ _ next _ c.in_err-write_lane.ensures.err in
+    search (rules, front)
 
-pub returns-clause-ok : goal.returns-clause-ok
-returns-clause-ok g c =
+pub returns : goal.returns
+returns g c =
     let lanes = c.args.lanes.now in
     let told = c.args.told.now in
     let past = c.loop-index-test.false in
     let count = c.min-count.ensures in
-    ends _ _ (lanes_left c.args.number lanes told c.loop-index.index) _ (lanes_end c.args.number lanes told c.loop-index.index (omega (arith, past, count))) c.loop-index.invariant.written
+    let whole = ends _ _ (lanes_left c.args.number lanes told c.loop-index.index) _ (lanes_end c.args.number lanes told c.loop-index.index (omega (arith, past, count))) c.loop-index.invariant.written in
+    search (rules, whole)

@@ -1,9 +1,8 @@
-use Rattle.std.proofs.Common.{◌≡◌, ℕ, Option, List, ◌<◌, ◌+◌, ◌++◌, length, get_or, sym, subst, arith, ◌∙◌}
+use Rattle.std.proofs.Common.{◌≡◌, ℕ, Option, List, ◌<◌, ◌+◌, ◌++◌, length, get_or, sym, subst, arith, rules, ◌∙◌}
 use Rattle.flt_script.specs.declared.step.Step.{Step}
 use Rattle.flt_life.specs.declared.answer.StepAnswer.{StepAnswer}
 use Rattle.flt_life.specs.Answers.{KeptReply, with_reply, reply_in}
 use Rattle.flt_report.specs.Answer.{step_line}
-use Rattle.flt_report.proofs.Written.{always_on_err}
 use Rattle.flt_report.specs.Left.{IsWritten}
 use Rattle.flt_report.proofs.Written.{starts, goes_on, stops, so_far, ends, steps_left, steps_more, steps_end}
 use Rattle.flt_report.proofs.writing.write_steps.Goals as goal
@@ -30,24 +29,26 @@ loop-index-preserved g c =
     (c.deref-in-loop-index.ensures.value ∙ c.in_ok-put_answered.ensures ∙ (λ i. step_line (c.index-steps-index.is i) (with_reply (reply_in (c.deref.ensures.value i)) (c.index.ensures i)))) c.loop-index.invariant.written in
     record { later = omega (arith, was, later); written = goes_on _ _ c.deref-in-loop-index.result.now _ _ next _ c.in_ok-push.ensures.ok }
 
-pub returns-in_err-put_answered-clause-err : goal.returns-in_err-put_answered-clause-err
-returns-in_err-put_answered-clause-err g c = always_on_err c.from_residual.result (so_far _ _ _ _ c.loop-index.invariant.written)
+pub returns-in_err-put_answered : goal.returns-in_err-put_answered
+returns-in_err-put_answered g c = let front = so_far _ _ _ _ c.loop-index.invariant.written in search (rules, front)
 
-pub returns-in_err-push-clause-err : goal.returns-in_err-push-clause-err
-returns-in_err-push-clause-err g c =
+pub returns-in_err-push : goal.returns-in_err-push
+returns-in_err-push g c =
     let there = c.loop-index-test.true in
     let size = c.args.replies.now.answers.ok.0 in
     let next = line_next _ _ c.args.replies.now.responses.items c.args.steps.now c.args.replies.now.answers.items c.loop-index.index c.index-steps-index.result c.index.result.now _ _ (omega (arith, there, c.min-count.ensures))
     (omega (arith, there, c.min-count.ensures, c.len.ensures, size))
     (c.deref-in-loop-index.ensures.value ∙ c.in_ok-put_answered.ensures ∙ (λ i. step_line (c.index-steps-index.is i) (with_reply (reply_in (c.deref.ensures.value i)) (c.index.ensures i)))) c.loop-index.invariant.written in
-    always_on_err c.from_residual-in_err-push.result (stops _ _ c.deref-in-loop-index.result.now _ _ next _ c.in_err-push.ensures.err)
+    let front = stops _ _ c.deref-in-loop-index.result.now _ _ next _ c.in_err-push.ensures.err in
+    search (rules, front)
 
-pub returns-clause-ok : goal.returns-clause-ok
-returns-clause-ok g c =
+pub returns : goal.returns
+returns g c =
     let bytes = c.args.replies.now.responses.items in
     let past = c.loop-index-test.false in
     let count = c.min-count.ensures in
     let many = c.len.ensures in
     let size = c.args.replies.now.answers.ok.0 in
-    ends _ _ (steps_left bytes c.args.steps.now c.args.replies.now.answers.items c.loop-index.index) _
-    (steps_end bytes c.args.steps.now c.args.replies.now.answers.items c.loop-index.index (omega (arith, past, count, many, size))) c.loop-index.invariant.written
+    let whole = ends _ _ (steps_left bytes c.args.steps.now c.args.replies.now.answers.items c.loop-index.index) _
+    (steps_end bytes c.args.steps.now c.args.replies.now.answers.items c.loop-index.index (omega (arith, past, count, many, size))) c.loop-index.invariant.written in
+    search (rules, whole)

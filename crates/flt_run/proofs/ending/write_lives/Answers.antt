@@ -1,4 +1,4 @@
-use Rattle.std.proofs.Common.{◌≡◌, ◌<◌, ◌+◌, length, get_or, ap, subst, arith, ◌∙◌}
+use Rattle.std.proofs.Common.{◌≡◌, ◌<◌, ◌+◌, length, get_or, ap, subst, arith, rules, ◌∙◌}
 use Rattle.std.specs.Prelude.{Vec}
 use Rattle.std.specs.Io.KnownBytes.{Appends}
 use Rattle.flt_io.specs.Sink.{AppendsFront}
@@ -8,7 +8,7 @@ use Rattle.flt_script.specs.Part.{parts_of}
 use Rattle.flt_report.specs.Left.{IsWritten}
 use Rattle.flt_run.specs.Left.{lives_left}
 use Rattle.flt_report.specs.Life.{life_text}
-use Rattle.flt_report.proofs.Written.{always_on_err, goes_on, stops, ends}
+use Rattle.flt_report.proofs.Written.{goes_on, stops, ends}
 use Rattle.flt_run.proofs.LivesLeft.{lives_more, lives_end}
 use Rattle.flt_run.proofs.ending.write_lives.Goals as goal
 
@@ -42,8 +42,8 @@ loop-index-preserved g c =
       from = omega (arith, c.loop-index.invariant.from);
     }
 
-pub returns-in_err-write_life-clause-err : goal.returns-in_err-write_life-clause-err
-returns-in_err-write_life-clause-err g c =
+pub returns-in_err-write_life : goal.returns-in_err-write_life
+returns-in_err-write_life g c =
     let script = c.args.made.now.script.items in
     let lives = c.args.made.now.lives.items in
     let index = c.loop-index.index in
@@ -64,11 +64,11 @@ returns-in_err-write_life-clause-err g c =
     let same : life_text (index + 1) (parts_of c.deref.result.now) life.boot c.deref-in-loop-index.result.now ≡ piece =
     λ i. life_text (index + 1) (parts_of ((c.deref.ensures.value ∙ ap (λ (v : Vec Part _). v.items) c.index.ensures) i)) (c.index-life.ensures i).boot
     ((c.deref-in-loop-index.ensures.value ∙ ap (λ (l : Life). l.replies.items) c.index-life.ensures) i) in
-    always_on_err c.from_residual.result
-    (stops _ _ piece (lives_left script lives (index + 1)) whole on _ (subst (AppendsFront (g.K.Sink.held c.loop-index.sink) (g.K.Sink.held c.write_life.new.sink)) same c.in_err-write_life.ensures.err))
+    let front = stops _ _ piece (lives_left script lives (index + 1)) whole on _ (subst (AppendsFront (g.K.Sink.held c.loop-index.sink) (g.K.Sink.held c.write_life.new.sink)) same c.in_err-write_life.ensures.err) in
+    search (rules, front)
 
-pub returns-clause-ok : goal.returns-clause-ok
-returns-clause-ok g c =
+pub returns : goal.returns
+returns g c =
     let script = c.args.made.now.script.items in
     let lives = c.args.made.now.lives.items in
     let past = c.loop-index-test.false in
@@ -77,4 +77,5 @@ returns-clause-ok g c =
     let script_size = c.args.made.now.script.ok.0 in
     let many = c.len-2.ensures in
     let size = c.args.made.now.lives.ok.0 in
-    ends _ _ (lives_left script lives c.loop-index.index) _ (lives_end script lives c.loop-index.index (omega (arith, past, count, scripts, script_size, many, size))) c.loop-index.invariant.written
+    let all = ends _ _ (lives_left script lives c.loop-index.index) _ (lives_end script lives c.loop-index.index (omega (arith, past, count, scripts, script_size, many, size))) c.loop-index.invariant.written in
+    search (rules, all)
