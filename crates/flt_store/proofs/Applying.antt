@@ -2,7 +2,7 @@
 use Rattle.std.proofs.Common.{◌≡◌, ◌⊎◌, inl, inr, ⊎_elim, ℕ, ◌+◌, ◌/◌, ◌<◌, ◌≤◌, true, false, List, [], length, take, drop, Option, refl, sym, ◌∙◌, ap, subst, arith}
 use Rattle.std.proofs.Math.Seq.{take-append_seam}
 use Rattle.std.specs.Prelude.{IsTrue, nat_lt}
-use Rattle.std.proofs.lemmas.Bool.{cases_eq, le-leb, lt-ltb}
+use Rattle.std.proofs.lemmas.Bool.{cases_eq, le-leb, leb-true, lt-ltb}
 use Rattle.flt_flash.specs.Content.{Content, missing, invalid, bytes}
 use Rattle.flt_flash.specs.Blocks.{BlocksState, pages_of, record_pages}
 use Rattle.flt_flash.specs.Calls.{Follows, OthersKept}
@@ -101,3 +101,9 @@ gets_bytes invalid n copy before after out got is = absurd got.1
 gets_bytes (bytes held) n copy before after out got is =
     let found = got.1 in
     (refl, is ∙ ap (λ (m : ℕ). take m after) found.0 ∙ ap (take (length held)) found.1 ∙ take-append_seam held (drop n before))
+
+-- An application block that was read is no longer than one may be.
+pub gets_short : (content : Content) (n copy : ℕ) (before after : List ℕ) → IsTrue (is_application content) → GotOf 1 content (Bytes n copy) before after → n ≤ 32
+gets_short missing n copy before after is got = absurd got.1
+gets_short invalid n copy before after is got = absurd got.1
+gets_short (bytes held) n copy before after is got = let found = got.1 in omega (arith, found.0, leb-true (length held) 32 is)

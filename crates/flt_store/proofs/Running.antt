@@ -1,18 +1,21 @@
 -- What keeps a store running.
-use Rattle.std.proofs.Common.{◌≡◌, ◌⊎◌, inl, inr, ⊎_elim, ℕ, ◌≤◌, Bool, false, Result, Ok, Err, sym, ◌∙◌, ap, subst, arith}
+use Rattle.std.proofs.Common.{◌≡◌, ◌⊎◌, inl, inr, ⊎_elim, ℕ, ◌≤◌, Bool, false, List, Option, Result, Ok, Err, sym, ◌∙◌, ap, subst, arith}
 use Rattle.std.specs.Prelude.{IsTrue, IsFalse, IfOk, OnOk, OnErr, IsErrOf}
 use Rattle.std.specs.Result.{IsErrAnd}
+use Rattle.flt_flash.specs.Content.{Content}
 use Rattle.flt_flash.specs.Blocks.{BlocksState}
-use Rattle.flt_flash.specs.Calls.{Follows}
+use Rattle.flt_flash.specs.Calls.{Follows, SameValues}
 use Rattle.flt_config.specs.declared.config.Config.{Config}
 use Rattle.flt_generation.specs.Holding.{Generation, IsOneOf, IsSound}
 use Rattle.flt_store.specs.Cause.{FailsThrice, HasRoom}
-use Rattle.flt_store.specs.Started.{HasMark}
+use Rattle.flt_generation.specs.declared.commit.Commit.{Commit}
+use Rattle.flt_store.specs.Started.{HasMark, IsStarted}
+use Rattle.flt_store.specs.Known.{Knows}
 use Rattle.flt_config.specs.declared.persist.Persist.{Persist}
 use Rattle.flt_flash.specs.declared.blocks.Blocks.{Ghosts}
 use Rattle.flt_store.specs.declared.fault.SaveFault.{SaveFault}
 use Rattle.flt_store.specs.declared.store.Store.{Store}
-use Rattle.flt_store.specs.Store.{driver_of, is_settled, IsServed, IsRunning, IsAlive, Saves, MayHaveSaved}
+use Rattle.flt_store.specs.Store.{driver_of, commit_of, kept_of, is_settled, IsServed, IsRunning, IsAlive, Saves, MayHaveSaved}
 
 pub served_on : (c : Config) (before after : BlocksState) → Follows before after → IsServed c before → IsServed c after
 served_on c before after follows served = record { given = served.given; room = subst (HasRoom c) (sym follows.room) served.room; mounted = follows.once_mounted served.mounted }
@@ -105,3 +108,17 @@ pub alive_after : {B : Type 0} {b : Ghosts B} (c : Config) (h s : Generation) (s
     → IfOk result (λ number. Saves c h s state number before after) → OnErr result (MayHaveSaved c h s state before after) → IsAlive c after
 alive_after c h s state before after (Ok number) saved failed = record { held = _; spare = _; running = saved.running }
 alive_after c h s state before after (Err fault) saved failed = record { held = failed.now_held; spare = failed.now_spare; running = failed.running }
+
+-- A store runs on behind reads.
+pub reads_run : {B : Type 0} {b : Ghosts B} {c : Config} (before after : Store B b) → SameValues (driver_of before) (driver_of after) → Follows (driver_of before) (driver_of after)
+    → (is_settled after ≡ is_settled before) × (commit_of after ≡ commit_of before) × (kept_of after ≡ kept_of before) → (h s : Generation) → IsRunning c h s before → IsRunning c h s after
+reads_run {c = c} before after same follows (settled, commit, kept) h s running =
+    let values : (driver_of before).value ≡ (driver_of after).value = λ i number. sym (same number) i in
+    record {
+      served = served_on c (driver_of before) (driver_of after) follows running.served;
+      mark = subst (λ (value : ℕ → Content). HasMark c value) values running.mark;
+      sound = subst (λ (value : ℕ → Content). IsSound c value h s) values running.sound;
+      settled = λ is. subst (λ (d : Option Commit). IsStarted c (driver_of after).value d h) (sym commit)
+          (subst (λ (value : ℕ → Content). IsStarted c value (commit_of before) h) values (running.settled (sym settled ∙ is)));
+      known = λ is. subst (λ (bytes_of : ℕ → List ℕ). Knows c bytes_of h.state) (sym kept) (running.known (sym settled ∙ is));
+    }

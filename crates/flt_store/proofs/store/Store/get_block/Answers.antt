@@ -1,6 +1,43 @@
-use Rattle.flt_store.proofs.Applying.{gets_nothing}
+use Rattle.std.proofs.Common.{◌∙◌, ◌≤◌, ◌++◌, ℕ, List, length, length-take, take, refl, ap, arith}
+use Rattle.flt_generation.specs.Layout.{application_number}
+use Rattle.flt_store.specs.Store.{driver_of}
+use Rattle.flt_store.proofs.Applying.{gets_nothing, gets_bytes, gets_short}
+use Rattle.flt_store.proofs.Running.{reads_run}
+use Rattle.flt_store.proofs.store.Store.get_block.Goals.{In-Ok-Bytes}
 use Rattle.flt_store.proofs.store.Store.get_block.Goals as goal
+
+short : (g : _) (c : In-Ok-Bytes g) → c.in-Ok-Bytes.length ≤ 32
+short g c =
+    gets_short ((driver_of c.args.self.now).value (application_number c.args.block)) c.in-Ok-Bytes.length _ _ _
+    (c.requires.alive.2.running.sound.holds.applications c.args.block c.requires.block) (rw c.in-Ok-Bytes.field-0-is at c.in-Ok-Bytes.ensures.got)
+
+pub slice_bounds-bytes-end : goal.slice_bounds-bytes-end
+slice_bounds-bytes-end g c = omega (arith, short g (goal.at.slice_bounds-bytes-end g c).In-Ok-Bytes, c.type_inv.bytes)
+
+pub push_all-requires : goal.push_all-requires
+push_all-requires g c =
+    omega (arith, short g (goal.at.push_all-requires g c).In-Ok-Bytes, ap length c.clear.ensures, length-take c.in-Ok-Bytes.length c.read_application.new.out)
 
 pub returns-in-Ok-Missing-clause-got : goal.returns-in-Ok-Missing-clause-got
 returns-in-Ok-Missing-clause-got g c = λ config h s running.
     gets_nothing _ _ _ _ (rw c.in-Ok-Missing.field-0-is at c.in-Ok-Missing.ensures.got) c.clear.ensures
+
+pub returns-in-Ok-Bytes-clause-got : goal.returns-in-Ok-Bytes-clause-got
+returns-in-Ok-Bytes-clause-got g c = λ config h s running.
+    gets_bytes _ _ _ _ _ _ (rw c.in-Ok-Bytes.field-0-is at c.in-Ok-Bytes.ensures.got)
+    (c.push_all.ensures ∙ ap (λ (held : List ℕ). held ++ take c.in-Ok-Bytes.length c.read_application.new.out) c.clear.ensures)
+
+pub returns-in-Err-Flash-clause-flash : goal.returns-in-Err-Flash-clause-flash
+returns-in-Err-Flash-clause-flash g c = λ config h s running. (rw c.in-Err-Flash.field-0-is at c.in-Err-Flash.ensures.three) refl
+
+pub returns-in-Ok-Missing-clause-running : goal.returns-in-Ok-Missing-clause-running
+returns-in-Ok-Missing-clause-running g c = λ config h s running.
+    reads_run c.args.self.now _ c.read_application.ensures.reads.values c.read_application.ensures.reads.calls.follows (refl, refl, refl) h s running
+
+pub returns-in-Ok-Bytes-clause-running : goal.returns-in-Ok-Bytes-clause-running
+returns-in-Ok-Bytes-clause-running g c = λ config h s running.
+    reads_run c.args.self.now _ c.read_application.ensures.reads.values c.read_application.ensures.reads.calls.follows (refl, refl, refl) h s running
+
+pub returns-in-Err-Flash-clause-running : goal.returns-in-Err-Flash-clause-running
+returns-in-Err-Flash-clause-running g c = λ config h s running.
+    reads_run c.args.self.now _ c.read_application.ensures.reads.values c.read_application.ensures.reads.calls.follows (refl, refl, refl) h s running
