@@ -130,6 +130,22 @@ impl Band {
     }
 }
 
+/// Puts the bands of the first events of a configuration, `most` at most, with so many columns each.
+fn put_bands(
+    alloc: Global,
+    config: &ValidConfig,
+    columns: usize,
+    most: usize,
+    bands: &mut Vec<Band>,
+) -> Result<(), AllocError> {
+    let mut number = 0;
+    for event in config.config().events.iter().take(most) {
+        bands.push(Band::of(alloc, number, event, columns)?)?;
+        number = number.saturating_add(1);
+    }
+    Ok(())
+}
+
 /// The bands of the first events of a configuration, before any call, `most` at most.
 pub(crate) fn bands_of(
     alloc: Global,
@@ -138,10 +154,6 @@ pub(crate) fn bands_of(
     most: usize,
 ) -> Result<Vec<Band>, AllocError> {
     let mut bands = Vec::new(alloc);
-    let mut number = 0;
-    for event in config.config().events.iter().take(most) {
-        bands.push(Band::of(alloc, number, event, columns.spans.len())?)?;
-        number = number.saturating_add(1);
-    }
+    put_bands(alloc, config, columns.spans.len(), most, &mut bands)?;
     Ok(bands)
 }

@@ -82,6 +82,35 @@ fn lone_cell(flash: &FlashMem, sector: u8, page: u16) -> Cell {
 }
 
 impl Log {
+    /// The gates of a sector alone.
+    fn of_gates(alloc: Global, flash: &FlashMem, sector: u8) -> Result<Log, AllocError> {
+        let mut cells = Vec::new(alloc);
+        cells.push(lone_cell(flash, sector, 0))?;
+        cells.push(lone_cell(flash, sector, 1))?;
+        Ok(Log {
+            cells,
+            records: Vec::new(alloc),
+        })
+    }
+
+    /// Adds the pages behind the gates of a sector of which so many pages are in use.
+    fn add_items(
+        &mut self,
+        flash: &mut FlashMem,
+        sector: u8,
+        used: u16,
+        numbers: &Numbers,
+    ) -> Result<(), AllocError> {
+        let mut behind = 2;
+        for page in 2..used {
+            if behind <= page {
+                let found = item_at(flash, sector, used, page, numbers);
+                behind = self.add_found(flash, sector, page, found)?;
+            }
+        }
+        Ok(())
+    }
+
     /// Adds the pages of a record, whose gate's page holds this where it is missing.
     fn add_record(&mut self, found: Record, missing: Cell) -> Result<(), AllocError> {
         let record = self.records.len();
@@ -156,18 +185,7 @@ pub(crate) fn read_log(
     used: u16,
 ) -> Result<Log, AllocError> {
     let numbers = Numbers::make(alloc, fee_numbers(alloc)?)?;
-    let mut log = Log {
-        cells: Vec::new(alloc),
-        records: Vec::new(alloc),
-    };
-    log.cells.push(lone_cell(flash, sector, 0))?;
-    log.cells.push(lone_cell(flash, sector, 1))?;
-    let mut behind = 2;
-    for page in 2..used {
-        if behind <= page {
-            let found = item_at(flash, sector, used, page, &numbers);
-            behind = log.add_found(flash, sector, page, found)?;
-        }
-    }
+    let mut log = Log::of_gates(alloc, flash, sector)?;
+    log.add_items(flash, sector, used, &numbers)?;
     Ok(log)
 }

@@ -100,19 +100,44 @@ fn put_calls(
     Ok(())
 }
 
+/// Puts the columns of a life behind those before them, and answers which they are.
+fn put_life(
+    index: usize,
+    life: &Life,
+    calls: usize,
+    spans: &mut Vec<Span>,
+) -> Result<LifeColumns, AllocError>
+    requires { 0 < calls }
+{
+    let from = spans.len();
+    put_power_up(index, life, spans)?;
+    put_calls(index, life, calls, spans)?;
+    let to = spans.len();
+    Ok(LifeColumns { from, to })
+}
+
+/// Puts the columns of lives from left to right, and which of them are those of each.
+fn put_lives(
+    lives: &[Life],
+    calls: usize,
+    spans: &mut Vec<Span>,
+    own: &mut Vec<LifeColumns>,
+) -> Result<(), AllocError>
+    requires { 0 < calls }
+{
+    for (index, life) in lives.iter().enumerate() {
+        own.push(put_life(index, life, calls, spans)?)?;
+    }
+    Ok(())
+}
+
 impl Columns {
     /// The columns of these lives.
     pub(crate) fn of(alloc: Global, lives: &[Life]) -> Result<Columns, AllocError> {
         let calls = count_calls(lives).div_ceil(CALL_COLUMNS).max(1);
         let mut spans = Vec::new(alloc);
         let mut own = Vec::new(alloc);
-        for (index, life) in lives.iter().enumerate() {
-            let from = spans.len();
-            put_power_up(index, life, &mut spans)?;
-            put_calls(index, life, calls, &mut spans)?;
-            let to = spans.len();
-            own.push(LifeColumns { from, to })?;
-        }
+        put_lives(lives, calls, &mut spans, &mut own)?;
         let count = spans.len().clamp(1, MOST) as u32;
         Ok(Columns {
             calls,

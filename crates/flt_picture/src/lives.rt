@@ -47,6 +47,16 @@ pub(crate) fn place_words(alloc: Global, from: &Span, to: &Span) -> Result<Strin
     format!(in alloc; "life {life} places {first} to {last}")
 }
 
+/// Puts a line behind words, without its end.
+fn put_line(words: &mut String, line: &[u8]) -> Result<(), AllocError> {
+    for byte in line {
+        if *byte != b'\n' {
+            words.push(*byte as char)?;
+        }
+    }
+    Ok(())
+}
+
 /// What the report tells of how a life began.
 fn boot_words(alloc: Global, number: u32, boot: &Boot) -> Result<String, AllocError> {
     if matches!(boot, Boot::Refused(StartFault::Flash)) {
@@ -55,11 +65,7 @@ fn boot_words(alloc: Global, number: u32, boot: &Boot) -> Result<String, AllocEr
     let mut line = Vec::new(alloc);
     put_boot(number, boot, &mut line)?;
     let mut words = String::new(alloc);
-    for byte in line {
-        if byte != b'\n' {
-            words.push(byte as char)?;
-        }
-    }
+    put_line(&mut words, &line)?;
     Ok(words)
 }
 
@@ -166,9 +172,8 @@ impl Drawing<'_, '_> {
         self.svg.path("power", &path, &title)
     }
 
-    /// Draws a life from one column to the one behind its last.
-    fn draw_life(&mut self, index: usize, life: &Life, own: LifeColumns) -> Result<(), AllocError> {
-        let number = index.min(1_000) as u32 + 1;
+    /// Draws a life, with its number, from one column to the one behind its last.
+    fn draw_area(&mut self, number: u32, life: &Life, own: LifeColumns) -> Result<(), AllocError> {
         let words = boot_words(self.alloc, number, &life.boot)?;
         let x = self.columns.x(own.from);
         let width = self.columns.x(own.to).saturating_sub(x);
@@ -179,11 +184,16 @@ impl Drawing<'_, '_> {
             height: self.life_height(&life.boot),
         };
         self.svg.area(life_class(&life.boot), &area, &words)?;
-        self.label_life(&words, number, x, width)?;
+        self.label_life(&words, number, x, width)
+    }
+
+    /// Draws a life, and before each but the first that the power went.
+    fn draw_life(&mut self, index: usize, life: &Life, own: LifeColumns) -> Result<(), AllocError> {
+        self.draw_area(index.min(1_000) as u32 + 1, life, own)?;
         if index == 0 {
             return Ok(());
         }
-        self.draw_power(index, x)
+        self.draw_power(index, self.columns.x(own.from))
     }
 
     /// Draws the lives.
@@ -228,6 +238,18 @@ impl Drawing<'_, '_> {
         Ok(())
     }
 
+    /// Draws that a generation is acknowledged in a column.
+    fn draw_saved(
+        &mut self,
+        generation: u32,
+        column: usize,
+        span: &Span,
+    ) -> Result<(), AllocError> {
+        let place = place_words(self.alloc, span, span)?;
+        let title = format!(in self.alloc; "generation {generation} acknowledged, {place}")?;
+        self.draw_save("enters", column, SAVES_Y + ROW, &title)
+    }
+
     /// Draws that a generation is acknowledged in a column, and its number where it has room, and answers what is free then.
     fn draw_generation(
         &mut self,
@@ -236,9 +258,7 @@ impl Drawing<'_, '_> {
         span: &Span,
         free: u32,
     ) -> Result<u32, AllocError> {
-        let place = place_words(self.alloc, span, span)?;
-        let title = format!(in self.alloc; "generation {generation} acknowledged, {place}")?;
-        self.draw_save("enters", column, SAVES_Y + ROW, &title)?;
+        self.draw_saved(generation, column, span)?;
         let words = format!(in self.alloc; "{generation}")?;
         self.draw_number(&words, column, SAVES_Y + 2 * ROW, free)
     }

@@ -152,6 +152,30 @@ fn gate_look(alloc: Global, word: &str, sequence: u32) -> Result<Look, AllocErro
     })
 }
 
+/// Puts the outlines of so many blank cells behind a path.
+fn put_blank(path: &mut String, count: usize, y: u32) -> Result<(), AllocError> {
+    let mut area = Area {
+        x: MARGIN,
+        y,
+        width: CELL_WIDTH - GAP,
+        height: BLANK_HEIGHT - GAP,
+    };
+    for _ in 0..count {
+        put_outline(path, "MX YhWvHh-Wz", &area)?;
+        area.x = area.x.saturating_add(CELL_WIDTH);
+    }
+    Ok(())
+}
+
+/// Puts the label of a cell, if it has one.
+fn draw_label(svg: &mut Svg, label: &str, x: u32, y: u32) -> Result<(), AllocError> {
+    if label.is_empty() {
+        return Ok(());
+    }
+    let middle = x.saturating_add((CELL_WIDTH - GAP) / 2);
+    svg.text("middle", middle, y.saturating_add(LABEL_Y), label)
+}
+
 /// A sector as it is drawn.
 #[derive(Drop)]
 struct Sector<'a> {
@@ -180,19 +204,33 @@ impl Sector<'_> {
         generation_of(self.config, self.flash, self.number, record)
     }
 
-    /// What is told of a page of a record.
-    fn record_title(&self, record: &Record, what: &str, state: &str) -> Result<String, AllocError> {
-        let alloc = self.alloc;
-        let name = block_name(alloc, record.block)?;
+    /// Which part of which block's record a page is.
+    fn part_words(&self, record: &Record, what: &str) -> Result<String, AllocError> {
+        let name = block_name(self.alloc, record.block)?;
         let length = record.length;
-        let mut title = format!(in alloc; "{what} of {name}, {length} bytes")?;
+        format!(in self.alloc; "{what} of {name}, {length} bytes")
+    }
+
+    /// Puts what else is told of a record behind the words before it.
+    fn put_state(
+        &self,
+        title: &mut String,
+        record: &Record,
+        state: &str,
+    ) -> Result<(), AllocError> {
         if let Some(generation) = self.generation(record) {
             write!(title, ", generation {generation}")?;
         }
         if !record.valid {
             title.push_str(", invalid")?;
         }
-        title.push_str(state)?;
+        title.push_str(state)
+    }
+
+    /// What is told of a page of a record.
+    fn record_title(&self, record: &Record, what: &str, state: &str) -> Result<String, AllocError> {
+        let mut title = self.part_words(record, what)?;
+        self.put_state(&mut title, record, state)?;
         Ok(title)
     }
 
@@ -257,16 +295,7 @@ impl Sector<'_> {
         y: u32,
     ) -> Result<(), AllocError> {
         let mut path = String::new(self.alloc);
-        let mut area = Area {
-            x: MARGIN,
-            y,
-            width: CELL_WIDTH - GAP,
-            height: BLANK_HEIGHT - GAP,
-        };
-        for _ in 0..count {
-            put_outline(&mut path, "MX YhWvHh-Wz", &area)?;
-            area.x = area.x.saturating_add(CELL_WIDTH);
-        }
+        put_blank(&mut path, count, y)?;
         let last = first.saturating_add(count).saturating_sub(1);
         let title = format!(in self.alloc; "pages {first} to {last}: blank")?;
         svg.path("older", &path, &title)
@@ -281,24 +310,17 @@ impl Sector<'_> {
         x: u32,
         y: u32,
     ) -> Result<(), AllocError> {
-        let Look {
-            class,
-            label,
-            title,
-        } = self.look(cell)?;
-        let title = format!(in self.alloc; "page {page}: {title}")?;
+        let look = self.look(cell)?;
+        let own = &look.title;
+        let title = format!(in self.alloc; "page {page}: {own}")?;
         let area = Area {
             x,
             y,
             width: CELL_WIDTH - GAP,
             height: CELL_HEIGHT - GAP,
         };
-        svg.area(class, &area, &title)?;
-        if label.is_empty() {
-            return Ok(());
-        }
-        let middle = x.saturating_add((CELL_WIDTH - GAP) / 2);
-        svg.text("middle", middle, y.saturating_add(LABEL_Y), &label)
+        svg.area(look.class, &area, &title)?;
+        draw_label(svg, &look.label, x, y)
     }
 
     /// Draws a row of cells.
@@ -381,6 +403,37 @@ fn head_sectors(
     Svg::headed(alloc, picture_height(logs), &title, NOTE)
 }
 
+/// The logs of both sectors.
+fn read_logs(alloc: Global, flash: &mut FlashMem, used: u16) -> Result<[Log; 2], AllocError> {
+    let first = read_log(alloc, flash, 0, used)?;
+    let second = read_log(alloc, flash, 1, used)?;
+    Ok([first, second])
+}
+
+/// Draws both sectors, one below the other.
+fn draw_sectors(
+    alloc: Global,
+    config: &ValidConfig,
+    flash: &FlashMem,
+    current: Option<u8>,
+    logs: &[Log; 2],
+    svg: &mut Svg,
+) -> Result<(), AllocError> {
+    let mut top = SECTORS_Y;
+    for (number, log) in (0u8..).zip(logs) {
+        let sector = Sector {
+            alloc,
+            config,
+            flash,
+            number,
+            is_current: current == Some(number),
+            log,
+        };
+        top = sector.draw(svg, top)?.saturating_add(2 * ROW);
+    }
+    Ok(())
+}
+
 /// Draws the sectors of a flash, a cell a page of those that a configuration uses: its gates, the records of the log with the names of their
 /// blocks, which of them are current, the generation that each copy of the commit names, and how often each sector was erased.
 ///
@@ -395,22 +448,8 @@ pub fn sectors(
     let used = config.config().pages.clamp(2, 1024);
     let mut copy = copy_of(alloc, flash, used)?;
     let current = current_of(&mut copy, used);
-    let logs = [
-        read_log(alloc, &mut copy, 0, used)?,
-        read_log(alloc, &mut copy, 1, used)?,
-    ];
+    let logs = read_logs(alloc, &mut copy, used)?;
     let mut svg = head_sectors(alloc, used, flash, &logs)?;
-    let mut top = SECTORS_Y;
-    for (number, log) in (0u8..).zip(&logs) {
-        let sector = Sector {
-            alloc,
-            config,
-            flash,
-            number,
-            is_current: current == Some(number),
-            log,
-        };
-        top = sector.draw(&mut svg, top)?.saturating_add(2 * ROW);
-    }
+    draw_sectors(alloc, config, flash, current, &logs, &mut svg)?;
     svg.end()
 }

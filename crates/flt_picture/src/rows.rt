@@ -150,17 +150,22 @@ impl Drawing<'_, '_> {
         write!(path, "H{right}")
     }
 
-    /// The line of the fault detection counter of a life.
-    fn counter_path(&self, band: &Band, own: LifeColumns, y: u32) -> Result<String, AllocError> {
-        let mut path = String::new(self.alloc);
+    /// Puts the line of the fault detection counter of a life behind a path.
+    fn put_counters(
+        &self,
+        path: &mut String,
+        band: &Band,
+        own: LifeColumns,
+        y: u32,
+    ) -> Result<(), AllocError> {
         for column in own.from..own.to {
             if let Some(moment) = band.moments.get(column)
                 && moment.is_on
             {
-                self.put_counter(&mut path, moment, column, y)?;
+                self.put_counter(path, moment, column, y)?;
             }
         }
-        Ok(path)
+        Ok(())
     }
 
     /// Draws the fault detection counter of a life, counted from 1.
@@ -171,7 +176,8 @@ impl Drawing<'_, '_> {
         own: LifeColumns,
         y: u32,
     ) -> Result<(), AllocError> {
-        let path = self.counter_path(band, own, y)?;
+        let mut path = String::new(self.alloc);
+        self.put_counters(&mut path, band, own, y)?;
         if path.is_empty() {
             return Ok(());
         }

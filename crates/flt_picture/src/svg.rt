@@ -57,12 +57,17 @@ impl Area {
 /// height, F and R for half of these, and T for a third of the width.
 pub(crate) fn put_outline(text: &mut String, outline: &str, area: &Area) -> Result<(), AllocError> {
     for letter in outline.chars() {
-        match area.measure(letter) {
-            Some(number) => write!(text, "{number}")?,
-            None => text.push(letter)?,
-        }
+        put_letter(text, letter, area)?;
     }
     Ok(())
+}
+
+/// Puts a letter of an outline behind a text: the measure for which it stands, or the letter itself.
+fn put_letter(text: &mut String, letter: char, area: &Area) -> Result<(), AllocError> {
+    match area.measure(letter) {
+        Some(number) => write!(text, "{number}"),
+        None => text.push(letter),
+    }
 }
 
 /// The path of an outline in an area.
@@ -118,13 +123,18 @@ impl Svg {
         Ok(svg)
     }
 
-    /// Puts words, with each letter that has a meaning in SVG as a reference to it.
+    /// Puts a letter, or the reference to it where it has a meaning in SVG.
+    fn put_letter(&mut self, letter: char) -> Result<(), AllocError> {
+        match reference(letter) {
+            Some(reference) => self.text.push_str(reference),
+            None => self.text.push(letter),
+        }
+    }
+
+    /// Puts words letter by letter.
     fn put_words(&mut self, words: &str) -> Result<(), AllocError> {
         for letter in words.chars() {
-            match reference(letter) {
-                Some(reference) => self.text.push_str(reference)?,
-                None => self.text.push(letter)?,
-            }
+            self.put_letter(letter)?;
         }
         Ok(())
     }
