@@ -19,7 +19,7 @@ use Rattle.flt_pages.specs.Recorded.{OnSector, Fills, Records}
 use Rattle.flt_pages.proofs.Filling.{Filled}
 use Rattle.flt_pages.proofs.FillStep.{FillsUpTo, lays, piece_failed, piece_laid}
 use Rattle.flt_pages.proofs.PageBytes.{bytes_size, piece_behind}
-use Rattle.flt_pages.proofs.Recording.{pages_on, head_failed, fill_failed, gate_laid}
+use Rattle.flt_pages.proofs.Recording.{head_failed, fill_failed, bytes_blank, gate_blank as blank_at_gate, gate_laid}
 
 -- The other sector stays as it was.
 pub other_stays : (before after : FlashState) (sector other : ℕ) (pages : List (List ℕ)) → other ≢ sector → OnSector before after other pages → sector_at after.image sector ≡ sector_at before.image sector
@@ -129,16 +129,16 @@ module _ (before : FlashState) (shape : HasShape before) (sector other page bloc
     copy_fill_failed after failed result fails is =
         fill_failed before shape other page block source place.valid in_other room_source blank_source middle shape_middle (head_of middle (Ok tt) headed) after failed result fails (fills_of after (Err failed) is)
 
-    -- The page of the gate is blank.
+    -- The pages behind the head are blank, and the page of the gate still is once the bytes are there.
+    pub copy_blank : AreBlank (sector_at middle.image other) (page + 1) (page + 1 + byte_pages place.length)
+    copy_blank =
+        subst (λ n. AreBlank (sector_at middle.image other) (page + 1) (page + 1 + byte_pages n)) size
+        (bytes_blank before shape other page block source place.valid in_other room_source blank_source middle shape_middle (head_of middle (Ok tt) headed))
+
     pub gate_blank : (full : FlashState) → Fills {T = Unit {0}} middle full other (page + 1) (bytes_at (sector_at middle.image sector) place) (Ok tt) → page_at full.image other (page + 1 + byte_pages place.length) ≡ blank_page
     gate_blank full is =
-        let fills = fills_of full (Ok tt) is in
-        ap (λ (pages : List (List ℕ)). get_or pages (page + 1 + byte_pages place.length) []) (pages_on middle full other fills.pages shape_middle in_other fills.on)
-        ∙ fills.apart.behind (page + 1 + byte_pages place.length) (omega (arith, size))
-        ∙ ap (λ (pages : List (List ℕ)). get_or pages (page + 1 + byte_pages place.length) [])
-        (pages_on before middle other (set (sector_at before.image other) page head) shape in_other (record { image = headed.done; wear = headed.wear; runs = one_run headed.operation }))
-        ∙ get_or-set_other (sector_at before.image other) page (page + 1 + byte_pages place.length) head [] (omega arith)
-        ∙ blank (page + 1 + byte_pages place.length) (omega arith) (omega arith)
+        subst (λ n. page_at full.image other (page + 1 + byte_pages n) ≡ blank_page) size
+        (blank_at_gate before shape other page block source place.valid in_other room_source blank_source middle shape_middle (head_of middle (Ok tt) headed) full (fills_of full (Ok tt) is))
 
     pub copy_gated : (full after : FlashState) (result : Result (Unit {0}) FlashFailed) → Fills {T = Unit {0}} middle full other (page + 1) (bytes_at (sector_at middle.image sector) place) (Ok tt)
         → Appends full after other (page + 1 + byte_pages place.length) (sealed (word_bytes (Gate block page))) result → Records before after other page block source place.valid result

@@ -1,8 +1,8 @@
 -- The steps of appending a record, one after another.
-use Rattle.std.proofs.Common.{◌≡◌, ◌⊎◌, inl, inr, ⊎_elim, ◌+◌, ◌<◌, ◌≤◌, ℕ, Bool, List, [], set, length, get_or-set_same, Result, Ok, Err, None, refl, sym, ◌∙◌, ap, subst, arith}
-use Rattle.std.specs.Prelude.{OnOk, OnErr, IsErr}
+use Rattle.std.proofs.Common.{◌≡◌, ◌⊎◌, inl, inr, ⊎_elim, ◌+◌, ◌<◌, ◌≤◌, ℕ, Bool, List, [], get_or, set, length, get_or-set_same, get_or-set_other, Result, Ok, Err, None, refl, sym, ◌∙◌, ap, subst, arith}
+use Rattle.std.specs.Prelude.{IfOk, OnOk, OnErr, IsErr}
 use Rattle.std.proofs.lemmas.List.{set-set}
-use Rattle.flt_flash.specs.Image.{sector_at}
+use Rattle.flt_flash.specs.Image.{sector_at, page_at, blank_page}
 use Rattle.flt_flash.specs.State.{FlashState, HasShape, HasRisenBy}
 use Rattle.flt_flash.specs.declared.flash.FlashFailed.{FlashFailed}
 use Rattle.flt_flash.proofs.Following.{one_run, runs_on}
@@ -15,6 +15,23 @@ use Rattle.flt_pages.specs.Record.{KeptApart, IsOpen, IsWhole, RecordLeft}
 use Rattle.flt_pages.proofs.Steps.{head_torn, head_stands, pieces_between, gate_torn, gate_stands}
 use Rattle.flt_pages.specs.Append.{Appends}
 use Rattle.flt_pages.specs.Recorded.{OnSector, Fills, Records}
+
+-- What holds whatever a call answered, and after an error.
+pub on_any : {T E : Type 0} {P : Type 0} (result : Result T E) → P → OnOk result P
+on_any (Ok x) p = p
+on_any (Err e) p = tt
+
+pub never_ok : {T E : Type 0} (P : Type 0) (result : Result T E) → IsErr result → OnOk result P
+never_ok P (Ok x) fails = absurd (cc fails)
+never_ok P (Err e) fails = tt
+
+pub never_if : {T E : Type 0} (P : T → Type 0) (result : Result T E) → IsErr result → IfOk result P
+never_if P (Ok x) fails = absurd (cc fails)
+never_if P (Err e) fails = tt
+
+pub on_fault : {T E : Type 0} {P : Type 0} (result : Result T E) → P → OnErr result P
+on_fault (Ok x) p = tt
+on_fault (Err e) p = p
 
 pub on_sector : (before middle after : FlashState) (sector : ℕ) (first second : List (List ℕ)) → OnSector before middle sector first → OnSector middle after sector second → OnSector before after sector second
 on_sector before middle after sector first second one two = record {
@@ -74,6 +91,20 @@ module _ (before : FlashState) (shape : HasShape before) (sector page block : �
 
     opened : IsOpen pages (sector_at middle.image sector) page block (length bytes) valid
     opened = subst (λ (p : List (List ℕ)). IsOpen pages p page block (length bytes) valid) (sym (pages_on before middle sector (set pages page head) shape within on_head)) (head_stands pages page block bytes valid fits blank)
+
+    -- The pages behind the head are blank, and the page of the gate still is once the bytes are there.
+    head_kept : (k : ℕ) → page < k → k < page + 2 + byte_pages (length bytes) → get_or (sector_at middle.image sector) k [] ≡ blank_page
+    head_kept k more less =
+        ap (λ (p : List (List ℕ)). get_or p k []) (pages_on before middle sector (set pages page head) shape within on_head)
+        ∙ get_or-set_other pages page k head [] (omega arith) ∙ blank k (omega arith) less
+
+    pub bytes_blank : AreBlank (sector_at middle.image sector) (page + 1) (page + 1 + byte_pages (length bytes))
+    bytes_blank k least most = head_kept k (omega arith) (omega arith)
+
+    pub gate_blank : (full : FlashState) → Fills {T = Unit {0}} middle full sector (page + 1) bytes (Ok tt) → page_at full.image sector (page + 1 + byte_pages (length bytes)) ≡ blank_page
+    gate_blank full is =
+        ap (λ (p : List (List ℕ)). get_or p (page + 1 + byte_pages (length bytes)) []) (pages_on middle full sector is.pages shape_middle within is.on)
+        ∙ is.apart.behind (page + 1 + byte_pages (length bytes)) (omega arith) ∙ head_kept (page + 1 + byte_pages (length bytes)) (omega arith) (omega arith)
 
     filled : (after : List (List ℕ)) → KeptApart (sector_at middle.image sector) after (page + 1) (page + 1 + byte_pages (length bytes)) → IsOpen pages after page block (length bytes) valid
     filled after apart = pieces_between pages page block bytes valid fits (sector_at middle.image sector) after opened apart

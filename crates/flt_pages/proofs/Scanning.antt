@@ -8,7 +8,7 @@ use Rattle.flt_sector.proofs.Logged.{log_on, log_step}
 use Rattle.flt_pages.proofs.ItemPages.{item_within}
 use Rattle.flt_pages.specs.declared.fault.PageFault.{PageFault}
 use Rattle.flt_pages.specs.declared.fault.PageFault.TheVariants.{Flash, Damaged}
-use Rattle.std.specs.Prelude.{IsErrAnd}
+use Rattle.std.specs.Prelude.{IsErrAnd, IsErrOf}
 use Rattle.flt_pages.specs.Told.{told, told_fault, TellsOrFails, told_end}
 
 -- The log ends, and has its fault, as it does from this page on.
@@ -57,6 +57,10 @@ module _ (used : ℕ) (numbers : List ℕ) (pages : List (List ℕ)) where
 pub handed_on : {T : Type 0} (P : Result T PageFault → Type 0) (result : Result T PageFault) (fault : PageFault) → IsErrAnd result (λ e. e ≡ fault) → P (Err fault) → P result
 handed_on {T} P (Ok x) fault is holds = absurd is
 handed_on {T} P (Err e) fault is holds = subst (λ (f : PageFault). P (Err f)) (sym is) holds
+
+pub flash_handed : {T : Type 0} (result : Result T PageFault) (fault : PageFault) → IsErrAnd result (λ e. e ≡ fault) → IsErrOf result Flash → fault ≡ Flash
+flash_handed (Ok x) fault is told = absurd is
+flash_handed (Err e) fault is told = cc (is, told)
 
 pub item_fault : (sector end : ℕ) (fault : Option ℕ) (found : PageFault) (at : Result Item ℕ) → TellsOrFails {T = Item} (Err found) (told sector at) → ((page : ℕ) → at ≡ Err page → fault ≡ Some page)
     → TellsOrFails {T = ℕ} (Err found) (told_end sector end fault)

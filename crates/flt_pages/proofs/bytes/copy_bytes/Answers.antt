@@ -1,4 +1,4 @@
-use Rattle.std.proofs.Common.{◌≡◌, ◌<◌, length, arith}
+use Rattle.std.proofs.Common.{◌≡◌, ◌+◌, ◌<◌, ℕ, List, [], get_or, length, ◌∙◌, ap, arith}
 use Rattle.flt_flash.specs.Image.{sector_at}
 use Rattle.flt_flash.specs.Blocks.{byte_pages}
 use Rattle.flt_flash.proofs.Following.{one_read}
@@ -6,6 +6,7 @@ use Rattle.flt_pages.specs.RecordPlace.{record_at, bytes_at}
 use Rattle.flt_pages.proofs.Filling.{filled_all}
 use Rattle.flt_pages.proofs.PageBytes.{bytes_size}
 use Rattle.flt_pages.proofs.Copying.{copy_unread, copy_torn, copied}
+use Rattle.flt_pages.proofs.Recording.{never_ok}
 use Rattle.flt_pages.proofs.bytes.copy_bytes.Goals as goal
 
 pub returns-in_err-read_page-clause-fills : goal.returns-in_err-read_page-clause-fills
@@ -49,3 +50,34 @@ returns-clause-fills g c =
       done = filled_all (sector_at now.image c.args.other) c.args.first bytes c.loop-index.index last c.loop-index.invariant.filled;
       cause = tt;
     }
+
+pub overflow_add-place : goal.overflow_add-place
+overflow_add-place g c = omega (arith, (g.met.F.Flash.shape c.args.flash.now).most, c.requires.within.below)
+
+pub overflow_add-place-in-loop-index : goal.overflow_add-place-in-loop-index
+overflow_add-place-in-loop-index g c = omega (arith, (g.met.F.Flash.shape c.args.flash.now).most, c.byte_pages-index-end.ensures, c.requires.within.below)
+
+pub read_page-requires-clause-page : goal.read_page-requires-clause-page
+read_page-requires-clause-page g c = omega (arith, c.byte_pages-index-end.ensures, c.loop-index.invariant.on.runs.pages, c.requires.within.below)
+
+pub overflow_add-first : goal.overflow_add-first
+overflow_add-first g c = omega (arith, (g.met.F.Flash.shape c.args.flash.now).most, c.byte_pages-index-end.ensures, c.requires.room)
+
+pub append_piece-requires-clause-page : goal.append_piece-requires-clause-page
+append_piece-requires-clause-page g c =
+    omega (arith, c.byte_pages-index-end.ensures, c.loop-index.invariant.on.runs.pages, c.in_ok-read_page.ensures.operation.pages, c.requires.room)
+
+pub append_piece-requires-clause-blank : goal.append_piece-requires-clause-blank
+append_piece-requires-clause-blank g c =
+    ap (λ (image : List (List (List ℕ))). get_or (sector_at image c.args.other) (c.args.first + c.loop-index.index) []) c.in_ok-read_page.ensures.image
+    ∙ c.loop-index.invariant.apart.behind (c.args.first + c.loop-index.index) (omega arith)
+    ∙ c.requires.blank (c.args.first + c.loop-index.index) (omega arith) (omega (arith, c.byte_pages-index-end.ensures))
+
+pub returns-in_err-read_page-clause-operations : goal.returns-in_err-read_page-clause-operations
+returns-in_err-read_page-clause-operations g c = never_ok _ c.from_residual.result c.from_residual.ensures.0
+
+pub returns-in_err-append_piece-clause-operations : goal.returns-in_err-append_piece-clause-operations
+returns-in_err-append_piece-clause-operations g c = never_ok _ c.from_residual-in_err-append_piece.result c.from_residual-in_err-append_piece.ensures.0
+
+pub returns-clause-operations : goal.returns-clause-operations
+returns-clause-operations g c = omega (arith, c.byte_pages-index-end.ensures, c.loop-index.invariant.operations)

@@ -1,10 +1,12 @@
-use Rattle.std.proofs.Common.{◌+◌, ◌∙◌, ap, subst}
+use Rattle.std.proofs.Common.{◌+◌, ◌∙◌, sym, ap, subst, arith}
 use Rattle.flt_flash.specs.Image.{page_at}
 use Rattle.flt_code.specs.Seal.{sealed}
 use Rattle.flt_code.specs.Word.{word_bytes}
 use Rattle.flt_code.specs.declared.words.Word.TheVariants.{Gate}
 use Rattle.flt_pages.specs.Append.{Appends}
-use Rattle.flt_pages.proofs.Copying.{copy_head_failed, copy_fill_failed, gate_blank, copy_gated}
+use Rattle.flt_pages.specs.RecordPlace.{IsPlaceWithin}
+use Rattle.flt_pages.proofs.Recording.{on_any, never_ok}
+use Rattle.flt_pages.proofs.Copying.{copy_head_failed, copy_fill_failed, copy_blank, gate_blank, copy_gated}
 use Rattle.flt_pages.proofs.bytes.copy_record.Goals as goal
 
 pub returns-in_err-append_head-clause-records : goal.returns-in_err-append_head-clause-records
@@ -34,3 +36,45 @@ returns-clause-records g c =
     c.requires.sector c.requires.other c.requires.apart c.requires.within c.requires.room c.requires.blank
     (g.F.Flash.state c.append_head.new.flash) (g.met.F.Flash.shape c.append_head.new.flash) c.in_ok-append_head.ensures.appends
     (g.F.Flash.state c.copy_bytes.new.flash) (g.F.Flash.state c.append_gate.new.flash) c.append_gate.result c.in_ok-copy_bytes.ensures.fills gate
+
+pub overflow_add-page : goal.overflow_add-page
+overflow_add-page g c = omega (arith, (g.met.F.Flash.shape c.args.flash.now).most, c.requires.room)
+
+pub overflow_add-page-2 : goal.overflow_add-page-2
+overflow_add-page-2 g c = omega (arith, (g.met.F.Flash.shape c.args.flash.now).most, c.requires.room)
+
+pub overflow_add-page-3 : goal.overflow_add-page-3
+overflow_add-page-3 g c = omega (arith, (g.met.F.Flash.shape c.args.flash.now).most, c.byte_pages.ensures, c.requires.room)
+
+pub append_head-requires-clause-page : goal.append_head-requires-clause-page
+append_head-requires-clause-page g c = omega (arith, c.requires.room)
+
+pub append_head-requires-clause-blank : goal.append_head-requires-clause-blank
+append_head-requires-clause-blank g c = c.requires.blank c.args.page (omega arith) (omega arith)
+
+pub returns-in_err-append_head-clause-operations : goal.returns-in_err-append_head-clause-operations
+returns-in_err-append_head-clause-operations g c = never_ok _ c.from_residual.result c.from_residual.ensures.0
+
+pub copy_bytes-requires-clause-room : goal.copy_bytes-requires-clause-room
+copy_bytes-requires-clause-room g c = omega (arith, c.in_ok-append_head.ensures.appends.operation.pages, c.requires.room)
+
+pub copy_bytes-requires-clause-blank : goal.copy_bytes-requires-clause-blank
+copy_bytes-requires-clause-blank g c =
+    copy_blank (g.F.Flash.state c.args.flash.now) (g.met.F.Flash.shape c.args.flash.now) c.args.sector c.args.other c.args.page c.args.block c.args.place
+    c.requires.sector c.requires.other c.requires.apart c.requires.within c.requires.room c.requires.blank
+    (g.F.Flash.state c.append_head.new.flash) (g.met.F.Flash.shape c.append_head.new.flash) c.in_ok-append_head.ensures.appends
+
+pub returns-in_err-copy_bytes-clause-operations : goal.returns-in_err-copy_bytes-clause-operations
+returns-in_err-copy_bytes-clause-operations g c = never_ok _ c.from_residual-in_err-copy_bytes.result c.from_residual-in_err-copy_bytes.ensures.0
+
+pub append_gate-requires-clause-page : goal.append_gate-requires-clause-page
+append_gate-requires-clause-page g c =
+    omega (arith, c.byte_pages.ensures, c.in_ok-append_head.ensures.appends.operation.pages, c.in_ok-copy_bytes.ensures.fills.on.runs.pages, c.requires.room)
+
+pub returns-clause-operations : goal.returns-clause-operations
+returns-clause-operations g c =
+    on_any c.append_gate.result
+    (omega (arith, c.in_ok-append_head.ensures.appends.operation.operations, c.in_ok-copy_bytes.ensures.operations, c.append_gate.ensures.appends.operation.operations))
+
+pub copy_bytes-requires-clause-within : goal.copy_bytes-requires-clause-within
+copy_bytes-requires-clause-within g c = subst (λ n. IsPlaceWithin n c.args.place) (sym c.in_ok-append_head.ensures.appends.operation.pages) c.requires.within

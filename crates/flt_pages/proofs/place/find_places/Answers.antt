@@ -1,13 +1,98 @@
-use Rattle.std.proofs.Common.{◌≡◌, ◌+◌, ◌-◌, ℕ, List, Ok, Option, None, sym, ◌∙◌, ap, subst, arith, get_or}
+use Rattle.std.proofs.Common.{◌≡◌, ◌+◌, ◌-◌, ℕ, List, Ok, Err, Option, None, sym, ◌∙◌, ap, subst, arith, get_or}
 use Rattle.flt_flash.specs.Image.{sector_at}
 use Rattle.flt_flash.proofs.Following.{no_reads, reads_on}
 use Rattle.flt_flash.specs.Blocks.{byte_pages}
 use Rattle.flt_sector.specs.Log.{item_at, log, first_written}
 use Rattle.flt_pages.specs.Told.{TellsOrFails, told_end}
-use Rattle.flt_pages.proofs.Scanning.{GoesOn, from_start, item_told, torn_on, kept_on, at_end, at_fault, handed_on, item_fault, blank_fault, blank_end}
+use Rattle.flt_pages.proofs.Scanning.{GoesOn, from_start, item_told, torn_on, kept_on, at_end, at_fault, handed_on, flash_handed, item_fault, blank_fault, blank_end}
 use Rattle.flt_pages.specs.declared.place.RecordPlace.{RecordPlace}
 use Rattle.flt_pages.proofs.Finding.{Seeks, seek, seek_on, seek_behind, found_at}
+use Rattle.flt_pages.proofs.place.find_places.Goals.{In-Torn, After-places-in-Kept-1}
 use Rattle.flt_pages.proofs.place.find_places.Goals as goal
+
+torn : (g : _) (c : In-Torn g) → GoesOn c.args.used c.args.numbers.now (sector_at (g.F.Flash.state c.args.flash.now).image c.args.sector) (c.log.page + 1)
+torn g c =
+    let found = sym (ap (λ (image : List (List (List ℕ))). item_at c.args.used c.args.numbers.now (sector_at image c.args.sector) c.log.page) c.log.invariant.reads.image)
+    ∙ item_told c.args.sector c.in_ok-item.field-0 (item_at c.args.used c.args.numbers.now (sector_at (g.F.Flash.state c.log.flash).image c.args.sector) c.log.page) c.in_ok-item.ensures.item
+    ∙ (λ i. Ok (c.in-Torn.is i)) in
+    torn_on c.args.used c.args.numbers.now (sector_at (g.F.Flash.state c.args.flash.now).image c.args.sector) c.log.page c.log.invariant.goes_on found
+
+kept : (g : _) (c : After-places-in-Kept-1 g) → GoesOn c.args.used c.args.numbers.now (sector_at (g.F.Flash.state c.args.flash.now).image c.args.sector) (c.log.page + 2 + byte_pages c.in-Kept.length)
+kept g c =
+    let found = sym (ap (λ (image : List (List (List ℕ))). item_at c.args.used c.args.numbers.now (sector_at image c.args.sector) c.log.page) c.log.invariant.reads.image)
+    ∙ item_told c.args.sector c.in_ok-item.field-0 (item_at c.args.used c.args.numbers.now (sector_at (g.F.Flash.state c.log.flash).image c.args.sector) c.log.page) c.in_ok-item.ensures.item
+    ∙ (λ i. Ok (c.in-Kept.is i)) in
+    kept_on c.args.used c.args.numbers.now (sector_at (g.F.Flash.state c.args.flash.now).image c.args.sector) c.log.page c.log.invariant.goes_on c.in-Kept.block c.in-Kept.length c.in-Kept.valid c.in-Kept.complete found
+
+pub item-requires-clause-used : goal.item-requires-clause-used
+item-requires-clause-used g c = omega (arith, c.log.invariant.reads.runs.pages, c.requires.most)
+
+pub item-requires-clause-page : goal.item-requires-clause-page
+item-requires-clause-page g c = c.log.invariant.goes_on.below
+
+pub blank_from-requires-clause-used : goal.blank_from-requires-clause-used
+blank_from-requires-clause-used g c = omega (arith, c.in_ok-item.ensures.reads.runs.pages, c.log.invariant.reads.runs.pages, c.requires.most)
+
+pub blank_from-requires-clause-page : goal.blank_from-requires-clause-page
+blank_from-requires-clause-page g c = c.log.invariant.goes_on.below
+
+pub overflow_add-page : goal.overflow_add-page
+overflow_add-page g c = omega (arith, (torn g (goal.at.overflow_add-page g c).In-Torn).below, c.requires.most, (g.met.F.Flash.shape c.args.flash.now).most)
+
+pub log-smaller-in-Torn : goal.log-smaller-in-Torn
+log-smaller-in-Torn g c = omega (arith, (torn g (goal.at.log-smaller-in-Torn g c).In-Torn).below)
+
+pub overflow_add-page-in-Kept : goal.overflow_add-page-in-Kept
+overflow_add-page-in-Kept g c = omega (arith, c.from.ensures, c.log.invariant.goes_on.below, c.requires.most, (g.met.F.Flash.shape c.args.flash.now).most)
+
+pub overflow_add-page-in-Kept-2 : goal.overflow_add-page-in-Kept-2
+overflow_add-page-in-Kept-2 g c =
+    omega (
+      arith,
+      (kept g (goal.at.overflow_add-page-in-Kept-2 g c).After-places-in-Kept-1).below,
+      c.from.ensures,
+      c.byte_pages.ensures,
+      c.from-in-Kept.ensures,
+      c.requires.most,
+      (g.met.F.Flash.shape c.args.flash.now).most,
+    )
+
+pub overflow_cast-page : goal.overflow_cast-page
+overflow_cast-page g c =
+    omega (
+      arith,
+      (kept g (goal.at.overflow_cast-page g c).After-places-in-Kept-1).below,
+      c.from.ensures,
+      c.byte_pages.ensures,
+      c.from-in-Kept.ensures,
+      c.requires.most,
+      (g.met.F.Flash.shape c.args.flash.now).most,
+    )
+
+pub log-smaller : goal.log-smaller
+log-smaller g c = omega (arith, (kept g (goal.at.log-smaller g c).After-places-in-Kept-1).below, c.from.ensures, c.byte_pages.ensures, c.from-in-Kept.ensures)
+
+pub returns-in_err-item-clause-reads : goal.returns-in_err-item-clause-reads
+returns-in_err-item-clause-reads g c = reads_on c.log.invariant.reads c.in_err-item.ensures.reads
+
+pub returns-in_err-blank_from-in-End-clause-reads : goal.returns-in_err-blank_from-in-End-clause-reads
+returns-in_err-blank_from-in-End-clause-reads g c = reads_on (reads_on c.log.invariant.reads c.in_ok-item.ensures.reads) c.in_err-blank_from-in-End.ensures.reads
+
+pub returns-in-End-clause-reads : goal.returns-in-End-clause-reads
+returns-in-End-clause-reads g c = reads_on (reads_on c.log.invariant.reads c.in_ok-item.ensures.reads) c.in_ok-blank_from-in-End.ensures.reads
+
+pub returns-in_err-item-clause-cause : goal.returns-in_err-item-clause-cause
+returns-in_err-item-clause-cause g c = λ told.
+    omega (arith, c.in_err-item.ensures.cause (ap Err (flash_handed c.from_residual.result c.in_err-item.field-0.0 c.from_residual.ensures.1 told)), c.log.invariant.reads.runs.counts)
+
+pub returns-in_err-blank_from-in-End-clause-cause : goal.returns-in_err-blank_from-in-End-clause-cause
+returns-in_err-blank_from-in-End-clause-cause g c = λ told.
+    omega (
+      arith,
+      c.in_err-blank_from-in-End.ensures.cause (ap Err (flash_handed c.from_residual-in_err-blank_from-in-End.result c.in_err-blank_from-in-End.field-0.0 c.from_residual-in_err-blank_from-in-End.ensures.1 told)),
+      c.in_ok-item.ensures.reads.runs.counts,
+      c.log.invariant.reads.runs.counts,
+    )
 
 pub log-init : goal.log-init
 log-init g c = record {

@@ -1,8 +1,10 @@
-use Rattle.std.proofs.Common.{◌+◌, ◌≤◌, ◌∙◌, ℕ, List, sym, subst, arith}
+use Rattle.std.proofs.Common.{◌≡◌, ◌+◌, ◌≤◌, ◌∙◌, ℕ, List, None, sym, subst, arith}
 use Rattle.flt_flash.proofs.Following.{runs_on, one_run}
+use Rattle.flt_sector.specs.Log.{log}
 use Rattle.flt_pages.specs.LogHolds.{LogHolds}
 use Rattle.flt_pages.specs.Live.{held_in, current_pages}
 use Rattle.flt_pages.specs.RecordPlace.{TellsPlaces}
+use Rattle.flt_pages.proofs.Recording.{never_ok, never_if, on_fault}
 use Rattle.flt_pages.proofs.Switching.{switch_unbegun, begun_blank, source_stays, keeps_inactive, active_blank, goes_over, table_over, activation_left}
 use Rattle.flt_pages.proofs.sectors.switch_sectors.Goals as goal
 
@@ -96,3 +98,77 @@ copy_blocks-requires-clause-room g c =
     let source = source_stays c.args.used c.args.numbers.now (g.F.Flash.state c.args.flash.now) (g.met.F.Flash.shape c.args.flash.now) c.args.sector c.args.sequence c.requires.sector c.requires.least (omega arith) c.requires.most
     c.requires.current c.requires.sound c.requires.next (g.F.Flash.state c.begin.new.flash) (g.met.F.Flash.shape c.begin.new.flash) c.in_ok-begin.ensures.begins.done in
     subst (λ (p : List (List ℕ)). 2 + current_pages c.args.used c.args.numbers.now p ≤ c.args.used) (sym source) c.requires.room
+
+pub copy_blocks-requires-clause-most : goal.copy_blocks-requires-clause-most
+copy_blocks-requires-clause-most g c = omega (arith, c.in_ok-begin.ensures.begins.runs.pages, c.requires.most)
+
+pub copy_blocks-requires-clause-sound : goal.copy_blocks-requires-clause-sound
+copy_blocks-requires-clause-sound g c =
+    let source = source_stays c.args.used c.args.numbers.now (g.F.Flash.state c.args.flash.now) (g.met.F.Flash.shape c.args.flash.now) c.args.sector c.args.sequence c.requires.sector c.requires.least (omega arith) c.requires.most
+    c.requires.current c.requires.sound c.requires.next (g.F.Flash.state c.begin.new.flash) (g.met.F.Flash.shape c.begin.new.flash) c.in_ok-begin.ensures.begins.done in
+    subst (λ (p : List (List ℕ)). (log c.args.used c.args.numbers.now p).fault ≡ None) (sym source) c.requires.sound
+
+pub activate-requires-clause-page : goal.activate-requires-clause-page
+activate-requires-clause-page g c = omega (arith, c.in_ok-end.ensures.copies.on.runs.pages, c.in_ok-begin.ensures.begins.runs.pages, c.requires.least, c.requires.most)
+
+pub returns-clause-room : goal.returns-clause-room
+returns-clause-room g c =
+    let source = source_stays c.args.used c.args.numbers.now (g.F.Flash.state c.args.flash.now) (g.met.F.Flash.shape c.args.flash.now) c.args.sector c.args.sequence c.requires.sector c.requires.least (omega arith) c.requires.most
+    c.requires.current c.requires.sound c.requires.next (g.F.Flash.state c.begin.new.flash) (g.met.F.Flash.shape c.begin.new.flash) c.in_ok-begin.ensures.begins.done in
+    subst (λ (p : List (List ℕ)). c.in_ok-end.end ≤ 2 + current_pages c.args.used c.args.numbers.now p) source c.in_ok-end.ensures.copies.room
+
+pub returns-in_err-begin-clause-runs : goal.returns-in_err-begin-clause-runs
+returns-in_err-begin-clause-runs g c = c.in_err-begin.ensures.begins.runs
+
+pub returns-in_err-end-clause-runs : goal.returns-in_err-end-clause-runs
+returns-in_err-end-clause-runs g c = runs_on c.in_ok-begin.ensures.begins.runs c.in_err-end.ensures.copies.on.runs
+
+pub returns-in_err-activate-clause-runs : goal.returns-in_err-activate-clause-runs
+returns-in_err-activate-clause-runs g c = runs_on c.in_ok-begin.ensures.begins.runs (runs_on c.in_ok-end.ensures.copies.on.runs (one_run c.in_err-activate.ensures.appends.operation))
+
+pub returns-in_err-begin-clause-cause : goal.returns-in_err-begin-clause-cause
+returns-in_err-begin-clause-cause g c = on_fault c.from_residual.result c.in_err-begin.ensures.begins.cause
+
+pub returns-in_err-end-clause-cause : goal.returns-in_err-end-clause-cause
+returns-in_err-end-clause-cause g c = on_fault c.from_residual-in_err-end.result (omega (arith, c.in_err-end.ensures.copies.cause, c.in_ok-begin.ensures.begins.runs.counts))
+
+pub returns-in_err-activate-clause-cause : goal.returns-in_err-activate-clause-cause
+returns-in_err-activate-clause-cause g c =
+    on_fault c.from_residual-in_err-activate.result
+    (omega (arith, c.in_err-activate.ensures.appends.operation.cause, c.in_ok-end.ensures.copies.on.runs.counts, c.in_ok-begin.ensures.begins.runs.counts))
+
+pub returns-in_err-begin-clause-table : goal.returns-in_err-begin-clause-table
+returns-in_err-begin-clause-table g c = never_if _ c.from_residual.result c.from_residual.ensures.0
+
+pub returns-in_err-begin-clause-room : goal.returns-in_err-begin-clause-room
+returns-in_err-begin-clause-room g c = never_if _ c.from_residual.result c.from_residual.ensures.0
+
+pub returns-in_err-begin-clause-switched : goal.returns-in_err-begin-clause-switched
+returns-in_err-begin-clause-switched g c = never_if _ c.from_residual.result c.from_residual.ensures.0
+
+pub returns-in_err-begin-clause-erases : goal.returns-in_err-begin-clause-erases
+returns-in_err-begin-clause-erases g c = never_ok _ c.from_residual.result c.from_residual.ensures.0
+
+pub returns-in_err-end-clause-table : goal.returns-in_err-end-clause-table
+returns-in_err-end-clause-table g c = never_if _ c.from_residual-in_err-end.result c.from_residual-in_err-end.ensures.0
+
+pub returns-in_err-end-clause-room : goal.returns-in_err-end-clause-room
+returns-in_err-end-clause-room g c = never_if _ c.from_residual-in_err-end.result c.from_residual-in_err-end.ensures.0
+
+pub returns-in_err-end-clause-switched : goal.returns-in_err-end-clause-switched
+returns-in_err-end-clause-switched g c = never_if _ c.from_residual-in_err-end.result c.from_residual-in_err-end.ensures.0
+
+pub returns-in_err-end-clause-erases : goal.returns-in_err-end-clause-erases
+returns-in_err-end-clause-erases g c = never_ok _ c.from_residual-in_err-end.result c.from_residual-in_err-end.ensures.0
+
+pub returns-in_err-activate-clause-table : goal.returns-in_err-activate-clause-table
+returns-in_err-activate-clause-table g c = never_if _ c.from_residual-in_err-activate.result c.from_residual-in_err-activate.ensures.0
+
+pub returns-in_err-activate-clause-room : goal.returns-in_err-activate-clause-room
+returns-in_err-activate-clause-room g c = never_if _ c.from_residual-in_err-activate.result c.from_residual-in_err-activate.ensures.0
+
+pub returns-in_err-activate-clause-switched : goal.returns-in_err-activate-clause-switched
+returns-in_err-activate-clause-switched g c = never_if _ c.from_residual-in_err-activate.result c.from_residual-in_err-activate.ensures.0
+
+pub returns-in_err-activate-clause-erases : goal.returns-in_err-activate-clause-erases
+returns-in_err-activate-clause-erases g c = never_ok _ c.from_residual-in_err-activate.result c.from_residual-in_err-activate.ensures.0
