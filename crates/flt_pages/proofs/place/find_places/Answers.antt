@@ -7,7 +7,7 @@ use Rattle.flt_pages.specs.Told.{TellsOrFails, told_end}
 use Rattle.flt_pages.proofs.Scanning.{GoesOn, from_start, item_told, torn_on, kept_on, at_end, at_fault, handed_on, flash_handed, item_fault, blank_fault, blank_end}
 use Rattle.flt_pages.specs.declared.place.RecordPlace.{RecordPlace}
 use Rattle.flt_pages.proofs.Finding.{Seeks, seek, seek_on, seek_behind, found_at}
-use Rattle.flt_pages.proofs.place.find_places.Goals.{In-Torn, After-places-in-Kept-1}
+use Rattle.flt_pages.proofs.place.find_places.Goals.{In-Torn, In-Kept}
 use Rattle.flt_pages.proofs.place.find_places.Goals as goal
 
 torn : (g : _) (c : In-Torn g) → GoesOn c.args.used c.args.numbers.now (sector_at (g.F.Flash.state c.args.flash.now).image c.args.sector) (c.log.page + 1)
@@ -17,7 +17,7 @@ torn g c =
     ∙ (λ i. Ok (c.in-Torn.is i)) in
     torn_on c.args.used c.args.numbers.now (sector_at (g.F.Flash.state c.args.flash.now).image c.args.sector) c.log.page c.log.invariant.goes_on found
 
-kept : (g : _) (c : After-places-in-Kept-1 g) → GoesOn c.args.used c.args.numbers.now (sector_at (g.F.Flash.state c.args.flash.now).image c.args.sector) (c.log.page + 2 + byte_pages c.in-Kept.length)
+kept : (g : _) (c : In-Kept g) → GoesOn c.args.used c.args.numbers.now (sector_at (g.F.Flash.state c.args.flash.now).image c.args.sector) (c.log.page + 2 + byte_pages c.in-Kept.length)
 kept g c =
     let found = sym (ap (λ (image : List (List (List ℕ))). item_at c.args.used c.args.numbers.now (sector_at image c.args.sector) c.log.page) c.log.invariant.reads.image)
     ∙ item_told c.args.sector c.in_ok-item.field-0 (item_at c.args.used c.args.numbers.now (sector_at (g.F.Flash.state c.log.flash).image c.args.sector) c.log.page) c.in_ok-item.ensures.item
@@ -49,7 +49,7 @@ pub overflow_add-page-in-Kept-2 : goal.overflow_add-page-in-Kept-2
 overflow_add-page-in-Kept-2 g c =
     omega (
       arith,
-      (kept g (goal.at.overflow_add-page-in-Kept-2 g c).After-places-in-Kept-1).below,
+      (kept g (goal.at.overflow_add-page-in-Kept-2 g c).In-Kept).below,
       c.from.ensures,
       c.byte_pages.ensures,
       c.from-in-Kept.ensures,
@@ -61,7 +61,7 @@ pub overflow_cast-page : goal.overflow_cast-page
 overflow_cast-page g c =
     omega (
       arith,
-      (kept g (goal.at.overflow_cast-page g c).After-places-in-Kept-1).below,
+      (kept g (goal.at.overflow_cast-page g c).In-Kept).below,
       c.from.ensures,
       c.byte_pages.ensures,
       c.from-in-Kept.ensures,
@@ -70,7 +70,7 @@ overflow_cast-page g c =
     )
 
 pub log-smaller : goal.log-smaller
-log-smaller g c = omega (arith, (kept g (goal.at.log-smaller g c).After-places-in-Kept-1).below, c.from.ensures, c.byte_pages.ensures, c.from-in-Kept.ensures)
+log-smaller g c = omega (arith, (kept g (goal.at.log-smaller g c).In-Kept).below, c.from.ensures, c.byte_pages.ensures, c.from-in-Kept.ensures)
 
 pub returns-in_err-item-clause-reads : goal.returns-in_err-item-clause-reads
 returns-in_err-item-clause-reads g c = reads_on c.log.invariant.reads c.in_err-item.ensures.reads
