@@ -4,6 +4,7 @@ use Rattle.flt_flash.specs.Image.{sector_at, page_at}
 use Rattle.flt_flash.proofs.Following.{one_read, reads_on}
 use Rattle.flt_pages.proofs.Finding.{length_most}
 use Rattle.flt_pages.proofs.Reading.{flat_more}
+use Rattle.flt_pages.proofs.Recording.{never_ok, on_fault}
 use Rattle.flt_pages.proofs.bytes.read_record.Goals as goal
 
 pub loop-index-preserved : goal.loop-index-preserved
@@ -28,3 +29,29 @@ loop-index-preserved g c =
           ∙ sym (flat_more pages (c.args.place.page + 1) c.loop-index.index within);
       operations = omega (arith, c.in_ok-read_page.ensures.operation.operations, c.loop-index.invariant.operations);
     }
+
+pub overflow_add-place : goal.overflow_add-place
+overflow_add-place g c = omega (arith, (g.met.F.Flash.shape c.args.flash.now).most, c.requires.within.below)
+
+pub overflow_add-place-in-loop-index : goal.overflow_add-place-in-loop-index
+overflow_add-place-in-loop-index g c = omega (arith, (g.met.F.Flash.shape c.args.flash.now).most, c.byte_pages-index-end.ensures, c.requires.within.below)
+
+pub read_page-requires-clause-page : goal.read_page-requires-clause-page
+read_page-requires-clause-page g c = omega (arith, c.byte_pages-index-end.ensures, c.loop-index.invariant.reads.runs.pages, c.requires.within.below)
+
+pub returns-in_err-read_page-clause-read : goal.returns-in_err-read_page-clause-read
+returns-in_err-read_page-clause-read g c = never_ok _ c.from_residual.result c.from_residual.ensures.0
+
+pub returns-in_err-read_page-clause-operations : goal.returns-in_err-read_page-clause-operations
+returns-in_err-read_page-clause-operations g c = never_ok _ c.from_residual.result c.from_residual.ensures.0
+
+pub returns-in_err-read_page-clause-reads : goal.returns-in_err-read_page-clause-reads
+returns-in_err-read_page-clause-reads g c =
+    reads_on c.loop-index.invariant.reads (one_read c.in_err-read_page.ensures.operation c.in_err-read_page.ensures.image c.in_err-read_page.ensures.wear)
+
+pub returns-in_err-read_page-clause-cause : goal.returns-in_err-read_page-clause-cause
+returns-in_err-read_page-clause-cause g c =
+    on_fault c.from_residual.result (omega (arith, c.in_err-read_page.ensures.operation.cause, c.loop-index.invariant.reads.runs.counts))
+
+pub returns-clause-operations : goal.returns-clause-operations
+returns-clause-operations g c = omega (arith, c.byte_pages-index-end.ensures, c.loop-index.invariant.operations)
