@@ -26,3 +26,14 @@ returns g c =
     c.requires.sector (omega (arith, c.in_ok-erase.ensures.operation.pages)) blank c.seal.ensures.code_word c.program.ensures.programmed c.program.ensures.torn c.program.ensures.wear c.program.ensures.operation in
     let begins = begun_on before middle after c.args.sector c.seal.result c.program.result c.in_ok-erase.ensures.erased c.in_ok-erase.ensures.wear c.in_ok-erase.ensures.operation done in
     record { begins = subst (λ (p : List ℕ). BeginsSector before after c.args.sector p c.program.result) page begins }
+
+pub program-requires-clause-page : goal.program-requires-clause-page
+program-requires-clause-page g c = omega (arith, c.in_ok-erase.ensures.operation.pages, c.requires.least, c.requires.most)
+
+pub program-requires-clause-blank : goal.program-requires-clause-blank
+program-requires-clause-blank g c =
+    let before = g.F.Flash.state c.args.flash.now in
+    let shape = g.met.F.Flash.shape c.args.flash.now in
+    let size : c.args.sector < length before.image = omega (arith, shape.sectors, c.requires.sector) in
+    let room : 0 < length (sector_at before.image c.args.sector) = omega (arith, shape.pages c.args.sector c.requires.sector, c.requires.least, c.requires.most) in
+    ap (λ (image : List (List (List ℕ))). page_at image c.args.sector 0) c.in_ok-erase.ensures.erased ∙ erased_page before.image c.args.sector 0 size room
