@@ -1,5 +1,5 @@
 // The calls of a journal, printed.
-ghost use Rattle.std.specs.Prelude.{◌≡◌, ◌<◌, ◌≤◌, ◌^◌, ◌++◌, ◌∷◌, All, IfOk, IfSome, Some, codes, length, map, true};
+ghost use Rattle.std.specs.Prelude.{◌≡◌, ◌<◌, ◌^◌, ◌++◌, ◌∷◌, All, IfOk, IfSome, Some, codes, map, true};
 ghost use Rattle.std.specs.Fmt.{decimal};
 ghost use Rattle.std.specs.String.{string_bytes};
 ghost use Rattle.flt_config.specs.declared.config.Config.{Config};
@@ -9,9 +9,8 @@ ghost use Rattle.flt_script.specs.Step.{with_number};
 ghost use Rattle.flt_turn.specs.Journal.{ops_of};
 ghost use Rattle.flt_call.specs.Call.{AreCallTexts, CanBeMade, IsCallText, IsOfSave, IsOfStep, IsOpText, IsSaveCall, step_of};
 
-use arrayvec::ArrayVec;
 use flt_life::Entry;
-use flt_model::{Op, REQUEST};
+use flt_model::Op;
 use flt_script::Step;
 use flt_script::laws::printed_step_is_read_again;
 use std::alloc::{AllocError, Global};
@@ -21,17 +20,6 @@ fn look_at(bytes: &[u8])
     ensures { are_bytes bytes.now ≡ true }
 {
     let _count = bytes.len();
-}
-
-/// A copy of the bytes of a request, which takes no memory.
-fn copy_of(bytes: &ArrayVec<u8, REQUEST>) -> ArrayVec<u8, REQUEST>
-    ensures same { result ≡ bytes.now }
-    ensures few { length result.items ≤ 16 }
-    ensures bytes { are_bytes result.items ≡ true }
-{
-    look_at(bytes.as_slice());
-    let _count = bytes.len();
-    bytes.clone().unwrap()
 }
 
 /// The step that makes a call; none makes those of a save.
@@ -58,10 +46,13 @@ fn step_of(op: &Op) -> Option<Step>
             condition: *condition,
             fulfilled: *fulfilled,
         }),
-        Op::Request { tester, bytes } => Some(Step::Request {
-            tester: *tester,
-            bytes: copy_of(bytes),
-        }),
+        Op::Request { tester, bytes } => {
+            look_at(bytes.as_slice());
+            Some(Step::Request {
+                tester: *tester,
+                bytes: bytes.clone().unwrap(),
+            })
+        }
         Op::Snapshot | Op::Saved { .. } => None,
     }
 }
