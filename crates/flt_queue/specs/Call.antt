@@ -1,9 +1,10 @@
 -- What a call of the locked queue tells.
-use Rattle.std.specs.Prelude.{ℕ, List, reverse}
+use Rattle.std.specs.Prelude.{ℕ, List, Result, reverse}
 use Rattle.flt_queue.specs.Queue.{IsAdmitted, answer_q}
 use Rattle.flt_queue.specs.declared.job.QueueOp.{QueueOp}
 use Rattle.flt_queue.specs.declared.job.QueueReply.{QueueReply}
 use Rattle.flt_turn.specs.declared.answer.Answer.{Answer}
+use Rattle.flt_turn.specs.declared.answer.HistoryFull.{HistoryFull}
 use Rattle.flt_turn.specs.Call as turn
 use Rattle.flt_turn.specs.Seats.{Seated}
 
@@ -18,3 +19,7 @@ reply_after blocks calls op = answer_q (reverse calls) op
 -- A call stands at the place that it was told, and its reply is the queue's after the calls before that place.
 abbrev pub IsCall : Seat → Seat → QueueOp → Answer QueueReply → Type 0
 IsCall before after op told = turn.IsCall IsAdmitted reply_after before after op told
+
+-- What a call tells, whether it is made or refused.
+abbrev pub Calls : Seat → Seat → QueueOp → Result (Answer QueueReply) (HistoryFull QueueOp) → Type 0
+Calls before after op result = turn.Calls (IsCall before after op) before after op result

@@ -1,12 +1,10 @@
 //! The queue under the ticket lock.
-ghost use Rattle.std.specs.Prelude.{◌≡◌, ◌<◌, ◌≤◌, ◌+◌, ◌^◌, ◌∷◌, IfOk, IfErr, IsErr, All, length, reverse};
-ghost use mathlib.Core.Logic.{◌↔◌};
+ghost use Rattle.std.specs.Prelude.{◌≡◌, ◌<◌, ◌≤◌, ◌+◌, ◌^◌, ◌∷◌, IfOk, All, length, reverse};
 ghost use mathlib.Core.List.{IsPrefix};
 ghost use Rattle.flt_queue.specs.declared.job.QueueOp.TheVariants as ops;
 ghost use Rattle.flt_queue.specs.Queue.{IsAdmitted, IsFor, IsJob};
 ghost use Rattle.flt_queue.specs.Stands.{Stands};
-ghost use Rattle.flt_queue.specs.Call.{IsCall};
-ghost use Rattle.flt_turn.specs.Call.{IsRefusal};
+ghost use Rattle.flt_queue.specs.Call.{Calls};
 ghost use Rattle.flt_turn.specs.Journal.{Interleaves, ops_of};
 ghost use Rattle.flt_turn.specs.Seats.{IsSeatOf, main_seat, split_off, split_seat, joined_seat};
 
@@ -59,9 +57,7 @@ impl QueueLock {
     pub fn call<R: Wait>(&self, rt: &R, seat: &mut QueueSeat, op: QueueOp) -> QueueAnswer
         requires lock { IsSeatOf self.now.turn seat.old }
         requires admitted { IsAdmitted seat.old.start op }
-        ensures full { IsErr result ↔ (seat.old.left ≡ 0) }
-        ensures refused { IfErr result (IsRefusal seat.old seat.new op) }
-        ensures call { IfOk result (IsCall seat.old seat.new op) }
+        ensures { Calls seat.old seat.new op result }
     {
         self.turn.call(rt, seat, &(), op, &mut ())
     }
@@ -70,9 +66,7 @@ impl QueueLock {
     pub fn post<R: Wait>(&self, rt: &R, seat: &mut QueueSeat, urgent: bool, job: Job) -> QueueAnswer
         requires lock { IsSeatOf self.now.turn seat.old }
         requires job { IsJob seat.old.start job }
-        ensures full { IsErr result ↔ (seat.old.left ≡ 0) }
-        ensures refused { IfErr result (IsRefusal seat.old seat.new (ops.Post urgent job)) }
-        ensures call { IfOk result (IsCall seat.old seat.new (ops.Post urgent job)) }
+        ensures { Calls seat.old seat.new (ops.Post urgent job) result }
     {
         self.call(rt, seat, QueueOp::Post { urgent, job })
     }
@@ -80,9 +74,7 @@ impl QueueLock {
     /// Takes the next job, which is one of 1 to 32 bytes for a block of the queue.
     pub fn take<R: Wait>(&self, rt: &R, seat: &mut QueueSeat) -> QueueAnswer
         requires lock { IsSeatOf self.now.turn seat.old }
-        ensures full { IsErr result ↔ (seat.old.left ≡ 0) }
-        ensures refused { IfErr result (IsRefusal seat.old seat.new ops.Take) }
-        ensures call { IfOk result (IsCall seat.old seat.new ops.Take) }
+        ensures call { Calls seat.old seat.new ops.Take result }
         ensures job { IfOk result (λ told. IsFor seat.old.start told.reply) }
     {
         self.call(rt, seat, QueueOp::Take)
@@ -98,9 +90,7 @@ impl QueueLock {
     ) -> QueueAnswer
         requires lock { IsSeatOf self.now.turn seat.old }
         requires block { block < seat.old.start }
-        ensures full { IsErr result ↔ (seat.old.left ≡ 0) }
-        ensures refused { IfErr result (IsRefusal seat.old seat.new (ops.Done block written)) }
-        ensures call { IfOk result (IsCall seat.old seat.new (ops.Done block written)) }
+        ensures { Calls seat.old seat.new (ops.Done block written) result }
     {
         self.call(rt, seat, QueueOp::Done { block, written })
     }
@@ -109,9 +99,7 @@ impl QueueLock {
     pub fn ask<R: Wait>(&self, rt: &R, seat: &mut QueueSeat, block: u8) -> QueueAnswer
         requires lock { IsSeatOf self.now.turn seat.old }
         requires block { block < seat.old.start }
-        ensures full { IsErr result ↔ (seat.old.left ≡ 0) }
-        ensures refused { IfErr result (IsRefusal seat.old seat.new (ops.Ask block)) }
-        ensures call { IfOk result (IsCall seat.old seat.new (ops.Ask block)) }
+        ensures { Calls seat.old seat.new (ops.Ask block) result }
     {
         self.call(rt, seat, QueueOp::Ask { block })
     }

@@ -1,5 +1,5 @@
 -- What a call of the locked status machine tells.
-use Rattle.std.specs.Prelude.{ℕ, List, reverse}
+use Rattle.std.specs.Prelude.{ℕ, List, Result, reverse}
 use Rattle.arrayvec.specs.ArrayVec.{ArrayVec}
 use Rattle.flt_model.specs.Start.{Start, History}
 use Rattle.flt_model.specs.Answer.{answer}
@@ -14,6 +14,7 @@ use Rattle.flt_dcm.specs.Unit.{IsAdmitted}
 use Rattle.flt_dcm.specs.ReplyKind.{ReplyKind, reply_with}
 use Rattle.flt_dcm.specs.Standard.{StandardBits, IsFromStart}
 use Rattle.flt_turn.specs.declared.answer.Answer.{Answer}
+use Rattle.flt_turn.specs.declared.answer.HistoryFull.{HistoryFull}
 use Rattle.flt_turn.specs.declared.vault.Entry.{Entry}
 use Rattle.flt_turn.specs.Call as turn
 use Rattle.flt_turn.specs.Seats.{Seated}
@@ -49,6 +50,14 @@ whole told response = turn.whole with_response told response
 -- A call stands at the place that it was told, and its reply is the machine's after the calls before that place.
 abbrev pub IsCall : Seat → Seat → Op → Answer Reply → Type 0
 IsCall before after op told = turn.IsCall MayBeAsked reply_after before after op told
+
+-- What a call tells, whether it is made or refused.
+abbrev pub Calls : Seat → Seat → Op → Result (Answer Reply) (HistoryFull Op) → Type 0
+Calls before after op result = turn.Calls (IsCall before after op) before after op result
+
+-- The same of a call whose answer has only the kind of the reply, beside the bytes of a response.
+abbrev pub CallsInto : Seat → Seat → Op → ResponseBytes → Result (Answer ReplyKind) (HistoryFull Op) → Type 0
+CallsInto before after op response result = turn.Calls (λ told. IsCall before after op (whole told response)) before after op result
 
 -- The status byte that is shown of an event says what the standard says of its marks.
 abbrev pub ShowsStandard : Start → History → ℕ → Reply → Type 0

@@ -1,6 +1,5 @@
 //! The lock, and its calls.
-ghost use Rattle.std.specs.Prelude.{◌≡◌, ◌<◌, ◌≤◌, ◌+◌, ◌^◌, ◌∷◌, [], IfOk, IfErr, IsErr, OnErr, All, length, reverse};
-ghost use mathlib.Core.Logic.{◌↔◌};
+ghost use Rattle.std.specs.Prelude.{◌≡◌, ◌<◌, ◌≤◌, ◌+◌, ◌^◌, ◌∷◌, [], IfOk, IfErr, OnErr, All, length, reverse};
 ghost use mathlib.Core.List.{IsPrefix};
 ghost use Rattle.std.proofs.Props.{props};
 ghost use Rattle.flt_model.specs.Durable.{saved_after};
@@ -10,8 +9,8 @@ ghost use Rattle.flt_did.specs.Table.{dids_of};
 ghost use Rattle.flt_dcm.specs.Unit.{IsAdmitted, Stands, written};
 ghost use Rattle.flt_turn.specs.Journal.{Interleaves, ops_of};
 ghost use Rattle.flt_turn.specs.Seats.{main_seat, split_off, split_seat, joined_seat};
-ghost use Rattle.flt_turn.specs.Call.{IsRefusal, past};
-ghost use Rattle.flt_shared.specs.Call.{IsCall, ShowsStandard, whole};
+ghost use Rattle.flt_turn.specs.Call.{past};
+ghost use Rattle.flt_shared.specs.Call.{Calls, CallsInto, ShowsStandard};
 ghost use Rattle.flt_shared.specs.Start.{start_of};
 
 use crate::guarded::{BoxedUnit, Guarded};
@@ -98,10 +97,8 @@ impl DemLock {
     ) -> Result<Answer<ReplyKind>, HistoryFull<Op>>
         requires lock { IsSeatOf self.now seat.old }
         requires admitted { IsAdmitted seat.old.start.config op }
-        ensures full { IsErr result ↔ (seat.old.left ≡ 0) }
-        ensures refused { IfErr result (IsRefusal seat.old seat.new op) }
+        ensures call { CallsInto seat.old seat.new op response.new result }
         ensures kept { OnErr result (response.new ≡ response.old) }
-        ensures call { IfOk result (λ told. IsCall seat.old seat.new op (whole told response.new)) }
     {
         self.turn.call_into(rt, seat, &self.dids, op, response)
     }
@@ -110,9 +107,7 @@ impl DemLock {
     fn call<R: Wait>(&self, rt: &R, seat: &mut DemSeat, op: Op) -> DemAnswer
         requires lock { IsSeatOf self.now seat.old }
         requires admitted { IsAdmitted seat.old.start.config op }
-        ensures full { IsErr result ↔ (seat.old.left ≡ 0) }
-        ensures refused { IfErr result (IsRefusal seat.old seat.new op) }
-        ensures call { IfOk result (IsCall seat.old seat.new op) }
+        ensures { Calls seat.old seat.new op result }
     {
         let mut response = ArrayVec::new();
         let Answer { place, reply } = self.call_into(rt, seat, op, &mut response)?;
@@ -126,9 +121,7 @@ impl DemLock {
     pub fn signal<R: Wait>(&self, rt: &R, seat: &mut DemSeat, index: u8, value: u16) -> DemAnswer
         requires lock { IsSeatOf self.now seat.old }
         requires signal { index < 8 }
-        ensures full { IsErr result ↔ (seat.old.left ≡ 0) }
-        ensures refused { IfErr result (IsRefusal seat.old seat.new (ops.Signal index value)) }
-        ensures call { IfOk result (IsCall seat.old seat.new (ops.Signal index value)) }
+        ensures { Calls seat.old seat.new (ops.Signal index value) result }
     {
         self.call(rt, seat, Op::Signal { index, value })
     }
@@ -143,9 +136,7 @@ impl DemLock {
     ) -> DemAnswer
         requires lock { IsSeatOf self.now seat.old }
         requires condition { condition < 8 }
-        ensures full { IsErr result ↔ (seat.old.left ≡ 0) }
-        ensures refused { IfErr result (IsRefusal seat.old seat.new (ops.Enable condition fulfilled)) }
-        ensures call { IfOk result (IsCall seat.old seat.new (ops.Enable condition fulfilled)) }
+        ensures { Calls seat.old seat.new (ops.Enable condition fulfilled) result }
     {
         self.call(
             rt,
@@ -167,9 +158,7 @@ impl DemLock {
     ) -> DemAnswer
         requires lock { IsSeatOf self.now seat.old }
         requires event { event < length seat.old.start.config.events.items }
-        ensures full { IsErr result ↔ (seat.old.left ≡ 0) }
-        ensures refused { IfErr result (IsRefusal seat.old seat.new (ops.Report event report)) }
-        ensures call { IfOk result (IsCall seat.old seat.new (ops.Report event report)) }
+        ensures { Calls seat.old seat.new (ops.Report event report) result }
     {
         self.call(rt, seat, Op::Report { event, report })
     }
@@ -177,9 +166,7 @@ impl DemLock {
     /// Lets ticks of 10 ms go by.
     pub fn tick<R: Wait>(&self, rt: &R, seat: &mut DemSeat, ticks: u16) -> DemAnswer
         requires lock { IsSeatOf self.now seat.old }
-        ensures full { IsErr result ↔ (seat.old.left ≡ 0) }
-        ensures refused { IfErr result (IsRefusal seat.old seat.new (ops.Tick ticks)) }
-        ensures call { IfOk result (IsCall seat.old seat.new (ops.Tick ticks)) }
+        ensures { Calls seat.old seat.new (ops.Tick ticks) result }
     {
         self.call(rt, seat, Op::Tick { ticks })
     }
@@ -188,9 +175,7 @@ impl DemLock {
     pub fn cycle<R: Wait>(&self, rt: &R, seat: &mut DemSeat, cycle: u8) -> DemAnswer
         requires lock { IsSeatOf self.now seat.old }
         requires cycle { cycle < 4 }
-        ensures full { IsErr result ↔ (seat.old.left ≡ 0) }
-        ensures refused { IfErr result (IsRefusal seat.old seat.new (ops.Cycle cycle)) }
-        ensures call { IfOk result (IsCall seat.old seat.new (ops.Cycle cycle)) }
+        ensures { Calls seat.old seat.new (ops.Cycle cycle) result }
     {
         self.call(rt, seat, Op::Cycle { cycle })
     }
@@ -206,9 +191,7 @@ impl DemLock {
         requires lock { IsSeatOf self.now seat.old }
         requires tester { tester < 4 }
         requires some { 0 < length bytes.now.items }
-        ensures full { IsErr result ↔ (seat.old.left ≡ 0) }
-        ensures refused { IfErr result (IsRefusal seat.old seat.new (ops.Request tester bytes.now)) }
-        ensures call { IfOk result (IsCall seat.old seat.new (ops.Request tester bytes.now)) }
+        ensures { Calls seat.old seat.new (ops.Request tester bytes.now) result }
     {
         let bytes = copy_of(bytes);
         self.call(rt, seat, Op::Request { tester, bytes })
@@ -218,9 +201,7 @@ impl DemLock {
     pub fn show<R: Wait>(&self, rt: &R, seat: &mut DemSeat, event: u16) -> DemAnswer
         requires lock { IsSeatOf self.now seat.old }
         requires event { event < length seat.old.start.config.events.items }
-        ensures full { IsErr result ↔ (seat.old.left ≡ 0) }
-        ensures refused { IfErr result (IsRefusal seat.old seat.new (ops.Show event)) }
-        ensures call { IfOk result (IsCall seat.old seat.new (ops.Show event)) }
+        ensures call { Calls seat.old seat.new (ops.Show event) result }
         ensures standard { IfOk result (λ told. ShowsStandard seat.old.start (past told.place seat.new.seen) event told.reply) }
     {
         self.call(rt, seat, Op::Show { event })
@@ -229,10 +210,8 @@ impl DemLock {
     /// Writes the durable state to `out`.
     pub fn snapshot<R: Wait>(&self, rt: &R, seat: &mut DemSeat, out: &mut Persist) -> DemAnswer
         requires lock { IsSeatOf self.now seat.old }
-        ensures full { IsErr result ↔ (seat.old.left ≡ 0) }
-        ensures refused { IfErr result (IsRefusal seat.old seat.new ops.Snapshot) }
+        ensures call { Calls seat.old seat.new ops.Snapshot result }
         ensures kept { OnErr result (out.new ≡ out.old) }
-        ensures call { IfOk result (IsCall seat.old seat.new ops.Snapshot) }
         ensures state { IfOk result (λ told. out.new ≡ saved_after seat.old.start (past told.place seat.new.seen)) }
     {
         self.turn.call(rt, seat, &self.dids, Op::Snapshot, out)
@@ -241,9 +220,7 @@ impl DemLock {
     /// Notes that a durable state was saved under this number.
     pub fn saved<R: Wait>(&self, rt: &R, seat: &mut DemSeat, generation: u32) -> DemAnswer
         requires lock { IsSeatOf self.now seat.old }
-        ensures full { IsErr result ↔ (seat.old.left ≡ 0) }
-        ensures refused { IfErr result (IsRefusal seat.old seat.new (ops.Saved generation)) }
-        ensures call { IfOk result (IsCall seat.old seat.new (ops.Saved generation)) }
+        ensures { Calls seat.old seat.new (ops.Saved generation) result }
     {
         self.call(rt, seat, Op::Saved { generation })
     }

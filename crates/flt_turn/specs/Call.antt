@@ -1,6 +1,7 @@
 -- What a call of a lock learns, whatever machine is under the lock. The machine admits some operations at a start, and answers an
 -- operation by its start and the operations before.
-use Rattle.std.specs.Prelude.{◌≡◌, ℕ, List, All, reverse}
+use Rattle.std.specs.Prelude.{◌≡◌, ℕ, List, Result, All, IfOk, IfErr, IsErr, reverse}
+use mathlib.Core.Logic.{◌↔◌}
 use Rattle.flt_turn.specs.declared.answer.Answer.{Answer}
 use Rattle.flt_turn.specs.declared.answer.HistoryFull.{HistoryFull}
 use Rattle.flt_turn.specs.declared.vault.Entry.{Entry}
@@ -24,3 +25,10 @@ pub record IsCall {S O R : Type 0} (admits : S → O → Type 0) (answer : S →
 pub record IsRefusal {S O : Type 0} (before after : Seated S O) (op : O) (full : HistoryFull O) : Type 0 where
   pub op_is : full.op ≡ op
   pub same : after ≡ before
+
+-- What a call tells of its seat, before and after. `IsMade` is what the answer tells where the call is made.
+pub record Calls {S O A : Type 0} (IsMade : A → Type 0) (before after : Seated S O) (op : O) (result : Result A (HistoryFull O)) : Type 0 where
+  -- It is refused if and only if the seat has no call left.
+  pub full : IsErr result ↔ (before.left ≡ 0)
+  pub refused : IfErr result (IsRefusal before after op)
+  pub call : IfOk result IsMade

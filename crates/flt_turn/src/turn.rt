@@ -1,9 +1,8 @@
 //! The lock, and its calls.
-ghost use Rattle.std.specs.Prelude.{◌≡◌, ◌≢◌, [], ◌∷◌, ◌++◌, ◌<◌, ◌≤◌, ◌+◌, ◌^◌, IfOk, IfErr, IsErr, OnErr, All, Some, None, length};
+ghost use Rattle.std.specs.Prelude.{◌≡◌, ◌≢◌, [], ◌∷◌, ◌++◌, ◌<◌, ◌≤◌, ◌+◌, ◌^◌, IfOk, IfErr, OnErr, All, Some, None, length};
 ghost use mathlib.Core.List.{IsPrefix};
-ghost use mathlib.Core.Logic.{◌↔◌};
 ghost use Rattle.flt_turn.specs.declared.view.Stage.TheVariants.{Idle};
-ghost use Rattle.flt_turn.specs.Call.{IsCall, IsRefusal, whole};
+ghost use Rattle.flt_turn.specs.Call.{Calls, IsCall, whole};
 ghost use Rattle.flt_turn.specs.Journal.{entry, ops_of, Interleaves};
 ghost use Rattle.flt_turn.specs.Plays.{IsTakenOut, IsTurn};
 ghost use Rattle.flt_turn.specs.Seats.{IsSeatOf, main_seat, Extends, ops_before, split_off, split_seat, joined_seat};
@@ -118,10 +117,8 @@ impl<M: Machine> Turn<M> {
         requires serves { M.Stepper.serves context.now seat.old.start }
         requires admitted { M.admits seat.old.start op }
 
-        ensures full { IsErr result ↔ (seat.old.left ≡ 0) }
-        ensures refused { IfErr result (IsRefusal seat.old seat.new op) }
+        ensures call { Calls (IsCall M.admits M.answer seat.old seat.new op) seat.old seat.new op result }
         ensures kept { OnErr result (out.new ≡ out.old) }
-        ensures call { IfOk result (IsCall M.admits M.answer seat.old seat.new op) }
         ensures written { IfOk result (λ told. out.new ≡ M.written seat.old.start (ops_before told.place seat.new.seen) op out.old) }
     {
         if seat.left == 0 {
@@ -151,10 +148,9 @@ impl<M: Machine> Turn<M> {
         requires serves { M.StepInto.serves context.now seat.old.start }
         requires admitted { M.admits seat.old.start op }
 
-        ensures full { IsErr result ↔ (seat.old.left ≡ 0) }
-        ensures refused { IfErr result (IsRefusal seat.old seat.new op) }
+        ensures call { Calls (λ told. IsCall M.admits M.answer seat.old seat.new op (whole M.StepInto.reply_with told payload.new))
+            seat.old seat.new op result }
         ensures kept { OnErr result (payload.new ≡ payload.old) }
-        ensures call { IfOk result (λ told. IsCall M.admits M.answer seat.old seat.new op (whole M.StepInto.reply_with told payload.new)) }
     {
         if seat.left == 0 {
             return Err(HistoryFull { op });

@@ -1,6 +1,5 @@
 //! The watched status machine under the ticket lock.
-ghost use Rattle.std.specs.Prelude.{◌≡◌, ◌∷◌, [], IfOk, IfErr, IsErr, OnErr, All, length, reverse};
-ghost use mathlib.Core.Logic.{◌↔◌};
+ghost use Rattle.std.specs.Prelude.{◌≡◌, ◌∷◌, [], IfOk, OnErr, All, length, reverse};
 ghost use mathlib.Core.List.{IsPrefix};
 ghost use Rattle.std.proofs.Props.{props};
 ghost use Rattle.flt_did.specs.Serves.{Serves};
@@ -8,9 +7,8 @@ ghost use Rattle.flt_did.specs.Table.{dids_of};
 ghost use Rattle.flt_dcm.specs.Unit.{IsAdmitted, Stands};
 ghost use Rattle.flt_turn.specs.Journal.{Interleaves, ops_of};
 ghost use Rattle.flt_turn.specs.Seats.{main_seat};
-ghost use Rattle.flt_turn.specs.Call.{IsRefusal};
 ghost use Rattle.flt_shared.specs.Boxed.{unit_in};
-ghost use Rattle.flt_shared.specs.Call.{IsCall, whole};
+ghost use Rattle.flt_shared.specs.Call.{CallsInto};
 ghost use Rattle.flt_shared.specs.Start.{start_of};
 ghost use Rattle.flt_notify.specs.Subscribers.{kinds_of};
 ghost use Rattle.flt_notify.specs.Table.{HasValuesOf, IsAtZero, kinds_in};
@@ -82,10 +80,8 @@ impl WatchLock {
     ) -> Result<Answer<ReplyKind>, HistoryFull<Op>>
         requires lock { IsSeatOf self.now seat.old }
         requires admitted { IsAdmitted seat.old.start.config op }
-        ensures full { IsErr result ↔ (seat.old.left ≡ 0) }
-        ensures refused { IfErr result (IsRefusal seat.old seat.new op) }
+        ensures call { CallsInto seat.old seat.new op response.new result }
         ensures kept { OnErr result (response.new ≡ response.old) }
-        ensures call { IfOk result (λ told. IsCall seat.old seat.new op (whole told response.new)) }
     {
         self.turn.call_into(rt, seat, &self.lent, op, response)
     }

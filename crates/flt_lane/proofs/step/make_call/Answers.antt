@@ -20,12 +20,12 @@ returns-in-Ok-clause-made g c = λ step is.
     let told = whole c.in-Ok.told c.call_into.new.response in
     let kept = c.keep.ensures in
     let size : reply_size told.reply ≤ response_size (action.Call op) =
-    size_of_told seat.start (reverse (ops_before c.in-Ok.told.place c.call_into.new.seat.seen)) op c.in-Ok.told.reply c.call_into.new.response.items c.in-Ok.ensures.call.reply (search rules) in
+    size_of_told seat.start (reverse (ops_before c.in-Ok.told.place c.call_into.new.seat.seen)) op c.in-Ok.told.reply c.call_into.new.response.items c.in-Ok.ensures.call.call.reply (search rules) in
     record {
       answer = answers.Dem told;
       keeps = keeps_with c.args.replies.now c.keep.new.self step (answers.Dem c.in-Ok.told) c.call_into.new.response.items _ c.as_slice.ensures.value kept.told kept.answers kept.room kept.responses kept.bytes
           (subst (λ a. reply_size told.reply ≤ response_size a) (sym makes) size);
-      dem = one_made seat step op told c.call_into.new.seat makes c.in-Ok.ensures.call;
+      dem = one_made seat step op told c.call_into.new.seat makes c.in-Ok.ensures.call.call;
       queue = none_queued jobs step (answers.Dem told) (subst (λ a. ActionQueues a (answers.Dem told) []) (sym makes) refl);
     }
 

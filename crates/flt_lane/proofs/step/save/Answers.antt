@@ -23,10 +23,10 @@ returns-in-Ok-saved-clause-takes g c = λ jobs.
     let kept = c.keep.ensures in
     takes_deed c.args.config.now c.args.seat.now c.saved.new.seat jobs jobs steps.Save told c.args.replies.now c.keep.new.self c.args.store.now c.save.new.self refl
     (keeps c.args.replies.now c.keep.new.self steps.Save (answers.Saved c.in-Ok-save.generation) kept.told kept.answers kept.room kept.responses kept.bytes refl)
-    (saved_made c.args.seat.now c.snapshot.new.seat c.in-Ok-save.generation c.in-Ok._taken c.in-Ok-saved._noted c.saved.new.seat c.in-Ok.ensures.call c.in-Ok-saved.ensures.call) (none_queued jobs steps.Save told refl)
+    (saved_made c.args.seat.now c.snapshot.new.seat c.in-Ok-save.generation c.in-Ok._taken c.in-Ok-saved._noted c.saved.new.seat c.in-Ok.ensures.call.call c.in-Ok-saved.ensures.call) (none_queued jobs steps.Save told refl)
     (λ earlier. record {
       alive = λ alive. c.save.ensures.alive;
-      living = λ first start living. living_saved c.args.config.now c.args.seat.now c.snapshot.new.seat c.in-Ok._taken c.snapshot.new.out c.in-Ok.ensures.call c.in-Ok.ensures.state earlier c.args.store.now c.save.new.self
+      living = λ first start living. living_saved c.args.config.now c.args.seat.now c.snapshot.new.seat c.in-Ok._taken c.snapshot.new.out c.in-Ok.ensures.call.call c.in-Ok.ensures.state earlier c.args.store.now c.save.new.self
           first start living c.saved.new.seat c.in-Ok-save.generation c.in-Ok-saved._noted c.in-Ok-saved.ensures.call c.in-Ok-save.ensures.saved;
       caused = λ begun caused. caused_saved c.args.config.now begun (answers_of earlier) c.args.store.now c.save.new.self caused c.snapshot.new.out c.in-Ok-save.generation c.save.ensures.follows
           (c.in-Ok-save.ensures.saved caused.held_now caused.spare_now caused.running);
@@ -40,10 +40,10 @@ returns-in-Err-clause-takes g c = λ jobs.
     let kept = c.keep-in-Err.ensures in
     takes_deed c.args.config.now c.args.seat.now c.snapshot.new.seat jobs jobs steps.Save told c.args.replies.now c.keep-in-Err.new.self c.args.store.now c.save.new.self refl
     (keeps c.args.replies.now c.keep-in-Err.new.self steps.Save (answers.SaveFailed c.in-Err.fault) kept.told kept.answers kept.room kept.responses kept.bytes refl)
-    (failed_made c.args.seat.now c.in-Err.fault c.in-Ok._taken c.snapshot.new.seat c.in-Ok.ensures.call) (none_queued jobs steps.Save told refl)
+    (failed_made c.args.seat.now c.in-Err.fault c.in-Ok._taken c.snapshot.new.seat c.in-Ok.ensures.call.call) (none_queued jobs steps.Save told refl)
     (λ earlier. record {
       alive = λ alive. c.save.ensures.alive;
-      living = λ first start living. living_failed c.args.config.now c.args.seat.now c.snapshot.new.seat c.in-Ok._taken c.snapshot.new.out c.in-Ok.ensures.call c.in-Ok.ensures.state earlier c.args.store.now c.save.new.self
+      living = λ first start living. living_failed c.args.config.now c.args.seat.now c.snapshot.new.seat c.in-Ok._taken c.snapshot.new.out c.in-Ok.ensures.call.call c.in-Ok.ensures.state earlier c.args.store.now c.save.new.self
           first start living c.in-Err.fault c.in-Err.ensures.failed;
       caused = λ begun caused. caused_failed c.args.config.now begun (answers_of earlier) c.args.store.now c.save.new.self caused c.snapshot.new.out c.in-Err.fault c.save.ensures.follows
           (c.in-Err.ensures.failed caused.held_now caused.spare_now caused.running)

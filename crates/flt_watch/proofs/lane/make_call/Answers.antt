@@ -15,9 +15,9 @@ call_into-requires-clause-admitted g c =
 
 pub returns-clause-made : goal.returns-clause-made
 returns-clause-made g c =
-    one_made c.args.seat.now c.args.step.now c.in-Call.op (whole c.in-Ok.told c.call_into.new.response) c.call_into.new.seat (sym c.action_of.ensures ∙ c.in-Call.is) c.in-Ok.ensures.call
+    one_made c.args.seat.now c.args.step.now c.in-Call.op (whole c.in-Ok.told c.call_into.new.response) c.call_into.new.seat (sym c.action_of.ensures ∙ c.in-Call.is) c.in-Ok.ensures.call.call
 
 pub returns-clause-size : goal.returns-clause-size
 returns-clause-size g c =
     subst (λ a. reply_size (whole c.in-Ok.told c.call_into.new.response).reply ≤ response_size a) (sym (sym c.action_of.ensures ∙ c.in-Call.is))
-    (size_of_told c.args.seat.now.start (reverse (ops_before c.in-Ok.told.place c.call_into.new.seat.seen)) c.in-Call.op c.in-Ok.told.reply c.call_into.new.response.items c.in-Ok.ensures.call.reply (search rules))
+    (size_of_told c.args.seat.now.start (reverse (ops_before c.in-Ok.told.place c.call_into.new.seat.seen)) c.in-Call.op c.in-Ok.told.reply c.call_into.new.response.items c.in-Ok.ensures.call.call.reply (search rules))

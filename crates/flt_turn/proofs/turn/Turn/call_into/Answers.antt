@@ -1,4 +1,4 @@
-use Rattle.std.proofs.Common.{sym, ap, ◌∙◌, subst, arith, ◌++◌, ◌∷◌, []}
+use Rattle.std.proofs.Common.{sym, ap, ◌∙◌, subst, arith, rules, ◌++◌, ◌∷◌, []}
 use Rattle.flt_turn.specs.Journal.{entry}
 use Rattle.flt_turn.specs.Seats.{Seated}
 use Rattle.flt_turn.proofs.Calls.{has_turn, fits_after, called}
@@ -29,7 +29,11 @@ returns-clause-call g c =
     let told = called _ _ _ c.seat.inside.token.me.0 took.new.token.me.0 c.end_turn.new.token.me took.result.1 c.apply_into-reply.new.self c.args.op took.result.0 _ c.seat.view_is c.seat.invariant.number_is (omega arith)
     (ap (λ me. me.0) took.ensures.turn) took.ensures.found c.apply_into-reply.ensures.journal c.requires.admitted (c.end_turn.ensures.done c.args.op) (c.end_turn.ensures.lock.0 ∙ took.ensures.lock.0) in
     record {
-      place = told.extends;
-      reply = c.apply_into-reply.ensures.answer ∙ (λ i. g.M.Machine.answer (told.start_is i) (told.before i) c.args.op);
-      admitted = told.admitted;
+      full = search rules;
+      refused = search rules;
+      call = record {
+        place = told.extends;
+        reply = c.apply_into-reply.ensures.answer ∙ (λ i. g.M.Machine.answer (told.start_is i) (told.before i) c.args.op);
+        admitted = told.admitted;
+      };
     }
