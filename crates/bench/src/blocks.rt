@@ -7,7 +7,7 @@ use flt_image::{fee_numbers, laws};
 use flt_lives::Driver;
 use std::alloc::Global;
 
-// One of the numbers, in turn.
+/// One of the numbers, in turn.
 fn number_at(numbers: &[u16], turn: u16) -> u16
     requires { 0 < length numbers.now }
     ensures { Contains numbers.now result }
@@ -33,7 +33,7 @@ fn read_in_turn<B: Blocks>(driver: &mut B, numbers: &[u16], times: u16) -> Resul
     Ok(())
 }
 
-// Gives each block 32 bytes, in turn.
+/// Gives each block 32 bytes, in turn.
 fn write_in_turn<B: Blocks>(driver: &mut B, numbers: &[u16], times: u16) -> Result<(), BlockFault>
     requires some { 0 < length numbers.now }
     requires numbers { (B.state driver.old).numbers ≡ numbers.now }
@@ -45,8 +45,8 @@ fn write_in_turn<B: Blocks>(driver: &mut B, numbers: &[u16], times: u16) -> Resu
     Ok(())
 }
 
-// Writes 340 records of three pages, one block after the other, which fill the log of a flash, and then makes the calls that the word
-// names.
+/// Writes 340 records of three pages, one block after the other, which fill the log of a flash, and then makes the calls that the word
+/// names.
 fn call<B: Blocks>(
     driver: &mut B,
     numbers: &[u16],

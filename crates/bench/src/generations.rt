@@ -13,7 +13,7 @@ use flt_nvm::Nvm;
 use flt_store::Store;
 use std::alloc::Global;
 
-// Which blocks of the state change from save to save.
+/// Which blocks of the state change from save to save.
 #[derive(Clone, Copy, PartialEq, Eq)]
 enum Changed {
     Nothing,
@@ -50,7 +50,7 @@ pub fn config(count: u16) -> Option<ValidConfig> {
     .ok()
 }
 
-// A state with an entry of each of the first 16 events.
+/// A state with an entry of each of the first 16 events.
 fn full_state(config: &ValidConfig) -> Persist {
     let mut state = initial(config);
     for event in 0..16 {
@@ -66,7 +66,7 @@ fn full_state(config: &ValidConfig) -> Persist {
     state
 }
 
-// Changes the state as asked, the `turn`th time.
+/// Changes the state as asked, the `turn`th time.
 fn change(state: &mut Persist, changed: Changed, turn: u16) {
     if changed == Changed::Nothing {
         return;
@@ -84,7 +84,7 @@ fn change(state: &mut Persist, changed: Changed, turn: u16) {
     state.overflow = turn % 2 == 0;
 }
 
-// Starts up on a blank device, and saves a state whose every block is new. The state.
+/// Starts up on a blank device, and saves a state whose every block is new. The state.
 fn save_first<B: Blocks + Drop>(store: &mut Store<B>, config: &ValidConfig) -> Option<Persist>
     requires { HasRoom config.now (driver_of store.old).room }
     ensures alive { IfSome result (λ _. IsAlive config.now store.new) }
@@ -102,7 +102,7 @@ fn save_first<B: Blocks + Drop>(store: &mut Store<B>, config: &ValidConfig) -> O
     Some(state)
 }
 
-// Saves the state as often as asked, changed before each save.
+/// Saves the state as often as asked, changed before each save.
 fn save_again<B: Blocks + Drop>(
     store: &mut Store<B>,
     config: &ValidConfig,
@@ -122,7 +122,7 @@ fn save_again<B: Blocks + Drop>(
     Some(())
 }
 
-// Starts up again and again on the image of a save.
+/// Starts up again and again on the image of a save.
 fn start_again<B: Blocks + Drop>(
     store: &mut Store<B>,
     config: &ValidConfig,
@@ -137,7 +137,7 @@ fn start_again<B: Blocks + Drop>(
     Some(())
 }
 
-// Starts up, and no more.
+/// Starts up, and no more.
 fn start_once<B: Blocks + Drop>(store: &mut Store<B>, config: &ValidConfig) -> Option<()>
     requires { HasRoom config.now (driver_of store.old).room }
 {
@@ -145,7 +145,7 @@ fn start_once<B: Blocks + Drop>(store: &mut Store<B>, config: &ValidConfig) -> O
     Some(())
 }
 
-// Makes the calls that the word names on a store over a blank device.
+/// Makes the calls that the word names on a store over a blank device.
 fn call<B: Blocks + Drop>(
     store: &mut Store<B>,
     config: &ValidConfig,
@@ -164,7 +164,7 @@ fn call<B: Blocks + Drop>(
     }
 }
 
-// A store over a device.
+/// A store over a device.
 fn store_over<D: Driver>(alloc: Global, device: D::Device, config: &ValidConfig) -> Option<Store<D>>
     requires { D.serves config.now (D.device_state device) }
     ensures { IfSome result (λ store. HasRoom config.now (driver_of store).room) }

@@ -8,7 +8,7 @@ use std::alloc::{AllocError, Global};
 use std::sync::{Mutex, Wait};
 use std::thread::{Threads, map_indices, map_vec};
 
-// Makes all calls that are left to the seat. The last reply.
+/// Makes all calls that are left to the seat. The last reply.
 fn call_turn<R: Wait>(rt: &R, turn: &Turn<Counter>, mut seat: Seat<Counter>) -> u64
     requires { IsSeatOf turn.now seat }
 {
@@ -23,7 +23,7 @@ fn call_turn<R: Wait>(rt: &R, turn: &Turn<Counter>, mut seat: Seat<Counter>) -> 
     last
 }
 
-// So many seats, which share the main seat's calls.
+/// So many seats, which share the main seat's calls.
 fn seats(
     alloc: Global,
     turn: &Turn<Counter>,
@@ -66,7 +66,7 @@ pub fn run_turn<R: Threads + Wait + Sync>(
     Ok(replies.iter().copied().max().unwrap_or(0))
 }
 
-// Makes this many calls on the mutex. The last reply.
+/// Makes this many calls on the mutex. The last reply.
 fn call_mutex<R: Wait>(rt: &R, lock: &Mutex<Counter>, calls: u32) -> u64 {
     let mut last = 0;
     for _ in 0..calls {

@@ -18,7 +18,7 @@ use std::sync::Wait;
 use std::thread::Threads;
 use std::{env, io};
 
-// The words behind the program's name.
+/// The words behind the program's name.
 fn words(rt: &(impl Env + AllocGlobal)) -> io::Result<Vec<String>> {
     let mut words = Vec::new(rt.alloc());
     for word in env::args(rt)?.skip(1) {
@@ -27,7 +27,7 @@ fn words(rt: &(impl Env + AllocGlobal)) -> io::Result<Vec<String>> {
     Ok(words)
 }
 
-// What is told of what the words ask for.
+/// What is told of what the words ask for.
 fn told<R: Threads + Wait + AllocGlobal + Sync>(rt: &R, words: &[String]) -> Option<String> {
     let (what, words) = words.split_first()?;
     match what.as_str() {

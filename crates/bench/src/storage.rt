@@ -22,7 +22,7 @@ const UNITS: u16 = 1090;
 /// How many events a state has where no word says it.
 const FEW_EVENTS: u16 = 64;
 
-// Makes the calls that the word names, for a configuration of so many events, over a blank device, which comes back.
+/// Makes the calls that the word names, for a configuration of so many events, over a blank device, which comes back.
 fn run_on<D: Driver>(
     alloc: Global,
     device: D::Device,
@@ -39,7 +39,7 @@ fn run_on<D: Driver>(
     }
 }
 
-// The operations and the erases of such calls on the flash.
+/// The operations and the erases of such calls on the flash.
 fn run_on_flash(alloc: Global, what: &str, times: u16, events: u16) -> Option<(u64, u64)> {
     let flash = FlashMem::blank(alloc, PAGES, 1).ok()?;
     let flash = run_on::<Fee<FlashMem>>(alloc, flash, what, times, events)?;
@@ -47,7 +47,7 @@ fn run_on_flash(alloc: Global, what: &str, times: u16, events: u16) -> Option<(u
     Some((flash.operations(), erases))
 }
 
-// The operations of such calls on the EEPROM.
+/// The operations of such calls on the EEPROM.
 fn run_on_eeprom(alloc: Global, what: &str, times: u16, events: u16) -> Option<u64> {
     let device = EepromMem::blank(alloc, UNITS, 1).ok()?;
     let device = run_on::<Ea<EepromMem>>(alloc, device, what, times, events)?;

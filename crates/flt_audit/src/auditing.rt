@@ -1,4 +1,4 @@
-// What is told of a trace.
+//! What is told of a trace.
 ghost use Rattle.std.specs.Prelude.{◌≡◌, IfOk, MatchOption, Some};
 ghost use Rattle.flt_did.specs.Table.{dids_of};
 ghost use Rattle.flt_verdict.specs.Verdict.{Tells, due_of};

@@ -1,4 +1,4 @@
-// The calls of a journal, made again.
+//! The calls of a journal, made again.
 ghost use Rattle.std.specs.Prelude.{◌≡◌, [], All, IfOk, length, map};
 ghost use Rattle.flt_model.specs.Answer.{answers};
 ghost use Rattle.flt_model.specs.Start.{Start};

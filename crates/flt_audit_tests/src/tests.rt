@@ -1,4 +1,4 @@
-// A worked trace with one change at a time, and what the audit tells of each.
+//! A worked trace with one change at a time, and what the audit tells of each.
 use flt_audit::audit;
 use flt_did::DidTable;
 use flt_io::{MemSink, MemSource};

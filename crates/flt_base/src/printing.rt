@@ -1,4 +1,4 @@
-// The state with which a life began, printed.
+//! The state with which a life began, printed.
 ghost use Rattle.std.specs.Prelude.{◌≡◌, ℕ, IfOk, IsTrue, map};
 ghost use Rattle.std.specs.String.{string_bytes};
 ghost use Rattle.hex.specs.Hex.{IsBytes, encode_upper};

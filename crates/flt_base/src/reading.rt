@@ -1,4 +1,4 @@
-// The state with which a life began, read.
+//! The state with which a life began, read.
 ghost use Rattle.std.specs.Prelude.{◌≡◌, ◌↔◌, ℕ, List, IfOk, IsTrue, MatchOption, map};
 ghost use Rattle.std.specs.String.{string_bytes};
 ghost use Rattle.hex.specs.declared.error.FromHexError.TheVariants.{OutOfMemory};

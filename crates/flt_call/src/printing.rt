@@ -1,4 +1,4 @@
-// The calls of a journal, printed.
+//! The calls of a journal, printed.
 ghost use Rattle.std.specs.Prelude.{◌≡◌, ◌<◌, ◌^◌, ◌++◌, ◌∷◌, All, IfOk, IfSome, Some, codes, map, true};
 ghost use Rattle.std.specs.Fmt.{decimal};
 ghost use Rattle.std.specs.String.{string_bytes};

@@ -1,4 +1,4 @@
-// The calls of a journal, read.
+//! The calls of a journal, read.
 ghost use Rattle.std.specs.Prelude.{◌≡◌, ◌≢◌, ◌^◌, ◌<◌, ℕ, List, All, IfOk, IfSome, MatchOption, position};
 ghost use Rattle.std.specs.Fmt.{decimal};
 ghost use Rattle.flt_model.specs.declared.call.Op.{Op as Call};

@@ -1,4 +1,4 @@
-// A page of 16 bytes and their complements, and the pages that no program or erase of one can have left.
+//! A page of 16 bytes and their complements, and the pages that no program or erase of one can have left.
 ghost use Rattle.std.specs.Prelude.{◌≡◌, ℕ, List, Some, IfSome, IfNone};
 ghost use Rattle.flt_code.specs.Seal.{sealed, unsealed, IsCodeWordOf};
 ghost use Rattle.flt_code.specs.Spoiled.{is_spoiled};

@@ -1,4 +1,4 @@
-// The law of tearing.
+//! The law of tearing.
 ghost use Rattle.std.specs.Prelude.{◌≡◌, ◌⊎◌, ℕ, List, None, false};
 ghost use Rattle.flt_flash.specs.Image.{blank_page};
 ghost use Rattle.flt_flash.specs.Tearing.{IsTornPage};

@@ -1,4 +1,4 @@
-// The words of a sector's pages.
+//! The words of a sector's pages.
 ghost use Rattle.std.specs.Prelude.{◌≡◌, ◌≢◌, Some, IfSome, IfNone};
 ghost use Rattle.flt_code.specs.declared.words.Word.{Word};
 ghost use Rattle.flt_code.specs.Word.{IsWord, IsWordOf, word_bytes, active_in, checked, gate_in, head_in, is_length, start_in, word_of};
@@ -84,7 +84,7 @@ fn is_length(valid: bool, length: u16) -> bool
     }
 }
 
-// The word, where these are its bytes.
+/// The word, where these are its bytes.
 #[inline(always)]
 fn checked(word: Word, bytes: &[u8; 16]) -> Option<Word>
     requires { IsWord word }
@@ -98,7 +98,7 @@ fn checked(word: Word, bytes: &[u8; 16]) -> Option<Word>
     }
 }
 
-// A start gate, where these are its bytes.
+/// A start gate, where these are its bytes.
 #[inline(always)]
 fn read_start(bytes: &[u8; 16]) -> Option<Word>
     ensures word { IfSome result (λ word. IsWordOf word bytes.now) }
@@ -112,7 +112,7 @@ fn read_start(bytes: &[u8; 16]) -> Option<Word>
     checked(start, bytes)
 }
 
-// An active gate, where these are its bytes.
+/// An active gate, where these are its bytes.
 #[inline(always)]
 fn read_active(bytes: &[u8; 16]) -> Option<Word>
     ensures word { IfSome result (λ word. IsWordOf word bytes.now) }
@@ -125,7 +125,7 @@ fn read_active(bytes: &[u8; 16]) -> Option<Word>
     checked(active, bytes)
 }
 
-// A head, where these are its bytes.
+/// A head, where these are its bytes.
 #[inline(always)]
 fn read_head(bytes: &[u8; 16]) -> Option<Word>
     ensures word { IfSome result (λ word. IsWordOf word bytes.now) }
@@ -147,7 +147,7 @@ fn read_head(bytes: &[u8; 16]) -> Option<Word>
     }
 }
 
-// A gate, where these are its bytes.
+/// A gate, where these are its bytes.
 #[inline(always)]
 fn read_gate(bytes: &[u8; 16]) -> Option<Word>
     ensures word { IfSome result (λ word. IsWordOf word bytes.now) }
@@ -161,8 +161,8 @@ fn read_gate(bytes: &[u8; 16]) -> Option<Word>
     checked(gate, bytes)
 }
 
-// The word that its tag and its fields give, where these are its bytes. Each kind is read by itself, so that its fixed bytes alone are
-// compared.
+/// The word that its tag and its fields give, where these are its bytes. Each kind is read by itself, so that its fixed bytes alone are
+/// compared.
 #[tactic(auto, unfolding(crate::specs::Word::candidate, crate::specs::Word::word_of))]
 fn read_word(bytes: &[u8; 16]) -> Option<Word>
     ensures word { IfSome result (λ word. IsWordOf word bytes.now) }

@@ -1,4 +1,4 @@
-// What is reported about a script.
+//! What is reported about a script.
 ghost use Rattle.std.specs.Prelude.{◌≡◌, ℕ, ◌<◌, ◌≤◌, ◌^◌, IfOk, IfSome, Some, option_map};
 ghost use Rattle.std.specs.Borrow.{Bor};
 ghost use Rattle.flt_model.specs.Frame.{did_value};

@@ -1,4 +1,4 @@
-// Drivers of blocks over a device in memory: worked rows, and each operation of a job cut and made to fail.
+//! Drivers of blocks over a device in memory: worked rows, and each operation of a job cut and made to fail.
 ghost use Rattle.std.specs.Prelude.{◌≡◌, Contains, IsTrue};
 ghost use Rattle.flt_flash.specs.State.{CanArm};
 
@@ -28,10 +28,10 @@ pub enum Step {
     Bench(u16, u8),
 }
 
-// The byte of a place into which nothing was read.
+/// The byte of a place into which nothing was read.
 const UNREAD: u8 = 0xee;
 
-// Whether so many of the bytes are this one, and those behind them were not read.
+/// Whether so many of the bytes are this one, and those behind them were not read.
 fn are_read(bytes: &[u8; 128], count: usize, byte: u8) -> bool {
     for (at, found) in bytes.iter().enumerate() {
         let wanted = if at < count { byte } else { UNREAD };
@@ -42,7 +42,7 @@ fn are_read(bytes: &[u8; 128], count: usize, byte: u8) -> bool {
     true
 }
 
-// Whether the driver finds this in a block that it has, at a read and when it looks it up.
+/// Whether the driver finds this in a block that it has, at a read and when it looks it up.
 fn finds<B: Blocks>(driver: &mut B, block: u16, wanted: Result<Found, BlockFault>, byte: u8) -> bool
     requires { Contains (B.state driver.old).numbers block }
     ensures { (B.state driver.new).numbers ≡ (B.state driver.old).numbers }
@@ -61,7 +61,7 @@ fn finds<B: Blocks>(driver: &mut B, block: u16, wanted: Result<Found, BlockFault
     }
 }
 
-// Whether a read goes as it says.
+/// Whether a read goes as it says.
 fn reads<B: Blocks>(driver: &mut B, block: u16, wanted: Result<Found, BlockFault>, byte: u8) -> bool
     requires first { Contains (B.state driver.old).numbers 8 }
     requires second { Contains (B.state driver.old).numbers 9 }
@@ -74,7 +74,7 @@ fn reads<B: Blocks>(driver: &mut B, block: u16, wanted: Result<Found, BlockFault
     }
 }
 
-// Whether a write goes as it says.
+/// Whether a write goes as it says.
 fn writes<B: Blocks>(
     driver: &mut B,
     block: u16,
@@ -97,7 +97,7 @@ fn writes<B: Blocks>(
     }
 }
 
-// Writes one byte to block 8, so many times.
+/// Writes one byte to block 8, so many times.
 fn fill<B: Blocks>(driver: &mut B, times: u8) -> Result<(), BlockFault>
     requires { Contains (B.state driver.old).numbers 8 }
     ensures { (B.state driver.new).numbers ≡ (B.state driver.old).numbers }
@@ -108,7 +108,7 @@ fn fill<B: Blocks>(driver: &mut B, times: u8) -> Result<(), BlockFault>
     Ok(())
 }
 
-// Whether a block is made invalid as it says.
+/// Whether a block is made invalid as it says.
 fn invalidates<B: Blocks>(driver: &mut B, block: u16, wanted: Result<(), BlockFault>) -> bool
     requires first { Contains (B.state driver.old).numbers 8 }
     requires second { Contains (B.state driver.old).numbers 9 }
@@ -121,7 +121,7 @@ fn invalidates<B: Blocks>(driver: &mut B, block: u16, wanted: Result<(), BlockFa
     }
 }
 
-// Whether the sequence numbers are used up as it says.
+/// Whether the sequence numbers are used up as it says.
 fn is_spent<B: Blocks>(driver: &mut B, wanted: bool) -> bool
     requires { Contains (B.state driver.old).numbers 9 }
     ensures { (B.state driver.new).numbers ≡ (B.state driver.old).numbers }
@@ -130,7 +130,7 @@ fn is_spent<B: Blocks>(driver: &mut B, wanted: bool) -> bool
     driver.read(9, &mut out).is_ok() && driver.spent() == wanted
 }
 
-// Whether an arm is of an operation to come.
+/// Whether an arm is of an operation to come.
 fn can_arm(arm: Arm) -> bool
     ensures { IsTrue result → CanArm arm }
 {
@@ -141,7 +141,7 @@ fn can_arm(arm: Arm) -> bool
     }
 }
 
-// Whether an arm is made.
+/// Whether an arm is made.
 fn arms<B: Blocks>(driver: &mut B, arm: Arm) -> bool
     ensures { (B.state driver.new).numbers ≡ (B.state driver.old).numbers }
 {
@@ -152,7 +152,7 @@ fn arms<B: Blocks>(driver: &mut B, arm: Arm) -> bool
     true
 }
 
-// Turns the power on again, where it may come back.
+/// Turns the power on again, where it may come back.
 fn restart<B: Blocks>(driver: &mut B) -> bool
     ensures { (B.state driver.new).numbers ≡ (B.state driver.old).numbers }
 {
@@ -163,7 +163,7 @@ fn restart<B: Blocks>(driver: &mut B) -> bool
     can_restart
 }
 
-// Whether a step goes as it says.
+/// Whether a step goes as it says.
 fn goes<B: Blocks>(driver: &mut B, step: Step) -> bool
     requires first { Contains (B.state driver.old).numbers 8 }
     requires second { Contains (B.state driver.old).numbers 9 }
@@ -182,7 +182,7 @@ fn goes<B: Blocks>(driver: &mut B, step: Step) -> bool
     }
 }
 
-// Takes the steps of a row, of which each has to go as it says.
+/// Takes the steps of a row, of which each has to go as it says.
 fn play<B: Blocks>(rt: &impl Abort, driver: &mut B, row: &str, steps: &[Step])
     requires first { Contains (B.state driver.old).numbers 8 }
     requires second { Contains (B.state driver.old).numbers 9 }
@@ -192,8 +192,8 @@ fn play<B: Blocks>(rt: &impl Abort, driver: &mut B, row: &str, steps: &[Step])
     }
 }
 
-// The steps of a driver of whose blocks none was written: block 8 is written, made invalid, and given the most bytes. The power may come
-// back twice.
+/// The steps of a driver of whose blocks none was written: block 8 is written, made invalid, and given the most bytes. The power may come
+/// back twice.
 const WRITTEN: &[Step] = &[
     Step::Mount(Ok(())),
     Step::Read(8, Ok(Found::Missing), UNREAD),

@@ -1,4 +1,4 @@
-// A copy of an image.
+//! A copy of an image.
 ghost use Rattle.std.specs.Prelude.{◌≡◌, ◌+◌, ◌*◌, ◌/◌, ◌%◌, ◌<◌, ◌≤◌, ◌∷◌, [], IfOk, OnOk, take, drop, length};
 ghost use Rattle.flt_flash.specs.Memory.{power_of};
 ghost use Rattle.flt_dump.specs.Quiet.{IsQuiet};

@@ -1,4 +1,4 @@
-// A dump.
+//! A dump.
 ghost use Rattle.std.specs.Prelude.{◌≡◌, ◌*◌, vec_len};
 
 use flt_config::ValidConfig;

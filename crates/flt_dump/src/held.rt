@@ -1,4 +1,4 @@
-// What the image of a dump holds.
+//! What the image of a dump holds.
 ghost use Rattle.std.specs.Prelude.{◌≡◌, ◌≤◌, IfOk};
 ghost use Rattle.flt_whole.specs.Image.{image_held};
 ghost use Rattle.flt_dump.specs.Copy.{state_of};

@@ -1,4 +1,4 @@
-// The lines before the pages of a dump.
+//! The lines before the pages of a dump.
 ghost use Rattle.std.specs.Prelude.{◌≡◌, ◌==◌, None, IfNone, IfSome, position};
 ghost use Rattle.std.specs.Str.Lines.{strip_carriage_return};
 ghost use Rattle.flt_dump.specs.Dump.{image_at, is_image};

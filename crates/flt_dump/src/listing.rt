@@ -1,4 +1,4 @@
-// What an image says line by line.
+//! What an image says line by line.
 ghost use Rattle.std.specs.Prelude.{◌≡◌, ◌++◌, ◌<◌, ◌≤◌, IfOk, OnOk};
 ghost use Rattle.flt_flash.specs.Image.{sector_at};
 ghost use Rattle.flt_sector.specs.Log.{log};

@@ -1,4 +1,4 @@
-// The pages of a dump.
+//! The pages of a dump.
 ghost use Rattle.std.specs.Prelude.{◌≡◌, ◌+◌, ◌<◌, ◌^◌, Ok, IfOk, IfErr, vec_len};
 ghost use Rattle.flt_script.specs.Text.{lines_of};
 ghost use Rattle.flt_dump.specs.Dump.{page_in, pages_in};

@@ -1,4 +1,4 @@
-// A dump that is read.
+//! A dump that is read.
 ghost use Rattle.std.specs.Prelude.{◌≡◌};
 ghost use Rattle.std.specs.List.{list_any};
 ghost use Rattle.flt_did.specs.Table.{dids_of};

@@ -1,4 +1,4 @@
-// A driver of blocks over an EEPROM.
+//! A driver of blocks over an EEPROM.
 ghost use Rattle.std.specs.Prelude.{◌≡◌, ◌≢◌, ◌+◌, ◌<◌, ◌≤◌, ◌*◌, ℕ, true, false, length, Contains, Ok, None, IfOk, IfErr, OnOk, OnErr, IsErrOf, IsFalse, slice_index_or};
 ghost use Rattle.std.specs.List.{AllPairs};
 ghost use Rattle.flt_flash.specs.Blocks.{byte_pages, device_of, record_pages};
@@ -29,7 +29,7 @@ fn empty_table(alloc: Global, size: usize) -> Result<Vec<Option<Held>>, AllocErr
     Ok(table)
 }
 
-// The block numbers with their index, and a table of as many empty places.
+/// The block numbers with their index, and a table of as many empty places.
 fn tables(alloc: Global, numbers: Vec<u16>) -> Result<(Numbers, Vec<Option<Held>>), AllocError>
     ensures numbers { IfOk result (λ made. made.0 ≡ numbers.items) }
     ensures table { IfOk result (λ made. length made.1.items ≡ length numbers.items) }
@@ -39,7 +39,7 @@ fn tables(alloc: Global, numbers: Vec<u16>) -> Result<(Numbers, Vec<Option<Held>
     Ok((numbers, table))
 }
 
-// The unit of the gate of a place.
+/// The unit of the gate of a place.
 fn gate_unit(position: usize, place: u8) -> u16
     requires position { position < 6553 }
     requires place { place < 2 }
@@ -99,7 +99,7 @@ impl<E: Eeprom> Ea<E> {
         self.device
     }
 
-    // Looks at the device as a power-up left it: each gate is read once, and nothing is written.
+    /// Looks at the device as a power-up left it: each gate is read once, and nothing is written.
     fn look(&mut self) -> Result<(), BlockFault>
         ensures values { SameValues (uncounted_of E.state self.old) (uncounted_of E.state self.new) }
         ensures calls { Calls (uncounted_of E.state self.old) (uncounted_of E.state self.new) result }
@@ -115,7 +115,7 @@ impl<E: Eeprom> Ea<E> {
         Ok(())
     }
 
-    // Mounts a stale driver.
+    /// Mounts a stale driver.
     fn settle(&mut self) -> Result<(), BlockFault>
         ensures values { SameValues (uncounted_of E.state self.old) (uncounted_of E.state self.new) }
         ensures calls { Calls (uncounted_of E.state self.old) (uncounted_of E.state self.new) result }
@@ -129,7 +129,7 @@ impl<E: Eeprom> Ea<E> {
         if self.is_stale { self.look() } else { Ok(()) }
     }
 
-    // Where a block stands among the numbers.
+    /// Where a block stands among the numbers.
     fn position(&self, block: u16) -> usize
         requires { Contains (uncounted_of E.state self.now).numbers block }
         ensures within { result < length (uncounted_of E.state self.now).numbers }
@@ -138,7 +138,7 @@ impl<E: Eeprom> Ea<E> {
         self.numbers.index_of(block).unwrap()
     }
 
-    // Gives a block of a driver that is not stale these bytes, or makes it invalid.
+    /// Gives a block of a driver that is not stale these bytes, or makes it invalid.
     fn store(&mut self, block: u16, bytes: &[u8], valid: bool) -> Result<(), BlockFault>
         requires not_stale { IsFalse (uncounted_of E.state self.old).is_stale }
         requires number { Contains (uncounted_of E.state self.old).numbers block }
@@ -171,7 +171,7 @@ impl<E: Eeprom> Ea<E> {
         Ok(())
     }
 
-    // Gives a block these bytes, or makes it invalid.
+    /// Gives a block these bytes, or makes it invalid.
     fn put(&mut self, block: u16, bytes: &[u8], valid: bool) -> Result<(), BlockFault>
         requires number { Contains (uncounted_of E.state self.old).numbers block }
         requires most { length bytes.now ≤ 128 }
@@ -187,7 +187,7 @@ impl<E: Eeprom> Ea<E> {
         self.store(block, bytes, valid)
     }
 
-    // Reads a block of a driver that is not stale.
+    /// Reads a block of a driver that is not stale.
     fn find(&mut self, block: u16, out: &mut [u8; 128]) -> Result<Found, BlockFault>
         requires not_stale { IsFalse (uncounted_of E.state self.old).is_stale }
         requires number { Contains (uncounted_of E.state self.old).numbers block }

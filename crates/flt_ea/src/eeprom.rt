@@ -1,4 +1,4 @@
-// An EEPROM, and the bench that cuts its power.
+//! An EEPROM, and the bench that cuts its power.
 ghost use Rattle.std.specs.Prelude.{◌≡◌, ◌<◌, OnOk, OnErr};
 ghost use Rattle.flt_flash.specs.Tearing.{IsTorn};
 ghost use Rattle.flt_flash.specs.State.{FlashState, Operates, CanArm, Arms, PowersUp};

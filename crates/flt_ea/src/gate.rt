@@ -1,4 +1,4 @@
-// The gate of a place.
+//! The gate of a place.
 ghost use Rattle.std.specs.Prelude.{◌≡◌, ◌≢◌, Some, IfSome, IfNone};
 ghost use Rattle.flt_code.specs.Word.{is_length};
 ghost use Rattle.flt_ea.specs.declared.gate.Gate.{Gate};
@@ -44,7 +44,7 @@ fn is_length(valid: bool, length: u16) -> bool
     }
 }
 
-// The gate that the fields would give.
+/// The gate that the fields would give.
 #[tactic(auto, unfolding(crate::specs::Gate::candidate))]
 fn candidate(bytes: &[u8; 16]) -> Option<Gate>
     ensures read { result ≡ candidate bytes.now }

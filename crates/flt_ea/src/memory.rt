@@ -1,4 +1,4 @@
-// An EEPROM in memory, and the bench that cuts its power and makes its operations fail.
+//! An EEPROM in memory, and the bench that cuts its power and makes its operations fail.
 ghost use Rattle.std.specs.Prelude.{◌≡◌, false, ◌<◌, ◌≤◌, [], ◌∷◌, ◌++◌, length, replicate, IfSome, is_err, is_some, OnOk, OnErr, IfOk};
 ghost use Rattle.flt_flash.specs.State.{Operates, CanArm, Arms, PowersUp};
 ghost use Rattle.flt_flash.specs.Tearing.{IsTorn};
@@ -165,7 +165,7 @@ impl Eeprom for EepromMem {
     }
 }
 
-// The arm by the number of the unit that it mutes, if one of 16 bits has it.
+/// The arm by the number of the unit that it mutes, if one of 16 bits has it.
 fn in_units(arm: Arm) -> Arm
     ensures { result ≡ in_units arm }
 {

@@ -1,4 +1,4 @@
-// What the gate units of a block's two places say.
+//! What the gate units of a block's two places say.
 ghost use Rattle.std.specs.Prelude.{◌≡◌, false};
 ghost use Rattle.std.specs.List.{list_any};
 ghost use Rattle.flt_ea.specs.Image.{gate_in, newer, same_sequence, is_foreign, is_damaged, is_last, judged, next_place, next_sequence};
@@ -54,7 +54,7 @@ fn same_sequence(first: Option<Gate>, second: Option<Gate>) -> bool
     }
 }
 
-// A code word that is no gate of this block.
+/// A code word that is no gate of this block.
 fn is_foreign(number: u16, word: Option<[u8; 16]>) -> bool
     ensures { result ≡ is_foreign number word }
 {

@@ -1,4 +1,4 @@
-// Records in the places of blocks.
+//! Records in the places of blocks.
 ghost use Rattle.std.specs.Prelude.{◌≡◌, ◌+◌, ◌≤◌, ◌++◌, false, drop, length, OnOk, OnErr};
 ghost use Rattle.flt_flash.specs.Blocks.{byte_pages, record_pages};
 ghost use Rattle.flt_flash.specs.Image.{sector_at};
@@ -42,7 +42,7 @@ pub(crate) fn read_bytes<E: Eeprom>(
     Ok(())
 }
 
-// Writes plain bytes to units, the last of which is filled up with ones.
+/// Writes plain bytes to units, the last of which is filled up with ones.
 fn fill<E: Eeprom>(device: &mut E, first: u16, bytes: &[u8]) -> Result<(), FlashFailed>
     requires most { length bytes.now ≤ 128 }
     requires room { first + byte_pages (length bytes.now) ≤ (E.state device.old).pages }

@@ -1,4 +1,4 @@
-// One look at every gate.
+//! One look at every gate.
 ghost use Rattle.std.specs.Prelude.{◌≡◌, ◌≤◌, ◌*◌, ◌+◌, ℕ, length, Some, None, OnOk, OnErr, IfOk, IsErrOf};
 ghost use Rattle.flt_flash.specs.declared.blocks.BlockFault.TheVariants.{Flash, Damaged};
 ghost use Rattle.flt_flash.specs.Calls.{NeverFull};

@@ -1,4 +1,4 @@
-// The driver over two sectors.
+//! The driver over two sectors.
 ghost use Rattle.std.specs.Prelude.{◌≡◌, ◌≢◌, ◌+◌, ◌-◌, ◌*◌, ◌^◌, ◌<◌, ◌≤◌, ℕ, length, true, false, Contains};
 ghost use Rattle.std.specs.Prelude.{IsFalse, IsTrue, IfOk, IfErr, IfSome, OnOk, OnErr, IsErrOf, Ok, Some, None};
 ghost use Rattle.std.specs.List.{AllPairs};
@@ -25,7 +25,7 @@ use flt_pages::{
 };
 use std::alloc::{AllocError, Global};
 
-// A table of blocks without records.
+/// A table of blocks without records.
 fn no_places(alloc: Global, many: usize) -> Result<Vec<Option<RecordPlace>>, AllocError>
     ensures { IfOk result (λ places. length places.items ≡ many) }
 {
@@ -36,7 +36,7 @@ fn no_places(alloc: Global, many: usize) -> Result<Vec<Option<RecordPlace>>, All
     Ok(places)
 }
 
-// The block numbers with their index, and a table of as many blocks without records.
+/// The block numbers with their index, and a table of as many blocks without records.
 fn tables(
     alloc: Global,
     numbers: Vec<u16>,
@@ -80,7 +80,7 @@ pub struct Fee<F: Flash> {
 impl<F: Flash> Fee<F> {
     ghost use Rattle.flt_fee.specs.Fee.{is_past, state_by, state_of, uncounted_of};
 
-    // Appends a record behind the log, where it fits.
+    /// Appends a record behind the log, where it fits.
     fn append(&mut self, block: u16, bytes: &[u8], valid: bool) -> Result<(), BlockFault>
         requires not_stale { IsFalse (uncounted_of F.state self.old).is_stale }
         requires number { Contains (uncounted_of F.state self.old).numbers block }
@@ -110,7 +110,7 @@ impl<F: Flash> Fee<F> {
         Ok(())
     }
 
-    // Begins the first sector: the mount of a flash of which no sector is valid.
+    /// Begins the first sector: the mount of a flash of which no sector is valid.
     fn format(&mut self) -> Result<(), BlockFault>
         requires { current self.old.used (F.state self.old.flash).image ≡ Ok None }
         ensures values { SameValues (uncounted_of F.state self.old) (uncounted_of F.state self.new) }
@@ -133,7 +133,7 @@ impl<F: Flash> Fee<F> {
         Ok(())
     }
 
-    // Looks at the flash as a power-up left it.
+    /// Looks at the flash as a power-up left it.
     fn look(&mut self) -> Result<(), BlockFault>
         ensures values { SameValues (uncounted_of F.state self.old) (uncounted_of F.state self.new) }
         ensures spent { SameSpent (uncounted_of F.state self.old) (uncounted_of F.state self.new) }
@@ -165,7 +165,7 @@ impl<F: Flash> Fee<F> {
         }
     }
 
-    // Mounts a stale driver.
+    /// Mounts a stale driver.
     fn settle(&mut self) -> Result<(), BlockFault>
         ensures values { SameValues (uncounted_of F.state self.old) (uncounted_of F.state self.new) }
         ensures spent { SameSpent (uncounted_of F.state self.old) (uncounted_of F.state self.new) }
@@ -181,7 +181,7 @@ impl<F: Flash> Fee<F> {
         if self.is_stale { self.look() } else { Ok(()) }
     }
 
-    // The pages of the current records of all blocks.
+    /// The pages of the current records of all blocks.
     fn live(&self) -> u16
         requires { IsFalse (uncounted_of F.state self.now).is_stale }
         ensures { result ≡ live_pages (uncounted_of F.state self.now) }
@@ -189,7 +189,7 @@ impl<F: Flash> Fee<F> {
         live_pages(&self.places)
     }
 
-    // Makes the other sector the current one, with a copy of all that the blocks hold.
+    /// Makes the other sector the current one, with a copy of all that the blocks hold.
     fn switch(&mut self) -> Result<(), BlockFault>
         requires not_stale { IsFalse (uncounted_of F.state self.old).is_stale }
         requires next { self.old.sequence + 1 < 2 ^ 32 }
@@ -220,7 +220,7 @@ impl<F: Flash> Fee<F> {
         Ok(())
     }
 
-    // Makes room behind the log for a record of this length, by a switch where it does not fit.
+    /// Makes room behind the log for a record of this length, by a switch where it does not fit.
     fn make_room(&mut self, block: u16, size: u16) -> Result<(), BlockFault>
         requires not_stale { IsFalse (uncounted_of F.state self.old).is_stale }
         requires most { size ≤ 128 }
@@ -251,7 +251,7 @@ impl<F: Flash> Fee<F> {
         }
     }
 
-    // Gives a block these bytes, or makes it invalid.
+    /// Gives a block these bytes, or makes it invalid.
     fn put(&mut self, block: u16, bytes: &[u8], valid: bool) -> Result<(), BlockFault>
         requires number { Contains (uncounted_of F.state self.old).numbers block }
         requires most { length bytes.now ≤ 128 }
@@ -273,7 +273,7 @@ impl<F: Flash> Fee<F> {
         self.append(block, bytes, valid)
     }
 
-    // The place of a block's current record, if it has one.
+    /// The place of a block's current record, if it has one.
     fn place(&self, block: u16) -> Option<RecordPlace>
         requires not_stale { IsFalse (uncounted_of F.state self.now).is_stale }
         requires number { Contains (uncounted_of F.state self.now).numbers block }

@@ -1,4 +1,4 @@
-// The faults that a bench is told to make.
+//! The faults that a bench is told to make.
 ghost use Rattle.std.specs.Prelude.{◌≡◌, ℕ};
 ghost use Rattle.flt_flash.specs.Arms.{idle_arm, after_write, mutes, after_read, stands, is_due_cut, is_due_fault};
 

@@ -1,4 +1,4 @@
-// Blocks that outlive the power, as the layers above a driver see them.
+//! Blocks that outlive the power, as the layers above a driver see them.
 ghost use Rattle.std.specs.Prelude.{◌≡◌, ◌<◌, ◌≤◌, length, Contains, IfOk, OnOk, OnErr, None, IsTrue, IsFalse, ℕ};
 ghost use Rattle.flt_flash.specs.Content.{invalid, bytes as holding, IsShort};
 ghost use Rattle.flt_flash.specs.State.{CanArm};

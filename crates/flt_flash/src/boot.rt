@@ -1,4 +1,4 @@
-// The images that the power-ups of a device in memory found.
+//! The images that the power-ups of a device in memory found.
 ghost use Rattle.std.specs.Prelude.{◌≡◌, ◌+◌, ◌*◌, ◌<◌, ◌≤◌, [], ◌∷◌, ◌++◌, length, vec_capacity, IfOk};
 ghost use Rattle.flt_flash.specs.Image.{page_at};
 ghost use Rattle.flt_flash.specs.Boots.{HaveRoom};

@@ -1,4 +1,4 @@
-// A flash of two sectors, and the bench that cuts its power.
+//! A flash of two sectors, and the bench that cuts its power.
 ghost use Rattle.std.specs.Prelude.{◌≡◌, ◌<◌, OnOk, OnErr, slice_index, slice_set};
 ghost use Rattle.flt_flash.specs.Image.{page_at, programmed, erased, blank_page};
 ghost use Rattle.flt_flash.specs.Tearing.{IsTorn};

@@ -1,4 +1,4 @@
-// What the words of the contracts come to.
+//! What the words of the contracts come to.
 ghost use Rattle.std.specs.Prelude.{◌≡◌, ◌≤◌, ◌+◌, ◌^◌, ◌↔◌, ◌⊎◌, ℕ, Some};
 ghost use Rattle.flt_flash.specs.State.{HasRisenBy, last_count};
 ghost use Rattle.flt_flash.specs.Blocks.{BlocksState};

@@ -1,4 +1,4 @@
-// The arms that were made on a device in memory.
+//! The arms that were made on a device in memory.
 ghost use Rattle.std.specs.Prelude.{◌≡◌, [], Some};
 ghost use Rattle.flt_flash.specs.Arms.{told_with};
 

@@ -1,4 +1,4 @@
-// A flash in memory, and the bench that cuts its power and makes its operations fail.
+//! A flash in memory, and the bench that cuts its power and makes its operations fail.
 ghost use Rattle.std.specs.Prelude.{◌≡◌, false, ℕ, ◌^◌, ◌+◌, ◌-◌, ◌*◌, ◌/◌, ◌%◌, ◌<◌, ◌≤◌, take, drop, [], ◌∷◌, ◌++◌, length, replicate, Some, IfNone, IfSome, OnSome, is_err, is_some, OnOk, OnErr, IfOk, slice_index, slice_set};
 ghost use Rattle.flt_flash.specs.declared.arm.Pattern.TheVariants.{Nothing};
 ghost use Rattle.flt_flash.specs.State.{first_state, Operates, counted, CanArm, Arms, PowersUp};
@@ -267,7 +267,7 @@ impl Bench for FlashMem {
     }
 }
 
-// Erases a sector, or tears it.
+/// Erases a sector, or tears it.
 fn clear_pages(pages: &mut Vec<[u8; 32]>, failing: Option<Pattern>)
     ensures whole { IfNone failing (pages.new.items ≡ replicate (length pages.old.items) blank_page) }
     ensures torn { OnSome failing (IsTornSector pages.old.items (replicate (length pages.old.items) blank_page) pages.new.items) }

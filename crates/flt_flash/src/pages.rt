@@ -1,4 +1,4 @@
-// The pages of a device in memory: made, written and torn.
+//! The pages of a device in memory: made, written and torn.
 ghost use Rattle.std.specs.Prelude.{◌≡◌, ◌<◌, length, replicate, Some, IfNone, IfSome, OnSome, IfOk, is_err, is_some, slice_set};
 ghost use Rattle.flt_flash.specs.declared.arm.Pattern.TheVariants.{Nothing};
 ghost use Rattle.flt_flash.specs.Tearing.{IsTornSector};
@@ -35,7 +35,7 @@ pub fn pages_of(alloc: Global, pages: &[[u8; 32]]) -> Result<Vec<[u8; 32]>, Allo
     Ok(made)
 }
 
-// The bits of a byte that take effect from `after`, and the others from `before`.
+/// The bits of a byte that take effect from `after`, and the others from `before`.
 fn torn_byte(before: u8, after: u8, pattern: Pattern, in_tail: bool) -> u8
     ensures { IsTornBy pattern in_tail before after result }
 {
@@ -47,7 +47,7 @@ fn torn_byte(before: u8, after: u8, pattern: Pattern, in_tail: bool) -> u8
     }
 }
 
-// Tears a page by a pattern, whose tail begins at the byte `tail`.
+/// Tears a page by a pattern, whose tail begins at the byte `tail`.
 fn tear_page(page: &mut [u8], after: &[u8], pattern: Pattern, tail: usize)
     requires { length after.now ≡ length page.old }
     ensures { IsTornPageBy pattern tail page.old after.now page.new }
@@ -57,7 +57,7 @@ fn tear_page(page: &mut [u8], after: &[u8], pattern: Pattern, tail: usize)
     }
 }
 
-// Where the tail of a page begins in an erase that tears.
+/// Where the tail of a page begins in an erase that tears.
 fn erase_tail(page: usize) -> usize
     ensures { result ≡ erase_tail page }
 {

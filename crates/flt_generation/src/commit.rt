@@ -1,4 +1,4 @@
-// The block that names a generation.
+//! The block that names a generation.
 ghost use Rattle.std.specs.Prelude.{◌≡◌, ◌≤◌, ◌<◌};
 ghost use Rattle.flt_generation.specs.Layout.{first_part, end_part, index_in};
 

@@ -1,4 +1,4 @@
-// The identifiers of the blocks of an image (this profile), and the numbers under which the driver keeps them.
+//! The identifiers of the blocks of an image (this profile), and the numbers under which the driver keeps them.
 
 /// The block of the mark.
 pub const MARK_ID: u16 = 1;

@@ -1,4 +1,4 @@
-// How many bytes the blocks of an image have.
+//! How many bytes the blocks of an image have.
 
 /// The bytes of the mark.
 pub const MARK_LENGTH: usize = 8;

@@ -1,4 +1,4 @@
-// The block that names a configuration.
+//! The block that names a configuration.
 
 /// What identifies the configuration of an image.
 #[derive(Clone, Copy, Debug, PartialEq, Eq)]

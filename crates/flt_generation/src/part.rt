@@ -1,4 +1,4 @@
-// The parts of a generation.
+//! The parts of a generation.
 ghost use Rattle.std.specs.Prelude.{◌≡◌, ◌≤◌};
 ghost use Rattle.flt_generation.specs.Form.{part_length};
 

@@ -1,4 +1,4 @@
-// The places of faults.
+//! The places of faults.
 
 /// Where an image is damaged.
 #[derive(Clone, Copy, Debug, PartialEq, Eq)]

@@ -1,4 +1,4 @@
-// The blocks of a generation, written and read.
+//! The blocks of a generation, written and read.
 ghost use Rattle.std.specs.Prelude.{◌≡◌, ◌≤◌, IsTrue, length};
 ghost use Rattle.flt_config.specs.Durable.{Fits};
 ghost use Rattle.flt_generation.specs.Form.{block_bytes, part_length};

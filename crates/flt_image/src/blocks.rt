@@ -14,7 +14,7 @@ use flt_generation::{END_PART, ENTRY_LENGTH, FIRST_PART, INDICES};
 /// The most bytes of a block of a state: those of an entry.
 pub const LONGEST: usize = ENTRY_LENGTH;
 
-// The bytes that are kept of one block.
+/// The bytes that are kept of one block.
 type KeptBytes = ArrayVec<u8, LONGEST>;
 
 /// The bytes of each block that a configuration may use; none of a block that is not known.
@@ -24,7 +24,7 @@ pub struct StateBlocks {
     ghost size: { length blocks.items ≡ parts },
 }
 
-// Puts these bytes in place of those that stand there.
+/// Puts these bytes in place of those that stand there.
 fn put_over(bytes: &[u8], kept: &mut KeptBytes)
     requires { length bytes.now ≤ LONGEST }
     ensures { kept.new.items ≡ bytes.now }
@@ -59,7 +59,7 @@ impl StateBlocks {
         }
     }
 
-    // Gives a block its bytes of a state, where it is used.
+    /// Gives a block its bytes of a state, where it is used.
     fn put_used(&mut self, config: &ValidConfig, state: &Persist, id: u16)
         requires first { first_part ≤ id }
         requires end { id < end_part }

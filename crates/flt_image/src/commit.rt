@@ -1,4 +1,4 @@
-// The record that names the blocks of a generation.
+//! The record that names the blocks of a generation.
 ghost use Rattle.std.specs.Prelude.{◌≡◌, ◌≢◌, ℕ, ◌<◌, ◌≤◌, ◌+◌, ◌==◌, IfSome, Some, List, length, bytes_eq, slice_index, slice_range, IsTrue, IsFalse};
 ghost use Rattle.std.specs.Int.{from_be_bytes, w32};
 ghost use Rattle.std.specs.List.{list_all, range_with_len};
@@ -19,7 +19,7 @@ use flt_generation::{
 /// What a commit has for a block that is not used.
 const UNUSED: u8 = 0xFF;
 
-// 1 for a block that is named at index 1, else 0.
+/// 1 for a block that is named at index 1, else 0.
 fn index_bit(index: &[u8; INDICES], place: usize) -> u8
     ensures bit { result ≡ index_bit index.now place }
     ensures small { result ≤ 1 }
@@ -27,7 +27,7 @@ fn index_bit(index: &[u8; INDICES], place: usize) -> u8
     (index.get(place).copied().unwrap_or(0) == 1) as u8
 }
 
-// Those of eight blocks, the first in the lowest bit.
+/// Those of eight blocks, the first in the lowest bit.
 fn packed(index: &[u8; INDICES], place: usize) -> u8
     requires { place ≤ parts }
     ensures { result ≡ packed index.now place }
@@ -108,7 +108,7 @@ pub fn next_commit(
     Commit { generation, index }
 }
 
-// The index at which the next commit names a block, by its bytes before and after.
+/// The index at which the next commit names a block, by its bytes before and after.
 fn next_index(
     config: &ValidConfig,
     current: &Option<Commit>,
@@ -129,7 +129,7 @@ fn next_index(
     }
 }
 
-// The same index, or the other one.
+/// The same index, or the other one.
 fn other_index(index: u8, stays: bool) -> u8
     ensures stays { IsTrue stays → result ≡ index }
     ensures small { IsFalse stays → result ≤ 1 }
@@ -173,7 +173,7 @@ fn is_commit(config: &ValidConfig, commit: &Commit) -> bool
     1 <= commit.generation && has_indices(config, commit)
 }
 
-// The number of a generation in these bytes of a commit.
+/// The number of a generation in these bytes of a commit.
 fn generation_in(bytes: &[u8]) -> u32
     requires { 5 ≤ length bytes.now }
     ensures { result ≡ from_be_bytes w32 (slice_range bytes.now 1 5) }
@@ -183,7 +183,7 @@ fn generation_in(bytes: &[u8]) -> u32
     u32::from_be_bytes(generation)
 }
 
-// The commit whose numbers stand in these bytes of version 1.
+/// The commit whose numbers stand in these bytes of version 1.
 #[tactic(auto, unfolding(flt_generation::specs::Reading::commit_from_1))]
 fn commit_from_1(bytes: &[u8]) -> Commit
     requires { length bytes.now ≡ commit_length }
@@ -197,7 +197,7 @@ fn commit_from_1(bytes: &[u8]) -> Commit
     }
 }
 
-// The bit of a block in these bytes of version 2.
+/// The bit of a block in these bytes of version 2.
 fn bit_in(bytes: &[u8], place: usize) -> u8
     requires size { length bytes.now ≡ commit_length_2 }
     requires place { place < parts }
@@ -206,7 +206,7 @@ fn bit_in(bytes: &[u8], place: usize) -> u8
     (bytes[5 + place / 8] >> (place % 8)) % 2
 }
 
-// The index of a block by its bit.
+/// The index of a block by its bit.
 fn index_by_bit(config: &ValidConfig, bytes: &[u8], id: u16) -> u8
     requires size { length bytes.now ≡ commit_length_2 }
     requires first { first_part ≤ id }
@@ -220,7 +220,7 @@ fn index_by_bit(config: &ValidConfig, bytes: &[u8], id: u16) -> u8
     }
 }
 
-// The commit whose numbers stand in these bytes of version 2.
+/// The commit whose numbers stand in these bytes of version 2.
 #[tactic(auto, unfolding(flt_generation::specs::Reading::commit_from))]
 fn commit_from(config: &ValidConfig, bytes: &[u8]) -> Commit
     requires { length bytes.now ≡ commit_length_2 }
@@ -264,7 +264,7 @@ fn get_commit_2(config: &ValidConfig, bytes: &[u8]) -> Option<Commit>
     }
 }
 
-// The first byte tells version 1.
+/// The first byte tells version 1.
 fn is_version_1(bytes: &[u8]) -> bool
     ensures { result ≡ (slice_index bytes.now 0 == 1) }
 {

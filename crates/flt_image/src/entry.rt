@@ -1,4 +1,4 @@
-// The entry at a place.
+//! The entry at a place.
 ghost use Rattle.std.specs.Prelude.{◌≡◌, ◌+◌, ◌<◌, ◌≤◌, ◌++◌, length, slice_get, slice_set, bytes_eq};
 ghost use Rattle.flt_generation.specs.declared.part.Part.TheVariants.{Entry};
 ghost use Rattle.flt_generation.specs.Fit.{is_alone};
@@ -95,7 +95,7 @@ fn entry_from(bytes: &[u8]) -> EntryState
     }
 }
 
-// Whether no entry at another place is of this event.
+/// Whether no entry at another place is of this event.
 fn is_alone(entries: &[EntryState], place: usize, event: u16) -> bool
     requires { place < length entries.now }
     ensures { result ≡ is_alone entries.now place event }

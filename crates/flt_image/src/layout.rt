@@ -1,4 +1,4 @@
-// Which blocks a configuration has, and which part of a generation each of them holds.
+//! Which blocks a configuration has, and which part of a generation each of them holds.
 ghost use Rattle.std.specs.Prelude.{◌≡◌, ◌<◌, ◌≤◌, ◌+◌, ◌++◌, [], ◌∷◌, if◌then◌else◌, length};
 ghost use Rattle.flt_generation.specs.Layout.{first_part, end_part, part_of, parts, has_part, is_used, used_ids};
 
@@ -69,7 +69,7 @@ pub fn used_ids(config: &ValidConfig) -> ArrayVec<u16, INDICES>
     ids
 }
 
-// Puts a block behind the others, if it is used.
+/// Puts a block behind the others, if it is used.
 fn push_used(config: &ValidConfig, id: u16, ids: &mut ArrayVec<u16, INDICES>)
     requires room { length ids.old.items < parts }
     ensures items { ids.new.items ≡ ids.old.items ++ (if is_used config.now id then id ∷ [] else []) }

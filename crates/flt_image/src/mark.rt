@@ -1,4 +1,4 @@
-// The mark of a configuration.
+//! The mark of a configuration.
 ghost use Rattle.std.specs.Prelude.{◌≡◌, length};
 ghost use Rattle.flt_generation.specs.Form.{mark_length, mark_of, mark_bytes, mark_bytes_1, versioned_mark, IsMark};
 ghost use Rattle.flt_generation.specs.Reading.{mark_from, mark_in, are_bytes_of_mark};
@@ -29,7 +29,7 @@ fn mark_with(id: u16, events: u16, entries: u8) -> Mark
     }
 }
 
-// The version, the configuration, its events, its entries, 00 00; numbers of two bytes are big-endian.
+/// The version, the configuration, its events, its entries, 00 00; numbers of two bytes are big-endian.
 fn versioned(version: u8, mark: &Mark) -> [u8; MARK_LENGTH]
     ensures { result ≡ versioned_mark version mark.now }
 {
@@ -55,14 +55,14 @@ pub fn put_mark_1(mark: &Mark) -> [u8; MARK_LENGTH]
     versioned(1, mark)
 }
 
-// These are bytes of this mark, in one of the two versions.
+/// These are bytes of this mark, in one of the two versions.
 fn are_bytes_of(bytes: &[u8], mark: &Mark) -> bool
     ensures { result ≡ are_bytes_of_mark bytes.now mark.now }
 {
     bytes == &put_mark(mark)[..] || bytes == &put_mark_1(mark)[..]
 }
 
-// The mark whose numbers stand in these bytes.
+/// The mark whose numbers stand in these bytes.
 #[tactic(auto, unfolding(flt_generation::specs::Reading::mark_from))]
 fn mark_from(bytes: &[u8]) -> Mark
     requires { length bytes.now ≡ mark_length }

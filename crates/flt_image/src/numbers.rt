@@ -1,4 +1,4 @@
-// The numbers under which the driver keeps the blocks.
+//! The numbers under which the driver keeps the blocks.
 ghost use Rattle.std.specs.Prelude.{◌≡◌, ◌<◌, ◌≤◌, IfOk};
 ghost use Rattle.flt_generation.specs.Layout.{numbers};
 

@@ -1,4 +1,4 @@
-// The states of sixteen events.
+//! The states of sixteen events.
 ghost use Rattle.std.specs.Prelude.{◌≡◌, ℕ, ◌+◌, ◌*◌, ◌<◌, ◌≤◌, ◌++◌, IsTrue, List, length, slice_index_or, slice_set, bytes_eq};
 ghost use Rattle.flt_config.specs.Durable.{start_state};
 ghost use Rattle.flt_generation.specs.declared.part.Part.TheVariants.{States};
@@ -60,7 +60,7 @@ fn state_from(bytes: &[u8], place: usize) -> EventState
     }
 }
 
-// The first states of a block.
+/// The first states of a block.
 fn states_from(bytes: &[u8], count: usize) -> ArrayVec<EventState, STATES_PER_BLOCK>
     requires size { length bytes.now ≡ states_length }
     requires count { count ≤ states_per_block }
@@ -80,7 +80,7 @@ fn set_state(states: &mut ArrayVec<EventState, EVENTS>, event: usize, state: Eve
     states[event] = state;
 }
 
-// Gives the events from `first` on the states that stand in a block.
+/// Gives the events from `first` on the states that stand in a block.
 fn set_states(states: &[EventState], first: u16, into: &mut ArrayVec<EventState, EVENTS>)
     requires { first + length states.now ≤ length into.old.items }
     ensures { (held : List ℕ) → states.now ≡ block_states held (length states.now)
@@ -92,7 +92,7 @@ fn set_states(states: &[EventState], first: u16, into: &mut ArrayVec<EventState,
     }
 }
 
-// Whether these are the states of a block, those past them being start states.
+/// Whether these are the states of a block, those past them being start states.
 fn are_bytes_of(states: &[EventState], bytes: &[u8]) -> bool
     requires { HaveShortCounts states.now }
     ensures { result ≡ bytes_eq bytes.now (states_bytes states.now 0) }

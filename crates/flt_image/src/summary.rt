@@ -1,4 +1,4 @@
-// The summary of a generation: its overflow flag, its number of entries and its noted events.
+//! The summary of a generation: its overflow flag, its number of entries and its noted events.
 ghost use Rattle.std.specs.Prelude.{◌≡◌, ◌↔◌, ◌+◌, ◌<◌, ◌≤◌, IsTrue, length, replicate, min};
 ghost use Rattle.flt_generation.specs.declared.part.Part.TheVariants.{Summary};
 ghost use Rattle.flt_generation.specs.Form.{summary_length, note_word, note_bytes, summary_bytes};
@@ -75,7 +75,7 @@ fn untaken_entries(count: u8) -> ArrayVec<EntryState, ENTRIES>
     entries
 }
 
-// A state that holds the summary in these bytes, and no events.
+/// A state that holds the summary in these bytes, and no events.
 #[tactic(auto, unfolding(flt_generation::specs::Reading::with_summary))]
 fn summary_from(bytes: &[u8]) -> Persist
     requires { length bytes.now ≡ summary_length }
@@ -92,7 +92,7 @@ fn summary_from(bytes: &[u8]) -> Persist
     }
 }
 
-// Whether the entries are within the memory, and the noted events are configured.
+/// Whether the entries are within the memory, and the noted events are configured.
 fn is_summary_of(config: &ValidConfig, read: &Persist) -> bool
     ensures { IsTrue result ↔ IsSummaryOf config.now read.now }
 {
@@ -104,7 +104,7 @@ fn is_summary_of(config: &ValidConfig, read: &Persist) -> bool
         && is_noted(&config.events, read.recent_confirmed)
 }
 
-// Gives a state what a summary says.
+/// Gives a state what a summary says.
 fn set_summary(read: Persist, into: &mut Persist)
     ensures { into.new ≡ summed_up read into.old }
 {

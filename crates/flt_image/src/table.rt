@@ -1,4 +1,4 @@
-// The table of the blocks of an image.
+//! The table of the blocks of an image.
 ghost use Rattle.std.specs.Prelude.{◌≡◌, ◌+◌, ◌^◌, ◌<◌, ◌++◌, OnOk, IfOk};
 ghost use Rattle.flt_image.specs.Table.{rows, block_table};
 

@@ -1,4 +1,4 @@
-// The three commands.
+//! The three commands.
 ghost use Rattle.std.specs.Prelude.{◌≡◌, ◌≢◌, None, Some, map};
 ghost use Rattle.std.specs.String.{string_bytes};
 ghost use Rattle.flt_did.specs.Table.{dids_of};

@@ -1,4 +1,4 @@
-// What is reported about a dump.
+//! What is reported about a dump.
 ghost use Rattle.std.specs.Prelude.{◌≡◌, ◌≢◌, ◌++◌, ◌∷◌, [], IfOk, OnOk, Result, Err, codes};
 ghost use Rattle.std.specs.Fmt.{decimal};
 ghost use Rattle.flt_config.specs.declared.config.Config.{Config};

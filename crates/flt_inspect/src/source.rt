@@ -1,4 +1,4 @@
-// The source of a run that is traced.
+//! The source of a run that is traced.
 ghost use Rattle.std.specs.Prelude.{◌≡◌, Some};
 ghost use Rattle.flt_inspect.specs.Source.{bytes_in};
 

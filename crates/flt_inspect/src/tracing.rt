@@ -1,4 +1,4 @@
-// The trace of a script: the last of its lives, as one line.
+//! The trace of a script: the last of its lives, as one line.
 ghost use Rattle.std.specs.Prelude.{◌≡◌, ◌∷◌, [], IfOk, IfSome, codes, map};
 ghost use Rattle.std.specs.String.{string_bytes};
 ghost use Rattle.flt_config.specs.Durable.{Fits};

@@ -1,4 +1,4 @@
-// What the steps of a script do.
+//! What the steps of a script do.
 ghost use Rattle.std.specs.Prelude.{◌≡◌};
 ghost use Rattle.flt_life.specs.Actions.{action_of, call_count, queue_count, response_size};
 

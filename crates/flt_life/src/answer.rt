@@ -1,4 +1,4 @@
-// The answers to steps.
+//! The answers to steps.
 use arrayvec::ArrayVec;
 use flt_generation::APPLICATION_LENGTH;
 use flt_model::ReplyOf;

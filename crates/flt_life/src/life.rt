@@ -1,4 +1,4 @@
-// A life of the controller: how it began, its calls, and its answers.
+//! A life of the controller: how it began, its calls, and its answers.
 use crate::replies::LaneReplies;
 use flt_config::Persist;
 use flt_model::Op;

@@ -1,4 +1,4 @@
-// Whether parts are possible: the test of what the calls require that make lives.
+//! Whether parts are possible: the test of what the calls require that make lives.
 ghost use Rattle.std.specs.Prelude.{◌≡◌, ◌≤◌, ◌↔◌, All, IsTrue, count_by};
 ghost use Rattle.flt_flash.specs.State.{CanArm};
 ghost use Rattle.flt_script.specs.Part.{part_of, parts_of};

@@ -1,4 +1,4 @@
-// The answers of a lane.
+//! The answers of a lane.
 ghost use Rattle.std.specs.Prelude.{◌≡◌, ◌≤◌, ◌<◌, ◌+◌, ◌++◌, ◌∷◌, [], ℕ, List, All, IfOk, length, vec_len};
 ghost use Rattle.std.specs.Vec.{vec_capacity};
 ghost use Rattle.flt_dcm.specs.ReplyKind.{reply_with};

@@ -1,4 +1,4 @@
-// The room that a life needs: for its calls, which are counted, and for its answers, whose memory is allocated at its start.
+//! The room that a life needs: for its calls, which are counted, and for its answers, whose memory is allocated at its start.
 ghost use Rattle.std.specs.Prelude.{◌≡◌, ◌<◌, ◌≤◌, ◌+◌, ◌^◌, ◌++◌, ◌∷◌, [], List, All, IfOk, length, map, reverse, sum_by, vec_len};
 ghost use Rattle.std.specs.Vec.{vec_capacity};
 ghost use Rattle.flt_script.specs.declared.step.Step.{Step};

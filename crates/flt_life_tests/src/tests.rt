@@ -1,4 +1,4 @@
-// Answers, possible parts, room for calls, and the lines of the report.
+//! Answers, possible parts, room for calls, and the lines of the report.
 mod answers;
 mod lines;
 mod possible;

@@ -1,4 +1,4 @@
-// What a life of lane 0 has come to so far.
+//! What a life of lane 0 has come to so far.
 use flt_life::{Entry, LaneReplies};
 use flt_model::Op;
 

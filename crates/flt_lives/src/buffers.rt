@@ -1,4 +1,4 @@
-// What calls of the machine write to.
+//! What calls of the machine write to.
 ghost use Rattle.std.specs.Prelude.{◌≡◌, []};
 ghost use Rattle.flt_config.specs.Durable.{initial_state};
 

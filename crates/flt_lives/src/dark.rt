@@ -1,4 +1,4 @@
-// Lives whose start-up met three faults of the device: they make no step but arms.
+//! Lives whose start-up met three faults of the device: they make no step but arms.
 ghost use Rattle.std.specs.Prelude.{◌≡◌, ◌+◌, ◌≤◌, ◌++◌, ◌∷◌, [], ℕ, All, List, length, map, sum_by, vec_len};
 ghost use Rattle.std.specs.Vec.{vec_capacity};
 ghost use Rattle.flt_script.specs.Part.{part_of, parts_of};

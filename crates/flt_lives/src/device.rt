@@ -1,4 +1,4 @@
-// Lives over a device.
+//! Lives over a device.
 ghost use Rattle.std.specs.Prelude.{◌≡◌, All};
 ghost use Rattle.flt_dcm.specs.Whole.{config_of};
 ghost use Rattle.flt_script.specs.Part.{parts_of};

@@ -1,4 +1,4 @@
-// Lives, each from its power-up on, one after the other.
+//! Lives, each from its power-up on, one after the other.
 ghost use Rattle.std.specs.Prelude.{◌≡◌, ◌+◌, ◌≤◌, ◌<◌, ◌^◌, [], List, All, IfOk, OnOk, length, sum_by};
 ghost use Rattle.flt_script.specs.declared.step.Step.{Step};
 ghost use Rattle.flt_script.specs.Part.{PartOf, parts_of};

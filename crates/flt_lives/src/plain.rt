@@ -1,4 +1,4 @@
-// The steps of lane 0, on a machine without a lock.
+//! The steps of lane 0, on a machine without a lock.
 ghost use Rattle.std.specs.Prelude.{◌≡◌, ◌+◌, ◌≤◌, ◌<◌, ◌^◌, ◌∷◌, [], ℕ, All, IfOk, List, length, reverse, sum_by, vec_len};
 ghost use Rattle.std.specs.Vec.{vec_capacity};
 ghost use Rattle.flt_config.specs.Durable.{Fits};

@@ -1,4 +1,4 @@
-// The steps of a life.
+//! The steps of a life.
 ghost use Rattle.std.specs.Prelude.{◌≡◌, ◌+◌, ◌≤◌, ◌<◌, ◌∷◌, ◌^◌, [], ℕ, List, length, reverse, vec_len};
 ghost use Rattle.std.specs.Vec.{vec_capacity};
 ghost use Rattle.flt_config.specs.Durable.{Fits};
@@ -29,7 +29,7 @@ use flt_life::{Action, Answer, Entry, StepAnswer};
 use flt_model::{Op, RESPONSE};
 use flt_store::Store;
 
-// Makes a call of the machine that is neither a snapshot nor a save.
+/// Makes a call of the machine that is neither a snapshot nor a save.
 fn call(unit: &mut Unit, op: &Op, buffers: &mut Buffers) -> ReplyKind
     requires under_way { IsUnderWay (config_of unit.old) (state_of unit.old) }
     requires admitted { IsAdmitted (config_of unit.old) op.now }
@@ -43,7 +43,7 @@ fn call(unit: &mut Unit, op: &Op, buffers: &mut Buffers) -> ReplyKind
     unit.apply_into(op, &mut buffers.state, &mut buffers.response)
 }
 
-// Takes the durable state.
+/// Takes the durable state.
 fn take_snapshot(unit: &mut Unit, buffers: &mut Buffers)
     requires under_way { IsUnderWay (config_of unit.old) (state_of unit.old) }
     ensures config { config_of unit.new ≡ config_of unit.old }
@@ -55,7 +55,7 @@ fn take_snapshot(unit: &mut Unit, buffers: &mut Buffers)
     unit.apply_into(&Op::Snapshot, &mut buffers.state, &mut buffers.response);
 }
 
-// Writes a call of the only lane behind those of a journal.
+/// Writes a call of the only lane behind those of a journal.
 fn write(op: Op, journal: &mut Vec<Entry<Op>>)
     requires { vec_len journal.old < vec_capacity journal.old }
     ensures written { reverse journal.new.items ≡ entry 0 op ∷ reverse journal.old.items }

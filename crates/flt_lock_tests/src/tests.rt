@@ -1,3 +1,3 @@
-// The ticket lock and the queue.
+//! The ticket lock and the queue.
 mod jobs;
 mod turns;

@@ -1,4 +1,4 @@
-// The status machine, from its configuration to the responses of testers.
+//! The status machine, from its configuration to the responses of testers.
 mod comparison;
 mod configurations;
 mod debouncing;

@@ -1,3 +1,3 @@
-// Subscribers: their table, and what they are told.
+//! Subscribers: their table, and what they are told.
 mod tables;
 mod told;

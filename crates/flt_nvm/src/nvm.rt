@@ -21,7 +21,7 @@ pub struct Nvm<B: Blocks + Drop> {
     ghost none: { NoneFrom redundant_rows table.items },
 }
 
-// Whether these are the bytes of a content that was read to the start of `out`.
+/// Whether these are the bytes of a content that was read to the start of `out`.
 fn holds(got: Got, out: &[u8; 128], bytes: &[u8]) -> bool
     ensures { (copy : ℕ) (content : Content) (before : List ℕ) → GotOf copy content got before out.now → IsTrue result ↔ (content ≡ holding bytes.now) }
 {
@@ -66,7 +66,7 @@ impl<B: Blocks + Drop> Nvm<B> {
         is_redundant(&self.table[..self.redundant_rows], id)
     }
 
-    // The number under which the driver keeps an index, or a copy from 0.
+    /// The number under which the driver keeps an index, or a copy from 0.
     fn number(&self, id: u16, place: u8) -> u16
         requires { HasPlace (table_of self.now) id place }
         ensures number { result ≡ number_of id place }
@@ -153,7 +153,7 @@ impl<B: Blocks + Drop> Nvm<B> {
         job::read(&mut self.blocks, number, copy, out)
     }
 
-    // Reads copy 2; where that has no bytes, the answer is what copy 1 gave, or Flash where it could not be read.
+    /// Reads copy 2; where that has no bytes, the answer is what copy 1 gave, or Flash where it could not be read.
     fn read_second(
         &mut self,
         id: u16,

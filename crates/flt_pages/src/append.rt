@@ -1,4 +1,4 @@
-// Programs of a sector: its gates and the pages of its log.
+//! Programs of a sector: its gates and the pages of its log.
 ghost use Rattle.std.specs.Prelude.{◌≡◌, ◌<◌, ◌≤◌, true, length};
 ghost use Rattle.flt_flash.specs.Image.{page_at, blank_page};
 ghost use Rattle.flt_code.specs.declared.words.Word.TheVariants.{Start, Active, Head, Gate};

@@ -1,4 +1,4 @@
-// The plain bytes of a record.
+//! The plain bytes of a record.
 ghost use Rattle.std.specs.Prelude.{◌≡◌, ◌+◌, ◌-◌, ◌*◌, ◌<◌, ◌≤◌, ◌≢◌, ◌++◌, min, drop, OnOk, OnErr};
 ghost use Rattle.flt_flash.specs.Image.{sector_at};
 ghost use Rattle.flt_flash.specs.State.{OnlyReads, HasRisenBy};
@@ -39,7 +39,7 @@ pub fn read_record<F: Flash>(
     Ok(())
 }
 
-// The number of bytes on the page of this index, if the record has this many bytes.
+/// The number of bytes on the page of this index, if the record has this many bytes.
 fn piece_size(length: u16, index: u16) -> usize
     requires { 32 * index < 65536 }
     ensures { result ≡ min 32 (length - 32 * index) }
@@ -47,7 +47,7 @@ fn piece_size(length: u16, index: u16) -> usize
     usize::from(length.saturating_sub(32 * index)).min(32)
 }
 
-// Copies the plain bytes of a record to pages of the other sector.
+/// Copies the plain bytes of a record to pages of the other sector.
 fn copy_bytes<F: Flash>(
     flash: &mut F,
     sector: u8,

@@ -1,4 +1,4 @@
-// Faults of pages.
+//! Faults of pages.
 ghost use Rattle.std.specs.Prelude.{◌≡◌};
 ghost use Rattle.flt_pages.specs.declared.fault.PageFault.TheVariants.{Flash};
 

@@ -1,4 +1,4 @@
-// The gates of a sector.
+//! The gates of a sector.
 ghost use Rattle.std.specs.Prelude.{◌≡◌, ◌+◌, ◌<◌, ◌≤◌, Ok, IsErrOf};
 ghost use Rattle.flt_flash.specs.Image.{sector_at};
 ghost use Rattle.flt_flash.specs.State.{OnlyReads, HasRisenBy};
@@ -10,7 +10,7 @@ use crate::items::read;
 use flt_code::{Word, get_word, is_spoiled, unseal};
 use flt_flash::Flash;
 
-// The number that a start gate names, or its page if it is faulty.
+/// The number that a start gate names, or its page if it is faulty.
 fn started(used: u16, page: &[u8; 32]) -> Result<Option<u32>, u16>
     ensures { result ≡ gate_by (started_by used) 0 page.now }
 {
@@ -26,7 +26,7 @@ fn started(used: u16, page: &[u8; 32]) -> Result<Option<u32>, u16>
     }
 }
 
-// The number that an active gate names, or its page if it is faulty.
+/// The number that an active gate names, or its page if it is faulty.
 fn activated(page: &[u8; 32]) -> Result<Option<u32>, u16>
     ensures { result ≡ gate_by activated_by 1 page.now }
 {
@@ -42,7 +42,7 @@ fn activated(page: &[u8; 32]) -> Result<Option<u32>, u16>
     }
 }
 
-// The number of a valid sector by its two gate pages.
+/// The number of a valid sector by its two gate pages.
 fn by_pages(used: u16, start: &[u8; 32], active: &[u8; 32]) -> Result<Option<u32>, u16>
     ensures { result ≡ both_gates (gate_by (started_by used) 0 start.now) (gate_by activated_by 1 active.now) }
 {

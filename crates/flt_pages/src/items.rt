@@ -1,4 +1,4 @@
-// The items of a sector's log, and the pages after its end.
+//! The items of a sector's log, and the pages after its end.
 ghost use Rattle.std.specs.Prelude.{◌≡◌, ◌+◌, ◌-◌, ◌*◌, ◌/◌, ◌<◌, ◌≤◌, ℕ, List, [], slice_index_or, Bool, IfOk, OnErr, IsErrOf};
 ghost use Rattle.flt_flash.specs.Image.{page_at, sector_at};
 ghost use Rattle.flt_flash.specs.State.{OnlyReads, HasRisenBy};
@@ -66,7 +66,7 @@ fn begin_by_head(used: u16, page: u16, numbers: &Numbers, word: Option<Word>) ->
     }
 }
 
-// What the first page of the item at `page` says.
+/// What the first page of the item at `page` says.
 fn first_page_says(used: u16, page: u16, numbers: &Numbers, bytes: &[u8; 32]) -> Begin
     requires { page < used }
     ensures means { (pages : List (List ℕ)) → slice_index_or pages page [] ≡ bytes.now → item_at used numbers.now pages page ≡ item_begun result pages page }
@@ -81,7 +81,7 @@ fn first_page_says(used: u16, page: u16, numbers: &Numbers, bytes: &[u8; 32]) ->
     }
 }
 
-// Whether the record is complete, by the page in the place of its gate; `None` if another word is there.
+/// Whether the record is complete, by the page in the place of its gate; `None` if another word is there.
 fn is_complete(block: u16, head: u16, bytes: &[u8; 32]) -> Option<bool>
     ensures { (length gate : ℕ) (valid : Bool) → item_by_gate block length valid head gate (unsealed bytes.now)
         ≡ item_completed block length valid gate result }
@@ -95,7 +95,7 @@ fn is_complete(block: u16, head: u16, bytes: &[u8; 32]) -> Option<bool>
     }
 }
 
-// A page of a sector.
+/// A page of a sector.
 pub(crate) fn read<F: Flash>(flash: &mut F, sector: u8, page: u16) -> Result<[u8; 32], FlashFailed>
     requires sector { sector < 2 }
     requires page { page < (F.state flash.old).pages }

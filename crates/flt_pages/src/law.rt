@@ -1,4 +1,4 @@
-// The law of appending.
+//! The law of appending.
 ghost use Rattle.std.specs.Prelude.{◌≡◌, ◌+◌, ◌^◌, ◌<◌, ◌≤◌, ℕ, Bool, List, [], Ok, Some, true, false, slice_index_or, slice_set};
 ghost use Rattle.flt_flash.specs.Blocks.{byte_pages};
 ghost use Rattle.flt_code.specs.Seal.{sealed};

@@ -1,4 +1,4 @@
-// The pages that current records take.
+//! The pages that current records take.
 ghost use Rattle.std.specs.Prelude.{◌≡◌, ◌<◌, ◌≤◌, sum_by};
 ghost use Rattle.std.specs.List.{All};
 ghost use Rattle.std.specs.Option.{ForSome};
@@ -7,7 +7,7 @@ ghost use Rattle.flt_pages.specs.RecordPlace.{pages_found};
 use crate::items::byte_pages;
 use crate::place::RecordPlace;
 
-// The pages of the record that was found.
+/// The pages of the record that was found.
 fn pages_at(found: Option<RecordPlace>) -> u16
     requires { ForSome found (λ place. place.length ≤ 128) }
     ensures { result ≡ pages_found found }

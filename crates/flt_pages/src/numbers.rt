@@ -1,4 +1,4 @@
-// The block numbers of a driver.
+//! The block numbers of a driver.
 ghost use Rattle.std.specs.Prelude.{◌≡◌, ◌≢◌, ◌<◌, ◌==◌, ℕ, length, IfOk, IfSome, IfNone, Some, slice_index_or};
 ghost use Rattle.std.specs.List.{list_any};
 
@@ -21,10 +21,10 @@ pub struct Numbers {
     hints: Vec<u16>,
 }
 
-// The numbers that have a hint are those below this one.
+/// The numbers that have a hint are those below this one.
 const HINTS: usize = 1024;
 
-// A hint for each number below `HINTS`: at which row it stands, if it has one. A wrong hint costs a search, and no answer rests on it.
+/// A hint for each number below `HINTS`: at which row it stands, if it has one. A wrong hint costs a search, and no answer rests on it.
 fn hints_of(alloc: Global, rows: &[Row]) -> Result<Vec<u16>, AllocError> {
     let mut hints = Vec::with_capacity(alloc, HINTS)?;
     hints.resize(HINTS, 0)?;
@@ -83,7 +83,7 @@ impl Numbers {
         self.given[index]
     }
 
-    // The index of a block whose hint is right.
+    /// The index of a block whose hint is right.
     #[inline(always)]
     fn hinted(&self, block: u16) -> Option<usize>
         ensures { IfSome result (λ index. (index < length self.now) × (slice_index_or self.now index 0 ≡ block)) }
@@ -118,7 +118,7 @@ impl Numbers {
         self.index_of(block).is_some()
     }
 
-    // The number behind `from - 1` in ascending order, where the hint of that is right and the number is `from` or more.
+    /// The number behind `from - 1` in ascending order, where the hint of that is right and the number is `from` or more.
     #[inline(always)]
     fn hinted_from(&self, from: u32) -> Option<u16>
         ensures { IfSome result (λ number. IsLeastFrom from self.now (Some number)) }

@@ -1,4 +1,4 @@
-// The places of current records, and the look at a log that finds them.
+//! The places of current records, and the look at a log that finds them.
 ghost use Rattle.std.specs.Prelude.{◌≡◌, ◌≢◌, ◌<◌, ◌≤◌, ◌==◌, ◌&&◌, ℕ, if◌then◌else◌, Some, None, IfOk, IfSome, IfNone, IsErrOf, Contains, length, slice_index_or};
 ghost use Rattle.std.specs.List.{AllPairs};
 ghost use Rattle.flt_flash.specs.Image.{sector_at};

@@ -1,4 +1,4 @@
-// Records after the log of a sector.
+//! Records after the log of a sector.
 ghost use Rattle.std.specs.Prelude.{◌≡◌, ◌+◌, ◌<◌, ◌≤◌, ℕ, true, length, OnOk};
 ghost use Rattle.flt_flash.specs.Image.{sector_at};
 ghost use Rattle.flt_code.specs.Word.{is_length};
@@ -10,7 +10,7 @@ use crate::append::{append_gate, append_head, append_piece};
 use crate::items::byte_pages;
 use flt_flash::{Flash, FlashFailed};
 
-// Programs the pages of plain bytes of a record.
+/// Programs the pages of plain bytes of a record.
 fn fill<F: Flash>(flash: &mut F, sector: u8, first: u16, bytes: &[u8]) -> Result<(), FlashFailed>
     requires sector { sector < 2 }
     requires most { length bytes.now ≤ 128 }

@@ -1,4 +1,4 @@
-// The two sectors of a flash: the current one, the first one, and the switch from one to the other.
+//! The two sectors of a flash: the current one, the first one, and the switch from one to the other.
 ghost use Rattle.std.specs.Prelude.{Option, ◌≡◌, ◌+◌, ◌-◌, ◌*◌, ◌^◌, ◌<◌, ◌≤◌, ◌≢◌, Ok, Some, None, Contains, IfOk, OnOk, OnErr, IsErrOf, length, slice_index, slice_set};
 ghost use Rattle.std.specs.List.{AllPairs};
 ghost use Rattle.flt_flash.specs.Image.{sector_at};
@@ -87,7 +87,7 @@ pub fn set_up_flash<F: Flash>(flash: &mut F, used: u16) -> Result<(), FlashFaile
     activate(flash, 0, 1)
 }
 
-// Copies the current record of a block, if it has one, behind the log of the other sector, and tells where that ends then.
+/// Copies the current record of a block, if it has one, behind the log of the other sector, and tells where that ends then.
 fn copy_block<F: Flash>(
     flash: &mut F,
     sector: u8,
@@ -130,7 +130,7 @@ fn copy_block<F: Flash>(
     }
 }
 
-// Copies the current records of all blocks, in ascending order of their numbers, behind the gates of the other sector.
+/// Copies the current records of all blocks, in ascending order of their numbers, behind the gates of the other sector.
 fn copy_blocks<F: Flash>(
     flash: &mut F,
     sector: u8,

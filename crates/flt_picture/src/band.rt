@@ -1,4 +1,4 @@
-// One event over all lives: what each column shows of it.
+//! One event over all lives: what each column shows of it.
 use crate::columns::Columns;
 use crate::marks::{MARKS, Mark, begins, confirms, enters, leaving};
 use crate::replay::Machine;

@@ -1,4 +1,4 @@
-// What each page of a sector holds, as the readers of pages tell it.
+//! What each page of a sector holds, as the readers of pages tell it.
 use flt_code::{Word, get_word, unseal};
 use flt_flash::{BLANK_PAGE, Flash, FlashMem};
 use flt_image::fee_numbers;

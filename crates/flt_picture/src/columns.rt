@@ -1,4 +1,4 @@
-// The columns of a timeline: which calls of which life each stands for.
+//! The columns of a timeline: which calls of which life each stands for.
 ghost use Rattle.std.specs.Prelude.{◌<◌, ◌≤◌};
 
 use crate::layout::{PLOT, PLOT_X};

@@ -1,4 +1,4 @@
-// Where the parts of a picture stand. A unit is a tenth of a pixel.
+//! Where the parts of a picture stand. A unit is a tenth of a pixel.
 
 /// The width of a picture.
 pub(crate) const WIDTH: u32 = 9_800;

@@ -1,4 +1,4 @@
-// The picture of lives.
+//! The picture of lives.
 ghost use Rattle.std.specs.Prelude.{◌≤◌};
 ghost use Rattle.flt_did.specs.Serves.{Serves};
 ghost use Rattle.flt_did.specs.Table.{dids_of};

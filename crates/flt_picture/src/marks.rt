@@ -1,4 +1,4 @@
-// What a call does to an event, as a mark of a timeline.
+//! What a call does to an event, as a mark of a timeline.
 ghost use Rattle.std.specs.Prelude.{◌<◌};
 
 use crate::svg::{Area, Svg, path_in};

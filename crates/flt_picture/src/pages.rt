@@ -1,4 +1,4 @@
-// The picture of the two sectors of a flash.
+//! The picture of the two sectors of a flash.
 ghost use Rattle.std.specs.Prelude.{◌≤◌};
 
 use crate::cells::{Cell, Log, Record, page_at, read_log};

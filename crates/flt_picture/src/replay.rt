@@ -1,4 +1,4 @@
-// The calls of a journal, made again by the machine.
+//! The calls of a journal, made again by the machine.
 ghost use Rattle.std.specs.Prelude.{◌≡◌, IsTrue};
 ghost use Rattle.flt_did.specs.Serves.{Serves};
 ghost use Rattle.flt_did.specs.Table.{dids_of};

@@ -1,4 +1,4 @@
-// The bands of events in the picture of lives: rows of marks and of bits, and the fault detection counter.
+//! The bands of events in the picture of lives: rows of marks and of bits, and the fault detection counter.
 use crate::band::{Band, Moment};
 use crate::columns::{LifeColumns, Span};
 use crate::layout::{BAND, BANDS_Y, BAR, COUNTER, MARGIN, PLOT_X, ROW, ROWS_Y};

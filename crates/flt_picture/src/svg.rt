@@ -1,4 +1,4 @@
-// The text of an SVG.
+//! The text of an SVG.
 use crate::layout::{BASE, LETTER_HEIGHT, MARGIN, NOTE_Y, TITLE_Y, WIDTH};
 use std::alloc::{AllocError, Global};
 use std::fmt::Write;

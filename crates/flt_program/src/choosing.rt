@@ -1,4 +1,4 @@
-// What the words ask for, and the call that does it.
+//! What the words ask for, and the call that does it.
 ghost use Rattle.std.specs.Prelude.{◌≡◌, ◌≤◌, map};
 ghost use Rattle.std.specs.String.{string_bytes};
 ghost use Rattle.flt_did.specs.Table.{dids_of};

@@ -1,4 +1,4 @@
-// The lines of a block of lanes that are no steps.
+//! The lines of a block of lanes that are no steps.
 ghost use Rattle.std.specs.Prelude.{◌≡◌, ◌<◌, ◌+◌, ◌++◌, OnOk, OnErr, vec_len};
 ghost use Rattle.std.specs.Vec.{vec_capacity};
 ghost use Rattle.flt_report.specs.Block.{par_line, lane_line, end_line};

@@ -1,4 +1,4 @@
-// The line that begins a life.
+//! The line that begins a life.
 ghost use Rattle.std.specs.Prelude.{◌≡◌, ◌≢◌, ◌≤◌, ◌<◌, ◌+◌, ◌++◌, ◌∷◌, [], OnOk, OnErr, vec_len};
 ghost use Rattle.std.specs.Vec.{vec_capacity};
 ghost use Rattle.flt_restore.specs.declared.fault.StartFault.TheVariants as faults;

@@ -1,4 +1,4 @@
-// Texts, numbers and bytes, put where room was reserved.
+//! Texts, numbers and bytes, put where room was reserved.
 ghost use Rattle.std.specs.Prelude.{◌≡◌, ◌≤◌, ◌<◌, ◌+◌, ◌*◌, ◌++◌, ◌∷◌, [], length, true, vec_len};
 ghost use Rattle.std.specs.Fmt.{decimal, signed_decimal, digit_glyph};
 ghost use Rattle.std.specs.Vec.{vec_capacity};

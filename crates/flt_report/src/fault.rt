@@ -1,4 +1,4 @@
-// The line that tells why bytes are no script.
+//! The line that tells why bytes are no script.
 ghost use Rattle.std.specs.Prelude.{◌≡◌, ◌++◌, OnOk, OnErr};
 ghost use Rattle.flt_report.specs.Boot.{script_fault_line};
 

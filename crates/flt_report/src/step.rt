@@ -1,4 +1,4 @@
-// The line of a step.
+//! The line of a step.
 ghost use Rattle.std.specs.Prelude.{◌≡◌, ◌≤◌, ◌+◌, ◌++◌, OnOk, OnErr, length, vec_len};
 ghost use Rattle.std.specs.Fmt.{decimal};
 ghost use Rattle.std.specs.Vec.{vec_capacity};

@@ -22,7 +22,7 @@ use flt_generation::{COMMIT_ID, Commit, END_PART, FIRST_PART};
 use flt_image::{get_block, get_commit, is_used};
 use flt_nvm::Nvm;
 
-// Takes one part if it is used, with those that were taken before.
+/// Takes one part if it is used, with those that were taken before.
 fn read_part<B: Blocks + Drop>(
     nvm: &mut Nvm<B>,
     config: &ValidConfig,
@@ -60,7 +60,7 @@ fn read_part<B: Blocks + Drop>(
     }
 }
 
-// Takes all parts that the configuration uses, in ascending order, each at the index at which the commit names it.
+/// Takes all parts that the configuration uses, in ascending order, each at the index at which the commit names it.
 fn read_parts<B: Blocks + Drop>(
     nvm: &mut Nvm<B>,
     config: &ValidConfig,
@@ -84,7 +84,7 @@ fn read_parts<B: Blocks + Drop>(
     Ok(())
 }
 
-// Takes the generation that a copy of the commit names; if that is missing, the first one.
+/// Takes the generation that a copy of the commit names; if that is missing, the first one.
 fn read_generation<B: Blocks + Drop>(
     nvm: &mut Nvm<B>,
     config: &ValidConfig,

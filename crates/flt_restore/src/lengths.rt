@@ -18,7 +18,7 @@ use flt_generation::{
 };
 use flt_nvm::Nvm;
 
-// Judges one application block.
+/// Judges one application block.
 fn judge_application<B: Blocks + Drop>(
     nvm: &Nvm<B>,
     config: &ValidConfig,
@@ -52,7 +52,7 @@ pub(crate) fn judge_applications<B: Blocks + Drop>(
     Ok(())
 }
 
-// The pages that the record of an index takes beyond the configuration's own.
+/// The pages that the record of an index takes beyond the configuration's own.
 fn pages_beyond<B: Blocks + Drop>(nvm: &Nvm<B>, config: &ValidConfig, id: u16, index: u8) -> u32
     requires table { table_of nvm.now ≡ block_table }
     requires not_stale { IsFalse (driver_of nvm.now).is_stale }
@@ -80,7 +80,7 @@ fn pages_beyond_of_part<B: Blocks + Drop>(nvm: &Nvm<B>, config: &ValidConfig, id
     pages_beyond(nvm, config, id, 0) + pages_beyond(nvm, config, id, 1)
 }
 
-// The same of all parts, whether the configuration uses them or not.
+/// The same of all parts, whether the configuration uses them or not.
 fn pages_beyond_of_parts<B: Blocks + Drop>(nvm: &Nvm<B>, config: &ValidConfig) -> u32
     requires table { table_of nvm.now ≡ block_table }
     requires not_stale { IsFalse (driver_of nvm.now).is_stale }
@@ -94,7 +94,7 @@ fn pages_beyond_of_parts<B: Blocks + Drop>(nvm: &Nvm<B>, config: &ValidConfig) -
     pages
 }
 
-// The same of all application blocks.
+/// The same of all application blocks.
 fn pages_beyond_of_applications<B: Blocks + Drop>(nvm: &Nvm<B>, config: &ValidConfig) -> u32
     requires table { table_of nvm.now ≡ block_table }
     requires not_stale { IsFalse (driver_of nvm.now).is_stale }
@@ -108,7 +108,7 @@ fn pages_beyond_of_applications<B: Blocks + Drop>(nvm: &Nvm<B>, config: &ValidCo
     pages
 }
 
-// The pages that the records of the image take beyond the configuration's own.
+/// The pages that the records of the image take beyond the configuration's own.
 fn excess<B: Blocks + Drop>(nvm: &Nvm<B>, config: &ValidConfig) -> u32
     requires table { table_of nvm.now ≡ block_table }
     requires not_stale { IsFalse (driver_of nvm.now).is_stale }

@@ -15,7 +15,7 @@ use flt_generation::{Commit, END_PART, FIRST_PART};
 use flt_image::{LONGEST, StateBlocks, is_used};
 use flt_nvm::Nvm;
 
-// The bytes that a block of a state may have; empty if it has none or too many.
+/// The bytes that a block of a state may have; empty if it has none or too many.
 fn part_in(held: &Held) -> &[u8]
     ensures bytes { result.now ≡ part_in (content_of held.now) }
     ensures short { length result.now ≤ LONGEST }
@@ -27,7 +27,7 @@ fn part_in(held: &Held) -> &[u8]
     }
 }
 
-// Reads a used block at the index at which the commit names it.
+/// Reads a used block at the index at which the commit names it.
 fn read_block<B: Blocks + Drop>(
     nvm: &mut Nvm<B>,
     config: &ValidConfig,

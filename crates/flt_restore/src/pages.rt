@@ -15,7 +15,7 @@ use flt_generation::{
 };
 use flt_image::{is_used, part_of};
 
-// The pages of a record of this many bytes.
+/// The pages of a record of this many bytes.
 fn record_pages(length: usize) -> u32
     requires { length ≤ 128 }
     ensures { result ≡ record_pages length }
@@ -36,14 +36,14 @@ pub(crate) fn found_pages(found: Found) -> u32
     }
 }
 
-// The block of a number.
+/// The block of a number.
 fn id_of(number: u16) -> u16
     ensures { result ≡ id_of number }
 {
     number / NUMBERS_PER_BLOCK
 }
 
-// The index, or the copy from 0, of a number.
+/// The index, or the copy from 0, of a number.
 fn index_of(number: u16) -> u16
     ensures { result ≡ index_of number }
 {

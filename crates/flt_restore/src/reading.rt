@@ -36,7 +36,7 @@ fn first_bytes(out: &[u8; 128], length: usize) -> BlockBytes
     bytes
 }
 
-// What was read, whose bytes are at the start of `out`.
+/// What was read, whose bytes are at the start of `out`.
 fn held_in(got: Got, out: &[u8; 128]) -> Held
     requires { IsShortRead got }
     ensures { (copy : ℕ) (content : Content) (before : List ℕ) → GotOf copy content got before out.now → content_of result ≡ content }
@@ -77,7 +77,7 @@ pub(crate) struct CommitRead {
     pub copy: u8,
 }
 
-// Reads copy 1 or copy 2 of the commit.
+/// Reads copy 1 or copy 2 of the commit.
 fn read_source<B: Blocks + Drop>(nvm: &mut Nvm<B>, copy: u8) -> Result<CommitRead, BlockFault>
     requires table { table_of nvm.old ≡ block_table }
     requires mounted { IsTrue (driver_of nvm.old).has_mounted }

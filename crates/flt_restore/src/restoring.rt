@@ -1,4 +1,4 @@
-// Start-up's reading: the image is judged block by block, in the order of its definition.
+//! Start-up's reading: the image is judged block by block, in the order of its definition.
 ghost use Rattle.std.specs.Prelude.{◌≡◌, IfOk, Err, IsErrOf, IsTrue, IsFalse, ◌↔◌};
 ghost use Rattle.flt_flash.specs.Calls.{Follows, SameImage, SameSpent, SameValues};
 ghost use Rattle.flt_nvm.specs.Driver.{driver_of, table_of};

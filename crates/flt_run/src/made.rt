@@ -1,4 +1,4 @@
-// The lives of a script that were made.
+//! The lives of a script that were made.
 ghost use Rattle.std.specs.Prelude.{◌≢◌, ◌<◌, ◌≤◌, All, vec_len};
 ghost use Rattle.flt_restore.specs.declared.fault.StartFault.TheVariants.{Flash};
 ghost use Rattle.flt_script.specs.Part.{parts_of};

@@ -1,4 +1,4 @@
-// What a run comes to by its command, before it is told: the lives of its script over a device, or an answer without lives.
+//! What a run comes to by its command, before it is told: the lives of its script over a device, or an answer without lives.
 ghost use Rattle.std.specs.Prelude.{◌≡◌, ◌≢◌, ◌≤◌, ℕ, List, Option, None, Some, All, IfSome, false, true};
 ghost use Rattle.flt_flash.specs.State.{FlashState};
 ghost use Rattle.flt_flash.specs.Blocks.{device_of};

@@ -1,4 +1,4 @@
-// Whole runs, and the streams that they read and write.
+//! Whole runs, and the streams that they read and write.
 mod gates;
 mod hostile;
 mod reports;

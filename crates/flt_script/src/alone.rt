@@ -1,4 +1,4 @@
-// A line that is read by itself.
+//! A line that is read by itself.
 ghost use Rattle.std.specs.Prelude.{◌≡◌, ◌∷◌, [], MatchOption};
 ghost use Rattle.flt_script.specs.Alone.{step_in};
 ghost use Rattle.flt_script.specs.Text.{lines_of};

@@ -1,4 +1,4 @@
-// The items of a sector's log.
+//! The items of a sector's log.
 
 /// What is at a page of the log.
 #[derive(Clone, Copy, Debug, PartialEq, Eq)]

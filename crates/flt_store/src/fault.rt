@@ -1,4 +1,4 @@
-// Why a write of the store does not succeed.
+//! Why a write of the store does not succeed.
 ghost use Rattle.flt_store.specs.Fault.{IsSaveFault, IsPutFault};
 
 use flt_flash::BlockFault;

@@ -1,4 +1,4 @@
-// The writes of a save: the used blocks whose bytes changed, then both copies of the commit.
+//! The writes of a save: the used blocks whose bytes changed, then both copies of the commit.
 ghost use Rattle.std.specs.Prelude.{◌≡◌, ℕ, ◌≤◌, ◌<◌, ◌+◌, ◌*◌, if◌then◌else◌, length, IsTrue, IsFalse, OnOk, IfOk, Some};
 ghost use Rattle.flt_flash.specs.Content.{bytes as holding};
 ghost use Rattle.flt_flash.specs.Blocks.{record_pages};
@@ -22,7 +22,7 @@ use flt_generation::{COMMIT_ID, END_PART, FIRST_PART};
 use flt_image::{Commit, StateBlocks, is_used, next_commit, put_commit};
 use flt_nvm::Nvm;
 
-// The next commit names the block at another index than the current one.
+/// The next commit names the block at another index than the current one.
 fn is_moved(current: &Option<Commit>, next: &Commit, id: u16) -> bool
     requires first { first_part ≤ id }
     requires end { id < end_part }
@@ -42,7 +42,7 @@ fn is_written(config: &ValidConfig, current: &Option<Commit>, next: &Commit, id:
     is_used(config, id) && is_moved(current, next, id)
 }
 
-// Writes the block at the index at which the next commit names it, if that is another than the current one.
+/// Writes the block at the index at which the next commit names it, if that is another than the current one.
 fn write_moved<B: Blocks + Drop>(
     nvm: &mut Nvm<B>,
     config: &ValidConfig,
@@ -74,7 +74,7 @@ fn write_moved<B: Blocks + Drop>(
     }
 }
 
-// Writes those blocks in ascending order.
+/// Writes those blocks in ascending order.
 fn write_blocks<B: Blocks + Drop>(
     nvm: &mut Nvm<B>,
     config: &ValidConfig,

@@ -1,4 +1,4 @@
-// Which generation stands after a save that failed, and the repair of the commit's copies.
+//! Which generation stands after a save that failed, and the repair of the commit's copies.
 ghost use Rattle.std.specs.Prelude.{◌≡◌, ◌⊎◌, ℕ, ◌-◌, ◌≤◌, length, IsFalse, IfOk, IfSome, IsErrOf, OnOk, OnErr, Some};
 ghost use Rattle.flt_flash.specs.Content.{bytes as holding};
 ghost use Rattle.flt_flash.specs.Calls.{Follows, OthersKept};
@@ -54,7 +54,7 @@ pub(crate) fn restart<B: Blocks + Drop>(
     }
 }
 
-// Makes the other copy hold what this one has, and answers the commit of these bytes. A sound image has no others.
+/// Makes the other copy hold what this one has, and answers the commit of these bytes. A sound image has no others.
 fn repair_by<B: Blocks + Drop>(
     nvm: &mut Nvm<B>,
     config: &ValidConfig,

@@ -1,4 +1,4 @@
-// Generations in the blocks of a driver.
+//! Generations in the blocks of a driver.
 ghost use Rattle.std.specs.Prelude.{◌≡◌, ◌≢◌, ◌+◌, ◌*◌, ◌<◌, ℕ, length, Err, IsErr, IsErrOf, IsOk, IfOk, OnOk, OnErr, IsTrue, IsFalse};
 ghost use Rattle.flt_flash.specs.State.{CanArm};
 ghost use Rattle.flt_flash.specs.Calls.{ArmsDriver, CostsAtMost, Follows, NoErase, NoFault, PowersUpDriver};
@@ -77,7 +77,7 @@ impl<B: Blocks + Drop> Store<B> {
         }
     }
 
-    // Finds out which generation stands, and what its blocks have, where a save failed.
+    /// Finds out which generation stands, and what its blocks have, where a save failed.
     fn settle(&mut self, config: &ValidConfig) -> Result<(), SaveFault>
         ensures settles { WhileRunning config.now self.old (λ held spare. OnOk result (Chooses config.now held spare self.old self.new)) }
         ensures failed { (state : Persist)
@@ -103,7 +103,7 @@ impl<B: Blocks + Drop> Store<B> {
         Ok(())
     }
 
-    // Saves a state as the next generation, where both copies of the commit name one.
+    /// Saves a state as the next generation, where both copies of the commit name one.
     fn save_next(&mut self, config: &ValidConfig, state: &Persist) -> Result<u32, SaveFault>
         requires { Fits config.now state.now }
         ensures saved { (g : Generation) → IsReady config.now g self.old

@@ -1,4 +1,4 @@
-// The store over a flash in memory, and over an EEPROM in memory: worked examples, changed images, and each operation of a job cut and made to fail.
+//! The store over a flash in memory, and over an EEPROM in memory: worked examples, changed images, and each operation of a job cut and made to fail.
 ghost use Rattle.std.specs.Prelude.{◌≡◌, IfOk, IsTrue, OnOk};
 ghost use Rattle.flt_flash.specs.State.{CanArm};
 ghost use Rattle.flt_config.specs.declared.config.Config.{Config};
@@ -30,16 +30,16 @@ use std::alloc::{AllocError, Global};
 use std::process::Abort;
 use std::test::Fail;
 
-// The pages of each sector.
+/// The pages of each sector.
 const PAGES: u16 = 64;
 
-// The units of an EEPROM.
+/// The units of an EEPROM.
 const UNITS: u16 = 1090;
 
-// The status of an event that was never tested.
+/// The status of an event that was never tested.
 const NOT_TESTED: u8 = 0x50;
 
-// The status of an event that failed in this cycle, and of one that passed after that.
+/// The status of an event that failed in this cycle, and of one that passed after that.
 const FAILED: u8 = 0x2F;
 
 const PASSED: u8 = 0x2E;
@@ -59,7 +59,7 @@ fn event(dtc: u32) -> EventCfg {
     }
 }
 
-// A configuration of so many entries, application blocks and events.
+/// A configuration of so many entries, application blocks and events.
 fn configured(rt: &impl Abort, memory: u8, blocks: u8, count: u8) -> ValidConfig {
     let mut events = ArrayVec::new();
     for number in 0..count {
@@ -77,8 +77,8 @@ fn configured(rt: &impl Abort, memory: u8, blocks: u8, count: u8) -> ValidConfig
     .expect(rt, "the configuration is valid")
 }
 
-// A state of events of these statuses, those that were tested having failed in one cycle, and of entries of the first events,
-// which occurred so often.
+/// A state of events of these statuses, those that were tested having failed in one cycle, and of entries of the first events,
+/// which occurred so often.
 fn state(statuses: &[u8], occurrences: &[u8]) -> Persist {
     let mut events = ArrayVec::new();
     for status in statuses {
@@ -120,12 +120,12 @@ fn state(statuses: &[u8], occurrences: &[u8]) -> Persist {
     }
 }
 
-// The state of one event that failed.
+/// The state of one event that failed.
 fn failed() -> Persist {
     state(&[FAILED], &[1])
 }
 
-// Blocks by identifier over a flash whose sectors have the configuration's pages.
+/// Blocks by identifier over a flash whose sectors have the configuration's pages.
 fn blocks_over(
     alloc: Global,
     flash: FlashMem,
@@ -147,7 +147,7 @@ fn blocks_over(
     }
 }
 
-// A store over such a flash.
+/// A store over such a flash.
 fn store_over(
     alloc: Global,
     flash: FlashMem,
@@ -158,7 +158,7 @@ fn store_over(
     Ok(Store::make(blocks_over(alloc, flash, config)?))
 }
 
-// A store over a blank flash whose power may come back twice.
+/// A store over a blank flash whose power may come back twice.
 fn blank_store(alloc: Global, config: &ValidConfig) -> Result<Store<Fee<FlashMem>>, Fail>
     ensures { IfOk result (λ store. IsRoomy config.now store) }
 {
@@ -166,7 +166,7 @@ fn blank_store(alloc: Global, config: &ValidConfig) -> Result<Store<Fee<FlashMem
     store_over(alloc, flash, config)
 }
 
-// A store over a blank EEPROM whose power may come back twice.
+/// A store over a blank EEPROM whose power may come back twice.
 fn units_store(alloc: Global) -> Result<Store<Ea<EepromMem>>, Fail>
     ensures { (c : Config) → IfOk result (λ store. IsRoomy c store) }
 {
@@ -179,7 +179,7 @@ fn units_store(alloc: Global) -> Result<Store<Ea<EepromMem>>, Fail>
     }
 }
 
-// Starts up: the number of the generation and its state.
+/// Starts up: the number of the generation and its state.
 fn start<B: Blocks + Drop>(
     store: &mut Store<B>,
     config: &ValidConfig,
@@ -193,7 +193,7 @@ fn start<B: Blocks + Drop>(
     Ok((number, out))
 }
 
-// Saves a state that fits.
+/// Saves a state that fits.
 fn save<B: Blocks + Drop>(
     rt: &impl Abort,
     store: &mut Store<B>,
@@ -208,7 +208,7 @@ fn save<B: Blocks + Drop>(
     store.save(config, state)
 }
 
-// Puts a byte into block 0.
+/// Puts a byte into block 0.
 fn put<B: Blocks + Drop>(
     rt: &impl Abort,
     store: &mut Store<B>,
@@ -223,7 +223,7 @@ fn put<B: Blocks + Drop>(
     store.put_block(0, &[byte])
 }
 
-// The byte of block 0, where it was put.
+/// The byte of block 0, where it was put.
 fn get<B: Blocks + Drop>(
     rt: &impl Abort,
     store: &mut Store<B>,
@@ -239,7 +239,7 @@ fn get<B: Blocks + Drop>(
     Ok(out.first().copied())
 }
 
-// Turns the power on again.
+/// Turns the power on again.
 fn power_up<B: Blocks + Drop>(store: &mut Store<B>)
     ensures { SameRoom store.old store.new }
 {
@@ -248,7 +248,7 @@ fn power_up<B: Blocks + Drop>(store: &mut Store<B>)
     }
 }
 
-// Whether an arm is of an operation to come.
+/// Whether an arm is of an operation to come.
 fn can_arm(arm: Arm) -> bool
     ensures { IsTrue result → CanArm arm }
 {
@@ -259,7 +259,7 @@ fn can_arm(arm: Arm) -> bool
     }
 }
 
-// Makes an arm.
+/// Makes an arm.
 fn arm<B: Blocks + Drop>(rt: &impl Abort, store: &mut Store<B>, arm: Arm)
     ensures alive { (c : Config) → IsAlive c store.old → IsAlive c store.new }
     ensures room { SameRoom store.old store.new }

@@ -98,7 +98,7 @@ impl BlocksMem {
         })
     }
 
-    // Counts a call, and mounts.
+    /// Counts a call, and mounts.
     fn settle(&mut self)
         ensures calls { self.new.calls ≡ counted self.old.calls }
         ensures not_stale { IsFalse self.new.is_stale }

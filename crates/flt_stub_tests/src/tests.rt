@@ -1,4 +1,4 @@
-// The driver in memory, and the layers above a driver over it.
+//! The driver in memory, and the layers above a driver over it.
 mod bytes;
 mod driver;
 mod kinds;

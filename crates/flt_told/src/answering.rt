@@ -1,4 +1,4 @@
-// The texts of the answers of a life.
+//! The texts of the answers of a life.
 ghost use Rattle.std.specs.Prelude.{◌≡◌, IfOk, OnOk, length, map, replicate, slice_set};
 ghost use Rattle.std.specs.String.{string_bytes};
 ghost use Rattle.flt_life.specs.Answers.{IsAnswerWithin, IsReplyWithin, reply_in, with_reply};

@@ -1,4 +1,4 @@
-// A trace that is printed.
+//! A trace that is printed.
 ghost use Rattle.std.specs.Prelude.{◌≡◌, Some, IfOk, IsUtf8, map};
 ghost use Rattle.std.specs.String.{string_bytes};
 ghost use Rattle.serde_json.specs.Data.{array};

@@ -1,4 +1,4 @@
-// A trace that is read as it is printed, token by token.
+//! A trace that is read as it is printed, token by token.
 ghost use Rattle.std.specs.Prelude.{◌≡◌, Some, IfOk, IfSome, IsUtf8};
 ghost use Rattle.serde_json.specs.Read.{read};
 ghost use Rattle.flt_trace.specs.Trace.{array_tokens, last_tokens, list_tokens, seen, texts_of, trace_data, trace_tokens};

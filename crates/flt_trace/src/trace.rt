@@ -1,4 +1,4 @@
-// The texts of a life.
+//! The texts of a life.
 
 /// The texts of a life, lent by the value that has them.
 #[derive(Drop)]

@@ -21,12 +21,12 @@ use std::snapshot::Snapshot;
 use std::sync::Wait;
 use std::thread::yield_now;
 
-// The words of the table: the ticket that is drawn next, and the ticket that is served.
+/// The words of the table: the ticket that is drawn next, and the ticket that is served.
 const NEXT: usize = 0;
 
 const SERVED: usize = 1;
 
-// How often a waiting call yields the processor before it sleeps.
+/// How often a waiting call yields the processor before it sleeps.
 const YIELDS: u32 = 64;
 
 type Token<M> = atomic_table::Seat<
@@ -162,7 +162,7 @@ impl<M: Machine> Turn<M> {
         Ok(Answer { place, reply })
     }
 
-    // Draws a ticket, waits until it is served, and takes the vault out of its slot. The ticket is the call's place.
+    /// Draws a ticket, waits until it is served, and takes the vault out of its slot. The ticket is the call's place.
     #[inline(always)]
     fn take_turn<R: Wait>(&self, rt: &R, token: &mut Token<M>) -> (u32, Vault<M>)
         requires lock { token.old.table_id ≡ self.now }
@@ -191,8 +191,8 @@ impl<M: Machine> Turn<M> {
         unreachable!()
     }
 
-    // Puts the vault back, with one more call in its journal, and passes the turn on. It wakes those who sleep until a ticket after
-    // this place is served, if there may be one.
+    /// Puts the vault back, with one more call in its journal, and passes the turn on. It wakes those who sleep until a ticket after
+    /// this place is served, if there may be one.
     #[inline(always)]
     fn end_turn(&self, token: &mut Token<M>, vault: Vault<M>, place: u32)
         requires lock { token.old.table_id ≡ self.now }

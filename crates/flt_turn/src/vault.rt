@@ -22,7 +22,7 @@ pub struct Vault<M: Machine> {
 }
 
 impl<M: Machine> Vault<M> {
-    // Makes the machine's step, and records it in room that the journal has reserved.
+    /// Makes the machine's step, and records it in room that the journal has reserved.
     #[inline(always)]
     pub(crate) fn apply(
         &mut self,
@@ -47,7 +47,7 @@ impl<M: Machine> Vault<M> {
         reply
     }
 
-    // The same without the machine's buffer: only the rest of the reply is written.
+    /// The same without the machine's buffer: only the rest of the reply is written.
     #[inline(always)]
     pub(crate) fn apply_into(
         &mut self,

@@ -1,4 +1,4 @@
-// A whole input that is judged, and what is told of it.
+//! A whole input that is judged, and what is told of it.
 ghost use Rattle.std.specs.Prelude.{ℕ, List, IfOk, option_map};
 ghost use Rattle.flt_verdict.specs.Verdict.{Due, IsMade, Tells, due_of};
 

@@ -1,4 +1,4 @@
-// The whole of an input.
+//! The whole of an input.
 ghost use Rattle.std.specs.Prelude.{◌≡◌, ◌≤◌, IfOk, IfSome, IsErrOf};
 ghost use Rattle.flt_verdict.specs.Verdict.{HasCome, IsFaultDue, due_of, failed, too_many, whole};
 

@@ -1,4 +1,4 @@
-// What is told of an input.
+//! What is told of an input.
 ghost use Rattle.std.specs.Prelude.{option_map};
 ghost use Rattle.flt_verdict.specs.Verdict.{IsToldOf, due_of};
 

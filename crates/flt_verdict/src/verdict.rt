@@ -1,4 +1,4 @@
-// What is told of an input.
+//! What is told of an input.
 ghost use Rattle.std.specs.Prelude.{◌≡◌, ◌++◌, ◌∷◌, [], IfOk};
 ghost use Rattle.flt_verdict.specs.Verdict.{due_of, line_due};
 

@@ -1,4 +1,4 @@
-// Watches of whole scripts, and the whole program.
+//! Watches of whole scripts, and the whole program.
 mod orders;
 mod program;
 mod rows;

@@ -1,4 +1,4 @@
-// The driver over an EEPROM in memory: worked rows, and each write of a job cut and made to fail.
+//! The driver over an EEPROM in memory: worked rows, and each write of a job cut and made to fail.
 ghost use Rattle.std.specs.Prelude.{◌≤◌, IfOk, Contains};
 ghost use Rattle.flt_ea.specs.Memory.{state_of as device_state};
 ghost use Rattle.flt_ea.specs.Ea.{state_of};
@@ -13,7 +13,7 @@ use flt_flash::{BLANK_PAGE, Pattern};
 use std::alloc::{AllocError, Global};
 use std::test::Fail;
 
-// A driver of the blocks 8 and 9.
+/// A driver of the blocks 8 and 9.
 fn two_blocks(alloc: Global, device: EepromMem) -> Result<Ea<EepromMem>, Fail>
     requires { 20 ≤ (device_state device).pages }
     ensures first { IfOk result (λ ea. Contains (state_of device_state ea).numbers 8) }
@@ -25,7 +25,7 @@ fn two_blocks(alloc: Global, device: EepromMem) -> Result<Ea<EepromMem>, Fail>
     }
 }
 
-// Takes the steps of a row on a driver over an EEPROM of at least 20 units, which comes back.
+/// Takes the steps of a row on a driver over an EEPROM of at least 20 units, which comes back.
 fn play_on(
     rt: &impl Abort,
     alloc: Global,

@@ -1,4 +1,4 @@
-// The driver over a flash in memory: worked rows, and each operation of a job cut and made to fail.
+//! The driver over a flash in memory: worked rows, and each operation of a job cut and made to fail.
 ghost use Rattle.std.specs.Prelude.{◌≤◌, IfOk, Contains};
 ghost use Rattle.flt_flash.specs.Memory.{state_of as flash_state};
 ghost use Rattle.flt_fee.specs.Fee.{state_of};
@@ -15,7 +15,7 @@ use flt_flash::{BLANK_PAGE, Bench, Flash, FlashMem, Pattern};
 use std::alloc::{AllocError, Global};
 use std::test::Fail;
 
-// A driver of the blocks 9 and 8, in this order.
+/// A driver of the blocks 9 and 8, in this order.
 fn two_blocks(alloc: Global, flash: FlashMem, used: u16) -> Result<Fee<FlashMem>, Fail>
     requires least { 4 ≤ used }
     requires most { used ≤ (flash_state flash).pages }
@@ -28,7 +28,7 @@ fn two_blocks(alloc: Global, flash: FlashMem, used: u16) -> Result<Fee<FlashMem>
     }
 }
 
-// Takes the steps of a row on a driver over a flash of at least 64 pages, which comes back.
+/// Takes the steps of a row on a driver over a flash of at least 64 pages, which comes back.
 fn play_on(
     rt: &impl Abort,
     alloc: Global,
@@ -43,7 +43,7 @@ fn play_on(
     Ok(fee.retire())
 }
 
-// The same over a blank flash, whose power may come back twice.
+/// The same over a blank flash, whose power may come back twice.
 fn play_on_blank(
     rt: &impl Abort,
     alloc: Global,
@@ -53,7 +53,7 @@ fn play_on_blank(
     play_on(rt, alloc, FlashMem::blank(alloc, 64, 2)?, row, steps)
 }
 
-// A page of the flash, or a blank one where there is no such page.
+/// A page of the flash, or a blank one where there is no such page.
 fn page_of_flash(flash: &FlashMem, sector: u8, page: u16) -> [u8; 32] {
     if sector > 1 || page >= flash.pages() {
         return BLANK_PAGE;
@@ -61,17 +61,17 @@ fn page_of_flash(flash: &FlashMem, sector: u8, page: u16) -> [u8; 32] {
     *flash.page(sector, page)
 }
 
-// Whether a page of the flash is blank.
+/// Whether a page of the flash is blank.
 fn is_blank(flash: &FlashMem, sector: u8, page: u16) -> bool {
     page_of_flash(flash, sector, page) == BLANK_PAGE
 }
 
-// The word of a page of the flash, or none.
+/// The word of a page of the flash, or none.
 fn word_at(flash: &FlashMem, sector: u8, page: u16) -> Option<Word> {
     get_word(&unseal(&page_of_flash(flash, sector, page))?)
 }
 
-// Whether the sectors were erased so often.
+/// Whether the sectors were erased so often.
 fn is_worn(flash: &FlashMem, first: u64, second: u64) -> bool {
     flash.wear(0) == first && flash.wear(1) == second
 }

@@ -1,4 +1,4 @@
-// A fixed job over any driver of the blocks 8 and 9, and what the blocks hold where it stops before its end.
+//! A fixed job over any driver of the blocks 8 and 9, and what the blocks hold where it stops before its end.
 ghost use Rattle.std.specs.Prelude.{◌≡◌, Contains};
 
 use super::restart;
@@ -15,7 +15,7 @@ pub enum Held {
     Other,
 }
 
-// The job: which block is changed, 9 rather than 8, and to what. Over two sectors it switches twice.
+/// The job: which block is changed, 9 rather than 8, and to what. Over two sectors it switches twice.
 const JOB: [(bool, Held); 7] = [
     (false, Held::Bytes(1)),
     (true, Held::Bytes(2)),
@@ -26,7 +26,7 @@ const JOB: [(bool, Held); 7] = [
     (false, Held::Bytes(6)),
 ];
 
-// Gives block 8 one byte, or block 9 forty of them, or makes it invalid.
+/// Gives block 8 one byte, or block 9 forty of them, or makes it invalid.
 fn put<B: Blocks>(driver: &mut B, second: bool, asked: Held) -> Result<(), BlockFault>
     requires first { Contains (B.state driver.old).numbers 8 }
     requires second { Contains (B.state driver.old).numbers 9 }
@@ -40,7 +40,7 @@ fn put<B: Blocks>(driver: &mut B, second: bool, asked: Held) -> Result<(), Block
     }
 }
 
-// What a block holds with bytes that are all the same.
+/// What a block holds with bytes that are all the same.
 fn held_with(bytes: &[u8]) -> Held {
     let Some(first) = bytes.first() else {
         return Held::Other;
@@ -70,7 +70,7 @@ fn held_by(block: u16, found: Found, bytes: &[u8; 128]) -> Held {
     }
 }
 
-// What the driver reads of a block.
+/// What the driver reads of a block.
 fn read_one<B: Blocks>(driver: &mut B, block: u16) -> Result<Held, BlockFault>
     requires { Contains (B.state driver.old).numbers block }
     ensures { (B.state driver.new).numbers ≡ (B.state driver.old).numbers }
@@ -80,7 +80,7 @@ fn read_one<B: Blocks>(driver: &mut B, block: u16) -> Result<Held, BlockFault>
     Ok(held_by(block, found, &out))
 }
 
-// What it reads of both blocks.
+/// What it reads of both blocks.
 fn read_both<B: Blocks>(driver: &mut B) -> Result<(Held, Held), BlockFault>
     requires first { Contains (B.state driver.old).numbers 8 }
     requires second { Contains (B.state driver.old).numbers 9 }
@@ -90,7 +90,7 @@ fn read_both<B: Blocks>(driver: &mut B) -> Result<(Held, Held), BlockFault>
     Ok((first, read_one(driver, 9)?))
 }
 
-// A block of the job: what it holds, and what the change that failed asked for, or again what it holds.
+/// A block of the job: what it holds, and what the change that failed asked for, or again what it holds.
 #[derive(Clone, Copy)]
 struct Changed {
     held: Held,
@@ -98,18 +98,18 @@ struct Changed {
 }
 
 impl Changed {
-    // A block that holds this, and of which no change failed.
+    /// A block that holds this, and of which no change failed.
     fn to(held: Held) -> Changed {
         Changed { held, asked: held }
     }
 
-    // Whether it may be found so.
+    /// Whether it may be found so.
     fn allows(self, found: Held) -> bool {
         found == self.held || found == self.asked
     }
 }
 
-// How far the job came: both blocks, and whether all changes were made.
+/// How far the job came: both blocks, and whether all changes were made.
 #[derive(Drop)]
 struct Progress {
     first: Changed,
@@ -118,7 +118,7 @@ struct Progress {
 }
 
 impl Progress {
-    // Takes a change that was made.
+    /// Takes a change that was made.
     fn take(&mut self, second: bool, asked: Held) {
         if second {
             self.second = Changed::to(asked);
@@ -127,7 +127,7 @@ impl Progress {
         }
     }
 
-    // Takes the change that failed.
+    /// Takes the change that failed.
     fn fail(&mut self, second: bool, asked: Held) {
         self.is_whole = false;
         if second {
@@ -138,7 +138,7 @@ impl Progress {
     }
 }
 
-// Makes the changes of the job until one fails.
+/// Makes the changes of the job until one fails.
 fn run_job<B: Blocks>(driver: &mut B) -> Progress
     requires first { Contains (B.state driver.old).numbers 8 }
     requires second { Contains (B.state driver.old).numbers 9 }
@@ -160,7 +160,7 @@ fn run_job<B: Blocks>(driver: &mut B) -> Progress
     progress
 }
 
-// What the driver reads of both blocks, at the second try where the first one fails.
+/// What the driver reads of both blocks, at the second try where the first one fails.
 fn read_again<B: Blocks>(driver: &mut B) -> Result<(Held, Held), BlockFault>
     requires first { Contains (B.state driver.old).numbers 8 }
     requires second { Contains (B.state driver.old).numbers 9 }

@@ -1,4 +1,4 @@
-// The queue by hand.
+//! The queue by hand.
 ghost use Rattle.std.specs.Prelude.{◌≡◌, ◌<◌, length};
 
 use arrayvec::ArrayVec;
@@ -48,7 +48,7 @@ fn take(queue: &mut JobQueue) -> QueueReply
     queue.apply(&QueueOp::Take)
 }
 
-// Whether the result of a block is this.
+/// Whether the result of a block is this.
 fn is_last(queue: &mut JobQueue, block: u8, wanted: LastResult) -> bool
     requires { block < queue.old.blocks }
     ensures { queue.new.blocks ≡ queue.old.blocks }
@@ -56,14 +56,14 @@ fn is_last(queue: &mut JobQueue, block: u8, wanted: LastResult) -> bool
     ask(queue, block) == QueueReply::Last(wanted)
 }
 
-// Whether the job of this block is taken next.
+/// Whether the job of this block is taken next.
 fn is_next(queue: &mut JobQueue, block: u8) -> bool
     ensures { queue.new.blocks ≡ queue.old.blocks }
 {
     take(queue) == QueueReply::Job(job(block, 1))
 }
 
-// Posts a job of each of the first 32 blocks.
+/// Posts a job of each of the first 32 blocks.
 fn post_all(rt: &impl Abort, queue: &mut JobQueue)
     requires { queue.old.blocks ≡ 40 }
     ensures { queue.new.blocks ≡ 40 }
@@ -76,7 +76,7 @@ fn post_all(rt: &impl Abort, queue: &mut JobQueue)
     }
 }
 
-// Takes each of these jobs once, in order, and does it.
+/// Takes each of these jobs once, in order, and does it.
 fn do_all(rt: &impl Abort, queue: &mut JobQueue)
     requires { queue.old.blocks ≡ 40 }
     ensures { queue.new.blocks ≡ 40 }
@@ -87,7 +87,7 @@ fn do_all(rt: &impl Abort, queue: &mut JobQueue)
     }
 }
 
-// 32 jobs wait, and not one more; each is taken once, in order, and done.
+/// 32 jobs wait, and not one more; each is taken once, in order, and done.
 #[test]
 fn forty_blocks(rt: HostRuntime) -> Result<(), Fail> {
     let mut queue = JobQueue::new(rt.alloc(), 40)?;
@@ -103,7 +103,7 @@ fn forty_blocks(rt: HostRuntime) -> Result<(), Fail> {
     Ok(())
 }
 
-// An urgent job is taken before a standard one that was posted earlier.
+/// An urgent job is taken before a standard one that was posted earlier.
 #[test]
 fn urgent_first(rt: HostRuntime) -> Result<(), Fail> {
     let mut queue = JobQueue::new(rt.alloc(), 40)?;

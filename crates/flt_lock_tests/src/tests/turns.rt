@@ -1,4 +1,4 @@
-// A machine that adds, under the lock.
+//! A machine that adds, under the lock.
 ghost use Rattle.std.specs.Prelude.{◌≡◌, ◌+◌, ◌*◌, ◌%◌, ◌^◌, ◌<◌, ◌≤◌, ◌++◌, ◌∷◌, [], sum};
 ghost use Rattle.std.specs.Thread.{IsSync};
 ghost use Rattle.flt_turn.specs.Seats.{IsSeatOf};
@@ -8,7 +8,7 @@ use std::sync::Wait;
 use std::test::*;
 use std::thread::{Threads, join};
 
-// It adds each number to the number that it began with, and answers the sum.
+/// It adds each number to the number that it began with, and answers the sum.
 #[derive(Drop)]
 struct Adder {
     first: u64,
@@ -64,12 +64,12 @@ impl StepInto for Adder {
     }
 }
 
-// Whether a call has this place and this answer.
+/// Whether a call has this place and this answer.
 fn is_at(answer: &Answer<u64>, place: u32, reply: u64) -> bool {
     answer.place == place && answer.reply == reply
 }
 
-// Whether the journal has these entries, by their lanes and what they add.
+/// Whether the journal has these entries, by their lanes and what they add.
 fn are_entries(journal: &[Entry<u32>], wanted: &[(u32, u32)]) -> bool {
     if journal.len() != wanted.len() {
         return false;
@@ -82,10 +82,10 @@ fn are_entries(journal: &[Entry<u32>], wanted: &[(u32, u32)]) -> bool {
     true
 }
 
-// The entries of the calls below.
+/// The entries of the calls below.
 static ENTRIES: [(u32, u32); 3] = [(1, 5), (1, 6), (0, 7)];
 
-// Calls on a split seat, and then on the main seat.
+/// Calls on a split seat, and then on the main seat.
 #[test]
 fn places_and_answers(rt: HostRuntime) -> Result<(), Fail> {
     let adder = Adder { first: 0, sum: 0 };
@@ -116,7 +116,7 @@ fn places_and_answers(rt: HostRuntime) -> Result<(), Fail> {
     Ok(())
 }
 
-// Calls whose answer is in two parts, and one that is refused.
+/// Calls whose answer is in two parts, and one that is refused.
 #[test]
 fn answers_in_two_parts(rt: HostRuntime) -> Result<(), Fail> {
     let adder = Adder { first: 0, sum: 0 };
@@ -141,7 +141,7 @@ fn answers_in_two_parts(rt: HostRuntime) -> Result<(), Fail> {
     Ok(())
 }
 
-// Makes all calls that are left to the seat, with the numbers from that count down to 1.
+/// Makes all calls that are left to the seat, with the numbers from that count down to 1.
 fn run_lane<R: Wait>(rt: &R, turn: &Turn<Adder>, mut seat: Seat<Adder>) -> Seat<Adder>
     requires lock { IsSeatOf turn.now seat }
     requires small { seat.left ≤ 10000 }
@@ -156,7 +156,7 @@ fn run_lane<R: Wait>(rt: &R, turn: &Turn<Adder>, mut seat: Seat<Adder>) -> Seat<
     seat
 }
 
-// Runs this many lanes of so many calls, each in a thread of its own.
+/// Runs this many lanes of so many calls, each in a thread of its own.
 fn run_lanes<R: Threads + Wait + Sync>(
     rt: &R,
     turn: &Turn<Adder>,
@@ -190,7 +190,7 @@ fn run_lanes<R: Threads + Wait + Sync>(
     main
 }
 
-// Whether each of eight lanes has its calls in its order, with the numbers from this count down to 1, and no others.
+/// Whether each of eight lanes has its calls in its order, with the numbers from this count down to 1, and no others.
 fn are_in_order(journal: &[Entry<u32>], calls: u32) -> bool {
     let mut left = [calls; 8];
     for entry in journal {
@@ -205,7 +205,7 @@ fn are_in_order(journal: &[Entry<u32>], calls: u32) -> bool {
     left == [0; 8]
 }
 
-// Eight lanes at once. The journal has the calls of each in its order, however they interleave.
+/// Eight lanes at once. The journal has the calls of each in its order, however they interleave.
 #[test]
 fn lanes_share_one_journal(rt: HostRuntime) -> Result<(), Fail> {
     let adder = Adder { first: 0, sum: 0 };

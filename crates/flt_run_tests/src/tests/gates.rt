@@ -1,4 +1,4 @@
-// Lanes that are held by a gate: two that are at work at once, and one that reports while the store writes.
+//! Lanes that are held by a gate: two that are at work at once, and one that reports while the store writes.
 use super::reports::run_held;
 use flt_config::ValidConfig;
 use flt_flash::{Arm, Bench, Blocks, Flash, FlashFailed, FlashMem};

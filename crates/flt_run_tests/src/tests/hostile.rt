@@ -1,4 +1,4 @@
-// Tables of images, scripts and streams, each with what a run tells of it.
+//! Tables of images, scripts and streams, each with what a run tells of it.
 use super::reports::{ends_so, ends_so_on_blank, run_over};
 use flt_code::seal;
 use flt_flash::{Flash, FlashMem};

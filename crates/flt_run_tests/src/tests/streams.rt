@@ -1,4 +1,4 @@
-// Streams in memory that fail at given calls, and std's streams that stutter.
+//! Streams in memory that fail at given calls, and std's streams that stutter.
 use flt_io::{MemSink, MemSource, ReadSource, Sink, Source, WriteSink};
 use std::alloc::{AllocError, Global};
 use std::io::{self, ErrorKind, Read, Write};

@@ -17,7 +17,7 @@ use flt_flash::{BlockFault, Blocks, FlashFailed};
 use flt_generation::{APPLICATION_LENGTH, FIRST_APPLICATION};
 use flt_nvm::{Got, Nvm};
 
-// The bytes, behind those that stand.
+/// The bytes, behind those that stand.
 fn push_all(bytes: &[u8], out: &mut ArrayVec<u8, APPLICATION_LENGTH>)
     requires { length out.old.items + length bytes.now ≤ application_length }
     ensures { out.new.items ≡ out.old.items ++ bytes.now }

@@ -27,7 +27,7 @@ use flt_image::{Commit, Mark, mark_of, put_mark};
 use flt_nvm::Nvm;
 use flt_restore::{CommitCopy, StartFault, restore};
 
-// Writes the mark of a configuration where it is due: where it is missing or of version 1.
+/// Writes the mark of a configuration where it is due: where it is missing or of version 1.
 fn write_mark<B: Blocks + Drop>(
     nvm: &mut Nvm<B>,
     mark: &Mark,
@@ -53,7 +53,7 @@ fn write_mark<B: Blocks + Drop>(
     }
 }
 
-// Writes the mark where it is missing or of version 1, and then makes both copies of the commit hold what the one has that was found.
+/// Writes the mark where it is missing or of version 1, and then makes both copies of the commit hold what the one has that was found.
 fn begin_by<B: Blocks + Drop>(
     nvm: &mut Nvm<B>,
     config: &ValidConfig,
@@ -95,7 +95,7 @@ impl<B: Blocks + Drop> Store<B> {
     ghost use Rattle.flt_store.specs.Store.{driver_of, is_settled, IsAlive};
     ghost use Rattle.flt_store.specs.Start.{IsForeign, RefusedFor, Starts};
 
-    // Starts up on a driver that was mounted.
+    /// Starts up on a driver that was mounted.
     fn start_mounted(&mut self, config: &ValidConfig, out: &mut Persist) -> Result<u32, StartFault>
         requires room { HasRoom config.now (driver_of self.old).room }
         requires mounted { IsTrue (driver_of self.old).has_mounted }

@@ -1,5 +1,5 @@
-// A fixed job on a store, each of whose programs and erases, or writes to an EEPROM, is cut or fails by each pattern: what stands then is what stood
-// before the call that failed, or what it asked for.
+//! A fixed job on a store, each of whose programs and erases, or writes to an EEPROM, is cut or fails by each pattern: what stands then is what stood
+//! before the call that failed, or what it asked for.
 ghost use Rattle.std.specs.Prelude.{IsTrue};
 ghost use Rattle.flt_store.specs.Store.{IsAlive};
 ghost use Rattle.flt_store_tests.specs.Room.{IsRoomy, SameRoom};
@@ -7,7 +7,7 @@ ghost use Rattle.flt_store_tests.specs.Room.{IsRoomy, SameRoom};
 use super::rows::of_version_1;
 use super::*;
 
-// A call of the job.
+/// A call of the job.
 #[derive(Clone, Copy)]
 enum Call {
     Start,
@@ -17,7 +17,7 @@ enum Call {
     Put(u8),
 }
 
-// The job behind its start-up: a save, 14 puts, of which the last switches the sectors, a save, and a start-up.
+/// The job behind its start-up: a save, 14 puts, of which the last switches the sectors, a save, and a start-up.
 static JOB: [Call; 17] = [
     Call::Save(FAILED),
     Call::Put(1),
@@ -38,8 +38,8 @@ static JOB: [Call; 17] = [
     Call::Start,
 ];
 
-// The job on an image of version 1 that holds generation 1, behind its start-up: a save, 14 puts, of which the tenth switches the sectors, a
-// save, and a start-up.
+/// The job on an image of version 1 that holds generation 1, behind its start-up: a save, 14 puts, of which the tenth switches the sectors, a
+/// save, and a start-up.
 static OLD_JOB: [Call; 17] = [
     Call::Save(PASSED),
     Call::Put(1),
@@ -60,18 +60,18 @@ static OLD_JOB: [Call; 17] = [
     Call::Start,
 ];
 
-// How many programs and erases that makes: 3 of the mark, 10 of each save, whose summary and entry stay, 3 of each put, and 31 of the
-// switch.
+/// How many programs and erases that makes: 3 of the mark, 10 of each save, whose summary and entry stay, 3 of each put, and 31 of the
+/// switch.
 const OLD_OPERATIONS: u32 = 96;
 
-// How many programs and erases the job makes: 3 of the first mount, 3 of the mark, 18 of the first save, 10 of the second, whose
-// summary and entry stay, 3 of each put, and 27 of the switch.
+/// How many programs and erases the job makes: 3 of the first mount, 3 of the mark, 18 of the first save, 10 of the second, whose
+/// summary and entry stay, 3 of each put, and 27 of the switch.
 const OPERATIONS: u32 = 103;
 
-// How many writes it makes to an EEPROM, where no sector is begun and none switched.
+/// How many writes it makes to an EEPROM, where no sector is begun and none switched.
 const WRITES: u32 = 73;
 
-// What the image says: the generation's number, the status of its event, and the byte of block 0 where that was put.
+/// What the image says: the generation's number, the status of its event, and the byte of block 0 where that was put.
 #[derive(Clone, Copy, Debug, PartialEq)]
 struct Told {
     number: u32,
@@ -80,7 +80,7 @@ struct Told {
 }
 
 impl Told {
-    // What a blank flash says.
+    /// What a blank flash says.
     fn blank() -> Told {
         Told {
             number: 0,
@@ -89,7 +89,7 @@ impl Told {
         }
     }
 
-    // What an image of version 1 says, behind its first save.
+    /// What an image of version 1 says, behind its first save.
     fn old() -> Told {
         Told {
             number: 1,
@@ -98,7 +98,7 @@ impl Told {
         }
     }
 
-    // What it says after a call.
+    /// What it says after a call.
     fn after(self, call: Call) -> Told {
         match call {
             Call::Start => self,
@@ -114,14 +114,14 @@ impl Told {
         }
     }
 
-    // The state of the generation.
+    /// The state of the generation.
     fn state(self) -> Persist {
         let occurrences: &[u8] = if self.number == 0 { &[] } else { &[1] };
         state(&[self.status], occurrences)
     }
 }
 
-// Starts up; it tells whether that answered `Ok`, with what it has to answer.
+/// Starts up; it tells whether that answered `Ok`, with what it has to answer.
 fn starts<B: Blocks + Drop>(
     rt: &impl Abort,
     store: &mut Store<B>,
@@ -141,7 +141,7 @@ fn starts<B: Blocks + Drop>(
     }
 }
 
-// Makes a call of the job; it tells whether that answered `Ok`, with what it has to answer.
+/// Makes a call of the job; it tells whether that answered `Ok`, with what it has to answer.
 fn make<B: Blocks + Drop>(
     rt: &impl Abort,
     store: &mut Store<B>,
@@ -167,8 +167,8 @@ fn make<B: Blocks + Drop>(
     }
 }
 
-// Starts up on an image that says this, and makes the calls of a job until one fails: what stood before the last call, and what it asked
-// for.
+/// Starts up on an image that says this, and makes the calls of a job until one fails: what stood before the last call, and what it asked
+/// for.
 fn run_job<B: Blocks + Drop>(
     rt: &impl Abort,
     store: &mut Store<B>,
@@ -193,7 +193,7 @@ fn run_job<B: Blocks + Drop>(
     (before, before, true)
 }
 
-// What the store tells when it starts up.
+/// What the store tells when it starts up.
 fn read_told<B: Blocks + Drop>(
     rt: &impl Abort,
     store: &mut Store<B>,
@@ -216,8 +216,8 @@ fn read_told<B: Blocks + Drop>(
     Ok(told)
 }
 
-// Runs a job over a device that says this, with this arm, and starts up with the power on again. It tells whether each call of the job
-// answered `Ok`, and whether the arm still stands.
+/// Runs a job over a device that says this, with this arm, and starts up with the power on again. It tells whether each call of the job
+/// answered `Ok`, and whether the arm still stands.
 fn run_case<B: Blocks + Drop>(
     rt: &impl Abort,
     store: Store<B>,
@@ -238,7 +238,7 @@ fn run_case<B: Blocks + Drop>(
     Ok((done, stands))
 }
 
-// A cut, or a fault, at this operation.
+/// A cut, or a fault, at this operation.
 fn arm_at(is_cut: bool, after: u32, pattern: Pattern) -> Arm {
     if is_cut {
         Arm::Cut { after, pattern }
@@ -247,12 +247,12 @@ fn arm_at(is_cut: bool, after: u32, pattern: Pattern) -> Arm {
     }
 }
 
-// Where an operation of the job is cut, the job ends there; by a fault it goes on. Behind its last operation the arm stands.
+/// Where an operation of the job is cut, the job ends there; by a fault it goes on. Behind its last operation the arm stands.
 fn assert_ended(rt: &impl Abort, ended: (bool, bool), made: Arm, is_cut: bool, last: bool) {
     assert!(rt; ended == (last || !is_cut, last), "{made:?}");
 }
 
-// The patterns, and whether an operation is cut by each, or fails.
+/// The patterns, and whether an operation is cut by each, or fails.
 static KINDS: [(Pattern, bool); 8] = [
     (Pattern::Nothing, true),
     (Pattern::All, true),
@@ -278,7 +278,7 @@ fn each_operation_is_cut_and_fails(rt: HostRuntime) -> Result<(), Fail> {
     Ok(())
 }
 
-// The start-up that writes the mark anew, and the saves that write a commit of version 2 beside one of version 1.
+/// The start-up that writes the mark anew, and the saves that write a commit of version 2 beside one of version 1.
 #[test]
 fn each_operation_on_an_image_of_version_1_is_cut_and_fails(rt: HostRuntime) -> Result<(), Fail> {
     let config = configured(&rt, 1, 1, 1);

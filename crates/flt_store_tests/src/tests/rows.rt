@@ -1,4 +1,4 @@
-// Worked examples.
+//! Worked examples.
 ghost use Rattle.std.specs.Prelude.{◌≡◌, IfOk, vec_len};
 ghost use Rattle.flt_nvm.specs.Driver.{table_of};
 ghost use Rattle.flt_image.specs.Table.{block_table};
@@ -7,7 +7,7 @@ ghost use Rattle.flt_store_tests.specs.Room.{IsRoomy, SameRoom};
 use super::steps::{Step, play, play_on};
 use super::*;
 
-// A page of a flash, or a blank one where there is none.
+/// A page of a flash, or a blank one where there is none.
 fn page_of(flash: &FlashMem, sector: u8, page: u16) -> [u8; 32] {
     if sector > 1 || page >= flash.pages() {
         return BLANK_PAGE;
@@ -15,7 +15,7 @@ fn page_of(flash: &FlashMem, sector: u8, page: u16) -> [u8; 32] {
     *flash.page(sector, page)
 }
 
-// The word on a page of sector 0.
+/// The word on a page of sector 0.
 fn word_on(flash: &FlashMem, page: u16) -> Option<Word> {
     match unseal(&page_of(flash, 0, page)) {
         None => None,
@@ -23,7 +23,7 @@ fn word_on(flash: &FlashMem, page: u16) -> Option<Word> {
     }
 }
 
-// Whether a complete record of the block, of so many bytes, begins at this page of sector 0.
+/// Whether a complete record of the block, of so many bytes, begins at this page of sector 0.
 fn is_record(flash: &FlashMem, page: u16, block: u16, length: u16) -> bool {
     let head = Word::Head {
         block,
@@ -35,16 +35,16 @@ fn is_record(flash: &FlashMem, page: u16, block: u16, length: u16) -> bool {
     word_on(flash, page) == Some(head) && word_on(flash, end) == Some(Word::Gate { block, page })
 }
 
-// The answer of a save that the flash stops.
+/// The answer of a save that the flash stops.
 const FLASH: Result<u32, SaveFault> = Err(SaveFault::Flash);
 
-// A first save of the second state.
+/// A first save of the second state.
 const SAVED: &[Step] = &[Step::Save(1, Ok(1))];
 
-// It, and a save of the third state.
+/// It, and a save of the third state.
 const SAVED_TWICE: &[Step] = &[Step::Save(1, Ok(1)), Step::Save(2, Ok(2))];
 
-// It, and such a save that fails at each of its three tries.
+/// It, and such a save that fails at each of its three tries.
 const SAVED_AND_FAILED: &[Step] = &[
     Step::Save(1, Ok(1)),
     Step::Fault(1),
@@ -53,16 +53,16 @@ const SAVED_AND_FAILED: &[Step] = &[
     Step::Save(2, FLASH),
 ];
 
-// The records of the states of the first save, and of the second copy of the second commit.
+/// The records of the states of the first save, and of the second copy of the second commit.
 const OLD_STATES: &[Record] = &[(8, 32, 64, true), (30, 17, 10, true)];
 
-// A page, a block, a length, and whether a complete record of that begins there.
+/// A page, a block, a length, and whether a complete record of that begins there.
 type Record = (u16, u16, u16, bool);
 
-// Steps on a blank flash, further ones, and what stands on sector 0 behind them.
+/// Steps on a blank flash, further ones, and what stands on sector 0 behind them.
 type Row = (&'static [Step], &'static [Step], &'static [Record]);
 
-// A flash after a start-up and the first save of an event that failed.
+/// A flash after a start-up and the first save of an event that failed.
 pub(super) fn saved_flash(rt: &impl Abort, alloc: Global) -> Result<FlashMem, Fail> {
     let config = configured(rt, 1, 0, 1);
     play(
@@ -75,7 +75,7 @@ pub(super) fn saved_flash(rt: &impl Abort, alloc: Global) -> Result<FlashMem, Fa
     )
 }
 
-// The records of the first save: a page, a block and a length.
+/// The records of the first save: a page, a block and a length.
 static FIRST_SAVE: [(u16, u16, u16); 6] = [
     (2, 8, 8),
     (5, 24, 32),
@@ -95,12 +95,12 @@ fn the_first_save_writes_each_block_once(rt: HostRuntime) -> Result<(), Fail> {
     Ok(())
 }
 
-// Rows of one event, of the states at first, of a failure, and of a pass behind it. The commit decides: where its first gate is cut, the
-// first generation or the new one is left by what takes effect, and the third fault is answered. Where the first copy of the commit can't
-// be read, a start-up and a save after a failed one go by the second, and write the first anew where that can't be read again. A
-// start-up reads neither page of the states of the generation before, so mutes of them stand; where the second copy of the commit can't
-// be read, it is written. The second save of a state that stays makes 6 programs, and of one in which each block changes 18; a save
-// after a failed one compares with what stands, and makes 6 again.
+/// Rows of one event, of the states at first, of a failure, and of a pass behind it. The commit decides: where its first gate is cut, the
+/// first generation or the new one is left by what takes effect, and the third fault is answered. Where the first copy of the commit can't
+/// be read, a start-up and a save after a failed one go by the second, and write the first anew where that can't be read again. A
+/// start-up reads neither page of the states of the generation before, so mutes of them stand; where the second copy of the commit can't
+/// be read, it is written. The second save of a state that stays makes 6 programs, and of one in which each block changes 18; a save
+/// after a failed one compares with what stands, and makes 6 again.
 static ROWS: [Row; 18] = [
     // The programs of the first save.
     (
@@ -235,7 +235,7 @@ static ROWS: [Row; 18] = [
     ),
 ];
 
-// Whether the flash has these records, and has not those that are not to stand.
+/// Whether the flash has these records, and has not those that are not to stand.
 fn are_records(flash: &FlashMem, records: &[Record]) -> bool {
     for (page, block, length, stands) in records {
         if is_record(flash, *page, *block, *length) != *stands {
@@ -245,7 +245,7 @@ fn are_records(flash: &FlashMem, records: &[Record]) -> bool {
     true
 }
 
-// Each row goes as it says.
+/// Each row goes as it says.
 fn play_all(
     rt: &impl Abort,
     alloc: Global,
@@ -267,15 +267,15 @@ fn saves_of_one_event_go_as_written(rt: HostRuntime) -> Result<(), Fail> {
     play_all(&rt, rt.alloc(), &config, &states, &ROWS)
 }
 
-// A save of the first state, and one of the second that is cut.
+/// A save of the first state, and one of the second that is cut.
 const SECOND_CUT: &[Step] = &[
     Step::Save(0, Ok(1)),
     Step::Cut(21, Pattern::Nothing),
     Step::Save(1, FLASH),
 ];
 
-// Rows of two events. The second save is cut at the head of the second copy of its commit. Where the first copy is muted then, both
-// lives after it have the generation before.
+/// Rows of two events. The second save is cut at the head of the second copy of its commit. Where the first copy is muted then, both
+/// lives after it have the generation before.
 static ROWS_OF_TWO: [Row; 2] = [
     (
         SECOND_CUT,
@@ -299,7 +299,7 @@ fn a_muted_first_copy_gives_the_generation_before(rt: HostRuntime) -> Result<(),
     play_all(&rt, rt.alloc(), &config, &states, &ROWS_OF_TWO)
 }
 
-// The pages of both sectors.
+/// The pages of both sectors.
 pub(super) fn image_of(alloc: Global, flash: &FlashMem) -> Result<Vec<[u8; 32]>, AllocError>
     ensures { IfOk result (λ image. vec_len image ≡ 128) }
 {
@@ -311,7 +311,7 @@ pub(super) fn image_of(alloc: Global, flash: &FlashMem) -> Result<Vec<[u8; 32]>,
     Ok(image)
 }
 
-// Puts a page into an image that has it.
+/// Puts a page into an image that has it.
 pub(super) fn put_page(image: &mut Vec<[u8; 32]>, page: usize, bytes: [u8; 32])
     ensures { vec_len image.new ≡ vec_len image.old }
 {
@@ -320,14 +320,14 @@ pub(super) fn put_page(image: &mut Vec<[u8; 32]>, page: usize, bytes: [u8; 32])
     }
 }
 
-// A flash after the first save, of which the gate of the first copy of the commit is 32 bytes 00, so that this copy is missing.
+/// A flash after the first save, of which the gate of the first copy of the commit is 32 bytes 00, so that this copy is missing.
 fn without_first_copy(rt: &impl Abort, alloc: Global) -> Result<FlashMem, Fail> {
     let mut image = image_of(alloc, &saved_flash(rt, alloc)?)?;
     put_page(&mut image, 19, [0; 32]);
     Ok(FlashMem::of(alloc, image, 2)?)
 }
 
-// Makes the first copy of the commit equal to the second, which has 10 bytes.
+/// Makes the first copy of the commit equal to the second, which has 10 bytes.
 fn repair_first_copy<B: Blocks + Drop>(nvm: &mut Nvm<B>) -> Result<(), Fail>
     requires { table_of nvm.old ≡ block_table }
     ensures { table_of nvm.new ≡ table_of nvm.old }
@@ -339,7 +339,7 @@ fn repair_first_copy<B: Blocks + Drop>(nvm: &mut Nvm<B>) -> Result<(), Fail>
     }
 }
 
-// Reads the commit from its second copy while the first is missing, and from the first once that was repaired.
+/// Reads the commit from its second copy while the first is missing, and from the first once that was repaired.
 fn read_and_repair<B: Blocks + Drop>(rt: &impl Abort, nvm: &mut Nvm<B>) -> Result<(), Fail>
     requires { table_of nvm.old ≡ block_table }
 {
@@ -361,7 +361,7 @@ fn a_missing_first_copy_is_repaired(rt: HostRuntime) -> Result<(), Fail> {
     read_and_repair(&rt, &mut blocks_over(rt.alloc(), flash, &config)?)
 }
 
-// Whether a start-up answers that it can tell nothing.
+/// Whether a start-up answers that it can tell nothing.
 fn is_dark<B: Blocks + Drop>(store: &mut Store<B>, config: &ValidConfig) -> bool
     requires { IsRoomy config.now store.old }
     ensures { SameRoom store.old store.new }
@@ -369,7 +369,7 @@ fn is_dark<B: Blocks + Drop>(store: &mut Store<B>, config: &ValidConfig) -> bool
     matches!(start(store, config), Err(StartFault::Flash))
 }
 
-// With the second copy muted a start-up can tell nothing, and the next one restores by it.
+/// With the second copy muted a start-up can tell nothing, and the next one restores by it.
 #[test]
 fn a_missing_first_copy_beside_a_muted_one_is_dark(rt: HostRuntime) -> Result<(), Fail> {
     let config = configured(&rt, 1, 0, 1);
@@ -385,7 +385,7 @@ fn a_missing_first_copy_beside_a_muted_one_is_dark(rt: HostRuntime) -> Result<()
     play_on(&rt, &mut store, &config, (1, failed()), &[], &[])
 }
 
-// Gives a page of a commit the number 2^32 - 1.
+/// Gives a page of a commit the number 2^32 - 1.
 fn name_last(image: &mut Vec<[u8; 32]>, page: usize)
     ensures { vec_len image.new ≡ vec_len image.old }
 {
@@ -398,7 +398,7 @@ fn name_last(image: &mut Vec<[u8; 32]>, page: usize)
     }
 }
 
-// A save behind the last generation, and the life after it.
+/// A save behind the last generation, and the life after it.
 static LAST: [Step; 2] = [
     Step::Save(0, Err(SaveFault::Spent)),
     Step::Life(u32::MAX, 0),
@@ -427,7 +427,7 @@ fn an_application_block_is_missing_until_it_is_put(rt: HostRuntime) -> Result<()
     Ok(())
 }
 
-// The head of a record of 26 bytes under this number, at this page.
+/// The head of a record of 26 bytes under this number, at this page.
 fn old_head(number: u8, page: u8) -> [u8; 32] {
     let mut bytes = [0; 32];
     bytes[0] = 0x48;
@@ -441,7 +441,7 @@ fn old_head(number: u8, page: u8) -> [u8; 32] {
     bytes
 }
 
-// The commit of the first save in version 1: a page of plain bytes.
+/// The commit of the first save in version 1: a page of plain bytes.
 fn old_commit() -> [u8; 32] {
     let mut bytes = [0xFF; 32];
     bytes[0] = 1;
@@ -455,7 +455,7 @@ fn old_commit() -> [u8; 32] {
     bytes
 }
 
-// A flash after the first save whose mark and copies of the commit are of version 1.
+/// A flash after the first save whose mark and copies of the commit are of version 1.
 pub(super) fn of_version_1(rt: &impl Abort, alloc: Global) -> Result<FlashMem, Fail> {
     let mut image = image_of(alloc, &saved_flash(rt, alloc)?)?;
     let mut mark = [0xFF; 32];
@@ -473,8 +473,8 @@ pub(super) fn of_version_1(rt: &impl Abort, alloc: Global) -> Result<FlashMem, F
     Ok(FlashMem::of(alloc, image, 2)?)
 }
 
-// A start-up writes the mark anew; the save behind it is cut at its first program, or at the fourth, where the first copy of its
-// commit stands in version 2 and the second still names the generation before in version 1.
+/// A start-up writes the mark anew; the save behind it is cut at its first program, or at the fourth, where the first copy of its
+/// commit stands in version 2 and the second still names the generation before in version 1.
 static OLD_ROWS: [[Step; 4]; 2] = [
     [
         Step::Cut(1, Pattern::Nothing),

@@ -1,11 +1,11 @@
-// Worked examples as lists of steps over a list of states.
+//! Worked examples as lists of steps over a list of states.
 ghost use Rattle.std.specs.Prelude.{IfOk, IsTrue, OnOk};
 ghost use Rattle.flt_store.specs.Store.{IsAlive};
 ghost use Rattle.flt_store_tests.specs.Room.{IsRoomy, SameRoom};
 
 use super::*;
 
-// A step of a worked example. A state is told by its place in the example's list.
+/// A step of a worked example. A state is told by its place in the example's list.
 #[derive(Clone, Copy)]
 pub(super) enum Step {
     // The program or erase of this number fails, and takes no effect.
@@ -29,7 +29,7 @@ fn state_at(states: &[Persist], place: usize) -> Result<&Persist, Fail> {
     }
 }
 
-// Turns the power on again and starts up, and tells whether that answers this number and state.
+/// Turns the power on again and starts up, and tells whether that answers this number and state.
 fn lives<B: Blocks + Drop>(
     store: &mut Store<B>,
     config: &ValidConfig,
@@ -47,7 +47,7 @@ fn lives<B: Blocks + Drop>(
     }
 }
 
-// Takes a step, and tells whether it goes as it says.
+/// Takes a step, and tells whether it goes as it says.
 fn take<B: Blocks + Drop>(
     rt: &impl Abort,
     store: &mut Store<B>,
@@ -85,7 +85,7 @@ fn take<B: Blocks + Drop>(
     Ok(true)
 }
 
-// Takes the steps one after the other, each of which has to go as it says.
+/// Takes the steps one after the other, each of which has to go as it says.
 fn take_all<B: Blocks + Drop>(
     rt: &impl Abort,
     store: &mut Store<B>,
@@ -104,7 +104,7 @@ fn take_all<B: Blocks + Drop>(
     Ok(())
 }
 
-// Starts up, which has to answer this number and state, and takes the steps.
+/// Starts up, which has to answer this number and state, and takes the steps.
 pub(super) fn play_on<B: Blocks + Drop>(
     rt: &impl Abort,
     store: &mut Store<B>,
@@ -121,7 +121,7 @@ pub(super) fn play_on<B: Blocks + Drop>(
     take_all(rt, store, config, states, steps)
 }
 
-// Takes the first steps and then the rest on a store over a blank flash; the flash comes back.
+/// Takes the first steps and then the rest on a store over a blank flash; the flash comes back.
 pub(super) fn play(
     rt: &impl Abort,
     alloc: Global,

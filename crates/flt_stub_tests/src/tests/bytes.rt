@@ -19,12 +19,12 @@ use flt_nvm::{BlockCfg, Kind};
 use std::process::Abort;
 use std::test::Fail;
 
-// Each note names another event.
+/// Each note names another event.
 static SUMMARY: [u8; 32] = [
     1, 1, 1, 0, 0, 1, 0, 3, 0, 0, 0, 2, 0, 0, 0, 0, 0, 0, 0, 0, 0, 0, 0, 0, 0, 0, 0, 0, 0, 0, 0, 0,
 ];
 
-// No entry, no note and no overflow.
+/// No entry, no note and no overflow.
 static NO_SUMMARY: [u8; 32] = [
     1, 0, 0, 0, 0xFF, 0xFF, 0xFF, 0xFF, 0xFF, 0xFF, 0xFF, 0xFF, 0, 0, 0, 0, 0, 0, 0, 0, 0, 0, 0, 0,
     0, 0, 0, 0, 0, 0, 0, 0,
@@ -48,7 +48,7 @@ static NO_ENTRY: [u8; 68] = [
     0, 0, 0, 0, 0, 0,
 ];
 
-// The summary at index 0, the states at 1, the first entry at 1 and the second at 0.
+/// The summary at index 0, the states at 1, the first entry at 1 and the second at 0.
 static COMMIT: [u8; 10] = [2, 1, 2, 3, 4, 0x22, 0, 0, 0, 0];
 
 static OLD_COMMIT: [u8; 26] = [
@@ -75,7 +75,7 @@ fn event(dtc: u32, indicator: bool, dids: ArrayVec<DidUse, DIDS>) -> EventCfg {
     }
 }
 
-// Four events, the first with frames of three bytes, the second with a warning indicator; two entries.
+/// Four events, the first with frames of three bytes, the second with a warning indicator; two entries.
 fn config() -> Config {
     let mut dids = ArrayVec::new();
     dids.push(DidUse {
@@ -100,7 +100,7 @@ fn config() -> Config {
     }
 }
 
-// The configuration, which is valid.
+/// The configuration, which is valid.
 fn valid(rt: &impl Abort) -> ValidConfig {
     check(config()).expect(rt, "the configuration is valid")
 }
@@ -131,7 +131,7 @@ fn never_tested() -> EventState {
     }
 }
 
-// A state of one entry, of two where the second is of this event.
+/// A state of one entry, of two where the second is of this event.
 fn state(second: Option<u16>) -> Persist {
     let mut events = ArrayVec::new();
     events.push(EventState {
@@ -238,13 +238,13 @@ fn blocks_taken_in_order_give_the_state(rt: HostRuntime) {
     assert!(&rt; into == state(None));
 }
 
-// Whether these bytes of a block are refused, and leave the state of one entry, or of two, as it was.
+/// Whether these bytes of a block are refused, and leave the state of one entry, or of two, as it was.
 fn is_refused(config: &ValidConfig, second: Option<u16>, id: u16, bytes: &[u8]) -> bool {
     let mut after = state(second);
     !get(config, id, bytes, &mut after) && after == state(second)
 }
 
-// The byte of a block that is another one.
+/// The byte of a block that is another one.
 static ODD_BYTES: [(u16, usize, u8); 21] = [
     (3, 0, 2), // another version
     (3, 1, 2), // an overflow flag that is none
@@ -281,7 +281,7 @@ fn bytes_of_no_block_that_fits_are_refused(rt: HostRuntime) {
     }
 }
 
-// Whether these bytes of a block are taken into the state of two entries.
+/// Whether these bytes of a block are taken into the state of two entries.
 fn is_taken(config: &ValidConfig, id: u16, bytes: &[u8]) -> bool {
     get(config, id, bytes, &mut state(Some(1)))
 }
@@ -296,7 +296,7 @@ fn counts_and_second_entries_are_refused(rt: HostRuntime) {
     assert!(&rt; !get(&valid, 9, &ENTRY, &mut after) && get(&valid, 8, &ENTRY, &mut after));
 }
 
-// Whether a block of the state of two entries is taken, and neither with a byte less nor with a byte more.
+/// Whether a block of the state of two entries is taken, and neither with a byte less nor with a byte more.
 fn takes_one_length(config: &ValidConfig, id: u16) -> bool {
     let mut shorter = put(config, &state(Some(1)), id);
     let taken = is_taken(config, id, &shorter);
@@ -316,7 +316,7 @@ fn lengths_are_refused(rt: HostRuntime) {
     }
 }
 
-// The blocks of the first state, or of one that differs from it in its summary alone.
+/// The blocks of the first state, or of one that differs from it in its summary alone.
 fn blocks_of(config: &ValidConfig, overflow: bool) -> StateBlocks {
     let mut state = initial(config);
     state.overflow = overflow;
@@ -327,7 +327,7 @@ fn blocks_of(config: &ValidConfig, overflow: bool) -> StateBlocks {
     blocks
 }
 
-// Whether a commit can follow.
+/// Whether a commit can follow.
 fn can_follow(current: &Option<Commit>) -> bool
     ensures { IsTrue result → (number_in current.now < last_number) }
 {
@@ -337,7 +337,7 @@ fn can_follow(current: &Option<Commit>) -> bool
     }
 }
 
-// Whether this is the commit of this number.
+/// Whether this is the commit of this number.
 fn is_of(commit: Option<Commit>, generation: u32) -> bool {
     match commit {
         None => false,
@@ -345,7 +345,7 @@ fn is_of(commit: Option<Commit>, generation: u32) -> bool {
     }
 }
 
-// The number of the commit after this one, and the first byte of its bits.
+/// The number of the commit after this one, and the first byte of its bits.
 fn after(
     config: &ValidConfig,
     current: Option<Commit>,
@@ -372,7 +372,7 @@ fn a_commit_has_its_successor(rt: HostRuntime) {
     assert!(&rt; after(&valid, commit, &before, &blocks) == Some((0x01020305, 0x23)));
 }
 
-// The byte of a commit that is another one.
+/// The byte of a commit that is another one.
 static ODD_COMMITS: [(usize, u8); 8] = [
     (0, 0),
     (0, 1),
@@ -384,7 +384,7 @@ static ODD_COMMITS: [(usize, u8); 8] = [
     (9, 2),
 ];
 
-// The same of a commit of version 1.
+/// The same of a commit of version 1.
 static ODD_OLD_COMMITS: [(usize, u8); 8] = [
     (0, 2),
     (5, 2),
@@ -396,7 +396,7 @@ static ODD_OLD_COMMITS: [(usize, u8); 8] = [
     (25, 0),
 ];
 
-// Whether each of these changes of a commit is refused.
+/// Whether each of these changes of a commit is refused.
 fn are_no_commits(config: &ValidConfig, commit: &[u8], odd: &[(usize, u8)]) -> bool {
     for odd in odd {
         if get_commit(config, &changed(commit, odd.0, odd.1)).is_some() {
@@ -406,7 +406,7 @@ fn are_no_commits(config: &ValidConfig, commit: &[u8], odd: &[(usize, u8)]) -> b
     true
 }
 
-// Whether the bytes are those of no commit.
+/// Whether the bytes are those of no commit.
 fn is_no_commit(config: &ValidConfig, bytes: &[u8]) -> bool {
     get_commit(config, bytes).is_none()
 }
@@ -429,7 +429,7 @@ fn commits_are_read_of_their_own_configuration(rt: HostRuntime) {
     assert!(&rt; is_no_commit(&valid, &longer));
 }
 
-// The commit of either version.
+/// The commit of either version.
 fn commit() -> Commit
     ensures { HasNoLater result }
 {
@@ -456,10 +456,10 @@ fn commits_of_both_versions_are_read(rt: HostRuntime) {
     assert!(&rt; is_no_commit(&valid, &OLD_COMMIT[..25]));
 }
 
-// The byte of a mark that is another one.
+/// The byte of a mark that is another one.
 static ODD_MARKS: [(usize, u8); 4] = [(0, 0), (0, 3), (6, 1), (7, 1)];
 
-// Whether the bytes are those of no mark.
+/// Whether the bytes are those of no mark.
 fn is_no_mark(bytes: &[u8]) -> bool {
     get_mark(bytes).is_none()
 }

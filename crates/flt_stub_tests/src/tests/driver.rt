@@ -1,4 +1,4 @@
-// A user of any driver, over the driver in memory.
+//! A user of any driver, over the driver in memory.
 ghost use Rattle.std.specs.Prelude.{◌≡◌, Contains};
 
 use flt_flash::{Arm, BlockFault, Blocks, Found, Pattern};
@@ -6,7 +6,7 @@ use flt_stub::BlocksMem;
 use std::process::Abort;
 use std::test::Fail;
 
-// Whether the driver finds this in block 8, with these bytes at its front, and tells the same without a read.
+/// Whether the driver finds this in block 8, with these bytes at its front, and tells the same without a read.
 fn finds<B: Blocks>(driver: &mut B, wanted: Found, front: &[u8]) -> bool
     requires { Contains (B.state driver.old).numbers 8 }
     ensures { (B.state driver.new).numbers ≡ (B.state driver.old).numbers }
@@ -18,7 +18,7 @@ fn finds<B: Blocks>(driver: &mut B, wanted: Found, front: &[u8]) -> bool
     }
 }
 
-// What any driver answers of block 8, which was never written, and then of its bytes.
+/// What any driver answers of block 8, which was never written, and then of its bytes.
 fn write_first<B: Blocks>(rt: &impl Abort, driver: &mut B) -> Result<(), BlockFault>
     requires { Contains (B.state driver.old).numbers 8 }
     ensures { (B.state driver.new).numbers ≡ (B.state driver.old).numbers }
@@ -31,7 +31,7 @@ fn write_first<B: Blocks>(rt: &impl Abort, driver: &mut B) -> Result<(), BlockFa
     Ok(())
 }
 
-// What it answers of them with the power on again, and of the block made invalid.
+/// What it answers of them with the power on again, and of the block made invalid.
 fn drive<B: Blocks>(rt: &impl Abort, driver: &mut B) -> Result<(), BlockFault>
     requires { Contains (B.state driver.old).numbers 8 }
 {

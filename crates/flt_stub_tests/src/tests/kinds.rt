@@ -1,4 +1,4 @@
-// Blocks of each kind over the driver in memory.
+//! Blocks of each kind over the driver in memory.
 ghost use Rattle.std.specs.Prelude.{◌≡◌, ◌≤◌};
 ghost use Rattle.flt_nvm.specs.Driver.{table_of};
 ghost use Rattle.flt_nvm.specs.Table.{HasIndex, IsRedundant};
@@ -32,7 +32,7 @@ fn found(length: usize, copy: u8) -> Got {
     Got::Bytes { length, copy }
 }
 
-// Whether a read of a block finds this, with these bytes at its front.
+/// Whether a read of a block finds this, with these bytes at its front.
 fn reads(nvm: &mut Nvm<BlocksMem>, id: u16, index: u8, wanted: Got, front: &[u8]) -> bool
     requires { HasIndex (table_of nvm.old) id index }
     ensures { table_of nvm.new ≡ table_of nvm.old }
@@ -41,7 +41,7 @@ fn reads(nvm: &mut Nvm<BlocksMem>, id: u16, index: u8, wanted: Got, front: &[u8]
     nvm.read(id, index, &mut out) == Ok(wanted) && out.starts_with(front)
 }
 
-// Whether a read of one copy finds this.
+/// Whether a read of one copy finds this.
 fn reads_copy(nvm: &mut Nvm<BlocksMem>, id: u16, copy: u8, wanted: Got) -> bool
     requires redundant { IsRedundant (table_of nvm.old) id }
     requires least { 1 ≤ copy }

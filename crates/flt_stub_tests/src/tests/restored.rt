@@ -1,4 +1,4 @@
-// What is restored of an image, over the driver in memory.
+//! What is restored of an image, over the driver in memory.
 ghost use Rattle.std.specs.Prelude.{◌≡◌, IfOk};
 ghost use Rattle.std.specs.List.{range_with_len};
 ghost use Rattle.flt_stub.specs.Memory.{state_of};
@@ -35,7 +35,7 @@ static NO_ENTRY: [u8; 68] = [
     0, 0, 0, 0, 0, 0,
 ];
 
-// No event, one entry, one application block.
+/// No event, one entry, one application block.
 fn config() -> Config {
     Config {
         id: 0x0102,
@@ -59,12 +59,12 @@ fn restored(
     Ok(restore(&mut nvm, config, out))
 }
 
-// The configuration, which is valid.
+/// The configuration, which is valid.
 fn valid(rt: &impl Abort) -> ValidConfig {
     check(config()).expect(rt, "the configuration is valid")
 }
 
-// Whether the image holds the first generation, and its mark is due.
+/// Whether the image holds the first generation, and its mark is due.
 fn is_blank(found: &Result<Restored, StartFault>) -> bool {
     match found {
         Ok(
@@ -87,7 +87,7 @@ fn a_blank_image_holds_the_first_generation(rt: HostRuntime) -> Result<(), Fail>
     Ok(())
 }
 
-// The blocks of generation 7, under a mark of version 1. The first copy of the commit is missing.
+/// The blocks of generation 7, under a mark of version 1. The first copy of the commit is missing.
 fn saved(alloc: Global) -> Result<BlocksMem, Fail>
     ensures { IfOk result (λ driver. (state_of driver).numbers ≡ range_with_len 0 832) }
 {
@@ -99,7 +99,7 @@ fn saved(alloc: Global) -> Result<BlocksMem, Fail>
     Ok(driver)
 }
 
-// Whether the commit was read from its second copy, and a mark is due.
+/// Whether the commit was read from its second copy, and a mark is due.
 fn is_by_second_copy(found: &Result<Restored, StartFault>) -> bool {
     match found {
         Ok(
@@ -122,7 +122,7 @@ fn an_image_is_restored_by_its_second_copy(rt: HostRuntime) -> Result<(), Fail> 
     Ok(())
 }
 
-// Whether a block is told to be damaged.
+/// Whether a block is told to be damaged.
 fn is_damaged(found: &Result<Restored, StartFault>, id: u16) -> bool {
     match found {
         Err(fault) => *fault == StartFault::Damaged(Place::Block { id }),

@@ -1,4 +1,4 @@
-// Two lanes of a watch, held by a gate so that the one or the other makes its call first.
+//! Two lanes of a watch, held by a gate so that the one or the other makes its call first.
 use super::rows::watched;
 use flt_lane::Gate;
 use std::sync::Wait;

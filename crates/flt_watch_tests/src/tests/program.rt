@@ -1,4 +1,4 @@
-// The whole program, which does what its words ask.
+//! The whole program, which does what its words ask.
 use super::rows::{ONE, ONE_TOLD, table};
 use flt_did::DidTable;
 use flt_ea::{Eeprom, EepromMem};

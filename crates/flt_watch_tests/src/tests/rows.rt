@@ -1,4 +1,4 @@
-// Worked scripts, with what is written of them, and the scripts that a watch does not make.
+//! Worked scripts, with what is written of them, and the scripts that a watch does not make.
 ghost use Rattle.flt_notify.specs.Table.{IsAtZero};
 
 use flt_did::DidTable;

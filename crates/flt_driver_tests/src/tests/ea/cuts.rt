@@ -1,17 +1,17 @@
-// A fixed job, each of whose writes is cut or fails by each pattern: each block holds then what it held or what was asked.
+//! A fixed job, each of whose writes is cut or fails by each pattern: each block holds then what it held or what was asked.
 ghost use Rattle.flt_flash.specs.State.{CanArm};
 
 use super::*;
 use crate::tests::job::run_armed;
 
-// The units of the device.
+/// The units of the device.
 const UNITS: u16 = 20;
 
-// How many writes the job makes: those of seven records.
+/// How many writes the job makes: those of seven records.
 const OPERATIONS: u32 = 22;
 
-// Runs the job over a blank device with this arm, and reads the blocks with the power on again, a second time where the arm
-// made that fail. It tells whether all of the job was made.
+/// Runs the job over a blank device with this arm, and reads the blocks with the power on again, a second time where the arm
+/// made that fail. It tells whether all of the job was made.
 fn run_case(rt: &impl Abort, alloc: Global, arm: Arm) -> Result<bool, Fail>
     requires { CanArm arm }
 {

@@ -1,23 +1,23 @@
-// Worked rows of the driver.
+//! Worked rows of the driver.
 ghost use Rattle.std.specs.Prelude.{◌≡◌, ◌<◌, ◌≤◌, IfOk, vec_len};
 ghost use Rattle.flt_ea.specs.Gate.{IsGate};
 
 use super::*;
 
-// The power fails at the first write of a block's third record.
+/// The power fails at the first write of a block's third record.
 const CUT: Arm = Arm::Cut {
     after: 1,
     pattern: Pattern::Tail,
 };
 
-// The unit of the second gate of block 8.
+/// The unit of the second gate of block 8.
 const SECOND_GATE: Arm = Arm::Mute {
     sector: 0,
     page: 5,
     times: 1,
 };
 
-// Takes the steps of a row on a blank device, which comes back.
+/// Takes the steps of a row on a blank device, which comes back.
 fn play_on_blank(
     rt: &impl Abort,
     alloc: Global,
@@ -27,7 +27,7 @@ fn play_on_blank(
     play_on(rt, alloc, EepromMem::blank(alloc, 20, 2)?, row, steps)
 }
 
-// The mount reads both gates of each block.
+/// The mount reads both gates of each block.
 #[test]
 fn a_block_is_written_and_made_invalid(rt: HostRuntime) -> Result<(), Fail> {
     let device = play_on_blank(&rt, rt.alloc(), "written", WRITTEN)?;
@@ -62,7 +62,7 @@ fn a_muted_unit_fails_a_mount(rt: HostRuntime) -> Result<(), Fail> {
     Ok(())
 }
 
-// Twenty blank units but for the first one and the sixth.
+/// Twenty blank units but for the first one and the sixth.
 fn image_with(alloc: Global, first: [u8; 32], sixth: [u8; 32]) -> Result<Vec<[u8; 32]>, AllocError>
     ensures { IfOk result (λ image. vec_len image ≡ 20) }
 {
@@ -72,7 +72,7 @@ fn image_with(alloc: Global, first: [u8; 32], sixth: [u8; 32]) -> Result<Vec<[u8
     Ok(image)
 }
 
-// The unit of a gate of one byte.
+/// The unit of a gate of one byte.
 fn gate(block: u16, sequence: u32) -> [u8; 32]
     requires { 1 ≤ sequence }
 {
@@ -84,7 +84,7 @@ fn gate(block: u16, sequence: u32) -> [u8; 32]
     }))
 }
 
-// Takes steps over these units.
+/// Takes steps over these units.
 fn play_with(
     rt: &impl Abort,
     alloc: Global,
@@ -98,7 +98,7 @@ fn play_with(
     Ok(())
 }
 
-// A mount of a damaged unit of block 8.
+/// A mount of a damaged unit of block 8.
 static FIRST_DAMAGED: [Step; 1] = [Step::Mount(Err(BlockFault::Damaged { sector: 0, page: 0 }))];
 
 static SECOND_DAMAGED: [Step; 1] = [Step::Mount(Err(BlockFault::Damaged { sector: 1, page: 0 }))];
@@ -125,7 +125,7 @@ fn units_that_no_driver_writes_are_damage(rt: HostRuntime) -> Result<(), Fail> {
     )
 }
 
-// Block 8 can't be written any more, and block 9 can.
+/// Block 8 can't be written any more, and block 9 can.
 static STUCK: [Step; 7] = [
     Step::Read(8, Ok(Found::Bytes(1)), 0xff),
     Step::Spent(true),

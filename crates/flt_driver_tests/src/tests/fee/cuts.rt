@@ -1,16 +1,16 @@
-// A fixed job, each of whose programs and erases is cut or fails by each pattern: what stands then is what the definition says.
+//! A fixed job, each of whose programs and erases is cut or fails by each pattern: what stands then is what the definition says.
 ghost use Rattle.flt_flash.specs.State.{CanArm};
 
 use super::*;
 use crate::tests::job::{Held, held_of, run_armed};
 
-// The pages of each sector.
+/// The pages of each sector.
 const PAGES: u16 = 14;
 
-// How many programs and erases the job makes: 3 of the first mount, 22 of the seven records, and 8 and 10 of the switches.
+/// How many programs and erases the job makes: 3 of the first mount, 22 of the seven records, and 8 and 10 of the switches.
 const OPERATIONS: u32 = 43;
 
-// Two pages of plain bytes from one on.
+/// Two pages of plain bytes from one on.
 fn bytes_from(flash: &FlashMem, sector: u8, page: u16) -> [u8; 128] {
     let mut bytes = [0; 128];
     bytes[..32].copy_from_slice(&page_of_flash(flash, sector, page));
@@ -19,7 +19,7 @@ fn bytes_from(flash: &FlashMem, sector: u8, page: u16) -> [u8; 128] {
     bytes
 }
 
-// The number of a valid sector, by the definition.
+/// The number of a valid sector, by the definition.
 fn number(flash: &FlashMem, sector: u8) -> Option<u32> {
     match (word_at(flash, sector, 0)?, word_at(flash, sector, 1)?) {
         (Word::Start { sequence, pages }, Word::Active { sequence: active }) => {
@@ -33,7 +33,7 @@ fn number(flash: &FlashMem, sector: u8) -> Option<u32> {
     }
 }
 
-// What a block holds by the log of a sector, by the definition: its last record with a gate.
+/// What a block holds by the log of a sector, by the definition: its last record with a gate.
 fn held_in(flash: &FlashMem, sector: u8, block: u16) -> Held {
     let mut held = Held::Missing;
     let mut page: u16 = 2;
@@ -64,7 +64,7 @@ fn held_in(flash: &FlashMem, sector: u8, block: u16) -> Held {
     held
 }
 
-// What the image says of a block, by the definition.
+/// What the image says of a block, by the definition.
 fn told(flash: &FlashMem, block: u16) -> Held {
     match (number(flash, 0), number(flash, 1)) {
         (None, None) => Held::Missing,
@@ -74,8 +74,8 @@ fn told(flash: &FlashMem, block: u16) -> Held {
     }
 }
 
-// Runs the job over a blank flash with this arm, and reads the blocks with the power on again, a second time where the arm
-// made that fail. It tells whether all of the job was made.
+/// Runs the job over a blank flash with this arm, and reads the blocks with the power on again, a second time where the arm
+/// made that fail. It tells whether all of the job was made.
 fn run_case(rt: &impl Abort, alloc: Global, arm: Arm) -> Result<bool, Fail>
     requires { CanArm arm }
 {

@@ -1,4 +1,4 @@
-// What the definitions say of worked pages, and what torn programs and erases leave of a flash in memory.
+//! What the definitions say of worked pages, and what torn programs and erases leave of a flash in memory.
 ghost use Rattle.std.specs.Prelude.{◌≡◌, ◌<◌, ◌≤◌, IfOk};
 ghost use Rattle.flt_flash.specs.Image.{page_at, blank_page};
 ghost use Rattle.flt_flash.specs.Memory.{state_of};
@@ -20,7 +20,7 @@ const START: [u8; 32] = [
     0xff, 0xff, 0xff, 0xff, 0xff, 0xff, 0xff, 0xff, 0xff,
 ];
 
-// Stops the test unless the page is blank.
+/// Stops the test unless the page is blank.
 #[tactic(auto, unfolding(flt_flash::specs::Image::blank_page))]
 fn assert_blank(rt: &impl Abort, flash: &FlashMem, sector: u8, page: u16)
     requires sector { sector < 2 }
@@ -52,7 +52,7 @@ fn a_start_gate_is_sealed(rt: HostRuntime) -> Result<(), Fail> {
     Ok(())
 }
 
-// A flash of two sectors of 64 blank pages, of which the first is begun under number 1.
+/// A flash of two sectors of 64 blank pages, of which the first is begun under number 1.
 fn begun(alloc: Global) -> Result<FlashMem, Fail>
     ensures pages { IfOk result (λ flash. (state_of flash).pages ≡ 64) }
     ensures boots { IfOk result (λ flash. (state_of flash).bench.boots_left ≡ 2) }
@@ -63,7 +63,7 @@ fn begun(alloc: Global) -> Result<FlashMem, Fail>
     Ok(flash)
 }
 
-// Stops the test unless the item of sector 0 at this page is told so.
+/// Stops the test unless the item of sector 0 at this page is told so.
 fn assert_item(
     rt: &impl Abort,
     flash: &mut FlashMem,
@@ -79,7 +79,7 @@ fn assert_item(
     assert!(rt; item(flash, 0, 64, page, numbers) == wanted, "page {page}");
 }
 
-// Stops the test unless the gates of sector 0 tell this number.
+/// Stops the test unless the gates of sector 0 tell this number.
 fn assert_gates(rt: &impl Abort, flash: &mut FlashMem, wanted: Option<u32>)
     requires { (state_of flash.old).pages ≡ 64 }
     ensures { (state_of flash.new).pages ≡ 64 }
@@ -87,7 +87,7 @@ fn assert_gates(rt: &impl Abort, flash: &mut FlashMem, wanted: Option<u32>)
     assert!(rt; gates(flash, 0, 64) == Ok(wanted), "{wanted:?}");
 }
 
-// Puts the head of one byte of block 8 on page 2.
+/// Puts the head of one byte of block 8 on page 2.
 fn put_head(rt: &impl Abort, flash: &mut FlashMem) -> Result<(), FlashFailed>
     requires { (state_of flash.old).pages ≡ 64 }
     ensures pages { (state_of flash.new).pages ≡ 64 }
@@ -97,7 +97,7 @@ fn put_head(rt: &impl Abort, flash: &mut FlashMem) -> Result<(), FlashFailed>
     append_head(flash, 0, 2, 8, 1, true)
 }
 
-// Puts the byte on page 3.
+/// Puts the byte on page 3.
 fn put_piece(rt: &impl Abort, flash: &mut FlashMem) -> Result<(), FlashFailed>
     requires { (state_of flash.old).pages ≡ 64 }
     ensures { (state_of flash.new).pages ≡ 64 }
@@ -106,7 +106,7 @@ fn put_piece(rt: &impl Abort, flash: &mut FlashMem) -> Result<(), FlashFailed>
     append_piece(flash, 0, 3, &[0x07])
 }
 
-// Puts the gate on page 4.
+/// Puts the gate on page 4.
 fn put_gate(rt: &impl Abort, flash: &mut FlashMem) -> Result<(), FlashFailed>
     requires { (state_of flash.old).pages ≡ 64 }
     ensures { (state_of flash.new).pages ≡ 64 }
@@ -115,7 +115,7 @@ fn put_gate(rt: &impl Abort, flash: &mut FlashMem) -> Result<(), FlashFailed>
     append_gate(flash, 0, 4, 8, 2)
 }
 
-// Makes the sector valid.
+/// Makes the sector valid.
 fn put_active(rt: &impl Abort, flash: &mut FlashMem) -> Result<(), FlashFailed>
     requires { (state_of flash.old).pages ≡ 64 }
     ensures { (state_of flash.new).pages ≡ 64 }
@@ -124,7 +124,7 @@ fn put_active(rt: &impl Abort, flash: &mut FlashMem) -> Result<(), FlashFailed>
     activate(flash, 0, 1)
 }
 
-// Puts a record on a sector that is begun, and looks at it before and behind its gate.
+/// Puts a record on a sector that is begun, and looks at it before and behind its gate.
 fn keep(rt: &impl Abort, flash: &mut FlashMem, numbers: &Numbers) -> Result<(), FlashFailed>
     requires { (state_of flash.old).pages ≡ 64 }
     ensures { (state_of flash.new).pages ≡ 64 }
@@ -138,7 +138,7 @@ fn keep(rt: &impl Abort, flash: &mut FlashMem, numbers: &Numbers) -> Result<(), 
     Ok(())
 }
 
-// Makes a sector with such a record valid.
+/// Makes a sector with such a record valid.
 fn make_valid(rt: &impl Abort, flash: &mut FlashMem) -> Result<(), PageFault>
     requires { (state_of flash.old).pages ≡ 64 }
     ensures { (state_of flash.new).pages ≡ 64 }
@@ -161,7 +161,7 @@ fn a_record_is_kept(rt: HostRuntime) -> Result<(), Fail> {
     Ok(())
 }
 
-// Cuts the program of a head, and looks at it before the power comes back and behind that.
+/// Cuts the program of a head, and looks at it before the power comes back and behind that.
 fn tear(rt: &impl Abort, flash: &mut FlashMem, numbers: &Numbers)
     requires pages { (state_of flash.old).pages ≡ 64 }
     requires boots { (state_of flash.old).bench.boots_left ≡ 2 }

@@ -1,18 +1,18 @@
-// Worked rows of the driver.
+//! Worked rows of the driver.
 ghost use Rattle.std.specs.Prelude.{◌≡◌, ◌+◌, ◌*◌, ◌≤◌, IfOk, vec_len};
 ghost use Rattle.flt_flash.specs.Memory.{state_of as flash_state};
 ghost use Rattle.flt_code.specs.Word.{IsWord};
 
 use super::*;
 
-// The first page of plain bytes on a flash that was blank.
+/// The first page of plain bytes on a flash that was blank.
 const FIRST_BYTES: Arm = Arm::Mute {
     sector: 0,
     page: 3,
     times: 1,
 };
 
-// Rows on a blank flash, and how often each sector was erased behind them.
+/// Rows on a blank flash, and how often each sector was erased behind them.
 static ROWS: [(&str, &[Step], (u64, u64)); 3] = [
     ("a block is written and made invalid", WRITTEN, (1, 0)),
     (
@@ -56,13 +56,13 @@ fn twenty_records_fill_the_log(rt: HostRuntime) -> Result<(), Fail> {
     Ok(())
 }
 
-// The answer where two records of 6 pages leave no room for one of three.
+/// The answer where two records of 6 pages leave no room for one of three.
 const FULL: Result<(), BlockFault> = Err(BlockFault::Full {
     live: 12,
     needed: 3,
 });
 
-// Two records fill 14 pages, of which the gates have two, and then one byte more finds no room.
+/// Two records fill 14 pages, of which the gates have two, and then one byte more finds no room.
 static FILLED: [Step; 5] = [
     Step::Write(8, 128, 7, Ok(())),
     Step::Write(9, 128, 9, Ok(())),
@@ -79,14 +79,14 @@ fn a_record_without_room_is_refused(rt: HostRuntime) -> Result<(), Fail> {
     Ok(())
 }
 
-// The page of a word.
+/// The page of a word.
 fn page_of(word: Word) -> [u8; 32]
     requires { IsWord word }
 {
     seal(&put_word(&word))
 }
 
-// Two sectors of 64 pages, of which sector 0 is valid under this number.
+/// Two sectors of 64 pages, of which sector 0 is valid under this number.
 fn valid_image(alloc: Global, sequence: u32) -> Result<Vec<[u8; 32]>, AllocError>
     ensures { IfOk result (λ image. vec_len image ≡ 128) }
 {
@@ -99,7 +99,7 @@ fn valid_image(alloc: Global, sequence: u32) -> Result<Vec<[u8; 32]>, AllocError
     Ok(image)
 }
 
-// Such sectors under the last number, with a log that is full of records that make block 8 invalid.
+/// Such sectors under the last number, with a log that is full of records that make block 8 invalid.
 fn spent_image(alloc: Global) -> Result<Vec<[u8; 32]>, AllocError>
     ensures { IfOk result (λ image. vec_len image ≡ 128) }
 {
@@ -117,7 +117,7 @@ fn spent_image(alloc: Global) -> Result<Vec<[u8; 32]>, AllocError>
     Ok(image)
 }
 
-// More than the last sequence number allows.
+/// More than the last sequence number allows.
 static OVERSPENT: [Step; 5] = [
     Step::Read(8, Ok(Found::Invalid), UNREAD),
     Step::Write(9, 1, 1, Err(BlockFault::SequenceSpent)),
@@ -133,12 +133,12 @@ fn a_full_log_under_the_last_number_is_spent(rt: HostRuntime) -> Result<(), Fail
     Ok(())
 }
 
-// The gate with which a log begins, and so its damage.
+/// The gate with which a log begins, and so its damage.
 const GATE: Word = Word::Gate { block: 8, page: 2 };
 
 const DAMAGED: BlockFault = BlockFault::Damaged { sector: 0, page: 2 };
 
-// Such sectors, with a log that begins with a gate.
+/// Such sectors, with a log that begins with a gate.
 fn damaged_image(alloc: Global) -> Result<Vec<[u8; 32]>, AllocError>
     ensures { IfOk result (λ image. vec_len image ≡ 128) }
 {
@@ -147,7 +147,7 @@ fn damaged_image(alloc: Global) -> Result<Vec<[u8; 32]>, AllocError>
     Ok(image)
 }
 
-// Each call that mounts answers the place of the damage.
+/// Each call that mounts answers the place of the damage.
 static MET: [Step; 4] = [
     Step::Mount(Err(DAMAGED)),
     Step::Write(8, 1, 1, Err(DAMAGED)),
@@ -164,10 +164,10 @@ fn a_damaged_log_is_told_and_left(rt: HostRuntime) -> Result<(), Fail> {
     Ok(())
 }
 
-// Block 9 is written, and then block 8 until the log is full and once more.
+/// Block 9 is written, and then block 8 until the log is full and once more.
 static SWITCHED: [Step; 2] = [Step::Write(9, 1, 9, Ok(())), Step::Fill(20)];
 
-// Whether the record of one byte of a block begins at this page of sector 1.
+/// Whether the record of one byte of a block begins at this page of sector 1.
 fn is_record(flash: &FlashMem, block: u16, page: u16) -> bool {
     let head = Word::Head {
         block,

@@ -1,10 +1,10 @@
-// What the definitions tell of images that were damaged, one page at a time.
+//! What the definitions tell of images that were damaged, one page at a time.
 use super::worked::{Image, eight, image, piece, prepared, word};
 use flt_flash::BLANK_PAGE;
 use flt_pages::{Item, PageFault, blank_from, gates, item};
 use std::test::Fail;
 
-// What is put on a page.
+/// What is put on a page.
 #[derive(Clone, Copy)]
 enum Put {
     Blank,
@@ -16,7 +16,7 @@ enum Put {
     TailOf([u8; 8]),
 }
 
-// The words of the worked image: a start gate, an active gate, a head and its gate.
+/// The words of the worked image: a start gate, an active gate, a head and its gate.
 const START: [u8; 8] = [0x53, 1, 0, 0, 0, 1, 0, 8];
 
 const ACTIVE: [u8; 8] = [0x41, 1, 0, 0, 0, 1, 0, 0];
@@ -25,10 +25,10 @@ const HEAD: [u8; 8] = [0x48, 1, 0, 8, 0, 1, 0, 2];
 
 const GATE: [u8; 8] = [0x47, 1, 0, 8, 0, 2, 0, 0];
 
-// A code word of no known form.
+/// A code word of no known form.
 const NO_WORD: Put = Put::Word([0; 8]);
 
-// The page with its first 16 bytes blank.
+/// The page with its first 16 bytes blank.
 fn tail_of(page: [u8; 32]) -> [u8; 32] {
     let mut torn = page;
     for byte in 0..16 {
@@ -46,7 +46,7 @@ fn bytes_of(put: Put) -> [u8; 32] {
     }
 }
 
-// The worked image with these bytes on one page.
+/// The worked image with these bytes on one page.
 fn with_page(at: usize, bytes: [u8; 32]) -> Image {
     let mut image = image();
     if at < 16 {
@@ -55,7 +55,7 @@ fn with_page(at: usize, bytes: [u8; 32]) -> Image {
     image
 }
 
-// What is told of a page of sector 0 that is damaged.
+/// What is told of a page of sector 0 that is damaged.
 const PAGE_0: PageFault = PageFault::Damaged { sector: 0, page: 0 };
 
 const PAGE_1: PageFault = PageFault::Damaged { sector: 0, page: 1 };
@@ -68,7 +68,7 @@ const PAGE_5: PageFault = PageFault::Damaged { sector: 0, page: 5 };
 
 const PAGE_7: PageFault = PageFault::Damaged { sector: 0, page: 7 };
 
-// What is put on a page of sector 0, and what its gates tell then.
+/// What is put on a page of sector 0, and what its gates tell then.
 static GATES: [(usize, Put, Result<Option<u32>, PageFault>); 13] = [
     (0, Put::Word(START), Ok(Some(1))),
     (0, Put::Blank, Ok(None)),
@@ -94,7 +94,7 @@ fn gates_are_told(rt: HostRuntime) -> Result<(), Fail> {
     Ok(())
 }
 
-// The record of the worked image with and without its gate, and a record without one that makes the block invalid.
+/// The record of the worked image with and without its gate, and a record without one that makes the block invalid.
 const COMPLETE: Item = Item::Kept {
     block: 8,
     length: 1,
@@ -116,7 +116,7 @@ const INVALID: Item = Item::Kept {
     complete: false,
 };
 
-// What is put on a page of sector 0, and what the item at a page is then.
+/// What is put on a page of sector 0, and what the item at a page is then.
 static ITEMS: [(usize, Put, u16, Result<Item, PageFault>); 18] = [
     (4, Put::Word(GATE), 2, Ok(COMPLETE)),
     (4, Put::Blank, 2, Ok(UNENDED)),
@@ -151,7 +151,7 @@ fn items_are_told(rt: HostRuntime) -> Result<(), Fail> {
     Ok(())
 }
 
-// A page with bytes, the page from which on all are to be blank, and what is told.
+/// A page with bytes, the page from which on all are to be blank, and what is told.
 static WRITTEN: [(usize, u16, Result<(), PageFault>); 4] = [
     (7, 4, Err(PAGE_7)),
     (4, 4, Err(PAGE_4)),

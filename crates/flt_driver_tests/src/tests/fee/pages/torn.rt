@@ -1,4 +1,4 @@
-// Every pattern of a cut and of a fault at each call on a sector.
+//! Every pattern of a cut and of a fault at each call on a sector.
 ghost use Rattle.std.specs.Prelude.{◌≡◌, ◌<◌};
 ghost use Rattle.flt_flash.specs.Memory.{state_of};
 ghost use Rattle.flt_flash.specs.State.{CanArm};
@@ -38,7 +38,7 @@ const CALLS: [Call; 8] = [
     Call::Activate,
 ];
 
-// The image that one operation of a call asks for.
+/// The image that one operation of a call asks for.
 fn asked(call: Call, start: &Image) -> Image {
     let mut asked = *start;
     match call {
@@ -60,7 +60,7 @@ fn erased(start: &Image) -> Image {
     erased
 }
 
-// What a pattern leaves of a page of which the bytes from `tail` on are its tail.
+/// What a pattern leaves of a page of which the bytes from `tail` on are its tail.
 fn torn(pattern: Pattern, start: &[u8; 32], asked: &[u8; 32], tail: usize) -> [u8; 32] {
     let mut page = *start;
     for byte in 0..32 {
@@ -80,7 +80,7 @@ fn torn(pattern: Pattern, start: &[u8; 32], asked: &[u8; 32], tail: usize) -> [u
     page
 }
 
-// The answer of a call that only reads, by whether it told what the image holds.
+/// The answer of a call that only reads, by whether it told what the image holds.
 fn ok_if(is_told: bool) -> Result<(), FlashFailed> {
     if is_told { Ok(()) } else { Err(FlashFailed) }
 }
@@ -119,7 +119,7 @@ fn run(
     }
 }
 
-// A cut or a fault at this operation.
+/// A cut or a fault at this operation.
 fn arm_at(operation: u32, pattern: Pattern, is_cut: bool) -> Arm
     requires { 0 < operation }
     ensures { CanArm result }
@@ -137,7 +137,7 @@ fn arm_at(operation: u32, pattern: Pattern, is_cut: bool) -> Arm
     }
 }
 
-// The first byte of the tail of a page, by an erase or a program.
+/// The first byte of the tail of a page, by an erase or a program.
 fn tail_from(is_erase: bool, page: u16) -> usize {
     match (is_erase, page < 2) {
         (false, _) => 16,
@@ -146,7 +146,7 @@ fn tail_from(is_erase: bool, page: u16) -> usize {
     }
 }
 
-// The image before an operation of a call, of which the second is the first program of a sector that was erased.
+/// The image before an operation of a call, of which the second is the first program of a sector that was erased.
 fn start_of(operation: u32) -> Image {
     if operation == 2 {
         erased(&image())
@@ -155,7 +155,7 @@ fn start_of(operation: u32) -> Image {
     }
 }
 
-// The image that the operation asks for.
+/// The image that the operation asks for.
 fn asked_of(call: Call, is_erase: bool, start: &Image) -> Image {
     if is_erase {
         erased(start)
@@ -164,7 +164,7 @@ fn asked_of(call: Call, is_erase: bool, start: &Image) -> Image {
     }
 }
 
-// Each page is what the pattern leaves of an operation, which is an erase of the second sector or a program.
+/// Each page is what the pattern leaves of an operation, which is an erase of the second sector or a program.
 fn compare(
     rt: &impl Abort,
     flash: &FlashMem,
@@ -187,7 +187,7 @@ fn compare(
     }
 }
 
-// Whether the arm fired unless the call only reads, and a cut that fired turned the power off.
+/// Whether the arm fired unless the call only reads, and a cut that fired turned the power off.
 fn is_left(flash: &mut FlashMem, is_cut: bool, only_reads: bool) -> bool
     requires { (state_of flash.old).pages ≡ 8 }
     ensures pages { (state_of flash.new).pages ≡ 8 }
@@ -198,7 +198,7 @@ fn is_left(flash: &mut FlashMem, is_cut: bool, only_reads: bool) -> bool
         && flash.read_page(0, 0, &mut out).is_err() == (is_cut && !only_reads)
 }
 
-// One operation of a call is cut, or fails by a fault.
+/// One operation of a call is cut, or fails by a fault.
 fn try_case(
     rt: &impl Abort,
     alloc: Global,
@@ -230,7 +230,7 @@ fn try_case(
     Ok(())
 }
 
-// What a pattern leaves of a head, read as an item.
+/// What a pattern leaves of a head, read as an item.
 fn head_by(pattern: Pattern) -> Item {
     match pattern {
         Pattern::Nothing => Item::End,
@@ -239,7 +239,7 @@ fn head_by(pattern: Pattern) -> Item {
     }
 }
 
-// Whether a look at the flash tells what a call that failed by this pattern leaves.
+/// Whether a look at the flash tells what a call that failed by this pattern leaves.
 fn is_told(flash: &mut FlashMem, numbers: &Numbers, call: Call, pattern: Pattern) -> bool
     requires { (state_of flash.old).pages ≡ 8 }
 {

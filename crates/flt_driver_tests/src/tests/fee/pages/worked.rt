@@ -1,4 +1,4 @@
-// Worked pages, written by hand.
+//! Worked pages, written by hand.
 ghost use Rattle.std.specs.Prelude.{◌≡◌, IfOk};
 ghost use Rattle.flt_flash.specs.Memory.{state_of};
 
