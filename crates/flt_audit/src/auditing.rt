@@ -139,7 +139,7 @@ impl Judge for Auditor {
 
 /// Audits a trace: the calls of its journal are made again on a status machine that starts from its base, and each answer is compared
 /// with the machine's. It tells `yes` and the number of calls, or `no` and the first place whose answer is another, and answers the exit
-/// status: 0 and 13 for these; 3 where the source failed; 4 in place of another where the sink did; 7 where memory was wanting; 9 where
+/// status: 0 and 13 for these; 3 where the source failed; 4 in place of another where the sink did; 7 where memory ran out; 9 where
 /// more than 16,777,216 bytes came; 11 where they are no JSON; 12 where that is no trace of a life.
 pub fn audit<S: Source, K: Sink>(
     alloc: Global,

@@ -37,7 +37,7 @@ fn block_text(
     digits(alloc, bytes.as_slice())
 }
 
-/// The texts of the used blocks of a state that fits. The error is want of memory.
+/// The texts of the used blocks of a state that fits. The error means that memory ran out.
 pub fn base_texts(
     alloc: Global,
     config: &ValidConfig,

@@ -14,7 +14,7 @@ use flt_image::{Mark, get_block, is_used, mark_of};
 use hex::FromHexError;
 use std::alloc::{AllocError, Global};
 
-/// Whether memory was wanting.
+/// Whether memory ran out.
 fn is_memory(error: FromHexError) -> bool
     ensures { IsTrue result ↔ (error ≡ OutOfMemory) }
 {
@@ -87,7 +87,7 @@ fn are_same(texts: &[&str], printed: &[String]) -> bool
 }
 
 /// The state whose used blocks, each as its bytes in upper-case hexadecimal digits, are these texts; none where they are those of no
-/// state that fits the configuration. The error is want of memory.
+/// state that fits the configuration. The error means that memory ran out.
 pub fn read_base(
     alloc: Global,
     config: &ValidConfig,

@@ -113,7 +113,7 @@ fn call_text(alloc: Global, call: &Entry<Op>) -> Result<String, AllocError>
     Ok(text)
 }
 
-/// The texts of the calls of a journal, one each. The error is want of memory.
+/// The texts of the calls of a journal, one each. The error means that memory ran out.
 pub fn call_texts(alloc: Global, journal: &[Entry<Op>]) -> Result<Vec<String>, AllocError>
     ensures { IfOk result (λ texts. (c : Config) → All (CanBeMade c) (ops_of journal.now) → AreCallTexts c journal.now (map string_bytes texts.items)) }
 {

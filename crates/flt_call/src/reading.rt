@@ -141,7 +141,7 @@ fn read_call(
     }
 }
 
-/// The calls whose texts these are; none where one of them is that of no call. The error is want of memory.
+/// The calls whose texts these are; none where one of them is that of no call. The error means that memory ran out.
 pub fn read_calls(
     alloc: Global,
     config: &ValidConfig,

@@ -9,7 +9,7 @@ use Rattle.flt_dump.specs.declared.dump.DumpFault.TheVariants.{Memory, Script, O
 abbrev pub content_of : Dump → DumpContent
 content_of dump = record { config = dump.config; image = take dump.config.pages dump.pages.items ∷ drop dump.config.pages dump.pages.items ∷ [] }
 
--- What a fault tells of the bytes; want of memory tells nothing.
+-- What a fault tells of the bytes; a lack of memory tells nothing.
 abbrev pub fault_of : DumpFault → Option Fault
 fault_of Memory = None
 fault_of (Script fault) = Some (no_script fault)

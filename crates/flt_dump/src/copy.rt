@@ -16,7 +16,7 @@ pub(crate) struct ImageCopy {
 impl ImageCopy {
     ghost use Rattle.flt_dump.specs.Copy.{state_of};
 
-    /// A flash with this image of 4 to 2,048 pages, an even number, sector 0's pages first. The error is want of memory.
+    /// A flash with this image of 4 to 2,048 pages, an even number, sector 0's pages first. The error means that memory ran out.
     pub(crate) fn of(alloc: Global, image: Vec<[u8; 32]>) -> Result<ImageCopy, AllocError>
         requires even { length image.items % 2 ≡ 0 }
         requires least { 4 ≤ length image.items }

@@ -65,7 +65,7 @@ fn held_in(
     Ok(judge(&mut nvm, config, &mut state).map(|found| number_of(&found.commit)))
 }
 
-/// Looks into the image of a dump: what it holds, whatever its sequence number, and its lines. The error is want of memory.
+/// Looks into the image of a dump: what it holds, whatever its sequence number, and its lines. The error means that memory ran out.
 pub fn look_into(alloc: Global, dump: Dump) -> Result<Insight, AllocError>
     ensures { IfOk result (SeesInto (content_of dump)) }
 {

@@ -10,7 +10,7 @@ use std::alloc::{AllocError, Global};
 /// Why lines are no pages.
 #[derive(Clone, Copy)]
 pub(crate) enum PagesFault {
-    /// Memory was wanting.
+    /// Memory ran out.
     Memory,
     /// The number of the first line that is wrong, missing or too many.
     Line(usize),

@@ -34,7 +34,7 @@ pub struct EepromMem {
 impl EepromMem {
     ghost use Rattle.flt_ea.specs.Memory.{state_of, power_of};
 
-    /// A device of so many units of 32 bytes FF, whose power may come back `boots` times. The error is want of memory.
+    /// A device of so many units of 32 bytes FF, whose power may come back `boots` times. The error means that memory ran out.
     pub fn blank(alloc: Global, units: u16, boots: u16) -> Result<EepromMem, AllocError>
         ensures state { IfOk result (λ device. state_of device ≡ first_units (replicate units blank_page) boots) }
         ensures power { IfOk result (λ device. power_of device ≡ first_power) }
@@ -43,7 +43,7 @@ impl EepromMem {
         Self::of(alloc, image, boots)
     }
 
-    /// A device with these units, whose power may come back `boots` times. The error is want of memory.
+    /// A device with these units, whose power may come back `boots` times. The error means that memory ran out.
     pub fn of(alloc: Global, image: Vec<[u8; 32]>, boots: u16) -> Result<EepromMem, AllocError>
         requires { length image.items ≤ 65535 }
         ensures state { IfOk result (λ device. state_of device ≡ first_units image.items boots) }

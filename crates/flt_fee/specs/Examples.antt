@@ -24,7 +24,7 @@ with_two sequence block =
 abbrev pub refusals : BlocksState → List (Option BlockFault)
 refusals state = map (refusal state 9) (64 ∷ 65 ∷ 97 ∷ [])
 
--- The last sequence number and the one before it. Where one block is held, a record that does not fit is refused for want of a number alone,
+-- The last sequence number and the one before it. Where one block is held, a record that does not fit is refused for lack of a number alone,
 -- and with the last one; where both are, one that has no room is refused for that, whatever the number.
 pub record LastNumber : Type 0 where
   pub spent : map (λ sequence. (with_two sequence 8).is_spent) ((2 ^ 32 - 2) ∷ (2 ^ 32 - 1) ∷ []) ≡ false ∷ true ∷ []

@@ -66,7 +66,7 @@ Settles (Err (Full live needed)) after = IsFalse after.is_stale
 Settles (Err SequenceSpent) after = IsFalse after.is_stale
 Settles (Err (Damaged sector page)) after = IsTrue after.is_stale
 
--- Want of room and of sequence numbers are no answers of this call.
+-- A lack of room and one of sequence numbers are no answers of this call.
 pub record NeverFull {T : Type 0} (result : Result T BlockFault) : Type 0 where
   pub full : (live needed : ℕ) → IsErrOf result (Full live needed) → ⊥
   pub spent : IsErrOf result SequenceSpent → ⊥

@@ -9,7 +9,7 @@ ghost use Rattle.flt_flash.specs.Calls.{Follows, Calls, CountsCall, NeverFull, C
 use crate::{Arm, FlashFailed};
 use thiserror::Error;
 
-/// A driver could not be made, for want of memory; the device comes back.
+/// A driver could not be made, since memory ran out; the device comes back.
 #[derive(Drop)]
 pub struct Refused<F> {
     pub device: F,

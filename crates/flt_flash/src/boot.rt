@@ -17,7 +17,7 @@ pub struct SavedBoot {
 impl SavedBoot {
     ghost use Rattle.flt_flash.specs.Boots.{two_sectors, HasRoom};
 
-    /// Room for an image of so many pages, and no page as yet. The error is want of memory.
+    /// Room for an image of so many pages, and no page as yet. The error means that memory ran out.
     fn reserved(alloc: Global, pages: usize) -> Result<SavedBoot, AllocError>
         ensures { IfOk result (HasRoom pages) }
     {
@@ -65,7 +65,7 @@ impl SavedBoot {
     }
 }
 
-/// The room of this many power-ups of a device of so many pages, which is filled as they come. The error is want of memory.
+/// The room of this many power-ups of a device of so many pages, which is filled as they come. The error means that memory ran out.
 pub fn reserved_boots(alloc: Global, pages: usize, boots: u16) -> Result<Vec<SavedBoot>, AllocError>
     ensures number { IfOk result (λ made. length made.items ≡ boots) }
     ensures room { IfOk result (λ made. HaveRoom pages made.items) }

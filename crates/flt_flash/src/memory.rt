@@ -45,7 +45,7 @@ pub struct FlashMem {
 impl FlashMem {
     ghost use Rattle.flt_flash.specs.Memory.{state_of, power_of};
 
-    /// A blank flash of two sectors of 2 to 1,024 pages, whose power may come back `boots` times. The error is want of memory.
+    /// A blank flash of two sectors of 2 to 1,024 pages, whose power may come back `boots` times. The error means that memory ran out.
     pub fn blank(alloc: Global, pages: u16, boots: u16) -> Result<FlashMem, AllocError>
         requires least { 2 ≤ pages }
         requires most { pages ≤ 1024 }
@@ -58,7 +58,7 @@ impl FlashMem {
     }
 
     /// A flash with this image of 4 to 2,048 pages, an even number, sector 0's pages first, whose power may come back
-    /// `boots` times. The error is want of memory; the image is let go then.
+    /// `boots` times. The error means that memory ran out; the image is let go then.
     pub fn of(alloc: Global, image: Vec<[u8; 32]>, boots: u16) -> Result<FlashMem, AllocError>
         requires even { length image.items % 2 ≡ 0 }
         requires least { 4 ≤ length image.items }

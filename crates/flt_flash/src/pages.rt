@@ -11,7 +11,7 @@ use std::alloc::{AllocError, Global};
 /// An erased page: all its bits are 1.
 pub const BLANK_PAGE: [u8; 32] = [255; 32];
 
-/// So many blank pages. The error is want of memory.
+/// So many blank pages. The error means that memory ran out.
 pub fn blank_pages(alloc: Global, pages: usize) -> Result<Vec<[u8; 32]>, AllocError>
     ensures items { IfOk result (λ made. made.items ≡ replicate pages blank_page) }
     ensures bytes { IfOk result (λ made. ArePages made.items) }
@@ -23,7 +23,7 @@ pub fn blank_pages(alloc: Global, pages: usize) -> Result<Vec<[u8; 32]>, AllocEr
     Ok(made)
 }
 
-/// A copy of these pages. The error is want of memory.
+/// A copy of these pages. The error means that memory ran out.
 pub fn pages_of(alloc: Global, pages: &[[u8; 32]]) -> Result<Vec<[u8; 32]>, AllocError>
     ensures items { IfOk result (λ made. made.items ≡ pages.now) }
     ensures bytes { IfOk result (λ made. ArePages made.items) }

@@ -20,7 +20,7 @@ use flt_script::Part;
 use flt_store::Store;
 use std::alloc::Global;
 
-/// The lives of a run, or none for want of memory, and the device as they left it.
+/// The lives of a run, or none if memory ran out, and the device as they left it.
 #[derive(Drop)]
 pub struct Run<D> {
     /// The lives in the order in which they were lived; the last alone may be refused.

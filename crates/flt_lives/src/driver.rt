@@ -29,7 +29,7 @@ pub trait Driver: Blocks + Drop + Sized {
     /// Such a device has room for the blocks of an image under the configuration.
     ghost serves: { Config → FlashState → Type 0 };
 
-    /// A driver for the numbers of an image. The error, for want of memory, hands the device back.
+    /// A driver for the numbers of an image. The error means that memory ran out, and hands the device back.
     fn open(
         alloc: Global,
         device: Self::Device,

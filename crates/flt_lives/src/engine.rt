@@ -43,7 +43,7 @@ pub trait Engine<D: Blocks + Drop>: Sized {
     ghost can_make: { List (PartOf Step) → Type 0 };
 
     /// Makes the steps of these parts, from the state that a start-up restored under this number, over the store that it left. The
-    /// answers go to the room that was taken for them. The error, for want of memory, comes before the first step: the store and the flash
+    /// answers go to the room that was taken for them. The error means that memory ran out, and comes before the first step: the store and the flash
     /// are as they were. Afterwards the buffers hold anything.
     fn live(
         self,

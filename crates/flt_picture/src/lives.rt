@@ -384,7 +384,7 @@ fn head_timeline(
 ///
 /// # Errors
 ///
-/// `AllocError` where memory is wanting.
+/// `AllocError` where memory runs out.
 pub fn timeline(
     alloc: Global,
     config: &ValidConfig,

@@ -439,7 +439,7 @@ fn draw_sectors(
 ///
 /// # Errors
 ///
-/// `AllocError` where memory is wanting.
+/// `AllocError` where memory runs out.
 pub fn sectors(
     alloc: Global,
     config: &ValidConfig,

@@ -19,7 +19,7 @@ pub enum Fetched {
     Refused(ScriptFault),
     /// The source failed.
     Failed,
-    /// Memory was wanting.
+    /// Memory ran out.
     Memory,
 }
 

@@ -18,7 +18,7 @@ module _ (dids : List DidUse) (inside : Inside) (command : Option Command) where
   pub untouched : (ending : Option Ending) → IfSome ending (EndingHasCause dids inside command None) → IsUntouched inside → ComesTo dids inside command ending
   untouched ending ends same = record { script = None; works = tt; ends = ends; begun = tt; sound = same }
 
-  -- Lives of a script were made, if memory was not wanting.
+  -- Lives of a script were made, if memory did not run out.
   module _ (end : Made → Ending) (script : ScriptContent) (valid : IsGiven script.config) (lives : Option (Vec Life Global))
       (left : LivesOn (inside.media script.config) script.config (device_of inside.device) (device_of inside.device_after) script.lives lives)
       (cause : (one : Made) → IsLivedBy inside.media script inside.device inside.device_after one → EndingHasCause dids inside command (Some script) (end one)) where

@@ -135,7 +135,7 @@ lived_throughout inside made status lives None lived came is = absurd lived
 lived_throughout inside made status lives (Some script) lived came is =
     inr (subst (IsSoundThroughout (inside.media script.config) script.config inside.device inside.device_after status) (sym is) (made_throughout inside.media script inside.device inside.device_after made status lived came))
 
--- Memory was wanting.
+-- Memory ran out.
 pub of_memory : (inside : Inside) (status : ℕ) (lives : List Life) (script : Option ScriptContent) → WantsMemory status lives → IsLeftSound inside script → StaysSoundThroughout inside script status lives
 of_memory inside status lives None wants sound =
     let told = wants.told in record { untouched = sound; none = wants.made; not_six = λ six. omega (arith, told, six) }

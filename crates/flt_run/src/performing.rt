@@ -40,7 +40,7 @@ use std::marker::Sync;
 use std::sync::Wait;
 use std::thread::Threads;
 
-/// What a run came to, or nothing for want of memory, and the device as it left it.
+/// What a run came to, or nothing if memory ran out, and the device as it left it.
 #[derive(Drop)]
 pub(crate) struct Performed<D> {
     pub(crate) ending: Option<Ending>,
@@ -56,7 +56,7 @@ fn look_at_config(config: &ValidConfig)
     let _events = config.events.len();
 }
 
-/// The lives that were made of a script, with its parts; none for want of memory.
+/// The lives that were made of a script, with its parts; none if memory ran out.
 fn made_of(script: Script, lives: Option<Vec<Life>>) -> Option<Made>
     requires { IfSome lives (λ lives. All (λ life. life.boot ≢ Refused Flash) lives.items) }
     ensures { IfSome result (λ made. (lists made.script.items ≡ lists script.lives.items) × (lives ≡ Some made.lives)) }

@@ -30,7 +30,7 @@ cause_text (Config (NoRoom needed pages)) = with_two_numbers (codes "room") need
 abbrev pub script_fault_text : ScriptFault → List ℕ
 script_fault_text fault = codes "script line " ++ decimal fault.line ++ 32 ∷ cause_text fault.cause
 
--- Want of memory, or the fault of the script.
+-- A lack of memory, or the fault of the script.
 abbrev pub parse_fault_text : ParseFault → List ℕ
 parse_fault_text Memory = codes "out of memory"
 parse_fault_text (At fault) = script_fault_text fault

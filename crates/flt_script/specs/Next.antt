@@ -68,7 +68,7 @@ with_lane_step step lanes = if is_step_misplaced (Some lanes) step then Err Bloc
 unfoldable pub with_words : List DidUse → ℕ → Behind → Keyword → List (List ℕ) → Result Behind LineCause
 with_words dids number b keyword words = ok_or (line_with keyword words) Form >>= λ said. with_line dids number b said
 
--- What a line's fault tells, where it is not want of memory.
+-- What a line's fault tells, where it is not a lack of memory.
 abbrev pub cause_of : LineFault → Option LineCause
 cause_of line_faults.Memory = None
 cause_of (line_faults.Cause cause) = Some cause

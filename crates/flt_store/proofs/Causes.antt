@@ -126,7 +126,7 @@ never_full c given before after all room follows borne size live needed short fu
         let pages : (size + 31) / 32 ≤ 3 = omega (arith, short) in
         omega (arith, bound, total, live_is, full.needed_is, past, pages, fits)
 
--- A write that failed, and not for want of a sequence number, was failed by the flash.
+-- A write that failed, and not for lack of a sequence number, was failed by the flash.
 pub was_flash : {T : Type 0} (c : Config) → IsGiven c → (before after : BlocksState) (fault : BlockFault) → Writes {T = T} before after (Err fault) → before.numbers ≡ numbers → HasRoom c before.room
     → IsTrue before.has_mounted → IsBorne c after.value → (fault ≡ SequenceSpent → ⊥) → fault ≡ Flash
 was_flash {T} c given before after Flash writes all room has borne other = refl

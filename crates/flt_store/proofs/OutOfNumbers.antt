@@ -1,4 +1,4 @@
--- Want of a sequence number for the commit, told of the whole start-up.
+-- A start-up that has no sequence number left for the commit.
 use Rattle.std.proofs.Common.{inl, inr, ⊎_elim, ◌∙◌, sym, arith}
 use Rattle.flt_flash.specs.Blocks.{BlocksState}
 use Rattle.flt_flash.specs.Calls.{Follows, OthersKept}

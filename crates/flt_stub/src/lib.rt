@@ -80,7 +80,7 @@ impl BlocksMem {
     ghost use Rattle.flt_stub.specs.Memory.{state_of, IsBlank};
 
     /// A driver of the blocks 0 to `blocks - 1`, none of which was written, whose power may come back `boots` times. The
-    /// error is want of memory.
+    /// error means that memory ran out.
     pub fn blank(alloc: Global, blocks: u16, boots: u16) -> Result<BlocksMem, AllocError>
         ensures { IfOk result (λ driver. IsBlank blocks boots (state_of driver)) }
     {

@@ -39,7 +39,7 @@ fn value_of(alloc: Global, texts: LifeTexts) -> Result<Value, AllocError>
     json!(in alloc; {"answers": answers, "base": base, "journal": journal, "script": script})
 }
 
-/// The texts of a life as one line of JSON, which is read again as what it was printed of. The error is want of memory.
+/// The texts of a life as one line of JSON, which is read again as what it was printed of. The error means that memory ran out.
 pub fn print_trace(alloc: Global, texts: LifeTexts) -> Result<Vec<u8>, AllocError>
     ensures line { IfOk result (λ line. line.items ≡ trace_line (own_texts texts)) }
     ensures utf8 { IfOk result (λ line. IsUtf8 line.items) }

@@ -58,7 +58,7 @@ fn member_count(value: &Value) -> usize
 }
 
 /// The trace that a value is: an object of the four keys `script`, `base`, `journal` and `answers`, with a string and three arrays of
-/// strings. The error is want of memory.
+/// strings. The error means that memory ran out.
 pub fn read_trace<'a>(alloc: Global, value: &'a Value) -> Result<Option<Trace<'a>>, AllocError>
     ensures { IfOk result (λ found. MatchOption found
         ((texts : Texts) → IsTrace (view value.now) texts → ⊥)

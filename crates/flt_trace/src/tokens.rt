@@ -94,7 +94,7 @@ fn texts_in_order<'a>(
 }
 
 /// The trace that bytes are, where its keys stand once each and in the order in which they are printed: its strings are lent by the bytes
-/// and by `scratch`, and no value is built. Nothing comes of other bytes, which may be a trace all the same. The error is want of memory.
+/// and by `scratch`, and no value is built. Nothing comes of other bytes, which may be a trace all the same. The error means that memory ran out.
 pub fn read_line<'a>(
     alloc: Global,
     bytes: &'a [u8],

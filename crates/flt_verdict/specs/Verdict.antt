@@ -80,7 +80,7 @@ pub record IsAnswered (IsJudged : List ℕ → Due → Type 0) (inside : Inside)
   pub judged : IsDue IsJudged came due
   pub told : IsTold outside due status
 
--- Memory was wanting, and nothing was told.
+-- Memory ran out, and nothing was told.
 pub record WantsMemory (outside : Outside) (status : ℕ) : Type 0 where
   pub told : status ≡ 7
   pub kept : Keeps outside.held outside.held_after
@@ -94,17 +94,17 @@ abbrev pub input_fault : StreamFault → InputFault
 input_fault reads.Memory = Memory
 input_fault reads.Failed = Failed
 
--- What is due of an input that could not be judged, by why; nothing where memory was wanting.
+-- What is due of an input that could not be judged, by why; nothing where memory ran out.
 abbrev pub IsFaultDue : InputFault → Due → Type 0
 IsFaultDue Memory due = ⊥
 IsFaultDue Failed due = due ≡ unread_due
 IsFaultDue TooMany due = due ≡ large_due
 
--- What was made of an input is due of it; or memory was wanting.
+-- What was made of an input is due of it; or memory ran out.
 abbrev pub IsMade : (List ℕ → Due → Type 0) → Inside → Option Due → Type 0
 IsMade IsJudged inside made = IfSome made (λ due. (came : Came) × HasCome inside came × IsDue IsJudged came due)
 
--- What was made is told, or that memory was wanting.
+-- What was made is told, or that memory ran out.
 abbrev pub IsToldOf : Outside → Option Due → ℕ → Type 0
 IsToldOf outside None status = WantsMemory outside status
 IsToldOf outside (Some due) status = WantsMemory outside status ⊎ IsTold outside due status

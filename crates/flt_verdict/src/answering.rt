@@ -13,12 +13,12 @@ pub trait Judge: Drop + Sized {
     /// What is due of bytes.
     ghost is_judged: { Self → List ℕ → Due → Type 0 };
 
-    /// What is told of these bytes. The error is want of memory.
+    /// What is told of these bytes. The error means that memory ran out.
     fn judge(self, alloc: Global, bytes: &[u8]) -> Result<Verdict, AllocError>
         ensures { IfOk result (λ verdict. is_judged self bytes.now (due_of verdict)) };
 }
 
-/// What is told of what a source has left; nothing where memory is wanting.
+/// What is told of what a source has left; nothing where memory runs out.
 fn reckon<J: Judge, S: Source>(judge: J, alloc: Global, source: &mut S) -> Option<Verdict>
     ensures { IsMade (J.is_judged judge) (record {
       left = S.left source.old;
@@ -34,7 +34,7 @@ fn reckon<J: Judge, S: Source>(judge: J, alloc: Global, source: &mut S) -> Optio
 }
 
 /// Reads a source to its end, tells what is judged of its bytes, and answers the exit status: that of the verdict; 3 where the source
-/// failed; 4 in place of another where the sink did; 7 where memory was wanting; 9 where more than 16,777,216 bytes came.
+/// failed; 4 in place of another where the sink did; 7 where memory ran out; 9 where more than 16,777,216 bytes came.
 pub fn answer<J: Judge, S: Source, K: Sink>(
     judge: J,
     alloc: Global,

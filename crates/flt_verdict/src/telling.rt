@@ -8,10 +8,10 @@ use flt_io::Sink;
 /// The status where the sink failed.
 const WRITE_FAULT: u8 = 4;
 
-/// The status where memory was wanting.
+/// The status where memory ran out.
 const OUT_OF_MEMORY: u8 = 7;
 
-/// Tells a verdict, and answers its status: 4 in its place where the sink failed; no verdict is want of memory, and answers 7.
+/// Tells a verdict, and answers its status: 4 in its place where the sink failed; no verdict means that memory ran out, and answers 7.
 pub fn tell<K: Sink>(verdict: Option<Verdict>, sink: &mut K) -> u8
     ensures { IsToldOf (record {
       held = K.held sink.old;

@@ -12,7 +12,7 @@ pub struct Verdict {
 }
 
 impl Verdict {
-    /// A verdict of one line, which these words make. The error is want of memory.
+    /// A verdict of one line, which these words make. The error means that memory ran out.
     pub fn line(alloc: Global, status: u8, words: &[u8]) -> Result<Verdict, AllocError>
         ensures { IfOk result (λ verdict. due_of verdict ≡ line_due status words.now) }
     {

@@ -10,7 +10,7 @@ use Rattle.flt_verdict.specs.Verdict.{Outside}
 use Rattle.flt_watch.specs.Watch.{IsTurnedAway, IsUnmade, WantsMemory, due, status_by}
 use Rattle.flt_watch.specs.declared.watching.WatchOutcome.{WatchOutcome}
 
--- The text was written, or the sink failed, or memory was wanting.
+-- The text was written, or the sink failed, or memory ran out.
 pub turned_away : {T : Type 0} {F : _} {g : _} (writing : Outside) (status : ℕ) (text kinds values : List ℕ) (written : Result T StreamFault) (outcome : WatchOutcome F g) → OnOk written (Appends writing.held writing.held_after text)
     → OnErr written (AppendsFront writing.held writing.held_after text) → (IsErrOf written Failed → Rose writing.faults writing.faults_after) → outcome.status ≡ status_by status written → IsUnmade kinds values outcome
     → IsTurnedAway writing (due status text) kinds values outcome ⊎ WantsMemory writing outcome

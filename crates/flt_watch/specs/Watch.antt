@@ -58,7 +58,7 @@ module _ {F : _} {g : _} where
     pub kinds_are : kinds_in outcome.subs ≡ kinds
     pub values_are : values_in outcome.subs ≡ values
 
-  -- Memory was wanting: what the sink held stands, and some bytes behind it, if any; nothing is said of the state and of the subscribers.
+  -- Memory ran out: what the sink held stands, and some bytes behind it, if any; nothing is said of the state and of the subscribers.
   pub record WantsMemory (writing : Outside) (outcome : WatchOutcome F g) : Type 0 where
     pub status_is : outcome.status ≡ 7
     pub journal : outcome.journal.items ≡ []

@@ -23,7 +23,7 @@ pub(crate) enum Asked {
     Refused(ScriptFault),
     /// The source failed.
     Unread,
-    /// Memory was wanting.
+    /// Memory ran out.
     Memory,
 }
 

@@ -31,7 +31,7 @@ use std::thread::Threads;
 #[derive(Drop)]
 pub struct WatchOutcome {
     /// 0 where the life was made and told, 2 where the script was refused or is another one, 3 where the source failed, 4 where the sink
-    /// did, and 7 where memory was wanting.
+    /// did, and 7 where memory ran out.
     pub status: u8,
     /// The state from which the life began; without events where no life was made.
     pub base: Persist,
