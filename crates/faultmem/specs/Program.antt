@@ -2,12 +2,12 @@
 use Rattle.std.specs.Prelude.{ℕ, List, [], ◌∷◌, ◌==◌, if◌then◌else◌, Result, Ok, Err}
 use Rattle.flt_config.specs.declared.config.DidUse.{DidUse}
 
-abbrev pub row : ℕ → ℕ → DidUse
-row id width = record { id = id; width = width }
+abbrev pub did : ℕ → ℕ → DidUse
+did id width = record { id = id; width = width }
 
--- The data identifiers of the program, each with its width in bytes: 0101 to 0107.
+-- The data identifiers of the program, each with its width in bytes.
 abbrev pub program_dids : List DidUse
-program_dids = row 257 2 ∷ row 258 2 ∷ row 259 1 ∷ row 260 4 ∷ row 261 1 ∷ row 262 2 ∷ row 263 8 ∷ []
+program_dids = did 0x0101 2 ∷ did 0x0102 2 ∷ did 0x0103 1 ∷ did 0x0104 4 ∷ did 0x0105 1 ∷ did 0x0106 2 ∷ did 0x0107 8 ∷ []
 
 -- The kinds of value that have a subscriber, each of which is told of the changes of a watch.
 abbrev pub program_kinds : List ℕ
