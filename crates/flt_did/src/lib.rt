@@ -1,16 +1,17 @@
 //! Data identifiers (DIDs): stored functions of the eight signals of the vehicle, and the frames that
 //! they give. It stands on the definitions of frames in `flt_model`, `specs/Frame`. The layer above uses
-//! `DidTable::frame`: for any table that was filled through `add`, the frame of a list of uses is the
-//! specified one. Read `specs/Table` first.
+//! `DidTable::frame`: for any table that was filled row by row, the frame of a list of uses is the
+//! specified one. The programs use one table, which `program_table!` makes. Read `specs/Table` first.
 #![tactic(auto)]
 
+mod program;
 mod readers;
 mod row;
 mod signals;
 mod table;
 
 pub use readers::{did_0101, did_0102, did_0103, did_0104, did_0105, did_0106, did_0107};
-pub use row::Reader;
+pub use row::{Reader, Row};
 pub use signals::Signals;
 pub use table::{DidTable, TableFault};
 

@@ -13,9 +13,12 @@ pub type Reader = fn(&Signals) -> u64;
 /// there and fits the width.
 #[derive(Drop)]
 pub struct Row {
-    pub(crate) id: u16,
-    pub(crate) width: u8,
-    pub(crate) read: Reader,
+    /// Its number.
+    pub id: u16,
+    /// The bytes of its value, at most 8.
+    pub width: u8,
+    /// Its function.
+    pub read: Reader,
     ghost width_in_range: { width ≤ 8 },
     ghost callable: { (s : Bor SignalValues) → Reader.pre read s },
     ghost value: { (s : Bor SignalValues) (r : ℕ) → Reader.post read s r → did_value id s.now.values ≡ Some r },

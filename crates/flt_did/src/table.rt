@@ -63,8 +63,17 @@ impl<const ROWS: usize> DidTable<ROWS> {
         if self.rows.is_full() {
             return Err(TableFault::TableFull);
         }
-        self.rows.push(Some(Row { id, width, read }));
+        self.insert(Row { id, width, read });
         Ok(())
+    }
+
+    /// Adds a row whose data identifier the table does not have, where not all its rows are taken.
+    pub fn insert(&mut self, row: Row)
+        requires new { IsNone (find (is_did row.id) (dids_of self.old)) }
+        requires room { length (dids_of self.old) < ROWS }
+        ensures { dids_of self.new ≡ dids_of self.old ++ row_did row ∷ [] }
+    {
+        self.rows.push(Some(row));
     }
 
     /// The width of a data identifier in bytes, if it was added.
