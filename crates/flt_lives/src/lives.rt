@@ -81,16 +81,8 @@ pub fn run_life<D: Blocks + Drop, E: Engine<D> + Drop>(
             let life = dark_life(alloc, store, parts, room);
             Ok(Lived { engine, life })
         }
-        Err(StartFault::Damaged(place)) => {
-            let life = refused(alloc, StartFault::Damaged(place));
-            Ok(Lived { engine, life })
-        }
-        Err(StartFault::OtherConfig { found, wanted }) => {
-            let life = refused(alloc, StartFault::OtherConfig { found, wanted });
-            Ok(Lived { engine, life })
-        }
-        Err(StartFault::SequenceSpent) => {
-            let life = refused(alloc, StartFault::SequenceSpent);
+        Err(fault) => {
+            let life = refused(alloc, fault);
             Ok(Lived { engine, life })
         }
     }

@@ -1,7 +1,7 @@
 -- What a repair of the commit's copies leaves of a sound image.
 use Rattle.std.proofs.Common.{◌≡◌, ◌⊎◌, inl, inr, ⊎_elim, ℕ, ◌≤◌, List, length, take, drop, Some, None, refl, sym, ◌∙◌, ap, subst, arith}
 use Rattle.std.proofs.Math.Seq.{take-append_seam}
-use Rattle.std.specs.Prelude.{◌≢◌, ◌-◌}
+use Rattle.std.specs.Prelude.{◌≢◌, ◌-◌, IsSome}
 use Rattle.std.proofs.lemmas.Bool.{cases_eq}
 use Rattle.flt_flash.specs.Content.{Content, missing, invalid, bytes}
 use Rattle.flt_flash.specs.Blocks.{pages_of, record_pages}
@@ -31,8 +31,8 @@ content_read (bytes held) n before after found =
 
 module _ (c : Config) where
   -- From bytes that name a generation a commit is read.
-  pub never_unread : (value : ℕ → Content) (raw : List ℕ) (g : Generation) → Holds c value (bytes raw) g → commit_in c raw ≡ None → ⊥
-  never_unread value raw g holds none = let named = holds.names in let read = commit_read c raw named.0 named.2.form named.1 in cc (read, none)
+  pub is_read : (value : ℕ → Content) (raw : List ℕ) (g : Generation) → Holds c value (bytes raw) g → IsSome (commit_in c raw)
+  is_read value raw g holds = let named = holds.names in let read = commit_read c raw named.0 named.2.form named.1 in subst IsSome (sym read) refl
 
   module _ (before after : ℕ → Content) (agree : AgreeButForCommit before after) (excess : IsBorne c after) where
     -- Both copies hold the bytes of a commit that names a generation.

@@ -1,5 +1,5 @@
 //! Which generation stands after a save that failed, and the repair of the commit's copies.
-ghost use Rattle.std.specs.Prelude.{◌≡◌, ◌⊎◌, ℕ, ◌-◌, ◌≤◌, length, IsFalse, IfOk, IfSome, IsErrOf, OnOk, OnErr, Some};
+ghost use Rattle.std.specs.Prelude.{◌≡◌, ◌⊎◌, ℕ, ◌-◌, ◌≤◌, length, IsFalse, IfOk, IfSome, IsErrOf, IsSome, OnOk, OnErr, Some};
 ghost use Rattle.flt_flash.specs.Content.{bytes as holding};
 ghost use Rattle.flt_flash.specs.Calls.{Follows, OthersKept};
 ghost use Rattle.flt_nvm.specs.Driver.{driver_of, table_of};
@@ -30,7 +30,8 @@ pub(crate) fn restart<B: Blocks + Drop>(
     nvm: &mut Nvm<B>,
     config: &ValidConfig,
 ) -> Result<Option<Commit>, BlockFault>
-    requires { table_of nvm.old ≡ block_table }
+    requires table { table_of nvm.old ≡ block_table }
+    requires sound { (held : Generation) × (spare : Generation) × IsSound config.now (driver_of nvm.old).value held spare }
     ensures started { (held spare : Generation) → IsSound config.now (driver_of nvm.old).value held spare → HasMark config.now (driver_of nvm.old).value
         → IfOk result (λ commit. StartsEither config.now (driver_of nvm.old) (driver_of nvm.new) commit held spare) }
     ensures failed { (held spare new : Generation) → IsSound config.now (driver_of nvm.old).value held spare
@@ -54,7 +55,7 @@ pub(crate) fn restart<B: Blocks + Drop>(
     }
 }
 
-/// Makes the other copy hold what this one has, and answers the commit of these bytes. A sound image has no others.
+/// Makes the other copy hold what this one has, and answers the commit that these bytes are.
 fn repair_by<B: Blocks + Drop>(
     nvm: &mut Nvm<B>,
     config: &ValidConfig,
@@ -65,6 +66,7 @@ fn repair_by<B: Blocks + Drop>(
     requires least { 1 ≤ copy }
     requires most { copy ≤ 2 }
     requires held { (driver_of nvm.old).value (number_of commit_id (copy - 1)) ≡ holding bytes.now }
+    requires read { IsSome (commit_in config.now bytes.now) }
     ensures started { (g : Generation) → HasMark config.now (driver_of nvm.old).value → Holds config.now (driver_of nvm.old).value (holding bytes.now) g
         → IfOk result (λ commit. IsStarted config.now (driver_of nvm.new).value (Some commit) g) }
     ensures read { IfOk result (λ commit. commit_in config.now bytes.now ≡ Some commit) }
@@ -81,11 +83,9 @@ fn repair_by<B: Blocks + Drop>(
     ensures follows { Follows (driver_of nvm.old) (driver_of nvm.new) }
     ensures table { table_of nvm.new ≡ table_of nvm.old }
 {
-    match get_commit(config, bytes) {
-        Some(commit) => {
-            nvm.repair(COMMIT_ID, copy, bytes)?;
-            Ok(commit)
-        }
-        None => Err(BlockFault::Flash),
-    }
+    let Some(commit) = get_commit(config, bytes) else {
+        unreachable!()
+    };
+    nvm.repair(COMMIT_ID, copy, bytes)?;
+    Ok(commit)
 }

@@ -79,6 +79,7 @@ impl<B: Blocks + Drop> Store<B> {
 
     /// Finds out which generation stands, and what its blocks have, where a save failed.
     fn settle(&mut self, config: &ValidConfig) -> Result<(), SaveFault>
+        requires { IsAlive config.now self.old }
         ensures settles { WhileRunning config.now self.old (λ held spare. OnOk result (Chooses config.now held spare self.old self.new)) }
         ensures failed { (state : Persist)
             → WhileRunning config.now self.old (λ held spare. OnErr result (MayHaveSaved config.now held spare state self.old self.new)) }

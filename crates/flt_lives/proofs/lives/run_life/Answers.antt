@@ -57,74 +57,28 @@ returns-in-Err-Flash-clause-sound g c =
     (stays_by_keeping c.args.config.now (driver_of c.args.store.now) (driver_of c.power_up.new.self) (driver_of c.start_up.new.self) c.power_up.ensures.powers_up
     (keeps c.args.config.now (driver_of c.power_up.new.self) (driver_of c.start_up.new.self) c.start_up.ensures.follows c.in-Err-Flash.ensures.left))
 
-pub returns-in-Err-Damaged-clause-lived : goal.returns-in-Err-Damaged-clause-lived
-returns-in-Err-Damaged-clause-lived g c =
+pub returns-in-Err-clause-lived : goal.returns-in-Err-clause-lived
+returns-in-Err-clause-lived g c =
     subst (λ (v : LifeView). IsLived c.args.config.now (driver_of c.args.store.now) (driver_of c.start_up.new.self) v) (sym (c.refused-life.ensures (parts_of c.args.parts.now)))
-    (lived_refused c.args.config.now (driver_of c.args.store.now) c.power_up.new.self c.start_up.new.self c.power_up.ensures.powers_up (parts_of c.args.parts.now) (faults.Damaged c.in-Err-Damaged.place) tt
-    c.start_up.ensures.follows (subst (RefusedFor c.args.config.now c.power_up.new.self c.start_up.new.self) c.in-Err-Damaged.field-0-is c.in-Err-Damaged.ensures.refused)
-    (keeps c.args.config.now (driver_of c.power_up.new.self) (driver_of c.start_up.new.self) c.start_up.ensures.follows c.in-Err-Damaged.ensures.left) c.start_up.ensures.applications)
+    (lived_refused c.args.config.now (driver_of c.args.store.now) c.power_up.new.self c.start_up.new.self c.power_up.ensures.powers_up (parts_of c.args.parts.now) c.in-Err.fault (refuses c.in-Err.fault ?)
+    c.start_up.ensures.follows c.in-Err.ensures.refused
+    (keeps c.args.config.now (driver_of c.power_up.new.self) (driver_of c.start_up.new.self) c.start_up.ensures.follows c.in-Err.ensures.left) c.start_up.ensures.applications)
 
-pub returns-in-Err-Damaged-clause-played : goal.returns-in-Err-Damaged-clause-played
-returns-in-Err-Damaged-clause-played g c = subst (IsPlayed c.args.config.now) (sym (c.refused-life.ensures (parts_of c.args.parts.now))) (refl, refl, refl, refl)
+pub returns-in-Err-clause-played : goal.returns-in-Err-clause-played
+returns-in-Err-clause-played g c = subst (IsPlayed c.args.config.now) (sym (c.refused-life.ensures (parts_of c.args.parts.now))) (refl, refl, refl, refl)
 
-pub returns-in-Err-Damaged-clause-given : goal.returns-in-Err-Damaged-clause-given
-returns-in-Err-Damaged-clause-given g c =
+pub returns-in-Err-clause-given : goal.returns-in-Err-clause-given
+returns-in-Err-clause-given g c =
     let parts = parts_of c.args.parts.now in
     let boot = ap (λ (v : LifeView). v.boot) (c.refused-life.ensures parts) in
     let first = (driver_of c.args.store.now).device.bench.arms in
     let last = (driver_of c.start_up.new.self).device.bench.arms in
     subst (λ b. WereGiven (arms_by parts b) first last) (sym boot) (none_since first last (c.start_up.ensures.follows.bench.arms ∙ c.power_up.ensures.powers_up.bench.arms))
 
-pub returns-in-Err-Damaged-clause-sound : goal.returns-in-Err-Damaged-clause-sound
-returns-in-Err-Damaged-clause-sound g c =
+pub returns-in-Err-clause-sound : goal.returns-in-Err-clause-sound
+returns-in-Err-clause-sound g c =
     stays_by_keeping c.args.config.now (driver_of c.args.store.now) (driver_of c.power_up.new.self) (driver_of c.start_up.new.self) c.power_up.ensures.powers_up
-    (keeps c.args.config.now (driver_of c.power_up.new.self) (driver_of c.start_up.new.self) c.start_up.ensures.follows c.in-Err-Damaged.ensures.left)
-
-pub returns-in-Err-OtherConfig-clause-lived : goal.returns-in-Err-OtherConfig-clause-lived
-returns-in-Err-OtherConfig-clause-lived g c =
-    subst (λ (v : LifeView). IsLived c.args.config.now (driver_of c.args.store.now) (driver_of c.start_up.new.self) v) (sym (c.refused-life-in-Err-OtherConfig.ensures (parts_of c.args.parts.now)))
-    (lived_refused c.args.config.now (driver_of c.args.store.now) c.power_up.new.self c.start_up.new.self c.power_up.ensures.powers_up (parts_of c.args.parts.now) (faults.OtherConfig c.in-Err-OtherConfig.found c.in-Err-OtherConfig.wanted) tt
-    c.start_up.ensures.follows (subst (RefusedFor c.args.config.now c.power_up.new.self c.start_up.new.self) c.in-Err-OtherConfig.field-0-is c.in-Err-OtherConfig.ensures.refused)
-    (keeps c.args.config.now (driver_of c.power_up.new.self) (driver_of c.start_up.new.self) c.start_up.ensures.follows c.in-Err-OtherConfig.ensures.left) c.start_up.ensures.applications)
-
-pub returns-in-Err-OtherConfig-clause-played : goal.returns-in-Err-OtherConfig-clause-played
-returns-in-Err-OtherConfig-clause-played g c = subst (IsPlayed c.args.config.now) (sym (c.refused-life-in-Err-OtherConfig.ensures (parts_of c.args.parts.now))) (refl, refl, refl, refl)
-
-pub returns-in-Err-OtherConfig-clause-given : goal.returns-in-Err-OtherConfig-clause-given
-returns-in-Err-OtherConfig-clause-given g c =
-    let parts = parts_of c.args.parts.now in
-    let boot = ap (λ (v : LifeView). v.boot) (c.refused-life-in-Err-OtherConfig.ensures parts) in
-    let first = (driver_of c.args.store.now).device.bench.arms in
-    let last = (driver_of c.start_up.new.self).device.bench.arms in
-    subst (λ b. WereGiven (arms_by parts b) first last) (sym boot) (none_since first last (c.start_up.ensures.follows.bench.arms ∙ c.power_up.ensures.powers_up.bench.arms))
-
-pub returns-in-Err-OtherConfig-clause-sound : goal.returns-in-Err-OtherConfig-clause-sound
-returns-in-Err-OtherConfig-clause-sound g c =
-    stays_by_keeping c.args.config.now (driver_of c.args.store.now) (driver_of c.power_up.new.self) (driver_of c.start_up.new.self) c.power_up.ensures.powers_up
-    (keeps c.args.config.now (driver_of c.power_up.new.self) (driver_of c.start_up.new.self) c.start_up.ensures.follows c.in-Err-OtherConfig.ensures.left)
-
-pub returns-in-Err-SequenceSpent-clause-lived : goal.returns-in-Err-SequenceSpent-clause-lived
-returns-in-Err-SequenceSpent-clause-lived g c =
-    subst (λ (v : LifeView). IsLived c.args.config.now (driver_of c.args.store.now) (driver_of c.start_up.new.self) v) (sym (c.refused-life-in-Err-SequenceSpent.ensures (parts_of c.args.parts.now)))
-    (lived_refused c.args.config.now (driver_of c.args.store.now) c.power_up.new.self c.start_up.new.self c.power_up.ensures.powers_up (parts_of c.args.parts.now) (faults.SequenceSpent) tt
-    c.start_up.ensures.follows (subst (RefusedFor c.args.config.now c.power_up.new.self c.start_up.new.self) c.in-Err-SequenceSpent.field-0-is c.in-Err-SequenceSpent.ensures.refused)
-    (keeps c.args.config.now (driver_of c.power_up.new.self) (driver_of c.start_up.new.self) c.start_up.ensures.follows c.in-Err-SequenceSpent.ensures.left) c.start_up.ensures.applications)
-
-pub returns-in-Err-SequenceSpent-clause-played : goal.returns-in-Err-SequenceSpent-clause-played
-returns-in-Err-SequenceSpent-clause-played g c = subst (IsPlayed c.args.config.now) (sym (c.refused-life-in-Err-SequenceSpent.ensures (parts_of c.args.parts.now))) (refl, refl, refl, refl)
-
-pub returns-in-Err-SequenceSpent-clause-given : goal.returns-in-Err-SequenceSpent-clause-given
-returns-in-Err-SequenceSpent-clause-given g c =
-    let parts = parts_of c.args.parts.now in
-    let boot = ap (λ (v : LifeView). v.boot) (c.refused-life-in-Err-SequenceSpent.ensures parts) in
-    let first = (driver_of c.args.store.now).device.bench.arms in
-    let last = (driver_of c.start_up.new.self).device.bench.arms in
-    subst (λ b. WereGiven (arms_by parts b) first last) (sym boot) (none_since first last (c.start_up.ensures.follows.bench.arms ∙ c.power_up.ensures.powers_up.bench.arms))
-
-pub returns-in-Err-SequenceSpent-clause-sound : goal.returns-in-Err-SequenceSpent-clause-sound
-returns-in-Err-SequenceSpent-clause-sound g c =
-    stays_by_keeping c.args.config.now (driver_of c.args.store.now) (driver_of c.power_up.new.self) (driver_of c.start_up.new.self) c.power_up.ensures.powers_up
-    (keeps c.args.config.now (driver_of c.power_up.new.self) (driver_of c.start_up.new.self) c.start_up.ensures.follows c.in-Err-SequenceSpent.ensures.left)
+    (keeps c.args.config.now (driver_of c.power_up.new.self) (driver_of c.start_up.new.self) c.start_up.ensures.follows c.in-Err.ensures.left)
 
 pub returns-in_err-room-clause-begun : goal.returns-in_err-room-clause-begun
 returns-in_err-room-clause-begun g c = none_begun 1 (driver_of c.args.store.now).device
@@ -139,14 +93,6 @@ returns-in-Err-Flash-clause-begun g c =
     one_begun (driver_of c.args.store.now).device (driver_of c.dark_life-life.new.store).device
     (c.dark_life-life.ensures.goes_on.boots ∙ c.start_up.ensures.follows.bench.boots ∙ c.power_up.ensures.powers_up.bench.boots)
 
-pub returns-in-Err-Damaged-clause-begun : goal.returns-in-Err-Damaged-clause-begun
-returns-in-Err-Damaged-clause-begun g c =
-    one_begun (driver_of c.args.store.now).device (driver_of c.start_up.new.self).device (c.start_up.ensures.follows.bench.boots ∙ c.power_up.ensures.powers_up.bench.boots)
-
-pub returns-in-Err-OtherConfig-clause-begun : goal.returns-in-Err-OtherConfig-clause-begun
-returns-in-Err-OtherConfig-clause-begun g c =
-    one_begun (driver_of c.args.store.now).device (driver_of c.start_up.new.self).device (c.start_up.ensures.follows.bench.boots ∙ c.power_up.ensures.powers_up.bench.boots)
-
-pub returns-in-Err-SequenceSpent-clause-begun : goal.returns-in-Err-SequenceSpent-clause-begun
-returns-in-Err-SequenceSpent-clause-begun g c =
+pub returns-in-Err-clause-begun : goal.returns-in-Err-clause-begun
+returns-in-Err-clause-begun g c =
     one_begun (driver_of c.args.store.now).device (driver_of c.start_up.new.self).device (c.start_up.ensures.follows.bench.boots ∙ c.power_up.ensures.powers_up.bench.boots)

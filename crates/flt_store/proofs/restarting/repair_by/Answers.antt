@@ -4,7 +4,7 @@ use Rattle.flt_generation.proofs.Commits.{read_commit}
 use Rattle.flt_store.proofs.TableUse.{commit_twice, commit_fits}
 use Rattle.flt_store.proofs.Causes.{writes_handed}
 use Rattle.flt_store.proofs.Mending.{Mends, mended_within, mended_writes, mended_started}
-use Rattle.flt_store.proofs.Repairing.{never_unread, bytes_of_commit}
+use Rattle.flt_store.proofs.Repairing.{bytes_of_commit}
 use Rattle.flt_store.proofs.restarting.repair_by.Goals.{After-repair}
 use Rattle.flt_store.proofs.restarting.repair_by.Goals as goal
 
@@ -20,25 +20,19 @@ repair-requires-clause-least g c = let size = bytes_of_commit c.args.config.now 
 pub repair-requires-clause-fits : goal.repair-requires-clause-fits
 repair-requires-clause-fits g c = let size = bytes_of_commit c.args.config.now c.args.bytes.now _ (sym c.get_commit.ensures ∙ c.in-Some.is) in commit_fits _ c.requires.table _ size.1
 
-pub returns-in_ok-repair-in-Some-clause-started : goal.returns-in_ok-repair-in-Some-clause-started
-returns-in_ok-repair-in-Some-clause-started g c = mended_started (mends g (goal.at.returns-in_ok-repair-in-Some-clause-started g c).After-repair) c.in_ok-repair-in-Some.was
+pub returns-clause-started : goal.returns-clause-started
+returns-clause-started g c = mended_started (mends g (goal.at.returns-clause-started g c).After-repair) c.in_ok-repair.was
 
-pub returns-in_ok-repair-in-Some-clause-within : goal.returns-in_ok-repair-in-Some-clause-within
-returns-in_ok-repair-in-Some-clause-within g c = mended_within (mends g (goal.at.returns-in_ok-repair-in-Some-clause-within g c).After-repair)
+pub returns-clause-within : goal.returns-clause-within
+returns-clause-within g c = mended_within (mends g (goal.at.returns-clause-within g c).After-repair)
 
-pub returns-in_err-repair-in-Some-clause-within : goal.returns-in_err-repair-in-Some-clause-within
-returns-in_err-repair-in-Some-clause-within g c = mended_within (mends g (goal.at.returns-in_err-repair-in-Some-clause-within g c).After-repair)
+pub returns-in_err-repair-clause-within : goal.returns-in_err-repair-clause-within
+returns-in_err-repair-clause-within g c = mended_within (mends g (goal.at.returns-in_err-repair-clause-within g c).After-repair)
 
-pub returns-in_err-repair-in-Some-clause-writes : goal.returns-in_err-repair-in-Some-clause-writes
-returns-in_err-repair-in-Some-clause-writes g c = λ h holds.
-    writes_handed (driver_of c.args.nvm.now) (driver_of c.repair.new.self) c.repair.result c.from_residual.result _ c.in_err-repair-in-Some.was c.from_residual.ensures.1
-    (mended_writes (mends g (goal.at.returns-in_err-repair-in-Some-clause-writes g c).After-repair))
+pub returns-in_err-repair-clause-writes : goal.returns-in_err-repair-clause-writes
+returns-in_err-repair-clause-writes g c = λ h holds.
+    writes_handed (driver_of c.args.nvm.now) (driver_of c.repair.new.self) c.repair.result c.from_residual.result _ c.in_err-repair.was c.from_residual.ensures.1
+    (mended_writes (mends g (goal.at.returns-in_err-repair-clause-writes g c).After-repair))
 
-pub returns-in-None-clause-writes : goal.returns-in-None-clause-writes
-returns-in-None-clause-writes g c = λ h holds. absurd (never_unread c.args.config.now (driver_of c.args.nvm.now).value c.args.bytes.now h holds (sym c.get_commit.ensures ∙ c.in-None.is))
-
-pub returns-in_ok-repair-in-Some-clause-form : goal.returns-in_ok-repair-in-Some-clause-form
-returns-in_ok-repair-in-Some-clause-form g c = (read_commit c.args.config.now c.args.bytes.now c.in-Some.commit (sym c.get_commit.ensures ∙ c.in-Some.is)).0
-
-pub returns-in-None-clause-unmended : goal.returns-in-None-clause-unmended
-returns-in-None-clause-unmended g c = λ h holds flash. absurd (never_unread c.args.config.now (driver_of c.args.nvm.now).value c.args.bytes.now h holds (sym c.get_commit.ensures ∙ c.in-None.is))
+pub returns-clause-form : goal.returns-clause-form
+returns-clause-form g c = (read_commit c.args.config.now c.args.bytes.now c.in-Some.commit (sym c.get_commit.ensures ∙ c.in-Some.is)).0

@@ -5,7 +5,7 @@ use Rattle.std.proofs.lemmas.List.{length-take-le}
 use Rattle.flt_nvm.specs.Driver.{driver_of}
 use Rattle.flt_store.proofs.TableUse.{commit_index, commit_both}
 use Rattle.flt_store.proofs.Causes.{writes_on, writes_handed}
-use Rattle.flt_store.proofs.Repairing.{sound_kept, mark_stays, both_old, no_commit, not_invalid}
+use Rattle.flt_store.proofs.Repairing.{is_read, sound_kept, mark_stays, both_old, no_commit, not_invalid}
 use Rattle.flt_store.proofs.Copies.{ReadsCommit, reads_commit, range_read, held_at, some_holds, started_by, read_tried, read_kept, missing_read, invalid_read, of_first, none_of_first}
 use Rattle.flt_store.proofs.Running.{handed, whenever}
 use Rattle.flt_store.proofs.Started.{started_kept}
@@ -14,10 +14,10 @@ use Rattle.flt_store.proofs.restarting.restart.Goals.{In-Bytes}
 use Rattle.flt_store.proofs.restarting.restart.Goals as goal
 
 pub read-requires : goal.read-requires
-read-requires g c = commit_index _ c.requires
+read-requires g c = commit_index _ c.requires.table
 
 reads : (g : _) (c : In-Bytes g) → ReadsCommit (driver_of c.args.nvm.now) (driver_of c.read.new.self) c.in-Bytes.length c.in-Bytes.copy c.read.new.out
-reads g c = reads_commit _ _ c.in-Bytes.length c.in-Bytes.copy _ c.read.new.out c.read.ensures.reads.values (commit_both _ c.requires _ _ (rw c.in-Bytes.is at c.in_ok-length.ensures.got))
+reads g c = reads_commit _ _ c.in-Bytes.length c.in-Bytes.copy _ c.read.new.out c.read.ensures.reads.values (commit_both _ c.requires.table _ _ (rw c.in-Bytes.is at c.in_ok-length.ensures.got))
 
 pub slice_bounds-out-end : goal.slice_bounds-out-end
 slice_bounds-out-end g c = (reads g (goal.at.slice_bounds-out-end g c).In-Bytes).short
@@ -28,7 +28,15 @@ slice_bounds-repair_by-end g c = sym (length-take-le c.in-Bytes.length c.read.ne
 pub repair_by-requires : goal.repair_by-requires
 repair_by-requires g c =
     let read = reads g (goal.at.repair_by-requires g c).In-Bytes in
-    record { table = c.read.ensures.table ∙ c.requires; least = (range_read read).0; most = (range_read read).1; held = held_at read }
+    let sound = c.requires.sound in
+    let some = some_holds read c.args.config.now sound.0 sound.1 sound.2 in
+    record {
+      table = c.read.ensures.table ∙ c.requires.table;
+      least = (range_read read).0;
+      most = (range_read read).1;
+      held = held_at read;
+      read = is_read c.args.config.now _ _ some.0 some.1;
+    }
 
 pub returns-in_ok-repair_by-in-Bytes-clause-started : goal.returns-in_ok-repair_by-in-Bytes-clause-started
 returns-in_ok-repair_by-in-Bytes-clause-started g c = λ h s sound mark.
@@ -53,13 +61,13 @@ returns-in_err-repair_by-in-Bytes-clause-kept g c = read_kept (reads g (goal.at.
 
 pub returns-in-Missing-clause-started : goal.returns-in-Missing-clause-started
 returns-in-Missing-clause-started g c = λ h s sound mark.
-    let got = commit_both _ c.requires _ _ (rw c.in-Missing.is at c.in_ok-length.ensures.got) in
+    let got = commit_both _ c.requires.table _ _ (rw c.in-Missing.is at c.in_ok-length.ensures.got) in
     let first = missing_read ((driver_of c.args.nvm.now).value 16) _ _ got.0 in
     inl (started_kept c.args.config.now (driver_of c.args.nvm.now).value (driver_of c.read.new.self).value c.read.ensures.reads.values _ h (no_commit c.args.config.now (driver_of c.args.nvm.now).value h s sound mark first got.1))
 
 pub returns-in-Invalid-clause-started : goal.returns-in-Invalid-clause-started
 returns-in-Invalid-clause-started g c = λ h s sound mark.
-    let got = commit_both _ c.requires _ _ (rw c.in-Invalid.is at c.in_ok-length.ensures.got) in
+    let got = commit_both _ c.requires.table _ _ (rw c.in-Invalid.is at c.in_ok-length.ensures.got) in
     let first = invalid_read ((driver_of c.args.nvm.now).value 16) _ _ got.0 in
     absurd (not_invalid c.args.config.now (driver_of c.args.nvm.now).value h s sound first got.1)
 
@@ -72,13 +80,13 @@ returns-in_ok-repair_by-in-Bytes-clause-first g c = of_first (reads g (goal.at.r
 
 pub returns-in-Missing-clause-first : goal.returns-in-Missing-clause-first
 returns-in-Missing-clause-first g c =
-    let got = commit_both _ c.requires _ _ (rw c.in-Missing.is at c.in_ok-length.ensures.got) in
+    let got = commit_both _ c.requires.table _ _ (rw c.in-Missing.is at c.in_ok-length.ensures.got) in
     let first = missing_read ((driver_of c.args.nvm.now).value 16) _ _ got.0 in
     none_of_first c.args.config.now (driver_of c.args.nvm.now) (driver_of c.read.new.self) (subst HasNoBytes (sym first) tt)
 
 pub returns-in-Invalid-clause-first : goal.returns-in-Invalid-clause-first
 returns-in-Invalid-clause-first g c =
-    let got = commit_both _ c.requires _ _ (rw c.in-Invalid.is at c.in_ok-length.ensures.got) in
+    let got = commit_both _ c.requires.table _ _ (rw c.in-Invalid.is at c.in_ok-length.ensures.got) in
     let first = invalid_read ((driver_of c.args.nvm.now).value 16) _ _ got.0 in
     none_of_first c.args.config.now (driver_of c.args.nvm.now) (driver_of c.read.new.self) (subst HasNoBytes (sym first) tt)
 
@@ -92,4 +100,4 @@ returns-in_err-repair_by-in-Bytes-clause-unrestarted g c = λ h s sound flash.
 
 pub returns-in_err-length-clause-unrestarted : goal.returns-in_err-length-clause-unrestarted
 returns-in_err-length-clause-unrestarted g c = λ h s sound flash.
-    inl (commit_both _ c.requires _ _ (c.read.ensures.unread (handed c.read.result c.from_residual.result _ Flash c.in_err-length.was c.from_residual.ensures.1 flash)))
+    inl (commit_both _ c.requires.table _ _ (c.read.ensures.unread (handed c.read.result c.from_residual.result _ Flash c.in_err-length.was c.from_residual.ensures.1 flash)))
