@@ -6,14 +6,12 @@
 
 ghost use Rattle.flt_notify.specs.Table.{IsAtZero};
 
-use flt_did::{
-    DID_ROWS, DidTable, did_0101, did_0102, did_0103, did_0104, did_0105, did_0106, did_0107,
-};
+use flt_did::{DID_ROWS, DidTable, program_table};
 use flt_ea::EepromMem;
 use flt_flash::FlashMem;
 use flt_io::{MemSink, MemSource};
 use flt_notify::{KINDS, SubTable, note_0, note_1, note_2};
-use flt_program::{Ended, OpenGate, program};
+use flt_program::{OpenGate, program};
 use std::alloc::{AllocError, Global};
 use std::io::Print;
 use std::marker::Sync;
@@ -148,7 +146,7 @@ fn run_with<R: Threads + Wait + Sync>(
     let mut source = MemSource::new(Vec::from_slice(alloc, command.1)?, Vec::new(alloc));
     let mut sink = MemSink::new(alloc, ROOM, Vec::new(alloc))?;
     let flash = FlashMem::blank(alloc, PAGES, BOOTS)?;
-    let device = EepromMem::blank(alloc, UNITS, BOOTS)?;
+    let eeprom = EepromMem::blank(alloc, UNITS, BOOTS)?;
     let ended = program(
         rt,
         alloc,
@@ -156,12 +154,12 @@ fn run_with<R: Threads + Wait + Sync>(
         &mut source,
         &mut sink,
         flash,
-        device,
+        eeprom,
         dids,
         subs,
         &OpenGate,
     );
-    Ok((status_of(ended), sink))
+    Ok((ended.status(), sink))
 }
 
 /// The same with the data identifiers 0101 to 0107, and a subscriber of each kind.
@@ -171,27 +169,11 @@ fn run_program<R: Threads + Wait + Sync>(
     word: &str,
     script: &[u8],
 ) -> Result<(u8, MemSink), AllocError> {
-    let mut dids: DidTable<DID_ROWS> = DidTable::new();
-    let _full = dids.add(0x0101, 2, did_0101).is_err()
-        || dids.add(0x0102, 2, did_0102).is_err()
-        || dids.add(0x0103, 1, did_0103).is_err()
-        || dids.add(0x0104, 4, did_0104).is_err()
-        || dids.add(0x0105, 1, did_0105).is_err()
-        || dids.add(0x0106, 2, did_0106).is_err()
-        || dids.add(0x0107, 8, did_0107).is_err();
     let mut subs: SubTable<KINDS> = SubTable::new();
     let _taken = subs.add(0, note_0).is_err()
         || subs.add(1, note_1).is_err()
         || subs.add(2, note_2).is_err();
-    run_with(rt, alloc, (word, script), dids, subs)
-}
-
-fn status_of(ended: Ended<FlashMem, EepromMem>) -> u8 {
-    match ended {
-        Ended::Bench(outcome) => outcome.status,
-        Ended::Device(outcome) => outcome.status,
-        Ended::Watch(outcome) => outcome.status,
-    }
+    run_with(rt, alloc, (word, script), program_table!(), subs)
 }
 
 /// Whether the script of this name, under this word, ends with this status, and writes the report of the same name.

@@ -1,19 +1,32 @@
 -- What the program hands to a run, and what it makes of how the run ended.
-use Rattle.std.specs.Prelude.{ℕ, List, [], ◌∷◌, ◌==◌, if◌then◌else◌, Result, Ok, Err}
-use Rattle.flt_config.specs.declared.config.DidUse.{DidUse}
-
-abbrev pub did : ℕ → ℕ → DidUse
-did id width = record { id = id; width = width }
-
--- The data identifiers of the program, each with its width in bytes.
-abbrev pub program_dids : List DidUse
-program_dids = did 0x0101 2 ∷ did 0x0102 2 ∷ did 0x0103 1 ∷ did 0x0104 4 ∷ did 0x0105 1 ∷ did 0x0106 2 ∷ did 0x0107 8 ∷ []
+use Rattle.std.specs.Prelude.{◌≡◌, ◌==◌, ◌⊎◌, ℕ, List, [], ◌∷◌, Option, if◌then◌else◌}
+use Rattle.flt_io.specs.Fault.{Rose}
+use Rattle.flt_notify.specs.declared.table.SubTable.{SubTable}
+use Rattle.flt_run.specs.declared.command.Command.{Command}
+use Rattle.flt_run.specs.declared.running.Outcome.{Outcome}
+use Rattle.flt_watch.specs.declared.watching.WatchOutcome.{WatchOutcome}
+use Rattle.flt_program.specs.declared.choosing.Ended.{Ended}
+use Rattle.flt_program.specs.declared.invocation.Invocation.{Invocation}
+use Rattle.flt_program.specs.Program.{EndsOn, status_of}
 
 -- The kinds of value that have a subscriber, each of which is told of the changes of a watch.
 abbrev pub program_kinds : List ℕ
 program_kinds = 0 ∷ 1 ∷ 2 ∷ []
 
--- The exit status: that of the run or of the watch; but 4 where the end of the report could not be written, unless memory ran out.
-abbrev pub exit_status : {T E : Type 0} → ℕ → Result T E → ℕ
-exit_status status (Ok flushed) = status
-exit_status status (Err error) = if status == 7 then 7 else 4
+-- The exit status where the end of the report was lost: 4, unless memory ran out.
+abbrev pub lost_status : ℕ → ℕ
+lost_status status = if status == 7 then 7 else 4
+
+-- The exit status: that of what ended, where the end of the report was written; and else the sink's count of faults rose.
+abbrev pub IsExit : (faults faults_after : ℕ) → (status exit : ℕ) → Type 0
+IsExit faults faults_after status exit =
+    ((faults_after ≡ faults) × (exit ≡ status)) ⊎ (Rose faults faults_after × (exit ≡ lost_status status))
+
+-- The program ended as it was invoked, with these subscribers, and this is the exit status of that. The faults are those of the sink, before the
+-- end of the report was written and after that.
+pub record Exits {B E : Type 0} {n : ℕ} {F : _} {g : _} (subs : SubTable n F g) (invocation : Invocation)
+    (over_flash : Option Command → Outcome B → Type 0) (over_eeprom : Option Command → Outcome E → Type 0) (watches : WatchOutcome F g → Type 0)
+    (faults faults_after exit : ℕ) : Type 0 where
+  pub ended : Ended B E F g
+  pub ends : EndsOn invocation over_flash over_eeprom watches ended
+  pub exit_is : IsExit faults faults_after (status_of ended) exit

@@ -10,6 +10,8 @@ use Rattle.flt_report.specs.Answer.{reply_text}
 use Rattle.flt_turn.specs.Journal.{ops_of}
 use Rattle.flt_verdict.specs.Verdict.{Due, line_due}
 use Rattle.flt_trace.specs.Trace.{IsTrace, Texts}
+use Rattle.flt_audit.specs.declared.auditing.Audited.{Audited}
+use Rattle.flt_audit.specs.declared.auditing.Audited.TheVariants.{NoLife, AllDue, Differs}
 use Rattle.flt_audit.specs.Shape.{Told, Tells}
 
 -- The value that bytes are, or none where they are no JSON.
@@ -37,6 +39,12 @@ verdict texts told = verdict_by (length texts.journal) (unlike_from 0 texts.answ
 -- Texts that tell no life.
 abbrev pub TellsNone : List DidUse → Texts → Type 0
 TellsNone dids texts = (told : Told) → Tells dids texts told → ⊥
+
+-- What came of the texts of a trace: they tell no life, or the answers of the life that they tell differ first at this place, or nowhere.
+abbrev pub IsAuditOf : List DidUse → Texts → Audited → Type 0
+IsAuditOf dids texts NoLife = TellsNone dids texts
+IsAuditOf dids texts AllDue = (told : Told) × Tells dids texts told × (None ≡ unlike_from 0 texts.answers (due_texts told))
+IsAuditOf dids texts (Differs place) = (told : Told) × Tells dids texts told × (Some place ≡ unlike_from 0 texts.answers (due_texts told))
 
 -- What is due of texts: the verdict of the life that they tell, or that they tell none.
 abbrev pub IsDueOfTexts : List DidUse → Texts → Due → Type 0

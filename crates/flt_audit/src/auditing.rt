@@ -1,11 +1,11 @@
 //! What is told of a trace.
-ghost use Rattle.std.specs.Prelude.{◌≡◌, IfOk, MatchOption, Some};
+ghost use Rattle.std.specs.Prelude.{◌≡◌, ◌++◌, IfOk, Some, codes};
+ghost use Rattle.std.specs.Fmt.{decimal};
 ghost use Rattle.flt_did.specs.Table.{dids_of};
-ghost use Rattle.flt_verdict.specs.Verdict.{Tells, due_of};
+ghost use Rattle.flt_verdict.specs.Verdict.{Tells, due_of, line_due};
 ghost use Rattle.serde_json.specs.View.{view};
 ghost use Rattle.flt_trace.specs.Trace.{texts_of};
-ghost use Rattle.flt_audit.specs.Shape.{Told, Tells as TellsLife};
-ghost use Rattle.flt_audit.specs.Audit.{IsAudited, IsDueOf, IsDueOfTexts, TellsNone, due_texts, unlike_from, verdict_by};
+ghost use Rattle.flt_audit.specs.Audit.{IsAuditOf, IsAudited, IsDueOf, IsDueOfTexts};
 
 use crate::replay::first_unlike;
 use flt_base::read_base;
@@ -13,7 +13,7 @@ use flt_call::read_calls;
 use flt_dcm::Unit;
 use flt_dem::Dem;
 use flt_did::{DID_ROWS, DidTable};
-use flt_io::{Sink, Source};
+use flt_io::{Sink, Source, Status};
 use flt_script::{ParseFault, Script, parse};
 use flt_trace::{Trace, read_line, read_trace};
 use flt_verdict::{Judge, Verdict, answer};
@@ -21,62 +21,62 @@ use json::Scratch;
 use serde_json::Value;
 use std::alloc::{AllocError, Global};
 
-/// The statuses of a trace that was judged: each answer is due, or one is another.
-const YES: u8 = 0;
-
-const NO: u8 = 13;
-
-/// The statuses of bytes that are no JSON, and of JSON that is no trace of a life.
-const JSON: u8 = 11;
-
-const SHAPE: u8 = 12;
-
-/// The verdict where the first answer that is not due stands at this place, if one does.
-fn verdict_by(alloc: Global, calls: usize, unlike: Option<usize>) -> Result<Verdict, AllocError>
-    ensures { IfOk result (λ told. due_of told ≡ verdict_by calls unlike) }
-{
-    match unlike {
-        None => {
-            let words = format!(in alloc; "yes {calls}")?;
-            Verdict::line(alloc, YES, words.as_bytes())
-        }
-        Some(place) => {
-            let words = format!(in alloc; "no {place}")?;
-            Verdict::line(alloc, NO, words.as_bytes())
-        }
-    }
+/// What came of the calls of a trace, made again.
+#[derive(Clone, Copy, Debug, PartialEq, Eq)]
+pub(crate) enum Audited {
+    /// The texts tell no life.
+    NoLife,
+    /// Each answer is the one that is due.
+    AllDue,
+    /// The answer at this place is another, and those before it are due.
+    Differs(usize),
 }
 
-/// The first place of a trace whose answer is not due, if there is one; no answer where the trace tells no life.
+/// What is told where each of these calls has its due answer.
+fn yes(alloc: Global, calls: usize) -> Result<Verdict, AllocError>
+    ensures { IfOk result (λ told. due_of told ≡ line_due 0 (codes "yes " ++ decimal calls)) }
+{
+    let words = format!(in alloc; "yes {calls}")?;
+    Verdict::line(alloc, Status::Done, words.as_bytes())
+}
+
+/// What is told where the answer at this place is the first that is not due.
+fn no(alloc: Global, place: usize) -> Result<Verdict, AllocError>
+    ensures { IfOk result (λ told. due_of told ≡ line_due 13 (codes "no " ++ decimal place)) }
+{
+    let words = format!(in alloc; "no {place}")?;
+    Verdict::line(alloc, Status::OtherAnswer, words.as_bytes())
+}
+
+/// Makes the calls of a trace again, up to the first whose answer is not due.
 fn judge_trace(
     alloc: Global,
     trace: &Trace<'_>,
     dids: DidTable<DID_ROWS>,
-) -> Result<Option<Option<usize>>, AllocError>
-    ensures { IfOk result (λ found. MatchOption found
-        (TellsNone (dids_of dids) (texts_of trace.now))
-        (λ unlike. (told : Told) × TellsLife (dids_of dids) (texts_of trace.now) told
-        × (unlike ≡ unlike_from 0 (texts_of trace.now).answers (due_texts told)))) }
+) -> Result<Audited, AllocError>
+    ensures { IfOk result (IsAuditOf (dids_of dids) (texts_of trace.now)) }
 {
     let script = match parse(alloc, trace.script.as_bytes(), &dids) {
         Ok(script) => script,
-        Err(ParseFault::At(_)) => return Ok(None),
+        Err(ParseFault::At(_)) => return Ok(Audited::NoLife),
         Err(ParseFault::Memory) => return Err(AllocError),
     };
     if trace.answers.len() != trace.journal.len() {
-        return Ok(None);
+        return Ok(Audited::NoLife);
     }
     let Script { config, .. } = script;
     let Some(base) = read_base(alloc, &config, &trace.base)? else {
-        return Ok(None);
+        return Ok(Audited::NoLife);
     };
     let Some(calls) = read_calls(alloc, &config, &trace.journal)? else {
-        return Ok(None);
+        return Ok(Audited::NoLife);
     };
     let mut unit = Unit::make(Dem::make(config, dids));
     unit.boot(&base);
-    let unlike = first_unlike(alloc, &mut unit, base, &calls, &trace.answers)?;
-    Ok(Some(unlike))
+    match first_unlike(alloc, &mut unit, base, &calls, &trace.answers)? {
+        None => Ok(Audited::AllDue),
+        Some(place) => Ok(Audited::Differs(place)),
+    }
 }
 
 /// What is told of the texts of a trace.
@@ -88,8 +88,9 @@ fn judge_texts(
     ensures { IfOk result (λ verdict. IsDueOfTexts (dids_of dids) (texts_of trace.now) (due_of verdict)) }
 {
     match judge_trace(alloc, trace, dids)? {
-        Some(unlike) => verdict_by(alloc, trace.journal.len(), unlike),
-        None => Verdict::line(alloc, SHAPE, b"shape"),
+        Audited::NoLife => Verdict::line(alloc, Status::NoTrace, b"shape"),
+        Audited::AllDue => yes(alloc, trace.journal.len()),
+        Audited::Differs(place) => no(alloc, place),
     }
 }
 
@@ -103,7 +104,7 @@ fn judge_value(
 {
     match read_trace(alloc, value)? {
         Some(trace) => judge_texts(alloc, &trace, dids),
-        None => Verdict::line(alloc, SHAPE, b"shape"),
+        None => Verdict::line(alloc, Status::NoTrace, b"shape"),
     }
 }
 
@@ -114,7 +115,7 @@ fn judge_any(alloc: Global, bytes: &[u8], dids: DidTable<DID_ROWS>) -> Result<Ve
     match Value::from_slice(alloc, bytes) {
         Ok(value) => judge_value(alloc, &value, dids),
         Err(error) if error.is_memory() => Err(AllocError),
-        Err(_) => Verdict::line(alloc, JSON, b"json"),
+        Err(_) => Verdict::line(alloc, Status::NoJson, b"json"),
     }
 }
 

@@ -47,7 +47,7 @@ fn take_blocks(
     ensures { IfOk result (λ found. (state : State) → IsBaseOf config.now (seen texts.now) state →
         MatchOption found ⊥ (λ taken. taken ≡ state)) }
 {
-    // A configuration that has a mark has sizes of which the blocks have room.
+    // A witness for the checker: a configuration that has a mark has sizes of which the blocks have room.
     let Mark { .. } = mark_of(config);
     let mut state = initial(config);
     let mut place = 0;

@@ -15,8 +15,8 @@ use flt_script::Step;
 use flt_script::laws::printed_step_is_read_again;
 use std::alloc::{AllocError, Global};
 
-/// Looks at bytes, each of which is below 256.
-fn look_at(bytes: &[u8])
+/// A witness for the checker: each of the bytes is below 256.
+fn witness(bytes: &[u8])
     ensures { are_bytes bytes.now ≡ true }
 {
     let _count = bytes.len();
@@ -47,7 +47,7 @@ fn step_of(op: &Op) -> Option<Step>
             fulfilled: *fulfilled,
         }),
         Op::Request { tester, bytes } => {
-            look_at(bytes.as_slice());
+            witness(bytes.as_slice());
             Some(Step::Request {
                 tester: *tester,
                 bytes: bytes.clone().unwrap(),

@@ -1,8 +1,5 @@
 //! What is reported about a script.
-ghost use Rattle.std.specs.Prelude.{◌≡◌, ℕ, ◌<◌, ◌≤◌, ◌^◌, IfOk, IfSome, Some, option_map};
-ghost use Rattle.std.specs.Borrow.{Bor};
-ghost use Rattle.flt_model.specs.Frame.{did_value};
-ghost use Rattle.flt_did.specs.declared.signals.Signals.{Signals as SignalValues};
+ghost use Rattle.std.specs.Prelude.{◌≡◌, ◌≤◌, IfOk, IfSome, option_map};
 ghost use Rattle.flt_did.specs.Serves.{Serves};
 ghost use Rattle.flt_did.specs.Table.{dids_of};
 ghost use Rattle.flt_flash.specs.Memory.{state_of};
@@ -12,9 +9,10 @@ ghost use Rattle.flt_draw.specs.Drawing.{Draws, IsDrawn, IsDue, IsRunOf};
 
 use crate::command::Command;
 use flt_config::ValidConfig;
-use flt_did::{DID_ROWS, DidTable, Reader};
+use flt_did::{DID_ROWS, DidTable};
+use flt_fee::Fee;
 use flt_flash::FlashMem;
-use flt_io::{Discard, MemSource, Sink, Source, StreamFault, read_front};
+use flt_io::{Discard, MemSource, Sink, Source, Status, StreamFault, read_front};
 use flt_picture::{sectors, timeline};
 use flt_report::put_script_fault;
 use flt_run::{OpenGate, Outcome, run};
@@ -28,37 +26,12 @@ use std::thread::Threads;
 /// One byte more than a script may have.
 const MOST: usize = 1_048_577;
 
-/// The status where the bytes are no script.
-const REFUSED: u8 = 2;
-
-/// The status where the source failed.
-const READ_FAULT: u8 = 3;
-
 /// The table of data identifiers, once for the run and once for the machine that makes its calls again.
 #[derive(Drop)]
 pub(crate) struct Tables {
     pub(crate) run: DidTable<DID_ROWS>,
     pub(crate) replay: DidTable<DID_ROWS>,
     ghost same: { dids_of replay ≡ dids_of run },
-}
-
-impl Tables {
-    /// These tables with a data identifier of 1 to 8 bytes, or nothing if they have it or are full. Its function must be callable on all
-    /// signals, return the specified value, and fit the width.
-    pub(crate) fn add(self, id: u16, width: u8, read: Reader) -> Option<Tables>
-        requires width { (1 ≤ width) × (width ≤ 8) }
-        requires callable { (s : Bor SignalValues) → Reader.pre read s }
-        requires value { (s : Bor SignalValues) (r : ℕ) → Reader.post read s r → did_value id s.now.values ≡ Some r }
-        requires narrow { (s : Bor SignalValues) (r : ℕ) → Reader.post read s r → r < 256 ^ width }
-    {
-        let Tables {
-            mut run,
-            mut replay,
-        } = self;
-        run.add(id, width, read).ok()?;
-        replay.add(id, width, read).ok()?;
-        Some(Tables { run, replay })
-    }
 }
 
 /// Runs a script.
@@ -68,25 +41,23 @@ fn run_bytes<R: Threads + Wait + Sync>(
     bytes: Vec<u8>,
     flash: FlashMem,
     dids: DidTable<DID_ROWS>,
-) -> Result<Outcome<FlashMem>, AllocError>
+) -> Outcome<FlashMem>
     requires pages { (state_of flash).pages ≡ 1024 }
     requires boots { 256 ≤ (state_of flash).bench.boots_left }
     requires unarmed { (state_of flash).bench.armed ≡ 0 }
-    ensures { IfOk result (λ outcome. IsRunOf (dids_of dids) (state_of flash) bytes.items outcome.status outcome.lives.items) }
+    ensures { IsRunOf (dids_of dids) (state_of flash) bytes.items result.status result.lives.items }
 {
-    let mut words = Vec::new(alloc);
-    words.push(String::from_str(alloc, "run")?)?;
     let mut source = MemSource::new(bytes, Vec::new(alloc));
-    Ok(run(
+    run::<R, MemSource, Discard, Fee<FlashMem>, OpenGate>(
         rt,
         alloc,
-        &words,
+        Some(flt_run::Command::Run),
         &mut source,
         &mut Discard,
         flash,
         dids,
         &OpenGate,
-    ))
+    )
 }
 
 /// The picture of what a run made.
@@ -101,7 +72,7 @@ fn picture_of(
 {
     match command {
         Command::Timeline => timeline(alloc, config, dids, &outcome.lives),
-        Command::Sectors => sectors(alloc, config, &outcome.bench),
+        Command::Sectors => sectors(alloc, config, &outcome.device),
     }
 }
 
@@ -112,7 +83,7 @@ fn script_verdict(alloc: Global, fault: &ScriptFault) -> Result<Verdict, AllocEr
     let mut text = Vec::new(alloc);
     put_script_fault(fault, &mut text)?;
     Ok(Verdict {
-        status: REFUSED,
+        status: Status::Refused.number(),
         text,
     })
 }
@@ -138,7 +109,7 @@ fn judge<R: Threads + Wait + Sync>(
     };
     let Script { config, .. } = script;
     let Tables { run, replay, .. } = tables;
-    let outcome = run_bytes(rt, alloc, bytes, flash, run)?;
+    let outcome = run_bytes(rt, alloc, bytes, flash, run);
     let status = outcome.status;
     // No other status comes, unless memory ran out: the bytes are a script, and neither stream fails.
     if status != 0 && status != 5 && status != 6 && status != 8 {
@@ -173,7 +144,7 @@ fn reckon<R: Threads + Wait + Sync, S: Source>(
     match read_front(alloc, MOST, source) {
         Ok(bytes) => judge(rt, alloc, command, bytes, flash, tables).ok(),
         Err(StreamFault::Memory) => None,
-        Err(StreamFault::Failed) => Verdict::line(alloc, READ_FAULT, b"read fault").ok(),
+        Err(StreamFault::Failed) => Verdict::line(alloc, Status::ReadFault, b"read fault").ok(),
     }
 }
 

@@ -1,6 +1,6 @@
 ghost use Rattle.std.specs.Prelude.{◌≡◌, ◌<◌, length, is_err, IfOk, OnOk, OnErr, if◌then◌else◌};
 ghost use Rattle.std.specs.Io.{WritesAtMost};
-ghost use Rattle.std.specs.Io.KnownBytes.{Appends, WriteAppends};
+ghost use Rattle.std.specs.Io.KnownBytes.{Appends, Keeps, WriteAppends};
 ghost use Rattle.flt_io.specs.Fault.{HasCause, one_more};
 ghost use Rattle.flt_io.specs.Sink.{AppendsFront};
 
@@ -41,6 +41,25 @@ impl<W> WriteSink<W> {
 
 impl<W: Write> WriteSink<W> {
     ghost use Rattle.flt_io.specs.Stream.{writer_of, write_faults};
+
+    /// Has the writer write what it keeps back.
+    ///
+    /// # Errors
+    ///
+    /// `Failed` only where the count of faults rose. What the writer kept back may be lost, or a part of it.
+    pub fn flush(&mut self) -> Result<(), Failed>
+        ensures bytes { Keeps (W.contents (writer_of self.old)) (W.contents (writer_of self.new)) }
+        ensures cause { HasCause (write_faults self.old) (write_faults self.new) result }
+        ensures counted { write_faults self.new ≡ (if is_err result then one_more (write_faults self.old) else write_faults self.old) }
+    {
+        match self.inner.flush() {
+            Ok(()) => Ok(()),
+            Err(_) => {
+                self.faults = self.faults.saturating_add(1);
+                Err(Failed)
+            }
+        }
+    }
 
     /// Writes a prefix of a piece that is not empty, at least one byte, and returns how many.
     #[inline(always)]

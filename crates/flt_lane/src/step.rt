@@ -56,8 +56,9 @@ pub(crate) fn make_call<R: Wait>(
             let Ok(told) = locks.dem.call_into(rt, &mut seats.dem, op, response) else {
                 unreachable!()
             };
-            let length = response.len();
-            prove!(length <= RESPONSE);
+            // A witness for the checker: the bytes are at most those of a response.
+            let witness = response.len();
+            prove!(witness <= RESPONSE);
             replies.keep(StepAnswer::Dem(told), response.as_slice());
         }
         Action::Queue(op) => {

@@ -1,6 +1,6 @@
 -- What a start-up finds, and what it leaves where it fails.
 use Rattle.std.proofs.Common.{◌≡◌, List, inl, inr, ⊎_elim, ℕ, ◌+◌, [], ◌∷◌, length, Option, Some, None, Result, Ok, refl, sym, ap, subst, arith, ◌∙◌, Err}
-use Rattle.std.specs.Prelude.{IfOk}
+use Rattle.std.specs.Prelude.{◌≢◌, IfOk}
 use Rattle.std.proofs.lemmas.List.{length-append}
 use Rattle.flt_flash.specs.Blocks.{BlocksState}
 use Rattle.flt_flash.specs.Calls.{Follows, SameValues, PowersUpDriver}
@@ -33,6 +33,13 @@ use Rattle.flt_life.proofs.Riding.{goes_nowhere}
 abbrev pub Refuses : StartFault → Type 0
 Refuses faults.Flash = ⊥
 Refuses _ = Unit {0}
+
+-- So does each fault that is not one of the device.
+pub refuses : (fault : StartFault) → fault ≢ faults.Flash → Refuses fault
+refuses faults.Flash other = absurd (other refl)
+refuses (faults.Damaged place) other = tt
+refuses (faults.OtherConfig found wanted) other = tt
+refuses faults.SequenceSpent other = tt
 
 damage_kept : (before after : BlocksState) → Follows before after → (damage : Option (ℕ × ℕ)) → before.damage ≡ damage → after.damage ≡ before.damage
 damage_kept before after follows None is = follows.no_new_damage is ∙ sym is

@@ -1,4 +1,5 @@
-//! What a run comes to by its command, before it is told: the lives of its script over a device, or an answer without lives.
+//! What a run comes to by its command, before it is told: the lives of its script over a device, or an answer without lives, and the
+//! device as they left it. It comes to nothing if memory runs out.
 ghost use Rattle.std.specs.Prelude.{◌≡◌, ◌≢◌, ◌≤◌, ℕ, List, Option, None, Some, All, IfSome, false, true};
 ghost use Rattle.flt_flash.specs.State.{FlashState};
 ghost use Rattle.flt_flash.specs.Blocks.{device_of};
@@ -40,15 +41,8 @@ use std::marker::Sync;
 use std::sync::Wait;
 use std::thread::Threads;
 
-/// What a run came to, or nothing if memory ran out, and the device as it left it.
-#[derive(Drop)]
-pub(crate) struct Performed<D> {
-    pub(crate) ending: Option<Ending>,
-    pub(crate) device: D,
-}
-
-/// Looks at a configuration, which is valid, and whose numbers are those of their types.
-fn look_at_config(config: &ValidConfig)
+/// A witness for the checker: the configuration is valid, and its numbers are those of their types.
+fn witness(config: &ValidConfig)
     ensures { IsGiven config.now }
 {
     let config = config.config();
@@ -85,7 +79,7 @@ fn live_alone<D: Driver>(
     ensures lives { LivesOn (D.medium script.now.config) script.now.config (device_of (D.device_state device)) (device_of (D.device_state result.device))
         (content script.now).lives result.lives }
 {
-    look_at_config(&script.config);
+    witness(&script.config);
     let unit = Unit::make(Dem::make(script.config.twin(), dids));
     run_alone::<D>(alloc, unit, device, &script.config, &script.lives)
 }
@@ -108,18 +102,8 @@ fn live_in_lanes<R: Threads + Wait + Sync, G: SharedGate, D: Driver>(
     ensures lives { LivesOn (D.medium script.now.config) script.now.config (device_of (D.device_state device)) (device_of (D.device_state result.device))
         (content script.now).lives result.lives }
 {
-    look_at_config(&script.config);
+    witness(&script.config);
     run_in_lanes::<R, G, D>(rt, gate, alloc, device, &script.config, dids, &script.lives)
-}
-
-/// The words are not those of a command.
-fn usage<D: Drop>(device: D) -> Performed<D>
-    ensures { result ≡ record { ending = Some Usage; device = device } }
-{
-    Performed {
-        ending: Some(Ending::Usage),
-        device,
-    }
 }
 
 /// Reads the script, and makes none of its steps.
@@ -141,60 +125,54 @@ fn load_plain<D: Driver>(
     count: u32,
     device: D::Device,
     dids: DidTable<DID_ROWS>,
-) -> Performed<D::Device>
+) -> (Option<Ending>, D::Device)
     requires some { 1 ≤ count }
     requires few { count ≤ 60000 }
     requires serves { ServesAll D.serves (D.device_state device) }
     requires boots { 256 ≤ (D.device_state device).bench.boots_left }
     requires unarmed { (D.device_state device).bench.armed ≡ 0 }
     ensures { (dids : List DidUse) (left : Option (List ℕ)) (faults : ℕ) → ComesTo dids
-        (unread_inside left faults D.medium (D.device_state device) (D.device_state result.device)) (Some (commands.Load count false)) result.ending }
+        (unread_inside left faults D.medium (D.device_state device) (D.device_state result.1)) (Some (commands.Load count false)) result.0 }
 {
     match load(alloc, count, false) {
         Ok(script) => {
             let Run { lives, device } = live_alone::<D>(alloc, device, &script, dids);
-            Performed {
-                ending: made_of(script, lives).map(|made| Ending::Loaded(made)),
+            (
+                made_of(script, lives).map(|made| Ending::Loaded(made)),
                 device,
-            }
+            )
         }
-        Err(_) => Performed {
-            ending: None,
-            device,
-        },
+        Err(_) => (None, device),
     }
 }
 
-/// Carries out a command that needs no lock; each other command is answered as words that are none.
+/// Carries out a command that needs no lock; each other command is answered as none.
 pub(crate) fn perform_plain<S: Source, D: Driver>(
     alloc: Global,
     command: Option<Command>,
     source: &mut S,
     device: D::Device,
     dids: DidTable<DID_ROWS>,
-) -> Performed<D::Device>
+) -> (Option<Ending>, D::Device)
     requires range { IsInRange command }
     requires serves { ServesAll D.serves (D.device_state device) }
     requires boots { 256 ≤ (D.device_state device).bench.boots_left }
     requires unarmed { (D.device_state device).bench.armed ≡ 0 }
     ensures { ComesTo (dids_of dids)
-        (inside_of S.left S.faults source.old source.new D.medium (D.device_state device) (D.device_state result.device)) (plain_of command) result.ending }
+        (inside_of S.left S.faults source.old source.new D.medium (D.device_state device) (D.device_state result.1)) (plain_of command) result.0 }
 {
     let Some(command) = command else {
-        return usage(device);
+        return (Some(Ending::Usage), device);
     };
     match command {
-        Command::Check => Performed {
-            ending: check(alloc, source, &dids),
-            device,
-        },
+        Command::Check => (check(alloc, source, &dids), device),
         Command::Load { count, lanes } => {
             if lanes {
-                return usage(device);
+                return (Some(Ending::Usage), device);
             }
             load_plain::<D>(alloc, count, device, dids)
         }
-        Command::Run => usage(device),
+        Command::Run => (Some(Ending::Usage), device),
     }
 }
 
@@ -206,29 +184,26 @@ fn load_in_lanes<R: Threads + Wait + Sync, G: SharedGate, D: Driver>(
     count: u32,
     device: D::Device,
     dids: DidTable<DID_ROWS>,
-) -> Performed<D::Device>
+) -> (Option<Ending>, D::Device)
     requires some { 1 ≤ count }
     requires few { count ≤ 60000 }
     requires serves { ServesAll D.serves (D.device_state device) }
     requires boots { 256 ≤ (D.device_state device).bench.boots_left }
     requires unarmed { (D.device_state device).bench.armed ≡ 0 }
     ensures { (dids : List DidUse) (left : Option (List ℕ)) (faults : ℕ) → ComesTo dids
-        (unread_inside left faults D.medium (D.device_state device) (D.device_state result.device)) (Some (commands.Load count true)) result.ending }
+        (unread_inside left faults D.medium (D.device_state device) (D.device_state result.1)) (Some (commands.Load count true)) result.0 }
 {
     match load(alloc, count, true) {
         Ok(script) => {
             let Run { lives, device } = live_in_lanes::<R, G, D>(
                 rt, gate, alloc, device, &script, dids,
             );
-            Performed {
-                ending: made_of(script, lives).map(|made| Ending::Loaded(made)),
+            (
+                made_of(script, lives).map(|made| Ending::Loaded(made)),
                 device,
-            }
+            )
         }
-        Err(_) => Performed {
-            ending: None,
-            device,
-        },
+        Err(_) => (None, device),
     }
 }
 
@@ -240,39 +215,27 @@ fn run_script<R: Threads + Wait + Sync, G: SharedGate, S: Source, D: Driver>(
     source: &mut S,
     device: D::Device,
     dids: DidTable<DID_ROWS>,
-) -> Performed<D::Device>
+) -> (Option<Ending>, D::Device)
     requires serves { ServesAll D.serves (D.device_state device) }
     requires boots { 256 ≤ (D.device_state device).bench.boots_left }
     requires unarmed { (D.device_state device).bench.armed ≡ 0 }
     ensures { ComesTo (dids_of dids)
-        (inside_of S.left S.faults source.old source.new D.medium (D.device_state device) (D.device_state result.device)) (Some commands.Run) result.ending }
+        (inside_of S.left S.faults source.old source.new D.medium (D.device_state device) (D.device_state result.1)) (Some commands.Run) result.0 }
 {
     match fetch(alloc, source, &dids) {
         Fetched::Script(script) => {
             let Run { lives, device } = live_in_lanes::<R, G, D>(
                 rt, gate, alloc, device, &script, dids,
             );
-            Performed {
-                ending: made_of(script, lives).map(|made| Ending::Ran(made)),
-                device,
-            }
+            (made_of(script, lives).map(|made| Ending::Ran(made)), device)
         }
-        Fetched::Refused(fault) => Performed {
-            ending: Some(Ending::Refused(fault)),
-            device,
-        },
-        Fetched::Failed => Performed {
-            ending: Some(Ending::Unreadable),
-            device,
-        },
-        Fetched::Memory => Performed {
-            ending: None,
-            device,
-        },
+        Fetched::Refused(fault) => (Some(Ending::Refused(fault)), device),
+        Fetched::Failed => (Some(Ending::Unreadable), device),
+        Fetched::Memory => (None, device),
     }
 }
 
-/// Carries out a command; no command is answered as words that are none.
+/// Carries out a command, and answers what the run came to, or nothing if memory ran out, and the device as it left it.
 pub(crate) fn perform<R: Threads + Wait + Sync, G: SharedGate, S: Source, D: Driver>(
     rt: &R,
     gate: &G,
@@ -281,16 +244,16 @@ pub(crate) fn perform<R: Threads + Wait + Sync, G: SharedGate, S: Source, D: Dri
     source: &mut S,
     device: D::Device,
     dids: DidTable<DID_ROWS>,
-) -> Performed<D::Device>
+) -> (Option<Ending>, D::Device)
     requires range { IsInRange command }
     requires serves { ServesAll D.serves (D.device_state device) }
     requires boots { 256 ≤ (D.device_state device).bench.boots_left }
     requires unarmed { (D.device_state device).bench.armed ≡ 0 }
     ensures { ComesTo (dids_of dids)
-        (inside_of S.left S.faults source.old source.new D.medium (D.device_state device) (D.device_state result.device)) command result.ending }
+        (inside_of S.left S.faults source.old source.new D.medium (D.device_state device) (D.device_state result.1)) command result.0 }
 {
     let Some(word) = command else {
-        return usage(device);
+        return (Some(Ending::Usage), device);
     };
     match word {
         Command::Run => run_script::<R, G, S, D>(rt, gate, alloc, source, device, dids),

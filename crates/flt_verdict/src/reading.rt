@@ -3,18 +3,12 @@ ghost use Rattle.std.specs.Prelude.{◌≡◌, ◌≤◌, IfOk, IfSome, IsErrOf}
 ghost use Rattle.flt_verdict.specs.Verdict.{HasCome, IsFaultDue, due_of, failed, too_many, whole};
 
 use crate::verdict::Verdict;
-use flt_io::{Source, StreamFault, read_front};
+use flt_io::{Source, Status, StreamFault, read_front};
 use std::alloc::Global;
 use thiserror::Error;
 
 /// The most bytes of an input.
 const MOST: usize = 16_777_216;
-
-/// The status where the source failed.
-const READ_FAULT: u8 = 3;
-
-/// The status where the input has more bytes than are taken.
-const INPUT_LARGE: u8 = 9;
 
 /// Why an input was not read to its end.
 #[derive(Clone, Copy, Debug, PartialEq, Eq, Error)]
@@ -50,8 +44,8 @@ impl InputFault {
     {
         match self {
             InputFault::Memory => None,
-            InputFault::Failed => Verdict::line(alloc, READ_FAULT, b"read fault").ok(),
-            InputFault::TooMany => Verdict::line(alloc, INPUT_LARGE, b"input large").ok(),
+            InputFault::Failed => Verdict::line(alloc, Status::ReadFault, b"read fault").ok(),
+            InputFault::TooMany => Verdict::line(alloc, Status::InputLarge, b"input large").ok(),
         }
     }
 }

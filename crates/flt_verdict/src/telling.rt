@@ -3,13 +3,7 @@ ghost use Rattle.std.specs.Prelude.{option_map};
 ghost use Rattle.flt_verdict.specs.Verdict.{IsToldOf, due_of};
 
 use crate::verdict::Verdict;
-use flt_io::Sink;
-
-/// The status where the sink failed.
-const WRITE_FAULT: u8 = 4;
-
-/// The status where memory ran out.
-const OUT_OF_MEMORY: u8 = 7;
+use flt_io::{Sink, Status};
 
 /// Tells a verdict, and answers its status: 4 in its place where the sink failed; no verdict means that memory ran out, and answers 7.
 pub fn tell<K: Sink>(verdict: Option<Verdict>, sink: &mut K) -> u8
@@ -21,10 +15,10 @@ pub fn tell<K: Sink>(verdict: Option<Verdict>, sink: &mut K) -> u8
     }) (option_map due_of verdict) result }
 {
     let Some(Verdict { status, text }) = verdict else {
-        return OUT_OF_MEMORY;
+        return Status::OutOfMemory.number();
     };
     match sink.push(&text) {
         Ok(()) => status,
-        Err(_) => WRITE_FAULT,
+        Err(_) => Status::WriteFault.number(),
     }
 }

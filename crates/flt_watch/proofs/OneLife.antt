@@ -6,35 +6,33 @@ use Rattle.std.proofs.lemmas.Bool.{and_parts, false≢true}
 use Rattle.std.proofs.lemmas.List.Elements.{All-nil, All-cons, All-head, All-tail}
 use Rattle.std.proofs.lemmas.List.Sums.{sum_by-cons}
 use Rattle.flt_config.specs.declared.config.Config.{Config}
-use Rattle.flt_model.specs.declared.call.Op.TheVariants as ops
+use Rattle.flt_model.specs.declared.call.Op.{Op}
+use Rattle.flt_dcm.specs.Unit.{IsAdmitted}
 use Rattle.flt_script.specs.declared.step.Part.{Part}
 use Rattle.flt_script.specs.declared.step.Step.{Step}
-use Rattle.flt_script.specs.declared.step.Step.TheVariants as steps
 use Rattle.flt_script.specs.Part.{PartOf, parts_of}
 use Rattle.flt_script.specs.Step.{are_parts_in, lanes_of}
 use Rattle.flt_script.specs.Step as script
+use Rattle.flt_life.specs.declared.action.Action.{Action}
+use Rattle.flt_life.specs.declared.action.Action.TheVariants.{Call, Queue, Save, Drain, Get, Arm}
 use Rattle.flt_life.specs.Actions.{IsPossible, action_of}
 use Rattle.flt_life.specs.Lives.{lists}
 use Rattle.flt_life.specs.Parts.{IsPossibleInLane, IsPossiblePart, steps_in, widths}
 use Rattle.flt_report.proofs.Possible.{possible_lives, widths_same}
-use Rattle.flt_watch.specs.Asked.{all_watched, are_watched, is_watched, is_watched_part}
+use Rattle.flt_watch.specs.Asked.{all_watched, are_watched, is_call, is_watched, is_watched_part}
 use Rattle.flt_watch.specs.Block.{IsPartFor}
 use Rattle.flt_watch.specs.Lane.{IsLaneFor, IsWatchable}
 
+watchable_action : (c : Config) (action : Action) → is_call action ≡ true → IsPossible c action → (op : Op) × (action ≡ Call op) × IsAdmitted c op
+watchable_action c (Call op) is possible = (op, refl, possible.1)
+watchable_action c (Queue op) is possible = absurd (false≢true is)
+watchable_action c Save is possible = absurd (false≢true is)
+watchable_action c Drain is possible = absurd (false≢true is)
+watchable_action c (Get block) is possible = absurd (false≢true is)
+watchable_action c (Arm arm) is possible = absurd (false≢true is)
+
 watchable_step : (c : Config) (step : Step) → is_watched step ≡ true → IsPossible c (action_of step) → IsWatchable c step
-watchable_step c (steps.Report event report) is possible = (ops.Report event report, refl, possible.1)
-watchable_step c (steps.Show event) is possible = (ops.Show event, refl, possible.1)
-watchable_step c (steps.Cycle cycle) is possible = (ops.Cycle cycle, refl, possible.1)
-watchable_step c (steps.Tick ticks) is possible = (ops.Tick ticks, refl, possible.1)
-watchable_step c (steps.Signal index value) is possible = (ops.Signal index value, refl, possible.1)
-watchable_step c (steps.Enable condition fulfilled) is possible = (ops.Enable condition fulfilled, refl, possible.1)
-watchable_step c (steps.Request tester bytes) is possible = (ops.Request tester bytes, refl, possible.1)
-watchable_step c steps.Save is possible = absurd (false≢true is)
-watchable_step c (steps.Post urgent block bytes) is possible = absurd (false≢true is)
-watchable_step c steps.Drain is possible = absurd (false≢true is)
-watchable_step c (steps.Get block) is possible = absurd (false≢true is)
-watchable_step c (steps.Ask block) is possible = absurd (false≢true is)
-watchable_step c (steps.Arming arm) is possible = absurd (false≢true is)
+watchable_step c step is possible = watchable_action c (action_of step) is possible
 
 watchable_lane : (c : Config) (lane : List Step) → list_all is_watched lane ≡ true → All (IsPossibleInLane c) lane → All (IsWatchable c) lane
 watchable_lane c [] is possible = All-nil (IsWatchable c)

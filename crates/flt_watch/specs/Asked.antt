@@ -7,23 +7,23 @@ use Rattle.flt_io.specs.Fault.{Rose}
 use Rattle.flt_config.specs.declared.config.DidUse.{DidUse}
 use Rattle.flt_did.specs.Serves.{Serves}
 use Rattle.flt_script.specs.declared.step.Step.{Step}
-use Rattle.flt_script.specs.declared.step.Step.TheVariants.{Signal, Report, Tick, Cycle, Request, Show, Enable}
 use Rattle.flt_script.specs.Part.{PartOf}
 use Rattle.flt_script.specs.Script.{ScriptContent, content}
+use Rattle.flt_life.specs.declared.action.Action.{Action}
+use Rattle.flt_life.specs.declared.action.Action.TheVariants.{Call}
+use Rattle.flt_life.specs.Actions.{action_of}
 use Rattle.flt_report.specs.Fetched.{AreNoScript, AreScript, HasLostRead}
 use Rattle.flt_watch.specs.declared.asking.Asked.{Asked}
 use Rattle.flt_watch.specs.declared.asking.Asked.TheVariants.{Watch, Other, Refused, Unread, Memory}
 
--- A step that a watch makes: those that touch neither the store, nor write jobs, nor the device.
+-- A watch makes what calls the status machine, and nothing that touches the store, the write jobs or the device.
+abbrev pub is_call : Action → Bool
+is_call (Call op) = true
+is_call _ = false
+
+-- So it makes a step that makes such a call.
 abbrev pub is_watched : Step → Bool
-is_watched (Signal index value) = true
-is_watched (Report event report) = true
-is_watched (Tick ticks) = true
-is_watched (Cycle cycle) = true
-is_watched (Request tester bytes) = true
-is_watched (Show event) = true
-is_watched (Enable condition fulfilled) = true
-is_watched _ = false
+is_watched step = is_call (action_of step)
 
 -- Each step of a part is such.
 abbrev pub is_watched_part : PartOf Step → Bool

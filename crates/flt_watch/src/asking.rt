@@ -8,6 +8,7 @@ ghost use Rattle.flt_watch.specs.Asked.{IsAsked, is_watchable, is_watched, is_wa
 
 use flt_did::{DID_ROWS, DidTable};
 use flt_io::Source;
+use flt_life::{Action, action_of};
 use flt_report::{Fetched, fetch};
 use flt_script::{Part, Script, ScriptFault, Step};
 use std::alloc::Global;
@@ -31,16 +32,10 @@ pub(crate) enum Asked {
 fn is_watched(step: &Step) -> bool
     ensures { result ≡ is_watched step.now }
 {
-    matches!(
-        *step,
-        Step::Signal { .. }
-            | Step::Report { .. }
-            | Step::Tick { .. }
-            | Step::Cycle { .. }
-            | Step::Request { .. }
-            | Step::Show { .. }
-            | Step::Enable { .. }
-    )
+    match action_of(step) {
+        Action::Call(_) => true,
+        Action::Queue(_) | Action::Save | Action::Drain | Action::Get(_) | Action::Arm(_) => false,
+    }
 }
 
 /// Whether it makes each step of a lane.

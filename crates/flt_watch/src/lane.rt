@@ -50,8 +50,9 @@ pub(crate) fn make_call<R: Wait>(
     let Ok(told) = lock.call_into(rt, seat, op, response) else {
         unreachable!()
     };
-    let length = response.len();
-    prove!(length <= RESPONSE);
+    // A witness for the checker: the bytes are at most those of a response.
+    let witness = response.len();
+    prove!(witness <= RESPONSE);
     StepAnswer::Dem(told)
 }
 

@@ -3,6 +3,7 @@ ghost use Rattle.std.specs.Prelude.{◌≡◌, ◌⊎◌, IsTrue};
 ghost use Rattle.flt_config.specs.declared.persist.Persist.{Persist};
 ghost use Rattle.flt_did.specs.Serves.{Serves};
 ghost use Rattle.flt_did.specs.Table.{dids_of};
+ghost use Rattle.flt_io.specs.Status.{number_of};
 ghost use Rattle.flt_life.specs.declared.life.Boot.TheVariants.{Started};
 ghost use Rattle.flt_notify.specs.Table.{IsAtZero, kinds_in, values_in};
 ghost use Rattle.flt_script.specs.Script.{content};
@@ -15,7 +16,7 @@ use crate::telling::{write_other, write_watched};
 use arrayvec::ArrayVec;
 use flt_config::Persist;
 use flt_did::{DID_ROWS, DidTable};
-use flt_io::{Sink, Source, StreamFault};
+use flt_io::{Sink, Source, Status, StreamFault};
 use flt_lane::Gate;
 use flt_life::{Boot, Entry, LaneReplies, Life};
 use flt_notify::{KINDS, SubTable};
@@ -30,8 +31,8 @@ use std::thread::Threads;
 /// What a watch leaves.
 #[derive(Drop)]
 pub struct WatchOutcome {
-    /// 0 where the life was made and told, 2 where the script was refused or is another one, 3 where the source failed, 4 where the sink
-    /// did, and 7 where memory ran out.
+    /// The number of a `Status`: 0 where the life was made and told, 2 where the script was refused or is another one, 3 where the source
+    /// failed, 4 where the sink did, and 7 where memory ran out.
     pub status: u8,
     /// The state from which the life began; without events where no life was made.
     pub base: Persist,
@@ -42,14 +43,6 @@ pub struct WatchOutcome {
     /// The subscribers, with the values that the changes of the journal gave them.
     pub subs: SubTable<KINDS>,
 }
-
-const REFUSED: u8 = 2;
-
-const UNREAD: u8 = 3;
-
-const UNWRITTEN: u8 = 4;
-
-const OUT_OF_MEMORY: u8 = 7;
 
 /// The state of no event.
 fn no_state() -> Persist
@@ -67,23 +60,23 @@ fn no_state() -> Persist
 }
 
 /// The status, by whether the text that is due was written.
-fn status_by(due: u8, written: Result<(), StreamFault>) -> u8
-    ensures { result ≡ status_by due written }
+fn status_by(due: Status, written: Result<(), StreamFault>) -> Status
+    ensures { number_of result ≡ status_by (number_of due) written }
 {
     match written {
         Ok(()) => due,
-        Err(StreamFault::Failed) => UNWRITTEN,
-        Err(StreamFault::Memory) => OUT_OF_MEMORY,
+        Err(StreamFault::Failed) => Status::WriteFault,
+        Err(StreamFault::Memory) => Status::OutOfMemory,
     }
 }
 
 /// No life was made.
-fn unmade(alloc: Global, status: u8, subs: SubTable<KINDS>) -> WatchOutcome
-    ensures status { result.status ≡ status }
+fn unmade(alloc: Global, status: Status, subs: SubTable<KINDS>) -> WatchOutcome
+    ensures status { result.status ≡ number_of status }
     ensures unmade { IsUnmade (kinds_in subs) (values_in subs) result }
 {
     WatchOutcome {
-        status,
+        status: status.number(),
         base: no_state(),
         journal: Vec::new(alloc),
         answers: Vec::new(alloc),
@@ -92,9 +85,9 @@ fn unmade(alloc: Global, status: u8, subs: SubTable<KINDS>) -> WatchOutcome
 }
 
 /// A life was made, and told with this status.
-fn made(status: u8, watched: WatchedLife) -> WatchOutcome
+fn made(status: Status, watched: WatchedLife) -> WatchOutcome
     requires { (base : Persist) × (watched.life.boot ≡ Started 0 base) }
-    ensures status { result.status ≡ status }
+    ensures status { result.status ≡ number_of status }
     ensures boot { watched.life.boot ≡ Started 0 result.base }
     ensures journal { result.journal.items ≡ watched.life.journal.items }
     ensures answers { result.answers.items ≡ watched.life.replies.items }
@@ -111,7 +104,7 @@ fn made(status: u8, watched: WatchedLife) -> WatchOutcome
         unreachable!()
     };
     WatchOutcome {
-        status,
+        status: status.number(),
         base,
         journal,
         answers,
@@ -137,12 +130,12 @@ fn watch_script<R: Threads + Wait + Sync, K: Sink, G: Gate + Sync>(
 {
     let parts = &script.lives[0];
     let Ok(watched) = live(rt, alloc, gate, &script.config, parts, dids, subs) else {
-        return unmade(alloc, OUT_OF_MEMORY, SubTable::new());
+        return unmade(alloc, Status::OutOfMemory, SubTable::new());
     };
     match write_watched(alloc, parts, &watched, sink) {
-        Ok(()) => made(0, watched),
-        Err(StreamFault::Failed) => made(UNWRITTEN, watched),
-        Err(StreamFault::Memory) => unmade(alloc, OUT_OF_MEMORY, watched.subs),
+        Ok(()) => made(Status::Done, watched),
+        Err(StreamFault::Failed) => made(Status::WriteFault, watched),
+        Err(StreamFault::Memory) => unmade(alloc, Status::OutOfMemory, watched.subs),
     }
 }
 
@@ -165,17 +158,17 @@ pub fn watch<R: Threads + Wait + Sync, S: Source, K: Sink, G: Gate + Sync>(
     match ask(alloc, source, &dids) {
         Asked::Watch(script) => watch_script(rt, alloc, &script, sink, dids, subs, gate),
         Asked::Other => {
-            let status = status_by(REFUSED, write_other(sink));
+            let status = status_by(Status::Refused, write_other(sink));
             unmade(alloc, status, subs)
         }
         Asked::Refused(fault) => {
-            let status = status_by(REFUSED, write_script_fault(alloc, &fault, sink));
+            let status = status_by(Status::Refused, write_script_fault(alloc, &fault, sink));
             unmade(alloc, status, subs)
         }
         Asked::Unread => {
-            let status = status_by(UNREAD, write_unread(sink));
+            let status = status_by(Status::ReadFault, write_unread(sink));
             unmade(alloc, status, subs)
         }
-        Asked::Memory => unmade(alloc, OUT_OF_MEMORY, subs),
+        Asked::Memory => unmade(alloc, Status::OutOfMemory, subs),
     }
 }

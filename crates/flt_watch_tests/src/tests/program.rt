@@ -17,32 +17,50 @@ const SAVE: &str = "save\n";
 
 const SAVE_TOLD: &str = "life 1 generation 0\nsave -> 1\n";
 
+/// What is written of a script that is refused, and of one that is checked.
+const FORM: &str = "script line 1 form\n";
+
+const CHECKED: &str = "ok events 0 entries 16 needed 206 pages 512 steps 1 lives 1\n";
+
 /// What is written where the words are no command.
 const USAGE: &str = "usage: faultmem run | check | load N plain | load N lanes | ea | watch\n";
 
 /// What ended, and with which status, and whether it made operations of its device.
 #[derive(Clone, Copy, PartialEq, Eq, Debug)]
 enum End {
-    Bench(u8, bool),
-    Device(u8, bool),
+    Flash(u8, bool),
+    Eeprom(u8, bool),
     Watch(u8),
 }
 
 /// Words with a script, how the program ends on them, and what is written.
-static CASES: [(&[&str], &str, End, &str); 6] = [
-    (&["run"], SAVE, End::Bench(0, true), SAVE_TOLD),
-    (&["ea"], SAVE, End::Device(0, true), SAVE_TOLD),
+static CASES: [(&[&str], &str, End, &str); 14] = [
+    (&["run"], SAVE, End::Flash(0, true), SAVE_TOLD),
+    (&["ea"], SAVE, End::Eeprom(0, true), SAVE_TOLD),
+    (&["ea"], "save 1", End::Eeprom(2, false), FORM),
+    (&["check"], SAVE, End::Flash(0, false), CHECKED),
     (&["watch"], ONE, End::Watch(0), ONE_TOLD),
     (&["watch"], SAVE, End::Watch(2), "script other\n"),
-    (&["watch", "run"], ONE, End::Bench(1, false), USAGE),
-    (&["ea", "watch"], ONE, End::Device(1, false), USAGE),
+    (&[], ONE, End::Flash(1, false), USAGE),
+    (&["walk"], ONE, End::Flash(1, false), USAGE),
+    (&["watch", "run"], ONE, End::Flash(1, false), USAGE),
+    (&["ea", "watch"], ONE, End::Flash(1, false), USAGE),
+    (&["load", "0", "plain"], "", End::Flash(1, false), USAGE),
+    (&["load", "60001", "lanes"], "", End::Flash(1, false), USAGE),
+    (
+        &["load", "000004", "plain"],
+        "",
+        End::Flash(1, false),
+        USAGE,
+    ),
+    (&["load", "4", "both"], "", End::Flash(1, false), USAGE),
 ];
 
 /// How the program ended.
 fn how_it_ended(ended: Ended<FlashMem, EepromMem>) -> End {
     match ended {
-        Ended::Bench(outcome) => End::Bench(outcome.status, outcome.bench.operations() > 0),
-        Ended::Device(outcome) => End::Device(outcome.status, outcome.bench.operations() > 0),
+        Ended::Flash(outcome) => End::Flash(outcome.status, outcome.device.operations() > 0),
+        Ended::Eeprom(outcome) => End::Eeprom(outcome.status, outcome.device.operations() > 0),
         Ended::Watch(outcome) => End::Watch(outcome.status),
     }
 }
@@ -61,7 +79,7 @@ fn end_of<R: Threads + Wait + Sync>(
     let mut source = MemSource::new(Vec::from_slice(alloc, script.as_bytes())?, Vec::new(alloc));
     let mut sink = MemSink::new(alloc, 8000, Vec::new(alloc))?;
     let flash = FlashMem::blank(alloc, 1024, 256)?;
-    let device = EepromMem::blank(alloc, 1090, 256)?;
+    let eeprom = EepromMem::blank(alloc, 1090, 256)?;
     let ended = program(
         rt,
         alloc,
@@ -69,7 +87,7 @@ fn end_of<R: Threads + Wait + Sync>(
         &mut source,
         &mut sink,
         flash,
-        device,
+        eeprom,
         DidTable::new(),
         table(),
         &OpenGate,

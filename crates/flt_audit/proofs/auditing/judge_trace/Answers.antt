@@ -12,9 +12,12 @@ use Rattle.flt_trace.specs.Trace.{seen}
 use Rattle.flt_base.specs.Base.{IsBaseOf}
 use Rattle.flt_call.specs.Call.{AreCallTexts}
 use Rattle.flt_call.proofs.Calls.{if_some}
-use Rattle.flt_audit.specs.Audit.{unlike_from}
+use Rattle.flt_trace.specs.Trace.{texts_of}
+use Rattle.flt_audit.specs.Shape.{Told, Tells}
+use Rattle.flt_audit.specs.Audit.{due_texts, unlike_from}
 use Rattle.flt_audit.proofs.Shapes.{as_many}
 use Rattle.flt_audit.proofs.Unlike.{due_after}
+use Rattle.flt_audit.proofs.auditing.judge_trace.Goals.{In_ok-first_unlike}
 use Rattle.flt_audit.proofs.auditing.judge_trace.Goals as goal
 
 pub first_unlike-requires-clause-many : goal.first_unlike-requires-clause-many
@@ -36,8 +39,10 @@ first_unlike-requires-clause-many g c =
       ap length c.deref-4.ensures.value,
     )
 
-pub returns : goal.returns
-returns g c =
+-- The life that the texts tell, and the first place at which its answers differ.
+life : (g : _) (c : In_ok-first_unlike g) → (told : Told) × Tells (dids_of c.args.dids) (texts_of c.args.trace.now) told
+    × (c.in_ok-first_unlike.field-0 ≡ unlike_from 0 (texts_of c.args.trace.now).answers (due_texts told))
+life g c =
     let script = c.in-Ok.script in
     let config : Config = script.config in
     let base = c.in-Some.base in
@@ -49,7 +54,7 @@ returns g c =
     c.in_ok-calls.field-0 c.in-Some-2.calls c.in-Some-2.is c.in_ok-calls.ensures.read in
     let own : config_of c.make-unit.result ≡ config = c.make-unit.ensures.config ∙ c.make.ensures.config in
     let stands = subst (λ (k : Config). Stands (record { config = k; base = base }) [] (state_of c.boot.new.self)) own c.boot.ensures.stands in
-    let found = c.in_ok-unlike.ensures (record { config = config; base = base }) stands in (
+    let found = c.in_ok-first_unlike.ensures (record { config = config; base = base }) stands in (
       record { config = config; base = base; journal = calls },
       record {
         script = content script;
@@ -62,3 +67,9 @@ returns g c =
       },
       found ∙ (λ i. unlike_from 0 (seen (c.deref-4.ensures.value i)) (due_after (record { config = config; base = base }) [] (c.deref-3.ensures.value i))),
     )
+
+pub returns-in-None : goal.returns-in-None
+returns-in-None g c = let told = life g (goal.at.returns-in-None g c).In_ok-first_unlike in (told.0, told.1, sym c.in-None.is ∙ told.2)
+
+pub returns : goal.returns
+returns g c = let told = life g (goal.at.returns g c).In_ok-first_unlike in (told.0, told.1, sym c.in-Some-3.is ∙ told.2)

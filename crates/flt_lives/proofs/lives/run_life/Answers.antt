@@ -1,4 +1,4 @@
-use Rattle.std.proofs.Common.{◌∙◌, refl, ap, sym, subst, map}
+use Rattle.std.proofs.Common.{◌≢◌, ◌∙◌, refl, ap, sym, subst, map, rules}
 use Rattle.flt_restore.specs.declared.fault.StartFault.TheVariants as faults
 use Rattle.flt_store.specs.Store.{driver_of}
 use Rattle.flt_store.specs.Start.{RefusedFor}
@@ -13,7 +13,7 @@ use Rattle.flt_lives.specs.Living.{IsLived}
 use Rattle.flt_lives.proofs.Deeds.{keeps_from_boot}
 use Rattle.flt_life.proofs.Giving.{none_since}
 use Rattle.flt_lives.proofs.Rooms.{possible_own, possible_lanes}
-use Rattle.flt_lives.proofs.Starting.{if_ok, keeps, stays_by_keeping, lived_refused, lived_started, lived_dark}
+use Rattle.flt_lives.proofs.Starting.{if_ok, keeps, refuses, stays_by_keeping, lived_refused, lived_started, lived_dark}
 use Rattle.flt_lives.proofs.Beginning.{none_begun, one_begun}
 use Rattle.flt_lives.proofs.lives.run_life.Goals as goal
 
@@ -59,8 +59,9 @@ returns-in-Err-Flash-clause-sound g c =
 
 pub returns-in-Err-clause-lived : goal.returns-in-Err-clause-lived
 returns-in-Err-clause-lived g c =
+    let other : c.in-Err.fault ≢ faults.Flash = search rules in
     subst (λ (v : LifeView). IsLived c.args.config.now (driver_of c.args.store.now) (driver_of c.start_up.new.self) v) (sym (c.refused-life.ensures (parts_of c.args.parts.now)))
-    (lived_refused c.args.config.now (driver_of c.args.store.now) c.power_up.new.self c.start_up.new.self c.power_up.ensures.powers_up (parts_of c.args.parts.now) c.in-Err.fault (refuses c.in-Err.fault ?)
+    (lived_refused c.args.config.now (driver_of c.args.store.now) c.power_up.new.self c.start_up.new.self c.power_up.ensures.powers_up (parts_of c.args.parts.now) c.in-Err.fault (refuses c.in-Err.fault other)
     c.start_up.ensures.follows c.in-Err.ensures.refused
     (keeps c.args.config.now (driver_of c.power_up.new.self) (driver_of c.start_up.new.self) c.start_up.ensures.follows c.in-Err.ensures.left) c.start_up.ensures.applications)
 

@@ -1,8 +1,0 @@
-mod Told
-mod LastLife
-mod Last
-mod Made
-mod Blank
-mod Yes
-mod Line
-mod Examined

@@ -1,7 +1,0 @@
-use Rattle.flt_run.proofs.Ends.{runs}
-use Rattle.flt_run.proofs.running.run_over.Goals as goal
-
-pub returns : goal.returns
-returns g c =
-    rw c.tell.ensures.same
-    (runs _ _ _ _ c.tell.result.status c.tell.result.lives.items c.perform-performed.result.ending c.perform-performed.ensures c.tell.ensures.told c.free_lock_holds_machine.ensures)
