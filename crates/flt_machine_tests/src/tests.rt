@@ -8,3 +8,4 @@ mod ranks;
 mod requests;
 mod statuses;
 mod testers;
+mod worked;

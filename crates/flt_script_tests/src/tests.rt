@@ -68,7 +68,7 @@ fn outcome(alloc: Global, bytes: &[u8]) -> Result<String, AllocError> {
 }
 
 /// Scripts of steps, and what is told of each.
-static STEPS: [(&str, &str); 112] = [
+static STEPS: [(&str, &str); 113] = [
     ("", ""),
     ("event 0 dtc 123456\r\ncycle 0", "cycle 0."),
     (
@@ -83,6 +83,7 @@ static STEPS: [(&str, &str); 112] = [
     ("#\t ~", ""),
     ("#\0", "script line 1 byte"),
     ("#\u{7f}", "script line 1 byte"),
+    ("#\u{1f}", "script line 1 byte"),
     ("#\u{80}", "script line 1 byte"),
     ("cycle 0\r", "script line 1 byte"),
     ("cycle 0\r\r\n", "script line 1 byte"),
@@ -220,7 +221,7 @@ static STEPS: [(&str, &str); 112] = [
 ];
 
 /// Scripts of settings, events and data identifiers, and what is told of each.
-static SETTINGS: [(&str, &str); 80] = [
+static SETTINGS: [(&str, &str); 83] = [
     ("did 0 0101", "script line 1 order"),
     ("event 0 dtc 000001\ndid 1 0101", "script line 2 order"),
     (
@@ -273,6 +274,15 @@ static SETTINGS: [(&str, &str); 80] = [
     ("event 0 dtc 000001 jumpup +0", "script line 1 form"),
     ("event 0 dtc 000001 jumpup -", "script line 1 form"),
     ("event 0 dtc 000001 jumpup --1", "script line 1 form"),
+    ("event 0 dtc 000001 jumpup -0000000000", ""),
+    (
+        "event 0 dtc 000001 prio 255 cycle 3 confirm 255 heal 255 age 255",
+        "",
+    ),
+    (
+        "event 0 dtc 000001 count 32767 32768 32767 32767 jumpup 32766 jumpdown -32767",
+        "",
+    ),
     ("event 0 dtc 000001 jumpup -0 jumpdown 0", ""),
     (
         "event 0 jumpdown 9 count 10 32768 1 1 dtc abCDef jumpup -32767",

@@ -2,7 +2,10 @@
 ghost use Rattle.std.specs.Prelude.{◌≡◌, ◌<◌};
 
 use arrayvec::ArrayVec;
-use flt_config::{CfgFault, Config, EVENTS, EventCfg, Field, check, fits, initial, needed_pages};
+use flt_config::{
+    CfgFault, Config, DidUse, EVENTS, EntryState, EventCfg, EventState, Field, Frame, Persist,
+    ValidConfig, check, fits, initial, needed_pages,
+};
 
 fn event(dtc: u32) -> EventCfg
     requires { dtc < 1000 }
@@ -73,4 +76,156 @@ fn the_first_fault_is_told(rt: HostRuntime) {
     assert!(&rt; fault_of(63, ArrayVec::new()) == Some(range));
     let (needed, pages) = (206, 64);
     assert!(&rt; fault_of(64, ArrayVec::new()) == Some(CfgFault::NoRoom { needed, pages }));
+}
+
+/// Three events of a memory with two entries. The second lights the indicator and heals after three cycles, and its frames have two bytes.
+fn three() -> Config {
+    let mut events = ArrayVec::new();
+    let mut dids = ArrayVec::new();
+    dids.push(DidUse {
+        id: 0x0101,
+        width: 2,
+    });
+    events.push(event(1));
+    events.push(EventCfg {
+        indicator: true,
+        dids,
+        ..event(2)
+    });
+    events.push(event(3));
+    Config {
+        memory: 2,
+        ..config(512, events)
+    }
+}
+
+/// States of an event: its number; status, clean cycles and whether it is lit; and whether they fit. The others are untested.
+static STATES: [(usize, u8, u16, bool, bool); 14] = [
+    // An event that is lit is confirmed, and its warning is requested until it heals.
+    (1, 0x88, 0, true, true),
+    (1, 0x88, 2, true, true),
+    (1, 0x88, 3, true, false),
+    (1, 0x08, 3, true, true),
+    (1, 0x08, 2, true, false),
+    (1, 0x80, 2, true, false),
+    (1, 0x00, 3, true, false),
+    (1, 0x88, 0, false, false),
+    (1, 0x80, 0, false, false),
+    (1, 0x08, 0, false, true),
+    // An event without an indicator is not lit.
+    (0, 0x88, 0, true, false),
+    (2, 0x08, 3, true, false),
+    // Clean cycles are at most 510.
+    (1, 0x50, 510, false, true),
+    (1, 0x50, 511, false, false),
+];
+
+/// Entries, each by its event, its occurrence and the lengths of both frames; and whether they fit.
+static ENTRIES: [(&[(u16, u8, usize, usize)], bool); 9] = [
+    // An entry has an event, an occurrence and frames of the event's width.
+    (&[(0, 1, 0, 0), (1, 255, 2, 2)], true),
+    (&[(2, 1, 0, 0), (0, 1, 0, 0)], true),
+    (&[(0, 0, 0, 0)], false),
+    (&[(3, 1, 0, 0)], false),
+    (&[(1, 1, 1, 2)], false),
+    (&[(1, 1, 2, 3)], false),
+    (&[(1, 1, 0, 0)], false),
+    // Entries are of distinct events, and within the memory.
+    (&[(0, 1, 0, 0), (0, 2, 0, 0)], false),
+    (&[(0, 1, 0, 0), (1, 1, 2, 2), (2, 1, 0, 0)], false),
+];
+
+/// An event that is noted, or none.
+type Note = Option<u16>;
+
+/// The four noted events, and whether they fit: each is one of the three.
+static NOTES: [(Note, Note, Note, Note, bool); 5] = [
+    (Some(2), Some(0), Some(1), Some(2), true),
+    (Some(3), None, None, None, false),
+    (None, Some(3), None, None, false),
+    (None, None, Some(3), None, false),
+    (None, None, None, Some(3), false),
+];
+
+/// A frame of so many bytes.
+fn frame(length: usize) -> Frame {
+    let mut frame = ArrayVec::new();
+    for _ in 0..length {
+        if !frame.is_full() {
+            frame.push(0);
+        }
+    }
+    frame
+}
+
+/// Puts these entries.
+fn put_entries(state: &mut Persist, entries: &[(u16, u8, usize, usize)]) {
+    for (event, occurrence, first, recent) in entries {
+        if !state.entries.is_full() {
+            state.entries.push(EntryState {
+                event: *event,
+                occurrence: *occurrence,
+                first: frame(*first),
+                recent: frame(*recent),
+            });
+        }
+    }
+}
+
+/// Whether the first state of a configuration, with this state of an event in it, fits.
+fn fits_with(valid: &ValidConfig, event: usize, event_state: EventState) -> bool {
+    let mut state = initial(valid);
+    if let Some(place) = state.events.get_mut(event) {
+        *place = event_state;
+    }
+    fits(valid, &state)
+}
+
+#[test]
+fn states_of_events_fit_or_not(rt: HostRuntime) {
+    let Ok(valid) = check(three()) else {
+        panic!(&rt; "refused")
+    };
+    for (event, status, clean, lit, fit) in &STATES {
+        let event_state = EventState {
+            status: *status,
+            failed: 0,
+            clean: *clean,
+            lit: *lit,
+        };
+        assert!(&rt;
+            fits_with(&valid, *event, event_state) == *fit,
+            "{status} {clean} {lit}"
+        );
+    }
+    let mut short = initial(&valid);
+    let _ = short.events.pop();
+    assert!(&rt; !fits(&valid, &short));
+}
+
+#[test]
+fn entries_fit_or_not(rt: HostRuntime) {
+    let Ok(valid) = check(three()) else {
+        panic!(&rt; "refused")
+    };
+    for (number, (entries, fit)) in ENTRIES.iter().enumerate() {
+        let mut state = initial(&valid);
+        put_entries(&mut state, entries);
+        assert!(&rt; fits(&valid, &state) == *fit, "{number}");
+    }
+}
+
+#[test]
+fn noted_events_fit_or_not(rt: HostRuntime) {
+    let Ok(valid) = check(three()) else {
+        panic!(&rt; "refused")
+    };
+    for (first_failed, first_confirmed, recent_failed, recent_confirmed, fit) in &NOTES {
+        let mut state = initial(&valid);
+        state.first_failed = *first_failed;
+        state.first_confirmed = *first_confirmed;
+        state.recent_failed = *recent_failed;
+        state.recent_confirmed = *recent_confirmed;
+        assert!(&rt; fits(&valid, &state) == *fit, "{first_failed:?}");
+    }
 }

@@ -2,7 +2,7 @@ use super::*;
 use flt_config::{Config, Debounce, DidUse, EventCfg};
 
 /// Whether a configuration has these settings.
-fn has(config: &Config, id: u16, memory: u8, blocks: u8, pages: u16) -> bool {
+pub(super) fn has(config: &Config, id: u16, memory: u8, blocks: u8, pages: u16) -> bool {
     config.id == id && config.memory == memory && config.blocks == blocks && config.pages == pages
 }
 
@@ -37,9 +37,9 @@ fn first_event() -> EventCfg {
 }
 
 /// An event of which only the DTC is written.
-fn plain_event() -> EventCfg {
+pub(super) fn plain_event(dtc: u32) -> EventCfg {
     EventCfg {
-        dtc: 12,
+        dtc,
         priority: 1,
         confirm: 1,
         heal: 3,
@@ -76,7 +76,7 @@ fn are_as_written(events: &[EventCfg]) -> bool {
             *first == first_event()
                 && second.debounce == COUNTER
                 && second.dids.as_slice() == USES.as_slice()
-                && *third == plain_event()
+                && *third == plain_event(12)
         }
         _ => false,
     }

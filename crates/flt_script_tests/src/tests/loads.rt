@@ -1,4 +1,6 @@
+use super::configuration::{has, plain_event};
 use super::*;
+use flt_config::Config;
 
 /// The life that shows each event.
 const SHOWN: &str =
@@ -23,14 +25,23 @@ static LOADS: [(u32, bool, &str); 3] = [
     ),
 ];
 
-/// Whether a load has 16 events, this first life, and a life that shows each event.
+/// Whether a configuration is that of a load: 16 events of which only the DTC is written, from 000100 on.
+fn is_of_load(config: &Config) -> bool {
+    let mut dtc = 0x0100u32;
+    for event in &config.events {
+        if *event != plain_event(dtc) {
+            return false;
+        }
+        dtc = dtc.wrapping_add(1);
+    }
+    has(config, 1, 16, 0, 512) && dtc == 0x0110
+}
+
+/// Whether a load has the configuration of a load, this first life, and a life that shows each event.
 fn is_loaded(alloc: Global, count: u32, lanes: bool, first_life: &str) -> Result<bool, Fail> {
     let script = load(alloc, count.clamp(1, 60_000), lanes)?;
     let told = told_of(alloc, &script.lives)?;
-    Ok(
-        script.config.config().events.len() == 16
-            && told.as_str().strip_prefix(first_life) == Some(SHOWN),
-    )
+    Ok(is_of_load(script.config.config()) && told.as_str().strip_prefix(first_life) == Some(SHOWN))
 }
 
 #[test]

@@ -1,0 +1,5 @@
+pub mod StatusExamples
+pub mod ConditionExamples
+pub mod DebounceExamples
+pub mod SettingExamples
+pub mod ListExamples
